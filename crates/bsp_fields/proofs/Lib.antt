@@ -1,0 +1,8 @@
+-- Lemmas of this crate.
+pub mod DecimalLemmas
+pub mod FirstFaultLemmas
+pub mod ZonedLemmas
+pub mod CodeLemmas
+pub mod DayLemmas
+pub mod DayTextLemmas
+pub mod MoneyLemmas

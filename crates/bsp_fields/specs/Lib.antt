@@ -1,0 +1,8 @@
+-- What the contracts of the fields cite.
+pub mod FirstFault
+pub mod Decimal
+pub mod Zoned
+pub mod Codes
+pub mod CivilDay
+pub mod Days
+pub mod Money

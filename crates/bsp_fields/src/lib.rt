@@ -1,0 +1,27 @@
+//! The fields of a billing and settlement plan's records: amounts, document numbers, codes, days
+//! and money, each read from its characters to a value or to its first fault, and written in one
+//! spelling.
+//!
+//! A reader answers a value exactly where the definition of `specs/` has one, and otherwise the
+//! first fault in the order of [`FieldFault`]. Only [`write_money`] takes memory.
+#![tactic(auto)]
+
+mod amount;
+mod codes;
+mod day;
+mod digits;
+mod document_number;
+mod fault;
+mod money;
+#[cfg(test)]
+mod tests;
+mod total;
+mod zoned;
+
+pub use amount::{Amount, read_amount, write_amount};
+pub use codes::{AgentCode, AirlineCode, PeriodCode};
+pub use day::Day;
+pub use document_number::{DocNumber, check_digit};
+pub use fault::FieldFault;
+pub use money::{NoRoom, write_money};
+pub use total::{Total, read_total, write_total};
