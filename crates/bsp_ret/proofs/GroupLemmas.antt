@@ -1,0 +1,180 @@
+-- The records of a group are those of its lines.
+use Rattle.std.proofs.Common.{◌≡◌, ℕ, Bool, true, false, ◌&&◌, List, [], ◌∷◌, ◌++◌, ◌+◌, ◌<◌, length, get_or, Option, Some, None, refl, sym, ap, ◌∙◌, subst, arith}
+use Rattle.std.specs.Prelude.{IfSome, ◌==◌}
+use Rattle.std.specs.Option.{option_to_list, IsSomeAnd}
+use Rattle.std.specs.List.{list_all}
+use Rattle.std.proofs.lemmas.Bool.{and_parts, eqb-true}
+use Rattle.bsp_ret.specs.declared.model.TransactionCode.{TransactionCode}
+use Rattle.bsp_ret.specs.declared.model.TransactionCode.TheVariants.{Tktt, Rfnd, Canx}
+use Rattle.bsp_ret.specs.declared.model.FormOfPayment.{FormOfPayment}
+use Rattle.bsp_ret.specs.declared.model.FormOfPayment.TheVariants.{Cash, Credit, Exchange}
+use Rattle.bsp_ret.specs.Records.{identifier, is_wide, is_printable, code_of, related_fits, amounts_fit, form_of}
+use Rattle.bsp_ret.proofs.Wide.{group_at}
+use Rattle.bsp_ret.specs.Ret.{File, Ret, Group, forms_of, lines_of, IsRecord, IsForm, HasRelated, HasBody, IsGroup}
+use Rattle.bsp_ret.specs.Groups.{sale_alone, with_form, with_record, with_records, HasRecords, AreWide}
+use Rattle.bsp_ret.specs.declared.record_fields.GroupFields.{GroupFields}
+use Rattle.bsp_ret.specs.Fields.{AreFieldsOf, HasFields}
+
+-- ---- one record
+
+pub with_nothing : (g : Group) → with_records g [] ≡ g
+unfolding with_records
+with_nothing g = refl
+
+pub with_one : (g : Group) (line : List ℕ) (lines : List (List ℕ)) → with_records g (line ∷ lines) ≡ with_records (with_record g line) lines
+unfolding with_records
+with_one g line lines = refl
+
+with_51 : (g : Group) (line : List ℕ) → identifier line ≡ 51 → with_record g line ≡ record g { related = Some line }
+unfolding with_record
+with_51 g line name = rw name refl
+
+with_53 : (g : Group) (line : List ℕ) → identifier line ≡ 53 → with_record g line ≡ record g { amounts = Some line }
+unfolding with_record
+with_53 g line name = rw name refl
+
+with_56 : (g : Group) (line : List ℕ) (form : FormOfPayment) → identifier line ≡ 56 → form_of line ≡ Some form → with_record g line ≡ with_form (Some form) g line
+unfolding with_record
+with_56 g line form name is = rw (name, is) refl
+
+-- ---- what may stand behind a record 2
+
+pub record Behind (n : ℕ) (g : Group) : Type 0 where
+  pub related : IfSome g.related (IsRecord 51 n related_fits)
+  pub amounts : IfSome g.amounts (IsRecord 53 n amounts_fit)
+  pub cash : IfSome g.cash (IsForm n Cash)
+  pub credit : IfSome g.credit (IsForm n Credit)
+  pub exchange : IfSome g.exchange (IsForm n Exchange)
+
+if_some : (P : List ℕ → Type 0) (o : Option (List ℕ)) → IsSomeAnd o P → IfSome o P
+if_some P None h = tt
+if_some P (Some line) h = h
+
+if_none : (P : List ℕ → Type 0) (o : Option (List ℕ)) → o ≡ None → IfSome o P
+if_none P o is = let IfSomeP : Option (List ℕ) → Type 0 = λ x. IfSome x P in subst IfSomeP (sym is) tt
+
+if_related : (n : ℕ) (related exchange : Option (List ℕ)) → HasRelated n related exchange → IfSome related (IsRecord 51 n related_fits)
+if_related n None exchange h = tt
+if_related n (Some line) None h = absurd h
+if_related n (Some line) (Some form) h = h
+
+abbrev IsEmpty : List (List ℕ) → Type 0
+IsEmpty [] = Unit {0}
+IsEmpty (line ∷ lines) = ⊥
+
+no_forms : (cash credit exchange : Option (List ℕ)) → option_to_list cash ++ (option_to_list credit ++ option_to_list exchange) ≡ [] → (cash ≡ None) × (credit ≡ None) × (exchange ≡ None)
+no_forms None None None h = (refl, refl, refl)
+no_forms (Some line) credit exchange h = absurd (subst IsEmpty (sym h) tt)
+no_forms None (Some line) exchange h = absurd (subst IsEmpty (sym h) tt)
+no_forms None None (Some line) h = absurd (subst IsEmpty (sym h) tt)
+
+pub behind : (n : ℕ) (g : Group) (code : Option TransactionCode) → HasBody n g code → Behind n g
+behind n g None body = absurd body
+behind n g (Some Tktt) body = record {
+  related = if_related n g.related g.exchange body.0;
+  amounts = if_some (IsRecord 53 n amounts_fit) g.amounts body.1.amounts;
+  cash = body.1.cash;
+  credit = body.1.credit;
+  exchange = body.1.exchange;
+}
+behind n g (Some Rfnd) body = record {
+  related = if_some (IsRecord 51 n related_fits) g.related body.0;
+  amounts = if_some (IsRecord 53 n amounts_fit) g.amounts body.1.amounts;
+  cash = body.1.cash;
+  credit = body.1.credit;
+  exchange = body.1.exchange;
+}
+behind n g (Some Canx) body =
+    let none = no_forms g.cash g.credit g.exchange body.2 in
+    record {
+      related = if_none (IsRecord 51 n related_fits) g.related body.0;
+      amounts = if_none (IsRecord 53 n amounts_fit) g.amounts body.1;
+      cash = if_none (IsForm n Cash) g.cash none.0;
+      credit = if_none (IsForm n Credit) g.credit none.1;
+      exchange = if_none (IsForm n Exchange) g.exchange none.2;
+    }
+
+-- ---- all records, one kind after the other
+
+all_related : (n : ℕ) (g : Group) (related : Option (List ℕ)) (more : List (List ℕ)) → g.related ≡ None → IfSome related (IsRecord 51 n related_fits) → with_records g (option_to_list related ++ more) ≡ with_records (record g { related = related }) more
+all_related n g None more none is = ap (λ o. with_records (record g { related = o }) more) none
+all_related n g (Some line) more none is = with_one g line more ∙ ap (λ h. with_records h more) (with_51 g line is.name)
+
+all_amounts : (n : ℕ) (g : Group) (amounts : Option (List ℕ)) (more : List (List ℕ)) → g.amounts ≡ None → IfSome amounts (IsRecord 53 n amounts_fit) → with_records g (option_to_list amounts ++ more) ≡ with_records (record g { amounts = amounts }) more
+all_amounts n g None more none is = ap (λ o. with_records (record g { amounts = o }) more) none
+all_amounts n g (Some line) more none is = with_one g line more ∙ ap (λ h. with_records h more) (with_53 g line is.name)
+
+all_cash : (n : ℕ) (g : Group) (cash : Option (List ℕ)) (more : List (List ℕ)) → g.cash ≡ None → IfSome cash (IsForm n Cash) → with_records g (option_to_list cash ++ more) ≡ with_records (record g { cash = cash }) more
+all_cash n g None more none is = ap (λ o. with_records (record g { cash = o }) more) none
+all_cash n g (Some line) more none is = with_one g line more ∙ ap (λ h. with_records h more) (with_56 g line Cash is.stands.name is.form)
+
+all_credit : (n : ℕ) (g : Group) (credit : Option (List ℕ)) (more : List (List ℕ)) → g.credit ≡ None → IfSome credit (IsForm n Credit) → with_records g (option_to_list credit ++ more) ≡ with_records (record g { credit = credit }) more
+all_credit n g None more none is = ap (λ o. with_records (record g { credit = o }) more) none
+all_credit n g (Some line) more none is = with_one g line more ∙ ap (λ h. with_records h more) (with_56 g line Credit is.stands.name is.form)
+
+all_exchange : (n : ℕ) (g : Group) (exchange : Option (List ℕ)) → g.exchange ≡ None → IfSome exchange (IsForm n Exchange) → with_records g (option_to_list exchange) ≡ record g { exchange = exchange }
+all_exchange n g None none is = with_nothing g ∙ ap (λ o. record g { exchange = o }) none
+all_exchange n g (Some line) none is = with_one g line [] ∙ with_nothing (with_record g line) ∙ with_56 g line Exchange is.stands.name is.form
+
+all_records : (n : ℕ) (g : Group) → Behind n g → with_records (sale_alone g.sale) (option_to_list g.related ++ (option_to_list g.amounts ++ forms_of g)) ≡ g
+all_records n g b =
+    all_related n (sale_alone g.sale) g.related (option_to_list g.amounts ++ forms_of g) refl b.related
+    ∙ all_amounts n (record (sale_alone g.sale) { related = g.related }) g.amounts (forms_of g) refl b.amounts
+    ∙ all_cash n (record (sale_alone g.sale) { related = g.related; amounts = g.amounts }) g.cash (option_to_list g.credit ++ option_to_list g.exchange) refl b.cash
+    ∙ all_credit n (record (sale_alone g.sale) { related = g.related; amounts = g.amounts; cash = g.cash }) g.credit (option_to_list g.exchange) refl b.credit
+    ∙ all_exchange n (record (sale_alone g.sale) { related = g.related; amounts = g.amounts; cash = g.cash; credit = g.credit }) g.exchange refl b.exchange
+
+-- the records that the lines give are the group's
+pub has_records : (n : ℕ) (lines : List (List ℕ)) (g : Group) → IsGroup n lines → ((sale : List ℕ) (more : List (List ℕ)) → lines ≡ sale ∷ more → g ≡ with_records (sale_alone sale) more) → HasRecords n lines g
+has_records n lines g is split = record {
+  is = is;
+  group_is = sym (split is.group.sale (option_to_list is.group.related ++ (option_to_list is.group.amounts ++ forms_of is.group)) is.lines_are ∙ all_records n is.group (behind n is.group (code_of is.group.sale) is.body));
+}
+
+-- ---- widths
+
+pub wide_length : (line : List ℕ) → is_wide line ≡ true → length line ≡ 136
+unfolding is_wide
+wide_length line wide = eqb-true (length line) 136 (and_parts (length line == 136) (list_all is_printable line) wide).0
+
+pub first_wide : (line : List ℕ) (lines : List (List ℕ)) → list_all is_wide (line ∷ lines) ≡ true → (length line ≡ 136) × (list_all is_wide lines ≡ true)
+first_wide line lines all =
+    let both = and_parts (is_wide line) (list_all is_wide lines) all in
+    (wide_length line both.0, both.1)
+
+-- ---- the groups of a file
+
+pub nth_group : (lines : List (List ℕ)) (file : File) (index : ℕ) (groups : List (List (List ℕ))) (group : List (List ℕ)) → Ret lines file → groups ≡ file.groups → index < length groups → group ≡ get_or groups index [] → IsGroup (index + 1) group
+nth_group lines file index groups group ret same below is =
+    let next : 1 + index ≡ index + 1 = omega arith in
+    let IsNumbered : ℕ → Type 0 = λ n. IsGroup n (get_or file.groups index []) in
+    let IsThis : List (List ℕ) → Type 0 = λ ls. IsGroup (index + 1) ls in
+    let there : index < length file.groups = rw (← same) below in
+    subst IsThis (sym (is ∙ ap (λ xs. get_or xs index []) same)) (subst IsNumbered next (group_at file.groups 1 index ret.groups there))
+
+wide_if : (letter n : ℕ) (fits : List ℕ → Bool) (o : Option (List ℕ)) → IfSome o (IsRecord letter n fits) → IfSome o (λ line. length line ≡ 136)
+wide_if letter n fits None is = tt
+wide_if letter n fits (Some line) is = wide_length line is.wide
+
+wide_form : (n : ℕ) (form : FormOfPayment) (o : Option (List ℕ)) → IfSome o (IsForm n form) → IfSome o (λ line. length line ≡ 136)
+wide_form n form None is = tt
+wide_form n form (Some line) is = wide_length line is.stands.wide
+
+-- the records of a group have their width
+pub group_widths : (n : ℕ) (lines : List (List ℕ)) (g : Group) → HasRecords n lines g → AreWide g
+group_widths n lines g has =
+    let h = has.is.group in
+    let b = behind n h (code_of h.sale) has.is.body in
+    subst AreWide has.group_is (record {
+      sale = wide_length h.sale has.is.sale.wide;
+      related = wide_if 51 n related_fits h.related b.related;
+      amounts = wide_if 53 n amounts_fit h.amounts b.amounts;
+      cash = wide_form n Cash h.cash b.cash;
+      credit = wide_form n Credit h.credit b.credit;
+      exchange = wide_form n Exchange h.exchange b.exchange;
+    })
+
+pub has_fields : (n : ℕ) (lines : List (List ℕ)) (g : Group) (f : GroupFields) → HasRecords n lines g → AreFieldsOf g f → HasFields n lines f
+has_fields n lines g f has fields =
+    let Fields : Group → Type 0 = λ h. AreFieldsOf h f in
+    record { is = has.is; fields = subst Fields (sym has.group_is) fields }

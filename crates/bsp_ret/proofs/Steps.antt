@@ -1,0 +1,169 @@
+-- One more record: how the lines stand with it, and what is read of it.
+use Rattle.std.proofs.Common.{◌≡◌, ℕ, ◌+◌, ◌==◌, ℤ, ◌+ℤ◌, Bool, true, false, cond, ◌||◌, List, [], ◌∷◌, ◌++◌, length, filter, count_by, Option, Some, None, Ok, Err, refl, sym, ap, ◌∙◌, inl, inr, arith, add-zero, length-append, eqb-true, append-nil}
+use Rattle.std.proofs.Math.Bool.{or-true, or-false}
+use Rattle.std.proofs.Math.IntN.{+ℤ_assoc, +ℤ_idl, +ℤ_idr}
+use Rattle.std.proofs.lemmas.Bool.{cases_Bool, and_parts}
+use Rattle.std.proofs.lemmas.List.Elements.{filter-append}
+use Rattle.std.proofs.lemmas.List.Folds.{list_any-append}
+use Rattle.std.proofs.lemmas.List.Sums.{sum_by-append}
+use Rattle.std.specs.List.{last_or, list_any}
+use Rattle.bsp_ret.specs.declared.model.FormOfPayment.{FormOfPayment}
+use Rattle.bsp_ret.specs.declared.model.TransactionCode.{TransactionCode}
+use Rattle.bsp_ret.specs.declared.model.TransactionCode.TheVariants.{Tktt}
+use Rattle.bsp_ret.specs.declared.model.LastRecord.{LastRecord}
+use Rattle.bsp_ret.specs.declared.model.LastRecord.TheVariants as last
+use Rattle.bsp_ret.specs.declared.model.FaultCode.TheVariants.{F08}
+use Rattle.bsp_ret.specs.declared.model.Standing.{Standing}
+use Rattle.bsp_ret.specs.Records.{identifier, is_header, code_of, form_of}
+use Rattle.bsp_ret.specs.Table.{is_sale, is_related, paid, total_paid, code_or, last_code, behind_sale, kind_of, standing, has_ended, row_fault}
+use Rattle.bsp_ret.specs.Standings.{standing_behind}
+use Rattle.bsp_ret.specs.Reading.{Draft, with_group, add, or_read, read_from}
+use Rattle.bsp_ret.proofs.Rows.{Clean, no_row}
+
+-- ---- the lines that stand, with one more
+
+last_or_snoc : {A : Type 0} (o : Option A) (xs : List A) (x : A) → last_or o (xs ++ x ∷ []) ≡ Some x
+last_or_snoc o [] x = refl
+last_or_snoc o (y ∷ xs) x = last_or_snoc (Some y) xs x
+
+count_by_snoc : {A : Type 0} (p : A → Bool) (xs : List A) (x : A) → count_by p (xs ++ x ∷ []) ≡ count_by p xs + cond (p x) 1 0
+count_by_snoc p xs x = sum_by-append (λ y. cond (p y) 1 0) xs (x ∷ []) ∙ omega arith
+
+total_paid_snoc : (before : List (List ℕ)) (line : List ℕ) → total_paid (before ++ line ∷ []) ≡ total_paid before +ℤ paid line
+total_paid_snoc [] line = +ℤ_idr (paid line) ∙ sym (+ℤ_idl (paid line))
+total_paid_snoc (first ∷ before) line = ap (λ (x : ℤ). paid first +ℤ x) (total_paid_snoc before line) ∙ sym (+ℤ_assoc (paid first) (total_paid before) (paid line))
+
+last_code_snoc : (before : List (List ℕ)) (line : List ℕ) → last_code (before ++ line ∷ []) ≡ cond (is_sale line) (code_or Tktt (Some line)) (last_code before)
+last_code_snoc before line =
+    let joined = filter-append is_sale before (line ∷ []) in
+    elim (cases_Bool (is_sale line)) [
+      | inl k ↦ rw (joined, k, last_or_snoc None (filter is_sale before) line) refl
+      | inr k ↦ rw (joined, k) (simp append-nil)
+    ]
+
+-- behind a record 2 nothing stands
+behind_sale_none : (before : List (List ℕ)) (line : List ℕ) → is_sale line ≡ true → behind_sale (before ++ line ∷ []) ≡ []
+behind_sale_none [] line k = rw k refl
+behind_sale_none (first ∷ before) line k =
+    let e : list_any is_sale (before ++ line ∷ []) ≡ true = list_any-append is_sale before (line ∷ []) ∙ rw k (or-true (list_any is_sale before)) in
+    rw e (behind_sale_none before line k)
+
+-- another record stands behind the same record 2
+behind_sale_more : (before : List (List ℕ)) (line : List ℕ) → is_sale line ≡ false → behind_sale (before ++ line ∷ []) ≡ behind_sale before ++ line ∷ []
+behind_sale_more [] line k = rw k refl
+behind_sale_more (first ∷ before) line k =
+    let e : list_any is_sale (before ++ line ∷ []) ≡ list_any is_sale before = list_any-append is_sale before (line ∷ []) ∙ rw k (or-false (list_any is_sale before)) in
+    elim (cases_Bool (list_any is_sale before)) [
+      | inl some ↦ rw (e, some) (behind_sale_more before line k)
+      | inr none ↦ rw (e, none) (elim (is_sale first) as (λ b. cond b (before ++ line ∷ []) (first ∷ before ++ line ∷ []) ≡ cond b before (first ∷ before) ++ line ∷ []) [ true ↦ refl | false ↦ refl ])
+    ]
+
+related_snoc : (before : List (List ℕ)) (line : List ℕ) → list_any is_related (behind_sale (before ++ line ∷ [])) ≡ cond (is_sale line) false (list_any is_related (behind_sale before) || is_related line)
+related_snoc before line =
+    elim (cases_Bool (is_sale line)) [
+      | inl k ↦ rw (k, behind_sale_none before line k) refl
+      | inr k ↦ rw (k, behind_sale_more before line k, list_any-append is_related (behind_sale before) (line ∷ []), or-false (is_related line)) refl
+    ]
+
+-- how lines stand with one more depends on how they stand and the line
+pub standing_snoc : (before : List (List ℕ)) (line : List ℕ) → standing (before ++ line ∷ []) ≡ standing_behind (standing before) line
+standing_snoc before line =
+    let count : length (before ++ line ∷ []) ≡ length before + 1 = length-append before (line ∷ []) in
+    rw (count, count_by_snoc is_sale before line, total_paid_snoc before line, last_code_snoc before line, related_snoc before line, last_or_snoc None before line) refl
+
+-- ---- what stands behind each kind of record
+
+-- this many transactions stand, with this code, record 3 and last record
+pub record Stands (at : Standing) (count : ℕ) (code : TransactionCode) (related : Bool) (latest : LastRecord) : Type 0 where
+  pub transactions_are : at.transactions ≡ count
+  pub code_is : at.code ≡ code
+  pub related_is : at.related ≡ related
+  pub last_is : at.last ≡ latest
+
+-- a header begins with 1
+pub begins_49 : (line : List ℕ) → is_header line ≡ true → identifier line ≡ 49
+unfolding is_header
+begins_49 line h = eqb-true _ _ (and_parts (identifier line == 49) _ h).0
+
+pub after_header : (at : Standing) (line : List ℕ) (n : ℕ) (code : TransactionCode) (b : Bool) (l : LastRecord) → Stands at n code b l → identifier line ≡ 49 → Stands (standing_behind at line) n code b last.Header
+unfolding kind_of
+after_header at line n code b l s k = record {
+  transactions_are = rw k (add-zero at.transactions ∙ s.transactions_are);
+  code_is = rw k s.code_is;
+  related_is = rw k (or-false at.related ∙ s.related_is);
+  last_is = rw k refl;
+}
+
+pub after_sale : (at : Standing) (line : List ℕ) (n : ℕ) (before code : TransactionCode) (b : Bool) (l : LastRecord) → Stands at n before b l → identifier line ≡ 50 → code_of line ≡ Some code
+    → Stands (standing_behind at line) (n + 1) code false last.Sale
+unfolding kind_of
+after_sale at line n before code b l s k e = record {
+  transactions_are = rw k (ap (λ (x : ℕ). x + 1) s.transactions_are);
+  code_is = rw (k, e) refl;
+  related_is = rw k refl;
+  last_is = rw k refl;
+}
+
+pub after_related : (at : Standing) (line : List ℕ) (n : ℕ) (code : TransactionCode) (b : Bool) (l : LastRecord) → Stands at n code b l → identifier line ≡ 51 → Stands (standing_behind at line) n code true last.Related
+unfolding kind_of
+after_related at line n code b l s k = record {
+  transactions_are = rw k (add-zero at.transactions ∙ s.transactions_are);
+  code_is = rw k s.code_is;
+  related_is = rw k (or-true at.related);
+  last_is = rw k refl;
+}
+
+pub after_amounts : (at : Standing) (line : List ℕ) (n : ℕ) (code : TransactionCode) (b : Bool) (l : LastRecord) → Stands at n code b l → identifier line ≡ 53 → Stands (standing_behind at line) n code b last.Amounts
+unfolding kind_of
+after_amounts at line n code b l s k = record {
+  transactions_are = rw k (add-zero at.transactions ∙ s.transactions_are);
+  code_is = rw k s.code_is;
+  related_is = rw k (or-false at.related ∙ s.related_is);
+  last_is = rw k refl;
+}
+
+pub after_form : (at : Standing) (line : List ℕ) (n : ℕ) (code : TransactionCode) (b : Bool) (l : LastRecord) (kind : FormOfPayment) → Stands at n code b l → identifier line ≡ 56 → form_of line ≡ Some kind
+    → Stands (standing_behind at line) n code b (last.Form kind)
+unfolding kind_of
+after_form at line n code b l kind s k e = record {
+  transactions_are = rw k (add-zero at.transactions ∙ s.transactions_are);
+  code_is = rw k s.code_is;
+  related_is = rw k (or-false at.related ∙ s.related_is);
+  last_is = rw (k, e) refl;
+}
+
+pub after_trailer : (at : Standing) (line : List ℕ) → identifier line ≡ 90 → (standing_behind at line).last ≡ last.Trailer
+unfolding kind_of
+after_trailer at line k = rw k refl
+
+-- ---- what is read
+
+pub read_nil : (at : Standing) (d : Draft) → read_from at d [] ≡ cond (has_ended at.last) (Ok (record { header = d.header; groups = d.closed; trailer = d.trailer })) (Err (record { code = F08; at = at.records + 1 }))
+unfolding read_from
+read_nil at d = refl
+
+pub read_cons : (at : Standing) (d : Draft) (line : List ℕ) (rest : List (List ℕ)) → read_from at d (line ∷ rest) ≡ or_read (row_fault at line) (at.records + 1) (read_from (standing_behind at line) (add d line) rest)
+unfolding read_from
+read_cons at d line rest = refl
+
+-- a record without fault is passed
+pub next : (at : Standing) (d : Draft) (line : List ℕ) (rest : List (List ℕ)) → Clean at line → read_from at d (line ∷ rest) ≡ read_from (standing_behind at line) (add d line) rest
+next at d line rest h = read_cons at d line rest ∙ rw (no_row at line h) refl
+
+-- a draft of these parts
+abbrev pub draft : List ℕ → List (List (List ℕ)) → List (List ℕ) → List ℕ → Draft
+draft header closed latest trailer = record { header = header; closed = closed; latest = latest; trailer = trailer }
+
+pub add_header : (d : Draft) (line : List ℕ) → identifier line ≡ 49 → add d line ≡ draft line d.closed [] d.trailer
+add_header d line k = rw k refl
+
+pub add_sale : (d : Draft) (line : List ℕ) → identifier line ≡ 50 → add d line ≡ draft d.header (with_group d.closed d.latest) (line ∷ []) d.trailer
+add_sale d line k = rw k refl
+
+pub add_trailer : (d : Draft) (line : List ℕ) → identifier line ≡ 90 → add d line ≡ draft d.header (with_group d.closed d.latest) [] line
+add_trailer d line k = rw k refl
+
+-- a further record of a group: 3, 5 or 8
+pub add_more : (d : Draft) (line : List ℕ) (letter : ℕ) → identifier line ≡ letter → (letter == 49) ≡ false → (letter == 50) ≡ false → (letter == 90) ≡ false
+    → add d line ≡ draft d.header d.closed (d.latest ++ line ∷ []) d.trailer
+add_more d line letter k header sale trailer = rw (k, header, sale, trailer) refl

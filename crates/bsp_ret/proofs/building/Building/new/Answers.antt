@@ -1,0 +1,9 @@
+use Rattle.std.proofs.Common.{refl}
+use Rattle.bsp_ret.proofs.BuildingLemmas.{no_lines, read_nothing}
+use Rattle.bsp_ret.proofs.building.Building.new.Goals as goal
+
+pub returns-clause-nothing : goal.returns-clause-nothing
+returns-clause-nothing c = rw (c.new.ensures.items, no_lines c.args.bytes.now) refl
+
+pub returns-clause-read : goal.returns-clause-read
+returns-clause-read c = read_nothing c.args.bytes.now

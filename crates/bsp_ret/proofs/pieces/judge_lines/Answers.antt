@@ -1,0 +1,38 @@
+use Rattle.std.proofs.Common.{◌≡◌, ◌+◌, ◌-◌, ◌∙◌, Ok, length, sym, ap, arith}
+use Rattle.bsp_ret.specs.declared.model.Standing.{Standing}
+use Rattle.bsp_ret.specs.Table.{row_fault}
+use Rattle.bsp_ret.proofs.PieceLemmas.{leaves_all, leaves_more, fails_at_line, fails_behind, nothing_left}
+use Rattle.bsp_ret.proofs.pieces.judge_lines.Goals as goal
+
+pub loop-line-init : goal.loop-line-init
+loop-line-init c = record {
+  left = leaves_all c.args.at c.args.bytes.now;
+  fits = record { counted = c.requires.counted; small = c.requires.small; few = omega arith };
+}
+
+pub returns-in-Err-clause-fault : goal.returns-in-Err-clause-fault
+returns-in-Err-clause-fault c =
+    let l = c.loop-line in
+    fails_at_line c.args.at l.now c.args.bytes.now l.rest.now c.in-Some.line.now c.in-Some.after.now c.in-Err.code l.invariant.left c.in-Some.ensures.some (sym c.row_fault.ensures.row ∙ c.in-Err.is)
+
+pub loop-line-preserved : goal.loop-line-preserved
+loop-line-preserved c =
+    let l = c.loop-line in
+    let line = c.in-Some.line.now in
+    let after = c.in-Some.after.now in
+    let none : row_fault l.now line ≡ Ok tt = sym c.row_fault.ensures.row ∙ c.in_default-row_fault.is in
+    let one_more : c.standing_behind-now.result.records ≡ l.now.records + 1 = ap (λ (x : Standing). x.records) c.standing_behind-now.ensures.standing in
+    let begins = c.in-Some.ensures.some in
+    record {
+      left = leaves_more c.args.at l.now c.standing_behind-now.result c.args.bytes.now l.rest.now line after l.invariant.left begins none c.standing_behind-now.ensures.standing;
+      fits = record {
+        counted = c.standing_behind-now.ensures.counted;
+        small = c.standing_behind-now.ensures.small;
+        few = omega (arith, one_more, begins.shorter, l.invariant.fits.few, l.invariant.left.rest_is.short);
+      };
+    }
+
+pub returns-then-not-is_empty-clause-fault : goal.returns-then-not-is_empty-clause-fault
+returns-then-not-is_empty-clause-fault c =
+    let l = c.loop-line in
+    fails_behind c.args.at l.now c.args.bytes.now l.rest.now l.invariant.left (sym c.has_ended.ensures ∙ c.if-has_ended.true) (sym c.is_empty.ensures ∙ c.if-not-is_empty.true)

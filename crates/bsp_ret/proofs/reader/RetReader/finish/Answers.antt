@@ -1,0 +1,20 @@
+use Rattle.std.proofs.Common.{◌≡◌, ◌∙◌, List, ℕ, Some, sym, ap, subst, drop}
+use Rattle.bsp_ret.specs.declared.model.Progress.{Progress}
+use Rattle.bsp_ret.specs.Lines.{lines}
+use Rattle.bsp_ret.specs.Table.{first_fault}
+use Rattle.bsp_ret.specs.Standings.{fault_behind}
+use Rattle.bsp_ret.specs.Pieces.{Fed, IsJudgedTo, IsKnown}
+use Rattle.bsp_ret.proofs.AnswerLemmas.{faulty}
+use Rattle.bsp_ret.proofs.FeedLemmas.{fault_of_all}
+use Rattle.bsp_ret.proofs.reader.RetReader.finish.Goals as goal
+
+pub returns-in-Err-clause-only : goal.returns-in-Err-clause-only
+returns-in-Err-clause-only c = λ open_still file ret.
+    let r = c.self.inside in
+    let bytes = r.bytes.items in
+    let KnownBy : Progress → Type 0 = λ p. IsKnown p r.at bytes (drop r.judged bytes) in
+    let known : IsJudgedTo r.at bytes (drop r.judged bytes) = subst KnownBy c.in-Reading.is c.self.invariant.2 in
+    let rest : c.split_at.result.1.now ≡ drop r.judged bytes = c.split_at.ensures.back ∙ ap (drop r.judged) c.deref-2.ensures.value in
+    let told : first_fault (lines bytes) ≡ Some c.in-Err.fault = fault_of_all r.at bytes (drop r.judged bytes) known ∙ ap (λ xs. fault_behind r.at (lines xs)) (sym rest) ∙ c.in-Err.ensures.fault in
+    let same : bytes ≡ c.args.self.now.bytes = ap (λ (f : Fed). f.bytes) c.self.view_is in
+    absurd (faulty (lines c.args.self.now.bytes) c.in-Err.fault (ap (λ xs. first_fault (lines xs)) (sym same) ∙ told) file ret)

@@ -1,0 +1,53 @@
+-- The records of a group, from its lines.
+use Rattle.std.specs.Prelude.{◌≡◌, ◌==◌, ℕ, List, [], ◌∷◌, length, Option, Some, None, IfSome, if◌then◌else◌}
+use Rattle.std.specs.Option.{option_copied}
+use Rattle.bsp_ret.specs.declared.model.FormOfPayment.{FormOfPayment}
+use Rattle.bsp_ret.specs.declared.model.FormOfPayment.TheVariants.{Cash, Credit, Exchange}
+use Rattle.bsp_ret.specs.declared.records.Records.{Records}
+use Rattle.bsp_ret.specs.Records.{identifier, form_of}
+use Rattle.bsp_ret.specs.Ret.{Group, IsGroup}
+
+-- what slices point to
+abbrev pub records_of : Records → Group
+records_of r = record {
+  sale = r.sale.now;
+  related = option_copied r.related;
+  amounts = option_copied r.amounts;
+  cash = option_copied r.cash;
+  credit = option_copied r.credit;
+  exchange = option_copied r.exchange;
+}
+
+-- a record 2 alone
+abbrev pub sale_alone : List ℕ → Group
+sale_alone line = record { sale = line; related = None; amounts = None; cash = None; credit = None; exchange = None }
+
+abbrev pub with_form : Option FormOfPayment → Group → List ℕ → Group
+with_form (Some Cash) g line = record g { cash = Some line }
+with_form (Some Credit) g line = record g { credit = Some line }
+with_form (Some Exchange) g line = record g { exchange = Some line }
+with_form None g line = g
+
+-- a further record, by its kind
+unfoldable pub with_record : Group → List ℕ → Group
+with_record g line =
+    if identifier line == 51 then record g { related = Some line }
+    else (if identifier line == 53 then record g { amounts = Some line } else with_form (form_of line) g line)
+
+unfoldable pub with_records : Group → List (List ℕ) → Group
+with_records g [] = g
+with_records g (line ∷ lines) = with_records (with_record g line) lines
+
+-- the lines are the group of transaction n, of these records
+pub record HasRecords (n : ℕ) (lines : List (List ℕ)) (g : Group) : Type 0 where
+  pub is : IsGroup n lines
+  pub group_is : is.group ≡ g
+
+-- each record has its width
+pub record AreWide (g : Group) : Type 0 where
+  pub sale : length g.sale ≡ 136
+  pub related : IfSome g.related (λ line. length line ≡ 136)
+  pub amounts : IfSome g.amounts (λ line. length line ≡ 136)
+  pub cash : IfSome g.cash (λ line. length line ≡ 136)
+  pub credit : IfSome g.credit (λ line. length line ≡ 136)
+  pub exchange : IfSome g.exchange (λ line. length line ≡ 136)

@@ -1,0 +1,193 @@
+-- The fault table, over the lines before a record and the record.
+use Rattle.std.specs.Prelude.{ℕ, ℤ, pos, ◌+ℤ◌, ◌+◌, ◌==◌, Bool, true, false, ◌&&◌, not, List, [], ◌∷◌, ◌++◌, length, Option, Some, None, unwrap_or, filter, Result, Ok, Err, if◌then◌else◌}
+use Rattle.std.specs.List.{count_by, last_or, list_any}
+use Rattle.std.specs.Ordering.{int_eq}
+use Rattle.bsp_fields.specs.FirstFault.{first_fault_or}
+use Rattle.bsp_fields.specs.Zoned.{zoned_reading}
+use Rattle.bsp_fields.specs.declared.fault.FieldFault.{FieldFault}
+use Rattle.bsp_ret.specs.declared.model.TransactionCode.{TransactionCode}
+use Rattle.bsp_ret.specs.declared.model.TransactionCode.TheVariants.{Tktt, Rfnd, Canx}
+use Rattle.bsp_ret.specs.declared.model.FormOfPayment.{FormOfPayment}
+use Rattle.bsp_ret.specs.declared.model.FormOfPayment.TheVariants.{Cash, Credit, Exchange}
+use Rattle.bsp_ret.specs.declared.model.LastRecord.{LastRecord}
+use Rattle.bsp_ret.specs.declared.model.LastRecord.TheVariants as last
+use Rattle.bsp_ret.specs.declared.model.Standing.{Standing}
+use Rattle.bsp_ret.specs.declared.model.FaultCode.{FaultCode}
+use Rattle.bsp_ret.specs.declared.model.FaultCode.TheVariants.{F01, F02, F03, F04, F05, F06, F07, F08, F09}
+use Rattle.bsp_ret.specs.declared.model.RetFault.{RetFault}
+use Rattle.bsp_ret.specs.Records.{columns, identifier, spells, is_wide, is_header, is_production, header_fits, code_of, sale_fits, related_fits, amounts_fit, form_of, form_fits, form_amount, trailer_fits}
+
+-- ---- kinds of records
+
+abbrev pub is_sale : List ℕ → Bool
+is_sale line = identifier line == 50
+
+abbrev pub is_related : List ℕ → Bool
+is_related line = identifier line == 51
+
+abbrev pub is_trailer : List ℕ → Bool
+is_trailer line = identifier line == 90
+
+-- ---- what stands before a record
+
+-- what a record adds to the sum of the forms
+abbrev pub paid : List ℕ → ℤ
+paid line = if identifier line == 56 then form_amount line else pos 0
+
+abbrev pub total_paid : List (List ℕ) → ℤ
+total_paid [] = pos 0
+total_paid (line ∷ lines) = paid line +ℤ total_paid lines
+
+-- the code of the last record 2, TKTT where there is none
+abbrev pub code_or : TransactionCode → Option (List ℕ) → TransactionCode
+code_or code None = code
+code_or code (Some line) = unwrap_or (code_of line) code
+
+abbrev pub last_code : List (List ℕ) → TransactionCode
+last_code before = code_or Tktt (last_or None (filter is_sale before))
+
+-- the lines behind the last record 2, all where there is none
+abbrev pub behind_sale : List (List ℕ) → List (List ℕ)
+behind_sale [] = []
+behind_sale (line ∷ lines) =
+    if list_any is_sale lines then behind_sale lines else (if is_sale line then lines else line ∷ lines)
+
+-- the kind of a record
+unfoldable pub kind_of : List ℕ → LastRecord
+kind_of line =
+    if identifier line == 50 then last.Sale
+    else (if identifier line == 51 then last.Related
+    else (if identifier line == 53 then last.Amounts
+    else (if identifier line == 56 then last.Form (unwrap_or (form_of line) Cash)
+    else (if identifier line == 90 then last.Trailer else last.Header))))
+
+abbrev pub kind_or_start : Option (List ℕ) → LastRecord
+kind_or_start None = last.Start
+kind_or_start (Some line) = kind_of line
+
+-- how the lines stand
+abbrev pub standing : List (List ℕ) → Standing
+standing before = record {
+  records = length before;
+  transactions = count_by is_sale before;
+  sum = total_paid before;
+  code = last_code before;
+  related = list_any is_related (behind_sale before);
+  last = kind_or_start (last_or None before);
+}
+
+-- ---- what may stand where, by the last record, its group's code and whether the group has a record 3
+
+abbrev pub has_ended : LastRecord → Bool
+has_ended last.Trailer = true
+has_ended _ = false
+
+abbrev pub is_start : LastRecord → Bool
+is_start last.Start = true
+is_start _ = false
+
+-- a group is complete, or there is none: a CANX is at once, another from its first form on, but a TKTT with record 3 only with EX
+abbrev pub is_complete : LastRecord → TransactionCode → Bool → Bool
+is_complete last.Header code related = true
+is_complete last.Sale Canx related = true
+is_complete (last.Form Cash) Tktt related = not related
+is_complete (last.Form Credit) Tktt related = not related
+is_complete (last.Form form) code related = true
+is_complete _ code related = false
+
+abbrev pub takes_related : LastRecord → TransactionCode → Bool
+takes_related last.Sale Tktt = true
+takes_related last.Sale Rfnd = true
+takes_related _ code = false
+
+abbrev pub takes_amounts : LastRecord → TransactionCode → Bool
+takes_amounts last.Sale Tktt = true
+takes_amounts last.Related code = true
+takes_amounts _ code = false
+
+-- EX stands only in a TKTT with record 3
+abbrev pub has_form : TransactionCode → Bool → FormOfPayment → Bool
+has_form code related Cash = true
+has_form code related Credit = true
+has_form Tktt related Exchange = related
+has_form Rfnd related Exchange = false
+has_form Canx related Exchange = false
+
+-- forms are different and in the order CA, CC, EX
+abbrev pub is_later : FormOfPayment → FormOfPayment → Bool
+is_later Cash Credit = true
+is_later Cash Exchange = true
+is_later Credit Exchange = true
+is_later _ _ = false
+
+-- a known form, or one that is none of the three: this is not allowed only where no form is
+abbrev pub takes_form : LastRecord → TransactionCode → Bool → Option FormOfPayment → Bool
+takes_form last.Amounts code related (Some form) = has_form code related form
+takes_form last.Amounts code related None = true
+takes_form (last.Form before) code related (Some form) = is_later before form && has_form code related form
+takes_form (last.Form Cash) code related None = true
+takes_form (last.Form Credit) code related None = has_form code related Exchange
+takes_form _ code related form = false
+
+-- identifier, transaction number and form
+abbrev pub is_allowed : Standing → List ℕ → Bool
+is_allowed at line =
+    if identifier line == 50 then is_complete at.last at.code at.related && spells (at.transactions + 1) (columns 2 7 line)
+    else (if identifier line == 51 then takes_related at.last at.code && spells at.transactions (columns 2 7 line)
+    else (if identifier line == 53 then takes_amounts at.last at.code && spells at.transactions (columns 2 7 line)
+    else (if identifier line == 56 then takes_form at.last at.code at.related (form_of line) && spells at.transactions (columns 2 7 line)
+    else (identifier line == 90) && is_complete at.last at.code at.related)))
+
+-- the other fields of a later record
+abbrev pub fields_fit : List ℕ → Bool
+fields_fit line =
+    if identifier line == 50 then sale_fits line
+    else (if identifier line == 51 then related_fits line
+    else (if identifier line == 53 then amounts_fit line
+    else (if identifier line == 56 then form_fits line else trailer_fits line)))
+
+-- the text is a total, of that value
+abbrev pub has_value : ℤ → Result ℤ FieldFault → Bool
+has_value v (Ok w) = int_eq w v
+has_value v (Err fault) = false
+
+abbrev pub has_counts : Standing → List ℕ → Bool
+has_counts at line = spells (at.records + 1) (columns 2 8 line) && spells at.transactions (columns 9 15 line)
+
+abbrev pub has_sum : Standing → List ℕ → Bool
+has_sum at line = has_value at.sum (zoned_reading 15 (columns 16 30 line))
+
+-- ---- the table
+
+-- of the header and of a later record
+abbrev pub header_table : List ℕ → List (Bool × FaultCode)
+header_table line = (not (is_header line), F02) ∷ (not (is_production line), F04) ∷ (not (header_fits line), F05) ∷ []
+
+abbrev pub later_table : Standing → List ℕ → List (Bool × FaultCode)
+later_table at line =
+    (not (is_allowed at line), F03) ∷ (not (fields_fit line), F05)
+    ∷ (is_trailer line && not (has_counts at line), F06) ∷ (is_trailer line && not (has_sum at line), F07) ∷ []
+
+-- the first row that applies to a line behind the lines that stand so
+unfoldable pub row_fault : Standing → List ℕ → Result (Unit {0}) FaultCode
+row_fault at line =
+    first_fault_or
+    ((has_ended at.last, F09) ∷ (not (is_wide line), F01)
+    ∷ (if is_start at.last then header_table line else later_table at line))
+    tt
+
+-- ---- the first record at fault
+
+abbrev pub or_later : Result (Unit {0}) FaultCode → ℕ → Option RetFault → Option RetFault
+or_later (Ok none) at later = later
+or_later (Err code) at later = Some (record { code = code; at = at })
+
+abbrev pub fault_from : List (List ℕ) → List (List ℕ) → Option RetFault
+fault_from before [] =
+    if has_ended (standing before).last then None else Some (record { code = F08; at = length before + 1 })
+fault_from before (line ∷ rest) =
+    or_later (row_fault (standing before) line) (length before + 1) (fault_from (before ++ line ∷ []) rest)
+
+-- the first record to which a row applies, with that row
+abbrev pub first_fault : List (List ℕ) → Option RetFault
+first_fault lines = fault_from [] lines

@@ -1,0 +1,94 @@
+//! Kinds of characters over a whole text, and numbers of digits.
+
+ghost use Rattle.std.specs.Prelude.{◌≡◌, ◌≤◌, length, if◌then◌else◌, Some, None};
+ghost use Rattle.std.specs.Int.{is_in_range};
+ghost use Rattle.std.specs.List.{list_all};
+ghost use Rattle.std.specs.Str.{all_ascii_digits};
+ghost use Rattle.bsp_fields.specs.Decimal.{number_of};
+ghost use Rattle.bsp_ret.specs.Records.{is_letter, is_letter_or_digit, is_space, is_printable, spells, spells_at_most};
+
+/// Whether each character lies from one to another. It looks at all of them, which lets the
+/// compiler test many at once.
+#[inline]
+fn all_in_range(text: &[u8], from: u8, to: u8) -> bool
+    ensures { result ≡ list_all (is_in_range from to) text.now }
+{
+    let mut all = true;
+    for b in text {
+        all &= from <= *b && *b <= to;
+    }
+    all
+}
+
+#[inline]
+pub(crate) fn all_digits(text: &[u8]) -> bool
+    ensures { result ≡ all_ascii_digits text.now }
+{
+    all_in_range(text, b'0', b'9')
+}
+
+#[inline]
+pub(crate) fn all_letters(text: &[u8]) -> bool
+    ensures { result ≡ list_all is_letter text.now }
+{
+    all_in_range(text, b'A', b'Z')
+}
+
+#[inline]
+pub(crate) fn all_spaces(text: &[u8]) -> bool
+    ensures { result ≡ list_all is_space text.now }
+{
+    all_in_range(text, b' ', b' ')
+}
+
+#[inline]
+pub(crate) fn all_printable(text: &[u8]) -> bool
+    ensures { result ≡ list_all is_printable text.now }
+{
+    all_in_range(text, b' ', b'~')
+}
+
+#[inline]
+pub(crate) fn all_letters_or_digits(text: &[u8]) -> bool
+    ensures { result ≡ list_all is_letter_or_digit text.now }
+{
+    text.iter()
+        .all(|b| b.is_ascii_digit() || b'A' <= *b && *b <= b'Z')
+}
+
+/// The number of at most 15 digits.
+fn read_number(text: &[u8]) -> Option<u64>
+    requires { length text.now ≤ 15 }
+    ensures { result ≡ (if all_ascii_digits text.now then Some (number_of text.now) else None) }
+{
+    let mut number = 0;
+    for b in text {
+        if !b.is_ascii_digit() {
+            return None;
+        }
+        number = number * 10 + (*b - b'0') as u64;
+    }
+    Some(number)
+}
+
+/// Whether the digits write the number.
+pub(crate) fn spells(number: usize, text: &[u8]) -> bool
+    requires { length text.now ≤ 15 }
+    ensures { result ≡ spells number text.now }
+{
+    match read_number(text) {
+        Some(read) => read as usize == number,
+        None => false,
+    }
+}
+
+/// Whether the digits write the number or less.
+pub(crate) fn spells_at_most(most: u64, text: &[u8]) -> bool
+    requires { length text.now ≤ 15 }
+    ensures { result ≡ spells_at_most most text.now }
+{
+    match read_number(text) {
+        Some(read) => read <= most,
+        None => false,
+    }
+}

@@ -1,0 +1,202 @@
+//! The fields of each record, by its columns.
+
+ghost use Rattle.std.specs.Prelude.{◌≡◌, ◌≤◌, length, true, unsigned_abs};
+ghost use Rattle.bsp_ret.specs.Records.{is_wide, is_amount, is_total, is_record_day, is_header, is_production, header_fits, code_of, sale_fits, related_fits, tax_code, tax_fits, taxes_fit, tax_places, amounts_fit, form_of, vendor_fits, form_fits, form_amount, trailer_fits};
+
+use crate::characters::{
+    all_digits, all_letters, all_letters_or_digits, all_printable, all_spaces, spells_at_most,
+};
+use crate::model::{FormOfPayment, TransactionCode};
+use bsp_fields::{Day, read_amount, read_total};
+
+/// Whether a record has its width and its characters.
+#[tactic(auto, unfolding(crate::specs::Records::is_wide))]
+pub(crate) fn is_wide(line: &[u8]) -> bool
+    ensures value { result ≡ is_wide line.now }
+    ensures long { result ≡ true → length line.now ≡ 136 }
+{
+    line.len() == 136 && all_printable(line)
+}
+
+fn is_amount(text: &[u8]) -> bool
+    ensures { result ≡ is_amount text.now }
+{
+    read_amount(text).is_ok()
+}
+
+fn is_total(text: &[u8]) -> bool
+    ensures { result ≡ is_total text.now }
+{
+    read_total(text).is_ok()
+}
+
+fn is_record_day(text: &[u8]) -> bool
+    ensures { result ≡ is_record_day text.now }
+{
+    Day::read_record(text).is_ok()
+}
+
+/// Whether a record is a header of this profile.
+#[tactic(auto, unfolding(crate::specs::Records::is_header))]
+pub(crate) fn is_header(line: &[u8]) -> bool
+    requires { length line.now ≡ 136 }
+    ensures { result ≡ is_header line.now }
+{
+    line[0] == b'1' && &line[27..30] == b"001".as_slice()
+}
+
+/// Whether a header says that the file is no test.
+#[tactic(auto, unfolding(crate::specs::Records::is_production))]
+pub(crate) fn is_production(line: &[u8]) -> bool
+    requires { length line.now ≡ 136 }
+    ensures { result ≡ is_production line.now }
+{
+    &line[23..27] == b"PROD".as_slice()
+}
+
+#[tactic(auto, unfolding(crate::specs::Records::header_fits))]
+pub(crate) fn header_fits(line: &[u8]) -> bool
+    requires { length line.now ≡ 136 }
+    ensures { result ≡ header_fits line.now }
+{
+    all_letters_or_digits(&line[1..5])
+        && is_record_day(&line[5..11])
+        && spells_at_most(23, &line[11..13])
+        && spells_at_most(59, &line[13..15])
+        && all_letters(&line[15..17])
+        && all_digits(&line[17..23])
+        && all_spaces(&line[30..136])
+}
+
+/// The code of a record 2.
+#[tactic(auto, unfolding(crate::specs::Records::code_of))]
+pub(crate) fn code_of(line: &[u8]) -> Option<TransactionCode>
+    requires { length line.now ≡ 136 }
+    ensures { result ≡ code_of line.now }
+{
+    match &line[7..11] {
+        b"TKTT" => Some(TransactionCode::Tktt),
+        b"RFND" => Some(TransactionCode::Rfnd),
+        b"CANX" => Some(TransactionCode::Canx),
+        _ => None,
+    }
+}
+
+#[tactic(auto, unfolding(crate::specs::Records::sale_fits))]
+pub(crate) fn sale_fits(line: &[u8]) -> bool
+    requires { length line.now ≡ 136 }
+    ensures { result ≡ sale_fits line.now }
+{
+    code_of(line).is_some()
+        && all_digits(&line[11..33])
+        && is_record_day(&line[33..39])
+        && all_spaces(&line[88..136])
+}
+
+#[tactic(auto, unfolding(crate::specs::Records::related_fits))]
+pub(crate) fn related_fits(line: &[u8]) -> bool
+    requires { length line.now ≡ 136 }
+    ensures { result ≡ related_fits line.now }
+{
+    all_digits(&line[7..21]) && all_spaces(&line[21..136])
+}
+
+/// The characters of a tax code as a number, which orders codes by their bytes.
+fn tax_code(place: &[u8]) -> u16
+    requires { length place.now ≡ 13 }
+    ensures { result ≡ tax_code place.now }
+{
+    u16::from_be_bytes([place[0], place[1]])
+}
+
+fn tax_fits(place: &[u8]) -> bool
+    requires { length place.now ≡ 13 }
+    ensures { result ≡ tax_fits place.now }
+{
+    all_letters_or_digits(&place[..2]) && is_amount(&place[2..13])
+}
+
+/// Whether the used places of taxes come first, with codes that rise, and spaces behind them.
+fn taxes_fit(line: &[u8]) -> bool
+    requires { length line.now ≡ 136 }
+    ensures { result ≡ taxes_fit 0 (tax_places line.now) }
+{
+    let mut before = 0;
+    for index in 0..6 {
+        let place = &line[18 + 13 * index..31 + 13 * index];
+        if all_spaces(place) {
+            return all_spaces(&line[31 + 13 * index..96]);
+        }
+        let code = tax_code(place);
+        if !tax_fits(place) || code <= before {
+            return false;
+        }
+        before = code;
+    }
+    true
+}
+
+#[tactic(auto, unfolding(crate::specs::Records::amounts_fit))]
+pub(crate) fn amounts_fit(line: &[u8]) -> bool
+    requires { length line.now ≡ 136 }
+    ensures { result ≡ amounts_fit line.now }
+{
+    is_amount(&line[7..18])
+        && taxes_fit(line)
+        && spells_at_most(10_000, &line[96..101])
+        && is_amount(&line[101..112])
+        && all_spaces(&line[112..136])
+}
+
+/// The form of a record 8.
+#[tactic(auto, unfolding(crate::specs::Records::form_of))]
+pub(crate) fn form_of(line: &[u8]) -> Option<FormOfPayment>
+    requires { length line.now ≡ 136 }
+    ensures { result ≡ form_of line.now }
+{
+    match &line[7..9] {
+        b"CA" => Some(FormOfPayment::Cash),
+        b"CC" => Some(FormOfPayment::Credit),
+        b"EX" => Some(FormOfPayment::Exchange),
+        _ => None,
+    }
+}
+
+fn vendor_fits(form: Option<FormOfPayment>, text: &[u8]) -> bool
+    ensures { result ≡ vendor_fits form text.now }
+{
+    match form {
+        Some(FormOfPayment::Cash | FormOfPayment::Exchange) => all_spaces(text),
+        Some(FormOfPayment::Credit) => all_letters_or_digits(text),
+        None => false,
+    }
+}
+
+#[tactic(auto, unfolding(crate::specs::Records::form_fits))]
+pub(crate) fn form_fits(line: &[u8]) -> bool
+    requires { length line.now ≡ 136 }
+    ensures { result ≡ form_fits line.now }
+{
+    vendor_fits(form_of(line), &line[20..22]) && is_amount(&line[9..20]) && all_spaces(&line[22..136])
+}
+
+/// The amount of a record 8, 0 where there is none.
+#[tactic(auto, unfolding(crate::specs::Records::form_amount))]
+pub(crate) fn form_amount(line: &[u8]) -> i64
+    requires { length line.now ≡ 136 }
+    ensures value { result ≡ form_amount line.now }
+    ensures bound { unsigned_abs result ≤ 99_999_999_999 }
+{
+    match read_amount(&line[9..20]) {
+        Ok(amount) => amount.get(),
+        Err(_) => 0,
+    }
+}
+
+#[tactic(auto, unfolding(crate::specs::Records::trailer_fits))]
+pub(crate) fn trailer_fits(line: &[u8]) -> bool
+    requires { length line.now ≡ 136 }
+    ensures { result ≡ trailer_fits line.now }
+{
+    all_digits(&line[1..15]) && is_total(&line[15..30]) && all_spaces(&line[30..136])
+}

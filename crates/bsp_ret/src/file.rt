@@ -1,0 +1,122 @@
+//! A RET file as it was read.
+
+ghost use Rattle.std.specs.Prelude.{◌≡◌, ◌+◌, ◌<◌, ◌≤◌, List, ℕ, [], ◌∷◌, true, length, MatchOption, slice_index_or};
+ghost use Rattle.std.specs.List.{list_all};
+ghost use Rattle.bsp_ret.specs.Lines.{lines};
+ghost use Rattle.bsp_ret.specs.Records.{is_wide};
+ghost use Rattle.bsp_ret.specs.Groups.{records_of, sale_alone, with_records, HasRecords};
+
+use crate::building::Building;
+use crate::record_fields::{GroupFields, HeaderFields, TrailerFields};
+use crate::records::Records;
+use std::marker::Model;
+
+/// The lines of a transaction, as they stand in the text. A contract sees the list of its lines.
+#[derive(Drop)]
+pub struct Group<'a> {
+    text: &'a [u8],
+}
+
+impl<'a> Model for Group<'a> {
+    ghost use Rattle.std.specs.Prelude.{List, ℕ};
+    ghost use Rattle.bsp_ret.specs.Lines.{lines};
+
+    ghost Value = { List (List ℕ) };
+
+    ghost view = { λ group. lines group.text.now };
+}
+
+/// A RET file: its header, the groups of its transactions and its trailer, as slices of the text.
+#[derive(Drop)]
+pub struct RetFile<'a> {
+    header: &'a [u8],
+    groups: Vec<Group<'a>>,
+    trailer: &'a [u8],
+}
+
+impl<'a> Model for RetFile<'a> {
+    ghost use Rattle.bsp_ret.specs.Ret.{File, HasLines};
+
+    ghost Value = { File };
+
+    ghost view = { λ file. record { header = file.header.now; groups = file.groups.items; trailer = file.trailer.now } };
+
+    ghost invariant = { λ file. HasLines (record { header = file.header.now; groups = file.groups.items; trailer = file.trailer.now }) };
+}
+
+impl<'a> Group<'a> {
+    /// The group of these lines.
+    pub(crate) fn of(text: &'a [u8]) -> Group<'a>
+        ensures { result ≡ lines text.now }
+    {
+        Group { text }
+    }
+
+    /// The records of the group.
+    fn records(&self) -> Records<'a>
+        requires some { 0 < length self.now }
+        requires wide { list_all is_wide self.now ≡ true }
+        ensures { (sale : List ℕ) (more : List (List ℕ)) → self.now ≡ sale ∷ more → records_of result ≡ with_records (sale_alone sale) more }
+    {
+        Records::of(self.text)
+    }
+}
+
+impl<'a> RetFile<'a> {
+    ghost use Rattle.bsp_ret.specs.Building.{file_of};
+    ghost use Rattle.bsp_ret.specs.Ret.{HasLines};
+    ghost use Rattle.bsp_ret.specs.Fields.{IsHeaderOf, IsTrailerOf, HasFields};
+
+    /// The file of what was read to the end.
+    pub(crate) fn of(building: Building<'a>) -> RetFile<'a>
+        requires { HasLines (file_of building) }
+        ensures { result ≡ file_of building.entry }
+    {
+        RetFile {
+            header: building.header,
+            groups: building.closed,
+            trailer: building.trailer,
+        }
+    }
+
+    /// The records of a transaction, counted from 0, as slices of the text; none past the last.
+    pub(crate) fn records(&self, index: usize) -> Option<Records<'a>>
+        ensures { MatchOption result (length self.now.groups ≤ index) (λ records. HasRecords (index + 1) (slice_index_or self.now.groups index []) (records_of records)) }
+    {
+        match self.groups.get(index) {
+            Some(group) => Some(group.records()),
+            None => None,
+        }
+    }
+
+    /// The fields of the header.
+    pub fn header(&self) -> HeaderFields<'a>
+        ensures { IsHeaderOf self.now.header result }
+    {
+        HeaderFields::of(self.header)
+    }
+
+    /// The fields of a transaction's records, counted from 0; none past the last.
+    pub fn fields(&self, index: usize) -> Option<GroupFields<'a>>
+        ensures { MatchOption result (length self.now.groups ≤ index) (λ fields. HasFields (index + 1) (slice_index_or self.now.groups index []) fields) }
+    {
+        match self.records(index) {
+            Some(records) => Some(records.fields()),
+            None => None,
+        }
+    }
+
+    /// The fields of the trailer.
+    pub fn trailer(&self) -> TrailerFields<'a>
+        ensures { IsTrailerOf self.now.trailer result }
+    {
+        TrailerFields::of(self.trailer)
+    }
+
+    /// The number of transactions.
+    pub fn transactions(&self) -> usize
+        ensures { result ≡ length self.now.groups }
+    {
+        self.groups.len()
+    }
+}

@@ -1,0 +1,82 @@
+//! Lines that are judged as their bytes come.
+
+ghost use Rattle.std.specs.Prelude.{◌≡◌, ◌+◌, ◌-◌, ◌^◌, [], true, false, Some, None, length, IfOk, IfErr};
+ghost use Rattle.bsp_ret.specs.Lines.{lines, has_end};
+ghost use Rattle.bsp_ret.specs.Table.{has_ended};
+ghost use Rattle.bsp_ret.specs.Standings.{FitsIn, fault_behind};
+ghost use Rattle.bsp_ret.specs.Pieces.{Leaves, Fails};
+
+use crate::judge::{row_fault, standing_behind};
+use crate::lines::ended_line;
+use crate::model::{FaultCode, RetFault, Standing};
+
+/// Judges the lines that have an end, and whether a line begins behind a trailer. Answers how the
+/// records stand then, and the bytes that are left.
+pub(crate) fn judge_lines(at: Standing, bytes: &[u8]) -> Result<(Standing, &[u8]), RetFault>
+    requires { FitsIn at (2 ^ 63 - length bytes.now) }
+    ensures left { IfOk result (λ x. Leaves at bytes.now x.0 x.1.now) }
+    ensures fits { IfOk result (λ x. FitsIn x.0 (at.records + (length bytes.now - length x.1.now))) }
+    ensures unended { IfOk result (λ x. has_end x.1.now ≡ false) }
+    ensures ended { IfOk result (λ x. has_ended x.0.last ≡ true → x.1.now ≡ []) }
+    ensures fault { IfErr result (λ e. Fails at bytes.now e) }
+{
+    let mut now = at;
+    let mut rest = bytes;
+    while let Some((line, after)) = ended_line(rest) {
+        if let Err(code) = row_fault(now, line) {
+            return Err(RetFault {
+                code,
+                at: now.records + 1,
+            });
+        }
+        now = standing_behind(now, line);
+        rest = after;
+    }
+    if now.last.has_ended() && !rest.is_empty() {
+        return Err(RetFault {
+            code: FaultCode::F09,
+            at: now.records + 1,
+        });
+    }
+    Ok((now, rest))
+}
+
+/// Judges a last line without an end, if there is one. Answers how the records stand then.
+fn judge_last(at: Standing, rest: &[u8]) -> Result<Standing, RetFault>
+    requires fits { FitsIn at (2 ^ 63 - length rest.now) }
+    requires unended { has_end rest.now ≡ false }
+    ensures judged { IfOk result (λ then. fault_behind at (lines rest.now) ≡ fault_behind then []) }
+    ensures records { IfOk result (λ then. then.records ≡ at.records + length (lines rest.now)) }
+    ensures fits { IfOk result (λ then. FitsIn then (at.records + length rest.now)) }
+    ensures fault { IfErr result (λ e. fault_behind at (lines rest.now) ≡ Some e) }
+{
+    if rest.is_empty() {
+        return Ok(at);
+    }
+    match row_fault(at, rest) {
+        Ok(()) => Ok(standing_behind(at, rest)),
+        Err(code) => Err(RetFault {
+            code,
+            at: at.records + 1,
+        }),
+    }
+}
+
+/// Judges the bytes that are left when no more come. Answers how the records stand then.
+pub(crate) fn judge_rest(at: Standing, rest: &[u8]) -> Result<Standing, RetFault>
+    requires fits { FitsIn at (2 ^ 63 - length rest.now) }
+    requires unended { has_end rest.now ≡ false }
+    ensures none { IfOk result (λ then. fault_behind at (lines rest.now) ≡ None) }
+    ensures records { IfOk result (λ then. then.records ≡ at.records + length (lines rest.now)) }
+    ensures fits { IfOk result (λ then. FitsIn then (at.records + length rest.now)) }
+    ensures fault { IfErr result (λ e. fault_behind at (lines rest.now) ≡ Some e) }
+{
+    match judge_last(at, rest) {
+        Ok(then) if then.last.has_ended() => Ok(then),
+        Ok(then) => Err(RetFault {
+            code: FaultCode::F08,
+            at: then.records + 1,
+        }),
+        Err(fault) => Err(fault),
+    }
+}

@@ -1,0 +1,176 @@
+//! A reader of a file that comes in pieces.
+
+ghost use Rattle.std.specs.Prelude.{◌≡◌, ◌⊎◌, [], ◌++◌, Ok, Err, None, Some, MatchResult, OnOk, IfOk, IfErr, length, ◌<◌};
+ghost use Rattle.bsp_ret.specs.Lines.{lines};
+ghost use Rattle.bsp_ret.specs.Table.{first_fault};
+ghost use Rattle.bsp_ret.specs.Ret.{File, Ret};
+ghost use Rattle.bsp_ret.specs.Reading.{no_memory};
+ghost use Rattle.bsp_ret.specs.Pieces.{Fed, IsFinal, IsOpen, IsClearSoFar, behind_file};
+
+use crate::file::RetFile;
+use crate::model::{FaultCode, Progress, RetFault, Standing};
+use crate::pieces::{judge_lines, judge_rest};
+use crate::reading::read_ret;
+use std::alloc::Global;
+use std::marker::Model;
+
+/// A reader of a RET file whose bytes come in pieces. It keeps one copy of the bytes. A contract
+/// sees the bytes that came and how far the reader is.
+#[derive(Drop)]
+pub struct RetReader {
+    alloc: Global,
+    bytes: Vec<u8>,
+    judged: usize,
+    at: Standing,
+    progress: Progress,
+}
+
+impl Model for RetReader {
+    ghost use Rattle.std.specs.Prelude.{drop, length, ◌≤◌};
+    ghost use Rattle.bsp_ret.specs.Standings.{FitsIn};
+    ghost use Rattle.bsp_ret.specs.Pieces.{Fed, IsKnown};
+
+    ghost Value = { Fed };
+
+    ghost view = { λ r. record { bytes = r.bytes.items; progress = r.progress } };
+
+    ghost invariant = { λ r. (r.judged ≤ length r.bytes.items) × FitsIn r.at r.judged × IsKnown r.progress r.at r.bytes.items (drop r.judged r.bytes.items) };
+}
+
+impl RetReader {
+    /// A reader to which nothing was fed.
+    pub fn new(alloc: Global) -> RetReader
+        ensures { result ≡ record { bytes = []; progress = Progress.Reading } }
+    {
+        RetReader {
+            alloc,
+            bytes: Vec::new(alloc),
+            judged: 0,
+            at: Standing::start(),
+            progress: Progress::Reading,
+        }
+    }
+
+    /// Takes the next piece, and judges each line that has an end.
+    ///
+    /// # Errors
+    ///
+    /// The first fault of all bytes fed, however they go on; it is answered for good. After an
+    /// `end` or a `finish` that found no fault, F09 for any byte. F10 where an allocation was
+    /// refused, and the reader is as it was.
+    pub fn feed(&mut self, piece: &[u8]) -> Result<(), RetFault>
+        ensures failed { (fault : RetFault) → self.old.progress ≡ Progress.Failed fault → (result ≡ Err fault) × (self.new ≡ self.old) }
+        ensures ended_none { self.old.progress ≡ Progress.Ended → length piece.now ≡ 0 → (result ≡ Ok tt) × (self.new ≡ self.old) }
+        ensures ended_some { self.old.progress ≡ Progress.Ended → 0 < length piece.now
+            → (result ≡ Err (behind_file self.old.bytes)) × (self.new ≡ record { bytes = self.old.bytes; progress = Progress.Failed (behind_file self.old.bytes) }) }
+        ensures ok { self.old.progress ≡ Progress.Reading
+            → OnOk result ((self.new ≡ record { bytes = self.old.bytes ++ piece.now; progress = Progress.Reading }) × IsClearSoFar self.new.bytes) }
+        ensures fault { self.old.progress ≡ Progress.Reading → IfErr result (λ fault. ((fault ≡ no_memory) × (self.new ≡ self.old))
+            ⊎ ((self.new ≡ record { bytes = self.old.bytes ++ piece.now; progress = Progress.Failed fault }) × IsFinal (self.old.bytes ++ piece.now) fault)) }
+    {
+        match self.progress {
+            Progress::Failed(fault) => return Err(fault),
+            Progress::Ended => return self.feed_behind(piece),
+            Progress::Reading => {}
+        }
+        self.bytes.extend_from_slice(piece)?;
+        let (_, rest) = self.bytes.split_at(self.judged);
+        match judge_lines(self.at, rest) {
+            Ok((at, left)) => {
+                self.judged = self.bytes.len() - left.len();
+                self.at = at;
+                Ok(())
+            }
+            Err(fault) => {
+                self.progress = Progress::Failed(fault);
+                Err(fault)
+            }
+        }
+    }
+
+    /// Takes a piece behind the file.
+    fn feed_behind(&mut self, piece: &[u8]) -> Result<(), RetFault>
+        requires { self.old.progress ≡ Progress.Ended }
+        ensures none { length piece.now ≡ 0 → (result ≡ Ok tt) × (self.new ≡ self.old) }
+        ensures some { 0 < length piece.now
+            → (result ≡ Err (behind_file self.old.bytes)) × (self.new ≡ record { bytes = self.old.bytes; progress = Progress.Failed (behind_file self.old.bytes) }) }
+    {
+        if piece.is_empty() {
+            return Ok(());
+        }
+        let fault = RetFault {
+            code: FaultCode::F09,
+            at: self.at.records + 1,
+        };
+        self.progress = Progress::Failed(fault);
+        Err(fault)
+    }
+
+    /// Ends the text: judges a last line without an end, and whether the file is whole. Takes no
+    /// memory.
+    ///
+    /// # Errors
+    ///
+    /// The first fault of all bytes fed; it is answered for good.
+    pub fn end(&mut self) -> Result<(), RetFault>
+        ensures failed { (fault : RetFault) → self.old.progress ≡ Progress.Failed fault → (result ≡ Err fault) × (self.new ≡ self.old) }
+        ensures ended { self.old.progress ≡ Progress.Ended → (result ≡ Ok tt) × (self.new ≡ self.old) }
+        ensures reading { self.old.progress ≡ Progress.Reading → MatchResult result
+            (λ _. (first_fault (lines self.old.bytes) ≡ None) × (self.new ≡ record { bytes = self.old.bytes; progress = Progress.Ended }))
+            (λ fault. (first_fault (lines self.old.bytes) ≡ Some fault) × (self.new ≡ record { bytes = self.old.bytes; progress = Progress.Failed fault })) }
+    {
+        match self.progress {
+            Progress::Failed(fault) => return Err(fault),
+            Progress::Ended => return Ok(()),
+            Progress::Reading => {}
+        }
+        let (_, rest) = self.bytes.split_at(self.judged);
+        match judge_rest(self.at, rest) {
+            Ok(at) => {
+                self.at = at;
+                self.judged = self.bytes.len();
+                self.progress = Progress::Ended;
+                Ok(())
+            }
+            Err(fault) => {
+                self.progress = Progress::Failed(fault);
+                Err(fault)
+            }
+        }
+    }
+
+    /// Ends the text and gives its file, the one that `read_ret` gives of all bytes fed. Another
+    /// call gives it again.
+    ///
+    /// # Errors
+    ///
+    /// As `end`, and F10 where an allocation was refused: then the reader is as it was.
+    pub fn finish(&mut self) -> Result<RetFile<'_>, RetFault>
+        ensures failed { (fault : RetFault) → self.old.progress ≡ Progress.Failed fault → result ≡ Err fault }
+        ensures found { IfOk result (λ file. Ret (lines self.old.bytes) file) }
+        ensures only { IsOpen self.old.progress → (file : File) → Ret (lines self.old.bytes) file → (result ≡ Ok file) ⊎ (result ≡ Err no_memory) }
+        ensures fault { IsOpen self.old.progress → IfErr result (λ fault. (fault ≡ no_memory) ⊎ (first_fault (lines self.old.bytes) ≡ Some fault)) }
+    {
+        match self.progress {
+            Progress::Failed(fault) => return Err(fault),
+            Progress::Ended => return read_ret(self.alloc, &self.bytes),
+            Progress::Reading => {}
+        }
+        let (_, rest) = self.bytes.split_at(self.judged);
+        match judge_rest(self.at, rest) {
+            Ok(at) => match read_ret(self.alloc, &self.bytes) {
+                Ok(file) => {
+                    self.at = at;
+                    self.judged = self.bytes.len();
+                    self.progress = Progress::Ended;
+                    Ok(file)
+                }
+                Err(fault) => Err(fault),
+            },
+            Err(fault) => {
+                self.progress = Progress::Failed(fault);
+                Err(fault)
+            }
+        }
+    }
+}

@@ -1,0 +1,108 @@
+//! What may stand behind a record of each kind.
+
+ghost use Rattle.std.specs.Prelude.{◌≡◌, []};
+ghost use Rattle.bsp_ret.specs.Table.{standing, has_ended, is_start, is_complete, takes_related, takes_amounts, has_form, is_later, takes_form};
+
+use crate::model::{FormOfPayment, LastRecord, Standing, TransactionCode};
+
+/// Whether the form may stand in a group with the code, which has a record 3 or none.
+fn has_form(code: TransactionCode, related: bool, form: FormOfPayment) -> bool
+    ensures { result ≡ has_form code related form }
+{
+    form != FormOfPayment::Exchange || code == TransactionCode::Tktt && related
+}
+
+/// Whether the second form comes later in the order CA, CC, EX.
+fn is_later(before: FormOfPayment, form: FormOfPayment) -> bool
+    ensures { result ≡ is_later before form }
+{
+    match before {
+        FormOfPayment::Cash => form != FormOfPayment::Cash,
+        FormOfPayment::Credit => form == FormOfPayment::Exchange,
+        FormOfPayment::Exchange => false,
+    }
+}
+
+impl Standing {
+    /// How no records stand.
+    pub(crate) fn start() -> Standing
+        ensures { result ≡ standing [] }
+    {
+        Standing {
+            records: 0,
+            transactions: 0,
+            sum: 0,
+            code: TransactionCode::Tktt,
+            related: false,
+            last: LastRecord::Start,
+        }
+    }
+}
+
+impl LastRecord {
+    pub(crate) fn has_ended(self) -> bool
+        ensures { result ≡ has_ended self }
+    {
+        matches!(self, LastRecord::Trailer)
+    }
+
+    pub(crate) fn is_start(self) -> bool
+        ensures { result ≡ is_start self }
+    {
+        matches!(self, LastRecord::Start)
+    }
+
+    /// Whether the group is complete, or none is there.
+    pub(crate) fn is_complete(self, code: TransactionCode, related: bool) -> bool
+        ensures { result ≡ is_complete self code related }
+    {
+        match self {
+            LastRecord::Header | LastRecord::Form(FormOfPayment::Exchange) => true,
+            LastRecord::Sale => code == TransactionCode::Canx,
+            LastRecord::Form(_) => code != TransactionCode::Tktt || !related,
+            _ => false,
+        }
+    }
+
+    pub(crate) fn takes_related(self, code: TransactionCode) -> bool
+        ensures { result ≡ takes_related self code }
+    {
+        matches!(self, LastRecord::Sale) && code != TransactionCode::Canx
+    }
+
+    pub(crate) fn takes_amounts(self, code: TransactionCode) -> bool
+        ensures { result ≡ takes_amounts self code }
+    {
+        match self {
+            LastRecord::Sale => code == TransactionCode::Tktt,
+            LastRecord::Related => true,
+            _ => false,
+        }
+    }
+
+    /// Whether the form, or one that is none of the three, may stand here.
+    pub(crate) fn takes_form(
+        self,
+        code: TransactionCode,
+        related: bool,
+        form: Option<FormOfPayment>,
+    ) -> bool
+        ensures { result ≡ takes_form self code related form }
+    {
+        match self {
+            LastRecord::Amounts => match form {
+                Some(form) => has_form(code, related, form),
+                None => true,
+            },
+            LastRecord::Form(before) => match form {
+                Some(form) => is_later(before, form) && has_form(code, related, form),
+                None => match before {
+                    FormOfPayment::Cash => true,
+                    FormOfPayment::Credit => has_form(code, related, FormOfPayment::Exchange),
+                    FormOfPayment::Exchange => false,
+                },
+            },
+            _ => false,
+        }
+    }
+}
