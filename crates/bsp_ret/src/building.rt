@@ -67,7 +67,12 @@ impl<'a> Building<'a> {
     }
 
     /// Adds the first line of `rest`, behind which `after` follows.
-    pub(crate) fn add(&mut self, line: &'a [u8], rest: &'a [u8], after: &'a [u8]) -> Result<(), RetFault>
+    pub(crate) fn add(
+        &mut self,
+        line: &'a [u8],
+        rest: &'a [u8],
+        after: &'a [u8],
+    ) -> Result<(), RetFault>
         requires wide { length line.now ≡ 136 }
         requires first { HasFirstLine rest.now line.now after.now }
         requires read { IsReadTo self.old.latest.now rest.now }
@@ -81,11 +86,17 @@ impl<'a> Building<'a> {
                 self.latest = after;
             }
             b'2' => {
-                close(&mut self.closed, &self.latest[..self.latest.len() - rest.len()])?;
+                close(
+                    &mut self.closed,
+                    &self.latest[..self.latest.len() - rest.len()],
+                )?;
                 self.latest = rest;
             }
             b'Z' => {
-                close(&mut self.closed, &self.latest[..self.latest.len() - rest.len()])?;
+                close(
+                    &mut self.closed,
+                    &self.latest[..self.latest.len() - rest.len()],
+                )?;
                 self.trailer = line;
                 self.latest = after;
             }

@@ -177,7 +177,9 @@ pub(crate) fn form_fits(line: &[u8]) -> bool
     requires { length line.now ≡ 136 }
     ensures { result ≡ form_fits line.now }
 {
-    vendor_fits(form_of(line), &line[20..22]) && is_amount(&line[9..20]) && all_spaces(&line[22..136])
+    vendor_fits(form_of(line), &line[20..22])
+        && is_amount(&line[9..20])
+        && all_spaces(&line[22..136])
 }
 
 /// The amount of a record 8, 0 where there is none.

@@ -7,8 +7,8 @@ ghost use Rattle.bsp_ret.specs.Standings.{standing_behind};
 
 use crate::characters::spells;
 use crate::fields::{
-    amounts_fit, is_header, code_of, form_of, form_amount, form_fits, header_fits,
-    is_production, is_wide, related_fits, sale_fits, trailer_fits,
+    amounts_fit, code_of, form_amount, form_fits, form_of, header_fits, is_header, is_production,
+    is_wide, related_fits, sale_fits, trailer_fits,
 };
 use crate::model::{FaultCode, FormOfPayment, LastRecord, Standing, TransactionCode};
 use bsp_fields::read_total;
@@ -26,7 +26,8 @@ fn is_allowed(at: Standing, line: &[u8]) -> bool
         b'3' => at.last.takes_related(at.code) && spells(at.transactions, number),
         b'5' => at.last.takes_amounts(at.code) && spells(at.transactions, number),
         b'8' => {
-            at.last.takes_form(at.code, at.related, form_of(line)) && spells(at.transactions, number)
+            at.last.takes_form(at.code, at.related, form_of(line))
+                && spells(at.transactions, number)
         }
         identifier => identifier == b'Z' && at.last.is_complete(at.code, at.related),
     }

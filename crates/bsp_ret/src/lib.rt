@@ -10,19 +10,21 @@ mod lines;
 mod model;
 mod pieces;
 mod reader;
+mod reading;
 mod record_fields;
 mod records;
-mod reading;
 mod standing;
 #[cfg(test)]
 mod tests;
 mod transaction;
 
 pub use file::{Group, RetFile};
-pub use model::{FaultCode, FormOfPayment, LastRecord, Progress, RetFault, Standing, TransactionCode};
+pub use model::{
+    FaultCode, FormOfPayment, LastRecord, Progress, RetFault, Standing, TransactionCode,
+};
 pub use reader::RetReader;
+pub use reading::{fault_or_file, read_ret};
 pub use record_fields::{
     AmountsFields, FormFields, GroupFields, HeaderFields, RelatedFields, SaleFields, TrailerFields,
 };
 pub use transaction::{Amounts, CardPayment, ReportedDocument, Tax, Transaction};
-pub use reading::{fault_or_file, read_ret};

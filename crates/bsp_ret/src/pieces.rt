@@ -24,19 +24,13 @@ pub(crate) fn judge_lines(at: Standing, bytes: &[u8]) -> Result<(Standing, &[u8]
     let mut rest = bytes;
     while let Some((line, after)) = ended_line(rest) {
         if let Err(code) = row_fault(now, line) {
-            return Err(RetFault {
-                code,
-                at: now.records + 1,
-            });
+            return Err(now.fault(code));
         }
         now = standing_behind(now, line);
         rest = after;
     }
     if now.last.has_ended() && !rest.is_empty() {
-        return Err(RetFault {
-            code: FaultCode::F09,
-            at: now.records + 1,
-        });
+        return Err(now.fault(FaultCode::F09));
     }
     Ok((now, rest))
 }
@@ -55,10 +49,7 @@ fn judge_last(at: Standing, rest: &[u8]) -> Result<Standing, RetFault>
     }
     match row_fault(at, rest) {
         Ok(()) => Ok(standing_behind(at, rest)),
-        Err(code) => Err(RetFault {
-            code,
-            at: at.records + 1,
-        }),
+        Err(code) => Err(at.fault(code)),
     }
 }
 
@@ -73,10 +64,7 @@ pub(crate) fn judge_rest(at: Standing, rest: &[u8]) -> Result<Standing, RetFault
 {
     match judge_last(at, rest) {
         Ok(then) if then.last.has_ended() => Ok(then),
-        Ok(then) => Err(RetFault {
-            code: FaultCode::F08,
-            at: then.records + 1,
-        }),
+        Ok(then) => Err(then.fault(FaultCode::F08)),
         Err(fault) => Err(fault),
     }
 }

@@ -98,10 +98,7 @@ impl RetReader {
         if piece.is_empty() {
             return Ok(());
         }
-        let fault = RetFault {
-            code: FaultCode::F09,
-            at: self.at.records + 1,
-        };
+        let fault = self.at.fault(FaultCode::F09);
         self.progress = Progress::Failed(fault);
         Err(fault)
     }

@@ -26,20 +26,14 @@ fn read(alloc: Global, bytes: &[u8]) -> Result<Building<'_>, RetFault>
     while !rest.is_empty() {
         let (line, after) = first_line(rest);
         if let Err(code) = row_fault(at, line) {
-            return Err(RetFault {
-                code,
-                at: at.records + 1,
-            });
+            return Err(at.fault(code));
         }
         building.add(line, rest, after)?;
         at = standing_behind(at, line);
         rest = after;
     }
     if !at.last.has_ended() {
-        return Err(RetFault {
-            code: FaultCode::F08,
-            at: at.records + 1,
-        });
+        return Err(at.fault(FaultCode::F08));
     }
     Ok(building)
 }

@@ -1,9 +1,9 @@
 //! What may stand behind a record of each kind.
 
-ghost use Rattle.std.specs.Prelude.{◌≡◌, []};
+ghost use Rattle.std.specs.Prelude.{◌≡◌, ◌+◌, ◌<◌, ◌^◌, []};
 ghost use Rattle.bsp_ret.specs.Table.{standing, has_ended, is_start, is_complete, takes_related, takes_amounts, has_form, is_later, takes_form};
 
-use crate::model::{FormOfPayment, LastRecord, Standing, TransactionCode};
+use crate::model::{FaultCode, FormOfPayment, LastRecord, RetFault, Standing, TransactionCode};
 
 /// Whether the form may stand in a group with the code, which has a record 3 or none.
 fn has_form(code: TransactionCode, related: bool, form: FormOfPayment) -> bool
@@ -35,6 +35,17 @@ impl Standing {
             code: TransactionCode::Tktt,
             related: false,
             last: LastRecord::Start,
+        }
+    }
+
+    /// A fault of the next record.
+    pub(crate) fn fault(self, code: FaultCode) -> RetFault
+        requires { self.records < usize.MAX }
+        ensures { result ≡ record { code = code; at = self.records + 1 } }
+    {
+        RetFault {
+            code,
+            at: self.records + 1,
         }
     }
 }

@@ -30,4 +30,4 @@ returns-in-Ok-clause-records c =
 pub returns-in-Err-clause-fault : goal.returns-in-Err-clause-fault
 returns-in-Err-clause-fault c =
     let rest = c.args.rest.now in
-    rest_fails c.args.at rest c.in-Err.code (one_unended rest c.requires.unended (sym c.is_empty.ensures ∙ c.if-is_empty.false)) (sym c.row_fault.ensures.row ∙ c.in-Err.is)
+    rw c.fault.ensures (rest_fails c.args.at rest c.in-Err.code (one_unended rest c.requires.unended (sym c.is_empty.ensures ∙ c.if-is_empty.false)) (sym c.row_fault.ensures.row ∙ c.in-Err.is))

@@ -13,7 +13,7 @@ loop-line-init c = record {
 pub returns-in-Err-clause-fault : goal.returns-in-Err-clause-fault
 returns-in-Err-clause-fault c =
     let l = c.loop-line in
-    fails_at_line c.args.at l.now c.args.bytes.now l.rest.now c.in-Some.line.now c.in-Some.after.now c.in-Err.code l.invariant.left c.in-Some.ensures.some (sym c.row_fault.ensures.row ∙ c.in-Err.is)
+    rw c.fault.ensures (fails_at_line c.args.at l.now c.args.bytes.now l.rest.now c.in-Some.line.now c.in-Some.after.now c.in-Err.code l.invariant.left c.in-Some.ensures.some (sym c.row_fault.ensures.row ∙ c.in-Err.is))
 
 pub loop-line-preserved : goal.loop-line-preserved
 loop-line-preserved c =
@@ -35,4 +35,4 @@ loop-line-preserved c =
 pub returns-then-not-is_empty-clause-fault : goal.returns-then-not-is_empty-clause-fault
 returns-then-not-is_empty-clause-fault c =
     let l = c.loop-line in
-    fails_behind c.args.at l.now c.args.bytes.now l.rest.now l.invariant.left (sym c.has_ended.ensures ∙ c.if-has_ended.true) (sym c.is_empty.ensures ∙ c.if-not-is_empty.true)
+    rw c.fault-then-not-is_empty.ensures (fails_behind c.args.at l.now c.args.bytes.now l.rest.now l.invariant.left (sym c.has_ended.ensures ∙ c.if-has_ended.true) (sym c.is_empty.ensures ∙ c.if-not-is_empty.true))

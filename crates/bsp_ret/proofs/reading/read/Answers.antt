@@ -13,7 +13,7 @@ returns-in-Err-clause-err c =
     let l = c.loop-rest in
     let line = c.first_line.result.0.now in
     let after = c.first_line.result.1.now in
-    inr (fails l.at (draft_of l.building l.rest.now) (lines l.rest.now) (lines after) line (read_all (lines c.args.bytes.now)) c.in-Err.code c.first_line.ensures.cut (sym c.row_fault.ensures.row ∙ c.in-Err.is) l.invariant.read)
+    inr (rw c.fault.ensures (fails l.at (draft_of l.building l.rest.now) (lines l.rest.now) (lines after) line (read_all (lines c.args.bytes.now)) c.in-Err.code c.first_line.ensures.cut (sym c.row_fault.ensures.row ∙ c.in-Err.is) l.invariant.read))
 
 pub loop-rest-preserved : goal.loop-rest-preserved
 loop-rest-preserved c =
@@ -34,7 +34,7 @@ pub returns-then-not-has_ended-clause-err : goal.returns-then-not-has_ended-clau
 returns-then-not-has_ended-clause-err c =
     let l = c.loop-rest in
     let none = lines_empty l.rest.now (sym c.is_empty.ensures ∙ c.loop-rest-test.false) in
-    inr (lacks l.at (draft_of l.building l.rest.now) (lines l.rest.now) (read_all (lines c.args.bytes.now)) none (sym c.has_ended.ensures ∙ c.if-not-has_ended.true) l.invariant.read)
+    inr (rw c.fault-then-not-has_ended.ensures (lacks l.at (draft_of l.building l.rest.now) (lines l.rest.now) (read_all (lines c.args.bytes.now)) none (sym c.has_ended.ensures ∙ c.if-not-has_ended.true) l.invariant.read))
 
 pub returns-clause-ok : goal.returns-clause-ok
 returns-clause-ok c =
