@@ -1,14 +1,14 @@
 -- A text is read line by line, and its groups are cut from it.
-use Rattle.std.proofs.Common.{◌≡◌, ◌≢◌, true, false, ℕ, ◌+◌, ◌-◌, ◌<◌, ◌≤◌, List, [], ◌∷◌, ◌++◌, length, take, drop, refl, sym, ap, subst, ◌∙◌, arith, inl, inr, append_assoc, length-drop}
+use Rattle.std.proofs.Common.{◌≡◌, ◌≢◌, true, false, ℕ, ◌+◌, ◌-◌, ◌<◌, List, [], ◌∷◌, ◌++◌, length, take, drop, refl, sym, ap, subst, ◌∙◌, arith, inl, inr, append_assoc}
 use Rattle.std.specs.Prelude.{◌==◌}
 use Rattle.std.proofs.lemmas.Bool.{ne_eqb, eqb-true}
 use Rattle.std.proofs.lemmas.List.{append-nil, take_all, drop-drop}
-use Rattle.std.proofs.Math.Seq.{take-add, drop-length}
+use Rattle.std.proofs.Math.Seq.{take-add}
 use Rattle.bsp_ret.specs.Lines.{lines, IsRest, before_rest, IsWholeLines, BeginsWithLine, HasFirstLine}
 use Rattle.bsp_ret.specs.Building.{IsReadTo}
 use Rattle.bsp_ret.specs.Records.{identifier}
 use Rattle.bsp_ret.specs.Reading.{Draft, with_group, add}
-use Rattle.bsp_ret.proofs.CutLemmas.{lines_nil, some_lines, IsRest-drop}
+use Rattle.bsp_ret.proofs.CutLemmas.{lines_nil, some_lines}
 
 -- ---- rests
 

@@ -1,19 +1,21 @@
 -- The records of a group are those of its lines.
-use Rattle.std.proofs.Common.{◌≡◌, ℕ, Bool, true, false, ◌&&◌, List, [], ◌∷◌, ◌++◌, ◌+◌, ◌<◌, length, get_or, Option, Some, None, refl, sym, ap, ◌∙◌, subst, arith}
+use Rattle.std.proofs.Common.{◌≡◌, ℕ, Bool, true, List, [], ◌∷◌, ◌++◌, ◌+◌, ◌<◌, length, get_or, Option, Some, None, refl, sym, ap, ◌∙◌, subst, arith}
 use Rattle.std.specs.Prelude.{IfSome, ◌==◌}
-use Rattle.std.specs.Option.{option_to_list, IsSomeAnd}
+use Rattle.std.specs.Option.{option_to_list}
 use Rattle.std.specs.List.{list_all}
 use Rattle.std.proofs.lemmas.Bool.{and_parts, eqb-true}
 use Rattle.bsp_ret.specs.declared.model.TransactionCode.{TransactionCode}
-use Rattle.bsp_ret.specs.declared.model.TransactionCode.TheVariants.{Tktt, Rfnd, Canx}
 use Rattle.bsp_ret.specs.declared.model.FormOfPayment.{FormOfPayment}
 use Rattle.bsp_ret.specs.declared.model.FormOfPayment.TheVariants.{Cash, Credit, Exchange}
-use Rattle.bsp_ret.specs.Records.{identifier, is_wide, is_printable, code_of, related_fits, amounts_fit, form_of}
+use Rattle.bsp_ret.specs.Records.{identifier, is_wide, is_printable, code_of, related_fits, amounts_fit, form_of, form_fits}
 use Rattle.bsp_ret.proofs.Wide.{group_at}
-use Rattle.bsp_ret.specs.Ret.{File, Ret, Group, forms_of, lines_of, IsRecord, IsForm, HasRelated, HasBody, IsGroup}
-use Rattle.bsp_ret.specs.Groups.{sale_alone, with_form, with_record, with_records, HasRecords, AreWide}
+use Rattle.bsp_ret.proofs.BodyLemmas.{BodyFacts, body_facts}
+use Rattle.bsp_ret.specs.Ret.{File, Ret, Group, forms_of, IsRecord, IsForm, HasBody, IsGroup}
+use Rattle.bsp_ret.specs.Groups.{sale_alone, with_form, with_record, with_records, HasRecords, AreWide, IsFit, AreFit}
 use Rattle.bsp_ret.specs.declared.record_fields.GroupFields.{GroupFields}
 use Rattle.bsp_ret.specs.Fields.{AreFieldsOf, HasFields}
+use Rattle.bsp_ret.specs.declared.transactions.Transaction.{Transaction}
+use Rattle.bsp_ret.specs.Content.{IsContent, HasContent}
 
 -- ---- one record
 
@@ -37,62 +39,11 @@ with_56 : (g : Group) (line : List ℕ) (form : FormOfPayment) → identifier li
 unfolding with_record
 with_56 g line form name is = rw (name, is) refl
 
--- ---- what may stand behind a record 2
+-- ---- what stands behind a record 2
 
-pub record Behind (n : ℕ) (g : Group) : Type 0 where
-  pub related : IfSome g.related (IsRecord 51 n related_fits)
-  pub amounts : IfSome g.amounts (IsRecord 53 n amounts_fit)
-  pub cash : IfSome g.cash (IsForm n Cash)
-  pub credit : IfSome g.credit (IsForm n Credit)
-  pub exchange : IfSome g.exchange (IsForm n Exchange)
-
-if_some : (P : List ℕ → Type 0) (o : Option (List ℕ)) → IsSomeAnd o P → IfSome o P
-if_some P None h = tt
-if_some P (Some line) h = h
-
-if_none : (P : List ℕ → Type 0) (o : Option (List ℕ)) → o ≡ None → IfSome o P
-if_none P o is = let IfSomeP : Option (List ℕ) → Type 0 = λ x. IfSome x P in subst IfSomeP (sym is) tt
-
-if_related : (n : ℕ) (related exchange : Option (List ℕ)) → HasRelated n related exchange → IfSome related (IsRecord 51 n related_fits)
-if_related n None exchange h = tt
-if_related n (Some line) None h = absurd h
-if_related n (Some line) (Some form) h = h
-
-abbrev IsEmpty : List (List ℕ) → Type 0
-IsEmpty [] = Unit {0}
-IsEmpty (line ∷ lines) = ⊥
-
-no_forms : (cash credit exchange : Option (List ℕ)) → option_to_list cash ++ (option_to_list credit ++ option_to_list exchange) ≡ [] → (cash ≡ None) × (credit ≡ None) × (exchange ≡ None)
-no_forms None None None h = (refl, refl, refl)
-no_forms (Some line) credit exchange h = absurd (subst IsEmpty (sym h) tt)
-no_forms None (Some line) exchange h = absurd (subst IsEmpty (sym h) tt)
-no_forms None None (Some line) h = absurd (subst IsEmpty (sym h) tt)
-
-pub behind : (n : ℕ) (g : Group) (code : Option TransactionCode) → HasBody n g code → Behind n g
+behind : (n : ℕ) (g : Group) (code : Option TransactionCode) → HasBody n g code → BodyFacts n g
 behind n g None body = absurd body
-behind n g (Some Tktt) body = record {
-  related = if_related n g.related g.exchange body.0;
-  amounts = if_some (IsRecord 53 n amounts_fit) g.amounts body.1.amounts;
-  cash = body.1.cash;
-  credit = body.1.credit;
-  exchange = body.1.exchange;
-}
-behind n g (Some Rfnd) body = record {
-  related = if_some (IsRecord 51 n related_fits) g.related body.0;
-  amounts = if_some (IsRecord 53 n amounts_fit) g.amounts body.1.amounts;
-  cash = body.1.cash;
-  credit = body.1.credit;
-  exchange = body.1.exchange;
-}
-behind n g (Some Canx) body =
-    let none = no_forms g.cash g.credit g.exchange body.2 in
-    record {
-      related = if_none (IsRecord 51 n related_fits) g.related body.0;
-      amounts = if_none (IsRecord 53 n amounts_fit) g.amounts body.1;
-      cash = if_none (IsForm n Cash) g.cash none.0;
-      credit = if_none (IsForm n Credit) g.credit none.1;
-      exchange = if_none (IsForm n Exchange) g.exchange none.2;
-    }
+behind n g (Some code) body = body_facts n g code body
 
 -- ---- all records, one kind after the other
 
@@ -116,7 +67,7 @@ all_exchange : (n : ℕ) (g : Group) (exchange : Option (List ℕ)) → g.exchan
 all_exchange n g None none is = with_nothing g ∙ ap (λ o. record g { exchange = o }) none
 all_exchange n g (Some line) none is = with_one g line [] ∙ with_nothing (with_record g line) ∙ with_56 g line Exchange is.stands.name is.form
 
-all_records : (n : ℕ) (g : Group) → Behind n g → with_records (sale_alone g.sale) (option_to_list g.related ++ (option_to_list g.amounts ++ forms_of g)) ≡ g
+all_records : (n : ℕ) (g : Group) → BodyFacts n g → with_records (sale_alone g.sale) (option_to_list g.related ++ (option_to_list g.amounts ++ forms_of g)) ≡ g
 all_records n g b =
     all_related n (sale_alone g.sale) g.related (option_to_list g.amounts ++ forms_of g) refl b.related
     ∙ all_amounts n (record (sale_alone g.sale) { related = g.related }) g.amounts (forms_of g) refl b.amounts
@@ -160,6 +111,28 @@ wide_form : (n : ℕ) (form : FormOfPayment) (o : Option (List ℕ)) → IfSome 
 wide_form n form None is = tt
 wide_form n form (Some line) is = wide_length line is.stands.wide
 
+fit_if : (letter n : ℕ) (fits : List ℕ → Bool) (o : Option (List ℕ)) → IfSome o (IsRecord letter n fits) → IfSome o (IsFit fits)
+fit_if letter n fits None is = tt
+fit_if letter n fits (Some line) is = (wide_length line is.wide, is.fields)
+
+fit_form : (n : ℕ) (form : FormOfPayment) (o : Option (List ℕ)) → IfSome o (IsForm n form) → IfSome o (IsFit form_fits)
+fit_form n form None is = tt
+fit_form n form (Some line) is = (wide_length line is.stands.wide, is.stands.fields)
+
+-- the fields of a group's records fit
+pub group_fits : (n : ℕ) (lines : List (List ℕ)) (g : Group) → HasRecords n lines g → AreFit g
+group_fits n lines g has =
+    let h = has.is.group in
+    let b = behind n h (code_of h.sale) has.is.body in
+    subst AreFit has.group_is (record {
+      sale = (wide_length h.sale has.is.sale.wide, has.is.sale.fields);
+      related = fit_if 51 n related_fits h.related b.related;
+      amounts = fit_if 53 n amounts_fit h.amounts b.amounts;
+      cash = fit_form n Cash h.cash b.cash;
+      credit = fit_form n Credit h.credit b.credit;
+      exchange = fit_form n Exchange h.exchange b.exchange;
+    })
+
 -- the records of a group have their width
 pub group_widths : (n : ℕ) (lines : List (List ℕ)) (g : Group) → HasRecords n lines g → AreWide g
 group_widths n lines g has =
@@ -178,3 +151,8 @@ pub has_fields : (n : ℕ) (lines : List (List ℕ)) (g : Group) (f : GroupField
 has_fields n lines g f has fields =
     let Fields : Group → Type 0 = λ h. AreFieldsOf h f in
     record { is = has.is; fields = subst Fields (sym has.group_is) fields }
+
+pub has_content : (n : ℕ) (lines : List (List ℕ)) (g : Group) (t : Transaction) → HasRecords n lines g → IsContent g t → HasContent n lines t
+has_content n lines g t has content =
+    let Values : Group → Type 0 = λ h. IsContent h t in
+    record { is = has.is; content = subst Values (sym has.group_is) content }

@@ -1,15 +1,14 @@
 -- A text goes on, behind lines that stand so.
-use Rattle.std.proofs.Common.{◌≡◌, ℕ, ◌+◌, ◌-◌, ◌<◌, ◌≤◌, true, false, List, [], ◌∷◌, ◌++◌, length, take, drop, Some, None, Ok, Err, refl, sym, ap, subst, ◌∙◌, arith, append_assoc}
+use Rattle.std.proofs.Common.{◌≡◌, ℕ, ◌+◌, ◌-◌, true, false, List, [], ◌∷◌, ◌++◌, length, Some, None, Ok, Err, refl, sym, ap, subst, ◌∙◌, arith, append_assoc}
 use Rattle.std.specs.Prelude.{◌==◌}
 use Rattle.std.proofs.lemmas.Bool.{eqb-true}
 use Rattle.std.proofs.lemmas.List.{append-nil, take-append-drop}
 use Rattle.bsp_ret.specs.declared.model.FaultCode.{FaultCode}
 use Rattle.bsp_ret.specs.declared.model.FaultCode.TheVariants.{F08, F09}
-use Rattle.bsp_ret.specs.declared.model.RetFault.{RetFault}
 use Rattle.bsp_ret.specs.declared.model.Standing.{Standing}
-use Rattle.bsp_ret.specs.Lines.{lines, has_end, IsRest, before_rest, IsWholeLines, BeginsWithLine}
-use Rattle.bsp_ret.specs.Table.{standing, has_ended, row_fault, or_later}
-use Rattle.bsp_ret.specs.Standings.{standing_behind, fault_behind, FitsIn}
+use Rattle.bsp_ret.specs.Lines.{lines, has_end, before_rest, IsWholeLines, BeginsWithLine}
+use Rattle.bsp_ret.specs.Table.{standing, has_ended, row_fault}
+use Rattle.bsp_ret.specs.Standings.{standing_behind, fault_behind}
 use Rattle.bsp_ret.specs.Pieces.{Leaves, Fails}
 use Rattle.bsp_ret.proofs.CutLemmas.{lines_nil, lines_last, some_lines}
 use Rattle.bsp_ret.proofs.BuildingLemmas.{rest_itself, before_itself, rest_of_rest, before_joined, whole_nothing, whole_joined, whole_cut, cut_alone}

@@ -8,11 +8,11 @@ use Rattle.bsp_fields.specs.Codes.{code_reading}
 use Rattle.bsp_fields.specs.Days.{record_reading}
 use Rattle.bsp_ret.specs.declared.model.TransactionCode.{TransactionCode}
 use Rattle.bsp_ret.specs.declared.model.TransactionCode.TheVariants.{Tktt, Rfnd, Canx}
-use Rattle.bsp_ret.specs.declared.transaction.ReportedDocument.{ReportedDocument}
-use Rattle.bsp_ret.specs.declared.transaction.Tax.{Tax}
-use Rattle.bsp_ret.specs.declared.transaction.Amounts.{Amounts}
-use Rattle.bsp_ret.specs.declared.transaction.CardPayment.{CardPayment}
-use Rattle.bsp_ret.specs.declared.transaction.Transaction.{Transaction}
+use Rattle.bsp_ret.specs.declared.transactions.ReportedDocument.{ReportedDocument}
+use Rattle.bsp_ret.specs.declared.transactions.Tax.{Tax}
+use Rattle.bsp_ret.specs.declared.transactions.Amounts.{Amounts}
+use Rattle.bsp_ret.specs.declared.transactions.CardPayment.{CardPayment}
+use Rattle.bsp_ret.specs.declared.transactions.Transaction.{Transaction}
 use Rattle.bsp_ret.specs.Records.{columns, is_letter_or_digit, is_printable, is_space, code_of, tax_places, tax_code}
 use Rattle.bsp_ret.specs.Ret.{Group, IsGroup}
 

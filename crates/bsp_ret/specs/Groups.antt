@@ -1,10 +1,10 @@
 -- The records of a group, from its lines.
-use Rattle.std.specs.Prelude.{◌≡◌, ◌==◌, ℕ, List, [], ◌∷◌, length, Option, Some, None, IfSome, if◌then◌else◌}
+use Rattle.std.specs.Prelude.{◌≡◌, ◌==◌, ℕ, Bool, true, List, [], ◌∷◌, length, Option, Some, None, IfSome, if◌then◌else◌}
 use Rattle.std.specs.Option.{option_copied}
 use Rattle.bsp_ret.specs.declared.model.FormOfPayment.{FormOfPayment}
 use Rattle.bsp_ret.specs.declared.model.FormOfPayment.TheVariants.{Cash, Credit, Exchange}
 use Rattle.bsp_ret.specs.declared.records.Records.{Records}
-use Rattle.bsp_ret.specs.Records.{identifier, form_of}
+use Rattle.bsp_ret.specs.Records.{identifier, sale_fits, related_fits, amounts_fit, form_of, form_fits}
 use Rattle.bsp_ret.specs.Ret.{Group, IsGroup}
 
 -- what slices point to
@@ -51,3 +51,15 @@ pub record AreWide (g : Group) : Type 0 where
   pub cash : IfSome g.cash (λ line. length line ≡ 136)
   pub credit : IfSome g.credit (λ line. length line ≡ 136)
   pub exchange : IfSome g.exchange (λ line. length line ≡ 136)
+
+-- a record of its width, whose fields fit
+abbrev pub IsFit : (List ℕ → Bool) → List ℕ → Type 0
+IsFit fits line = (length line ≡ 136) × (fits line ≡ true)
+
+pub record AreFit (g : Group) : Type 0 where
+  pub sale : IsFit sale_fits g.sale
+  pub related : IfSome g.related (IsFit related_fits)
+  pub amounts : IfSome g.amounts (IsFit amounts_fit)
+  pub cash : IfSome g.cash (IsFit form_fits)
+  pub credit : IfSome g.credit (IsFit form_fits)
+  pub exchange : IfSome g.exchange (IsFit form_fits)

@@ -11,3 +11,6 @@ pub mod Pieces
 pub mod Groups
 pub mod Content
 pub mod Fields
+pub mod Stored
+pub mod Texts
+pub mod Writing

@@ -1,5 +1,5 @@
 -- A text that comes in pieces.
-use Rattle.std.specs.Prelude.{◌≡◌, ℕ, ◌+◌, true, false, List, [], ◌∷◌, ◌++◌, length, Some, None}
+use Rattle.std.specs.Prelude.{◌≡◌, ℕ, ◌+◌, true, false, List, [], ◌++◌, length, Some, None}
 use Rattle.bsp_ret.specs.declared.model.FaultCode.TheVariants.{F09}
 use Rattle.bsp_ret.specs.declared.model.RetFault.{RetFault}
 use Rattle.bsp_ret.specs.declared.model.Standing.{Standing}
@@ -7,7 +7,7 @@ use Rattle.bsp_ret.specs.declared.model.Progress.{Progress}
 use Rattle.bsp_ret.specs.declared.model.Progress.TheVariants.{Reading, Ended, Failed}
 use Rattle.bsp_ret.specs.Lines.{lines, has_end, IsRest, before_rest, IsWholeLines}
 use Rattle.bsp_ret.specs.Table.{standing, has_ended, first_fault}
-use Rattle.bsp_ret.specs.Standings.{fault_behind, FitsIn}
+use Rattle.bsp_ret.specs.Standings.{fault_behind}
 
 -- the bytes that came, and how far the reader is
 pub record Fed : Type 0 where

@@ -1,5 +1,5 @@
 -- RET files: a header, the groups of the transactions, and a trailer.
-use Rattle.std.specs.Prelude.{◌≡◌, ℕ, ℤ, suc, Bool, true, List, [], ◌∷◌, ◌++◌, length, Option, Some, None, IfSome, IsSome, Result, Ok, ◌⊎◌}
+use Rattle.std.specs.Prelude.{◌≡◌, ℕ, ℤ, suc, Bool, true, List, [], ◌∷◌, ◌++◌, length, Option, Some, None, IfSome, IsSome, Ok, ◌⊎◌}
 use Rattle.std.specs.Option.{option_to_list, IsSomeAnd}
 use Rattle.std.specs.List.{flat_map}
 use Rattle.bsp_fields.specs.Zoned.{zoned_reading}

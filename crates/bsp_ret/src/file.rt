@@ -3,8 +3,8 @@
 ghost use Rattle.std.specs.Prelude.{◌≡◌, ◌+◌, ◌<◌, ◌≤◌, List, ℕ, [], ◌∷◌, true, length, MatchOption, slice_index_or};
 ghost use Rattle.std.specs.List.{list_all};
 ghost use Rattle.bsp_ret.specs.Lines.{lines};
-ghost use Rattle.bsp_ret.specs.Records.{is_wide};
-ghost use Rattle.bsp_ret.specs.Groups.{records_of, sale_alone, with_records, HasRecords};
+ghost use Rattle.bsp_ret.specs.Records.{is_wide, trailer_fits};
+ghost use Rattle.bsp_ret.specs.Groups.{records_of, sale_alone, with_records, HasRecords, IsFit};
 
 use crate::building::Building;
 use crate::record_fields::{GroupFields, HeaderFields, TrailerFields};
@@ -77,6 +77,22 @@ impl<'a> RetFile<'a> {
             groups: building.closed,
             trailer: building.trailer,
         }
+    }
+
+    /// Record 1.
+    pub(crate) fn header_line(&self) -> &'a [u8]
+        ensures value { result.now ≡ self.now.header }
+        ensures stands { HasLines self.now }
+    {
+        self.header
+    }
+
+    /// Record Z.
+    pub(crate) fn trailer_line(&self) -> &'a [u8]
+        ensures value { result.now ≡ self.now.trailer }
+        ensures fits { IsFit trailer_fits self.now.trailer }
+    {
+        self.trailer
     }
 
     /// The records of a transaction, counted from 0, as slices of the text; none past the last.

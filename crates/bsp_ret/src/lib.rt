@@ -3,8 +3,10 @@
 
 mod building;
 mod characters;
+mod content;
 mod fields;
 mod file;
+mod file_text;
 mod judge;
 mod lines;
 mod model;
@@ -16,9 +18,13 @@ mod records;
 mod standing;
 #[cfg(test)]
 mod tests;
-mod transaction;
+mod transactions;
+mod values;
+mod writing;
 
+pub use content::is_group;
 pub use file::{Group, RetFile};
+pub use file_text::write_ret;
 pub use model::{
     FaultCode, FormOfPayment, LastRecord, Progress, RetFault, Standing, TransactionCode,
 };
@@ -27,4 +33,5 @@ pub use reading::{fault_or_file, read_ret};
 pub use record_fields::{
     AmountsFields, FormFields, GroupFields, HeaderFields, RelatedFields, SaleFields, TrailerFields,
 };
-pub use transaction::{Amounts, CardPayment, ReportedDocument, Tax, Transaction};
+pub use transactions::{Amounts, CardPayment, ReportedDocument, Tax, Transaction};
+pub use values::transaction;

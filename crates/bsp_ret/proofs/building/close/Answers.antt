@@ -1,4 +1,4 @@
-use Rattle.std.proofs.Common.{◌≡◌, ◌∙◌, sym}
+use Rattle.std.proofs.Common.{◌∙◌, sym}
 use Rattle.bsp_ret.proofs.BuildingLemmas.{closed_none, closed_some}
 use Rattle.bsp_ret.proofs.building.close.Goals as goal
 

@@ -1,7 +1,7 @@
 use Rattle.std.proofs.Common.{◌≡◌, true, false, sym, ◌∙◌, arith}
 use Rattle.std.specs.List.{list_all}
 use Rattle.bsp_ret.specs.Records.{is_space}
-use Rattle.bsp_ret.proofs.AmountsLemmas.{place_at, rest_fits, rest_fits-first, rest_fits-none, taxes-unused, taxes-used, taxes-passed, taxes-stopped, taxes-fallen}
+use Rattle.bsp_ret.proofs.JudgedTaxes.{place_at, rest_fits, rest_fits-first, rest_fits-none, taxes-unused, taxes-used, taxes-passed, taxes-stopped, taxes-fallen}
 use Rattle.bsp_ret.proofs.fields.taxes_fit.Goals as goal
 use Rattle.bsp_ret.proofs.fields.taxes_fit.Goals.{then-not-tax_fits-via-then-not-tax_fits, then-not-tax_fits-via-else-not-tax_fits+then-code-before}
 

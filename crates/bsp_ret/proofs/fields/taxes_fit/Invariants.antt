@@ -1,5 +1,5 @@
 use Rattle.std.proofs.Common.{◌≡◌}
-use Rattle.bsp_ret.proofs.AmountsLemmas.{rest_fits}
+use Rattle.bsp_ret.proofs.JudgedTaxes.{rest_fits}
 use Rattle.bsp_ret.proofs.fields.taxes_fit.Given as goal
 
 abbrev pub invariant-loop-index : goal.invariant-loop-index

@@ -1,7 +1,7 @@
-use Rattle.std.proofs.Common.{◌≡◌, ◌<◌, ◌+◌, ◌-◌, ◌∙◌, List, ℕ, length, take, drop, get_or, ap, sym, arith, false}
+use Rattle.std.proofs.Common.{◌≡◌, ◌<◌, ◌+◌, ◌∙◌, length, take, get_or, ap, sym, arith, false}
 use Rattle.std.proofs.lemmas.Bool.{eqb-true}
 use Rattle.std.proofs.lemmas.List.{take_all, take_rest}
-use Rattle.bsp_ret.specs.Lines.{has_end, without_cr, BeginsWithLine}
+use Rattle.bsp_ret.specs.Lines.{has_end}
 use Rattle.bsp_ret.proofs.CutLemmas.{no_end_before, begins_with_line}
 use Rattle.bsp_ret.proofs.lines.ended_line.Goals as goal
 

@@ -1,7 +1,5 @@
-use Rattle.std.proofs.Common.{◌≡◌, ◌<◌, ◌-◌, length, take, drop, List, ℕ, [], refl, inl, inr, arith}
+use Rattle.std.proofs.Common.{length}
 use Rattle.std.proofs.lemmas.List.{take_rest}
-use Rattle.std.proofs.Math.Seq.{drop-length}
-use Rattle.bsp_ret.specs.Lines.{lines, has_end, HasFirstLine, BeginsWithLine}
 use Rattle.bsp_ret.proofs.CutLemmas.{first_ended, first_unended}
 use Rattle.bsp_ret.proofs.lines.first_line.Goals as goal
 

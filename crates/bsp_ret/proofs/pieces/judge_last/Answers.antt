@@ -1,4 +1,4 @@
-use Rattle.std.proofs.Common.{◌≡◌, ◌+◌, ◌∙◌, List, ℕ, [], ◌∷◌, length, sym, ap, arith}
+use Rattle.std.proofs.Common.{◌≡◌, ◌+◌, ◌∙◌, length, sym, ap, arith}
 use Rattle.bsp_ret.specs.declared.model.Standing.{Standing}
 use Rattle.bsp_ret.specs.Lines.{lines}
 use Rattle.bsp_ret.specs.Standings.{fault_behind}

@@ -1,7 +1,7 @@
-use Rattle.std.proofs.Common.{◌≡◌, ◌+◌, ◌-◌, ◌∙◌, Ok, length, sym, ap, arith}
+use Rattle.std.proofs.Common.{◌≡◌, ◌+◌, ◌∙◌, Ok, sym, ap, arith}
 use Rattle.bsp_ret.specs.declared.model.Standing.{Standing}
 use Rattle.bsp_ret.specs.Table.{row_fault}
-use Rattle.bsp_ret.proofs.PieceLemmas.{leaves_all, leaves_more, fails_at_line, fails_behind, nothing_left}
+use Rattle.bsp_ret.proofs.PieceLemmas.{leaves_all, leaves_more, fails_at_line, fails_behind}
 use Rattle.bsp_ret.proofs.pieces.judge_lines.Goals as goal
 
 pub loop-line-init : goal.loop-line-init

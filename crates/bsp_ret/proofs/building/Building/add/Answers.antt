@@ -1,4 +1,4 @@
-use Rattle.std.proofs.Common.{◌≡◌, refl, sym, arith}
+use Rattle.std.proofs.Common.{refl, sym, arith}
 use Rattle.bsp_ret.specs.Building.{draft_of}
 use Rattle.bsp_ret.proofs.BuildingLemmas.{add_other, no_lines, one_line, one_more, read_nothing, read_one, read_more}
 use Rattle.bsp_ret.proofs.building.Building.add.Goals as goal

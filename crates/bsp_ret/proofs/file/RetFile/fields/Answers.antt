@@ -1,4 +1,4 @@
-use Rattle.std.proofs.Common.{◌+◌, [], get_or}
+use Rattle.std.proofs.Common.{◌+◌}
 use Rattle.bsp_ret.specs.Groups.{records_of}
 use Rattle.bsp_ret.proofs.GroupLemmas.{group_widths, has_fields}
 use Rattle.bsp_ret.proofs.file.RetFile.fields.Goals as goal

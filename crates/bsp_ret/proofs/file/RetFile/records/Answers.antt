@@ -1,6 +1,6 @@
-use Rattle.std.proofs.Common.{◌≡◌, ◌+◌, ◌∙◌, List, ℕ, ◌∷◌, [], get_or, sym, ap, subst, arith}
-use Rattle.bsp_ret.specs.Ret.{File, IsGroup}
-use Rattle.bsp_ret.specs.Groups.{HasRecords, records_of, sale_alone, with_records}
+use Rattle.std.proofs.Common.{◌≡◌, ◌+◌, ◌∙◌, List, ℕ, [], get_or, ap, subst, arith}
+use Rattle.bsp_ret.specs.Ret.{File}
+use Rattle.bsp_ret.specs.Groups.{HasRecords, records_of}
 use Rattle.bsp_ret.proofs.GroupLemmas.{has_records, nth_group}
 use Rattle.bsp_ret.proofs.Wide.{group_begins, group_wide}
 use Rattle.bsp_ret.proofs.file.RetFile.records.Goals as goal

@@ -1,8 +1,6 @@
-use Rattle.std.proofs.Common.{◌≡◌, ◌≤◌, ◌+◌, ◌-◌, ◌++◌, ◌∙◌, List, ℕ, sym, ap, subst, drop, length, refl, arith, length-drop}
+use Rattle.std.proofs.Common.{◌≡◌, ◌-◌, ◌++◌, ◌∙◌, List, ℕ, sym, ap, subst, drop, length, refl, arith, length-drop}
 use Rattle.bsp_ret.specs.declared.model.Progress.{Progress}
-use Rattle.bsp_ret.specs.declared.model.Progress.TheVariants.{Reading}
-use Rattle.bsp_ret.specs.Standings.{FitsIn}
-use Rattle.bsp_ret.specs.Pieces.{Fed, IsJudgedTo, IsKnown, IsClearSoFar, Leaves}
+use Rattle.bsp_ret.specs.Pieces.{Fed, IsJudgedTo, IsKnown, Leaves}
 use Rattle.bsp_ret.proofs.FeedLemmas.{judged_more, clear_so_far}
 use Rattle.bsp_ret.proofs.reader.RetReader.feed.Goals as goal
 

@@ -1,4 +1,4 @@
-use Rattle.std.proofs.Common.{◌≡◌, ◌∙◌, List, ℕ, Some, sym, ap, subst, drop}
+use Rattle.std.proofs.Common.{◌≡◌, ◌∙◌, Some, sym, ap, subst, drop}
 use Rattle.bsp_ret.specs.declared.model.Progress.{Progress}
 use Rattle.bsp_ret.specs.Lines.{lines}
 use Rattle.bsp_ret.specs.Table.{first_fault}

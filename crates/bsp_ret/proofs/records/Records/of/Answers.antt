@@ -1,8 +1,6 @@
-use Rattle.std.proofs.Common.{◌≡◌, ◌∷◌, ◌∙◌, List, ℕ, true, length, sym, ap}
-use Rattle.std.specs.List.{list_all}
+use Rattle.std.proofs.Common.{◌∙◌, sym, ap}
 use Rattle.bsp_ret.specs.Lines.{lines}
-use Rattle.bsp_ret.specs.Records.{is_wide}
-use Rattle.bsp_ret.specs.Groups.{records_of, sale_alone, with_records}
+use Rattle.bsp_ret.specs.Groups.{records_of, with_records}
 use Rattle.bsp_ret.proofs.BuildingLemmas.{lines_empty}
 use Rattle.bsp_ret.proofs.GroupLemmas.{with_nothing, with_one, first_wide}
 use Rattle.bsp_ret.proofs.records.Records.of.Goals as goal

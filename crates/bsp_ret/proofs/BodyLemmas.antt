@@ -1,0 +1,64 @@
+-- What a group has behind its record 2.
+use Rattle.std.proofs.Common.{◌≡◌, ℕ, false, List, [], ◌++◌, refl, Option, None, Some, is_some}
+use Rattle.std.specs.Prelude.{IfSome}
+use Rattle.std.specs.Option.{IsSomeAnd, option_to_list}
+use Rattle.bsp_ret.specs.declared.model.TransactionCode.{TransactionCode}
+use Rattle.bsp_ret.specs.declared.model.TransactionCode.TheVariants.{Tktt, Rfnd, Canx}
+use Rattle.bsp_ret.specs.declared.model.FormOfPayment.TheVariants.{Cash, Credit, Exchange}
+use Rattle.bsp_ret.specs.Records.{related_fits, amounts_fit}
+use Rattle.bsp_ret.specs.Ret.{Group, IsRecord, IsForm, HasRelated, HasBody}
+
+-- what its other records say, where it has them
+pub record BodyFacts (n : ℕ) (g : Group) : Type 0 where
+  pub related : IfSome g.related (IsRecord 51 n related_fits)
+  pub amounts : IfSome g.amounts (IsRecord 53 n amounts_fit)
+  pub cash : IfSome g.cash (IsForm n Cash)
+  pub credit : IfSome g.credit (IsForm n Credit)
+  pub exchange : IfSome g.exchange (IsForm n Exchange)
+
+if_some : {A : Type 0} (P : A → Type 0) (o : Option A) → IsSomeAnd o P → IfSome o P
+if_some P None h = tt
+if_some P (Some x) h = h
+
+if_none : {A : Type 0} (P : A → Type 0) (o : Option A) → o ≡ None → IfSome o P
+if_none P None h = tt
+if_none P (Some x) h = absurd (cc h)
+
+related_if : (n : ℕ) (related exchange : Option (List ℕ)) → HasRelated n related exchange → IfSome related (IsRecord 51 n related_fits)
+related_if n None None h = tt
+related_if n (Some line) (Some form) h = h
+related_if n None (Some form) h = absurd h
+related_if n (Some line) None h = absurd h
+
+pub no_forms : (cash credit exchange : Option (List ℕ)) → option_to_list cash ++ (option_to_list credit ++ option_to_list exchange) ≡ [] → (is_some cash ≡ false) × (is_some credit ≡ false) × (is_some exchange ≡ false)
+no_forms None None None h = (refl, refl, refl)
+no_forms None None (Some c) h = absurd (cc h)
+no_forms None (Some b) exchange h = absurd (cc h)
+no_forms (Some a) credit exchange h = absurd (cc h)
+
+not_some : {A : Type 0} (o : Option A) → is_some o ≡ false → o ≡ None
+not_some None h = refl
+not_some (Some x) h = absurd (cc h)
+
+pub body_facts : (n : ℕ) (g : Group) (code : TransactionCode) → HasBody n g (Some code) → BodyFacts n g
+body_facts n g Tktt body = record {
+  related = related_if n g.related g.exchange body.0;
+  amounts = if_some (IsRecord 53 n amounts_fit) g.amounts body.1.amounts;
+  cash = body.1.cash;
+  credit = body.1.credit;
+  exchange = body.1.exchange;
+}
+body_facts n g Rfnd body = record {
+  related = if_some (IsRecord 51 n related_fits) g.related body.0;
+  amounts = if_some (IsRecord 53 n amounts_fit) g.amounts body.1.amounts;
+  cash = body.1.cash;
+  credit = body.1.credit;
+  exchange = body.1.exchange;
+}
+body_facts n g Canx body = record {
+  related = if_none (IsRecord 51 n related_fits) g.related body.0;
+  amounts = if_none (IsRecord 53 n amounts_fit) g.amounts body.1;
+  cash = if_none (IsForm n Cash) g.cash (not_some g.cash ((no_forms g.cash g.credit g.exchange body.2).0));
+  credit = if_none (IsForm n Credit) g.credit (not_some g.credit ((no_forms g.cash g.credit g.exchange body.2).1));
+  exchange = if_none (IsForm n Exchange) g.exchange (not_some g.exchange ((no_forms g.cash g.credit g.exchange body.2).2));
+}

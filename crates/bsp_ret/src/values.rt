@@ -1,0 +1,240 @@
+//! The values of records whose fields fit.
+
+ghost use Rattle.std.specs.Prelude.{◌≡◌, ◌≤◌, ◌+◌, ◌||◌, ℕ, [], true, length, is_some, Some, Ok, IfSome, MatchOption, slice_index_or};
+ghost use Rattle.std.specs.Option.{option_copied};
+ghost use Rattle.std.specs.List.{list_all};
+ghost use Rattle.std.specs.Str.{all_ascii_digits};
+ghost use Rattle.bsp_fields.specs.Decimal.{number_of};
+ghost use Rattle.bsp_fields.specs.Zoned.{zoned_reading};
+ghost use Rattle.bsp_fields.specs.Days.{record_reading};
+ghost use Rattle.bsp_ret.specs.Records.{columns, is_space, is_amount, is_record_day, tax_fits, code_of, sale_fits, related_fits, amounts_fit, form_fits};
+ghost use Rattle.bsp_ret.specs.Content.{InBoth, IsDocument, IsTax, AreAmounts, IsPayment, IsCardPayment, IsContent, HasContent};
+ghost use Rattle.bsp_ret.specs.Groups.{records_of, IsFit, AreFit};
+
+use crate::fields::code_of;
+use crate::file::RetFile;
+use crate::model::TransactionCode;
+use crate::records::Records;
+use crate::transactions::{Amounts, CardPayment, ReportedDocument, Tax, Transaction};
+use bsp_fields::{AirlineCode, Amount, Day, read_amount};
+
+/// The characters of a text of that width.
+fn array_of<const N: usize>(text: &[u8]) -> [u8; N]
+    requires { length text.now ≡ N }
+    ensures { result ≡ text.now }
+{
+    let Ok(array) = <[u8; N]>::try_from(text) else {
+        unreachable!()
+    };
+    array
+}
+
+/// The amount of a field that is one.
+fn amount_of(text: &[u8]) -> Amount
+    requires { is_amount text.now ≡ true }
+    ensures { zoned_reading 11 text.now ≡ Ok result }
+{
+    let Ok(amount) = read_amount(text) else {
+        unreachable!()
+    };
+    amount
+}
+
+/// The day of a field that is one.
+fn day_of(text: &[u8]) -> Day
+    requires { is_record_day text.now ≡ true }
+    ensures { record_reading text.now ≡ Ok result }
+{
+    let Ok(day) = Day::read_record(text) else {
+        unreachable!()
+    };
+    day
+}
+
+/// A document in fourteen digits.
+fn document_of(text: &[u8]) -> ReportedDocument
+    requires wide { length text.now ≡ 14 }
+    requires digits { all_ascii_digits text.now ≡ true }
+    ensures { IsDocument 1 text.now result }
+{
+    let Ok(airline) = AirlineCode::read(&text[..3]) else {
+        unreachable!()
+    };
+    ReportedDocument {
+        airline,
+        number: array_of::<10>(&text[3..13]),
+        check_digit: text[13] - b'0',
+    }
+}
+
+/// The number of at most five digits.
+fn number_of_digits(digits: &[u8]) -> u32
+    requires few { length digits.now ≤ 5 }
+    requires digits { all_ascii_digits digits.now ≡ true }
+    ensures { result ≡ number_of digits.now }
+{
+    let mut number = 0;
+    for digit in digits {
+        number = number * 10 + (*digit - b'0') as u32;
+    }
+    number
+}
+
+/// The tax of a place that is unused or fits.
+fn tax_of(place: &[u8]) -> Option<Tax>
+    requires wide { length place.now ≡ 13 }
+    requires fits { (list_all is_space place.now || tax_fits place.now) ≡ true }
+    ensures { IsTax place.now result }
+{
+    if place[0] == b' ' {
+        return None;
+    }
+    Some(Tax {
+        code: array_of::<2>(&place[..2]),
+        amount: amount_of(&place[2..13]),
+    })
+}
+
+/// The values of a record 2 but for its number.
+#[derive(Clone, Copy, Debug, PartialEq, Eq)]
+pub(crate) struct SaleValues {
+    pub code: TransactionCode,
+    pub agent: [u8; 8],
+    pub document: ReportedDocument,
+    pub issued: Day,
+    pub passenger: [u8; 49],
+}
+
+/// The code of a record 2.
+fn known_code(line: &[u8]) -> TransactionCode
+    requires wide { length line.now ≡ 136 }
+    requires known { is_some (code_of line.now) ≡ true }
+    ensures { code_of line.now ≡ Some result }
+{
+    let Some(code) = code_of(line) else {
+        unreachable!()
+    };
+    code
+}
+
+/// The values of a record 2.
+pub(crate) fn sale_values(line: &[u8]) -> SaleValues
+    requires wide { length line.now ≡ 136 }
+    requires fits { sale_fits line.now ≡ true }
+    ensures code { code_of line.now ≡ Some result.code }
+    ensures agent { result.agent ≡ columns 12 19 line.now }
+    ensures document { IsDocument 20 line.now result.document }
+    ensures issued { record_reading (columns 34 39 line.now) ≡ Ok result.issued }
+    ensures passenger { result.passenger ≡ columns 40 88 line.now }
+{
+    SaleValues {
+        code: known_code(line),
+        agent: array_of::<8>(&line[11..19]),
+        document: document_of(&line[19..33]),
+        issued: day_of(&line[33..39]),
+        passenger: array_of::<49>(&line[39..88]),
+    }
+}
+
+/// The document of a record 3.
+pub(crate) fn related_values(line: &[u8]) -> ReportedDocument
+    requires wide { length line.now ≡ 136 }
+    requires fits { related_fits line.now ≡ true }
+    ensures { IsDocument 8 line.now result }
+{
+    document_of(&line[7..21])
+}
+
+/// The values of a record 5.
+pub(crate) fn amounts_values(line: &[u8]) -> Amounts
+    requires wide { length line.now ≡ 136 }
+    requires fits { amounts_fit line.now ≡ true }
+    ensures { AreAmounts line.now result }
+{
+    Amounts {
+        fare: amount_of(&line[7..18]),
+        taxes: [
+            tax_of(&line[18..31]),
+            tax_of(&line[31..44]),
+            tax_of(&line[44..57]),
+            tax_of(&line[57..70]),
+            tax_of(&line[70..83]),
+            tax_of(&line[83..96]),
+        ],
+        rate: number_of_digits(&line[96..101]) as u16,
+        commission: amount_of(&line[101..112]),
+    }
+}
+
+/// The amount of a record 8.
+pub(crate) fn payment_value(line: &[u8]) -> Amount
+    requires wide { length line.now ≡ 136 }
+    requires fits { form_fits line.now ≡ true }
+    ensures { IsPayment line.now result }
+{
+    amount_of(&line[9..20])
+}
+
+/// The amount and the vendor of a record 8 with CC.
+pub(crate) fn card_values(line: &[u8]) -> CardPayment
+    requires wide { length line.now ≡ 136 }
+    requires fits { form_fits line.now ≡ true }
+    ensures { IsCardPayment line.now result }
+{
+    CardPayment {
+        amount: payment_value(line),
+        vendor: array_of::<2>(&line[20..22]),
+    }
+}
+
+/// The amount of a record 8, if it is there.
+fn some_payment(line: Option<&[u8]>) -> Option<Amount>
+    requires { IfSome (option_copied line) (IsFit form_fits) }
+    ensures { InBoth IsPayment (option_copied line.entry) result }
+{
+    match line {
+        Some(line) => Some(payment_value(line)),
+        None => None,
+    }
+}
+
+/// The values of a group's records.
+fn values_of(records: Records<'_>) -> Transaction
+    requires { AreFit (records_of records) }
+    ensures { IsContent (records_of records.entry) result }
+{
+    let sale = sale_values(records.sale);
+    let related = match records.related {
+        Some(line) => Some(related_values(line)),
+        None => None,
+    };
+    Transaction {
+        code: sale.code,
+        agent: sale.agent,
+        document: sale.document,
+        issued: sale.issued,
+        passenger: sale.passenger,
+        related: [related, None],
+        amounts: match records.amounts {
+            Some(line) => Some(amounts_values(line)),
+            None => None,
+        },
+        cash: some_payment(records.cash),
+        credit: match records.credit {
+            Some(line) => Some(card_values(line)),
+            None => None,
+        },
+        exchange: some_payment(records.exchange),
+    }
+}
+
+/// The values of a transaction, counted from 0; none past the last. Its check digits are not
+/// judged.
+pub fn transaction(file: &RetFile, index: usize) -> Option<Transaction>
+    ensures { MatchOption result (length file.now.groups ≤ index) (λ t. HasContent (index + 1) (slice_index_or file.now.groups index []) t) }
+{
+    match file.records(index) {
+        Some(records) => Some(values_of(records)),
+        None => None,
+    }
+}
