@@ -24,7 +24,7 @@ pub(crate) fn read_digits(text: &[u8]) -> Result<u64, FieldFault>
 }
 
 /// The last `N` digits of the number, with zeros in front.
-pub(crate) fn write_digits<const N: usize>(mut number: u64) -> [u8; N]
+pub fn write_digits<const N: usize>(mut number: u64) -> [u8; N]
     ensures { result ≡ fixed_digits N number }
 {
     let mut text = [b'0'; N];

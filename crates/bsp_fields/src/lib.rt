@@ -21,6 +21,7 @@ mod zoned;
 pub use amount::{Amount, read_amount, write_amount};
 pub use codes::{AgentCode, AirlineCode, PeriodCode};
 pub use day::Day;
+pub use digits::write_digits;
 pub use document_number::{DocNumber, check_digit};
 pub use fault::FieldFault;
 pub use money::{NoRoom, write_money};

@@ -238,7 +238,7 @@ trailer_columns records transactions sum rest wide printable =
       rest_at = field_at 4 widths fields wide;
     }
 
-trailer_digits : (line : List ℕ) → trailer_fits line ≡ true → all_ascii_digits (columns 2 15 line) ≡ true
+pub trailer_digits : (line : List ℕ) → trailer_fits line ≡ true → all_ascii_digits (columns 2 15 line) ≡ true
 unfolding trailer_fits
 trailer_digits line fits =
     let digits = all_ascii_digits (columns 2 15 line) in
@@ -280,6 +280,19 @@ trailer_line-stands records transactions sum line is written =
       sum_is = rw c.sum_at written.same_sum;
     }
 
+same_sum_of : (text : List ℕ) (x y : ℤ) → zoned_reading 15 text ≡ Ok x → zoned_reading 15 text ≡ Ok y → x ≡ y
+same_sum_of text x y first second = cc (first, second)
+
+-- what a file's trailer tells
+pub told_sum : (ls : List (List ℕ)) (file : File) (trailer : List ℕ) (sum : ℤ) → Ret ls file → trailer ≡ file.trailer → zoned_reading 15 (columns 16 30 trailer) ≡ Ok sum → sum ≡ total_paid (flatten file.groups)
+told_sum ls file trailer sum ret same reads =
+    same_sum_of (columns 16 30 file.trailer) sum (total_paid (flatten file.groups)) (rw (← same) reads) ret.trailer.sum_is
+
+pub told_records : (ls : List (List ℕ)) (file : File) (trailer : List ℕ) (count : ℕ) → Ret ls file → trailer ≡ file.trailer → count ≡ number_of (columns 2 8 trailer) → count ≡ length (file_lines file)
+told_records ls file trailer count ret same is =
+    let parts = and_parts (all_ascii_digits (columns 2 8 file.trailer)) (number_of (columns 2 8 file.trailer) == length ls) ret.trailer.records_are in
+    is ∙ ap (λ line. number_of (columns 2 8 line)) same ∙ eqb-true (number_of (columns 2 8 file.trailer)) (length ls) parts.1 ∙ ap length ret.lines_are
+
 -- what a success says of a trailer that was written
 pub trailer_pushed : {A E : Type 0} (r : Result A E) (line fields text old : List ℕ) (sum : ℤ) → OnOk r (text ≡ old ++ fields ++ 10 ∷ []) → fields ≡ trailer_line line sum → IsWrittenTrailer line sum → OnOk r ((s : ℤ) × (IsWrittenTrailer line s × (text ≡ old ++ trailer_line line s ++ 10 ∷ [])))
 trailer_pushed (Ok done) line fields text old sum is same written = (sum, (written, is ∙ ap (λ x. old ++ x ++ 10 ∷ []) same))
@@ -319,9 +332,6 @@ lines-text_of (line ∷ ls) all =
     ∙ rw (no_cr line printable, lines-text_of ls parts.1) refl
 
 -- ---- the whole
-
-same_sum_of : (text : List ℕ) (x y : ℤ) → zoned_reading 15 text ≡ Ok x → zoned_reading 15 text ≡ Ok y → x ≡ y
-same_sum_of text x y first second = cc (first, second)
 
 stands_again : (ls : List (List ℕ)) (file : File) (ts : List Transaction) (sum : ℤ) → Ret ls file → HaveContents 1 file.groups ts → HaveContents 1 (written_groups 1 ts) ts → IsWrittenTrailer file.trailer sum → Ret (file_lines (written_file file ts sum)) (written_file file ts sum)
 stands_again ls file ts sum ret have again written =

@@ -1,6 +1,6 @@
 //! Kinds of characters over a whole text, and numbers of digits.
 
-ghost use Rattle.std.specs.Prelude.{◌≡◌, ◌≤◌, length, if◌then◌else◌, Some, None};
+ghost use Rattle.std.specs.Prelude.{◌≡◌, ◌≤◌, length, if◌then◌else◌, true, Some, None};
 ghost use Rattle.std.specs.Int.{is_in_range};
 ghost use Rattle.std.specs.List.{list_all};
 ghost use Rattle.std.specs.Str.{all_ascii_digits};
@@ -91,4 +91,16 @@ pub(crate) fn spells_at_most(most: u64, text: &[u8]) -> bool
         Some(read) => read <= most,
         None => false,
     }
+}
+
+/// The number of seven digits.
+pub(crate) fn count_of(text: &[u8]) -> usize
+    requires wide { length text.now ≡ 7 }
+    requires digits { all_ascii_digits text.now ≡ true }
+    ensures { result ≡ number_of text.now }
+{
+    let Some(number) = read_number(text) else {
+        unreachable!()
+    };
+    number as usize
 }

@@ -9,6 +9,8 @@ ghost use Rattle.bsp_ret.specs.Groups.{records_of, sale_alone, with_records, Has
 use crate::building::Building;
 use crate::record_fields::{GroupFields, HeaderFields, TrailerFields};
 use crate::records::Records;
+use crate::values::{trailer_records, trailer_sum};
+use bsp_fields::Total;
 use std::marker::Model;
 
 /// The lines of a transaction, as they stand in the text. A contract sees the list of its lines.
@@ -66,6 +68,9 @@ impl<'a> RetFile<'a> {
     ghost use Rattle.bsp_ret.specs.Building.{file_of};
     ghost use Rattle.bsp_ret.specs.Ret.{HasLines};
     ghost use Rattle.bsp_ret.specs.Fields.{IsHeaderOf, IsTrailerOf, HasFields};
+    ghost use Rattle.bsp_ret.specs.Table.{total_paid};
+    ghost use Rattle.bsp_ret.specs.Ret.{flatten};
+    ghost use Rattle.bsp_ret.specs.Writing.{file_lines};
 
     /// The file of what was read to the end.
     pub(crate) fn of(building: Building<'a>) -> RetFile<'a>
@@ -90,7 +95,8 @@ impl<'a> RetFile<'a> {
     /// Record Z.
     pub(crate) fn trailer_line(&self) -> &'a [u8]
         ensures value { result.now ≡ self.now.trailer }
-        ensures fits { IsFit trailer_fits self.now.trailer }
+        ensures fits { IsFit trailer_fits result.now }
+        ensures stands { HasLines self.now }
     {
         self.trailer
     }
@@ -134,5 +140,18 @@ impl<'a> RetFile<'a> {
         ensures { result ≡ length self.now.groups }
     {
         self.groups.len()
+    }
+    /// The number of records, with header and trailer.
+    pub fn record_count(&self) -> usize
+        ensures { result ≡ length (file_lines self.now) }
+    {
+        trailer_records(self.trailer_line())
+    }
+
+    /// The sum of all forms of payment, in minor units.
+    pub fn sum(&self) -> Total
+        ensures { result ≡ total_paid (flatten self.now.groups) }
+    {
+        trailer_sum(self.trailer_line())
     }
 }

@@ -1,8 +1,7 @@
 //! Writes a file.
 
-ghost use Rattle.std.specs.Prelude.{◌≡◌, ◌∷◌, ◌++◌, ℤ, [], true, IfErr, IfOk, Ok, OnOk};
-ghost use Rattle.bsp_ret.specs.Records.{is_total, trailer_fits};
-ghost use Rattle.bsp_fields.specs.Zoned.{zoned_reading};
+ghost use Rattle.std.specs.Prelude.{◌≡◌, ◌∷◌, ◌++◌, ℤ, [], IfErr, IfOk, OnOk};
+ghost use Rattle.bsp_ret.specs.Records.{trailer_fits};
 ghost use Rattle.bsp_ret.specs.Groups.{IsFit};
 ghost use Rattle.bsp_ret.specs.Reading.{no_memory};
 ghost use Rattle.bsp_ret.specs.Writing.{trailer_line, AreWritten, IsWrittenTrailer, IsWritten};
@@ -10,9 +9,9 @@ ghost use Rattle.bsp_ret.specs.Writing.{trailer_line, AreWritten, IsWrittenTrail
 use crate::content::stored;
 use crate::file::RetFile;
 use crate::model::RetFault;
-use crate::values::transaction;
+use crate::values::{trailer_sum, transaction};
 use crate::writing::{push_group, push_line};
-use bsp_fields::{Total, read_total, write_total};
+use bsp_fields::write_total;
 use std::alloc::{AllocError, Global};
 
 /// Appends the records of all transactions.
@@ -29,24 +28,13 @@ fn push_groups(out: &mut Vec<u8>, file: &RetFile<'_>) -> Result<(), AllocError>
     Ok(())
 }
 
-/// The total of a field that is one.
-fn total_of(text: &[u8]) -> Total
-    requires { is_total text.now ≡ true }
-    ensures { zoned_reading 15 text.now ≡ Ok result }
-{
-    let Ok(total) = read_total(text) else {
-        unreachable!()
-    };
-    total
-}
-
 /// Appends the record Z.
 #[tactic(auto, unfolding(crate::specs::Records::trailer_fits, crate::specs::Writing::trailer_line))]
 fn push_trailer(out: &mut Vec<u8>, line: &[u8]) -> Result<(), AllocError>
     requires { IsFit trailer_fits line.now }
     ensures { OnOk result ((sum : ℤ) × (IsWrittenTrailer line.now sum × (out.new.items ≡ out.old.items ++ trailer_line line.now sum ++ 10 ∷ []))) }
 {
-    let sum = total_of(&line[15..30]);
+    let sum = trailer_sum(line);
     push_line(
         out,
         &[

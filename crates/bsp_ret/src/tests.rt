@@ -1,22 +1,72 @@
 use crate::*;
+use bsp_fields::Amount;
 use std::test::Fail;
 
-const V0: [&[u8]; 2] = [
-    b"1TSTA2401050930DE000001PROD001",
-    b"Z0000002000000000000000000000{",
-];
+const HEADER: &[u8] = b"1TSTA2401050930DE000001PROD001";
+
+const NO_SALES: &[u8] = b"Z0000002000000000000000000000{";
 
 const V1: [&[u8]; 5] = [
-    b"1TSTA2401050930DE000001PROD001",
+    HEADER,
     b"2000001TKTT1234567512513000000016240105DOE/JANE",
     b"50000010000002000{RA0000000350{                                                                 005000000000100{",
     b"8000001CA0000002350{",
     b"Z0000005000000100000000002350{",
 ];
 
+/// A refund of the sale that follows it in the same file.
+const REFUND: [&[u8]; 9] = [
+    HEADER,
+    b"2000001RFND1234567512513000000020240105DOE/JANE",
+    b"300000112513000000016",
+    b"50000010000002000}RA0000000350}                                                                 005000000000100}",
+    b"8000001CA0000002350}",
+    b"2000002TKTT1234567512513000000016240105DOE/JANE",
+    b"50000020000002000{RA0000000350{                                                                 005000000000100{",
+    b"8000002CA0000002350{",
+    b"Z0000009000000200000000000000{",
+];
+
+/// A sale for which a document was given in exchange.
+const EXCHANGE: [&[u8]; 7] = [
+    HEADER,
+    b"2000001TKTT1234567512513000000031240105DOE/JANE",
+    b"300000112513000000016",
+    b"50000010000002500{RA0000000350{                                                                 005000000000025{",
+    b"8000001CA0000000500{",
+    b"8000001EX0000002350{",
+    b"Z0000007000000100000000002850{",
+];
+
+const CANCEL: [&[u8]; 6] = [
+    HEADER,
+    b"2000001TKTT1234567512513000000016240105DOE/JANE",
+    b"50000010000002000{RA0000000350{                                                                 005000000000100{",
+    b"8000001CA0000002350{",
+    b"2000002CANX1234567512513000000016240105DOE/JANE",
+    b"Z0000006000000200000000002350{",
+];
+
+/// A card sale with two taxes, amounts in other spellings than the one that is written.
+const SPELLINGS: [&[u8]; 5] = [
+    HEADER,
+    b"2000001TKTT1234567522013000000086240105DOE/JANE",
+    b"500000100000010000AB0000000001ARA00000000000                                                    0000000000000000",
+    b"8000001CC00000010011VI",
+    b"Z00000050000001000000000010011",
+];
+
+const ONE_SPELLING: [&[u8]; 5] = [
+    HEADER,
+    b"2000001TKTT1234567522013000000086240105DOE/JANE",
+    b"50000010000001000{AB0000000001ARA0000000000{                                                    000000000000000{",
+    b"8000001CC0000001001AVI",
+    b"Z0000005000000100000000001001A",
+];
+
 /// The lines, each filled with spaces to 136 characters and ended by `end`.
 fn text(rt: &HostRuntime, lines: &[&[u8]], end: &[u8]) -> Result<Vec<u8>, Fail> {
-    let mut bytes = Vec::new(rt.alloc());
+    let mut bytes = Vec::with_capacity(rt.alloc(), lines.len() * 138)?;
     for line in lines {
         bytes.extend_from_slice(line)?;
         for _ in 0..136usize.saturating_sub(line.len()) {
@@ -27,47 +77,210 @@ fn text(rt: &HostRuntime, lines: &[&[u8]], end: &[u8]) -> Result<Vec<u8>, Fail> 
     Ok(bytes)
 }
 
+/// V1 with another line at one place.
+fn changed(place: usize, line: &'static [u8]) -> [&'static [u8]; 5] {
+    let mut lines = V1;
+    if let Some(there) = lines.get_mut(place) {
+        *there = line;
+    }
+    lines
+}
+
+fn front(bytes: &[u8], length: usize) -> &[u8] {
+    &bytes[..length.min(bytes.len())]
+}
+
 fn fault(code: FaultCode, at: usize) -> Option<RetFault> {
     Some(RetFault { code, at })
 }
 
-#[test]
-fn an_empty_file_is_read(rt: HostRuntime) -> Result<(), Fail> {
-    for end in [b"\n".as_slice(), b"\r\n"] {
-        let bytes = text(&rt, &V0, end)?;
-        let file = read_ret(rt.alloc(), &bytes).ok().ok_or("a file")?;
-        assert_eq!(rt; file.transactions(), 0);
+/// The fault of a text, where memory was refused read once more.
+fn told(rt: &HostRuntime, bytes: &[u8]) -> Option<RetFault> {
+    let first = read_ret(rt.alloc(), bytes).err();
+    if first != fault(FaultCode::F10, 0) {
+        return first;
     }
-    Ok(())
+    read_ret(rt.alloc(), bytes).err()
+}
+
+/// Feeds a piece, and where memory was refused the same piece once more.
+fn feed(reader: &mut RetReader, piece: &[u8]) -> Option<RetFault> {
+    let first = reader.feed(piece).err();
+    if first != fault(FaultCode::F10, 0) {
+        return first;
+    }
+    reader.feed(piece).err()
+}
+
+/// Ends the text, and where memory was refused once more.
+fn finish(reader: &mut RetReader) -> Option<RetFault> {
+    let first = reader.finish().err();
+    if first != fault(FaultCode::F10, 0) {
+        return first;
+    }
+    reader.finish().err()
 }
 
 #[test]
 fn first_faults_are_told(rt: HostRuntime) -> Result<(), Fail> {
-    let v0 = text(&rt, &V0, b"\n")?;
-    let cases: [(&[u8], Option<RetFault>); 5] = [
-        (b"", fault(FaultCode::F08, 1)),
-        (&v0[..272], fault(FaultCode::F01, 2)),
-        (&v0[..273], None),
-        (&v0[..137], fault(FaultCode::F08, 2)),
-        (&v0, None),
+    let double: [&[u8]; 6] = [V1[0], V1[1], V1[2], V1[3], V1[3], V1[4]];
+    let test: [&[u8]; 2] = [b"1TSTA2401050930DE000001TEST001", NO_SALES];
+    let refund = changed(1, b"2000001RFND1234567512513000000016240105DOE/JANE");
+    let codes = changed(
+        2,
+        b"50000010000002000{RA0000000350{AB0000000000{                                                    005000000000100{",
+    );
+    let sum = changed(4, b"Z0000005000000100000000002350}");
+    let cases: [(&[&[u8]], Option<RetFault>); 13] = [
+        (&[], fault(FaultCode::F08, 1)),
+        (&[HEADER, NO_SALES], None),
+        (&[HEADER], fault(FaultCode::F08, 2)),
+        (&[HEADER, NO_SALES, NO_SALES], fault(FaultCode::F09, 3)),
+        (&test, fault(FaultCode::F04, 1)),
+        (&refund, fault(FaultCode::F03, 3)),
+        (&codes, fault(FaultCode::F05, 3)),
+        (&double, fault(FaultCode::F03, 5)),
+        (&sum, fault(FaultCode::F07, 5)),
+        (&V1, None),
+        (&REFUND, None),
+        (&EXCHANGE, None),
+        (&CANCEL, None),
     ];
-    for (bytes, told) in cases {
-        assert_eq!(rt; read_ret(rt.alloc(), bytes).err(), told);
+    for (lines, expected) in cases {
+        for end in [b"\n".as_slice(), b"\r\n"] {
+            let bytes = text(&rt, lines, end)?;
+            assert_eq!(rt; told(&rt, &bytes), expected);
+        }
+    }
+    let v0 = text(&rt, &[HEADER, NO_SALES], b"\n")?;
+    let cuts = [
+        (137, fault(FaultCode::F08, 2)),
+        (272, fault(FaultCode::F01, 2)),
+        (273, None),
+    ];
+    for (length, expected) in cuts {
+        assert_eq!(rt; told(&rt, front(&v0, length)), expected);
     }
     Ok(())
 }
 
 #[test]
-fn a_sale_is_read_in_any_two_pieces(rt: HostRuntime) -> Result<(), Fail> {
+fn a_file_cut_short_is_told(rt: HostRuntime) -> Result<(), Fail> {
     let v1 = text(&rt, &V1, b"\n")?;
     assert_eq!(rt; v1.len(), 685);
+    for length in 0..=685usize {
+        let (records, more) = (length / 137, length % 137);
+        let expected = match more {
+            0 if length == 685 => None,
+            0 => fault(FaultCode::F08, records + 1),
+            136 if records == 4 => None,
+            136 => fault(FaultCode::F08, records + 2),
+            _ => fault(FaultCode::F01, records + 1),
+        };
+        let cut = front(&v1, length);
+        assert_eq!(rt; told(&rt, cut), expected);
+        let mut reader = RetReader::new(rt.alloc());
+        assert_eq!(rt; feed(&mut reader, cut), None);
+        assert_eq!(rt; finish(&mut reader), expected);
+    }
+    Ok(())
+}
+
+#[test]
+fn pieces_are_read_as_one_text(rt: HostRuntime) -> Result<(), Fail> {
+    let v1 = text(&rt, &V1, b"\n")?;
     for cut in 0..=v1.len() {
         let (front, back) = v1.split_at(cut);
         let mut reader = RetReader::new(rt.alloc());
-        assert_eq!(rt; reader.feed(front).err(), None);
-        assert_eq!(rt; reader.feed(back).err(), None);
-        let file = reader.finish().ok().ok_or("a file")?;
-        assert_eq!(rt; file.transactions(), 1);
+        assert_eq!(rt; feed(&mut reader, front), None);
+        assert_eq!(rt; feed(&mut reader, back), None);
+        assert_eq!(rt; finish(&mut reader), None);
+        let file = reader.finish()?;
+        let written = write_ret(rt.alloc(), &file)?;
+        assert_eq!(rt; written, v1);
     }
+    let mut reader = RetReader::new(rt.alloc());
+    for byte in &v1 {
+        assert_eq!(rt; feed(&mut reader, &[*byte]), None);
+    }
+    assert_eq!(rt; finish(&mut reader), None);
+    assert_eq!(rt; feed(&mut reader, b""), None);
+    assert_eq!(rt; finish(&mut reader), None);
+    for _ in 0..2 {
+        assert_eq!(rt; feed(&mut reader, b" "), fault(FaultCode::F09, 6));
+        assert_eq!(rt; finish(&mut reader), fault(FaultCode::F09, 6));
+    }
+    Ok(())
+}
+
+/// Each call is made again where memory was refused, and then gives what it gives otherwise.
+#[test]
+fn want_of_memory_changes_nothing(rt: HostRuntime) -> Result<(), Fail> {
+    let v1 = text(&rt, &V1, b"\n")?;
+    let (front, back) = v1.split_at(300);
+    let mut reader = RetReader::new(rt.alloc());
+    assert_eq!(rt; feed(&mut reader, front), None);
+    assert_eq!(rt; feed(&mut reader, back), None);
+    assert_eq!(rt; finish(&mut reader), None);
+    assert_eq!(rt; told(&rt, &v1), None);
+    let file = reader.finish()?;
+    let first = write_ret(rt.alloc(), &file);
+    let written = match first {
+        Err(refused) => {
+            assert_eq!(rt; Some(refused), fault(FaultCode::F10, 0));
+            write_ret(rt.alloc(), &file)?
+        }
+        Ok(written) => written,
+    };
+    assert_eq!(rt; written, v1);
+    Ok(())
+}
+
+#[test]
+fn a_file_is_written_in_one_spelling(rt: HostRuntime) -> Result<(), Fail> {
+    let cases: [(&[&[u8]], &[&[u8]]); 5] = [
+        (&[HEADER, NO_SALES], &[HEADER, NO_SALES]),
+        (&V1, &V1),
+        (&EXCHANGE, &EXCHANGE),
+        (&CANCEL, &CANCEL),
+        (&SPELLINGS, &ONE_SPELLING),
+    ];
+    for (lines, written) in cases {
+        for end in [b"\n".as_slice(), b"\r\n"] {
+            let bytes = text(&rt, lines, end)?;
+            let file = read_ret(rt.alloc(), &bytes)?;
+            assert_eq!(rt; write_ret(rt.alloc(), &file)?, text(&rt, written, b"\n")?);
+        }
+    }
+    Ok(())
+}
+
+#[test]
+fn values_of_a_refund_are_told(rt: HostRuntime) -> Result<(), Fail> {
+    let bytes = text(&rt, &REFUND, b"\n")?;
+    let file = read_ret(rt.alloc(), &bytes)?;
+    assert_eq!(rt; file.transactions(), 2);
+    assert!(rt; transaction(&file, 2).is_none());
+    let refund = transaction(&file, 0).ok_or("a refund")?;
+    assert_eq!(rt; refund.code, TransactionCode::Rfnd);
+    assert_eq!(rt; refund.agent, *b"12345675");
+    assert_eq!(rt; refund.document.number, *b"1300000002");
+    assert_eq!(rt; refund.document.check_digit, 0);
+    let related = refund.related[0].ok_or("a related document")?;
+    assert_eq!(rt; related.number, *b"1300000001");
+    assert!(rt; refund.related[1].is_none());
+    let amounts = refund.amounts.ok_or("amounts")?;
+    assert_eq!(rt; amounts.fare.get(), -20_000);
+    assert_eq!(rt; amounts.commission.get(), -1000);
+    assert_eq!(rt; amounts.rate, 500);
+    let tax = amounts.taxes[0].ok_or("a tax")?;
+    assert_eq!(rt; (tax.code, tax.amount.get()), (*b"RA", -3500));
+    assert_eq!(rt; refund.cash, Some(Amount::new(-23_500)?));
+    assert!(rt; is_group(&refund));
+    let exchanged = Transaction {
+        exchange: refund.cash,
+        ..refund
+    };
+    assert!(rt; !is_group(&exchanged));
     Ok(())
 }

@@ -7,16 +7,17 @@ ghost use Rattle.std.specs.Str.{all_ascii_digits};
 ghost use Rattle.bsp_fields.specs.Decimal.{number_of};
 ghost use Rattle.bsp_fields.specs.Zoned.{zoned_reading};
 ghost use Rattle.bsp_fields.specs.Days.{record_reading};
-ghost use Rattle.bsp_ret.specs.Records.{columns, is_space, is_amount, is_record_day, tax_fits, code_of, sale_fits, related_fits, amounts_fit, form_fits};
+ghost use Rattle.bsp_ret.specs.Records.{columns, is_space, is_amount, is_total, is_record_day, tax_fits, code_of, sale_fits, related_fits, amounts_fit, form_fits, trailer_fits};
 ghost use Rattle.bsp_ret.specs.Content.{InBoth, IsDocument, IsTax, AreAmounts, IsPayment, IsCardPayment, IsContent, HasContent};
 ghost use Rattle.bsp_ret.specs.Groups.{records_of, IsFit, AreFit};
 
+use crate::characters::count_of;
 use crate::fields::code_of;
 use crate::file::RetFile;
 use crate::model::TransactionCode;
 use crate::records::Records;
 use crate::transactions::{Amounts, CardPayment, ReportedDocument, Tax, Transaction};
-use bsp_fields::{AirlineCode, Amount, Day, read_amount};
+use bsp_fields::{AirlineCode, Amount, Day, Total, read_amount, read_total};
 
 /// The characters of a text of that width.
 fn array_of<const N: usize>(text: &[u8]) -> [u8; N]
@@ -38,6 +39,17 @@ fn amount_of(text: &[u8]) -> Amount
         unreachable!()
     };
     amount
+}
+
+/// The total of a field that is one.
+fn total_of(text: &[u8]) -> Total
+    requires { is_total text.now ≡ true }
+    ensures { zoned_reading 15 text.now ≡ Ok result }
+{
+    let Ok(total) = read_total(text) else {
+        unreachable!()
+    };
+    total
 }
 
 /// The day of a field that is one.
@@ -134,6 +146,24 @@ pub(crate) fn sale_values(line: &[u8]) -> SaleValues
         issued: day_of(&line[33..39]),
         passenger: array_of::<49>(&line[39..88]),
     }
+}
+
+/// The number of records that a record Z tells.
+#[tactic(auto, using(crate::proofs::WrittenFile::trailer_digits, crate::proofs::ReadLemmas::digits_inside))]
+pub(crate) fn trailer_records(line: &[u8]) -> usize
+    requires { IsFit trailer_fits line.now }
+    ensures { result ≡ number_of (columns 2 8 line.now) }
+{
+    count_of(&line[1..8])
+}
+
+/// The sum that a record Z tells.
+#[tactic(auto, using(crate::proofs::WrittenFile::trailer_total))]
+pub(crate) fn trailer_sum(line: &[u8]) -> Total
+    requires { IsFit trailer_fits line.now }
+    ensures { zoned_reading 15 (columns 16 30 line.now) ≡ Ok result }
+{
+    total_of(&line[15..30])
 }
 
 /// The document of a record 3.

@@ -2,25 +2,12 @@
 
 ghost use Rattle.std.specs.Prelude.{◌≡◌, ℕ, List, [], ◌∷◌, ◌++◌, map, codes, OnOk};
 ghost use Rattle.std.specs.List.{concat};
-ghost use Rattle.bsp_fields.specs.Decimal.{fixed_digits};
 ghost use Rattle.std.specs.Option.{option_map, option_to_list};
 ghost use Rattle.bsp_ret.specs.Writing.{tax_text, sale_line, related_line, amounts_line, form_line, cash_line, credit_line, exchange_line, group_lines, text_of};
 
 use crate::transactions::{Amounts, CardPayment, ReportedDocument, Tax, Transaction};
-use bsp_fields::{Amount, write_amount};
+use bsp_fields::{Amount, write_amount, write_digits};
 use std::alloc::AllocError;
-
-/// The last `N` digits of the number, with zeros in front.
-fn write_digits<const N: usize>(mut number: u64) -> [u8; N]
-    ensures { result ≡ fixed_digits N number }
-{
-    let mut text = [b'0'; N];
-    for place in (0..N).rev() {
-        text[place] = b'0' + (number % 10) as u8;
-        number /= 10;
-    }
-    text
-}
 
 /// A tax place.
 fn write_tax(tax: Option<Tax>) -> [u8; 13]
