@@ -40,14 +40,14 @@ flatten_more : (groups : List (List (List ℕ))) (group : List (List ℕ)) → f
 flatten_more [] group = append-nil group
 flatten_more (first ∷ groups) group = ap (λ rest. first ++ rest) (flatten_more groups group) ∙ sym (append_assoc first (flatten groups) group)
 
-contents_more : (n : ℕ) (groups : List (List (List ℕ))) (ts : List Transaction) (group : List (List ℕ)) (t : Transaction) → HaveContents n groups ts → HasContent (n + length groups) group t → HaveContents n (groups ++ group ∷ []) (ts ++ t ∷ [])
+pub contents_more : (n : ℕ) (groups : List (List (List ℕ))) (ts : List Transaction) (group : List (List ℕ)) (t : Transaction) → HaveContents n groups ts → HasContent (n + length groups) group t → HaveContents n (groups ++ group ∷ []) (ts ++ t ∷ [])
 contents_more n [] [] group t have has = (subst (λ (k : ℕ). HasContent k group t) (omega arith) has, tt)
 contents_more n (first ∷ groups) (u ∷ ts) group t have has =
     (have.0, contents_more (suc n) groups ts group t have.1 (subst (λ (k : ℕ). HasContent k group t) (omega arith) has))
 contents_more n [] (u ∷ ts) group t have has = absurd have
 contents_more n (first ∷ groups) [] group t have has = absurd have
 
-same_length : (n : ℕ) (groups : List (List (List ℕ))) (ts : List Transaction) → HaveContents n groups ts → length groups ≡ length ts
+pub same_length : (n : ℕ) (groups : List (List (List ℕ))) (ts : List Transaction) → HaveContents n groups ts → length groups ≡ length ts
 same_length n [] [] have = refl
 same_length n (group ∷ groups) (t ∷ ts) have = ap suc (same_length (suc n) groups ts have.1)
 same_length n [] (t ∷ ts) have = absurd have

@@ -66,7 +66,7 @@ const ONE_SPELLING: [&[u8]; 5] = [
 
 /// The lines, each filled with spaces to 136 characters and ended by `end`.
 fn text(rt: &HostRuntime, lines: &[&[u8]], end: &[u8]) -> Result<Vec<u8>, Fail> {
-    let mut bytes = Vec::with_capacity(rt.alloc(), lines.len() * 138)?;
+    let mut bytes = Vec::with_capacity(rt.alloc(), 2048)?;
     for line in lines {
         bytes.extend_from_slice(line)?;
         for _ in 0..136usize.saturating_sub(line.len()) {
@@ -217,7 +217,7 @@ fn pieces_are_read_as_one_text(rt: HostRuntime) -> Result<(), Fail> {
 #[test]
 fn want_of_memory_changes_nothing(rt: HostRuntime) -> Result<(), Fail> {
     let v1 = text(&rt, &V1, b"\n")?;
-    let (front, back) = v1.split_at(300);
+    let (front, back) = v1.split_at(v1.len() / 2);
     let mut reader = RetReader::new(rt.alloc());
     assert_eq!(rt; feed(&mut reader, front), None);
     assert_eq!(rt; feed(&mut reader, back), None);
