@@ -6,13 +6,45 @@ const HEADER: &[u8] = b"1TSTA2401050930DE000001PROD001";
 
 const NO_SALES: &[u8] = b"Z0000002000000000000000000000{";
 
-const V1: [&[u8]; 5] = [
+const SALE: &[u8] = b"2000001TKTT1234567512513000000016240105DOE/JANE";
+
+const AMOUNTS: &[u8] =
+    b"50000010000002000{RA0000000350{                                                                 005000000000100{";
+
+const CASH: &[u8] = b"8000001CA0000002350{";
+
+const TOTAL: &[u8] = b"Z0000005000000100000000002350{";
+
+const V1: [&[u8]; 5] = [HEADER, SALE, AMOUNTS, CASH, TOTAL];
+
+/// V1 as a refund, with tax codes that do not rise, with its cash twice, and with another sum.
+const NO_REFUND: [&[u8]; 5] = [
     HEADER,
-    b"2000001TKTT1234567512513000000016240105DOE/JANE",
-    b"50000010000002000{RA0000000350{                                                                 005000000000100{",
-    b"8000001CA0000002350{",
-    b"Z0000005000000100000000002350{",
+    b"2000001RFND1234567512513000000016240105DOE/JANE",
+    AMOUNTS,
+    CASH,
+    TOTAL,
 ];
+
+const FALLING_CODES: [&[u8]; 5] = [
+    HEADER,
+    SALE,
+    b"50000010000002000{RA0000000350{AB0000000000{                                                    005000000000100{",
+    CASH,
+    TOTAL,
+];
+
+const CASH_TWICE: [&[u8]; 6] = [HEADER, SALE, AMOUNTS, CASH, CASH, TOTAL];
+
+const OTHER_SUM: [&[u8]; 5] = [
+    HEADER,
+    SALE,
+    AMOUNTS,
+    CASH,
+    b"Z0000005000000100000000002350}",
+];
+
+const TEST_FILE: [&[u8]; 2] = [b"1TSTA2401050930DE000001TEST001", NO_SALES];
 
 /// A refund of the sale that follows it in the same file.
 const REFUND: [&[u8]; 9] = [
@@ -77,15 +109,6 @@ fn text(rt: &HostRuntime, lines: &[&[u8]], end: &[u8]) -> Result<Vec<u8>, Fail> 
     Ok(bytes)
 }
 
-/// V1 with another line at one place.
-fn changed(place: usize, line: &'static [u8]) -> [&'static [u8]; 5] {
-    let mut lines = V1;
-    if let Some(there) = lines.get_mut(place) {
-        *there = line;
-    }
-    lines
-}
-
 fn front(bytes: &[u8], length: usize) -> &[u8] {
     &bytes[..length.min(bytes.len())]
 }
@@ -123,24 +146,16 @@ fn finish(reader: &mut RetReader) -> Option<RetFault> {
 
 #[test]
 fn first_faults_are_told(rt: HostRuntime) -> Result<(), Fail> {
-    let double: [&[u8]; 6] = [V1[0], V1[1], V1[2], V1[3], V1[3], V1[4]];
-    let test: [&[u8]; 2] = [b"1TSTA2401050930DE000001TEST001", NO_SALES];
-    let refund = changed(1, b"2000001RFND1234567512513000000016240105DOE/JANE");
-    let codes = changed(
-        2,
-        b"50000010000002000{RA0000000350{AB0000000000{                                                    005000000000100{",
-    );
-    let sum = changed(4, b"Z0000005000000100000000002350}");
     let cases: [(&[&[u8]], Option<RetFault>); 13] = [
         (&[], fault(FaultCode::F08, 1)),
         (&[HEADER, NO_SALES], None),
         (&[HEADER], fault(FaultCode::F08, 2)),
         (&[HEADER, NO_SALES, NO_SALES], fault(FaultCode::F09, 3)),
-        (&test, fault(FaultCode::F04, 1)),
-        (&refund, fault(FaultCode::F03, 3)),
-        (&codes, fault(FaultCode::F05, 3)),
-        (&double, fault(FaultCode::F03, 5)),
-        (&sum, fault(FaultCode::F07, 5)),
+        (&TEST_FILE, fault(FaultCode::F04, 1)),
+        (&NO_REFUND, fault(FaultCode::F03, 3)),
+        (&FALLING_CODES, fault(FaultCode::F05, 3)),
+        (&CASH_TWICE, fault(FaultCode::F03, 5)),
+        (&OTHER_SUM, fault(FaultCode::F07, 5)),
         (&V1, None),
         (&REFUND, None),
         (&EXCHANGE, None),
