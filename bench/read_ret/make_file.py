@@ -32,4 +32,5 @@ def main():
         out.write(record(f"Z{3 * count + 2:07d}{count:07d}{zoned(total, 15)}"))
 
 
-main()
+if __name__ == "__main__":
+    main()

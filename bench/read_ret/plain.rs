@@ -25,7 +25,7 @@ fn digits(t: &[u8]) -> Option<u64> {
     Some(n)
 }
 
-fn zoned(t: &[u8]) -> Option<i64> {
+pub fn zoned(t: &[u8]) -> Option<i64> {
     let (last, front) = t.split_last()?;
     let tens = digits(front)? as i64;
     let (digit, minus) = match last {
@@ -123,7 +123,7 @@ fn header(l: &[u8]) -> bool {
         && spaces(&l[30..])
 }
 
-fn read(bytes: &[u8]) -> Result<Vec<&[u8]>, (u8, usize)> {
+pub fn read(bytes: &[u8]) -> Result<Vec<&[u8]>, (u8, usize)> {
     let mut groups = Vec::new();
     let (mut records, mut count, mut sum) = (0usize, 0u64, 0i128);
     let (mut last, mut code, mut related) = (Last::Start, b'T', false);

@@ -1,0 +1,4 @@
+-- What the contracts of the program cite.
+pub mod CommandLine
+pub mod Streams
+pub mod Report

@@ -1,0 +1,75 @@
+//! Reading the whole of an input that has a limit.
+ghost use Rattle.std.specs.Prelude.{◌≡◌, ◌≤◌, ◌<◌, ◌+◌, ◌++◌, ◌⊎◌, ℕ, List, length, false, IfOk, OnErr, Ok, Err};
+ghost use Rattle.std.specs.Io.KnownBytes.{Consumes, IsAtEnd};
+ghost use Rattle.bsp_office.specs.Streams.{most};
+
+use std::alloc::{AllocError, Global};
+use std::io::{ErrorKind, Read};
+
+/// Why an input is not there as a whole.
+#[derive(Clone, Copy, Debug, PartialEq, Eq, Drop)]
+pub enum ReadFault {
+    Failed,
+    TooLong,
+    Memory,
+}
+
+const MOST: usize = 1_073_741_824;
+
+const ROOM: usize = 65_536;
+
+fn new_room(alloc: Global, len: usize) -> Result<Vec<u8>, AllocError>
+    ensures { IfOk result (λ room. length room.items ≡ len) }
+{
+    Vec::from_elem(alloc, 0u8, len)
+}
+
+/// Reads once and keeps the bytes. It answers whether there may be more.
+pub fn read_piece<R: Read>(
+    reader: &mut R,
+    room: &mut [u8],
+    all: &mut Vec<u8>,
+) -> Result<bool, ReadFault>
+    ensures piece { IfOk result (λ more. (got : List ℕ) × Consumes (R.remaining reader.old) (R.remaining reader.new) got
+        × (all.new.items ≡ all.old.items ++ got) × (length got ≤ length room.old)) }
+    ensures end { result ≡ Ok false → 0 < length room.old → IsAtEnd (R.remaining reader.new) }
+    ensures same { result ≡ Ok false → all.new.items ≡ all.old.items }
+    ensures stopped { OnErr result ((got : List ℕ) × Consumes (R.remaining reader.old) (R.remaining reader.new) got × (length got ≤ length room.old)) }
+    ensures fault { OnErr result ((result ≡ Err ReadFault.Failed) ⊎ (result ≡ Err ReadFault.Memory)) }
+{
+    match reader.read(room) {
+        Ok(0) => Ok(false),
+        Ok(n) => match all.extend_from_slice(&room[..n]) {
+            Ok(()) => Ok(true),
+            Err(_) => Err(ReadFault::Memory),
+        },
+        Err(e) if e.kind() == ErrorKind::Interrupted => Ok(true),
+        Err(_) => Err(ReadFault::Failed),
+    }
+}
+
+#[tactic(auto, using(crate::proofs::Pieces::taken_none, crate::proofs::Pieces::taken_more, crate::proofs::Pieces::piece_stops, crate::proofs::Pieces::stops_here, crate::proofs::Pieces::within_more))]
+/// Reads to the end of an input of at most 1,073,741,824 bytes.
+pub fn read_whole<R: Read>(alloc: Global, reader: &mut R) -> Result<Vec<u8>, ReadFault>
+    ensures whole { IfOk result (λ all. Consumes (R.remaining reader.old) (R.remaining reader.new) all.items × IsAtEnd (R.remaining reader.new)) }
+    ensures limit { IfOk result (λ all. length all.items ≤ most) }
+    ensures stopped { OnErr result ((got : List ℕ) × Consumes (R.remaining reader.old) (R.remaining reader.new) got × (length got ≤ most + 1)) }
+    ensures long { result ≡ Err ReadFault.TooLong → (got : List ℕ) × Consumes (R.remaining reader.old) (R.remaining reader.new) got × (length got ≡ most + 1) }
+{
+    let mut all = Vec::new(alloc);
+    let Ok(mut room) = new_room(alloc, ROOM) else {
+        return Err(ReadFault::Memory);
+    };
+    for _ in 0..u64::MAX {
+        if all.len() > MOST {
+            return Err(ReadFault::TooLong);
+        }
+        let want = (MOST + 1 - all.len()).min(ROOM);
+        match read_piece(reader, &mut room[..want], &mut all) {
+            Ok(true) => {}
+            Ok(false) => return Ok(all),
+            Err(fault) => return Err(fault),
+        }
+    }
+    Err(ReadFault::Failed)
+}

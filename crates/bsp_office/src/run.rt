@@ -1,0 +1,67 @@
+//! Runs the work that the command line asks for.
+
+use crate::checking::check;
+use crate::words::{WordsFault, Work, words};
+use clap::error::ErrorKind;
+use std::fs::File;
+use std::{env, io};
+
+/// The program did what it was asked for.
+const DONE: u8 = 0;
+/// The words of the command line are wrong.
+const WRONG_WORDS: u8 = 2;
+/// A read or a write failed, or an allocation was refused.
+const FAILED: u8 = 3;
+
+fn check_file(rt: &HostRuntime, name: &str) -> u8 {
+    let mut output = io::writer(rt);
+    if name == "-" {
+        return check(rt.alloc(), &mut rt.reader(), &mut output);
+    }
+    match File::open(rt, name) {
+        Ok(mut file) => check(rt.alloc(), &mut file, &mut output),
+        Err(_) => FAILED,
+    }
+}
+
+fn run_work(rt: &HostRuntime, work: &Work<'_>) -> u8 {
+    match work {
+        Work::Check { file } => check_file(rt, file),
+    }
+}
+
+/// Prints what `clap` says of the words: help on standard output, else on standard error.
+fn refuse(rt: &HostRuntime, fault: &WordsFault) -> u8 {
+    let error = match fault {
+        WordsFault::Refused(error) => error,
+        WordsFault::OutOfForm => return WRONG_WORDS,
+    };
+    if error.kind() == ErrorKind::OutOfMemory || error.print(rt).is_err() {
+        FAILED
+    } else if error.use_stderr() {
+        WRONG_WORDS
+    } else {
+        DONE
+    }
+}
+
+fn run_line(rt: &HostRuntime, line: &[String]) -> u8 {
+    match words(rt.alloc(), line) {
+        Ok(work) => run_work(rt, &work),
+        Err(fault) => refuse(rt, &fault),
+    }
+}
+
+fn line_given(rt: &HostRuntime) -> io::Result<Vec<String>> {
+    Ok(env::args(rt)?.collect(rt.alloc())?)
+}
+
+/// Runs the work that the command line asks for, and answers the exit status. A word that is no
+/// text is a wrong word.
+pub fn run(rt: &HostRuntime) -> u8 {
+    match line_given(rt) {
+        Ok(line) => run_line(rt, &line),
+        Err(error) if error.kind() == io::ErrorKind::InvalidData => WRONG_WORDS,
+        Err(_) => FAILED,
+    }
+}
