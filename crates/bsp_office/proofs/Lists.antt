@@ -1,9 +1,8 @@
 -- Bytes that are written in pieces.
-use Rattle.std.proofs.Common.{◌≡◌, ℕ, ◌+◌, ◌-◌, ◌≤◌, List, ◌++◌, length, take, drop, refl, sym, ap, append_assoc, IsErr, append-nil, [], None, Some, Result, Ok, Err, ◌∙◌, arith, subst, Option}
-use Rattle.std.proofs.Math.Seq.{take-append-add, take-add}
-use Rattle.std.proofs.lemmas.List.{take-append-le, length-take-le, take_all, length-drop, take-append-drop}
-use Rattle.bsp_office.specs.Streams.{Wrote}
-use Rattle.std.specs.Io.KnownBytes.{Appends, Consumes, Keeps}
+use Rattle.std.proofs.Common.{◌≡◌, ℕ, ◌+◌, ◌-◌, List, ◌++◌, length, take, drop, sym, append-nil, [], None, Some, ◌∙◌, arith, subst, Option}
+use Rattle.std.proofs.Math.Seq.{take-add}
+use Rattle.std.proofs.lemmas.List.{take_all, length-drop, take-append-drop}
+use Rattle.std.specs.Io.KnownBytes.{Appends, Keeps}
 use Rattle.std.proofs.KnownBytes.{Appends-trans, Appends-kept}
 
 pub appends_more : (a b c : Option (List ℕ)) (bytes : List ℕ) (k n : ℕ) → Appends a b (take k bytes) → Appends b c (take n (take (length bytes - k) (drop k bytes))) → Appends a c (take (k + n) bytes)
@@ -26,3 +25,9 @@ kept_from (Some x) (Some y) h = h ∙ append-nil x
 
 pub kept_from_take : (a b : Option (List ℕ)) (n : ℕ) (bytes : List ℕ) → n ≡ 0 → Appends a b (take n bytes) → Keeps a b
 kept_from_take a b n bytes e h = kept_from a b (subst (λ (k : ℕ). Appends a b (take k bytes)) e h)
+
+-- nothing was written
+pub appends_none : (a b : Option (List ℕ)) (bytes : List ℕ) → Keeps a b → Appends a b (take 0 bytes)
+appends_none None b bytes h = tt
+appends_none (Some x) None bytes h = absurd h
+appends_none (Some x) (Some y) bytes h = h ∙ sym (append-nil x)

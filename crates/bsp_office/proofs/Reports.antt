@@ -47,15 +47,15 @@ more_reported old text more groups index t below are has is =
     }
 
 -- a report that was sent
-pub sent_checked : (bytes text : List ℕ) (status : ℕ) (before after : Option (List ℕ)) (r : Result ℕ Fault) → IsReport bytes status text → IsSent status text before after r → Checked bytes before after r
-sent_checked bytes text status before after (Ok told) is sent =
+pub sent_checked : (limit : ℕ) (bytes text : List ℕ) (status : ℕ) (before after : Option (List ℕ)) (r : Result ℕ Fault) → IsReport bytes status text → IsSent status text before after r → Checked limit bytes before after r
+sent_checked limit bytes text status before after (Ok told) is sent =
     let Told : ℕ → Type 0 = λ s. IsReport bytes s text in (text, subst Told (sym sent.0) is, sent.1)
-sent_checked bytes text status before after (Err Write) is sent =
+sent_checked limit bytes text status before after (Err Write) is sent =
     let Text : List ℕ → Type 0 = λ t. IsReport bytes status t in
     (status, sent.0, sent.1, subst Text sent.2 is, sent.3)
-sent_checked bytes text status before after (Err Read) is sent = absurd sent
-sent_checked bytes text status before after (Err TooLong) is sent = absurd sent
-sent_checked bytes text status before after (Err Memory) is sent = absurd sent
+sent_checked limit bytes text status before after (Err Read) is sent = absurd sent
+sent_checked limit bytes text status before after (Err TooLong) is sent = absurd sent
+sent_checked limit bytes text status before after (Err Memory) is sent = absurd sent
 
 -- what holds anyway holds on success
 pub on_success : {A E : Type 0} (P : Type 0) (r : Result A E) → P → OnOk r P

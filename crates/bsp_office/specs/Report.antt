@@ -1,5 +1,5 @@
 -- The report of `check` on a RET file.
-use Rattle.std.specs.Prelude.{◌≡◌, ◌<◌, ℕ, suc, ℤ, pos, ◌+ℤ◌, List, [], ◌∷◌, ◌++◌, length, codes, Option, Some, None, Result, Ok, Err, ◌⊎◌}
+use Rattle.std.specs.Prelude.{◌≡◌, ◌+◌, ℕ, suc, ℤ, pos, ◌+ℤ◌, List, [], ◌∷◌, ◌++◌, length, codes, Option, Some, None, Result, Ok, Err, ◌⊎◌}
 use Rattle.std.specs.List.{concat}
 use Rattle.std.specs.Fmt.{decimal}
 use Rattle.std.specs.Io.KnownBytes.{Keeps, Appends}
@@ -14,7 +14,6 @@ use Rattle.bsp_ret.specs.Lines.{lines}
 use Rattle.bsp_ret.specs.Table.{total_paid, first_fault}
 use Rattle.bsp_ret.specs.Ret.{File, Ret, flatten}
 use Rattle.bsp_ret.specs.Writing.{HaveContents, file_lines}
-use Rattle.bsp_office.specs.Streams.{most}
 use Rattle.bsp_office.specs.declared.checking.Fault.{Fault}
 use Rattle.bsp_office.specs.declared.checking.Fault.TheVariants.{Read, TooLong, Write, Memory}
 
@@ -87,10 +86,11 @@ IsSent status text before after (Err Read) = ⊥
 IsSent status text before after (Err TooLong) = ⊥
 IsSent status text before after (Err Memory) = ⊥
 
--- the bytes were read, and their report was written, or a part of it where writing failed, or nothing
-abbrev pub Checked : List ℕ → Option (List ℕ) → Option (List ℕ) → Result ℕ Fault → Type 0
-Checked bytes before after (Ok status) = (text : List ℕ) × IsReport bytes status text × Appends before after text
-Checked bytes before after (Err Read) = Keeps before after
-Checked bytes before after (Err TooLong) = (most < length bytes) × Keeps before after
-Checked bytes before after (Err Write) = (status : ℕ) × (front : List ℕ) × (back : List ℕ) × IsReport bytes status (front ++ back) × Appends before after front
-Checked bytes before after (Err Memory) = Keeps before after
+-- the bytes were read, and their report was written, or a part of it where writing failed, or nothing; an input is too long
+-- only where one byte more than the limit was read
+abbrev pub Checked : ℕ → List ℕ → Option (List ℕ) → Option (List ℕ) → Result ℕ Fault → Type 0
+Checked limit bytes before after (Ok status) = (text : List ℕ) × IsReport bytes status text × Appends before after text
+Checked limit bytes before after (Err Read) = Keeps before after
+Checked limit bytes before after (Err TooLong) = (length bytes ≡ limit + 1) × Keeps before after
+Checked limit bytes before after (Err Write) = (status : ℕ) × (front : List ℕ) × (back : List ℕ) × IsReport bytes status (front ++ back) × Appends before after front
+Checked limit bytes before after (Err Memory) = Keeps before after

@@ -1,6 +1,6 @@
 //! The command `check`.
 
-ghost use Rattle.std.specs.Prelude.{◌≡◌, ◌≤◌, ◌+◌, ◌⊎◌, ℕ, List, length, OnOk, IfOk};
+ghost use Rattle.std.specs.Prelude.{◌≡◌, ◌≤◌, ◌<◌, ◌+◌, ◌⊎◌, ℕ, List, length, OnOk, IfOk};
 ghost use Rattle.std.specs.Io.KnownBytes.{Consumes, IsAtEnd, Appends};
 ghost use Rattle.bsp_office.specs.Streams.{most};
 ghost use Rattle.bsp_office.specs.Report.{Checked, IsReport, IsSent};
@@ -13,12 +13,15 @@ use bsp_ret::{FaultCode, read_ret};
 use std::alloc::Global;
 use std::io::{Read, Write};
 
+/// The most bytes that a RET file may have.
+const MOST: usize = 1_073_741_824;
+
 /// Why no whole report was written.
 #[derive(Clone, Copy, Debug, PartialEq, Eq, Drop)]
 pub enum Fault {
     /// A read failed.
     Read,
-    /// The input is longer than 1,073,741,824 bytes.
+    /// The input is longer than its limit.
     TooLong,
     /// A write failed.
     Write,
@@ -60,17 +63,20 @@ fn write_report<W: Write>(writer: &mut W, report: &Report) -> Result<u8, Fault>
     Ok(report.status)
 }
 
-/// Reads a RET file and writes the report on it: 0 for a file, 1 for a fault.
-pub(crate) fn check_into<R: Read, W: Write>(
+/// Reads a RET file of at most `limit` bytes and writes the report on it: 0 for a file, 1 for a
+/// fault.
+pub(crate) fn check_within<R: Read, W: Write>(
     alloc: Global,
     reader: &mut R,
     writer: &mut W,
+    limit: usize,
 ) -> Result<u8, Fault>
+    requires { limit < usize.MAX }
     ensures report { (bytes : List ℕ) × Consumes (R.remaining reader.old) (R.remaining reader.new) bytes
-        × (length bytes ≤ most + 1) × Checked bytes (W.contents writer.old) (W.contents writer.new) result }
+        × (length bytes ≤ limit + 1) × Checked limit bytes (W.contents writer.old) (W.contents writer.new) result }
     ensures end { OnOk result (IsAtEnd (R.remaining reader.new)) }
 {
-    let all = match read_whole(alloc, reader) {
+    let all = match read_whole(alloc, reader, limit) {
         Ok(all) => all,
         Err(ReadFault::Failed) => return Err(Fault::Read),
         Err(ReadFault::TooLong) => return Err(Fault::TooLong),
@@ -80,6 +86,16 @@ pub(crate) fn check_into<R: Read, W: Write>(
         return Err(Fault::Memory);
     };
     write_report(writer, &report)
+}
+
+/// Reads a RET file of at most 1,073,741,824 bytes and writes the report on it: 0 for a file, 1 for
+/// a fault.
+fn check_into<R: Read, W: Write>(alloc: Global, reader: &mut R, writer: &mut W) -> Result<u8, Fault>
+    ensures report { (bytes : List ℕ) × Consumes (R.remaining reader.old) (R.remaining reader.new) bytes
+        × (length bytes ≤ most + 1) × Checked most bytes (W.contents writer.old) (W.contents writer.new) result }
+    ensures end { OnOk result (IsAtEnd (R.remaining reader.new)) }
+{
+    check_within(alloc, reader, writer, MOST)
 }
 
 /// Reads a RET file of at most 1,073,741,824 bytes and writes the report on it. The answer is the

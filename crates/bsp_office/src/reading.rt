@@ -1,20 +1,18 @@
 //! Reading the whole of an input that has a limit.
 ghost use Rattle.std.specs.Prelude.{◌≡◌, ◌≤◌, ◌<◌, ◌+◌, ◌++◌, ◌⊎◌, ℕ, List, length, false, IfOk, OnErr, Ok, Err};
 ghost use Rattle.std.specs.Io.KnownBytes.{Consumes, IsAtEnd};
-ghost use Rattle.bsp_office.specs.Streams.{most};
 
 use std::alloc::{AllocError, Global};
 use std::io::{ErrorKind, Read};
 
-/// Why an input is not there as a whole.
+/// Why an input is not there as a whole: a read failed, the input is longer than its limit, or an
+/// allocation was refused.
 #[derive(Clone, Copy, Debug, PartialEq, Eq, Drop)]
 pub enum ReadFault {
     Failed,
     TooLong,
     Memory,
 }
-
-const MOST: usize = 1_073_741_824;
 
 const ROOM: usize = 65_536;
 
@@ -49,22 +47,27 @@ pub fn read_piece<R: Read>(
 }
 
 #[tactic(auto, using(crate::proofs::Pieces::taken_none, crate::proofs::Pieces::taken_more, crate::proofs::Pieces::piece_stops, crate::proofs::Pieces::stops_here, crate::proofs::Pieces::within_more))]
-/// Reads to the end of an input of at most 1,073,741,824 bytes.
-pub fn read_whole<R: Read>(alloc: Global, reader: &mut R) -> Result<Vec<u8>, ReadFault>
+/// Reads to the end of an input of at most `limit` bytes. Of a longer one it takes one byte more.
+pub fn read_whole<R: Read>(
+    alloc: Global,
+    reader: &mut R,
+    limit: usize,
+) -> Result<Vec<u8>, ReadFault>
+    requires { limit < usize.MAX }
     ensures whole { IfOk result (λ all. Consumes (R.remaining reader.old) (R.remaining reader.new) all.items × IsAtEnd (R.remaining reader.new)) }
-    ensures limit { IfOk result (λ all. length all.items ≤ most) }
-    ensures stopped { OnErr result ((got : List ℕ) × Consumes (R.remaining reader.old) (R.remaining reader.new) got × (length got ≤ most + 1)) }
-    ensures long { result ≡ Err ReadFault.TooLong → (got : List ℕ) × Consumes (R.remaining reader.old) (R.remaining reader.new) got × (length got ≡ most + 1) }
+    ensures limit { IfOk result (λ all. length all.items ≤ limit) }
+    ensures stopped { OnErr result ((got : List ℕ) × Consumes (R.remaining reader.old) (R.remaining reader.new) got × (length got ≤ limit + 1)) }
+    ensures long { result ≡ Err ReadFault.TooLong → (got : List ℕ) × Consumes (R.remaining reader.old) (R.remaining reader.new) got × (length got ≡ limit + 1) }
 {
     let mut all = Vec::new(alloc);
     let Ok(mut room) = new_room(alloc, ROOM) else {
         return Err(ReadFault::Memory);
     };
     for _ in 0..u64::MAX {
-        if all.len() > MOST {
+        if all.len() > limit {
             return Err(ReadFault::TooLong);
         }
-        let want = (MOST + 1 - all.len()).min(ROOM);
+        let want = (limit + 1 - all.len()).min(ROOM);
         match read_piece(reader, &mut room[..want], &mut all) {
             Ok(true) => {}
             Ok(false) => return Ok(all),

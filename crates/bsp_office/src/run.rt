@@ -3,6 +3,7 @@
 use crate::checking::check;
 use crate::words::{WordsFault, Work, words};
 use clap::error::ErrorKind;
+use std::convert::AsStr;
 use std::fs::File;
 use std::{env, io};
 
@@ -30,22 +31,28 @@ fn run_work(rt: &HostRuntime, work: &Work<'_>) -> u8 {
     }
 }
 
-/// Prints what `clap` says of the words: help on standard output, else on standard error.
+/// Prints what `clap` says of the words: help on standard output, else on standard error. Wrong
+/// words are so too where their text cannot be printed.
 fn refuse(rt: &HostRuntime, fault: &WordsFault) -> u8 {
     let error = match fault {
         WordsFault::Refused(error) => error,
         WordsFault::OutOfForm => return WRONG_WORDS,
     };
-    if error.kind() == ErrorKind::OutOfMemory || error.print(rt).is_err() {
-        FAILED
-    } else if error.use_stderr() {
+    if error.kind() == ErrorKind::OutOfMemory {
+        return FAILED;
+    }
+    let printed = error.print(rt);
+    if error.use_stderr() {
         WRONG_WORDS
-    } else {
+    } else if printed.is_ok() {
         DONE
+    } else {
+        FAILED
     }
 }
 
-fn run_line(rt: &HostRuntime, line: &[String]) -> u8 {
+/// Runs the work that these words ask for, the first being the program's name.
+pub(crate) fn run_line<S: AsStr>(rt: &HostRuntime, line: &[S]) -> u8 {
     match words(rt.alloc(), line) {
         Ok(work) => run_work(rt, &work),
         Err(fault) => refuse(rt, &fault),

@@ -1,16 +1,16 @@
-use Rattle.std.proofs.Common.{◌≡◌, ℕ, ◌≤◌, ◌+◌, length, arith}
+use Rattle.std.proofs.Common.{ℕ, arith}
 use Rattle.std.proofs.lemmas.List.{length-drop}
-use Rattle.bsp_office.proofs.Lists.{appends_more, wrote_kept, kept_from_take}
+use Rattle.bsp_office.proofs.Lists.{appends_more, wrote_kept, wrote_err}
 use Rattle.bsp_office.proofs.sending.send.Goals as goal
 
-pub loop-at-preserved : goal.loop-at-preserved
-loop-at-preserved g c = record {
-  within = omega (arith, c.in-Ok.ensures.bound, length-drop {A = ℕ}, c.loop-at.invariant.within);
-  written = appends_more _ _ _ c.args.bytes.now c.loop-at.at c.in-Ok.n c.loop-at.invariant.written c.in-Ok.ensures.bytes;
+pub loop-preserved : goal.loop-preserved
+loop-preserved g c = record {
+  within = omega (arith, c.in-Ok.ensures.bound, length-drop {A = ℕ}, c.loop.invariant.within);
+  written = appends_more _ _ _ c.args.bytes.now c.loop.at c.in-Ok.taken c.loop.invariant.written c.in-Ok.ensures.taken;
 }
 
-pub returns-in-Ok-eq0 : goal.returns-in-Ok-eq0
-returns-in-Ok-eq0 g c = wrote_kept _ _ _ c.args.bytes.now c.loop-at.at c.loop-at.invariant.written (kept_from_take _ _ _ _ c.in-Ok-eq0.field-0-test c.in-Ok-eq0.ensures.bytes)
-
 pub returns-in-Err : goal.returns-in-Err
-returns-in-Err g c = wrote_kept _ _ _ c.args.bytes.now c.loop-at.at c.loop-at.invariant.written c.in-Err.ensures.bytes
+returns-in-Err g c = wrote_kept _ _ _ c.args.bytes.now c.loop.at c.loop.invariant.written c.in-Err.ensures.kept
+
+pub returns : goal.returns
+returns g c = wrote_err _ _ c.args.bytes.now c.loop.at c.loop.invariant.written

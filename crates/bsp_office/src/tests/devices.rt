@@ -1,0 +1,204 @@
+//! Readers and writers that give or take little at a time, or fail.
+
+use super::files::{V1, front, text};
+use super::{Told, is_wanted};
+use crate::check;
+use crate::checking::{Fault, check_within};
+use bsp_fields::NoRoom;
+use std::io;
+use std::io::{ErrorKind, Read, Write};
+use std::test::Fail;
+
+const SALE: &[u8] = b"000001 TKTT 12345675 125-1300000001-6 2024-01-05 235.00\n\
+    records 5 transactions 1 sum 235.00\n";
+
+/// What a read or a write does.
+#[derive(Clone, Copy, Debug, PartialEq, Eq)]
+enum Step {
+    /// It gives or takes at most so many bytes.
+    Moves(usize),
+    Interrupted,
+    Fails,
+}
+
+/// What the next step does to a buffer of that length, and the steps behind it. Behind the last
+/// step all bytes are moved.
+fn next_step<'a>(steps: &'a [Step], length: usize) -> (io::Result<usize>, &'a [Step]) {
+    let Some((step, rest)) = steps.split_first() else {
+        return (Ok(length), steps);
+    };
+    let moved = match step {
+        Step::Moves(most) => Ok(length.min(*most)),
+        Step::Interrupted => Err(ErrorKind::Interrupted.into()),
+        Step::Fails => Err(ErrorKind::Other.into()),
+    };
+    (moved, rest)
+}
+
+/// Gives its bytes by its steps.
+#[derive(Drop)]
+struct Input<'a> {
+    bytes: &'a [u8],
+    steps: &'a [Step],
+}
+
+impl Read for Input<'_> {
+    fn read(&mut self, buf: &mut [u8]) -> io::Result<usize> {
+        let (moved, rest) = next_step(self.steps, self.bytes.len());
+        self.steps = rest;
+        let count = moved?.min(self.bytes.len()).min(buf.len());
+        buf[..count].copy_from_slice(&self.bytes[..count]);
+        self.bytes = &self.bytes[count..];
+        Ok(count)
+    }
+}
+
+/// Takes bytes by its steps.
+#[derive(Drop)]
+struct Output<'a> {
+    written: Vec<u8>,
+    steps: &'a [Step],
+    flush_fails: bool,
+}
+
+impl Write for Output<'_> {
+    fn write(&mut self, buf: &[u8]) -> io::Result<usize> {
+        let (moved, rest) = next_step(self.steps, buf.len());
+        self.steps = rest;
+        let count = moved?.min(buf.len());
+        self.written.extend_from_slice(&buf[..count])?;
+        Ok(count)
+    }
+
+    fn flush(&mut self) -> io::Result<()> {
+        if self.flush_fails {
+            return Err(ErrorKind::Other.into());
+        }
+        Ok(())
+    }
+}
+
+/// A reader that fails leaves nothing written, and is not read again.
+#[test]
+fn reads_are_followed(rt: HostRuntime) -> Result<(), Fail> {
+    let cases: [(&[Step], u8, &[u8], usize); 7] = [
+        (
+            &[Step::Moves(1), Step::Moves(200), Step::Moves(136)],
+            0,
+            SALE,
+            0,
+        ),
+        (&[Step::Moves(137), Step::Interrupted], 0, SALE, 0),
+        (&[Step::Interrupted, Step::Interrupted], 0, SALE, 0),
+        (&[Step::Fails], 3, b"", 685),
+        (&[Step::Moves(137), Step::Fails], 3, b"", 548),
+        (&[Step::Moves(685), Step::Fails], 3, b"", 0),
+        (
+            &[Step::Moves(137), Step::Moves(0)],
+            1,
+            b"F08 record 2\n",
+            548,
+        ),
+    ];
+    let v1 = text(&rt, &V1, b"\n")?;
+    for (steps, status, report, left) in cases {
+        let mut input = Input { bytes: &v1, steps };
+        let mut written = Vec::new(rt.alloc());
+        let status_told = check(rt.alloc(), &mut input, &mut written);
+        let told = Told {
+            status: status_told,
+            written: &written,
+            left: input.bytes.len(),
+        };
+        let wanted = Told {
+            status,
+            written: report,
+            left,
+        };
+        assert!(rt; is_wanted(told, wanted)?);
+    }
+    Ok(())
+}
+
+/// A writer that fails or takes no byte has the report's first bytes, and is not written again.
+#[test]
+fn writes_are_followed(rt: HostRuntime) -> Result<(), Fail> {
+    let cases: [(&[Step], bool, u8, usize); 7] = [
+        (
+            &[Step::Moves(1), Step::Moves(10), Step::Interrupted],
+            false,
+            0,
+            92,
+        ),
+        (&[Step::Fails], false, 3, 0),
+        (&[Step::Moves(0)], false, 3, 0),
+        (&[Step::Moves(10), Step::Fails], false, 3, 10),
+        (&[Step::Moves(10), Step::Moves(0)], false, 3, 10),
+        (&[Step::Moves(91), Step::Fails], false, 3, 91),
+        (&[], true, 3, 92),
+    ];
+    let v1 = text(&rt, &V1, b"\n")?;
+    for (steps, flush_fails, status, length) in cases {
+        let written = Vec::with_capacity(rt.alloc(), 128)?;
+        let mut input = v1.as_slice();
+        let mut output = Output {
+            written,
+            steps,
+            flush_fails,
+        };
+        let status_told = check(rt.alloc(), &mut input, &mut output);
+        let told = Told {
+            status: status_told,
+            written: &output.written,
+            left: input.len(),
+        };
+        let wanted = Told {
+            status,
+            written: front(SALE, length),
+            left: 0,
+        };
+        assert!(rt; is_wanted(told, wanted)?);
+    }
+    Ok(())
+}
+
+/// Whether the input is told to be longer than the limit, or is reported on with status 0; none for
+/// another answer.
+fn is_too_long(
+    rt: &HostRuntime,
+    input: &mut &[u8],
+    written: &mut Vec<u8>,
+    limit: u32,
+) -> Result<Option<bool>, NoRoom> {
+    match check_within(rt.alloc(), input, written, limit as usize) {
+        Ok(0) => Ok(Some(false)),
+        Err(Fault::TooLong) => Ok(Some(true)),
+        Err(Fault::Memory) => Err(NoRoom),
+        _ => Ok(None),
+    }
+}
+
+/// Of a file that is longer than the limit one byte more than the limit is read, and nothing is
+/// written.
+#[test]
+fn long_files_are_refused(rt: HostRuntime) -> Result<(), Fail> {
+    let cases: [(u32, bool, &[u8], usize); 5] = [
+        (1_073_741_824, false, SALE, 0),
+        (686, false, SALE, 0),
+        (685, false, SALE, 0),
+        (684, true, b"", 0),
+        (0, true, b"", 684),
+    ];
+    let v1 = text(&rt, &V1, b"\n")?;
+    for (limit, is_long, report, left) in cases {
+        let mut input = v1.as_slice();
+        let mut written = Vec::new(rt.alloc());
+        assert_eq!(rt;
+            is_too_long(&rt, &mut input, &mut written, limit)?,
+            Some(is_long)
+        );
+        assert_eq!(rt; written.as_slice(), report);
+        assert_eq!(rt; input.len(), left);
+    }
+    Ok(())
+}

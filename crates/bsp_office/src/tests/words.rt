@@ -1,0 +1,58 @@
+//! Words of a command line.
+
+use crate::{WordsFault, Work, words};
+use bsp_fields::NoRoom;
+use clap::error::ErrorKind;
+use std::test::Fail;
+
+/// What a command line asks for, or the kind of `clap`'s refusal of it.
+type Asked<'a> = Result<Work<'a>, Option<ErrorKind>>;
+
+/// What this command line asks for.
+fn asked<'a>(rt: &HostRuntime, line: &'a [&'a str]) -> Result<Asked<'a>, NoRoom> {
+    let kind = match words(rt.alloc(), line) {
+        Ok(work) => return Ok(Ok(work)),
+        Err(WordsFault::OutOfForm) => None,
+        Err(WordsFault::Refused(error)) => Some(error.kind()),
+    };
+    if kind == Some(ErrorKind::OutOfMemory) {
+        return Err(NoRoom);
+    }
+    Ok(Err(kind))
+}
+
+#[test]
+fn words_ask_for_work(rt: HostRuntime) -> Result<(), Fail> {
+    let work = |file| Ok(Work::Check { file });
+    let refused = |kind| Err(Some(kind));
+    let cases: [(&[&str], Asked<'_>); 9] = [
+        (&["bsp_office", "check", "v1.ret"], work("v1.ret")),
+        (&["bsp_office", "check", "-"], work("-")),
+        (&["bsp_office", "check", "--", "-x"], work("-x")),
+        (
+            &["bsp_office", "check", "-x"],
+            refused(ErrorKind::UnknownArgument),
+        ),
+        (
+            &["bsp_office", "check"],
+            refused(ErrorKind::MissingRequiredArgument),
+        ),
+        (
+            &["bsp_office", "check", "a", "b"],
+            refused(ErrorKind::UnknownArgument),
+        ),
+        (
+            &["bsp_office", "check", "--help"],
+            refused(ErrorKind::DisplayHelp),
+        ),
+        (
+            &["bsp_office", "report", "a"],
+            refused(ErrorKind::InvalidSubcommand),
+        ),
+        (&["bsp_office"], refused(ErrorKind::MissingSubcommand)),
+    ];
+    for (line, wanted) in cases {
+        assert_eq!(rt; asked(&rt, line)?, wanted);
+    }
+    Ok(())
+}
