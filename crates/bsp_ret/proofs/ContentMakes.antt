@@ -5,7 +5,6 @@ use Rattle.std.specs.List.{list_all}
 use Rattle.std.specs.Option.{IsSomeAnd}
 use Rattle.std.specs.Str.{all_ascii_digits}
 use Rattle.std.proofs.lemmas.Bool.{and_parts, or_left, or_right}
-use Rattle.bsp_fields.specs.Decimal.{number_of}
 use Rattle.bsp_ret.specs.declared.model.TransactionCode.{TransactionCode}
 use Rattle.bsp_ret.specs.declared.model.TransactionCode.TheVariants.{Tktt, Rfnd, Canx}
 use Rattle.bsp_ret.specs.declared.model.FormOfPayment.TheVariants.{Credit}
@@ -13,14 +12,15 @@ use Rattle.bsp_ret.specs.declared.transactions.ReportedDocument.{ReportedDocumen
 use Rattle.bsp_ret.specs.declared.transactions.Amounts.{Amounts}
 use Rattle.bsp_ret.specs.declared.transactions.CardPayment.{CardPayment}
 use Rattle.bsp_ret.specs.declared.transactions.Transaction.{Transaction}
-use Rattle.bsp_ret.specs.Records.{columns, is_amount, is_space, is_letter_or_digit, is_printable, spells_at_most, tax_places, taxes_fit, vendor_fits, form_of, form_fits, related_fits, amounts_fit}
+use Rattle.bsp_ret.specs.Records.{columns, is_amount, is_space, is_letter_or_digit, is_printable, tax_places, vendor_fits, form_of, form_fits, related_fits, amounts_fit}
 use Rattle.bsp_ret.specs.Ret.{Group, IsRecord, IsForm, IsPaid, HasRelated, HasBody}
 use Rattle.bsp_ret.specs.Content.{InBoth, IsDocument, HasRelatedValues, AreAmounts, IsPayment, IsCardPayment, IsContent, HasContent, none_or, is_document, are_related, are_amounts, is_card, has_parts, related_of, is_group_values, MakesGroup}
 use Rattle.bsp_ret.specs.Writing.{group_lines}
 use Rattle.bsp_ret.proofs.WrittenGroup.{written_group}
 use Rattle.bsp_ret.specs.Stored.{IsStored}
+use Rattle.bsp_ret.proofs.ValueLemmas.{amounts_fields}
 use Rattle.bsp_ret.proofs.BodyLemmas.{body_facts, no_forms}
-use Rattle.bsp_ret.proofs.ReadLemmas.{sale_digits, related_digits, digits_inside, printable_columns, document_fits, taxes_from}
+use Rattle.bsp_ret.proofs.ReadLemmas.{sale_fields, related_digits, digits_inside, printable_columns, document_fits, taxes_from}
 
 -- ---- what the records of a group say
 
@@ -30,18 +30,10 @@ related_values_fit line d fits is =
     document_fits 8 line d is (digits_inside line 7 14 3 10 (omega arith) digits) (digits_inside line 7 14 13 1 (omega arith) digits)
 
 amounts_values_fit : (line : List ℕ) (a : Amounts) → amounts_fit line ≡ true → AreAmounts line a → are_amounts a ≡ true
-unfolding amounts_fit are_amounts
+unfolding are_amounts
 amounts_values_fit line a fits are =
-    let fare = is_amount (columns 8 18 line) in
-    let taxes = taxes_fit 0 (tax_places line) in
-    let rate = spells_at_most 10000 (columns 97 101 line) in
-    let commission = is_amount (columns 102 112 line) in
-    let fourth = and_parts (fare && taxes && rate && commission) (list_all is_space (columns 113 136 line)) fits in
-    let third = and_parts (fare && taxes && rate) commission fourth.0 in
-    let second = and_parts (fare && taxes) rate third.0 in
-    let first = and_parts fare taxes second.0 in
-    let few = and_parts (all_ascii_digits (columns 97 101 line)) (nat_le (number_of (columns 97 101 line)) 10000) second.1 in
-    rw (taxes_from 0 (tax_places line) a.taxes are.taxes first.1) (ap (λ n. nat_le n 10000) (sym are.rate) ∙ few.1)
+    let fields = amounts_fields line fits in
+    rw (taxes_from 0 (tax_places line) a.taxes are.taxes fields.taxes) (ap (λ n. nat_le n 10000) (sym are.rate) ∙ fields.few)
 
 card_fits : (line : List ℕ) (p : CardPayment) → form_fits line ≡ true → form_of line ≡ Some Credit → IsCardPayment line p → is_card p ≡ true
 unfolding form_fits is_card
@@ -151,7 +143,7 @@ content_makes n lines t has =
     let Body : Option TransactionCode → Type 0 = λ o. HasBody n g o in
     let body : HasBody n g (Some t.code) = subst Body content.code has.is.body in
     let facts = body_facts n g t.code body in
-    let digits = sale_digits g.sale has.is.sale.fields in
+    let digits = (sale_fields g.sale has.is.sale.fields).digits in
     let agent : all_ascii_digits t.agent ≡ true = ap all_ascii_digits content.agent ∙ digits_inside g.sale 11 22 0 8 (omega arith) digits in
     let passenger : list_all is_printable t.passenger ≡ true = ap (list_all is_printable) content.passenger ∙ printable_columns g.sale 40 88 has.is.sale.wide in
     rw (

@@ -1,12 +1,11 @@
 -- What a reader of pieces knows of its bytes.
-use Rattle.std.proofs.Common.{◌≡◌, ℕ, ◌+◌, ◌-◌, ◌≤◌, true, false, List, [], ◌++◌, length, take, drop, sym, ap, subst, ◌∙◌, arith, append_assoc, length-append, length-drop}
+use Rattle.std.proofs.Common.{◌≡◌, ℕ, ◌-◌, ◌≤◌, true, false, List, [], ◌++◌, length, take, drop, sym, ap, subst, ◌∙◌, arith, append_assoc, length-append, length-drop}
 use Rattle.std.proofs.lemmas.List.{take-append-le, take-append-drop}
-use Rattle.bsp_ret.specs.declared.model.RetFault.{RetFault}
 use Rattle.bsp_ret.specs.declared.model.Standing.{Standing}
 use Rattle.bsp_ret.specs.Lines.{lines, has_end, IsRest, before_rest, IsWholeLines}
 use Rattle.bsp_ret.specs.Table.{standing, has_ended, first_fault}
 use Rattle.bsp_ret.specs.Standings.{fault_behind}
-use Rattle.bsp_ret.specs.Pieces.{IsFinal, IsClear, IsClearSoFar, Leaves, Fails, IsJudgedTo}
+use Rattle.bsp_ret.specs.Pieces.{IsClear, IsClearSoFar, Leaves, IsJudgedTo}
 use Rattle.bsp_ret.proofs.CutLemmas.{lines_nil, IsRest-drop}
 use Rattle.bsp_ret.proofs.BuildingLemmas.{rest_itself, before_itself, rest_of_rest, before_joined, whole_nothing, whole_joined}
 use Rattle.bsp_ret.proofs.LawLemmas.{is_first}
@@ -63,21 +62,6 @@ judged_more at then n old piece left within known leaves unended ended =
       nothing_behind = ended;
     }
 
--- a piece with a line at fault
-pub final_more : (at : Standing) (n : ℕ) (old piece : List ℕ) (fault : RetFault) → n ≤ length old → IsJudgedTo at old (drop n old) → Fails at (drop n (old ++ piece)) fault → IsFinal (old ++ piece) fault
-final_more at n old piece fault within known fails more =
-    let new = old ++ piece in
-    let rest = drop n new in
-    let same = before_piece old piece n within in
-    let rest_is : IsRest rest new = IsRest-drop new n (omega (arith, length-append old piece)) in
-    let whole : IsWholeLines (before_rest new rest) = subst IsWholeLines (sym same) known.whole in
-    let front = lines (before_rest new rest) in
-    let clear : IsClear front = subst (λ (xs : List ℕ). IsClear (lines xs)) (sym same) known.clear in
-    let stood : at ≡ standing front = known.stands ∙ ap (λ xs. standing (lines xs)) (sym same) in
-    let parts : new ≡ before_rest new rest ++ rest = sym (ap (λ xs. before_rest new rest ++ xs) rest_is.last ∙ take-append-drop (length new - length rest) new) in
-    ap (λ xs. first_fault (lines (xs ++ more))) parts ∙ ap (λ xs. first_fault (lines xs)) (append_assoc (before_rest new rest) rest more)
-    ∙ ap first_fault (whole (rest ++ more)) ∙ clear (lines (rest ++ more)) ∙ ap (λ (x : Standing). fault_behind x (lines (rest ++ more))) (sym stood) ∙ fails more
-
 -- what the reader answers of it
 pub clear_so_far : (at : Standing) (bytes rest : List ℕ) → IsJudgedTo at bytes rest → IsClearSoFar bytes
 clear_so_far at bytes rest known = record {
@@ -97,9 +81,3 @@ all_lines at bytes rest known =
 pub fault_of_all : (at : Standing) (bytes rest : List ℕ) → IsJudgedTo at bytes rest → first_fault (lines bytes) ≡ fault_behind at (lines rest)
 fault_of_all at bytes rest known =
     ap first_fault (all_lines at bytes rest known) ∙ known.clear (lines rest) ∙ ap (λ (x : Standing). fault_behind x (lines rest)) (sym known.stands)
-
-pub count_of_all : (at : Standing) (bytes rest : List ℕ) → IsJudgedTo at bytes rest → length (lines bytes) ≡ at.records + length (lines rest)
-count_of_all at bytes rest known =
-    let front = lines (before_rest bytes rest) in
-    let counted : at.records ≡ length front = ap (λ (x : Standing). x.records) known.stands in
-    ap length (all_lines at bytes rest known) ∙ length-append front (lines rest) ∙ ap (λ k. k + length (lines rest)) (sym counted)

@@ -1,7 +1,6 @@
 -- A text goes on, behind lines that stand so.
-use Rattle.std.proofs.Common.{◌≡◌, ℕ, ◌+◌, ◌-◌, true, false, List, [], ◌∷◌, ◌++◌, length, Some, None, Ok, Err, refl, sym, ap, subst, ◌∙◌, arith, append_assoc}
+use Rattle.std.proofs.Common.{◌≡◌, ℕ, ◌+◌, ◌-◌, true, false, List, [], ◌∷◌, ◌++◌, length, Some, None, Ok, Err, refl, sym, ap, subst, ◌∙◌, append_assoc}
 use Rattle.std.specs.Prelude.{◌==◌}
-use Rattle.std.proofs.lemmas.Bool.{eqb-true}
 use Rattle.std.proofs.lemmas.List.{append-nil, take-append-drop}
 use Rattle.bsp_ret.specs.declared.model.FaultCode.{FaultCode}
 use Rattle.bsp_ret.specs.declared.model.FaultCode.TheVariants.{F08, F09}
@@ -71,10 +70,6 @@ fails_behind at now bytes [] left ended some = absurd (cc some)
 fails_behind at now bytes (b ∷ rest) left ended some = λ more.
     let k = some_lines b (rest ++ more) in
     goes_on at now bytes (b ∷ rest) left more ∙ ap (fault_behind now) k.2 ∙ behind_cons now k.0 k.1 ∙ rw (ended_row now k.0 ended) refl
-
-pub nothing_left : (rest : List ℕ) → (length rest == 0) ≡ true → rest ≡ []
-nothing_left [] none = refl
-nothing_left (b ∷ rest) none = absurd (omega (arith, eqb-true (length (b ∷ rest)) 0 none))
 
 -- ---- no more comes
 

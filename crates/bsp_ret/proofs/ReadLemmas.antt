@@ -46,16 +46,22 @@ printable_columns line from to wide =
     let all = (and_parts (length line == 136) (list_all is_printable line) wide).1 in
     list_all-take is_printable (to - (from - 1)) (drop (from - 1) line) (list_all-drop is_printable (from - 1) line all)
 
--- the digits of a record 2 and of a record 3
-pub sale_digits : (line : List ℕ) → sale_fits line ≡ true → all_ascii_digits (columns 12 33 line) ≡ true
+-- the fields of a record 2, and the digits of a record 3
+pub record SaleFields (line : List ℕ) : Type 0 where
+  pub code : is_some (code_of line) ≡ true
+  pub digits : all_ascii_digits (columns 12 33 line) ≡ true
+  pub day : is_record_day (columns 34 39 line) ≡ true
+
+pub sale_fields : (line : List ℕ) → sale_fits line ≡ true → SaleFields line
 unfolding sale_fits
-sale_digits line fits =
+sale_fields line fits =
     let code = is_some (code_of line) in
     let digits = all_ascii_digits (columns 12 33 line) in
     let day = is_record_day (columns 34 39 line) in
     let third = and_parts (code && digits && day) (list_all is_space (columns 89 136 line)) fits in
     let second = and_parts (code && digits) day third.0 in
-    (and_parts code digits second.0).1
+    let first = and_parts code digits second.0 in
+    record { code = first.0; digits = first.1; day = second.1 }
 
 pub related_digits : (line : List ℕ) → related_fits line ≡ true → all_ascii_digits (columns 8 21 line) ≡ true
 unfolding related_fits

@@ -1,5 +1,5 @@
 -- What the values of a field are, where they are read from columns.
-use Rattle.std.proofs.Common.{◌≡◌, ℕ, zero, suc, ◌<◌, ◌≤◌, ◌&&◌, ◌||◌, Bool, true, List, [], ◌∷◌, length, get_or, refl, sym, ap, ◌∙◌, arith, is_some, inl, inr}
+use Rattle.std.proofs.Common.{◌≡◌, ℕ, zero, suc, ◌<◌, ◌≤◌, ◌&&◌, ◌||◌, Bool, true, List, [], ◌∷◌, length, get_or, refl, sym, ap, ◌∙◌, arith, inl, inr}
 use Rattle.std.specs.Prelude.{nat_lt, nat_le}
 use Rattle.std.specs.List.{list_all}
 use Rattle.std.specs.Str.{all_ascii_digits}
@@ -7,7 +7,7 @@ use Rattle.std.proofs.lemmas.Bool.{and_parts, cases_Bool, or_right, leb-true}
 use Rattle.bsp_fields.specs.Decimal.{number_of}
 use Rattle.bsp_fields.specs.Codes.{code_reading}
 use Rattle.bsp_ret.specs.declared.transactions.ReportedDocument.{ReportedDocument}
-use Rattle.bsp_ret.specs.Records.{columns, is_space, is_amount, is_record_day, spells_at_most, tax_places, tax_code, tax_fits, taxes_fit, vendor_fits, form_of, form_fits, code_of, sale_fits, amounts_fit}
+use Rattle.bsp_ret.specs.Records.{columns, is_space, is_amount, spells_at_most, tax_places, tax_code, tax_fits, taxes_fit, vendor_fits, form_of, form_fits, amounts_fit}
 use Rattle.bsp_ret.specs.Content.{IsDocument}
 use Rattle.bsp_ret.proofs.ReadLemmas.{inner_columns, blank_rest, used_rest}
 
@@ -20,22 +20,6 @@ document_in_sale line d is = record {
   number = is.number ∙ sym (inner_columns line 19 14 3 10 (omega arith));
   check_digit = ap number_of (inner_columns line 19 14 13 1 (omega arith)) ∙ is.check_digit;
 }
-
--- ---- record 2
-
-pub record SaleFields (line : List ℕ) : Type 0 where
-  pub code : is_some (code_of line) ≡ true
-  pub day : is_record_day (columns 34 39 line) ≡ true
-
-pub sale_fields : (line : List ℕ) → sale_fits line ≡ true → SaleFields line
-unfolding sale_fits
-sale_fields line fits =
-    let code = is_some (code_of line) in
-    let digits = all_ascii_digits (columns 12 33 line) in
-    let day = is_record_day (columns 34 39 line) in
-    let third = and_parts (code && digits && day) (list_all is_space (columns 89 136 line)) fits in
-    let second = and_parts (code && digits) day third.0 in
-    record { code = (and_parts code digits second.0).0; day = second.1 }
 
 -- ---- record 5
 
@@ -69,8 +53,10 @@ place_at (place ∷ places) (suc i) inside fit =
 
 pub record AmountsFields (line : List ℕ) : Type 0 where
   pub fare : is_amount (columns 8 18 line) ≡ true
+  pub taxes : taxes_fit 0 (tax_places line) ≡ true
   pub places : list_all place_fits (tax_places line) ≡ true
   pub digits : all_ascii_digits (columns 97 101 line) ≡ true
+  pub few : nat_le (number_of (columns 97 101 line)) 10000 ≡ true
   pub rate : number_of (columns 97 101 line) ≤ 10000
   pub commission : is_amount (columns 102 112 line) ≡ true
 
@@ -88,8 +74,10 @@ amounts_fields line fits =
     let few = and_parts (all_ascii_digits (columns 97 101 line)) (nat_le (number_of (columns 97 101 line)) 10000) second.1 in
     record {
       fare = first.0;
+      taxes = first.1;
       places = each_place 0 (tax_places line) first.1;
       digits = few.0;
+      few = few.1;
       rate = leb-true (number_of (columns 97 101 line)) 10000 few.1;
       commission = third.1;
     }

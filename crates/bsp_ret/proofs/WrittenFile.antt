@@ -73,9 +73,6 @@ pub written_again : (n : ℕ) (lines : List (List ℕ)) (t : Transaction) → Ha
 written_again n lines t has stored =
     written_group n t stored (content_makes n lines t has) (small_number n has.is.group.sale has.is.sale.number)
 
-pub nothing_written : (old : List ℕ) → AreWritten old [] old
-nothing_written old = record { transactions = []; contents = tt; same_contents = tt; text_is = sym (append-nil old) }
-
 pub more_written : (old text more : List ℕ) (groups : List (List (List ℕ))) (index : ℕ) (t : Transaction) → index < length groups → AreWritten old (take index groups) text → HasContent (index + 1) (get_or groups index []) t → IsStored t → more ≡ text ++ text_of (group_lines (index + 1) t) → AreWritten old (take (index + 1) groups) more
 more_written old text more groups index t below are has stored is =
     let ts = are.transactions in

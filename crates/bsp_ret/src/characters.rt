@@ -93,14 +93,14 @@ pub(crate) fn spells_at_most(most: u64, text: &[u8]) -> bool
     }
 }
 
-/// The number of seven digits.
-pub(crate) fn count_of(text: &[u8]) -> usize
-    requires wide { length text.now ≡ 7 }
+/// The number that at most 15 digits write.
+pub(crate) fn number_of(text: &[u8]) -> u64
+    requires few { length text.now ≤ 15 }
     requires digits { all_ascii_digits text.now ≡ true }
     ensures { result ≡ number_of text.now }
 {
     let Some(number) = read_number(text) else {
         unreachable!()
     };
-    number as usize
+    number
 }

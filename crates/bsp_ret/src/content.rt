@@ -1,12 +1,12 @@
 //! When values make a group.
 
 ghost use Rattle.std.specs.Prelude.{◌≡◌, ◌↔◌, IsTrue};
-ghost use Rattle.bsp_ret.specs.Stored.{InEach, IsStored, IsStoredAmounts, IsStoredDocument, IsStoredTax};
-ghost use Rattle.bsp_ret.specs.Content.{is_document, are_related, are_taxes, are_amounts, is_card, has_parts, is_group_values, MakesGroup};
+ghost use Rattle.bsp_ret.specs.Stored.{InEach, IsStored, IsStoredTax};
+ghost use Rattle.bsp_ret.specs.Content.{is_document, are_related, are_taxes, are_amounts, is_group_values, MakesGroup};
 
 use crate::characters::{all_digits, all_letters_or_digits, all_printable};
 use crate::model::TransactionCode;
-use crate::transactions::{Amounts, CardPayment, ReportedDocument, Tax, Transaction};
+use crate::transactions::{Amounts, ReportedDocument, Tax, Transaction};
 
 /// The digits of a document are digits, and its check digit is one.
 #[tactic(auto, using(crate::proofs::CharacterLemmas::digits_are), unfolding(crate::specs::Content::is_document))]
@@ -57,15 +57,8 @@ fn fits_amounts(amounts: &Amounts) -> bool
     fits_taxes(&amounts.taxes) && amounts.rate <= 10_000
 }
 
-#[tactic(auto, unfolding(crate::specs::Content::is_card))]
-fn fits_card(payment: &CardPayment) -> bool
-    ensures { result ≡ is_card payment.now }
-{
-    all_letters_or_digits(&payment.vendor)
-}
-
 /// The test of the values.
-#[tactic(auto, using(crate::proofs::CharacterLemmas::digits_are), unfolding(crate::specs::Content::is_group_values, crate::specs::Content::has_parts))]
+#[tactic(auto, using(crate::proofs::CharacterLemmas::digits_are), unfolding(crate::specs::Content::is_group_values, crate::specs::Content::is_card, crate::specs::Content::has_parts))]
 fn fits_group(transaction: &Transaction) -> bool
     ensures { result ≡ is_group_values transaction.now }
 {
@@ -74,7 +67,7 @@ fn fits_group(transaction: &Transaction) -> bool
         None => true,
     };
     let card_fits = match &transaction.credit {
-        Some(payment) => fits_card(payment),
+        Some(payment) => all_letters_or_digits(&payment.vendor),
         None => true,
     };
     let fields_fit = all_digits(&transaction.agent)
@@ -101,27 +94,13 @@ fn stored_taxes(taxes: [Option<Tax>; 6])
     let [_first, _second, _third, _fourth, _fifth, _sixth] = taxes;
 }
 
-/// What the types of a record 5's values say of them.
-fn stored_amounts(amounts: Amounts)
-    ensures { IsStoredAmounts amounts }
-{
-    stored_taxes(amounts.taxes);
-}
-
-/// What the types of two places say of each.
-fn stored_related(related: [Option<ReportedDocument>; 2])
-    ensures { InEach IsStoredDocument related }
-{
-    let [_first, _second] = related;
-}
-
 /// What the types of a transaction's values say of them.
 pub(crate) fn stored(transaction: Transaction)
     ensures { IsStored transaction }
 {
-    stored_related(transaction.related);
+    let [_first, _second] = transaction.related;
     if let Some(amounts) = transaction.amounts {
-        stored_amounts(amounts);
+        stored_taxes(amounts.taxes);
     }
 }
 

@@ -66,10 +66,9 @@ impl<'a> Group<'a> {
 
 impl<'a> RetFile<'a> {
     ghost use Rattle.bsp_ret.specs.Building.{file_of};
-    ghost use Rattle.bsp_ret.specs.Ret.{HasLines};
+    ghost use Rattle.bsp_ret.specs.Ret.{HasLines, flatten};
     ghost use Rattle.bsp_ret.specs.Fields.{IsHeaderOf, IsTrailerOf, HasFields};
     ghost use Rattle.bsp_ret.specs.Table.{total_paid};
-    ghost use Rattle.bsp_ret.specs.Ret.{flatten};
     ghost use Rattle.bsp_ret.specs.Writing.{file_lines};
 
     /// The file of what was read to the end.
@@ -141,6 +140,7 @@ impl<'a> RetFile<'a> {
     {
         self.groups.len()
     }
+
     /// The number of records, with header and trailer.
     pub fn record_count(&self) -> usize
         ensures { result ≡ length (file_lines self.now) }

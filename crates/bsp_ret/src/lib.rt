@@ -34,4 +34,4 @@ pub use record_fields::{
     AmountsFields, FormFields, GroupFields, HeaderFields, RelatedFields, SaleFields, TrailerFields,
 };
 pub use transactions::{Amounts, CardPayment, ReportedDocument, Tax, Transaction};
-pub use values::transaction;
+pub use values::{one_content, transaction};

@@ -8,15 +8,25 @@ use thiserror::Error;
 /// A row of the fault table of RET files.
 #[derive(Clone, Copy, Debug, PartialEq, Eq, Hash)]
 pub enum FaultCode {
+    /// Not 136 characters, or a character outside 0x20 to 0x7E.
     F01,
+    /// Record 1 is no header of profile 001.
     F02,
+    /// A record, its transaction number or its form is not allowed at its place.
     F03,
+    /// The header has no `PROD`.
     F04,
+    /// Another field, or a used column that should be a space.
     F05,
+    /// A count of the trailer differs.
     F06,
+    /// The sum of the trailer differs.
     F07,
+    /// The file ends without a trailer.
     F08,
+    /// A line stands behind the trailer.
     F09,
+    /// An allocation was refused.
     F10,
 }
 
@@ -25,7 +35,9 @@ pub enum FaultCode {
 #[derive(Clone, Copy, Debug, PartialEq, Eq, Hash, Error)]
 #[error("{code:?} record {at}")]
 pub struct RetFault {
+    /// The row that applies.
     pub code: FaultCode,
+    /// The number of the record.
     pub at: usize,
 }
 
@@ -54,33 +66,47 @@ pub enum FormOfPayment {
 /// The kind of the last record.
 #[derive(Clone, Copy, Debug, PartialEq, Eq)]
 pub enum LastRecord {
+    /// There is none.
     Start,
+    /// Record 1.
     Header,
+    /// Record 2.
     Sale,
+    /// Record 3.
     Related,
+    /// Record 5.
     Amounts,
+    /// Record 8.
     Form(FormOfPayment),
+    /// Record Z.
     Trailer,
 }
 
-/// How the records before a place stand: how many there are, how many transactions, the sum of
-/// their forms, the code of the last record 2, whether a record 3 stands behind it, and the last
-/// record.
+/// How the records before a place stand.
 #[derive(Clone, Copy, Debug, PartialEq, Eq)]
 pub struct Standing {
+    /// How many there are.
     pub records: usize,
+    /// How many transactions.
     pub transactions: usize,
+    /// The sum of all forms of payment, in minor units.
     pub sum: i128,
+    /// The code of the last record 2, TKTT where there is none.
     pub code: TransactionCode,
+    /// Whether a record 3 stands behind it.
     pub related: bool,
+    /// The kind of the last record.
     pub last: LastRecord,
 }
 
-/// How far a reader of pieces is: more may come, the file has ended, or a fault was answered.
+/// How far a reader of pieces is.
 #[derive(Clone, Copy, Debug, PartialEq, Eq)]
 pub enum Progress {
+    /// More may come.
     Reading,
+    /// The file has ended.
     Ended,
+    /// A fault was answered.
     Failed(RetFault),
 }
 

@@ -86,8 +86,11 @@ pub struct TrailerFields<'a> {
 /// The fields of a transaction's records.
 #[derive(Clone, Copy, Debug)]
 pub struct GroupFields<'a> {
+    /// Record 2.
     pub sale: SaleFields<'a>,
+    /// Record 3.
     pub related: Option<RelatedFields<'a>>,
+    /// Record 5.
     pub amounts: Option<AmountsFields<'a>>,
     /// The record 8 with CA.
     pub cash: Option<FormFields<'a>>,

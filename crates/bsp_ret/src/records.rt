@@ -1,12 +1,9 @@
 //! The records of a group.
 
-ghost use Rattle.std.specs.Prelude.{◌≡◌, ◌<◌, ◌∷◌, List, ℕ, true, length, IfSome};
-ghost use Rattle.std.specs.Option.{option_copied};
+ghost use Rattle.std.specs.Prelude.{◌≡◌, ◌<◌, ◌∷◌, List, ℕ, true, length};
 ghost use Rattle.std.specs.List.{list_all};
 ghost use Rattle.bsp_ret.specs.Lines.{lines};
 ghost use Rattle.bsp_ret.specs.Records.{is_wide};
-ghost use Rattle.bsp_ret.specs.Content.{InBoth};
-ghost use Rattle.bsp_ret.specs.Fields.{IsFormOf};
 
 use crate::fields::form_of;
 use crate::lines::first_line;
@@ -14,8 +11,8 @@ use crate::model::FormOfPayment;
 use crate::record_fields::{AmountsFields, FormFields, GroupFields, RelatedFields, SaleFields};
 
 /// The records of a transaction, as slices of the text, without their line ends.
-#[derive(Clone, Copy, Debug)]
-pub struct Records<'a> {
+#[derive(Clone, Copy)]
+pub(crate) struct Records<'a> {
     /// Record 2.
     pub sale: &'a [u8],
     /// Record 3.
@@ -28,17 +25,6 @@ pub struct Records<'a> {
     pub credit: Option<&'a [u8]>,
     /// Record 8 with EX.
     pub exchange: Option<&'a [u8]>,
-}
-
-/// The fields of a record 8, if it is there.
-fn form_fields(line: Option<&[u8]>) -> Option<FormFields<'_>>
-    requires { IfSome (option_copied line) (λ l. length l ≡ 136) }
-    ensures { InBoth IsFormOf (option_copied line.entry) result }
-{
-    match line {
-        Some(line) => Some(FormFields::of(line)),
-        None => None,
-    }
 }
 
 impl<'a> Records<'a> {
@@ -75,17 +61,11 @@ impl<'a> Records<'a> {
     {
         GroupFields {
             sale: SaleFields::of(self.sale),
-            related: match self.related {
-                Some(line) => Some(RelatedFields::of(line)),
-                None => None,
-            },
-            amounts: match self.amounts {
-                Some(line) => Some(AmountsFields::of(line)),
-                None => None,
-            },
-            cash: form_fields(self.cash),
-            credit: form_fields(self.credit),
-            exchange: form_fields(self.exchange),
+            related: self.related.map(RelatedFields::of),
+            amounts: self.amounts.map(AmountsFields::of),
+            cash: self.cash.map(FormFields::of),
+            credit: self.credit.map(FormFields::of),
+            exchange: self.exchange.map(FormFields::of),
         }
     }
 

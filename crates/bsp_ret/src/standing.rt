@@ -1,6 +1,6 @@
 //! What may stand behind a record of each kind.
 
-ghost use Rattle.std.specs.Prelude.{◌≡◌, ◌+◌, ◌<◌, ◌^◌, []};
+ghost use Rattle.std.specs.Prelude.{◌≡◌, ◌+◌, ◌<◌, []};
 ghost use Rattle.bsp_ret.specs.Table.{standing, has_ended, is_start, is_complete, takes_related, takes_amounts, has_form, is_later, takes_form};
 
 use crate::model::{FaultCode, FormOfPayment, LastRecord, RetFault, Standing, TransactionCode};

@@ -1,5 +1,5 @@
 use crate::*;
-use bsp_fields::Amount;
+use bsp_fields::{AirlineCode, Amount, Day};
 use std::test::Fail;
 
 const HEADER: &[u8] = b"1TSTA2401050930DE000001PROD001";
@@ -101,9 +101,7 @@ fn text(rt: &HostRuntime, lines: &[&[u8]], end: &[u8]) -> Result<Vec<u8>, Fail> 
     let mut bytes = Vec::with_capacity(rt.alloc(), 2048)?;
     for line in lines {
         bytes.extend_from_slice(line)?;
-        for _ in 0..136usize.saturating_sub(line.len()) {
-            bytes.push(b' ')?;
-        }
+        bytes.extend_from_slice(&[b' '; 136][line.len().min(136)..])?;
         bytes.extend_from_slice(end)?;
     }
     Ok(bytes)
@@ -144,6 +142,82 @@ fn finish(reader: &mut RetReader) -> Option<RetFault> {
     reader.finish().err()
 }
 
+/// Feeds a piece and ends the text.
+fn feed_last(reader: &mut RetReader, piece: &[u8]) -> Option<RetFault> {
+    let first = feed(reader, piece);
+    if first.is_some() {
+        return first;
+    }
+    finish(reader)
+}
+
+/// The text of a file, where memory was refused written once more.
+fn written(rt: &HostRuntime, file: &RetFile) -> Result<Vec<u8>, RetFault> {
+    let first = write_ret(rt.alloc(), file);
+    if first.is_ok() {
+        return first;
+    }
+    write_ret(rt.alloc(), file)
+}
+
+/// What is written of a text in two pieces, or its fault.
+fn written_in_pieces(rt: &HostRuntime, front: &[u8], back: &[u8]) -> Result<Vec<u8>, RetFault> {
+    let mut reader = RetReader::new(rt.alloc());
+    if let Some(fault) = feed(&mut reader, front) {
+        return Err(fault);
+    }
+    if let Some(fault) = feed_last(&mut reader, back) {
+        return Err(fault);
+    }
+    let file = reader.finish()?;
+    written(rt, &file)
+}
+
+/// The values of the first transaction of REFUND.
+fn refund() -> Result<Transaction, Fail> {
+    let mut passenger = [b' '; 49];
+    passenger[..8].copy_from_slice(b"DOE/JANE");
+    let airline = AirlineCode::read(b"125")?;
+    Ok(Transaction {
+        code: TransactionCode::Rfnd,
+        agent: *b"12345675",
+        document: ReportedDocument {
+            airline,
+            number: *b"1300000002",
+            check_digit: 0,
+        },
+        issued: Day::read_text(b"2024-01-05")?,
+        passenger,
+        related: [
+            Some(ReportedDocument {
+                airline,
+                number: *b"1300000001",
+                check_digit: 6,
+            }),
+            None,
+        ],
+        amounts: Some(Amounts {
+            fare: Amount::new(-20_000)?,
+            taxes: [
+                Some(Tax {
+                    code: *b"RA",
+                    amount: Amount::new(-3500)?,
+                }),
+                None,
+                None,
+                None,
+                None,
+                None,
+            ],
+            rate: 500,
+            commission: Amount::new(-1000)?,
+        }),
+        cash: Some(Amount::new(-23_500)?),
+        credit: None,
+        exchange: None,
+    })
+}
+
 #[test]
 fn first_faults_are_told(rt: HostRuntime) -> Result<(), Fail> {
     let cases: [(&[&[u8]], Option<RetFault>); 13] = [
@@ -167,6 +241,11 @@ fn first_faults_are_told(rt: HostRuntime) -> Result<(), Fail> {
             assert_eq!(rt; told(&rt, &bytes), expected);
         }
     }
+    Ok(())
+}
+
+#[test]
+fn a_file_without_sales_cut_short_is_told(rt: HostRuntime) -> Result<(), Fail> {
     let v0 = text(&rt, &[HEADER, NO_SALES], b"\n")?;
     let cuts = [
         (137, fault(FaultCode::F08, 2)),
@@ -194,9 +273,7 @@ fn a_file_cut_short_is_told(rt: HostRuntime) -> Result<(), Fail> {
         };
         let cut = front(&v1, length);
         assert_eq!(rt; told(&rt, cut), expected);
-        let mut reader = RetReader::new(rt.alloc());
-        assert_eq!(rt; feed(&mut reader, cut), None);
-        assert_eq!(rt; finish(&mut reader), expected);
+        assert_eq!(rt; written_in_pieces(&rt, cut, b"").err(), expected);
     }
     Ok(())
 }
@@ -206,25 +283,27 @@ fn pieces_are_read_as_one_text(rt: HostRuntime) -> Result<(), Fail> {
     let v1 = text(&rt, &V1, b"\n")?;
     for cut in 0..=v1.len() {
         let (front, back) = v1.split_at(cut);
-        let mut reader = RetReader::new(rt.alloc());
-        assert_eq!(rt; feed(&mut reader, front), None);
-        assert_eq!(rt; feed(&mut reader, back), None);
-        assert_eq!(rt; finish(&mut reader), None);
-        let file = reader.finish()?;
-        let written = write_ret(rt.alloc(), &file)?;
-        assert_eq!(rt; written, v1);
+        assert_eq!(rt; written_in_pieces(&rt, front, back)?, v1);
     }
     let mut reader = RetReader::new(rt.alloc());
     for byte in &v1 {
         assert_eq!(rt; feed(&mut reader, &[*byte]), None);
     }
-    assert_eq!(rt; finish(&mut reader), None);
-    assert_eq!(rt; feed(&mut reader, b""), None);
-    assert_eq!(rt; finish(&mut reader), None);
-    for _ in 0..2 {
-        assert_eq!(rt; feed(&mut reader, b" "), fault(FaultCode::F09, 6));
-        assert_eq!(rt; finish(&mut reader), fault(FaultCode::F09, 6));
-    }
+    let file = reader.finish()?;
+    assert_eq!(rt; written(&rt, &file)?, v1);
+    Ok(())
+}
+
+#[test]
+fn a_byte_behind_a_file_is_told(rt: HostRuntime) -> Result<(), Fail> {
+    let v1 = text(&rt, &V1, b"\n")?;
+    let mut reader = RetReader::new(rt.alloc());
+    let behind = fault(FaultCode::F09, 6);
+    assert_eq!(rt; feed_last(&mut reader, &v1), None);
+    assert_eq!(rt; feed_last(&mut reader, b""), None);
+    assert_eq!(rt; feed_last(&mut reader, b" "), behind);
+    assert_eq!(rt; feed_last(&mut reader, b""), behind);
+    assert_eq!(rt; finish(&mut reader), behind);
     Ok(())
 }
 
@@ -233,21 +312,10 @@ fn pieces_are_read_as_one_text(rt: HostRuntime) -> Result<(), Fail> {
 fn want_of_memory_changes_nothing(rt: HostRuntime) -> Result<(), Fail> {
     let v1 = text(&rt, &V1, b"\n")?;
     let (front, back) = v1.split_at(v1.len() / 2);
-    let mut reader = RetReader::new(rt.alloc());
-    assert_eq!(rt; feed(&mut reader, front), None);
-    assert_eq!(rt; feed(&mut reader, back), None);
-    assert_eq!(rt; finish(&mut reader), None);
+    assert_eq!(rt; written_in_pieces(&rt, front, back)?, v1);
     assert_eq!(rt; told(&rt, &v1), None);
-    let file = reader.finish()?;
-    let first = write_ret(rt.alloc(), &file);
-    let written = match first {
-        Err(refused) => {
-            assert_eq!(rt; Some(refused), fault(FaultCode::F10, 0));
-            write_ret(rt.alloc(), &file)?
-        }
-        Ok(written) => written,
-    };
-    assert_eq!(rt; written, v1);
+    let file = read_ret(rt.alloc(), &v1)?;
+    assert_eq!(rt; written(&rt, &file)?, v1);
     Ok(())
 }
 
@@ -274,27 +342,13 @@ fn a_file_is_written_in_one_spelling(rt: HostRuntime) -> Result<(), Fail> {
 fn values_of_a_refund_are_told(rt: HostRuntime) -> Result<(), Fail> {
     let bytes = text(&rt, &REFUND, b"\n")?;
     let file = read_ret(rt.alloc(), &bytes)?;
-    assert_eq!(rt; file.transactions(), 2);
+    let expected = refund()?;
+    assert_eq!(rt; transaction(&file, 0), Some(expected));
     assert!(rt; transaction(&file, 2).is_none());
-    let refund = transaction(&file, 0).ok_or("a refund")?;
-    assert_eq!(rt; refund.code, TransactionCode::Rfnd);
-    assert_eq!(rt; refund.agent, *b"12345675");
-    assert_eq!(rt; refund.document.number, *b"1300000002");
-    assert_eq!(rt; refund.document.check_digit, 0);
-    let related = refund.related[0].ok_or("a related document")?;
-    assert_eq!(rt; related.number, *b"1300000001");
-    assert!(rt; refund.related[1].is_none());
-    let amounts = refund.amounts.ok_or("amounts")?;
-    assert_eq!(rt; amounts.fare.get(), -20_000);
-    assert_eq!(rt; amounts.commission.get(), -1000);
-    assert_eq!(rt; amounts.rate, 500);
-    let tax = amounts.taxes[0].ok_or("a tax")?;
-    assert_eq!(rt; (tax.code, tax.amount.get()), (*b"RA", -3500));
-    assert_eq!(rt; refund.cash, Some(Amount::new(-23_500)?));
-    assert!(rt; is_group(&refund));
+    assert!(rt; is_group(&expected));
     let exchanged = Transaction {
-        exchange: refund.cash,
-        ..refund
+        exchange: expected.cash,
+        ..expected
     };
     assert!(rt; !is_group(&exchanged));
     Ok(())

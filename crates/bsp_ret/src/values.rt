@@ -1,17 +1,17 @@
 //! The values of records whose fields fit.
 
-ghost use Rattle.std.specs.Prelude.{◌≡◌, ◌≤◌, ◌+◌, ◌||◌, ℕ, [], true, length, is_some, Some, Ok, IfSome, MatchOption, slice_index_or};
-ghost use Rattle.std.specs.Option.{option_copied};
+ghost use Rattle.std.specs.Prelude.{◌≡◌, ◌≤◌, ◌+◌, ◌||◌, ℕ, List, [], true, length, is_some, Some, Ok, MatchOption, slice_index_or};
 ghost use Rattle.std.specs.List.{list_all};
 ghost use Rattle.std.specs.Str.{all_ascii_digits};
 ghost use Rattle.bsp_fields.specs.Decimal.{number_of};
 ghost use Rattle.bsp_fields.specs.Zoned.{zoned_reading};
 ghost use Rattle.bsp_fields.specs.Days.{record_reading};
-ghost use Rattle.bsp_ret.specs.Records.{columns, is_space, is_amount, is_total, is_record_day, tax_fits, code_of, sale_fits, related_fits, amounts_fit, form_fits, trailer_fits};
-ghost use Rattle.bsp_ret.specs.Content.{InBoth, IsDocument, IsTax, AreAmounts, IsPayment, IsCardPayment, IsContent, HasContent};
+ghost use Rattle.bsp_ret.specs.Records.{columns, is_space, is_amount, is_total, is_record_day, tax_fits, code_of, related_fits, amounts_fit, form_fits, trailer_fits};
+ghost use Rattle.bsp_ret.specs.Content.{IsDocument, IsTax, AreAmounts, IsPayment, IsCardPayment, IsContent, HasContent};
 ghost use Rattle.bsp_ret.specs.Groups.{records_of, IsFit, AreFit};
+ghost use Rattle.bsp_ret.specs.Law.{HasOneContent};
 
-use crate::characters::count_of;
+use crate::characters::number_of;
 use crate::fields::code_of;
 use crate::file::RetFile;
 use crate::model::TransactionCode;
@@ -41,17 +41,6 @@ fn amount_of(text: &[u8]) -> Amount
     amount
 }
 
-/// The total of a field that is one.
-fn total_of(text: &[u8]) -> Total
-    requires { is_total text.now ≡ true }
-    ensures { zoned_reading 15 text.now ≡ Ok result }
-{
-    let Ok(total) = read_total(text) else {
-        unreachable!()
-    };
-    total
-}
-
 /// The day of a field that is one.
 fn day_of(text: &[u8]) -> Day
     requires { is_record_day text.now ≡ true }
@@ -79,19 +68,6 @@ fn document_of(text: &[u8]) -> ReportedDocument
     }
 }
 
-/// The number of at most five digits.
-fn number_of_digits(digits: &[u8]) -> u32
-    requires few { length digits.now ≤ 5 }
-    requires digits { all_ascii_digits digits.now ≡ true }
-    ensures { result ≡ number_of digits.now }
-{
-    let mut number = 0;
-    for digit in digits {
-        number = number * 10 + (*digit - b'0') as u32;
-    }
-    number
-}
-
 /// The tax of a place that is unused or fits.
 fn tax_of(place: &[u8]) -> Option<Tax>
     requires wide { length place.now ≡ 13 }
@@ -107,54 +83,13 @@ fn tax_of(place: &[u8]) -> Option<Tax>
     })
 }
 
-/// The values of a record 2 but for its number.
-#[derive(Clone, Copy, Debug, PartialEq, Eq)]
-pub(crate) struct SaleValues {
-    pub code: TransactionCode,
-    pub agent: [u8; 8],
-    pub document: ReportedDocument,
-    pub issued: Day,
-    pub passenger: [u8; 49],
-}
-
-/// The code of a record 2.
-fn known_code(line: &[u8]) -> TransactionCode
-    requires wide { length line.now ≡ 136 }
-    requires known { is_some (code_of line.now) ≡ true }
-    ensures { code_of line.now ≡ Some result }
-{
-    let Some(code) = code_of(line) else {
-        unreachable!()
-    };
-    code
-}
-
-/// The values of a record 2.
-pub(crate) fn sale_values(line: &[u8]) -> SaleValues
-    requires wide { length line.now ≡ 136 }
-    requires fits { sale_fits line.now ≡ true }
-    ensures code { code_of line.now ≡ Some result.code }
-    ensures agent { result.agent ≡ columns 12 19 line.now }
-    ensures document { IsDocument 20 line.now result.document }
-    ensures issued { record_reading (columns 34 39 line.now) ≡ Ok result.issued }
-    ensures passenger { result.passenger ≡ columns 40 88 line.now }
-{
-    SaleValues {
-        code: known_code(line),
-        agent: array_of::<8>(&line[11..19]),
-        document: document_of(&line[19..33]),
-        issued: day_of(&line[33..39]),
-        passenger: array_of::<49>(&line[39..88]),
-    }
-}
-
 /// The number of records that a record Z tells.
 #[tactic(auto, using(crate::proofs::WrittenFile::trailer_digits, crate::proofs::ReadLemmas::digits_inside))]
 pub(crate) fn trailer_records(line: &[u8]) -> usize
     requires { IsFit trailer_fits line.now }
     ensures { result ≡ number_of (columns 2 8 line.now) }
 {
-    count_of(&line[1..8])
+    number_of(&line[1..8]) as usize
 }
 
 /// The sum that a record Z tells.
@@ -163,11 +98,14 @@ pub(crate) fn trailer_sum(line: &[u8]) -> Total
     requires { IsFit trailer_fits line.now }
     ensures { zoned_reading 15 (columns 16 30 line.now) ≡ Ok result }
 {
-    total_of(&line[15..30])
+    let Ok(total) = read_total(&line[15..30]) else {
+        unreachable!()
+    };
+    total
 }
 
 /// The document of a record 3.
-pub(crate) fn related_values(line: &[u8]) -> ReportedDocument
+fn related_values(line: &[u8]) -> ReportedDocument
     requires wide { length line.now ≡ 136 }
     requires fits { related_fits line.now ≡ true }
     ensures { IsDocument 8 line.now result }
@@ -176,7 +114,7 @@ pub(crate) fn related_values(line: &[u8]) -> ReportedDocument
 }
 
 /// The values of a record 5.
-pub(crate) fn amounts_values(line: &[u8]) -> Amounts
+fn amounts_values(line: &[u8]) -> Amounts
     requires wide { length line.now ≡ 136 }
     requires fits { amounts_fit line.now ≡ true }
     ensures { AreAmounts line.now result }
@@ -191,13 +129,13 @@ pub(crate) fn amounts_values(line: &[u8]) -> Amounts
             tax_of(&line[70..83]),
             tax_of(&line[83..96]),
         ],
-        rate: number_of_digits(&line[96..101]) as u16,
+        rate: number_of(&line[96..101]) as u16,
         commission: amount_of(&line[101..112]),
     }
 }
 
 /// The amount of a record 8.
-pub(crate) fn payment_value(line: &[u8]) -> Amount
+fn payment_value(line: &[u8]) -> Amount
     requires wide { length line.now ≡ 136 }
     requires fits { form_fits line.now ≡ true }
     ensures { IsPayment line.now result }
@@ -206,7 +144,7 @@ pub(crate) fn payment_value(line: &[u8]) -> Amount
 }
 
 /// The amount and the vendor of a record 8 with CC.
-pub(crate) fn card_values(line: &[u8]) -> CardPayment
+fn card_values(line: &[u8]) -> CardPayment
     requires wide { length line.now ≡ 136 }
     requires fits { form_fits line.now ≡ true }
     ensures { IsCardPayment line.now result }
@@ -217,44 +155,26 @@ pub(crate) fn card_values(line: &[u8]) -> CardPayment
     }
 }
 
-/// The amount of a record 8, if it is there.
-fn some_payment(line: Option<&[u8]>) -> Option<Amount>
-    requires { IfSome (option_copied line) (IsFit form_fits) }
-    ensures { InBoth IsPayment (option_copied line.entry) result }
-{
-    match line {
-        Some(line) => Some(payment_value(line)),
-        None => None,
-    }
-}
-
 /// The values of a group's records.
 fn values_of(records: Records<'_>) -> Transaction
     requires { AreFit (records_of records) }
     ensures { IsContent (records_of records.entry) result }
 {
-    let sale = sale_values(records.sale);
-    let related = match records.related {
-        Some(line) => Some(related_values(line)),
-        None => None,
+    let sale = records.sale;
+    let Some(code) = code_of(sale) else {
+        unreachable!()
     };
     Transaction {
-        code: sale.code,
-        agent: sale.agent,
-        document: sale.document,
-        issued: sale.issued,
-        passenger: sale.passenger,
-        related: [related, None],
-        amounts: match records.amounts {
-            Some(line) => Some(amounts_values(line)),
-            None => None,
-        },
-        cash: some_payment(records.cash),
-        credit: match records.credit {
-            Some(line) => Some(card_values(line)),
-            None => None,
-        },
-        exchange: some_payment(records.exchange),
+        code,
+        agent: array_of::<8>(&sale[11..19]),
+        document: document_of(&sale[19..33]),
+        issued: day_of(&sale[33..39]),
+        passenger: array_of::<49>(&sale[39..88]),
+        related: [records.related.map(related_values), None],
+        amounts: records.amounts.map(amounts_values),
+        cash: records.cash.map(payment_value),
+        credit: records.credit.map(card_values),
+        exchange: records.exchange.map(payment_value),
     }
 }
 
@@ -268,3 +188,8 @@ pub fn transaction(file: &RetFile, index: usize) -> Option<Transaction>
         None => None,
     }
 }
+
+/// A group has the values of one transaction only.
+pub fn one_content()
+    ensures { (n : ℕ) → (lines : List (List ℕ)) → HasOneContent n lines }
+{}

@@ -1,9 +1,9 @@
 //! Writes the records of a transaction, each as its line and LF.
 
-ghost use Rattle.std.specs.Prelude.{◌≡◌, ℕ, List, [], ◌∷◌, ◌++◌, map, codes, OnOk};
+ghost use Rattle.std.specs.Prelude.{◌≡◌, [], ◌∷◌, ◌++◌, map, OnOk};
 ghost use Rattle.std.specs.List.{concat};
 ghost use Rattle.std.specs.Option.{option_map, option_to_list};
-ghost use Rattle.bsp_ret.specs.Writing.{tax_text, sale_line, related_line, amounts_line, form_line, cash_line, credit_line, exchange_line, group_lines, text_of};
+ghost use Rattle.bsp_ret.specs.Writing.{spaces, tax_text, sale_line, related_line, amounts_line, form_line, credit_line, group_lines, text_of};
 
 use crate::transactions::{Amounts, CardPayment, ReportedDocument, Tax, Transaction};
 use bsp_fields::{Amount, write_amount, write_digits};
@@ -167,16 +167,6 @@ fn push_some_amounts(
     }
 }
 
-/// Appends a record 8 with form CA, if there is one.
-fn push_some_cash(out: &mut Vec<u8>, number: u64, cash: Option<Amount>) -> Result<(), AllocError>
-    ensures { OnOk result (out.new.items ≡ out.old.items ++ text_of (option_to_list (option_map (cash_line number) cash))) }
-{
-    match cash {
-        Some(amount) => push_form(out, number, b"CA", amount, b"  "),
-        None => Ok(()),
-    }
-}
-
 /// Appends a record 8 with form CC, if there is one.
 fn push_some_credit(
     out: &mut Vec<u8>,
@@ -191,16 +181,17 @@ fn push_some_credit(
     }
 }
 
-/// Appends a record 8 with form EX, if there is one.
-fn push_some_exchange(
+/// Appends a record 8 with form CA or EX, if there is one.
+fn push_some_form(
     out: &mut Vec<u8>,
     number: u64,
-    exchange: Option<Amount>,
+    form: &[u8; 2],
+    amount: Option<Amount>,
 ) -> Result<(), AllocError>
-    ensures { OnOk result (out.new.items ≡ out.old.items ++ text_of (option_to_list (option_map (exchange_line number) exchange))) }
+    ensures { OnOk result (out.new.items ≡ out.old.items ++ text_of (option_to_list (option_map (λ paid. form_line number form.now paid (spaces 2)) amount))) }
 {
-    match exchange {
-        Some(amount) => push_form(out, number, b"EX", amount, b"  "),
+    match amount {
+        Some(amount) => push_form(out, number, form, amount, b"  "),
         None => Ok(()),
     }
 }
@@ -216,7 +207,7 @@ pub(crate) fn push_group(
     push_sale(out, number, transaction)?;
     push_some_related(out, number, &transaction.related[0])?;
     push_some_amounts(out, number, &transaction.amounts)?;
-    push_some_cash(out, number, transaction.cash)?;
+    push_some_form(out, number, b"CA", transaction.cash)?;
     push_some_credit(out, number, &transaction.credit)?;
-    push_some_exchange(out, number, transaction.exchange)
+    push_some_form(out, number, b"EX", transaction.exchange)
 }

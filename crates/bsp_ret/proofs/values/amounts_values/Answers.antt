@@ -30,12 +30,12 @@ pub tax_of-requires-6-clause-fits : goal.tax_of-requires-6-clause-fits
 tax_of-requires-6-clause-fits c =
     place_at (tax_places c.args.line.now) 5 (omega arith) ((amounts_fields c.args.line.now c.requires.fits).places)
 
-pub number_of_digits-requires-clause-digits : goal.number_of_digits-requires-clause-digits
-number_of_digits-requires-clause-digits c = (amounts_fields c.args.line.now c.requires.fits).digits
+pub number_of-requires-clause-digits : goal.number_of-requires-clause-digits
+number_of-requires-clause-digits c = (amounts_fields c.args.line.now c.requires.fits).digits
 
 pub overflow_cast-result : goal.overflow_cast-result
 overflow_cast-result c =
-    omega (arith, (amounts_fields c.args.line.now c.requires.fits).rate, c.number_of_digits.ensures)
+    omega (arith, (amounts_fields c.args.line.now c.requires.fits).rate, c.number_of.ensures)
 
 pub amount_of-requires-2 : goal.amount_of-requires-2
 amount_of-requires-2 c = (amounts_fields c.args.line.now c.requires.fits).commission

@@ -18,7 +18,7 @@ returns c =
     let exchange = option_to_list (option_map (exchange_line n) t.exchange) in
     let first = get_or_default t.related 0 c.index-transaction-0.result None (omega arith) in
     let all : c.push_some_credit.new.out.items ++ text_of exchange ≡ old ++ text_of (group_lines n t) =
-    rw (c.in_ok-push_some_credit.ensures, c.in_ok-push_some_cash.ensures, c.in_ok-push_some_amounts.ensures, c.in_ok-push_some_related.ensures, c.in_ok-push_sale.ensures)
+    rw (c.in_ok-push_some_credit.ensures, c.in_ok-push_some_form.ensures, c.in_ok-push_some_amounts.ensures, c.in_ok-push_some_related.ensures, c.in_ok-push_sale.ensures)
     (text_of-parts old (sale_line n t) related amounts cash credit exchange ∙ rw first refl) in
-    let P : List ℕ → Type 0 = λ text. OnOk c.push_some_exchange.result (c.push_some_exchange.new.out.items ≡ text) in
-    subst P all c.push_some_exchange.ensures
+    let P : List ℕ → Type 0 = λ text. OnOk c.push_some_form-2.result (c.push_some_form-2.new.out.items ≡ text) in
+    subst P all c.push_some_form-2.ensures
