@@ -43,14 +43,14 @@ day_facts d h =
       day_to = leb-true d.day (days_in_month (pos d.year) d.month) e.1;
     }
 
-year_low : (d : CivilDay) → DayFacts d → neg_ℤ (pos 9999) ≤ℤ pos d.year
+pub year_low : (d : CivilDay) → DayFacts d → neg_ℤ (pos 9999) ≤ℤ pos d.year
 year_low d f = omega (arith, signed_arith)
 
-year_high : (d : CivilDay) → DayFacts d → pos d.year ≤ℤ pos 9999
+pub year_high : (d : CivilDay) → DayFacts d → pos d.year ≤ℤ pos 9999
 year_high d f = omega (arith, signed_arith, f.to)
 
 -- the date of a day
-abbrev date_of : (d : CivilDay) → DayFacts d → Date
+abbrev pub date_of : (d : CivilDay) → DayFacts d → Date
 date_of d f = record {
   year = pos d.year;
   month = d.month;

@@ -4,5 +4,6 @@ pub mod FirstFaultLemmas
 pub mod ZonedLemmas
 pub mod CodeLemmas
 pub mod DayLemmas
+pub mod DayOrderLemmas
 pub mod DayTextLemmas
 pub mod MoneyLemmas

@@ -1,6 +1,6 @@
-ghost use Rattle.std.specs.Prelude.{◌≡◌, ◌≤◌, ◌+◌, ◌+ℤ◌, ◌≤ℤ◌, ◌<◌, ◌^◌, pos, length, IfOk, MatchResult, Some};
+ghost use Rattle.std.specs.Prelude.{IsTrue, ◌≡◌, ◌≤◌, ◌+◌, ◌+ℤ◌, ◌≤ℤ◌, ◌<◌, ◌^◌, pos, length, IfOk, MatchResult, Some};
 ghost use Rattle.std.specs.Fmt.{padded};
-ghost use Rattle.bsp_fields.specs.CivilDay.{CivilDay};
+ghost use Rattle.bsp_fields.specs.CivilDay.{CivilDay, is_day};
 ghost use Rattle.bsp_fields.specs.Days.{day_number, HasNoDay, checked_day, parts_reading, record_text, record_reading, day_text, text_reading};
 
 use crate::digits::{display_digits, read_digits, write_digits};
@@ -93,10 +93,12 @@ impl Day {
     }
 
     /// The number of the day, counted from 1970-01-01, which is 0; the next day has the next number.
+    /// The calendar has the day.
     pub fn number(self) -> i64
         ensures value { result ≡ day_number self }
         ensures from { pos 10_957 ≤ℤ result }
         ensures to { result ≤ℤ pos 47_481 }
+        ensures civil { IsTrue (is_day self) }
     {
         let date = Date {
             year: self.year as i16,

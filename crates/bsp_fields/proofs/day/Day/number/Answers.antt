@@ -20,3 +20,6 @@ returns-clause-from c =
 pub returns-clause-to : goal.returns-clause-to
 returns-clause-to c =
     let IsBelow : ℤ → Type 0 = λ z. z ≤ℤ pos 47_481 in subst IsBelow (sym (returns-clause-value c)) (bounds c).1
+
+pub returns-clause-civil : goal.returns-clause-civil
+returns-clause-civil c = let IsDay : CivilDay → Type 0 = λ d. IsTrue (is_day d) in subst IsDay c.self.view_is c.self.invariant

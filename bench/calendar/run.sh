@@ -1,0 +1,96 @@
+#!/usr/bin/env bash
+# Measures the plan on a text of 10,000 and on one of 100,000 entries, in one run: reading the text,
+# publishing it, and looking up each of its rates, periods, targets and airlines; the best of five of
+# each, and the growth from the smaller text to the larger one.
+#
+# usage: bench/calendar/run.sh     (needs python3)
+set -eu
+here=$(cd "$(dirname "$0")" && pwd)
+top=$(cd "$here/../.." && pwd)
+work=$(mktemp -d)
+trap 'rm -rf "$work"' EXIT
+
+for entries in 10000 100000; do
+  python3 "$here/make_plan.py" "$entries" >"$work/$entries.toml"
+done
+
+# a program over the library, in a workspace of its own
+mkdir -p "$work/space/crates/publishing/src"
+cp -r "$top/crates/bsp_fields" "$top/crates/bsp_calendar" "$work/space/crates/"
+(cd "$work/space" && git init -q .)
+{
+  grep -E '^(bsp_fields|bsp_calendar):' "$top/crates.txt"
+  echo 'publishing: bsp_calendar bsp_fields'
+} >"$work/space/crates.txt"
+cat >"$work/space/crates/publishing/src/main.rt" <<'PROGRAM'
+#![tactic(auto)]
+
+use bsp_calendar::{Plan, PlanText, read_plan};
+use std::io::{self, Read};
+use std::time::Instant;
+
+fn rates(plan: &Plan, text: &PlanText) -> usize {
+    text.rates.iter().filter(|rate| plan.rate(rate.airline, rate.from) == rate.hundredths).count()
+}
+
+fn periods(plan: &Plan, text: &PlanText) -> usize {
+    text.periods.iter().filter(|period| plan.period(period.code).is_some()).count()
+}
+
+fn targets(plan: &Plan, text: &PlanText) -> usize {
+    text.periods.iter().filter(|period| plan.target(period.last).is_some()).count()
+}
+
+fn airlines(plan: &Plan, text: &PlanText) -> usize {
+    text.rates.iter().filter(|rate| plan.has_airline(rate.airline)).count()
+}
+
+fn measured(rt: &HostRuntime, bytes: &[u8]) -> io::Result<()> {
+    let begun = Instant::now(rt)?;
+    let Ok(text) = read_plan(rt.alloc(), bytes) else {
+        return println!(rt; "not_read 0 0");
+    };
+    println!(rt; "read_plan {} {}", begun.elapsed(rt)?.as_micros(), text.rates.len())?;
+    let begun = Instant::now(rt)?;
+    let mut plan = Plan::empty(rt.alloc());
+    let published = plan.extend(&text).is_ok();
+    println!(rt; "extend {} {published}", begun.elapsed(rt)?.as_micros())?;
+    if let Some(period) = text.periods.last() {
+        let _ = plan.set_day(period.last);
+    }
+    let begun = Instant::now(rt)?;
+    let found = rates(&plan, &text);
+    println!(rt; "rate {} {found}", begun.elapsed(rt)?.as_micros())?;
+    let begun = Instant::now(rt)?;
+    let found = periods(&plan, &text);
+    println!(rt; "period {} {found}", begun.elapsed(rt)?.as_micros())?;
+    let begun = Instant::now(rt)?;
+    let found = targets(&plan, &text);
+    println!(rt; "target {} {found}", begun.elapsed(rt)?.as_micros())?;
+    let begun = Instant::now(rt)?;
+    let found = airlines(&plan, &text);
+    println!(rt; "has_airline {} {found}", begun.elapsed(rt)?.as_micros())
+}
+
+fn main(rt: HostRuntime) -> io::Result<()> {
+    let mut bytes = Vec::new(rt.alloc());
+    rt.reader().read_to_end(&mut bytes)?;
+    for _ in 0..5 {
+        measured(&rt, &bytes)?;
+    }
+    Ok(())
+}
+PROGRAM
+(cd "$work/space/crates/publishing" && rt run </dev/null >"$work/built.log" 2>&1) || { tail -n 30 "$work/built.log"; exit 1; }
+program="$work/space/crates/publishing/out/publishing"
+
+best() { awk -v name="$1" '$1 == name && (!n++ || $2 < least) {least = $2; told = $3} END {print least, told}' "$2"; }
+for entries in 10000 100000; do
+  "$program" <"$work/$entries.toml" >"$work/$entries.out"
+done
+echo "call, microseconds at 10,000 entries (calls that answered, or entries), at 100,000, growth"
+for call in read_plan extend rate period target has_airline; do
+  small=$(best "$call" "$work/10000.out")
+  large=$(best "$call" "$work/100000.out")
+  echo "$call ${small% *} (${small#* }) ${large% *} (${large#* }) $(awk "BEGIN {printf \"%.1f\", ${large% *} / ${small% *}}")"
+done

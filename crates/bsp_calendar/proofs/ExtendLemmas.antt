@@ -1,0 +1,117 @@
+-- Lemmas on a plan with the entries of a text.
+use Rattle.std.proofs.Common.{◌≡◌, ℕ, ◌&&◌, ◌==◌, Bool, true, false, List, ◌++◌, length, drop, refl, sym, ap, ◌∙◌, arith, Ok, Err, nat_eq}
+use Rattle.std.specs.Prelude.{Option, Some}
+use Rattle.std.specs.List.{list_all, list_any}
+use Rattle.std.proofs.lemmas.Bool.{or_left, or_right, or_from}
+use Rattle.std.proofs.lemmas.List.{length-append, take-append-le}
+use Rattle.std.proofs.lemmas.Cmp.{nat_eq_equiv}
+use Rattle.bsp_fields.specs.CivilDay.{CivilDay}
+use Rattle.bsp_calendar.specs.declared.entries.Terms.{Terms}
+use Rattle.bsp_calendar.proofs.AnswerLemmas.{plan_of}
+use Rattle.bsp_calendar.proofs.KeyLemmas.{eqb_symm}
+use Rattle.bsp_calendar.proofs.ListedLemmas.{any_once, once_distinct, once_more_front}
+use Rattle.bsp_calendar.specs.DayOrder.{is_up_to}
+use Rattle.bsp_calendar.specs.Published.{Published, is_among}
+use Rattle.bsp_calendar.specs.Standing.{IsStanding, first_codes}
+use Rattle.bsp_calendar.specs.Requests.{once, has_conflict, same_airline, same_rate, same_period, differ_in_rate, differ_in_days, differ_in_terms, are_within_bounds, have_airlines, has_difference, are_in_order, has_late_rate, extended, with_entries, has_terms, is_empty, holds_already}
+use Rattle.bsp_calendar.specs.declared.entries.Period.{Period}
+use Rattle.bsp_calendar.specs.declared.entries.PlanText.{PlanText}
+use Rattle.bsp_calendar.specs.declared.entries.Rate.{Rate}
+use Rattle.bsp_calendar.specs.declared.fault.PlanFault.TheVariants.{WrongKey, Differs, OutOfOrder, LateRate}
+
+-- an airline is among those each once where it is among all
+pub among_once : (xs : List ℕ) (code : ℕ) → is_among code (once same_airline xs) ≡ is_among code xs
+among_once xs code =
+    let turned : ◌≡◌ {A = ℕ → Bool} (λ other. code == other) (λ other. other == code) = λ i. λ other. eqb_symm code other i in
+    rw turned (any_once (λ (x : ℕ) (y : ℕ). x == y) nat_eq_equiv (λ (a : ℕ). a) xs code)
+
+-- ---- the table of faults
+
+module _ (p : Published) (text : PlanText) where
+  pub out_of_bounds : are_within_bounds text ≡ false → extended p text ≡ Err WrongKey
+  out_of_bounds h = rw h refl
+
+  pub without_airline : are_within_bounds text ≡ true → have_airlines p text ≡ false → extended p text ≡ Err WrongKey
+  without_airline b h = rw (b, h) refl
+
+  pub with_difference : are_within_bounds text ≡ true → have_airlines p text ≡ true → has_difference p text ≡ true → extended p text ≡ Err Differs
+  with_difference b a h = rw (b, a, h) refl
+
+  pub not_in_order : are_within_bounds text ≡ true → have_airlines p text ≡ true → has_difference p text ≡ false → are_in_order (once same_period (p.periods ++ text.periods.items)) ≡ false → extended p text ≡ Err OutOfOrder
+  not_in_order b a d h = rw (b, a, d, h) refl
+
+  pub with_late_rate : are_within_bounds text ≡ true → have_airlines p text ≡ true → has_difference p text ≡ false → are_in_order (once same_period (p.periods ++ text.periods.items)) ≡ true → has_late_rate p text ≡ true → extended p text ≡ Err LateRate
+  with_late_rate b a d o h = rw (b, a, d, o, h) refl
+
+  pub accepted : are_within_bounds text ≡ true → have_airlines p text ≡ true → has_difference p text ≡ false → are_in_order (once same_period (p.periods ++ text.periods.items)) ≡ true → has_late_rate p text ≡ false → extended p text ≡ Ok (with_entries p text)
+  accepted b a d o h = rw (b, a, d, o, h) refl
+
+  -- ---- each test, by what the code computed
+
+  pub have_from : (list ts : List ℕ) (rs : List Rate) (b : Bool) → list ≡ once same_airline (p.airlines ++ ts) → ts ≡ text.airlines.items → rs ≡ text.rates.items → b ≡ list_all (λ r. is_among r.airline list) rs → have_airlines p text ≡ b
+  have_from list ts rs b joined airlines rates tested =
+      let all : list ≡ once same_airline (p.airlines ++ text.airlines.items) = rw airlines at joined in
+      let among : (r : Rate) → is_among r.airline list ≡ is_among r.airline (p.airlines ++ text.airlines.items) =
+      λ r. rw all (among_once (p.airlines ++ text.airlines.items) r.airline) in
+      let same : ◌≡◌ {A = Rate → Bool} (λ r. is_among r.airline list) (λ r. is_among r.airline (p.airlines ++ text.airlines.items)) =
+      λ i. λ r. among r i in
+      sym (tested ∙ (ap (λ (t : Rate → Bool). list_all t rs) same ∙ ap (list_all (λ r. is_among r.airline (p.airlines ++ text.airlines.items))) rates))
+
+  pub difference_of_terms : differ_in_terms p.terms text.terms ≡ true → has_difference p text ≡ true
+  difference_of_terms h = or_left _ _ h
+
+  pub difference_of_rates : (rs : List Rate) → rs ≡ text.rates.items → has_conflict same_rate differ_in_rate (p.rates ++ rs) ≡ true → has_difference p text ≡ true
+  difference_of_rates rs rates h = or_right (differ_in_terms p.terms text.terms) _ (or_left _ _ (rw rates at h))
+
+  pub difference_of_periods : (qs : List Period) → qs ≡ text.periods.items → has_conflict same_period differ_in_days (p.periods ++ qs) ≡ true → has_difference p text ≡ true
+  difference_of_periods qs periods h =
+      or_right (differ_in_terms p.terms text.terms) _ (or_right (has_conflict same_rate differ_in_rate (p.rates ++ text.rates.items)) _ (rw periods at h))
+
+  pub no_difference : (rs : List Rate) (qs : List Period) → rs ≡ text.rates.items → qs ≡ text.periods.items → differ_in_terms p.terms text.terms ≡ false → has_conflict same_rate differ_in_rate (p.rates ++ rs) ≡ false → has_conflict same_period differ_in_days (p.periods ++ qs) ≡ false → has_difference p text ≡ false
+  no_difference rs qs rates periods t r q = or_from _ _ t (or_from _ _ (rw rates at r) (rw periods at q))
+
+  pub order_from : (qs list : List Period) (b : Bool) → qs ≡ text.periods.items → list ≡ once same_period (p.periods ++ qs) → b ≡ are_in_order list → are_in_order (once same_period (p.periods ++ text.periods.items)) ≡ b
+  order_from qs list b periods joined tested = sym (rw (joined, periods) at tested)
+
+  pub late_from : (rs list : List Rate) (known : ℕ) (b : Bool) → rs ≡ text.rates.items → list ≡ once same_rate (p.rates ++ rs) → known ≡ length p.rates → b ≡ list_any (λ r. is_up_to r.from p.day) (drop known list) → has_late_rate p text ≡ b
+  late_from rs list known b rates joined long tested = sym (rw (joined, rates, long) at tested)
+
+-- ---- the periods of the new plan
+
+abbrev code_of : Period → ℕ
+code_of q = q.code
+
+front_of : (qs more list : List Period) (n : ℕ) → IsStanding qs n → list ≡ once same_period (qs ++ more) → (zs : List Period) × (list ≡ qs ++ zs)
+front_of qs more list n h joined =
+    let (zs, e) = once_more_front nat_eq nat_eq_equiv code_of qs more h.distinct in
+    (zs, joined ∙ e)
+
+pub standing_more : (qs more list : List Period) (n : ℕ) → IsStanding qs n → list ≡ once same_period (qs ++ more) → are_in_order list ≡ true → IsStanding list n
+standing_more qs more list n h joined order =
+    let (zs, e) = front_of qs more list n h joined in
+    record {
+      within = rw (e, length-append) (omega (arith, h.within));
+      distinct = rw joined (once_distinct nat_eq nat_eq_equiv code_of (qs ++ more));
+      in_order = order;
+    }
+
+pub first_codes_more : (qs more list : List Period) (n : ℕ) → IsStanding qs n → list ≡ once same_period (qs ++ more) → first_codes list n ≡ first_codes qs n
+first_codes_more qs more list n h joined =
+    let (zs, e) = front_of qs more list n h joined in
+    let within = h.within in
+    rw (e, take-append-le) refl
+
+-- ---- the new plan
+
+-- what lists that joined a text hold, and whether nothing of the text is new
+module _ (terms : Option Terms) (airlines : List ℕ) (rates : List Rate) (qs : List Period) (day : CivilDay) (n : ℕ) (text : PlanText) where
+  abbrev before : Published
+  before = plan_of terms airlines rates qs day n
+
+  pub with_entries_is : (airlines_after : List ℕ) (rates_after : List Rate) (qs_after : List Period) → IsStanding qs n → airlines_after ≡ once same_airline (airlines ++ text.airlines.items) → rates_after ≡ once same_rate (rates ++ text.rates.items) → qs_after ≡ once same_period (qs ++ text.periods.items) → with_entries before text ≡ plan_of (Some text.terms) airlines_after rates_after qs_after day n
+  with_entries_is airlines_after rates_after qs_after h a r q =
+      let closed : first_codes qs n ≡ first_codes qs_after n = sym (first_codes_more qs text.periods.items qs_after n h q) in
+      λ i. record { terms = Some text.terms; airlines = sym a i; rates = sym r i; periods = sym q i; day = day; closed = closed i }
+
+  pub holds_is : (airlines_after : List ℕ) (rates_after : List Rate) (qs_after : List Period) (b : Bool) → airlines_after ≡ once same_airline (airlines ++ text.airlines.items) → rates_after ≡ once same_rate (rates ++ text.rates.items) → qs_after ≡ once same_period (qs ++ text.periods.items) → b ≡ (has_terms terms && (is_empty (drop (length airlines) airlines_after) && (is_empty (drop (length rates) rates_after) && is_empty (drop (length qs) qs_after)))) → b ≡ holds_already before text
+  holds_is airlines_after rates_after qs_after b a r q h = rw (a, r, q) at h

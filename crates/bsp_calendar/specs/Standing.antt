@@ -1,0 +1,32 @@
+-- What holds of every plan, and the codes of its closed periods, which are the first of the list.
+use Rattle.std.specs.Prelude.{◌≡◌, ℕ, ◌<◌, ◌≤◌, ◌==◌, Bool, true, false, List, map, length, take, Option, MatchOption}
+use Rattle.std.specs.List.{All, AllPairs, HoldsAt}
+use Rattle.std.specs.List.Sorted.{IsPartitionPoint}
+use Rattle.bsp_fields.specs.CivilDay.{CivilDay}
+use Rattle.bsp_calendar.specs.DayOrder.{is_before}
+use Rattle.bsp_calendar.specs.Requests.{are_in_order}
+use Rattle.bsp_calendar.specs.declared.entries.Period.{Period}
+
+-- the codes of the first periods
+abbrev pub first_codes : List Period → ℕ → List ℕ
+first_codes periods count = map (λ q. q.code) (take count periods)
+
+-- as many periods as are closed, no code twice, and each period after the one before it
+pub record IsStanding (periods : List Period) (closed : ℕ) : Type 0 where
+  pub within : closed ≤ length periods
+  pub distinct : AllPairs (λ q r. (q.code == r.code) ≡ false) periods
+  pub in_order : are_in_order periods ≡ true
+
+-- the place of the period of a code, or none where no period has it
+abbrev pub IsPlaceOf : List Period → ℕ → Option ℕ → Type 0
+IsPlaceOf periods code place =
+    MatchOption place (All (λ q. (q.code == code) ≡ false) periods) (λ i. (i < length periods) × HoldsAt (λ q. (q.code == code) ≡ true) periods i)
+
+-- the period ends before a day
+abbrev pub ends_before : CivilDay → Period → Bool
+ends_before day q = is_before q.last day
+
+-- the periods before this place end before a day, and those from there on do not
+abbrev pub IsFirstNotOver : CivilDay → List Period → ℕ → Type 0
+IsFirstNotOver day periods place =
+    (place ≤ length periods) × IsPartitionPoint (λ q. ends_before day q ≡ true) (λ q. ends_before day q ≡ false) periods place

@@ -1,0 +1,79 @@
+ghost use Rattle.std.specs.Prelude.{◌≡◌};
+ghost use Rattle.bsp_calendar.specs.Faults.{code_text};
+
+use std::alloc::{AllocError, AllocFailed};
+use thiserror::Error;
+
+/// Why a plan text or a request on the plan is refused, in the order in which faults are told: where
+/// several apply, the first of this list is told. Want of memory may be told in place of any other.
+#[derive(Clone, Copy, Debug, PartialEq, Eq, Hash, Error)]
+pub enum PlanFault {
+    /// The bytes are no TOML text.
+    #[error("P01: the text is not TOML")]
+    NotToml,
+    /// A key is missing, unknown or has a wrong value, or a rate's airline is not published.
+    #[error("P02: a key is missing, unknown or wrong")]
+    WrongKey,
+    /// An entry differs from the published one of its key, or two entries of the text differ.
+    #[error("P08: an entry differs from what is published")]
+    Differs,
+    /// A period leaves a gap, overlaps another, or its days are not in order.
+    #[error("P03: the periods do not follow one another")]
+    OutOfOrder,
+    /// A new rate begins on a day that is not after the business day.
+    #[error("P05: a new rate does not begin after the business day")]
+    LateRate,
+    /// The business day would go backwards.
+    #[error("P04: the business day would go backwards")]
+    DayBackwards,
+    /// The period is not the earliest that is not closed.
+    #[error("P06: the period is not the earliest unclosed one")]
+    NotEarliest,
+    /// The business day is not after the last day of the period.
+    #[error("P07: the period is not over")]
+    NotOver,
+    /// There was no memory.
+    #[error("P09: no memory")]
+    NoMemory,
+}
+
+impl PlanFault {
+    /// The code of the fault, `P01` to `P09`.
+    pub fn code(self) -> &'static str
+        ensures { result.now ≡ code_text self }
+    {
+        match self {
+            PlanFault::NotToml => "P01",
+            PlanFault::WrongKey => "P02",
+            PlanFault::OutOfOrder => "P03",
+            PlanFault::DayBackwards => "P04",
+            PlanFault::LateRate => "P05",
+            PlanFault::NotEarliest => "P06",
+            PlanFault::NotOver => "P07",
+            PlanFault::Differs => "P08",
+            PlanFault::NoMemory => "P09",
+        }
+    }
+}
+
+impl From<AllocError> for PlanFault {
+    ghost use Rattle.std.specs.Prelude.{◌≡◌};
+    ghost use Rattle.bsp_calendar.specs.declared.fault.PlanFault.TheVariants.{NoMemory};
+
+    ghost from_gives = { λ _ fault. fault ≡ NoMemory };
+
+    fn from(_: AllocError) -> PlanFault {
+        PlanFault::NoMemory
+    }
+}
+
+impl<T: Drop> From<AllocFailed<T>> for PlanFault {
+    ghost use Rattle.std.specs.Prelude.{◌≡◌};
+    ghost use Rattle.bsp_calendar.specs.declared.fault.PlanFault.TheVariants.{NoMemory};
+
+    ghost from_gives = { λ _ fault. fault ≡ NoMemory };
+
+    fn from(_: AllocFailed<T>) -> PlanFault {
+        PlanFault::NoMemory
+    }
+}

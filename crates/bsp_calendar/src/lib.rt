@@ -1,0 +1,23 @@
+//! The published plan of a market: its terms, airlines, rates of commission and billing periods, the
+//! business day, and the closing of periods.
+#![tactic(auto)]
+
+mod change;
+mod checks;
+mod currency;
+mod days;
+mod entries;
+mod fault;
+mod history;
+mod keys;
+mod listed;
+mod plan;
+mod reading;
+
+pub use change::Change;
+pub use currency::Currency;
+pub use entries::{Period, PlanText, Rate, Terms};
+pub use fault::PlanFault;
+pub use history::published_history;
+pub use plan::Plan;
+pub use reading::read_plan;

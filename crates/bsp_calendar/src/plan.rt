@@ -1,0 +1,186 @@
+ghost use Rattle.std.specs.Prelude.{◌≡◌, ◌&&◌, ◌⊎◌, true, Ok, Err, MatchResult, drop, length};
+ghost use Rattle.bsp_calendar.specs.DayOrder.{same_day};
+ghost use Rattle.bsp_calendar.specs.Published.{is_closed, opening};
+ghost use Rattle.bsp_calendar.specs.Requests.{Answers, AnswersOrLacksMemory, are_in_order, closing, extended, has_terms, holds_already, is_empty, on_day, with_entries};
+
+mod answers;
+mod target;
+#[cfg(test)]
+mod tests;
+
+use crate::change::Change;
+use crate::checks::{
+    are_in_order, are_within_bounds, differ_in_terms, has_late_rate, has_none_beyond, have_airlines,
+};
+use crate::days::is_before;
+use crate::entries::{PlanText, Terms};
+use crate::fault::PlanFault;
+use crate::keys::{
+    Airlines, Periods, Rates, join_airlines, join_periods, join_rates, period_place,
+};
+use bsp_fields::{Day, PeriodCode};
+use std::alloc::Global;
+use std::marker::Model;
+
+/// The airlines, rates and periods of a plan.
+#[derive(Drop)]
+struct Lists {
+    airlines: Airlines,
+    rates: Rates,
+    periods: Periods,
+}
+
+/// The published plan of a market, the business day and the closed periods. It only grows, and a
+/// closed period never changes. A contract sees it as a `Published`: the entries, each once and in
+/// the order of their first publication, the business day and the codes of the closed periods.
+#[derive(Drop)]
+pub struct Plan {
+    alloc: Global,
+    terms: Option<Terms>,
+    lists: Lists,
+    day: Day,
+    closed: usize,
+}
+
+impl Model for Plan {
+    ghost use Rattle.bsp_calendar.specs.Published.{Published};
+    ghost use Rattle.bsp_calendar.specs.Standing.{IsStanding, first_codes};
+
+    ghost Value = { Published };
+
+    ghost view = { λ p. record {
+      terms = p.terms;
+      airlines = p.lists.airlines;
+      rates = p.lists.rates;
+      periods = p.lists.periods;
+      day = p.day;
+      closed = first_codes p.lists.periods p.closed;
+    } };
+
+    ghost invariant = { λ p. IsStanding p.lists.periods p.closed };
+}
+
+impl Plan {
+    /// The plan before anything is published: no entries, business day 2000-01-01, no closed period.
+    pub fn empty(alloc: Global) -> Plan
+        ensures { result ≡ opening }
+    {
+        Plan {
+            alloc,
+            terms: None,
+            lists: Lists {
+                airlines: Airlines::new(alloc),
+                rates: Rates::new(alloc),
+                periods: Periods::new(alloc),
+            },
+            day: Day::first(),
+            closed: 0,
+        }
+    }
+
+    /// Publishes the entries of a text that are new. `Held` where none is.
+    ///
+    /// # Errors
+    ///
+    /// The first of `WrongKey` (a value out of its bounds, or a rate of an airline that neither the
+    /// plan nor the text has), `Differs`, `OutOfOrder` and `LateRate` that applies, or `NoMemory`. The
+    /// plan is then as it was.
+    pub fn extend(&mut self, text: &PlanText) -> Result<Change, PlanFault>
+        ensures { AnswersOrLacksMemory (extended self.old text.now) (holds_already self.old text.now) self.old result self.new }
+    {
+        let lists = self.lists_with(text)?;
+        let change = Change::of(self.holds(&lists));
+        self.terms = Some(text.terms);
+        self.lists = lists;
+        Ok(change)
+    }
+
+    /// The lists with the entries of a text.
+    fn lists_with(&self, text: &PlanText) -> Result<Lists, PlanFault>
+        ensures { MatchResult result
+            (λ lists. (extended self.now text.now ≡ Ok (with_entries self.now text.now)) × (are_in_order lists.periods ≡ true)
+            × (lists.airlines ≡ (with_entries self.now text.now).airlines) × (lists.rates ≡ (with_entries self.now text.now).rates) × (lists.periods ≡ (with_entries self.now text.now).periods))
+            (λ fault. (fault ≡ PlanFault.NoMemory) ⊎ (extended self.now text.now ≡ Err fault)) }
+    {
+        let lists = &self.lists;
+        if !are_within_bounds(text) {
+            return Err(PlanFault::WrongKey);
+        }
+        let airlines = join_airlines(self.alloc, &lists.airlines, &text.airlines)?;
+        if !have_airlines(&text.rates, &airlines) {
+            return Err(PlanFault::WrongKey);
+        }
+        if differ_in_terms(self.terms, text.terms) {
+            return Err(PlanFault::Differs);
+        }
+        let rates = join_rates(self.alloc, &lists.rates, &text.rates)?;
+        let periods = join_periods(self.alloc, &lists.periods, &text.periods)?;
+        if !are_in_order(periods.list()) {
+            return Err(PlanFault::OutOfOrder);
+        }
+        if has_late_rate(rates.list(), lists.rates.list().len(), self.day) {
+            return Err(PlanFault::LateRate);
+        }
+        Ok(Lists {
+            airlines,
+            rates,
+            periods,
+        })
+    }
+
+    /// Whether terms are published, and the lists have no entry that the plan has not.
+    fn holds(&self, lists: &Lists) -> bool
+        ensures { result ≡ (has_terms self.now.terms
+            && (is_empty (drop (length self.now.airlines) lists.now.airlines)
+            && (is_empty (drop (length self.now.rates) lists.now.rates) && is_empty (drop (length self.now.periods) lists.now.periods)))) }
+    {
+        let held = &self.lists;
+        self.terms.is_some()
+            && has_none_beyond(lists.airlines.list(), held.airlines.list().len())
+            && has_none_beyond(lists.rates.list(), held.rates.list().len())
+            && has_none_beyond(lists.periods.list(), held.periods.list().len())
+    }
+
+    /// Sets the business day. `Held` where it is the business day already.
+    ///
+    /// # Errors
+    ///
+    /// `DayBackwards` where it is before the business day. The plan is then as it was.
+    pub fn set_day(&mut self, day: Day) -> Result<Change, PlanFault>
+        ensures { Answers (on_day self.old day) (same_day self.old.day day) self.old result self.new }
+    {
+        if is_before(day, self.day) {
+            return Err(PlanFault::DayBackwards);
+        }
+        if day == self.day {
+            return Ok(Change::Held);
+        }
+        self.day = day;
+        Ok(Change::Done)
+    }
+
+    /// Closes the period of a code. `Held` where it is closed already.
+    ///
+    /// # Errors
+    ///
+    /// The first of `NotEarliest` (it is not the earliest unclosed period) and `NotOver` (the business
+    /// day is not after its last day) that applies. The plan is then as it was.
+    pub fn close_next(&mut self, code: PeriodCode) -> Result<Change, PlanFault>
+        ensures { Answers (closing self.old code) (is_closed self.old code) self.old result self.new }
+    {
+        let Some(place) = period_place(&self.lists.periods, code) else {
+            return Err(PlanFault::NotEarliest);
+        };
+        if place < self.closed {
+            return Ok(Change::Held);
+        }
+        if place > self.closed {
+            return Err(PlanFault::NotEarliest);
+        }
+        if !is_before(self.lists.periods.list()[place].last, self.day) {
+            return Err(PlanFault::NotOver);
+        }
+        self.closed += 1;
+        Ok(Change::Done)
+    }
+}

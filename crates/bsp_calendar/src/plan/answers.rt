@@ -1,0 +1,52 @@
+//! What a plan answers about its entries.
+
+ghost use Rattle.std.specs.Prelude.{◌≡◌, option_map};
+ghost use Rattle.bsp_calendar.specs.Published.{IsLatestRate, has_airline, is_closed, period_of, rate_on};
+
+use crate::entries::{Period, Terms};
+use crate::keys::{has_airline, period_place, rate_key};
+use crate::plan::Plan;
+use bsp_fields::{AirlineCode, Day, PeriodCode};
+
+impl Plan {
+    /// The rate of an airline on a day, in hundredths of a percent: that of its entry with the latest
+    /// first day not after the day, and 0 where there is none.
+    pub fn rate(&self, airline: AirlineCode, day: Day) -> u16
+        ensures value { result ≡ rate_on self.now airline day }
+        ensures latest { IsLatestRate self.now.rates airline day result }
+    {
+        match self.lists.rates.last_up_to(rate_key(airline, day)) {
+            Some(rate) if rate.airline == airline => rate.hundredths,
+            _ => 0,
+        }
+    }
+
+    /// Whether the airline is published.
+    pub fn has_airline(&self, airline: AirlineCode) -> bool
+        ensures { result ≡ has_airline self.now airline }
+    {
+        has_airline(&self.lists.airlines, airline)
+    }
+
+    /// The period of a code, and whether it is closed.
+    pub fn period(&self, code: PeriodCode) -> Option<(Period, bool)>
+        ensures { result ≡ option_map (λ q. (q, is_closed self.now code)) (period_of self.now code) }
+    {
+        let place = period_place(&self.lists.periods, code)?;
+        Some((self.lists.periods.list()[place], place < self.closed))
+    }
+
+    /// Currency, review days and documents limit, once they are published.
+    pub fn terms(&self) -> Option<Terms>
+        ensures { result ≡ self.now.terms }
+    {
+        self.terms
+    }
+
+    /// The business day.
+    pub fn day(&self) -> Day
+        ensures { result ≡ self.now.day }
+    {
+        self.day
+    }
+}

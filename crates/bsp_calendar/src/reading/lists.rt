@@ -1,0 +1,38 @@
+ghost use Rattle.std.specs.Option.{ok_or};
+ghost use Rattle.toml.specs.Data.{get_member};
+ghost use Rattle.toml.specs.View.{array_view, table_view};
+ghost use Rattle.bsp_calendar.specs.PlanDocument.{Reads, each, listed};
+
+use crate::fault::PlanFault;
+use crate::reading::tables::value_at;
+use crate::reading::values::FromValue;
+use std::alloc::Global;
+use toml::Table;
+use toml::value::Array;
+
+/// The items of a list, each in its form.
+fn items<T: FromValue>(alloc: Global, list: &Array) -> Result<Vec<T>, PlanFault>
+    ensures { Reads (ok_or (each T.form (array_view list.now)) PlanFault.WrongKey) (λ v. v.items) result }
+{
+    let mut items = Vec::new(alloc);
+    for value in list {
+        let Some(item) = T::from_value(value) else {
+            return Err(PlanFault::WrongKey);
+        };
+        items.push(item).map_err(|_| PlanFault::NoMemory)?;
+    }
+    Ok(items)
+}
+
+/// The items of the list at a key, which may be absent.
+pub fn items_at<T: FromValue>(alloc: Global, table: &Table, key: &str) -> Result<Vec<T>, PlanFault>
+    ensures { Reads (ok_or (listed T.form (get_member key.now (table_view table.now))) PlanFault.WrongKey) (λ v. v.items) result }
+{
+    match value_at(table, key) {
+        Some(value) => match value.as_array() {
+            Some(list) => items(alloc, list),
+            None => Err(PlanFault::WrongKey),
+        },
+        None => Ok(Vec::new(alloc)),
+    }
+}

@@ -1,0 +1,5 @@
+-- Lemmas of this crate.
+pub mod ReasonLemmas
+pub mod StepLemmas
+pub mod LifeLemmas
+pub mod LawLemmas

@@ -1,0 +1,9 @@
+-- What the contracts of memos cite.
+pub mod FirstAnswer
+pub mod Reasons
+pub mod States
+pub mod Texts
+pub mod Memos
+pub mod Steps
+pub mod Billing
+pub mod Lives
