@@ -45,31 +45,45 @@ fn airlines(plan: &Plan, text: &PlanText) -> usize {
     text.rates.iter().filter(|rate| plan.has_airline(rate.airline)).count()
 }
 
-fn measured(rt: &HostRuntime, bytes: &[u8]) -> io::Result<()> {
+fn read(rt: &HostRuntime, bytes: &[u8]) -> io::Result<Option<PlanText>> {
     let begun = Instant::now(rt)?;
-    let Ok(text) = read_plan(rt.alloc(), bytes) else {
-        return println!(rt; "not_read 0 0");
-    };
-    println!(rt; "read_plan {} {}", begun.elapsed(rt)?.as_micros(), text.rates.len())?;
+    let text = read_plan(rt.alloc(), bytes).ok();
+    let took = begun.elapsed(rt)?.as_micros();
+    println!(rt; "read_plan {took} {}", text.is_some())?;
+    Ok(text)
+}
+
+fn publish(rt: &HostRuntime, plan: &mut Plan, text: &PlanText) -> io::Result<()> {
     let begun = Instant::now(rt)?;
-    let mut plan = Plan::empty(rt.alloc());
-    let published = plan.extend(&text).is_ok();
-    println!(rt; "extend {} {published}", begun.elapsed(rt)?.as_micros())?;
+    let published = plan.extend(text).is_ok();
+    let took = begun.elapsed(rt)?.as_micros();
+    println!(rt; "extend {took} {published}")
+}
+
+fn set_last_day(plan: &mut Plan, text: &PlanText) {
     if let Some(period) = text.periods.last() {
         let _ = plan.set_day(period.last);
     }
+}
+
+fn time(rt: &HostRuntime, name: &str, plan: &Plan, text: &PlanText, count: fn(&Plan, &PlanText) -> usize) -> io::Result<()> {
     let begun = Instant::now(rt)?;
-    let found = rates(&plan, &text);
-    println!(rt; "rate {} {found}", begun.elapsed(rt)?.as_micros())?;
-    let begun = Instant::now(rt)?;
-    let found = periods(&plan, &text);
-    println!(rt; "period {} {found}", begun.elapsed(rt)?.as_micros())?;
-    let begun = Instant::now(rt)?;
-    let found = targets(&plan, &text);
-    println!(rt; "target {} {found}", begun.elapsed(rt)?.as_micros())?;
-    let begun = Instant::now(rt)?;
-    let found = airlines(&plan, &text);
-    println!(rt; "has_airline {} {found}", begun.elapsed(rt)?.as_micros())
+    let found = count(plan, text);
+    let took = begun.elapsed(rt)?.as_micros();
+    println!(rt; "{name} {took} {found}")
+}
+
+fn measured(rt: &HostRuntime, bytes: &[u8]) -> io::Result<()> {
+    let Some(text) = read(rt, bytes)? else {
+        return Ok(());
+    };
+    let mut plan = Plan::empty(rt.alloc());
+    publish(rt, &mut plan, &text)?;
+    set_last_day(&mut plan, &text);
+    time(rt, "rate", &plan, &text, rates)?;
+    time(rt, "period", &plan, &text, periods)?;
+    time(rt, "target", &plan, &text, targets)?;
+    time(rt, "has_airline", &plan, &text, airlines)
 }
 
 fn main(rt: HostRuntime) -> io::Result<()> {

@@ -1,0 +1,10 @@
+-- What the contracts of the rules cite.
+pub mod Commission
+pub mod SameContent
+pub mod Refusals
+pub mod Amounts
+pub mod Tickets
+pub mod Rows
+pub mod FactsOf
+pub mod Selected
+pub mod Verdicts

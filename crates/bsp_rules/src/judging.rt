@@ -1,0 +1,83 @@
+//! The verdict on a transaction.
+
+ghost use Rattle.std.specs.Prelude.{◌≡◌, ◌∷◌, [], unwrap_or};
+ghost use Rattle.bsp_fields.specs.FirstFault.{first_fault_or};
+ghost use Rattle.bsp_calendar.specs.Published.{target_of};
+ghost use Rattle.bsp_rules.specs.Verdicts.{rows, verdict_on};
+
+use crate::amounts::has_wrong_amounts;
+use crate::conditions::{
+    has_ended, has_wrong_agent, has_wrong_check_digit, is_at_limit, is_number_used,
+    is_out_of_stock, lacks_ticket,
+};
+use crate::facts::Facts;
+use crate::tickets::disagrees_with_tickets;
+use crate::verdict::{Refusal, Reporter, Verdict};
+use bsp_calendar::Plan;
+use bsp_fields::PeriodCode;
+use bsp_ret::Transaction;
+
+/// Refuses where a row applies.
+fn refuse_if(applies: bool, refusal: Refusal) -> Result<(), Verdict>
+    ensures { result ≡ first_fault_or ((applies, Verdict.Refused refusal) ∷ []) (tt {0}) }
+{
+    if applies {
+        return Err(Verdict::Refused(refusal));
+    }
+    Ok(())
+}
+
+/// The period in which a transaction is accepted, or the verdict of the first row that applies.
+fn ruled(
+    reporter: Reporter,
+    transaction: &Transaction,
+    facts: &Facts,
+    plan: &Plan,
+) -> Result<PeriodCode, Verdict>
+    ensures { result ≡ first_fault_or (rows reporter transaction.now facts.now plan.now) (unwrap_or (target_of plan.now transaction.now.issued) 0) }
+{
+    let airline = transaction.document.airline;
+    let issued = transaction.issued;
+    refuse_if(
+        has_wrong_agent(reporter, transaction, facts),
+        Refusal::WrongAgent,
+    )?;
+    if let Some(period) = facts.held {
+        return Err(Verdict::Held(period));
+    }
+    refuse_if(!plan.has_airline(airline), Refusal::UnknownAirline)?;
+    refuse_if(has_wrong_check_digit(transaction), Refusal::WrongCheckDigit)?;
+    refuse_if(plan.day().number() < issued.number(), Refusal::NotYetIssued)?;
+    refuse_if(is_out_of_stock(facts), Refusal::NotInStock)?;
+    refuse_if(
+        is_number_used(transaction.code, &facts.own),
+        Refusal::NumberUsed,
+    )?;
+    let rate = plan.rate(airline, issued);
+    refuse_if(has_wrong_amounts(transaction, rate), Refusal::WrongAmounts)?;
+    refuse_if(lacks_ticket(transaction, facts), Refusal::NoTicket)?;
+    refuse_if(has_ended(transaction, facts), Refusal::TicketEnded)?;
+    refuse_if(
+        disagrees_with_tickets(transaction, &facts.related),
+        Refusal::WrongAgainstTicket,
+    )?;
+    let Some(target) = plan.target(issued) else {
+        return Err(Verdict::Refused(Refusal::NoPeriod));
+    };
+    refuse_if(is_at_limit(facts, plan), Refusal::LimitReached)?;
+    Ok(target)
+}
+
+/// The verdict on a transaction, by what of its agent's own rows bears on it ([`facts_of`]) and by
+/// the plan: that of the first row of the table of verdicts that applies.
+///
+/// [`facts_of`]: crate::facts_of
+#[tactic(auto, unfolding(crate::specs::Verdicts::verdict_on))]
+pub fn judge(reporter: Reporter, transaction: &Transaction, facts: &Facts, plan: &Plan) -> Verdict
+    ensures { result ≡ verdict_on reporter transaction.now facts.now plan.now }
+{
+    match ruled(reporter, transaction, facts, plan) {
+        Ok(period) => Verdict::Accepted(period),
+        Err(verdict) => verdict,
+    }
+}

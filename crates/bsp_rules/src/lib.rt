@@ -1,0 +1,25 @@
+//! The rules of a billing and settlement plan: the verdict on a reported transaction, commission and net.
+#![tactic(auto)]
+
+mod amounts;
+mod conditions;
+mod facts;
+mod gathering;
+mod judging;
+mod rounding;
+mod rows;
+mod searching;
+mod stock;
+mod sums;
+#[cfg(test)]
+mod tests;
+mod tickets;
+mod verdict;
+
+pub use facts::{Facts, OwnNumber, RelatedDocument};
+pub use gathering::facts_of;
+pub use judging::judge;
+pub use rounding::commission;
+pub use rows::{Item, Range, Tally};
+pub use sums::net;
+pub use verdict::{Refusal, Reporter, Verdict};

@@ -1,0 +1,9 @@
+pub mod RunningLemmas
+pub mod GroupLemmas
+pub mod PieceLemmas
+pub mod SumLemmas
+pub mod NetLemmas
+pub mod SettlementLemmas
+pub mod TallyLemmas
+pub mod TallyReports
+pub mod OneReport

@@ -1,0 +1,95 @@
+-- The nets of postings are the nets of the rows, and two sides have one sum.
+use Rattle.std.proofs.Common.{◌≡◌, ℕ, ◌==◌, refl, ap, ◌∙◌, sym, Bool, true, false, ◌&&◌, List, map, arith, cond}
+use Rattle.std.specs.Prelude.{ℤ, pos, ◌+ℤ◌, ◌-ℤ◌}
+use Rattle.std.specs.List.{filter}
+use Rattle.std.proofs.lemmas.Int.{ints}
+use Rattle.std.proofs.lemmas.List.Elements.{filter-append}
+use Rattle.bsp_ret.specs.declared.model.TransactionCode.{TransactionCode}
+use Rattle.bsp_ret.specs.declared.model.TransactionCode.TheVariants.{Tktt, Rfnd, Canx}
+use Rattle.bsp_ret.specs.declared.transactions.Transaction.{Transaction}
+use Rattle.bsp_rules.specs.Amounts.{amount_or_zero, commission_amount, net_of}
+use Rattle.bsp_rules.specs.declared.rows.Item.{Item}
+use Rattle.bsp_memos.specs.declared.fields.MemoFields.{MemoFields}
+use Rattle.bsp_statement.specs.declared.posting.Posting.{Posting}
+use Rattle.bsp_statement.specs.Postings.{is_document, is_counted, item_posting, is_billed, amount_owed, memo_posting, item_postings, memo_postings, postings, is_of_agent, is_of_airline, of_agent, of_airline}
+use Rattle.bsp_statement.specs.Sums.{sums, net_of_postings, AreCodes, lives_in, net_of_rows, agent_net, airline_net}
+use Rattle.bsp_statement.proofs.RunningLemmas.{net_is_sum}
+use Rattle.bsp_statement.proofs.SumLemmas.{sums-append, sums_agree, sums-filter, sums-map, sums_over_codes}
+
+abbrev pub net_of_posting : Posting → ℤ
+net_of_posting p = (p.cash -ℤ p.commission) +ℤ p.memos
+
+no_memos : (x : ℤ) → x +ℤ pos 0 ≡ x
+no_memos x = omega (arith, ints)
+
+memos_alone : (x : ℤ) → (pos 0 -ℤ pos 0) +ℤ x ≡ x
+memos_alone x = omega (arith, ints)
+
+-- an item, by the test of its side, by whether it lives, by its period and by its code
+item_agrees : (own lives same : Bool) (t : Transaction) (code : TransactionCode) →
+    cond (lives && (is_document code && same)) (cond own ((amount_or_zero t.cash -ℤ commission_amount t.amounts) +ℤ pos 0) (pos 0)) (pos 0)
+    ≡ cond own (cond (lives && same) (net_of (record t { code = code })) (pos 0)) (pos 0)
+item_agrees true true true t Tktt = no_memos (amount_or_zero t.cash -ℤ commission_amount t.amounts)
+item_agrees true true true t Rfnd = no_memos (amount_or_zero t.cash -ℤ commission_amount t.amounts)
+item_agrees true true true t Canx = refl
+item_agrees true true false t Tktt = refl
+item_agrees true true false t Rfnd = refl
+item_agrees true true false t Canx = refl
+item_agrees true false same t code = refl
+item_agrees false true true t Tktt = refl
+item_agrees false true true t Rfnd = refl
+item_agrees false true true t Canx = refl
+item_agrees false true false t Tktt = refl
+item_agrees false true false t Rfnd = refl
+item_agrees false true false t Canx = refl
+item_agrees false false same t code = refl
+
+memo_agrees : (own billed : Bool) (x : ℤ) → cond billed (cond own ((pos 0 -ℤ pos 0) +ℤ x) (pos 0)) (pos 0) ≡ cond own (cond billed x (pos 0)) (pos 0)
+memo_agrees true true x = memos_alone x
+memo_agrees true false x = refl
+memo_agrees false true x = refl
+memo_agrees false false x = refl
+
+-- two filters, one after the other, count what passes both
+twice : {R : Type 0} (f : R → ℤ) (first second : R → Bool) (rows : List R) → sums f (filter second (filter first rows)) ≡ sums (λ r. cond (first r) (cond (second r) (f r) (pos 0)) (pos 0)) rows
+twice f first second rows = sums-filter f second (filter first rows) ∙ sums-filter (λ r. cond (second r) (f r) (pos 0)) first rows
+
+module _ (own : Posting → Bool) (period : ℕ) where
+  through : {R : Type 0} (posting : R → Posting) (counted : R → Bool) (rows : List R) → sums net_of_posting (filter own (map posting (filter counted rows))) ≡ sums (λ r. cond (counted r) (cond (own (posting r)) (net_of_posting (posting r)) (pos 0)) (pos 0)) rows
+  through posting counted rows =
+      sums-filter net_of_posting own (map posting (filter counted rows))
+      ∙ sums-map (λ p. cond (own p) (net_of_posting p) (pos 0)) posting (filter counted rows)
+      ∙ sums-filter (λ r. cond (own (posting r)) (net_of_posting (posting r)) (pos 0)) counted rows
+
+  items_net : (items : List Item) → sums net_of_posting (filter own (item_postings period items)) ≡ sums (λ i. net_of i.transaction) (filter (lives_in period) (filter (λ i. own (item_posting i)) items))
+  items_net items =
+      through item_posting (is_counted period) items
+      ∙ sums_agree _ _ (λ i. item_agrees (own (item_posting i)) i.lives (i.period == period) i.transaction i.transaction.code) items
+      ∙ sym (twice (λ i. net_of i.transaction) (λ i. own (item_posting i)) (lives_in period) items)
+
+  memos_net : (memos : List MemoFields) → sums net_of_posting (filter own (memo_postings period memos)) ≡ sums (λ m. amount_owed m.kind m.amount) (filter (is_billed period) (filter (λ m. own (memo_posting m)) memos))
+  memos_net memos =
+      through memo_posting (is_billed period) memos
+      ∙ sums_agree _ _ (λ m. memo_agrees (own (memo_posting m)) (is_billed period m) (amount_owed m.kind m.amount)) memos
+      ∙ sym (twice (λ m. amount_owed m.kind m.amount) (λ m. own (memo_posting m)) (is_billed period) memos)
+
+  pub own_net : (items : List Item) (memos : List MemoFields) → net_of_postings (filter own (postings period items memos)) ≡ net_of_rows period (filter (λ i. own (item_posting i)) items) (filter (λ m. own (memo_posting m)) memos)
+  own_net items memos =
+      net_is_sum (filter own (postings period items memos))
+      ∙ ap (λ (rows : List Posting). sums net_of_posting rows) (filter-append own (item_postings period items) (memo_postings period memos))
+      ∙ sums-append net_of_posting (filter own (item_postings period items)) (filter own (memo_postings period memos))
+      ∙ ap (λ (x : ℤ). x +ℤ sums net_of_posting (filter own (memo_postings period memos))) (items_net items)
+      ∙ ap (λ (x : ℤ). sums (λ i. net_of i.transaction) (filter (lives_in period) (filter (λ i. own (item_posting i)) items)) +ℤ x) (memos_net memos)
+
+pub agent_net_is : (agent period : ℕ) (items : List Item) (memos : List MemoFields) → net_of_postings (of_agent agent (postings period items memos)) ≡ agent_net agent period items memos
+agent_net_is agent period items memos = own_net (is_of_agent agent) period items memos
+
+pub airline_net_is : (airline period : ℕ) (items : List Item) (memos : List MemoFields) → net_of_postings (of_airline airline (postings period items memos)) ≡ airline_net airline period items memos
+airline_net_is airline period items memos = own_net (is_of_airline airline) period items memos
+
+-- the nets of all codes add up to the net of all postings
+pub side : (code_of : Posting → ℕ) (codes : List ℕ) (rows : List Posting) → AreCodes codes (map code_of rows) → sums (λ code. net_of_postings (filter (λ p. code_of p == code) rows)) codes ≡ net_of_postings rows
+side code_of codes rows are =
+    sums_agree _ _ (λ code. net_is_sum (filter (λ p. code_of p == code) rows)) codes
+    ∙ sums_over_codes net_of_posting code_of codes rows are
+    ∙ sym (net_is_sum rows)

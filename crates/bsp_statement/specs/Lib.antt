@@ -1,0 +1,6 @@
+-- What the contracts of statements and settlements cite.
+pub mod Postings
+pub mod Sums
+pub mod Tallies
+pub mod Texts
+pub mod Reports

@@ -1,0 +1,131 @@
+//! The billing statement of an agent.
+
+ghost use Rattle.std.specs.Prelude.{◌≡◌, ℕ, ◌++◌, List, Some, IfOk, OnOk, string_bytes};
+ghost use Rattle.std.specs.List.{flat_map};
+ghost use Rattle.bsp_fields.specs.Decimal.{fixed_digits};
+ghost use Rattle.bsp_calendar.specs.declared.entries.Period.{Period};
+ghost use Rattle.bsp_rules.specs.declared.rows.Item.{Item as Row};
+ghost use Rattle.bsp_memos.specs.declared.fields.MemoFields.{MemoFields};
+ghost use Rattle.bsp_statement.specs.Tallies.{AreTallies, tally_postings};
+ghost use Rattle.bsp_statement.specs.Postings.{of_agent, postings};
+ghost use Rattle.bsp_statement.specs.Sums.{agent_net, net_of_postings};
+ghost use Rattle.bsp_statement.specs.Texts.{currency_text, figures_line, period_text};
+ghost use Rattle.bsp_statement.specs.Reports.{Answers, IsStatement, closed_period, of_period};
+
+use crate::columns::{push_figures, push_heading};
+use crate::fault::StatementFault;
+use crate::figures::{Figures, MOST_POSTINGS, by_airline, total};
+use crate::period::{closed_period, push_period};
+use crate::posting::Posting;
+use crate::rows::{postings_of, tally_postings};
+use bsp_calendar::{Period, Plan, Terms};
+use bsp_fields::{AgentCode, AirlineCode, NoRoom, PeriodCode};
+use bsp_memos::Memo;
+use bsp_rules::{Item, Tally};
+use std::alloc::Global;
+use std::collections::BTreeMap;
+
+/// Appends a line for each airline.
+fn push_airlines(
+    alloc: Global,
+    out: &mut String,
+    sums: &BTreeMap<AirlineCode, Figures>,
+) -> Result<(), NoRoom>
+    ensures { OnOk result (string_bytes out.new ≡ string_bytes out.old ++ flat_map (λ e. figures_line (fixed_digits 3 e.0) e.1) sums.now.entries) }
+{
+    for (airline, figures) in sums {
+        let name = format!(in alloc; "{airline}")?;
+        push_figures(alloc, out, name.as_str(), figures)?;
+    }
+    Ok(())
+}
+
+/// The statement over an agent's postings.
+fn write_statement(
+    alloc: Global,
+    agent: AgentCode,
+    period: &Period,
+    terms: Option<Terms>,
+    postings: &[Posting],
+) -> Result<String, NoRoom>
+    ensures { IfOk result (λ text. IsStatement agent (period_text period.now.code period.now.remittance (currency_text terms)) postings.now (string_bytes text)) }
+{
+    if postings.len() > MOST_POSTINGS {
+        return Err(NoRoom);
+    }
+    let sums = by_airline(alloc, postings)?;
+    let mut text = format!(in alloc; "STATEMENT {agent} ")?;
+    push_period(alloc, &mut text, period, terms)?;
+    push_heading(&mut text)?;
+    push_airlines(alloc, &mut text, &sums)?;
+    push_figures(alloc, &mut text, "TOT", &total(postings))?;
+    Ok(text)
+}
+
+/// Leaves the postings of an agent.
+fn keep_agent(postings: &mut Vec<Posting>, agent: AgentCode)
+    ensures { postings.new.items ≡ of_agent agent postings.old.items }
+{
+    postings.retain(|posting| posting.agent == agent);
+}
+
+/// The statement of an agent for a closed period, over the agent's rows among those handed in, in any
+/// order.
+///
+/// The first line is `STATEMENT`, the agent, `PERIOD`, the period, `REMIT`, its remittance day and the
+/// currency. Then come the heading, a line for each airline that has a living TKTT or RFND of the
+/// period or a memo billed in it, rising by code, and the line `TOT` over all of them. A line has a name
+/// in 3 places, the number of TKTT and RFND in 8, and CASH, CREDIT, COMMISSION, MEMOS (ADMA less ACMA)
+/// and NET (CASH less COMMISSION plus MEMOS) in 16 places each. Lines end by LF.
+///
+/// # Errors
+///
+/// `NotClosed` where the period is unknown or not closed, and `NoMemory` where it is closed and an
+/// allocation was refused.
+#[tactic(auto, using(crate::proofs::NetLemmas::agent_net_is))]
+pub fn statement(
+    alloc: Global,
+    agent: AgentCode,
+    period: PeriodCode,
+    items: &[Item],
+    memos: &[Memo],
+    plan: &Plan,
+) -> Result<String, StatementFault>
+    ensures text { Answers plan.now period (λ q text. IsStatement agent (of_period plan.now q) (of_agent agent (postings period items.now memos.now)) (string_bytes text)) result }
+    ensures only { IfOk result (λ text. (q : Period) (other : List ℕ) → closed_period plan.now period ≡ Some q → IsStatement agent (of_period plan.now q) (of_agent agent (postings period items.now memos.now)) other → other ≡ string_bytes text) }
+    ensures net { net_of_postings (of_agent agent (postings period items.now memos.now)) ≡ agent_net agent period items.now memos.now }
+{
+    let Some(closed) = closed_period(plan, period) else {
+        return Err(StatementFault::NotClosed);
+    };
+    let mut postings = postings_of(alloc, period, items, memos)?;
+    keep_agent(&mut postings, agent);
+    let text = write_statement(alloc, agent, &closed, plan.terms(), &postings)?;
+    Ok(text)
+}
+
+/// The statement of an agent for a closed period, over the agent's tallies among those handed in, in any
+/// order. Where the tallies are the sums of rows, it is the statement over these rows.
+///
+/// # Errors
+///
+/// `NotClosed` where the period is unknown or not closed, and `NoMemory` where it is closed and an
+/// allocation was refused.
+pub fn statement_of(
+    alloc: Global,
+    agent: AgentCode,
+    period: PeriodCode,
+    tallies: &[Tally],
+    plan: &Plan,
+) -> Result<String, StatementFault>
+    ensures text { Answers plan.now period (λ q text. IsStatement agent (of_period plan.now q) (of_agent agent (tally_postings period tallies.now)) (string_bytes text)) result }
+    ensures rows { (items : List Row) (memos : List MemoFields) → AreTallies items memos tallies.now → Answers plan.now period (λ q text. IsStatement agent (of_period plan.now q) (of_agent agent (postings period items memos)) (string_bytes text)) result }
+{
+    let Some(closed) = closed_period(plan, period) else {
+        return Err(StatementFault::NotClosed);
+    };
+    let mut postings = tally_postings(alloc, period, tallies)?;
+    keep_agent(&mut postings, agent);
+    let text = write_statement(alloc, agent, &closed, plan.terms(), &postings)?;
+    Ok(text)
+}
