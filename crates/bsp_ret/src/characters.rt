@@ -20,22 +20,25 @@ fn all_in_range(text: &[u8], from: u8, to: u8) -> bool
     all
 }
 
+/// Whether each character is a digit.
 #[inline]
-pub(crate) fn all_digits(text: &[u8]) -> bool
+pub fn all_digits(text: &[u8]) -> bool
     ensures { result ≡ all_ascii_digits text.now }
 {
     all_in_range(text, b'0', b'9')
 }
 
+/// Whether each character is a letter from `A` to `Z`.
 #[inline]
-pub(crate) fn all_letters(text: &[u8]) -> bool
+pub fn all_letters(text: &[u8]) -> bool
     ensures { result ≡ list_all is_letter text.now }
 {
     all_in_range(text, b'A', b'Z')
 }
 
+/// Whether each character is a space.
 #[inline]
-pub(crate) fn all_spaces(text: &[u8]) -> bool
+pub fn all_spaces(text: &[u8]) -> bool
     ensures { result ≡ list_all is_space text.now }
 {
     all_in_range(text, b' ', b' ')
@@ -48,16 +51,17 @@ pub(crate) fn all_printable(text: &[u8]) -> bool
     all_in_range(text, b' ', b'~')
 }
 
+/// Whether each character is a digit or a letter from `A` to `Z`.
 #[inline]
-pub(crate) fn all_letters_or_digits(text: &[u8]) -> bool
+pub fn all_letters_or_digits(text: &[u8]) -> bool
     ensures { result ≡ list_all is_letter_or_digit text.now }
 {
     text.iter()
         .all(|b| b.is_ascii_digit() || b'A' <= *b && *b <= b'Z')
 }
 
-/// The number of at most 15 digits.
-fn read_number(text: &[u8]) -> Option<u64>
+/// The number that at most 15 characters write, none where one of them is no digit.
+pub fn read_number(text: &[u8]) -> Option<u64>
     requires { length text.now ≤ 15 }
     ensures { result ≡ (if all_ascii_digits text.now then Some (number_of text.now) else None) }
 {
@@ -71,8 +75,8 @@ fn read_number(text: &[u8]) -> Option<u64>
     Some(number)
 }
 
-/// Whether the digits write the number.
-pub(crate) fn spells(number: usize, text: &[u8]) -> bool
+/// Whether at most 15 characters are digits that write the number.
+pub fn spells(number: usize, text: &[u8]) -> bool
     requires { length text.now ≤ 15 }
     ensures { result ≡ spells number text.now }
 {
@@ -82,8 +86,8 @@ pub(crate) fn spells(number: usize, text: &[u8]) -> bool
     }
 }
 
-/// Whether the digits write the number or less.
-pub(crate) fn spells_at_most(most: u64, text: &[u8]) -> bool
+/// Whether at most 15 characters are digits that write the number or less.
+pub fn spells_at_most(most: u64, text: &[u8]) -> bool
     requires { length text.now ≤ 15 }
     ensures { result ≡ spells_at_most most text.now }
 {

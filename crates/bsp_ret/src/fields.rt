@@ -9,28 +9,31 @@ use crate::characters::{
 use crate::model::{FormOfPayment, TransactionCode};
 use bsp_fields::{Day, read_amount, read_total};
 
-/// Whether a record has its width and its characters.
+/// Whether a record has 136 characters, all from 0x20 to 0x7E.
 #[tactic(auto, unfolding(crate::specs::Records::is_wide))]
-pub(crate) fn is_wide(line: &[u8]) -> bool
+pub fn is_wide(line: &[u8]) -> bool
     ensures value { result ≡ is_wide line.now }
     ensures long { result ≡ true → length line.now ≡ 136 }
 {
     line.len() == 136 && all_printable(line)
 }
 
-fn is_amount(text: &[u8]) -> bool
+/// Whether a text is an amount, in any spelling.
+pub fn is_amount(text: &[u8]) -> bool
     ensures { result ≡ is_amount text.now }
 {
     read_amount(text).is_ok()
 }
 
-fn is_total(text: &[u8]) -> bool
+/// Whether a text is a total, in any spelling.
+pub fn is_total(text: &[u8]) -> bool
     ensures { result ≡ is_total text.now }
 {
     read_total(text).is_ok()
 }
 
-fn is_record_day(text: &[u8]) -> bool
+/// Whether a text is a day as YYMMDD.
+pub fn is_record_day(text: &[u8]) -> bool
     ensures { result ≡ is_record_day text.now }
 {
     Day::read_record(text).is_ok()
@@ -116,9 +119,10 @@ fn tax_fits(place: &[u8]) -> bool
     all_letters_or_digits(&place[..2]) && is_amount(&place[2..13])
 }
 
-/// Whether the used places of taxes come first, with codes that rise, and spaces behind them.
-fn taxes_fit(line: &[u8]) -> bool
-    requires { length line.now ≡ 136 }
+/// Whether the six places of taxes in columns 19 to 96 have the used ones first, with codes that
+/// rise, and spaces behind them.
+pub fn taxes_fit(line: &[u8]) -> bool
+    requires { 96 ≤ length line.now }
     ensures { result ≡ taxes_fit 0 (tax_places line.now) }
 {
     let mut before = 0;

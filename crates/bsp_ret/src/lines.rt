@@ -33,7 +33,7 @@ pub(crate) fn ended_line(bytes: &[u8]) -> Option<(&[u8], &[u8])>
 }
 
 /// The first line, and the bytes behind it and its end, of some bytes.
-pub(crate) fn first_line(bytes: &[u8]) -> (&[u8], &[u8])
+pub fn first_line(bytes: &[u8]) -> (&[u8], &[u8])
     requires { 0 < length bytes.now }
     ensures { HasFirstLine bytes.now result.0.now result.1.now }
 {

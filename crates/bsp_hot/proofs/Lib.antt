@@ -1,0 +1,11 @@
+-- Lemmas of this crate.
+pub mod SizeLemmas
+pub mod SumLemmas
+pub mod PartialItems
+pub mod Drafts
+pub mod Steps
+pub mod Closing
+pub mod Taken
+pub mod Chains
+pub mod Judging
+pub mod LawLemmas

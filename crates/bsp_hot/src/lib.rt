@@ -1,0 +1,19 @@
+//! HOT files, by which the office reports an airline's documents of one period to it: judged exactly
+//! by their definition, to their totals or to the first record at fault.
+#![tactic(auto)]
+
+mod check;
+mod fields;
+mod judge;
+mod model;
+mod name;
+mod places;
+mod reading;
+mod standing;
+mod sums;
+#[cfg(test)]
+mod tests;
+mod values;
+
+pub use check::{check_hot, hot_or_fault};
+pub use model::{HotFault, HotTotals};
