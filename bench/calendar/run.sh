@@ -66,11 +66,39 @@ fn set_last_day(plan: &mut Plan, text: &PlanText) {
     }
 }
 
-fn time(rt: &HostRuntime, name: &str, plan: &Plan, text: &PlanText, count: fn(&Plan, &PlanText) -> usize) -> io::Result<()> {
+fn time_rates(rt: &HostRuntime, plan: &Plan, text: &PlanText) -> io::Result<()> {
     let begun = Instant::now(rt)?;
-    let found = count(plan, text);
+    let found = rates(plan, text);
     let took = begun.elapsed(rt)?.as_micros();
-    println!(rt; "{name} {took} {found}")
+    println!(rt; "rate {took} {found}")
+}
+
+fn time_periods(rt: &HostRuntime, plan: &Plan, text: &PlanText) -> io::Result<()> {
+    let begun = Instant::now(rt)?;
+    let found = periods(plan, text);
+    let took = begun.elapsed(rt)?.as_micros();
+    println!(rt; "period {took} {found}")
+}
+
+fn time_targets(rt: &HostRuntime, plan: &Plan, text: &PlanText) -> io::Result<()> {
+    let begun = Instant::now(rt)?;
+    let found = targets(plan, text);
+    let took = begun.elapsed(rt)?.as_micros();
+    println!(rt; "target {took} {found}")
+}
+
+fn time_airlines(rt: &HostRuntime, plan: &Plan, text: &PlanText) -> io::Result<()> {
+    let begun = Instant::now(rt)?;
+    let found = airlines(plan, text);
+    let took = begun.elapsed(rt)?.as_micros();
+    println!(rt; "has_airline {took} {found}")
+}
+
+fn look_up(rt: &HostRuntime, plan: &Plan, text: &PlanText) -> io::Result<()> {
+    time_rates(rt, plan, text)?;
+    time_periods(rt, plan, text)?;
+    time_targets(rt, plan, text)?;
+    time_airlines(rt, plan, text)
 }
 
 fn measured(rt: &HostRuntime, bytes: &[u8]) -> io::Result<()> {
@@ -80,10 +108,7 @@ fn measured(rt: &HostRuntime, bytes: &[u8]) -> io::Result<()> {
     let mut plan = Plan::empty(rt.alloc());
     publish(rt, &mut plan, &text)?;
     set_last_day(&mut plan, &text);
-    time(rt, "rate", &plan, &text, rates)?;
-    time(rt, "period", &plan, &text, periods)?;
-    time(rt, "target", &plan, &text, targets)?;
-    time(rt, "has_airline", &plan, &text, airlines)
+    look_up(rt, &plan, &text)
 }
 
 fn main(rt: HostRuntime) -> io::Result<()> {

@@ -92,35 +92,37 @@ fn item(number: u64) -> Option<Item> {
     })
 }
 
-fn items(alloc: Global, count: u64) -> Option<Vec<Item>> {
+fn items(alloc: Global, count: u64) -> io::Result<Vec<Item>> {
     let mut items = Vec::new(alloc);
     for number in 0..count {
-        let one = item(number)?;
-        items.push(one).ok()?;
+        if let Some(one) = item(number) {
+            items.push(one)?;
+        }
     }
-    Some(items)
+    Ok(items)
+}
+
+fn settle(rt: &HostRuntime, period: PeriodCode, plan: &Plan, items: &[Item]) -> io::Result<()> {
+    let begun = Instant::now(rt)?;
+    let is_made = settlement(rt.alloc(), period, items, &[], plan).is_ok();
+    let took = begun.elapsed(rt)?.as_micros();
+    println!(rt; "settlement {} {took} {is_made}", items.len())
+}
+
+fn state(rt: &HostRuntime, of: AgentCode, period: PeriodCode, plan: &Plan, items: &[Item]) -> io::Result<()> {
+    let begun = Instant::now(rt)?;
+    let is_made = statement(rt.alloc(), of, period, items, &[], plan).is_ok();
+    let took = begun.elapsed(rt)?.as_micros();
+    println!(rt; "statement {} {took} {is_made}", items.len())
 }
 
 fn measure(rt: &HostRuntime, plan: &Plan, items: &[Item]) -> io::Result<()> {
-    let count = items.len();
     let (Ok(period), Some(first)) = (PeriodCode::read(b"24011"), agent(0)) else {
         return Ok(());
     };
     for _ in 0..5 {
-        let begun = Instant::now(rt)?;
-        let total = match settlement(rt.alloc(), period, items, &[], plan) {
-            Ok(settlement) => settlement.total,
-            Err(_) => 0,
-        };
-        let took = begun.elapsed(rt)?.as_micros();
-        println!(rt; "settlement {count} {took} {total}")?;
-        let begun = Instant::now(rt)?;
-        let length = match statement(rt.alloc(), first, period, items, &[], plan) {
-            Ok(text) => text.len(),
-            Err(_) => 0,
-        };
-        let took = begun.elapsed(rt)?.as_micros();
-        println!(rt; "statement {count} {took} {length}")?;
+        settle(rt, period, plan, items)?;
+        state(rt, first, period, plan, items)?;
     }
     Ok(())
 }
@@ -130,9 +132,8 @@ fn main(rt: HostRuntime) -> io::Result<()> {
         return Ok(());
     };
     for count in [10_000, 100_000] {
-        if let Some(items) = items(rt.alloc(), count) {
-            measure(&rt, &plan, &items)?;
-        }
+        let items = items(rt.alloc(), count)?;
+        measure(&rt, &plan, &items)?;
     }
     Ok(())
 }

@@ -99,7 +99,7 @@ lives_in period i = i.lives && (i.period == period)
 -- the sum of `net` over living items of a period, and of the memos billed in it
 abbrev pub net_of_rows : ℕ → List Item → List MemoFields → ℤ
 net_of_rows period items memos =
-    sums (λ i. net_of i.transaction) (filter (lives_in period) items)
+    sums net_of (filter (lives_in period) items)
     +ℤ sums (λ m. amount_owed m.kind m.amount) (filter (is_billed period) memos)
 
 abbrev pub agent_net : ℕ → ℕ → List Item → List MemoFields → ℤ

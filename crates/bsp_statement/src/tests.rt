@@ -293,68 +293,85 @@ fn tallies(alloc: Global) -> Result<Vec<Tally>, Fail> {
     Ok(tallies)
 }
 
+/// The statement of an agent for 24011 over rows, on the plan in which it is closed.
+fn statement_text(
+    alloc: Global,
+    agent: &[u8],
+    items: &[Item],
+    memos: &[Memo],
+) -> Result<String, Fail> {
+    let agent = AgentCode::read(agent)?;
+    let period = code(b"24011").ok_or("period")?;
+    let plan = closed_plan(alloc)?;
+    Ok(statement(alloc, agent, period, items, memos, &plan)?)
+}
+
+/// The settlement of 24011 over rows, on the same plan.
+fn settlement_found(alloc: Global, items: &[Item], memos: &[Memo]) -> Result<Settlement, Fail> {
+    let period = code(b"24011").ok_or("period")?;
+    let plan = closed_plan(alloc)?;
+    Ok(settlement(alloc, period, items, memos, &plan)?)
+}
+
+/// The statement of an agent from the tallies.
+fn statement_of_tallies(alloc: Global, agent: &[u8]) -> Result<String, Fail> {
+    let agent = AgentCode::read(agent)?;
+    let period = code(b"24011").ok_or("period")?;
+    let plan = closed_plan(alloc)?;
+    Ok(statement_of(alloc, agent, period, &tallies(alloc)?, &plan)?)
+}
+
+/// The settlement from the tallies.
+fn settlement_of_tallies(alloc: Global) -> Result<Settlement, Fail> {
+    let period = code(b"24011").ok_or("period")?;
+    let plan = closed_plan(alloc)?;
+    Ok(settlement_of(alloc, period, &tallies(alloc)?, &plan)?)
+}
+
+const AGENT_A: &[u8] = b"12345675";
+
+const AGENT_B: &[u8] = b"76543213";
+
 #[test]
 fn the_same_reports_from_tallies(rt: HostRuntime) -> Result<(), Fail> {
-    let alloc = rt.alloc();
-    let plan = closed_plan(alloc)?;
-    let tallies = tallies(alloc)?;
-    let period = code(b"24011").ok_or("period")?;
-    let a = agent_a().ok_or("agent")?;
-    let b = agent_b().ok_or("agent")?;
-    let text = statement_of(alloc, a, period, &tallies, &plan)?;
-    assert_eq!(rt; text.as_str(), STATEMENT_OF_A);
-    let text = statement_of(alloc, b, period, &tallies, &plan)?;
-    assert_eq!(rt; text.as_str(), STATEMENT_OF_B);
-    let found = settlement_of(alloc, period, &tallies, &plan)?;
+    let of_a = statement_of_tallies(rt.alloc(), AGENT_A)?;
+    assert_eq!(rt; of_a.as_str(), STATEMENT_OF_A);
+    let of_b = statement_of_tallies(rt.alloc(), AGENT_B)?;
+    assert_eq!(rt; of_b.as_str(), STATEMENT_OF_B);
+    let found = settlement_of_tallies(rt.alloc())?;
     assert_eq!(rt; found.text.as_str(), SETTLEMENT);
     Ok(())
 }
 
 #[test]
 fn the_statements_of_two_agents(rt: HostRuntime) -> Result<(), Fail> {
-    let alloc = rt.alloc();
-    let plan = closed_plan(alloc)?;
-    let items = sales(alloc)?;
-    let memos = billed_memos(alloc)?;
-    let period = code(b"24011").ok_or("period")?;
-    let a = agent_a().ok_or("agent")?;
-    let b = agent_b().ok_or("agent")?;
-    let text = statement(alloc, a, period, &items, &memos, &plan)?;
-    assert_eq!(rt; text.as_str(), STATEMENT_OF_A);
-    let text = statement(alloc, b, period, &items, &memos, &plan)?;
-    assert_eq!(rt; text.as_str(), STATEMENT_OF_B);
+    let items = sales(rt.alloc())?;
+    let memos = billed_memos(rt.alloc())?;
+    let of_a = statement_text(rt.alloc(), AGENT_A, &items, &memos)?;
+    assert_eq!(rt; of_a.as_str(), STATEMENT_OF_A);
+    let of_b = statement_text(rt.alloc(), AGENT_B, &items, &memos)?;
+    assert_eq!(rt; of_b.as_str(), STATEMENT_OF_B);
     Ok(())
 }
 
 #[test]
 fn the_settlement_of_two_agents(rt: HostRuntime) -> Result<(), Fail> {
-    let alloc = rt.alloc();
-    let plan = closed_plan(alloc)?;
-    let items = sales(alloc)?;
-    let memos = billed_memos(alloc)?;
-    let period = code(b"24011").ok_or("period")?;
-    let found = settlement(alloc, period, &items, &memos, &plan)?;
+    let items = sales(rt.alloc())?;
+    let memos = billed_memos(rt.alloc())?;
+    let found = settlement_found(rt.alloc(), &items, &memos)?;
     assert_eq!(rt; found.text.as_str(), SETTLEMENT);
     assert_eq!(rt; found.total, 20500);
     assert_eq!(rt; found.agents.len(), 2);
     assert_eq!(rt; found.airlines.len(), 2);
-    let b = agent_b().ok_or("agent")?;
-    assert_eq!(rt;
-        found.agents.get(1).copied(),
-        Some(AgentNet {
-            agent: b,
-            net: -5000
-        })
-    );
+    let agent = agent_b().ok_or("agent")?;
+    let wanted = AgentNet { agent, net: -5000 };
+    assert_eq!(rt; found.agents.get(1).copied(), Some(wanted));
     Ok(())
 }
 
 #[test]
 fn a_period_without_rows(rt: HostRuntime) -> Result<(), Fail> {
-    let alloc = rt.alloc();
-    let plan = closed_plan(alloc)?;
-    let period = code(b"24011").ok_or("period")?;
-    let found = settlement(alloc, period, &[], &[], &plan)?;
+    let found = settlement_found(rt.alloc(), &[], &[])?;
     assert_eq!(rt;
         found.text.as_str(),
         "SETTLEMENT PERIOD 24011 REMIT 2024-02-15 EUR
@@ -367,32 +384,30 @@ TOTAL   AIRLINES            0.00
 
 #[test]
 fn rows_of_other_periods_change_nothing(rt: HostRuntime) -> Result<(), Fail> {
-    let alloc = rt.alloc();
-    let plan = closed_plan(alloc)?;
-    let mut items = sales(alloc)?;
-    let mut memos = billed_memos(alloc)?;
+    let mut items = sales(rt.alloc())?;
+    let mut memos = billed_memos(rt.alloc())?;
     push_other_items(&mut items)?;
     push_other_memos(&mut memos)?;
-    let period = code(b"24011").ok_or("period")?;
-    let a = agent_a().ok_or("agent")?;
-    let text = statement(alloc, a, period, &items, &memos, &plan)?;
+    let text = statement_text(rt.alloc(), AGENT_A, &items, &memos)?;
     assert_eq!(rt; text.as_str(), STATEMENT_OF_A);
-    let found = settlement(alloc, period, &items, &memos, &plan)?;
+    let found = settlement_found(rt.alloc(), &items, &memos)?;
     assert_eq!(rt; found.text.as_str(), SETTLEMENT);
     Ok(())
 }
 
-#[test]
-fn a_refund_counts_as_a_document_and_takes_off(rt: HostRuntime) -> Result<(), Fail> {
-    let alloc = rt.alloc();
-    let plan = closed_plan(alloc)?;
+/// A sale and a refund of another ticket.
+fn sale_and_refund(alloc: Global) -> Result<Vec<Item>, Fail> {
     let mut items = Vec::new(alloc);
     items.push(cash_sale().ok_or("sale")?)?;
     let refund = cash_item(TransactionCode::Rfnd, b"1300000009", -13500, -995);
     items.push(refund.ok_or("refund")?)?;
-    let period = code(b"24011").ok_or("period")?;
-    let a = agent_a().ok_or("agent")?;
-    let text = statement(alloc, a, period, &items, &[], &plan)?;
+    Ok(items)
+}
+
+#[test]
+fn a_refund_counts_as_a_document_and_takes_off(rt: HostRuntime) -> Result<(), Fail> {
+    let items = sale_and_refund(rt.alloc())?;
+    let text = statement_text(rt.alloc(), AGENT_A, &items, &[])?;
     assert_eq!(rt;
         text.as_str(),
         "STATEMENT 12345675 PERIOD 24011 REMIT 2024-02-15 EUR
@@ -404,27 +419,26 @@ TOT       2          100.00            0.00            0.05            0.00     
     Ok(())
 }
 
+/// Whether all four calls answer on a plan that the period is not closed.
+fn is_refused(alloc: Global, period: &[u8], plan: &Plan) -> Result<bool, Fail> {
+    let wanted = Some(StatementFault::NotClosed);
+    let agent = agent_a().ok_or("agent")?;
+    let period = code(period).ok_or("period")?;
+    Ok(
+        statement(alloc, agent, period, &[], &[], plan).err() == wanted
+            && settlement(alloc, period, &[], &[], plan).err() == wanted
+            && statement_of(alloc, agent, period, &[], plan).err() == wanted
+            && settlement_of(alloc, period, &[], plan).err() == wanted,
+    )
+}
+
 #[test]
 fn only_a_closed_period_has_reports(rt: HostRuntime) -> Result<(), Fail> {
-    let alloc = rt.alloc();
-    let closed = closed_plan(alloc)?;
-    let open = open_plan(alloc)?;
-    let a = agent_a().ok_or("agent")?;
-    let first = code(b"24011").ok_or("period")?;
-    let second = code(b"24012").ok_or("period")?;
-    let unknown = code(b"24021").ok_or("period")?;
-    let fault = statement(alloc, a, second, &[], &[], &closed).err();
-    assert_eq!(rt; fault, Some(StatementFault::NotClosed));
-    let fault = statement(alloc, a, unknown, &[], &[], &closed).err();
-    assert_eq!(rt; fault, Some(StatementFault::NotClosed));
-    let fault = settlement(alloc, first, &[], &[], &open).err();
-    assert_eq!(rt; fault, Some(StatementFault::NotClosed));
-    let fault = settlement(alloc, unknown, &[], &[], &closed).err();
-    assert_eq!(rt; fault, Some(StatementFault::NotClosed));
-    let fault = statement_of(alloc, a, first, &[], &open).err();
-    assert_eq!(rt; fault, Some(StatementFault::NotClosed));
-    let fault = settlement_of(alloc, unknown, &[], &closed).err();
-    assert_eq!(rt; fault, Some(StatementFault::NotClosed));
+    let closed = closed_plan(rt.alloc())?;
+    assert!(rt; is_refused(rt.alloc(), b"24012", &closed)?);
+    assert!(rt; is_refused(rt.alloc(), b"24021", &closed)?);
+    let open = open_plan(rt.alloc())?;
+    assert!(rt; is_refused(rt.alloc(), b"24011", &open)?);
     assert_eq!(rt; StatementFault::NotClosed.code(), "S01");
     assert_eq!(rt; StatementFault::NoMemory.code(), "S02");
     Ok(())
