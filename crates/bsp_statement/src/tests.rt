@@ -443,3 +443,28 @@ fn only_a_closed_period_has_reports(rt: HostRuntime) -> Result<(), Fail> {
     assert_eq!(rt; StatementFault::NoMemory.code(), "S02");
     Ok(())
 }
+
+/// The statement from one tally whose cash is the largest of its type.
+fn wide_statement(alloc: Global) -> Result<String, Fail> {
+    let agent = agent_a().ok_or("agent")?;
+    let period = code(b"24011").ok_or("period")?;
+    let mut tally = tally(agent, b"125", b"24011").ok_or("tally")?;
+    tally.living = 1;
+    tally.cash = i64::MAX;
+    let plan = closed_plan(alloc)?;
+    Ok(statement_of(alloc, agent, period, &[tally], &plan)?)
+}
+
+#[test]
+fn a_value_wider_than_its_place_is_whole(rt: HostRuntime) -> Result<(), Fail> {
+    let text = wide_statement(rt.alloc())?;
+    assert_eq!(rt;
+        text.as_str(),
+        "STATEMENT 12345675 PERIOD 24011 REMIT 2024-02-15 EUR
+AIR    DOCS            CASH          CREDIT      COMMISSION           MEMOS             NET
+125       192233720368547758.07            0.00            0.00            0.0092233720368547758.07
+TOT       192233720368547758.07            0.00            0.00            0.0092233720368547758.07
+"
+    );
+    Ok(())
+}
