@@ -92,14 +92,29 @@ fn item(number: u64) -> Option<Item> {
     })
 }
 
-fn items(alloc: Global, count: u64) -> io::Result<Vec<Item>> {
-    let mut items = Vec::new(alloc);
-    for number in 0..count {
-        if let Some(one) = item(number) {
-            items.push(one)?;
+fn agents(alloc: Global) -> io::Result<Vec<AgentCode>> {
+    let mut agents = Vec::new(alloc);
+    for number in 0..500 {
+        agents.push(agent(number).ok_or(io::ErrorKind::Other)?)?;
+    }
+    Ok(agents)
+}
+
+fn airlines(alloc: Global) -> io::Result<Vec<AirlineCode>> {
+    let mut airlines = Vec::new(alloc);
+    for number in 0..50 {
+        airlines.push(AirlineCode::read(&write_digits::<3>(100 + number)).ok().ok_or(io::ErrorKind::Other)?)?;
+    }
+    Ok(airlines)
+}
+
+fn spread(items: &mut [Item], agents: &[AgentCode], airlines: &[AirlineCode]) {
+    for i in 0..items.len() {
+        if let (Some(agent), Some(airline)) = (agents.get(i % 500), airlines.get(i % 50)) {
+            items[i].agent = *agent;
+            items[i].transaction.document.airline = *airline;
         }
     }
-    Ok(items)
 }
 
 fn settle(rt: &HostRuntime, period: PeriodCode, plan: &Plan, items: &[Item]) -> io::Result<()> {
@@ -131,9 +146,14 @@ fn main(rt: HostRuntime) -> io::Result<()> {
     let Some(plan) = closed_plan(rt.alloc()) else {
         return Ok(());
     };
+    let agents = agents(rt.alloc())?;
+    let airlines = airlines(rt.alloc())?;
     for count in [10_000, 100_000] {
-        let items = items(rt.alloc(), count)?;
-        measure(&rt, &plan, &items)?;
+        if let Some(first) = item(0) {
+            let mut items = vec![in rt.alloc(); first; count]?;
+            spread(&mut items, &agents, &airlines);
+            measure(&rt, &plan, &items)?;
+        }
     }
     Ok(())
 }
