@@ -29,20 +29,30 @@ use bsp_calendar::{Plan, PlanText, read_plan};
 use std::io::{self, Read};
 use std::time::Instant;
 
-fn rates(plan: &Plan, text: &PlanText) -> usize {
-    text.rates.iter().filter(|rate| plan.rate(rate.airline, rate.from) == rate.hundredths).count()
+#[derive(Clone, Copy)]
+enum Call {
+    Rate,
+    Period,
+    Target,
+    HasAirline,
 }
 
-fn periods(plan: &Plan, text: &PlanText) -> usize {
-    text.periods.iter().filter(|period| plan.period(period.code).is_some()).count()
+fn name(call: Call) -> &'static str {
+    match call {
+        Call::Rate => "rate",
+        Call::Period => "period",
+        Call::Target => "target",
+        Call::HasAirline => "has_airline",
+    }
 }
 
-fn targets(plan: &Plan, text: &PlanText) -> usize {
-    text.periods.iter().filter(|period| plan.target(period.last).is_some()).count()
-}
-
-fn airlines(plan: &Plan, text: &PlanText) -> usize {
-    text.rates.iter().filter(|rate| plan.has_airline(rate.airline)).count()
+fn answered(call: Call, plan: &Plan, text: &PlanText) -> usize {
+    match call {
+        Call::Rate => text.rates.iter().filter(|rate| plan.rate(rate.airline, rate.from) == rate.hundredths).count(),
+        Call::Period => text.periods.iter().filter(|period| plan.period(period.code).is_some()).count(),
+        Call::Target => text.periods.iter().filter(|period| plan.target(period.last).is_some()).count(),
+        Call::HasAirline => text.rates.iter().filter(|rate| plan.has_airline(rate.airline)).count(),
+    }
 }
 
 fn read(rt: &HostRuntime, bytes: &[u8]) -> io::Result<Option<PlanText>> {
@@ -66,39 +76,18 @@ fn set_last_day(plan: &mut Plan, text: &PlanText) {
     }
 }
 
-fn time_rates(rt: &HostRuntime, plan: &Plan, text: &PlanText) -> io::Result<()> {
+fn time(rt: &HostRuntime, call: Call, plan: &Plan, text: &PlanText) -> io::Result<()> {
     let begun = Instant::now(rt)?;
-    let found = rates(plan, text);
+    let found = answered(call, plan, text);
     let took = begun.elapsed(rt)?.as_micros();
-    println!(rt; "rate {took} {found}")
-}
-
-fn time_periods(rt: &HostRuntime, plan: &Plan, text: &PlanText) -> io::Result<()> {
-    let begun = Instant::now(rt)?;
-    let found = periods(plan, text);
-    let took = begun.elapsed(rt)?.as_micros();
-    println!(rt; "period {took} {found}")
-}
-
-fn time_targets(rt: &HostRuntime, plan: &Plan, text: &PlanText) -> io::Result<()> {
-    let begun = Instant::now(rt)?;
-    let found = targets(plan, text);
-    let took = begun.elapsed(rt)?.as_micros();
-    println!(rt; "target {took} {found}")
-}
-
-fn time_airlines(rt: &HostRuntime, plan: &Plan, text: &PlanText) -> io::Result<()> {
-    let begun = Instant::now(rt)?;
-    let found = airlines(plan, text);
-    let took = begun.elapsed(rt)?.as_micros();
-    println!(rt; "has_airline {took} {found}")
+    println!(rt; "{} {took} {found}", name(call))
 }
 
 fn look_up(rt: &HostRuntime, plan: &Plan, text: &PlanText) -> io::Result<()> {
-    time_rates(rt, plan, text)?;
-    time_periods(rt, plan, text)?;
-    time_targets(rt, plan, text)?;
-    time_airlines(rt, plan, text)
+    for call in [Call::Rate, Call::Period, Call::Target, Call::HasAirline] {
+        time(rt, call, plan, text)?;
+    }
+    Ok(())
 }
 
 fn measured(rt: &HostRuntime, bytes: &[u8]) -> io::Result<()> {

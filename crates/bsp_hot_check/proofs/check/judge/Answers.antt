@@ -1,0 +1,42 @@
+use Rattle.std.proofs.Common.{◌≡◌, ◌∙◌, Some, None, sym, ap, refl, arith}
+use Rattle.bsp_ret.specs.Lines.{lines}
+use Rattle.bsp_ret.proofs.BuildingLemmas.{lines_empty}
+use Rattle.bsp_hot_check.specs.Reading.{step_line, judge_from}
+use Rattle.bsp_hot_check.proofs.Judging.{judge_nil, judge_cons}
+use Rattle.bsp_hot_check.proofs.check.judge.Goals as goal
+
+pub returns-in_default-clause-judged : goal.returns-in_default-clause-judged
+returns-in_default-clause-judged c =
+    let l = c.loop-rest in
+    let line = c.first_line.result.0.now in
+    let after = c.first_line.result.1.now in
+    let none : step_line l.at line ≡ None = sym c.with_line.ensures.step ∙ c.in_default.is in
+    sym (sym l.invariant.judged ∙ ap (judge_from l.at) c.first_line.ensures.cut ∙ judge_cons l.at line (lines after) ∙ rw none refl)
+
+pub loop-rest-preserved : goal.loop-rest-preserved
+loop-rest-preserved c =
+    let l = c.loop-rest in
+    let line = c.first_line.result.0.now in
+    let after = c.first_line.result.1.now in
+    let some : step_line l.at line ≡ Some c.in-Some.next = sym c.with_line.ensures.step ∙ c.in-Some.is in
+    let passed : judge_from l.at (lines l.rest.now) ≡ judge_from c.in-Some.next (lines after) =
+    ap (judge_from l.at) c.first_line.ensures.cut ∙ judge_cons l.at line (lines after) ∙ rw some refl in
+    record {
+      judged = sym passed ∙ l.invariant.judged;
+      small = c.in-Some.ensures.small.small;
+      room = omega (arith, c.in-Some.ensures.small.records, c.first_line.ensures.shorter, l.invariant.room);
+    }
+
+pub returns-then-is_ended-clause-judged : goal.returns-then-is_ended-clause-judged
+returns-then-is_ended-clause-judged c =
+    let l = c.loop-rest in
+    let none = lines_empty l.rest.now (sym c.is_empty.ensures ∙ c.loop-rest-test.false) in
+    let end = sym c.is_ended.ensures ∙ c.if-is_ended.true in
+    sym (sym l.invariant.judged ∙ ap (judge_from l.at) none ∙ judge_nil l.at ∙ rw end refl)
+
+pub returns-else-is_ended-clause-judged : goal.returns-else-is_ended-clause-judged
+returns-else-is_ended-clause-judged c =
+    let l = c.loop-rest in
+    let none = lines_empty l.rest.now (sym c.is_empty.ensures ∙ c.loop-rest-test.false) in
+    let end = sym c.is_ended.ensures ∙ c.if-is_ended.false in
+    sym (sym l.invariant.judged ∙ ap (judge_from l.at) none ∙ judge_nil l.at ∙ rw end refl)

@@ -1,0 +1,221 @@
+-- HOT files: two headers, for each agent its office, and the totals.
+use Rattle.std.specs.Prelude.{◌≡◌, ◌<◌, ◌≤◌, ℕ, ℤ, pos, ◌+◌, ◌-◌, ◌==◌, nat_lt, Bool, true, ◌&&◌, ◌||◌, List, [], ◌∷◌, ◌++◌, length, take, map, filter, Option, Some, None, ◌⊎◌}
+use Rattle.bsp_hot_check.specs.declared.model.DocumentCode.{DocumentCode}
+use Rattle.bsp_hot_check.specs.declared.model.DocumentCode.TheVariants.{Tktt, Rfnd, Canx, Adma, Acma}
+use Rattle.bsp_hot_check.specs.declared.model.Sums.{Sums}
+use Rattle.bsp_hot_check.specs.declared.model.HotTotals.{HotTotals}
+use Rattle.bsp_hot_check.specs.Records.{Days, Heading, Document, Amounts, Commission, Related, CardPayment, Part, amounts, commission, related, cash, credit, exchange, Record, file_header, period_header, office_header, transaction_header, document, part, code_totals, office_totals, period_totals, file_totals, is_blank, AreRecords}
+use Rattle.bsp_hot_check.specs.Sums.{no_sums, one_document, add, sum_of, with_net, rank, is_code, all_codes}
+
+-- ---- items
+
+-- the forms CA and CC: either, or both in this order
+pub data Forms : Type 0 where
+  cash_only : ℤ → Forms
+  credit_only : CardPayment → Forms
+  cash_and_credit : ℤ → CardPayment → Forms
+
+-- what stands behind BKS24: a TKTT is a sale, or an exchange with its related document and the form EX; an RFND has a related document and no EX; a memo has amounts and the form CA
+pub data Body : Type 0 where
+  sale : Amounts → Commission → Forms → Body
+  exchanged : Amounts → Commission → Related → Option Forms → ℤ → Body
+  refund : Amounts → Commission → Related → Forms → Body
+  cancellation : Body
+  debit_memo : Amounts → ℤ → Body
+  credit_memo : Amounts → ℤ → Body
+
+pub record Item : Type 0 where
+  pub document_is : Document
+  pub body : Body
+
+pub record Office : Type 0 where
+  pub agent : ℕ
+  pub items : List Item
+
+-- the heading, the days of BCH02, and an office for each agent
+pub record File : Type 0 where
+  pub heading : Heading
+  pub days : Days
+  pub offices : List Office
+
+abbrev pub code_of_body : Body → DocumentCode
+code_of_body (sale a c forms) = Tktt
+code_of_body (exchanged a c r forms ex) = Tktt
+code_of_body (refund a c r forms) = Rfnd
+code_of_body cancellation = Canx
+code_of_body (debit_memo a paid) = Adma
+code_of_body (credit_memo a paid) = Acma
+
+abbrev pub forms_parts : Forms → List Part
+forms_parts (cash_only paid) = cash paid ∷ []
+forms_parts (credit_only card) = credit card ∷ []
+forms_parts (cash_and_credit paid card) = cash paid ∷ credit card ∷ []
+
+-- the records behind BKS24
+abbrev pub parts_of : Body → List Part
+parts_of (sale a c forms) = amounts a ∷ commission c ∷ forms_parts forms
+parts_of (exchanged a c r None ex) = amounts a ∷ commission c ∷ related r ∷ exchange ex ∷ []
+parts_of (exchanged a c r (Some forms) ex) = amounts a ∷ commission c ∷ related r ∷ (forms_parts forms ++ exchange ex ∷ [])
+parts_of (refund a c r forms) = amounts a ∷ commission c ∷ related r ∷ forms_parts forms
+parts_of cancellation = []
+parts_of (debit_memo a paid) = amounts a ∷ cash paid ∷ []
+parts_of (credit_memo a paid) = amounts a ∷ cash paid ∷ []
+
+-- a related document is the airline's own, and a memo has no taxes
+abbrev pub IsBody : ℕ → Body → Type 0
+IsBody airline (sale a c forms) = Unit {0}
+IsBody airline (exchanged a c r forms ex) = r.airline ≡ airline
+IsBody airline (refund a c r forms) = r.airline ≡ airline
+IsBody airline cancellation = Unit {0}
+IsBody airline (debit_memo a paid) = is_blank a.taxes ≡ true
+IsBody airline (credit_memo a paid) = is_blank a.taxes ≡ true
+
+abbrev pub code_of_item : Item → DocumentCode
+code_of_item it = code_of_body it.body
+
+-- ---- order
+
+-- a code and a number come before others: by the code, then by the number
+abbrev pub is_before : DocumentCode → ℕ → DocumentCode → ℕ → Bool
+is_before c m d n = nat_lt (rank c) (rank d) || ((rank c == rank d) && nat_lt m n)
+
+abbrev pub IsAfter : Option Item → Item → Type 0
+IsAfter None it = Unit {0}
+IsAfter (Some before) it = is_before (code_of_item before) before.document_is.number (code_of_item it) it.document_is.number ≡ true
+
+-- items behind another, or the first ones: they rise by code and then by number
+abbrev pub AreItems : ℕ → Option Item → List Item → Type 0
+AreItems airline before [] = Unit {0}
+AreItems airline before (it ∷ items) = IsAfter before it × IsBody airline it.body × AreItems airline (Some it) items
+
+abbrev pub IsBehind : Option ℕ → ℕ → Type 0
+IsBehind None agent = Unit {0}
+IsBehind (Some before) agent = before < agent
+
+-- offices behind an agent's, or the first ones: agents rise, and each has an item
+abbrev pub AreOffices : ℕ → Option ℕ → List Office → Type 0
+AreOffices airline before [] = Unit {0}
+AreOffices airline before (o ∷ offices) =
+    IsBehind before o.agent × (0 < length o.items) × AreItems airline None o.items × AreOffices airline (Some o.agent) offices
+
+-- ---- sums
+
+-- BKS39 adds to the commission, and BKP84 to cash or credit; EX is in no total
+abbrev pub part_sums : Part → Sums
+part_sums (amounts a) = no_sums
+part_sums (commission c) = record { documents = 0; cash = pos 0; credit = pos 0; commission = c.amount }
+part_sums (related r) = no_sums
+part_sums (cash paid) = record { documents = 0; cash = paid; credit = pos 0; commission = pos 0 }
+part_sums (credit card) = record { documents = 0; cash = pos 0; credit = card.amount; commission = pos 0 }
+part_sums (exchange ex) = no_sums
+
+-- a document with these records behind BKS24
+abbrev pub document_sums : List Part → Sums
+document_sums parts = add one_document (sum_of (map part_sums parts))
+
+abbrev pub item_sums : Item → Sums
+item_sums it = document_sums (parts_of it.body)
+
+abbrev pub items_sums : List Item → Sums
+items_sums items = sum_of (map item_sums items)
+
+-- the items of one code
+abbrev pub code_sums : DocumentCode → List Item → Sums
+code_sums c items = items_sums (filter (λ it. is_code c (code_of_item it)) items)
+
+abbrev pub file_sums : List Office → Sums
+file_sums offices = sum_of (map (λ o. items_sums o.items) offices)
+
+-- ---- records
+
+-- the item of transaction n
+abbrev pub item_records : ℕ → ℕ → ℕ → Item → List Record
+item_records airline agent n it =
+    transaction_header n airline ∷ document n agent (code_of_item it) it.document_is ∷ map (part n) (parts_of it.body)
+
+abbrev pub items_records : ℕ → ℕ → ℕ → List Item → List Record
+items_records airline agent n [] = []
+items_records airline agent n (it ∷ items) = item_records airline agent n it ++ items_records airline agent (n + 1) items
+
+-- some document of the code stands
+abbrev pub has_code : List Item → DocumentCode → Bool
+has_code items c = nat_lt 0 (code_sums c items).documents
+
+-- a BOT93 for each of the codes that has an item
+abbrev pub codes_records : ℕ → List Item → List DocumentCode → List Record
+codes_records agent items some_codes =
+    map (λ c. code_totals agent c (with_net (code_sums c items))) (filter (has_code items) some_codes)
+
+abbrev pub closing_records : ℕ → List Item → List Record
+closing_records agent items = codes_records agent items all_codes ++ office_totals agent (with_net (items_sums items)) ∷ []
+
+-- an office whose first transaction is n
+abbrev pub office_records : Heading → ℕ → Office → List Record
+office_records h n o =
+    office_header o.agent h.period h.currency
+    ∷ (items_records h.airline o.agent n o.items ++ closing_records o.agent o.items)
+
+abbrev pub offices_records : Heading → ℕ → List Office → List Record
+offices_records h n [] = []
+offices_records h n (o ∷ offices) = office_records h n o ++ offices_records h (n + length o.items) offices
+
+abbrev pub headers : File → List Record
+headers f = file_header f.heading ∷ period_header f.heading.period f.days ∷ []
+
+abbrev pub all_but_last : File → List Record
+all_but_last f =
+    headers f
+    ++ (offices_records f.heading 1 f.offices
+    ++ period_totals f.heading.period (length f.offices) (with_net (file_sums f.offices)) ∷ [])
+
+-- the records of a file
+abbrev pub records_of : File → List Record
+records_of f =
+    all_but_last f ++ file_totals f.heading.airline (length (all_but_last f) + 1) (with_net (file_sums f.offices)) ∷ []
+
+-- ---- files
+
+abbrev pub IsFile : File → Type 0
+IsFile f = AreOffices f.heading.airline None f.offices
+
+-- the lines are the records of the file
+pub record Hot (lines : List (List ℕ)) (file : File) : Type 0 where
+  pub records : AreRecords 1 lines (records_of file)
+  pub sound : IsFile file
+
+abbrev pub totals_of_file : File → HotTotals
+totals_of_file f = record {
+  records = length (records_of f);
+  documents = (file_sums f.offices).documents;
+  net = (with_net (file_sums f.offices)).net;
+}
+
+-- the records are the first of some file's
+pub record Begin (records : List Record) : Type 0 where
+  pub file : File
+  pub sound : IsFile file
+  pub more : List Record
+  pub joined : records ++ more ≡ records_of file
+
+-- the lines are the first records of some file
+pub record BeginFile (lines : List (List ℕ)) : Type 0 where
+  pub records : List Record
+  pub are : AreRecords 1 lines records
+  pub begin : Begin records
+
+-- the lines are those of no file
+abbrev pub IsNoFile : List (List ℕ) → Type 0
+IsNoFile lines = (file : File) → Hot lines file → ⊥
+
+-- the record with this number is the first at fault: those before it are the first records of some file, and with it they are not, or it is the one that is missing
+pub record IsFirstFault (lines : List (List ℕ)) (at : ℕ) : Type 0 where
+  pub counted : 1 ≤ at
+  pub before : BeginFile (take (at - 1) lines)
+  pub fault : ((at ≤ length lines) × (BeginFile (take at lines) → ⊥)) ⊎ ((at ≡ length lines + 1) × IsNoFile lines)
+
+-- some record is at fault or some file has the lines, and not both; no two records are the first at fault, and no two files of the lines have other totals
+pub record HotOrFault (lines : List (List ℕ)) : Type 0 where
+  pub one : ((at : ℕ) × IsFirstFault lines at) ⊎ ((file : File) × Hot lines file)
+  pub not_both : (at : ℕ) (file : File) → IsFirstFault lines at → Hot lines file → ⊥
+  pub one_fault : (at other : ℕ) → IsFirstFault lines at → IsFirstFault lines other → at ≡ other
+  pub same_totals : (file other : File) → Hot lines file → Hot lines other → totals_of_file file ≡ totals_of_file other

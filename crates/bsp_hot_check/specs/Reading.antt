@@ -1,0 +1,41 @@
+-- What a line says, as record number n of a file, and how records stand with it.
+use Rattle.std.specs.Prelude.{ℕ, ◌+◌, ◌&&◌, List, [], ◌∷◌, Option, Some, None, Result, Ok, Err, if◌then◌else◌}
+use Rattle.std.specs.Str.{bytes_eq}
+use Rattle.bsp_ret.specs.Records.{columns, is_wide, spells}
+use Rattle.bsp_hot_check.specs.declared.name.RecordName.{RecordName}
+use Rattle.bsp_hot_check.specs.declared.model.Record.{Record as JudgedRecord}
+use Rattle.bsp_hot_check.specs.declared.model.Standing.{Standing}
+use Rattle.bsp_hot_check.specs.Records.{Record, letters, name_of, fields_fit, record_of}
+use Rattle.bsp_hot_check.specs.Standings.{judged, step, is_ended}
+
+abbrev pub named_record : Option RecordName → List ℕ → Option Record
+named_record None line = None
+named_record (Some name) line =
+    if bytes_eq (columns 1 3 line) (letters name) && fields_fit name line then Some (record_of name line) else None
+
+unfoldable pub record_at : ℕ → List ℕ → Option Record
+record_at n line =
+    if is_wide line && spells n (columns 4 11 line) then named_record (name_of (columns 12 13 line)) line else None
+
+abbrev pub judged_or : Option Record → Option JudgedRecord
+judged_or None = None
+judged_or (Some r) = Some (judged r)
+
+abbrev pub judged_at : ℕ → List ℕ → Option JudgedRecord
+judged_at n line = judged_or (record_at n line)
+
+abbrev pub step_or : Standing → Option JudgedRecord → Option Standing
+step_or at None = None
+step_or at (Some r) = step at r
+
+abbrev pub step_line : Standing → List ℕ → Option Standing
+step_line at line = step_or at (judged_at (at.records + 1) line)
+
+-- how the lines stand behind others, or the number of the first that those before do not allow
+abbrev pub or_fault : ℕ → Option Standing → (Standing → Result Standing ℕ) → Result Standing ℕ
+or_fault n None more = Err n
+or_fault n (Some at) more = more at
+
+unfoldable pub judge_from : Standing → List (List ℕ) → Result Standing ℕ
+judge_from at [] = if is_ended at.place then Ok at else Err (at.records + 1)
+judge_from at (line ∷ lines) = or_fault (at.records + 1) (step_line at line) (λ next. judge_from next lines)

@@ -1,0 +1,397 @@
+-- How records stand with one more, where those before allow it.
+use Rattle.std.specs.Prelude.{◌≡◌, ◌≤◌, ℕ, ℤ, pos, ◌+◌, ◌*◌, ◌^◌, ◌==◌, ◌-ℤ◌, nat_le, nat_lt, unsigned_abs, Bool, true, false, not, ◌&&◌, ◌||◌, List, [], ◌∷◌, Option, Some, None, is_none, if◌then◌else◌}
+use Rattle.std.specs.List.{find}
+use Rattle.std.specs.Str.{bytes_eq}
+use Rattle.bsp_hot_check.specs.declared.model.DocumentCode.{DocumentCode}
+use Rattle.bsp_hot_check.specs.declared.model.DocumentCode.TheVariants.{Tktt, Rfnd, Canx, Adma, Acma}
+use Rattle.bsp_hot_check.specs.declared.model.Sums.{Sums}
+use Rattle.bsp_hot_check.specs.declared.model.HotTotals.{HotTotals}
+use Rattle.bsp_hot_check.specs.declared.model.Heading.{Heading as JudgedHeading}
+use Rattle.bsp_hot_check.specs.declared.model.OfficeHeader.{OfficeHeader}
+use Rattle.bsp_hot_check.specs.declared.model.TransactionHeader.{TransactionHeader}
+use Rattle.bsp_hot_check.specs.declared.model.DocumentKey.{DocumentKey}
+use Rattle.bsp_hot_check.specs.declared.model.Document.{Document as JudgedDocument}
+use Rattle.bsp_hot_check.specs.declared.model.Part.{Part as JudgedPart}
+use Rattle.bsp_hot_check.specs.declared.model.Part.TheVariants as part_is
+use Rattle.bsp_hot_check.specs.declared.model.PartOf.{PartOf}
+use Rattle.bsp_hot_check.specs.declared.model.CodeTotals.{CodeTotals}
+use Rattle.bsp_hot_check.specs.declared.model.OfficeTotals.{OfficeTotals}
+use Rattle.bsp_hot_check.specs.declared.model.PeriodTotals.{PeriodTotals}
+use Rattle.bsp_hot_check.specs.declared.model.FileTotals.{FileTotals}
+use Rattle.bsp_hot_check.specs.declared.model.Record.{Record as JudgedRecord}
+use Rattle.bsp_hot_check.specs.declared.model.Record.TheVariants as record_is
+use Rattle.bsp_hot_check.specs.declared.model.Stage.{Stage}
+use Rattle.bsp_hot_check.specs.declared.model.Stage.TheVariants as stage
+use Rattle.bsp_hot_check.specs.declared.model.Progress.{Progress}
+use Rattle.bsp_hot_check.specs.declared.model.Place.{Place}
+use Rattle.bsp_hot_check.specs.declared.model.Place.TheVariants.{Start, Headed, Between, Opened, Begun, InDocument, Totalled, Closed, Ended}
+use Rattle.bsp_hot_check.specs.declared.model.CodeSums.{CodeSums}
+use Rattle.bsp_hot_check.specs.declared.model.OfficeSums.{OfficeSums}
+use Rattle.bsp_hot_check.specs.declared.model.Standing.{Standing}
+use Rattle.bsp_hot_check.specs.Records.{Heading, Part, amounts, commission, related, cash, credit, exchange, Record, file_header, period_header, office_header, transaction_header, document, part, code_totals, office_totals, period_totals, file_totals, is_blank}
+use Rattle.bsp_hot_check.specs.Sums.{no_sums, one_document, add, has_totals, rank, is_code, all_codes}
+use Rattle.bsp_hot_check.specs.Hot.{is_before}
+
+-- ---- what is judged of a record
+
+abbrev pub judged_part : Part → JudgedPart
+judged_part (amounts a) = part_is.Amounts (not (is_blank a.taxes))
+judged_part (commission c) = part_is.Commission c.amount
+judged_part (related x) = part_is.Related x.airline
+judged_part (cash paid) = part_is.Cash paid
+judged_part (credit card) = part_is.Credit card.amount
+judged_part (exchange ex) = part_is.Exchange
+
+abbrev pub judged_heading : Heading → JudgedHeading
+judged_heading h = record { airline = h.airline; period = h.period; currency = h.currency }
+
+abbrev pub judged : Record → JudgedRecord
+judged (file_header h) = record_is.FileHeader (judged_heading h)
+judged (period_header period days) = record_is.PeriodHeader period
+judged (office_header agent period currency) = record_is.OfficeHeader (record { agent = agent; period = period; currency = currency })
+judged (transaction_header n airline) = record_is.TransactionHeader (record { transaction = n; airline = airline })
+judged (document n agent c d) = record_is.Document (record { transaction = n; agent = agent; key = record { code = c; number = d.number } })
+judged (part n x) = record_is.PartOf (record { transaction = n; part = judged_part x })
+judged (code_totals agent c totals) = record_is.CodeTotals (record { agent = agent; code = c; totals = totals })
+judged (office_totals agent totals) = record_is.OfficeTotals (record { agent = agent; totals = totals })
+judged (period_totals period offices totals) = record_is.PeriodTotals (record { period = period; offices = offices; totals = totals })
+judged (file_totals airline records totals) = record_is.FileTotals (record { airline = airline; records = records; totals = totals })
+
+-- ---- what may stand behind what
+
+abbrev pub is_start : Place → Bool
+is_start Start = true
+is_start _ = false
+
+abbrev pub is_headed : Place → Bool
+is_headed Headed = true
+is_headed _ = false
+
+abbrev pub is_between : Place → Bool
+is_between Between = true
+is_between _ = false
+
+abbrev pub is_begun : Place → Bool
+is_begun Begun = true
+is_begun _ = false
+
+abbrev pub is_totalled : Place → Bool
+is_totalled (Totalled c) = true
+is_totalled _ = false
+
+abbrev pub is_closed : Place → Bool
+is_closed Closed = true
+is_closed _ = false
+
+abbrev pub is_ended : Place → Bool
+is_ended Ended = true
+is_ended _ = false
+
+-- by the code of a document, its last record, and whether it has a BKS45
+abbrev pub is_complete : DocumentCode → Stage → Bool → Bool
+is_complete Tktt stage.Cash has_related = not has_related
+is_complete Tktt stage.Credit has_related = not has_related
+is_complete Tktt stage.Exchange has_related = true
+is_complete Rfnd stage.Cash has_related = true
+is_complete Rfnd stage.Credit has_related = true
+is_complete Canx stage.Document has_related = true
+is_complete Adma stage.Cash has_related = true
+is_complete Acma stage.Cash has_related = true
+is_complete _ _ has_related = false
+
+abbrev pub takes_amounts : DocumentCode → Stage → Bool → Bool
+takes_amounts Tktt stage.Document taxed = true
+takes_amounts Rfnd stage.Document taxed = true
+takes_amounts Adma stage.Document taxed = not taxed
+takes_amounts Acma stage.Document taxed = not taxed
+takes_amounts _ _ taxed = false
+
+abbrev pub takes_commission : DocumentCode → Stage → Bool
+takes_commission Tktt stage.Amounts = true
+takes_commission Rfnd stage.Amounts = true
+takes_commission _ _ = false
+
+abbrev pub takes_related : DocumentCode → Stage → Bool
+takes_related Tktt stage.Commission = true
+takes_related Rfnd stage.Commission = true
+takes_related _ _ = false
+
+abbrev pub takes_cash : DocumentCode → Stage → Bool
+takes_cash Tktt stage.Commission = true
+takes_cash Tktt stage.Related = true
+takes_cash Rfnd stage.Related = true
+takes_cash Adma stage.Amounts = true
+takes_cash Acma stage.Amounts = true
+takes_cash _ _ = false
+
+abbrev pub takes_credit : DocumentCode → Stage → Bool
+takes_credit Tktt stage.Commission = true
+takes_credit Tktt stage.Related = true
+takes_credit Tktt stage.Cash = true
+takes_credit Rfnd stage.Related = true
+takes_credit Rfnd stage.Cash = true
+takes_credit _ _ = false
+
+abbrev pub takes_exchange : DocumentCode → Stage → Bool → Bool
+takes_exchange Tktt stage.Related has_related = has_related
+takes_exchange Tktt stage.Cash has_related = has_related
+takes_exchange Tktt stage.Credit has_related = has_related
+takes_exchange _ _ has_related = false
+
+-- a further record of a document of this airline
+abbrev pub takes : ℕ → Progress → JudgedPart → Bool
+takes airline x (part_is.Amounts taxed) = takes_amounts x.code x.stage taxed
+takes airline x (part_is.Commission amount) = takes_commission x.code x.stage
+takes airline x (part_is.Related other) = takes_related x.code x.stage && (other == airline)
+takes airline x (part_is.Cash amount) = takes_cash x.code x.stage
+takes airline x (part_is.Credit amount) = takes_credit x.code x.stage
+takes airline x part_is.Exchange = takes_exchange x.code x.stage x.related
+
+abbrev pub stage_of : JudgedPart → Stage
+stage_of (part_is.Amounts taxed) = stage.Amounts
+stage_of (part_is.Commission amount) = stage.Commission
+stage_of (part_is.Related other) = stage.Related
+stage_of (part_is.Cash amount) = stage.Cash
+stage_of (part_is.Credit amount) = stage.Credit
+stage_of part_is.Exchange = stage.Exchange
+
+abbrev pub is_related_part : JudgedPart → Bool
+is_related_part (part_is.Related other) = true
+is_related_part _ = false
+
+abbrev pub progress_behind : Progress → JudgedPart → Progress
+progress_behind x y = record { code = x.code; stage = stage_of y; related = x.related || is_related_part y }
+
+abbrev pub is_complete_progress : Progress → Bool
+is_complete_progress x = is_complete x.code x.stage x.related
+
+-- a transaction may begin: behind the office's header, or a complete document
+abbrev pub takes_transaction : Place → Bool
+takes_transaction Opened = true
+takes_transaction (InDocument x) = is_complete_progress x
+takes_transaction _ = false
+
+-- the codes that come later
+abbrev pub later_codes : DocumentCode → List DocumentCode
+later_codes Tktt = Rfnd ∷ Canx ∷ Adma ∷ Acma ∷ []
+later_codes Rfnd = Canx ∷ Adma ∷ Acma ∷ []
+later_codes Canx = Adma ∷ Acma ∷ []
+later_codes Adma = Acma ∷ []
+later_codes Acma = []
+
+-- the codes whose BOT93 may still come
+abbrev pub left_codes : Place → List DocumentCode
+left_codes (InDocument x) = if is_complete_progress x then all_codes else []
+left_codes (Totalled c) = later_codes c
+left_codes _ = []
+
+-- ---- sums by code
+
+abbrev pub sums_at : CodeSums → DocumentCode → Sums
+sums_at sums Tktt = sums.tktt
+sums_at sums Rfnd = sums.rfnd
+sums_at sums Canx = sums.canx
+sums_at sums Adma = sums.adma
+sums_at sums Acma = sums.acma
+
+abbrev pub no_code_sums : CodeSums
+no_code_sums = record { tktt = no_sums; rfnd = no_sums; canx = no_sums; adma = no_sums; acma = no_sums }
+
+abbrev pub add_at : CodeSums → DocumentCode → Sums → CodeSums
+add_at sums Tktt s = record { tktt = add sums.tktt s; rfnd = sums.rfnd; canx = sums.canx; adma = sums.adma; acma = sums.acma }
+add_at sums Rfnd s = record { tktt = sums.tktt; rfnd = add sums.rfnd s; canx = sums.canx; adma = sums.adma; acma = sums.acma }
+add_at sums Canx s = record { tktt = sums.tktt; rfnd = sums.rfnd; canx = add sums.canx s; adma = sums.adma; acma = sums.acma }
+add_at sums Adma s = record { tktt = sums.tktt; rfnd = sums.rfnd; canx = sums.canx; adma = add sums.adma s; acma = sums.acma }
+add_at sums Acma s = record { tktt = sums.tktt; rfnd = sums.rfnd; canx = sums.canx; adma = sums.adma; acma = add sums.acma s }
+
+-- some document of the code stands
+abbrev pub stands_in : CodeSums → DocumentCode → Bool
+stands_in sums c = nat_lt 0 (sums_at sums c).documents
+
+abbrev pub no_office : OfficeSums
+no_office = record { codes = no_code_sums; all = no_sums; latest = None }
+
+-- the rank of the first code whose BOT93 may still come
+abbrev pub first_rank : Place → ℕ
+first_rank (InDocument x) = if is_complete_progress x then 0 else 5
+first_rank (Totalled c) = rank c + 1
+first_rank _ = 5
+
+-- the code has this rank or a later one, and a document stands
+abbrev pub has_from : CodeSums → ℕ → DocumentCode → Bool
+has_from sums first c = nat_le first (rank c) && stands_in sums c
+
+-- the code whose BOT93 comes next
+abbrev pub next_code : CodeSums → Place → Option DocumentCode
+next_code sums place = find (stands_in sums) (left_codes place)
+
+abbrev pub is_next : Option DocumentCode → DocumentCode → Bool
+is_next None c = false
+is_next (Some d) c = is_code d c
+
+abbrev pub is_key_after : Option DocumentKey → DocumentKey → Bool
+is_key_after None k = true
+is_key_after (Some before) k = is_before before.code before.number k.code k.number
+
+abbrev pub is_agent_after : Option ℕ → ℕ → Bool
+is_agent_after None agent = true
+is_agent_after (Some before) agent = nat_lt before agent
+
+abbrev pub is_agent : Option ℕ → ℕ → Bool
+is_agent None agent = false
+is_agent (Some x) agent = agent == x
+
+-- ---- steps
+
+-- how no records stand
+abbrev pub start : Standing
+start = record {
+  records = 0;
+  place = Start;
+  heading = record { airline = 0; period = 0; currency = 0 ∷ 0 ∷ 0 ∷ [] };
+  offices = 0;
+  transactions = 0;
+  file = no_sums;
+  agent = None;
+  office = no_office;
+}
+
+-- one more record, behind which the place is this
+abbrev pub moved : Standing → Place → Standing
+moved at place = record at { records = at.records + 1; place = place }
+
+-- and which adds to the sums
+abbrev pub counted : Standing → Progress → Sums → Standing
+counted at x s =
+    record (moved at (InDocument x)) {
+      file = add at.file s;
+      office = record at.office { codes = add_at at.office.codes x.code s; all = add at.office.all s };
+    }
+
+abbrev pub allowed : Bool → Standing → Option Standing
+allowed test at = if test then Some at else None
+
+unfoldable pub heading_step : Standing → JudgedHeading → Option Standing
+heading_step at h = allowed (is_start at.place) (record (moved at Headed) { heading = h })
+
+unfoldable pub period_step : Standing → ℕ → Option Standing
+period_step at period = allowed (is_headed at.place && (period == at.heading.period)) (moved at Between)
+
+unfoldable pub office_step : Standing → OfficeHeader → Option Standing
+office_step at o =
+    allowed
+    (is_between at.place && is_agent_after at.agent o.agent && (o.period == at.heading.period) && bytes_eq o.currency at.heading.currency)
+    (record (moved at Opened) { agent = Some o.agent })
+
+unfoldable pub transaction_step : Standing → TransactionHeader → Option Standing
+transaction_step at t =
+    allowed
+    (takes_transaction at.place && (t.transaction == at.transactions + 1) && (t.airline == at.heading.airline))
+    (record (moved at Begun) { transactions = at.transactions + 1 })
+
+unfoldable pub document_step : Standing → JudgedDocument → Option Standing
+document_step at d =
+    allowed
+    (is_begun at.place && (d.transaction == at.transactions) && is_agent at.agent d.agent && is_key_after at.office.latest d.key)
+    (counted
+    (record at { office = record at.office { latest = Some d.key } })
+    (record { code = d.key.code; stage = stage.Document; related = false }) one_document)
+
+abbrev pub judged_sums : JudgedPart → Sums
+judged_sums (part_is.Amounts taxed) = no_sums
+judged_sums (part_is.Commission amount) = record { documents = 0; cash = pos 0; credit = pos 0; commission = amount }
+judged_sums (part_is.Related other) = no_sums
+judged_sums (part_is.Cash amount) = record { documents = 0; cash = amount; credit = pos 0; commission = pos 0 }
+judged_sums (part_is.Credit amount) = record { documents = 0; cash = pos 0; credit = amount; commission = pos 0 }
+judged_sums part_is.Exchange = no_sums
+
+abbrev pub part_step_in : Standing → Place → PartOf → Option Standing
+part_step_in at (InDocument x) y =
+    allowed (takes at.heading.airline x y.part && (y.transaction == at.transactions)) (counted at (progress_behind x y.part) (judged_sums y.part))
+part_step_in at _ y = None
+
+unfoldable pub part_step : Standing → PartOf → Option Standing
+part_step at y = part_step_in at at.place y
+
+unfoldable pub code_totals_step : Standing → CodeTotals → Option Standing
+code_totals_step at t =
+    allowed
+    (is_next (next_code at.office.codes at.place) t.code && is_agent at.agent t.agent && has_totals (sums_at at.office.codes t.code) t.totals)
+    (moved at (Totalled t.code))
+
+unfoldable pub office_totals_step : Standing → OfficeTotals → Option Standing
+office_totals_step at t =
+    allowed
+    (is_totalled at.place && is_none (next_code at.office.codes at.place) && is_agent at.agent t.agent && has_totals at.office.all t.totals)
+    (record (moved at Between) { offices = at.offices + 1; office = no_office })
+
+unfoldable pub period_totals_step : Standing → PeriodTotals → Option Standing
+period_totals_step at t =
+    allowed
+    (is_between at.place && (t.period == at.heading.period) && (t.offices == at.offices) && has_totals at.file t.totals)
+    (moved at Closed)
+
+unfoldable pub file_totals_step : Standing → FileTotals → Option Standing
+file_totals_step at t =
+    allowed
+    (is_closed at.place && (t.airline == at.heading.airline) && (t.records == at.records + 1) && has_totals at.file t.totals)
+    (moved at Ended)
+
+abbrev pub step : Standing → JudgedRecord → Option Standing
+step at (record_is.FileHeader h) = heading_step at h
+step at (record_is.PeriodHeader period) = period_step at period
+step at (record_is.OfficeHeader o) = office_step at o
+step at (record_is.TransactionHeader t) = transaction_step at t
+step at (record_is.Document d) = document_step at d
+step at (record_is.PartOf y) = part_step at y
+step at (record_is.CodeTotals t) = code_totals_step at t
+step at (record_is.OfficeTotals t) = office_totals_step at t
+step at (record_is.PeriodTotals t) = period_totals_step at t
+step at (record_is.FileTotals t) = file_totals_step at t
+
+-- the totals of a file that stands so
+abbrev pub totals_at : Standing → HotTotals
+totals_at at = record { records = at.records; documents = at.file.documents; net = at.file.cash -ℤ at.file.commission }
+
+-- ---- sizes
+
+-- sums of this many records, each of which adds one document or an amount of eleven digits at most
+pub record AreSmall (n : ℕ) (s : Sums) : Type 0 where
+  pub documents : s.documents ≤ n
+  pub cash : unsigned_abs s.cash ≤ n * 10 ^ 11
+  pub credit : unsigned_abs s.credit ≤ n * 10 ^ 11
+  pub commission : unsigned_abs s.commission ≤ n * 10 ^ 11
+
+pub record AreSmallSums (n : ℕ) (sums : CodeSums) : Type 0 where
+  pub tktt : AreSmall n sums.tktt
+  pub rfnd : AreSmall n sums.rfnd
+  pub canx : AreSmall n sums.canx
+  pub adma : AreSmall n sums.adma
+  pub acma : AreSmall n sums.acma
+
+-- what stands fits the program's numbers
+pub record IsSmall (at : Standing) : Type 0 where
+  pub offices : at.offices ≤ at.records
+  pub transactions : at.transactions ≤ at.records
+  pub file : AreSmall at.records at.file
+  pub codes : AreSmallSums at.records at.office.codes
+  pub all : AreSmall at.records at.office.all
+
+-- an amount of eleven digits at most
+abbrev pub IsSmallAmount : ℤ → Type 0
+IsSmallAmount amount = unsigned_abs amount ≤ 99_999_999_999
+
+abbrev pub IsSmallPart : JudgedPart → Type 0
+IsSmallPart (part_is.Commission amount) = IsSmallAmount amount
+IsSmallPart (part_is.Cash amount) = IsSmallAmount amount
+IsSmallPart (part_is.Credit amount) = IsSmallAmount amount
+IsSmallPart _ = Unit {0}
+
+abbrev pub IsSmallRecord : JudgedRecord → Type 0
+IsSmallRecord (record_is.PartOf y) = IsSmallPart y.part
+IsSmallRecord _ = Unit {0}
+
+-- with one record more it fits, too
+pub record IsSmallNext (at next : Standing) : Type 0 where
+  pub records : next.records ≡ at.records + 1
+  pub small : IsSmall next

@@ -1,0 +1,54 @@
+-- What documents add up to.
+use Rattle.std.specs.Prelude.{ℕ, pos, ◌+◌, ◌==◌, ◌+ℤ◌, ◌-ℤ◌, Bool, ◌&&◌, List, [], ◌∷◌}
+use Rattle.std.specs.Ordering.{int_eq}
+use Rattle.bsp_hot_check.specs.declared.model.DocumentCode.{DocumentCode}
+use Rattle.bsp_hot_check.specs.declared.model.DocumentCode.TheVariants.{Tktt, Rfnd, Canx, Adma, Acma}
+use Rattle.bsp_hot_check.specs.declared.model.Sums.{Sums}
+use Rattle.bsp_hot_check.specs.declared.model.Totals.{Totals}
+
+-- of nothing, and of one document without records behind BKS24
+abbrev pub no_sums : Sums
+no_sums = record { documents = 0; cash = pos 0; credit = pos 0; commission = pos 0 }
+
+abbrev pub one_document : Sums
+one_document = record { documents = 1; cash = pos 0; credit = pos 0; commission = pos 0 }
+
+unfoldable pub add : Sums → Sums → Sums
+add s t = record {
+  documents = s.documents + t.documents;
+  cash = s.cash +ℤ t.cash;
+  credit = s.credit +ℤ t.credit;
+  commission = s.commission +ℤ t.commission;
+}
+
+abbrev pub sum_of : List Sums → Sums
+sum_of [] = no_sums
+sum_of (s ∷ more) = add s (sum_of more)
+
+-- sums with their net, which is cash less commission
+abbrev pub with_net : Sums → Totals
+with_net s = record { sums = s; net = s.cash -ℤ s.commission }
+
+unfoldable pub is_same : Sums → Sums → Bool
+is_same s t =
+    (s.documents == t.documents) && int_eq s.cash t.cash && int_eq s.credit t.credit && int_eq s.commission t.commission
+
+-- the totals are those of the sums
+unfoldable pub has_totals : Sums → Totals → Bool
+has_totals s t = is_same t.sums s && int_eq t.net (s.cash -ℤ s.commission)
+
+-- ---- codes
+
+-- the place of a code in their order
+abbrev pub rank : DocumentCode → ℕ
+rank Tktt = 0
+rank Rfnd = 1
+rank Canx = 2
+rank Adma = 3
+rank Acma = 4
+
+abbrev pub is_code : DocumentCode → DocumentCode → Bool
+is_code c d = rank c == rank d
+
+abbrev pub all_codes : List DocumentCode
+all_codes = Tktt ∷ Rfnd ∷ Canx ∷ Adma ∷ Acma ∷ []

@@ -1,0 +1,59 @@
+//! A HOT file, from its text to its totals.
+
+ghost use Rattle.std.specs.Prelude.{◌≡◌, ◌≤◌, ℕ, List, length, Ok, IfOk, IfErr};
+ghost use Rattle.bsp_ret.specs.Lines.{lines};
+ghost use Rattle.bsp_hot_check.specs.Hot.{File, Hot, HotOrFault, totals_of_file};
+ghost use Rattle.bsp_hot_check.specs.Standings.{start, IsSmall};
+ghost use Rattle.bsp_hot_check.specs.Reading.{judge_from};
+ghost use Rattle.bsp_hot_check.specs.Checked.{HasTotals, IsFaultOf};
+
+use crate::model::{HotFault, HotTotals, Standing};
+use bsp_ret::first_line;
+
+/// How the lines stand, or the number of the first that those before do not allow.
+fn judge(bytes: &[u8]) -> Result<Standing, usize>
+    ensures judged { result ≡ judge_from start (lines bytes.now) }
+    ensures small { IfOk result (λ at. IsSmall at × (at.records ≤ length bytes.now)) }
+{
+    let mut at = Standing::start();
+    let mut rest = bytes;
+    while !rest.is_empty() {
+        let (line, after) = first_line(rest);
+        let Some(next) = at.with_line(line) else {
+            return Err(at.records + 1);
+        };
+        at = next;
+        rest = after;
+    }
+    if at.place.is_ended() {
+        Ok(at)
+    } else {
+        Err(at.records + 1)
+    }
+}
+
+/// Judges a HOT file in one pass, without memory. It takes LF and CR LF, and a last line without
+/// an end.
+///
+/// # Errors
+///
+/// H04 with the number of the first record at fault.
+pub fn check_hot(bytes: &[u8]) -> Result<HotTotals, HotFault>
+    // What is found is a file, with its totals.
+    ensures found { IfOk result (HasTotals (lines bytes.now)) }
+    // A file is found.
+    ensures only { (file : File) → Hot (lines bytes.now) file → result ≡ Ok (totals_of_file file) }
+    // Which record is at fault.
+    ensures fault { IfErr result (IsFaultOf (lines bytes.now)) }
+{
+    match judge(bytes) {
+        Ok(at) => Ok(at.totals()),
+        Err(number) => Err(HotFault::H04(number)),
+    }
+}
+
+/// Some record is at fault exactly where no file has the lines, one record at most is the first at
+/// fault, and files of the same lines have the same totals.
+pub fn hot_or_fault()
+    ensures { (lines : List (List ℕ)) → HotOrFault lines }
+{}

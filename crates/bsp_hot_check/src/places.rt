@@ -1,0 +1,203 @@
+//! What may stand behind what.
+
+ghost use Rattle.std.specs.Prelude.{◌≡◌};
+ghost use Rattle.bsp_hot_check.specs.Standings.{is_ended, is_complete, is_complete_progress, takes_amounts, takes_commission, takes_related, takes_cash, takes_credit, takes_exchange, takes, stage_of, progress_behind, takes_transaction, stands_in, first_rank, has_from, next_code, judged_sums, IsSmallPart, AreSmall};
+
+use crate::model::{CodeSums, DocumentCode, Part, Place, Progress, Stage, Sums};
+
+impl Progress {
+    /// Whether the document has all its records.
+    pub(crate) fn is_complete(self) -> bool
+        ensures { result ≡ is_complete_progress self }
+    {
+        match self.code {
+            DocumentCode::Tktt => match self.stage {
+                Stage::Cash | Stage::Credit => !self.related,
+                Stage::Exchange => true,
+                _ => false,
+            },
+            DocumentCode::Rfnd => matches!(self.stage, Stage::Cash | Stage::Credit),
+            DocumentCode::Canx => matches!(self.stage, Stage::Document),
+            DocumentCode::Adma | DocumentCode::Acma => matches!(self.stage, Stage::Cash),
+        }
+    }
+
+    fn takes_amounts(self, taxed: bool) -> bool
+        ensures { result ≡ takes_amounts self.code self.stage taxed }
+    {
+        matches!(self.stage, Stage::Document)
+            && match self.code {
+                DocumentCode::Tktt | DocumentCode::Rfnd => true,
+                DocumentCode::Canx => false,
+                DocumentCode::Adma | DocumentCode::Acma => !taxed,
+            }
+    }
+
+    fn takes_commission(self) -> bool
+        ensures { result ≡ takes_commission self.code self.stage }
+    {
+        matches!(self.stage, Stage::Amounts)
+            && matches!(self.code, DocumentCode::Tktt | DocumentCode::Rfnd)
+    }
+
+    fn takes_related(self) -> bool
+        ensures { result ≡ takes_related self.code self.stage }
+    {
+        matches!(self.stage, Stage::Commission)
+            && matches!(self.code, DocumentCode::Tktt | DocumentCode::Rfnd)
+    }
+
+    fn takes_cash(self) -> bool
+        ensures { result ≡ takes_cash self.code self.stage }
+    {
+        match self.code {
+            DocumentCode::Tktt => matches!(self.stage, Stage::Commission | Stage::Related),
+            DocumentCode::Rfnd => matches!(self.stage, Stage::Related),
+            DocumentCode::Canx => false,
+            DocumentCode::Adma | DocumentCode::Acma => matches!(self.stage, Stage::Amounts),
+        }
+    }
+
+    fn takes_credit(self) -> bool
+        ensures { result ≡ takes_credit self.code self.stage }
+    {
+        match self.code {
+            DocumentCode::Tktt => {
+                matches!(self.stage, Stage::Commission | Stage::Related | Stage::Cash)
+            }
+            DocumentCode::Rfnd => matches!(self.stage, Stage::Related | Stage::Cash),
+            _ => false,
+        }
+    }
+
+    fn takes_exchange(self) -> bool
+        ensures { result ≡ takes_exchange self.code self.stage self.related }
+    {
+        matches!(self.code, DocumentCode::Tktt)
+            && matches!(self.stage, Stage::Related | Stage::Cash | Stage::Credit)
+            && self.related
+    }
+
+    /// Whether the record may come next in a document of this airline.
+    pub(crate) fn takes(self, airline: u64, part: Part) -> bool
+        ensures { result ≡ takes airline self part }
+    {
+        match part {
+            Part::Amounts(taxed) => self.takes_amounts(taxed),
+            Part::Commission(_) => self.takes_commission(),
+            Part::Related(other) => self.takes_related() && other == airline,
+            Part::Cash(_) => self.takes_cash(),
+            Part::Credit(_) => self.takes_credit(),
+            Part::Exchange => self.takes_exchange(),
+        }
+    }
+
+    /// With this record.
+    pub(crate) fn behind(self, part: Part) -> Progress
+        ensures { result ≡ progress_behind self part }
+    {
+        Progress {
+            code: self.code,
+            stage: part.stage(),
+            related: self.related || matches!(part, Part::Related(_)),
+        }
+    }
+}
+
+impl Part {
+    fn stage(self) -> Stage
+        ensures { result ≡ stage_of self }
+    {
+        match self {
+            Part::Amounts(_) => Stage::Amounts,
+            Part::Commission(_) => Stage::Commission,
+            Part::Related(_) => Stage::Related,
+            Part::Cash(_) => Stage::Cash,
+            Part::Credit(_) => Stage::Credit,
+            Part::Exchange => Stage::Exchange,
+        }
+    }
+
+    /// What the record adds. EX is in no total.
+    pub(crate) fn sums(self) -> Sums
+        requires { IsSmallPart self }
+        ensures value { result ≡ judged_sums self }
+        ensures one { AreSmall 1 result }
+    {
+        match self {
+            Part::Commission(amount) => Sums {
+                commission: amount as i128,
+                ..Sums::NONE
+            },
+            Part::Cash(amount) => Sums {
+                cash: amount as i128,
+                ..Sums::NONE
+            },
+            Part::Credit(amount) => Sums {
+                credit: amount as i128,
+                ..Sums::NONE
+            },
+            _ => Sums::NONE,
+        }
+    }
+}
+
+impl Place {
+    /// Whether a file ends here.
+    pub(crate) fn is_ended(self) -> bool
+        ensures { result ≡ is_ended self }
+    {
+        matches!(self, Place::Ended)
+    }
+
+    /// Whether a transaction may begin.
+    pub(crate) fn takes_transaction(self) -> bool
+        ensures { result ≡ takes_transaction self }
+    {
+        match self {
+            Place::Opened => true,
+            Place::InDocument(progress) => progress.is_complete(),
+            _ => false,
+        }
+    }
+
+    /// The rank of the first code whose BOT93 may still come.
+    fn first_rank(self) -> u8
+        ensures { result ≡ first_rank self }
+    {
+        match self {
+            Place::InDocument(progress) if progress.is_complete() => 0,
+            Place::Totalled(code) => code.rank() + 1,
+            _ => 5,
+        }
+    }
+}
+
+impl CodeSums {
+    /// Whether the code's rank is this one or later, and a document of the code stands.
+    fn has_from(self, first: u8, code: DocumentCode) -> bool
+        ensures { result ≡ has_from self first code }
+    {
+        first <= code.rank() && self.of(code).documents > 0
+    }
+
+    /// The code whose BOT93 comes next: the first with a document whose BOT93 does not stand yet.
+    pub(crate) fn next_code(self, place: Place) -> Option<DocumentCode>
+        ensures { result ≡ next_code self place }
+    {
+        let first = place.first_rank();
+        if self.has_from(first, DocumentCode::Tktt) {
+            Some(DocumentCode::Tktt)
+        } else if self.has_from(first, DocumentCode::Rfnd) {
+            Some(DocumentCode::Rfnd)
+        } else if self.has_from(first, DocumentCode::Canx) {
+            Some(DocumentCode::Canx)
+        } else if self.has_from(first, DocumentCode::Adma) {
+            Some(DocumentCode::Adma)
+        } else if self.has_from(first, DocumentCode::Acma) {
+            Some(DocumentCode::Acma)
+        } else {
+            None
+        }
+    }
+}

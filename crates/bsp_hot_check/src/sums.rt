@@ -1,0 +1,157 @@
+//! What documents add up to.
+
+ghost use Rattle.std.specs.Prelude.{◌≡◌, ◌^◌, ◌-ℤ◌};
+ghost use Rattle.bsp_hot_check.specs.Sums.{add, is_same, has_totals, rank};
+ghost use Rattle.bsp_hot_check.specs.Hot.{is_before};
+ghost use Rattle.bsp_hot_check.specs.Standings.{sums_at, add_at, AreSmall, AreSmallSums};
+
+use crate::model::{CodeSums, DocumentCode, DocumentKey, OfficeSums, Sums, Totals};
+
+impl DocumentCode {
+    /// The place of the code in their order, from 0.
+    pub(crate) fn rank(self) -> u8
+        ensures { result ≡ rank self }
+    {
+        match self {
+            DocumentCode::Tktt => 0,
+            DocumentCode::Rfnd => 1,
+            DocumentCode::Canx => 2,
+            DocumentCode::Adma => 3,
+            DocumentCode::Acma => 4,
+        }
+    }
+}
+
+impl DocumentKey {
+    /// Whether the other comes behind it: by the code, then by the number.
+    pub(crate) fn is_before(self, other: DocumentKey) -> bool
+        ensures { result ≡ is_before self.code self.number other.code other.number }
+    {
+        let (code, other_code) = (self.code.rank(), other.code.rank());
+        code < other_code || code == other_code && self.number < other.number
+    }
+}
+
+impl Sums {
+    /// Of nothing.
+    pub(crate) const NONE: Sums = Sums {
+        documents: 0,
+        cash: 0,
+        credit: 0,
+        commission: 0,
+    };
+
+    /// Of a document alone.
+    pub(crate) const DOCUMENT: Sums = Sums {
+        documents: 1,
+        cash: 0,
+        credit: 0,
+        commission: 0,
+    };
+
+    /// Both together.
+    #[tactic(auto, unfolding(crate::specs::Sums::add))]
+    pub(crate) fn plus(self, other: Sums) -> Sums
+        requires small { AreSmall (2 ^ 63) self }
+        requires one { AreSmall 1 other }
+        ensures { result ≡ add self other }
+    {
+        Sums {
+            documents: self.documents + other.documents,
+            cash: self.cash + other.cash,
+            credit: self.credit + other.credit,
+            commission: self.commission + other.commission,
+        }
+    }
+
+    /// The net: cash less commission.
+    pub(crate) fn net(self) -> i128
+        requires { AreSmall (2 ^ 63) self }
+        ensures { result ≡ self.cash -ℤ self.commission }
+    {
+        self.cash - self.commission
+    }
+
+    /// Whether the sums are the same.
+    #[tactic(auto, unfolding(crate::specs::Sums::is_same))]
+    fn is_same(self, other: Sums) -> bool
+        ensures { result ≡ is_same self other }
+    {
+        self.documents == other.documents
+            && self.cash == other.cash
+            && self.credit == other.credit
+            && self.commission == other.commission
+    }
+
+    /// Whether the totals are of these sums, and their net is cash less commission.
+    #[tactic(auto, unfolding(crate::specs::Sums::has_totals))]
+    pub(crate) fn has(self, totals: Totals) -> bool
+        requires { AreSmall (2 ^ 63) self }
+        ensures { result ≡ has_totals self totals }
+    {
+        totals.sums.is_same(self) && totals.net == self.net()
+    }
+}
+
+impl CodeSums {
+    /// Of nothing.
+    pub(crate) const NONE: CodeSums = CodeSums {
+        tktt: Sums::NONE,
+        rfnd: Sums::NONE,
+        canx: Sums::NONE,
+        adma: Sums::NONE,
+        acma: Sums::NONE,
+    };
+
+    /// Those of a code.
+    pub(crate) fn of(self, code: DocumentCode) -> Sums
+        ensures { result ≡ sums_at self code }
+    {
+        match code {
+            DocumentCode::Tktt => self.tktt,
+            DocumentCode::Rfnd => self.rfnd,
+            DocumentCode::Canx => self.canx,
+            DocumentCode::Adma => self.adma,
+            DocumentCode::Acma => self.acma,
+        }
+    }
+
+    /// With one more document or part of the code.
+    pub(crate) fn plus(self, code: DocumentCode, sums: Sums) -> CodeSums
+        requires small { AreSmallSums (2 ^ 63) self }
+        requires one { AreSmall 1 sums }
+        ensures { result ≡ add_at self code sums }
+    {
+        match code {
+            DocumentCode::Tktt => CodeSums {
+                tktt: self.tktt.plus(sums),
+                ..self
+            },
+            DocumentCode::Rfnd => CodeSums {
+                rfnd: self.rfnd.plus(sums),
+                ..self
+            },
+            DocumentCode::Canx => CodeSums {
+                canx: self.canx.plus(sums),
+                ..self
+            },
+            DocumentCode::Adma => CodeSums {
+                adma: self.adma.plus(sums),
+                ..self
+            },
+            DocumentCode::Acma => CodeSums {
+                acma: self.acma.plus(sums),
+                ..self
+            },
+        }
+    }
+}
+
+impl OfficeSums {
+    /// Of an office without documents.
+    pub(crate) const NONE: OfficeSums = OfficeSums {
+        codes: CodeSums::NONE,
+        all: Sums::NONE,
+        latest: None,
+    };
+}
