@@ -8,10 +8,10 @@ use Rattle.bsp_hot_check.specs.declared.model.DocumentKey.{DocumentKey}
 use Rattle.bsp_hot_check.specs.declared.model.Sums.{Sums}
 use Rattle.bsp_hot_check.specs.Records.{Days, Heading, Document, Amounts, Commission, Related, Part, Record, period_header, transaction_header, document, part, office_totals, period_totals, file_totals}
 use Rattle.bsp_hot_check.specs.Sums.{add, with_net, all_codes}
-use Rattle.bsp_hot_check.specs.Hot.{cash_only, credit_only, cash_and_credit, Body, sale, exchanged, refund, cancellation, debit_memo, credit_memo, Item, Office, File, code_of_body, code_of_item, parts_of, is_before, IsAfter, AreItems, IsBody, IsBehind, AreOffices, IsFile, document_sums, items_sums, code_sums, file_sums, items_records, has_code, closing_records, office_records, offices_records, headers, all_but_last, records_of}
+use Rattle.bsp_hot_check.specs.Hot.{cash_only, credit_only, cash_and_credit, Body, sale, exchanged, refund, cancellation, debit_memo, credit_memo, Item, Office, File, code_of_body, parts_of, is_before, IsAfter, AreItems, IsBody, IsBehind, AreOffices, IsFile, document_sums, items_sums, code_sums, file_sums, item_records, items_records, has_code, closing_records, office_records, offices_records, headers, all_but_last, records_of}
 use Rattle.bsp_hot_check.specs.Standings.{later_codes, is_key_after, is_agent_after}
 use Rattle.bsp_hot_check.proofs.SumLemmas.{code_sums_more}
-use Rattle.bsp_hot_check.proofs.PartialItems.{PartialItem, ticket, ticket_amounts, ticket_commission, ticket_related, ticket_paid, refunding, refund_amounts, refund_commission, refund_related, debit, debit_amounts, credited, credited_amounts, whole, first, IsNextPart, next_ticket_amounts, next_ticket_commission, next_ticket_related, next_sale_cash, next_sale_credit, next_sale_both, next_paid_cash, next_paid_credit, next_paid_both, next_exchange, next_paid_exchange, next_refund_amounts, next_refund_commission, next_refund_related, next_refund_cash, next_refund_credit, next_refund_both, next_debit_amounts, next_debit_cash, next_credited_amounts, next_credited_cash}
+use Rattle.bsp_hot_check.proofs.PartialItems.{PartialItem, ticket, ticket_amounts, ticket_commission, ticket_related, ticket_paid, refunding, refund_amounts, refund_commission, refund_related, debit, debit_amounts, credited, credited_amounts, whole, first, item_with, item_is_with, IsNextPart, next_ticket_amounts, next_ticket_commission, next_ticket_related, next_sale_cash, next_sale_credit, next_sale_both, next_paid_cash, next_paid_credit, next_paid_both, next_exchange, next_paid_exchange, next_refund_amounts, next_refund_commission, next_refund_related, next_refund_cash, next_refund_credit, next_refund_both, next_debit_amounts, next_debit_cash, next_credited_amounts, next_credited_cash}
 use Rattle.bsp_hot_check.proofs.Drafts.{Draft, nothing, headed, between, opened, begun, in_item, totalled, closed, ended, count_items, number, code_records, key_of, latest_key, last_agent, IsOpen, IsInItem, IsTotalling, IsSoundDraft, Next}
 use Rattle.bsp_hot_check.proofs.Steps.{begins, no_offices, heads, opens, begins_first, begins_next, number_more, last_snoc, documents, parts}
 use Rattle.bsp_hot_check.proofs.Closing.{is_code_refl, count_snoc, last_agent_snoc, AreInOrder, later_in_order, found_all, totals_first, totals_next, with_office, totals, closes, ends}
@@ -86,16 +86,18 @@ parts_chain f agent items d g h (x ∷ xs) is all =
     (in_item f agent items d all.0, n, parts_chain f agent items d all.0 h xs n.sound all.2)
 
 -- the records of an item behind its BKT06
-item_chain : (f : File) (agent : ℕ) (items : List Item) (it : Item) → IsOpen f agent items → is_key_after (latest_key items) (key_of it) ≡ true → IsBody f.heading.airline it.body
-    → Chain (begun f agent items) (document (number f items) agent (code_of_item it) it.document_is ∷ map (part (number f items)) (parts_of it.body)) (in_item f agent items it.document_is (whole it.body))
-item_chain f agent items it is_open after body =
-    let n = documents f agent items (code_of_item it) it.document_is is_open after in
-    (in_item f agent items it.document_is (first (code_of_item it)), n, parts_chain f agent items it.document_is (first (code_of_item it)) (whole it.body) (parts_of it.body) n.sound (parts_lead f.heading.airline it.body body))
+item_chain : (f : File) (agent : ℕ) (items : List Item) (d : Document) (body : Body) → IsOpen f agent items → is_key_after (latest_key items) (key_of (item_with d body)) ≡ true → IsBody f.heading.airline body
+    → Chain (begun f agent items) (document (number f items) agent (code_of_body body) d ∷ map (part (number f items)) (parts_of body)) (in_item f agent items d (whole body))
+item_chain f agent items d body is_open after sound =
+    let c = code_of_body body in
+    let n = documents f agent items c d is_open after in
+    (in_item f agent items d (first c), n, parts_chain f agent items d (first c) (whole body) (parts_of body) n.sound (parts_lead f.heading.airline body sound))
 
-item_sound : (f : File) (agent : ℕ) (items : List Item) (it : Item) → IsOpen f agent items → is_key_after (latest_key items) (key_of it) ≡ true → IsBody f.heading.airline it.body → IsInItem f agent items it.document_is (whole it.body)
-item_sound f agent items it is_open after body =
-    let n = documents f agent items (code_of_item it) it.document_is is_open after in
-    parts_sound f agent items it.document_is (first (code_of_item it)) (whole it.body) (parts_of it.body) n.sound (parts_lead f.heading.airline it.body body)
+item_sound : (f : File) (agent : ℕ) (items : List Item) (d : Document) (body : Body) → IsOpen f agent items → is_key_after (latest_key items) (key_of (item_with d body)) ≡ true → IsBody f.heading.airline body → IsInItem f agent items d (whole body)
+item_sound f agent items d body is_open after sound =
+    let c = code_of_body body in
+    let n = documents f agent items c d is_open after in
+    parts_sound f agent items d (first c) (whole body) (parts_of body) n.sound (parts_lead f.heading.airline body sound)
 
 -- ---- items
 
@@ -105,34 +107,30 @@ pub record Items (f : File) (agent : ℕ) (d : Draft) (records : List Record) (a
   pub document_is : Document
   pub body : Body
   pub sound : IsInItem f agent before document_is (whole body)
-  pub all_are : before ++ record { document_is = document_is; body = body } ∷ [] ≡ all
+  pub all_are : before ++ item_with document_is body ∷ [] ≡ all
   pub chain : Chain d records (in_item f agent before document_is (whole body))
 
 after_last : (done : List Item) (last next : Item) → IsAfter (Some last) next → is_key_after (latest_key (done ++ last ∷ [])) (key_of next) ≡ true
 after_last done last next after = rw (last_snoc None done last) after
 
-items_chain : (items : List Item) (f : File) (agent : ℕ) (done : List Item) (last : Item) → IsInItem f agent done last.document_is (whole last.body) → AreItems f.heading.airline (Some last) items
-    → Items f agent (in_item f agent done last.document_is (whole last.body)) (items_records f.heading.airline agent (number f (done ++ last ∷ [])) items) ((done ++ last ∷ []) ++ items)
-items_chain [] f agent done last is are = record {
-  before = done;
-  document_is = last.document_is;
-  body = last.body;
-  sound = is;
-  all_are = sym (append-nil (done ++ last ∷ []));
-  chain = refl;
-}
-items_chain (it ∷ items) f agent done last is are =
-    let done2 = done ++ last ∷ [] in
+-- items behind one
+abbrev ItemsBehind : File → ℕ → List Item → Document → Body → List Item → Type 0
+ItemsBehind f agent done d body items =
+    Items f agent (in_item f agent done d (whole body)) (items_records f.heading.airline agent (number f (done ++ item_with d body ∷ [])) items) ((done ++ item_with d body ∷ []) ++ items)
+
+-- one more of them, where further ones lead on from it
+one_item : (items : List Item) (f : File) (agent : ℕ) (done : List Item) (d0 : Document) (body0 : Body) (d : Document) (body : Body) → IsInItem f agent done d0 (whole body0) → IsAfter (Some (item_with d0 body0)) (item_with d body) → IsBody f.heading.airline body
+    → (IsInItem f agent (done ++ item_with d0 body0 ∷ []) d (whole body) → ItemsBehind f agent (done ++ item_with d0 body0 ∷ []) d body items) → ItemsBehind f agent done d0 body0 (item_with d body ∷ items)
+one_item items f agent done d0 body0 d body is after sound further_items =
+    let done2 = done ++ item_with d0 body0 ∷ [] in
+    let it = item_with d body in
     let airline = f.heading.airline in
-    let header = begins_next f agent done last.document_is last.body is in
-    let after = after_last done last it are.0 in
-    let chain = item_chain f agent done2 it header.sound after are.1 in
-    let sound = item_sound f agent done2 it header.sound after are.1 in
-    let rest = items_chain items f agent done2 it sound are.2 in
-    let first_part : Chain (in_item f agent done last.document_is (whole last.body)) (transaction_header (number f done2) airline ∷ document (number f done2) agent (code_of_item it) it.document_is ∷ map (part (number f done2)) (parts_of it.body)) (in_item f agent done2 it.document_is (whole it.body)) =
-    (begun f agent done2, header, chain) in
-    let numbers : Chain (in_item f agent done2 it.document_is (whole it.body)) (items_records airline agent (number f done2 + 1) items) (in_item f agent rest.before rest.document_is (whole rest.body)) =
-    rw (← number_more f done2 it) rest.chain in
+    let header = begins_next f agent done d0 body0 is in
+    let key = after_last done (item_with d0 body0) it after in
+    let chain = item_chain f agent done2 d body header.sound key sound in
+    let rest = further_items (item_sound f agent done2 d body header.sound key sound) in
+    let first_part : Chain (in_item f agent done d0 (whole body0)) (item_records airline agent (number f done2) it) (in_item f agent done2 d (whole body)) = (begun f agent done2, header, chain) in
+    let numbers : Chain (in_item f agent done2 d (whole body)) (items_records airline agent (number f done2 + 1) items) (in_item f agent rest.before rest.document_is (whole rest.body)) = rw (← number_more f done2 it) rest.chain in
     record {
       before = rest.before;
       document_is = rest.document_is;
@@ -140,31 +138,45 @@ items_chain (it ∷ items) f agent done last is are =
       sound = rest.sound;
       all_are = rest.all_are ∙ append_assoc done2 (it ∷ []) items;
       chain =
-          joined (in_item f agent done last.document_is (whole last.body)) (in_item f agent done2 it.document_is (whole it.body)) (in_item f agent rest.before rest.document_is (whole rest.body))
-          (transaction_header (number f done2) airline ∷ document (number f done2) agent (code_of_item it) it.document_is ∷ map (part (number f done2)) (parts_of it.body))
-          (items_records airline agent (number f done2 + 1) items) first_part numbers;
+          joined (in_item f agent done d0 (whole body0)) (in_item f agent done2 d (whole body)) (in_item f agent rest.before rest.document_is (whole rest.body))
+          (item_records airline agent (number f done2) it) (items_records airline agent (number f done2 + 1) items) first_part numbers;
     }
 
+items_chain : (items : List Item) (f : File) (agent : ℕ) (done : List Item) (d : Document) (body : Body) → IsInItem f agent done d (whole body) → AreItems f.heading.airline (Some (item_with d body)) items → ItemsBehind f agent done d body items
+items_chain [] f agent done d body is are = record {
+  before = done;
+  document_is = d;
+  body = body;
+  sound = is;
+  all_are = sym (append-nil (done ++ item_with d body ∷ []));
+  chain = refl;
+}
+items_chain (it ∷ items) f agent done d body is are =
+    let h = are.1 in
+    let P : Item → Type 0 = λ x. IsAfter (Some (item_with d body)) x → AreItems f.heading.airline (Some x) items → ItemsBehind f agent done d body (x ∷ items) in
+    subst P (sym (item_is_with f.heading.airline it h))
+    (λ after more. one_item items f agent done d body it.document_is h.body is after h.sound (λ sound. items_chain items f agent (done ++ item_with d body ∷ []) it.document_is h.body sound more)) are.0 are.2
+
 -- all items of an office
-all_items_chain : (f : File) (agent : ℕ) (items : List Item) → IsOpen f agent [] → 0 < length items → AreItems f.heading.airline None items
-    → Items f agent (opened f agent) (items_records f.heading.airline agent (1 + count_items f.offices) items) items
-all_items_chain f agent [] is some are = absurd (omega arith)
-all_items_chain f agent (it ∷ items) is some are =
+abbrev AllItems : File → ℕ → List Item → Type 0
+AllItems f agent items = Items f agent (opened f agent) (items_records f.heading.airline agent (1 + count_items f.offices) items) items
+
+first_items : (f : File) (agent : ℕ) (d : Document) (body : Body) (items : List Item) → IsOpen f agent [] → IsBody f.heading.airline body → AreItems f.heading.airline (Some (item_with d body)) items → AllItems f agent (item_with d body ∷ items)
+first_items f agent d body items is body_is are =
+    let it = item_with d body in
     let airline = f.heading.airline in
     let n = 1 + count_items f.offices in
     let header = begins_first f agent is in
-    let chain = item_chain f agent [] it header.sound refl are.1 in
-    let sound = item_sound f agent [] it header.sound refl are.1 in
-    let rest = items_chain items f agent [] it sound are.2 in
-    let first_part : Chain (opened f agent) (transaction_header (number f []) airline ∷ document (number f []) agent (code_of_item it) it.document_is ∷ map (part (number f [])) (parts_of it.body)) (in_item f agent [] it.document_is (whole it.body)) =
-    (begun f agent [], header, chain) in
-    let all : Chain (opened f agent) ((transaction_header (number f []) airline ∷ document (number f []) agent (code_of_item it) it.document_is ∷ map (part (number f [])) (parts_of it.body)) ++ items_records airline agent (number f (it ∷ [])) items) (in_item f agent rest.before rest.document_is (whole rest.body)) =
-    joined (opened f agent) (in_item f agent [] it.document_is (whole it.body)) (in_item f agent rest.before rest.document_is (whole rest.body))
-    (transaction_header (number f []) airline ∷ document (number f []) agent (code_of_item it) it.document_is ∷ map (part (number f [])) (parts_of it.body))
+    let chain = item_chain f agent [] d body header.sound refl body_is in
+    let sound = item_sound f agent [] d body header.sound refl body_is in
+    let rest = items_chain items f agent [] d body sound are in
+    let first_part : Chain (opened f agent) (item_records airline agent (number f []) it) (in_item f agent [] d (whole body)) = (begun f agent [], header, chain) in
+    let all : Chain (opened f agent) (item_records airline agent (number f []) it ++ items_records airline agent (number f (it ∷ [])) items) (in_item f agent rest.before rest.document_is (whole rest.body)) =
+    joined (opened f agent) (in_item f agent [] d (whole body)) (in_item f agent rest.before rest.document_is (whole rest.body)) (item_records airline agent (number f []) it)
     (items_records airline agent (number f (it ∷ [])) items) first_part rest.chain in
     let at_first : number f [] ≡ n = add-zero n in
     let at_next : number f (it ∷ []) ≡ n + 1 = omega arith in
-    let P : ℕ → ℕ → Type 0 = λ i j. Chain (opened f agent) ((transaction_header i airline ∷ document i agent (code_of_item it) it.document_is ∷ map (part i) (parts_of it.body)) ++ items_records airline agent j items) (in_item f agent rest.before rest.document_is (whole rest.body)) in
+    let P : ℕ → ℕ → Type 0 = λ i j. Chain (opened f agent) (item_records airline agent i it ++ items_records airline agent j items) (in_item f agent rest.before rest.document_is (whole rest.body)) in
     record {
       before = rest.before;
       document_is = rest.document_is;
@@ -173,6 +185,13 @@ all_items_chain f agent (it ∷ items) is some are =
       all_are = rest.all_are;
       chain = subst (λ (i : ℕ). P i (n + 1)) at_first (subst (λ (j : ℕ). P (number f []) j) at_next all);
     }
+
+all_items_chain : (f : File) (agent : ℕ) (items : List Item) → IsOpen f agent [] → 0 < length items → AreItems f.heading.airline None items → AllItems f agent items
+all_items_chain f agent [] is some are = absurd (omega arith)
+all_items_chain f agent (it ∷ items) is some are =
+    let h = are.1 in
+    let P : Item → Type 0 = λ x. AreItems f.heading.airline (Some x) items → AllItems f agent (x ∷ items) in
+    subst P (sym (item_is_with f.heading.airline it h)) (λ more. first_items f agent it.document_is h.body items is h.sound more) are.2
 
 -- ---- the totals of an office
 
@@ -207,11 +226,11 @@ unfolding add
 one_counted s xs = omega arith
 
 -- the code of the last item has an item
-last_has : (items : List Item) (it : Item) → has_code (items ++ it ∷ []) (code_of_item it) ≡ true
+last_has : (items : List Item) (it : Item) → has_code (items ++ it ∷ []) it.code ≡ true
 last_has items it =
-    let c = code_of_item it in
+    let c = it.code in
     let more = code_sums_more c items it (is_code_refl c) in
-    lt-ltb 0 _ (subst (λ (s : Sums). 0 < s.documents) (sym more) (one_counted (code_sums c items) (parts_of it.body)))
+    lt-ltb 0 _ (subst (λ (s : Sums). 0 < s.documents) (sym more) (one_counted (code_sums c items) it.parts))
 
 -- the rest of the codes, and BOT94
 rest_of_totals : (xs : List DocumentCode) (f : File) (agent : ℕ) (items : List Item) (done : List DocumentCode) (c : DocumentCode) → AreInOrder xs → find (has_code items) (later_codes c) ≡ find (has_code items) xs → IsTotalling f agent items done c
@@ -230,11 +249,11 @@ rest_of_totals (x ∷ xs) f agent items done c order e is =
     ]
 
 closing_chain : (f : File) (agent : ℕ) (items : List Item) (d : Document) (body : Body) → IsInItem f agent items d (whole body)
-    → Chain (in_item f agent items d (whole body)) (closing_records agent (items ++ record { document_is = d; body = body } ∷ [])) (between (with_office f agent (items ++ record { document_is = d; body = body } ∷ [])))
+    → Chain (in_item f agent items d (whole body)) (closing_records agent (items ++ item_with d body ∷ [])) (between (with_office f agent (items ++ item_with d body ∷ [])))
 closing_chain f agent items d body is =
-    let it : Item = record { document_is = d; body = body } in
+    let it = item_with d body in
     let items2 = items ++ it ∷ [] in
-    let some = found_some (has_code items2) (code_of_item it) (last_has items it) in
+    let some = found_some (has_code items2) it.code (last_has items it) in
     let c = some.0 in
     let n = totals_first f agent items d body c is some.1 in
     let rest = rest_of_totals (later_codes c) f agent items2 (c ∷ []) c (later_in_order c) refl n.sound in
@@ -326,7 +345,7 @@ between_reaches f file = record { file = f; sound = file; more = end_records f; 
 whole_reaches : (f : File) (agent : ℕ) (items : List Item) (d : Document) (body : Body) → IsInItem f agent items d (whole body) → Reaches (in_item f agent items d (whole body))
 whole_reaches f agent items d body is =
     let c = closing_chain f agent items d body is in
-    let items2 = items ++ record { document_is = d; body = body } ∷ [] in
+    let items2 = items ++ item_with d body ∷ [] in
     let from = in_item f agent items d (whole body) in
     let file = chain_sound from (between (with_office f agent items2)) (closing_records agent items2) c is in
     further from (between (with_office f agent items2)) (closing_records agent items2) c (between_reaches (with_office f agent items2) file)

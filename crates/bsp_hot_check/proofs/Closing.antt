@@ -16,7 +16,7 @@ use Rattle.bsp_hot_check.specs.Sums.{add, with_net, has_totals, is_code, all_cod
 use Rattle.bsp_hot_check.specs.Hot.{Body, Item, Office, File, AreItems, IsBehind, AreOffices, IsFile, items_sums, code_sums, file_sums, items_records, has_code, office_records, offices_records, headers, all_but_last}
 use Rattle.bsp_hot_check.specs.Standings.{later_codes, left_codes, sums_at, stands_in, next_code, is_next, is_agent_after, code_totals_step, office_totals_step, period_totals_step, file_totals_step}
 use Rattle.bsp_hot_check.proofs.SumLemmas.{file_sums_snoc, codes_of}
-use Rattle.bsp_hot_check.proofs.PartialItems.{whole, progress_of, is_whole}
+use Rattle.bsp_hot_check.proofs.PartialItems.{whole, progress_of, item_with, is_whole}
 use Rattle.bsp_hot_check.proofs.Drafts.{between, in_item, totalled, closed, ended, count_items, number, front, with_items, code_records, so_far, last_agent, office_of, office_with, made, IsInItem, IsTotalling, Next}
 use Rattle.bsp_hot_check.proofs.Steps.{allowed_as, same, one_more, eqb-refl, has_with_net, office_whole, with_items_snoc, open_snoc}
 
@@ -105,10 +105,10 @@ code_total r r2 p h o t t2 f agent w items c e found er et =
     allowed_as _ _ _ (and_from _ _ (and_from _ _ next (eqb-refl agent)) totals)
     (same _ _ _ _ _ _ _ _ _ _ _ _ _ _ _ er refl refl et (ap (λ (x : OfficeSums). add f x.all) e) refl e)
 
-pub totals_first : (f : File) (agent : ℕ) (items : List Item) (d : Document) (body : Body) (c : DocumentCode) → IsInItem f agent items d (whole body) → find (has_code (items ++ record { document_is = d; body = body } ∷ [])) all_codes ≡ Some c
-    → Next (in_item f agent items d (whole body)) (code_totals agent c (with_net (code_sums c (items ++ record { document_is = d; body = body } ∷ [])))) (totalled f agent (items ++ record { document_is = d; body = body } ∷ []) (c ∷ []) c)
+pub totals_first : (f : File) (agent : ℕ) (items : List Item) (d : Document) (body : Body) (c : DocumentCode) → IsInItem f agent items d (whole body) → find (has_code (items ++ item_with d body ∷ [])) all_codes ≡ Some c
+    → Next (in_item f agent items d (whole body)) (code_totals agent c (with_net (code_sums c (items ++ item_with d body ∷ [])))) (totalled f agent (items ++ item_with d body ∷ []) (c ∷ []) c)
 totals_first f agent items d body c g found =
-    let it : Item = record { document_is = d; body = body } in
+    let it = item_with d body in
     let items2 = items ++ it ∷ [] in
     let r = code_totals agent c (with_net (code_sums c items2)) in
     let records : so_far (totalled f agent items2 (c ∷ []) c) ≡ so_far (in_item f agent items d (whole body)) ++ r ∷ [] =

@@ -11,7 +11,7 @@ use Rattle.bsp_hot_check.specs.declared.model.OfficeSums.{OfficeSums}
 use Rattle.bsp_hot_check.specs.declared.model.Standing.{Standing}
 use Rattle.bsp_hot_check.specs.Records.{Heading, Document, Record, file_header, office_header, transaction_header, document, part, code_totals}
 use Rattle.bsp_hot_check.specs.Sums.{no_sums, add, with_net, all_codes}
-use Rattle.bsp_hot_check.specs.Hot.{Item, Office, File, code_of_item, document_sums, items_sums, code_sums, file_sums, items_records, has_code, headers, offices_records, all_but_last, records_of, AreItems, IsFile}
+use Rattle.bsp_hot_check.specs.Hot.{Item, Office, File, document_sums, items_sums, code_sums, file_sums, items_records, has_code, headers, offices_records, all_but_last, records_of, AreItems, IsFile}
 use Rattle.bsp_hot_check.specs.Standings.{judged, judged_heading, later_codes, no_office, is_key_after, is_agent_after, add_at, start, step}
 use Rattle.bsp_hot_check.proofs.SumLemmas.{codes_of}
 use Rattle.bsp_hot_check.proofs.PartialItems.{PartialItem, code_of, parts_so_far, progress_of, IsSound}
@@ -69,7 +69,7 @@ so_far (ended f) = records_of f
 -- ---- its standing
 
 abbrev pub key_of : Item → DocumentKey
-key_of it = record { code = code_of_item it; number = it.document_is.number }
+key_of it = record { code = it.code; number = it.document_is.number }
 
 abbrev pub key_or : Option Item → Option DocumentKey
 key_or None = None

@@ -6,8 +6,8 @@ use Rattle.bsp_hot_check.specs.declared.model.DocumentCode.TheVariants.{Tktt, Rf
 use Rattle.bsp_hot_check.specs.declared.model.Stage.{Stage}
 use Rattle.bsp_hot_check.specs.declared.model.Stage.TheVariants as stage
 use Rattle.bsp_hot_check.specs.declared.model.Progress.{Progress}
-use Rattle.bsp_hot_check.specs.Records.{Amounts, Commission, Related, CardPayment, Part, amounts, commission, related, cash, credit, exchange, is_blank}
-use Rattle.bsp_hot_check.specs.Hot.{Forms, cash_only, credit_only, cash_and_credit, Body, sale, exchanged, refund, cancellation, debit_memo, credit_memo, code_of_body, forms_parts, parts_of, IsBody}
+use Rattle.bsp_hot_check.specs.Records.{Document, Amounts, Commission, Related, CardPayment, Part, amounts, commission, related, cash, credit, exchange, is_blank}
+use Rattle.bsp_hot_check.specs.Hot.{Forms, cash_only, credit_only, cash_and_credit, Body, sale, exchanged, refund, cancellation, debit_memo, credit_memo, Item, code_of_body, forms_parts, parts_of, IsBody, IsItem}
 use Rattle.bsp_hot_check.specs.Standings.{judged_part, is_complete, is_complete_progress, takes, progress_behind}
 
 -- an item that is whole, or what stands of one
@@ -227,6 +227,17 @@ next_part airline (whole (credit_memo a paid)) (amounts b) h = absurd cc
 next_part airline _ _ h = absurd cc
 
 -- ---- whole items
+
+-- the item of a document with this behind it
+abbrev pub item_with : Document → Body → Item
+item_with d body = record { code = code_of_body body; document_is = d; parts = parts_of body }
+
+pub is_item : (airline : ℕ) (d : Document) (body : Body) → IsBody airline body → IsItem airline (item_with d body)
+is_item airline d body sound = record { body = body; code = refl; parts = refl; sound = sound }
+
+-- each item is one of these
+pub item_is_with : (airline : ℕ) (it : Item) (h : IsItem airline it) → it ≡ item_with it.document_is h.body
+item_is_with airline it h = rw (← h.code, ← h.parts) refl
 
 complete_forms : (forms : Forms) → is_complete Tktt (forms_stage forms) false ≡ true
 complete_forms (cash_only paid) = refl

@@ -1,5 +1,5 @@
 -- Sums fit the program's numbers.
-use Rattle.std.proofs.Common.{◌≡◌, ◌<◌, ◌≤◌, ℕ, ◌+◌, ◌*◌, ◌^◌, ℤ, ◌+ℤ◌, Bool, true, false, Option, Some, None, IfSome, refl, subst, arith, to_z, of_z}
+use Rattle.std.proofs.Common.{◌≡◌, ◌<◌, ◌≤◌, ℕ, ◌+◌, ◌-◌, ◌*◌, ◌^◌, ℤ, ◌+ℤ◌, Bool, true, false, Option, Some, None, IfSome, refl, subst, arith, to_z, of_z}
 use Rattle.std.specs.Int.{w128}
 use Rattle.std.specs.Int.RustNames.{unsigned_abs}
 use Rattle.std.proofs.lemmas.Int.{ints, to_z-of_z, fits_signed_from_abs}
@@ -27,7 +27,7 @@ abs_plus x y = omega (arith, ints)
 stored : (z : ℤ) → unsigned_abs z < 2 ^ 127 → to_z w128 (of_z w128 z) ≡ z
 stored z h = to_z-of_z w128 z (fits_signed_from_abs w128 z h)
 
-pub added : (x y : ℤ) → unsigned_abs x ≤ 2 ^ 63 * 10 ^ 11 → unsigned_abs y ≤ 1 * 10 ^ 11 → to_z w128 (of_z w128 (to_z w128 (of_z w128 x) +ℤ to_z w128 (of_z w128 y))) ≡ x +ℤ y
+pub added : (x y : ℤ) → unsigned_abs x ≤ 2 ^ 63 * 10 ^ 11 → unsigned_abs y ≤ (2 ^ 63 - 1) * 10 ^ 11 → to_z w128 (of_z w128 (to_z w128 (of_z w128 x) +ℤ to_z w128 (of_z w128 y))) ≡ x +ℤ y
 added x y p q =
     let a = stored x (omega arith) in
     let b = stored y (omega arith) in
@@ -50,22 +50,23 @@ small_more n m s more h = record {
   commission = omega arith;
 }
 
-no_small : (n : ℕ) → AreSmall n no_sums
+pub no_small : (n : ℕ) → AreSmall n no_sums
 no_small n = record { documents = omega arith; cash = omega arith; credit = omega arith; commission = omega arith }
 
-one_small : AreSmall 1 one_document
+pub one_small : AreSmall 1 one_document
 one_small = record { documents = omega arith; cash = omega arith; credit = omega arith; commission = omega arith }
 
--- ---- with one more record
-
-small_add : (n : ℕ) (s t : Sums) → AreSmall n s → AreSmall 1 t → AreSmall (n + 1) (add s t)
+-- both together
+pub small_add : (n m : ℕ) (s t : Sums) → AreSmall n s → AreSmall m t → AreSmall (n + m) (add s t)
 unfolding add
-small_add n s t h one = record {
+small_add n m s t h also = record {
   documents = omega arith;
   cash = omega (arith, abs_plus s.cash t.cash);
   credit = omega (arith, abs_plus s.credit t.credit);
   commission = omega (arith, abs_plus s.commission t.commission);
 }
+
+-- ---- with one more record
 
 one_longer : (n : ℕ) (s : Sums) → AreSmall n s → AreSmall (n + 1) s
 one_longer n s h = small_more n (n + 1) s (omega arith) h
@@ -80,13 +81,13 @@ longer n sums h = record {
 }
 
 small_add_at : (n : ℕ) (sums : CodeSums) (c : DocumentCode) (t : Sums) → AreSmallSums n sums → AreSmall 1 t → AreSmallSums (n + 1) (add_at sums c t)
-small_add_at n sums Tktt t h one = record { tktt = small_add n sums.tktt t h.tktt one; rfnd = one_longer n sums.rfnd h.rfnd; canx = one_longer n sums.canx h.canx; adma = one_longer n sums.adma h.adma; acma = one_longer n sums.acma h.acma }
-small_add_at n sums Rfnd t h one = record { tktt = one_longer n sums.tktt h.tktt; rfnd = small_add n sums.rfnd t h.rfnd one; canx = one_longer n sums.canx h.canx; adma = one_longer n sums.adma h.adma; acma = one_longer n sums.acma h.acma }
-small_add_at n sums Canx t h one = record { tktt = one_longer n sums.tktt h.tktt; rfnd = one_longer n sums.rfnd h.rfnd; canx = small_add n sums.canx t h.canx one; adma = one_longer n sums.adma h.adma; acma = one_longer n sums.acma h.acma }
-small_add_at n sums Adma t h one = record { tktt = one_longer n sums.tktt h.tktt; rfnd = one_longer n sums.rfnd h.rfnd; canx = one_longer n sums.canx h.canx; adma = small_add n sums.adma t h.adma one; acma = one_longer n sums.acma h.acma }
-small_add_at n sums Acma t h one = record { tktt = one_longer n sums.tktt h.tktt; rfnd = one_longer n sums.rfnd h.rfnd; canx = one_longer n sums.canx h.canx; adma = one_longer n sums.adma h.adma; acma = small_add n sums.acma t h.acma one }
+small_add_at n sums Tktt t h one = record { tktt = small_add n 1 sums.tktt t h.tktt one; rfnd = one_longer n sums.rfnd h.rfnd; canx = one_longer n sums.canx h.canx; adma = one_longer n sums.adma h.adma; acma = one_longer n sums.acma h.acma }
+small_add_at n sums Rfnd t h one = record { tktt = one_longer n sums.tktt h.tktt; rfnd = small_add n 1 sums.rfnd t h.rfnd one; canx = one_longer n sums.canx h.canx; adma = one_longer n sums.adma h.adma; acma = one_longer n sums.acma h.acma }
+small_add_at n sums Canx t h one = record { tktt = one_longer n sums.tktt h.tktt; rfnd = one_longer n sums.rfnd h.rfnd; canx = small_add n 1 sums.canx t h.canx one; adma = one_longer n sums.adma h.adma; acma = one_longer n sums.acma h.acma }
+small_add_at n sums Adma t h one = record { tktt = one_longer n sums.tktt h.tktt; rfnd = one_longer n sums.rfnd h.rfnd; canx = one_longer n sums.canx h.canx; adma = small_add n 1 sums.adma t h.adma one; acma = one_longer n sums.acma h.acma }
+small_add_at n sums Acma t h one = record { tktt = one_longer n sums.tktt h.tktt; rfnd = one_longer n sums.rfnd h.rfnd; canx = one_longer n sums.canx h.canx; adma = one_longer n sums.adma h.adma; acma = small_add n 1 sums.acma t h.acma one }
 
-small_part : (x : Part) → IsSmallPart x → AreSmall 1 (judged_sums x)
+pub small_part : (x : Part) → IsSmallPart x → AreSmall 1 (judged_sums x)
 small_part (part_is.Amounts taxed) h = no_small 1
 small_part (part_is.Commission amount) h = record { documents = omega arith; cash = omega arith; credit = omega arith; commission = omega arith }
 small_part (part_is.Related other) h = no_small 1
@@ -107,9 +108,9 @@ small_counted : (at : Standing) (x : Progress) (s : Sums) → IsSmall at → Are
 small_counted at x s h one = record {
   offices = omega (arith, h.offices);
   transactions = omega (arith, h.transactions);
-  file = small_add at.records at.file s h.file one;
+  file = small_add at.records 1 at.file s h.file one;
   codes = small_add_at at.records at.office.codes x.code s h.codes one;
-  all = small_add at.records at.office.all s h.all one;
+  all = small_add at.records 1 at.office.all s h.all one;
 }
 
 by_allowed : (test : Bool) (at x next : Standing) → allowed test x ≡ Some next → IsSmallNext at x → IsSmallNext at next

@@ -15,10 +15,10 @@ use Rattle.bsp_hot_check.specs.declared.model.OfficeSums.{OfficeSums}
 use Rattle.bsp_hot_check.specs.declared.model.Standing.{Standing}
 use Rattle.bsp_hot_check.specs.Records.{Days, Heading, Document, Part, amounts, commission, related, cash, credit, exchange, Record, file_header, period_header, office_header, transaction_header, document, part}
 use Rattle.bsp_hot_check.specs.Sums.{one_document, add, with_net, is_same, has_totals}
-use Rattle.bsp_hot_check.specs.Hot.{Body, Item, File, IsAfter, AreItems, IsBody, IsFile, part_sums, document_sums, items_sums, file_sums, item_records, items_records}
+use Rattle.bsp_hot_check.specs.Hot.{Body, Item, File, IsAfter, AreItems, IsItem, IsFile, part_sums, document_sums, items_sums, file_sums, item_records, items_records}
 use Rattle.bsp_hot_check.specs.Standings.{judged_part, judged_sums, is_key_after, is_agent_after, add_at, allowed, heading_step, period_step, office_step, transaction_step, document_step, part_step}
 use Rattle.bsp_hot_check.proofs.SumLemmas.{plus_assoc, none_right, document_sums_none, document_sums_snoc, items_sums_snoc, codes_of, codes_snoc, add_at_more}
-use Rattle.bsp_hot_check.proofs.PartialItems.{PartialItem, whole, first, code_of, parts_so_far, IsNextPart, is_whole, first_code, first_parts, first_progress, first_sound}
+use Rattle.bsp_hot_check.proofs.PartialItems.{PartialItem, whole, first, code_of, parts_so_far, IsNextPart, item_with, is_item, is_whole, first_code, first_parts, first_progress, first_sound}
 use Rattle.bsp_hot_check.proofs.Drafts.{nothing, headed, between, opened, begun, in_item, count_items, number, front, with_items, partial_records, so_far, key_of, key_or, latest_key, last_agent, office_of, office_with, made, IsOpen, IsInItem, Next}
 
 -- ---- helpers
@@ -97,9 +97,9 @@ last_snoc before [] x = refl
 last_snoc before (y ∷ xs) x = last_snoc (Some y) xs x
 
 -- an office with one more item
-pub office_whole : (items : List Item) (d : Document) (body : Body) → office_with items d (whole body) ≡ office_of (items ++ record { document_is = d; body = body } ∷ [])
+pub office_whole : (items : List Item) (d : Document) (body : Body) → office_with items d (whole body) ≡ office_of (items ++ item_with d body ∷ [])
 office_whole items d body =
-    let it : Item = record { document_is = d; body = body } in
+    let it = item_with d body in
     rw (codes_snoc items it, items_sums_snoc items it, last_snoc None items it) refl
 
 pub number_more : (f : File) (items : List Item) (it : Item) → number f (items ++ it ∷ []) ≡ number f items + 1
@@ -126,23 +126,23 @@ pub is_after : (before : Option Item) (it : Item) → is_key_after (key_or befor
 is_after None it h = tt
 is_after (Some before) it h = h
 
-are_items_snoc : (airline : ℕ) (before : Option Item) (items : List Item) (it : Item) → AreItems airline before items → is_key_after (key_or (last_or before items)) (key_of it) ≡ true → IsBody airline it.body
+are_items_snoc : (airline : ℕ) (before : Option Item) (items : List Item) (it : Item) → AreItems airline before items → is_key_after (key_or (last_or before items)) (key_of it) ≡ true → IsItem airline it
     → AreItems airline before (items ++ it ∷ [])
-are_items_snoc airline before [] it are after body = (is_after before it after, body, tt)
-are_items_snoc airline before (x ∷ items) it are after body = (are.0, are.1, are_items_snoc airline (Some x) items it are.2 after body)
+are_items_snoc airline before [] it are after is = (is_after before it after, is, tt)
+are_items_snoc airline before (x ∷ items) it are after is = (are.0, are.1, are_items_snoc airline (Some x) items it are.2 after is)
 
-pub open_snoc : (f : File) (agent : ℕ) (items : List Item) (d : Document) (body : Body) → IsInItem f agent items d (whole body) → IsOpen f agent (items ++ record { document_is = d; body = body } ∷ [])
+pub open_snoc : (f : File) (agent : ℕ) (items : List Item) (d : Document) (body : Body) → IsInItem f agent items d (whole body) → IsOpen f agent (items ++ item_with d body ∷ [])
 open_snoc f agent items d body g = record {
   file = g.is_open.file;
   after = g.is_open.after;
-  are = are_items_snoc f.heading.airline None items (record { document_is = d; body = body }) g.is_open.are g.in_order g.sound;
+  are = are_items_snoc f.heading.airline None items (item_with d body) g.is_open.are g.in_order (is_item f.heading.airline d body g.sound);
 }
 
 pub begins_next : (f : File) (agent : ℕ) (items : List Item) (d : Document) (body : Body) → IsInItem f agent items d (whole body)
-    → Next (in_item f agent items d (whole body)) (transaction_header (number f (items ++ record { document_is = d; body = body } ∷ [])) f.heading.airline) (begun f agent (items ++ record { document_is = d; body = body } ∷ []))
+    → Next (in_item f agent items d (whole body)) (transaction_header (number f (items ++ item_with d body ∷ [])) f.heading.airline) (begun f agent (items ++ item_with d body ∷ []))
 unfolding transaction_step
 begins_next f agent items d body g =
-    let it : Item = record { document_is = d; body = body } in
+    let it = item_with d body in
     let items2 = items ++ it ∷ [] in
     let r = transaction_header (number f items2) f.heading.airline in
     let records : so_far (begun f agent items2) ≡ so_far (in_item f agent items d (whole body)) ++ r ∷ [] = ap (λ (xs : List Record). xs ++ r ∷ []) (with_items_snoc f agent items it) in

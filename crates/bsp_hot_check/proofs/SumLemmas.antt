@@ -9,7 +9,7 @@ use Rattle.bsp_hot_check.specs.declared.model.Sums.{Sums}
 use Rattle.bsp_hot_check.specs.declared.model.CodeSums.{CodeSums}
 use Rattle.bsp_hot_check.specs.Records.{Part}
 use Rattle.bsp_hot_check.specs.Sums.{no_sums, one_document, add, sum_of, is_code}
-use Rattle.bsp_hot_check.specs.Hot.{Item, Office, code_of_item, part_sums, document_sums, item_sums, items_sums, code_sums, file_sums}
+use Rattle.bsp_hot_check.specs.Hot.{Item, Office, part_sums, document_sums, item_sums, items_sums, code_sums, file_sums}
 use Rattle.bsp_hot_check.specs.Standings.{add_at}
 
 pub plus_assoc : (x y z : Sums) → add (add x y) z ≡ add x (add y z)
@@ -47,18 +47,18 @@ file_sums_snoc offices o = map_snoc (λ (x : Office). items_sums x.items) office
 
 -- ---- by code
 
-pub code_sums_more : (c : DocumentCode) (items : List Item) (it : Item) → is_code c (code_of_item it) ≡ true → code_sums c (items ++ it ∷ []) ≡ add (code_sums c items) (item_sums it)
+pub code_sums_more : (c : DocumentCode) (items : List Item) (it : Item) → is_code c it.code ≡ true → code_sums c (items ++ it ∷ []) ≡ add (code_sums c items) (item_sums it)
 code_sums_more c items it h =
-    let joined = filter-append (λ (x : Item). is_code c (code_of_item x)) items (it ∷ []) in
-    let one : filter (λ (x : Item). is_code c (code_of_item x)) (it ∷ []) ≡ it ∷ [] = rw h refl in
-    ap items_sums (joined ∙ ap (λ (xs : List Item). filter (λ (x : Item). is_code c (code_of_item x)) items ++ xs) one)
-    ∙ items_sums_snoc (filter (λ (x : Item). is_code c (code_of_item x)) items) it
+    let joined = filter-append (λ (x : Item). is_code c x.code) items (it ∷ []) in
+    let one : filter (λ (x : Item). is_code c x.code) (it ∷ []) ≡ it ∷ [] = rw h refl in
+    ap items_sums (joined ∙ ap (λ (xs : List Item). filter (λ (x : Item). is_code c x.code) items ++ xs) one)
+    ∙ items_sums_snoc (filter (λ (x : Item). is_code c x.code) items) it
 
-code_sums_same : (c : DocumentCode) (items : List Item) (it : Item) → is_code c (code_of_item it) ≡ false → code_sums c (items ++ it ∷ []) ≡ code_sums c items
+code_sums_same : (c : DocumentCode) (items : List Item) (it : Item) → is_code c it.code ≡ false → code_sums c (items ++ it ∷ []) ≡ code_sums c items
 code_sums_same c items it h =
-    let joined = filter-append (λ (x : Item). is_code c (code_of_item x)) items (it ∷ []) in
-    let one : filter (λ (x : Item). is_code c (code_of_item x)) (it ∷ []) ≡ [] = rw h refl in
-    ap items_sums (joined ∙ ap (λ (xs : List Item). filter (λ (x : Item). is_code c (code_of_item x)) items ++ xs) one ∙ append-nil (filter (λ (x : Item). is_code c (code_of_item x)) items))
+    let joined = filter-append (λ (x : Item). is_code c x.code) items (it ∷ []) in
+    let one : filter (λ (x : Item). is_code c x.code) (it ∷ []) ≡ [] = rw h refl in
+    ap items_sums (joined ∙ ap (λ (xs : List Item). filter (λ (x : Item). is_code c x.code) items ++ xs) one ∙ append-nil (filter (λ (x : Item). is_code c x.code) items))
 
 abbrev pub codes_of : List Item → CodeSums
 codes_of items = record {
@@ -73,7 +73,7 @@ five : (a b c d e a2 b2 c2 d2 e2 : Sums) → a ≡ a2 → b ≡ b2 → c ≡ c2 
     → ◌≡◌ {A = CodeSums} (record { tktt = a; rfnd = b; canx = c; adma = d; acma = e }) (record { tktt = a2; rfnd = b2; canx = c2; adma = d2; acma = e2 })
 five a b c d e a2 b2 c2 d2 e2 p q r s t = rw (p, q, r, s, t) refl
 
-codes_snoc_by : (items : List Item) (it : Item) (c : DocumentCode) → code_of_item it ≡ c → codes_of (items ++ it ∷ []) ≡ add_at (codes_of items) c (item_sums it)
+codes_snoc_by : (items : List Item) (it : Item) (c : DocumentCode) → it.code ≡ c → codes_of (items ++ it ∷ []) ≡ add_at (codes_of items) c (item_sums it)
 codes_snoc_by items it Tktt k =
     five _ _ _ _ _ _ _ _ _ _ (code_sums_more Tktt items it (rw k refl)) (code_sums_same Rfnd items it (rw k refl)) (code_sums_same Canx items it (rw k refl))
     (code_sums_same Adma items it (rw k refl)) (code_sums_same Acma items it (rw k refl))
@@ -91,8 +91,8 @@ codes_snoc_by items it Acma k =
     (code_sums_same Adma items it (rw k refl)) (code_sums_more Acma items it (rw k refl))
 
 -- the sums of the codes with one more item
-pub codes_snoc : (items : List Item) (it : Item) → codes_of (items ++ it ∷ []) ≡ add_at (codes_of items) (code_of_item it) (item_sums it)
-codes_snoc items it = codes_snoc_by items it (code_of_item it) refl
+pub codes_snoc : (items : List Item) (it : Item) → codes_of (items ++ it ∷ []) ≡ add_at (codes_of items) it.code (item_sums it)
+codes_snoc items it = codes_snoc_by items it it.code refl
 
 -- and with one more part of the item that came last
 pub add_at_more : (sums : CodeSums) (c : DocumentCode) (x y : Sums) → add_at (add_at sums c x) c y ≡ add_at sums c (add x y)

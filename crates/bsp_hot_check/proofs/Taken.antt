@@ -17,7 +17,7 @@ use Rattle.bsp_hot_check.specs.Sums.{with_net, is_same, has_totals, is_code, all
 use Rattle.bsp_hot_check.specs.Hot.{Body, Item, File, items_sums, code_sums, file_sums, has_code, all_but_last}
 use Rattle.bsp_hot_check.specs.Standings.{judged, is_complete_progress, later_codes, sums_at, next_code, is_next, allowed, heading_step, period_step, office_step, transaction_step, document_step, part_step, code_totals_step, office_totals_step, period_totals_step, file_totals_step, step, judged_part}
 use Rattle.bsp_hot_check.proofs.SumLemmas.{codes_of}
-use Rattle.bsp_hot_check.proofs.PartialItems.{PartialItem, whole, progress_of, next_part, is_whole, whole_body}
+use Rattle.bsp_hot_check.proofs.PartialItems.{PartialItem, whole, progress_of, next_part, item_with, is_whole, whole_body}
 use Rattle.bsp_hot_check.proofs.Drafts.{Draft, nothing, headed, between, opened, begun, in_item, totalled, closed, ended, number, office_with, standing_of, IsOpen, IsInItem, IsTotalling, IsSoundDraft, Next}
 use Rattle.bsp_hot_check.proofs.Steps.{begins, heads, opens, begins_first, begins_next, number_more, number_none, documents, parts, office_whole}
 use Rattle.bsp_hot_check.proofs.Closing.{sums_at_codes, found_codes, totals_first, totals_next, totals, closes, ends}
@@ -95,7 +95,7 @@ first_taken f agent n airline at sound e =
 behind_whole : (f : File) (agent : ℕ) (items : List Item) (d : Document) (body : Body) (n airline : ℕ) → IsInItem f agent items d (whole body) → n ≡ number f items + 1 → airline ≡ f.heading.airline
     → Taken (in_item f agent items d (whole body)) (transaction_header n airline)
 behind_whole f agent items d body n airline sound number_is airline_is =
-    let it : Item = record { document_is = d; body = body } in
+    let it = item_with d body in
     same_record _ _ (transaction_header (number f (items ++ it ∷ [])) f.heading.airline) (rw (number_is, airline_is, number_more f items it) refl) (_, begins_next f agent items d body sound)
 
 transaction_taken : (f : File) (agent : ℕ) (items : List Item) (d : Document) (g : PartialItem) (n airline : ℕ) (at : Standing) → IsInItem f agent items d g
@@ -134,7 +134,7 @@ totals_whole : (f : File) (agent : ℕ) (items : List Item) (d : Document) (body
     → is_next (next_code (office_with items d (whole body)).codes (InDocument (progress_of (whole body)))) c ≡ true → agent2 ≡ agent → has_totals (sums_at (office_with items d (whole body)).codes c) t ≡ true
     → Taken (in_item f agent items d (whole body)) (code_totals agent2 c t)
 totals_whole f agent items d body agent2 c t sound next agent_is has =
-    let it : Item = record { document_is = d; body = body } in
+    let it = item_with d body in
     let items2 = items ++ it ∷ [] in
     let codes : (office_with items d (whole body)).codes ≡ codes_of items2 = ap (λ (w : OfficeSums). w.codes) (office_whole items d body) in
     let found : find (has_code items2) all_codes ≡ Some c = sym (found_codes items2 all_codes) ∙ next_is _ c (rw (codes, is_whole body) at next) in

@@ -24,9 +24,11 @@ pub data Body : Type 0 where
   debit_memo : Amounts → ℤ → Body
   credit_memo : Amounts → ℤ → Body
 
+-- a document under its code, and the records behind BKS24
 pub record Item : Type 0 where
+  pub code : DocumentCode
   pub document_is : Document
-  pub body : Body
+  pub parts : List Part
 
 pub record Office : Type 0 where
   pub agent : ℕ
@@ -70,8 +72,12 @@ IsBody airline cancellation = Unit {0}
 IsBody airline (debit_memo a paid) = is_blank a.taxes ≡ true
 IsBody airline (credit_memo a paid) = is_blank a.taxes ≡ true
 
-abbrev pub code_of_item : Item → DocumentCode
-code_of_item it = code_of_body it.body
+-- the item is a sale, an exchange, a refund, a cancellation or a memo
+pub record IsItem (airline : ℕ) (it : Item) : Type 0 where
+  pub body : Body
+  pub code : it.code ≡ code_of_body body
+  pub parts : it.parts ≡ parts_of body
+  pub sound : IsBody airline body
 
 -- ---- order
 
@@ -81,12 +87,12 @@ is_before c m d n = nat_lt (rank c) (rank d) || ((rank c == rank d) && nat_lt m 
 
 abbrev pub IsAfter : Option Item → Item → Type 0
 IsAfter None it = Unit {0}
-IsAfter (Some before) it = is_before (code_of_item before) before.document_is.number (code_of_item it) it.document_is.number ≡ true
+IsAfter (Some before) it = is_before before.code before.document_is.number it.code it.document_is.number ≡ true
 
 -- items behind another, or the first ones: they rise by code and then by number
 abbrev pub AreItems : ℕ → Option Item → List Item → Type 0
 AreItems airline before [] = Unit {0}
-AreItems airline before (it ∷ items) = IsAfter before it × IsBody airline it.body × AreItems airline (Some it) items
+AreItems airline before (it ∷ items) = IsAfter before it × IsItem airline it × AreItems airline (Some it) items
 
 abbrev pub IsBehind : Option ℕ → ℕ → Type 0
 IsBehind None agent = Unit {0}
@@ -114,14 +120,14 @@ abbrev pub document_sums : List Part → Sums
 document_sums parts = add one_document (sum_of (map part_sums parts))
 
 abbrev pub item_sums : Item → Sums
-item_sums it = document_sums (parts_of it.body)
+item_sums it = document_sums it.parts
 
 abbrev pub items_sums : List Item → Sums
 items_sums items = sum_of (map item_sums items)
 
 -- the items of one code
 abbrev pub code_sums : DocumentCode → List Item → Sums
-code_sums c items = items_sums (filter (λ it. is_code c (code_of_item it)) items)
+code_sums c items = items_sums (filter (λ it. is_code c it.code) items)
 
 abbrev pub file_sums : List Office → Sums
 file_sums offices = sum_of (map (λ o. items_sums o.items) offices)
@@ -131,7 +137,7 @@ file_sums offices = sum_of (map (λ o. items_sums o.items) offices)
 -- the item of transaction n
 abbrev pub item_records : ℕ → ℕ → ℕ → Item → List Record
 item_records airline agent n it =
-    transaction_header n airline ∷ document n agent (code_of_item it) it.document_is ∷ map (part n) (parts_of it.body)
+    transaction_header n airline ∷ document n agent it.code it.document_is ∷ map (part n) it.parts
 
 abbrev pub items_records : ℕ → ℕ → ℕ → List Item → List Record
 items_records airline agent n [] = []

@@ -103,6 +103,21 @@ letters Bot94 = codes "BOT"
 letters Bct95 = codes "BCT"
 letters Bft99 = codes "BFT"
 
+abbrev pub name_digits : RecordName → List ℕ
+name_digits Bfh01 = codes "01"
+name_digits Bch02 = codes "02"
+name_digits Boh03 = codes "03"
+name_digits Bkt06 = codes "06"
+name_digits Bks24 = codes "24"
+name_digits Bks30 = codes "30"
+name_digits Bks39 = codes "39"
+name_digits Bks45 = codes "45"
+name_digits Bkp84 = codes "84"
+name_digits Bot93 = codes "93"
+name_digits Bot94 = codes "94"
+name_digits Bct95 = codes "95"
+name_digits Bft99 = codes "99"
+
 -- the name that has these digits
 unfoldable pub name_of : List ℕ → Option RecordName
 name_of digits =
@@ -124,6 +139,14 @@ name_of digits =
 
 abbrev pub is_blank : List ℕ → Bool
 is_blank text = list_all is_space text
+
+-- a code's letters, and the code that has them
+abbrev pub code_text : DocumentCode → List ℕ
+code_text Tktt = codes "TKTT"
+code_text Rfnd = codes "RFND"
+code_text Canx = codes "CANX"
+code_text Adma = codes "ADMA"
+code_text Acma = codes "ACMA"
 
 unfoldable pub code_of : List ℕ → Option DocumentCode
 code_of text =

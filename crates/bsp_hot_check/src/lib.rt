@@ -16,4 +16,5 @@ mod tests;
 mod values;
 
 pub use check::{check_hot, hot_or_fault};
-pub use model::{HotFault, HotTotals};
+pub use model::{CodeSums, DocumentCode, HotFault, HotTotals, Sums};
+pub use name::RecordName;

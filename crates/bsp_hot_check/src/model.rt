@@ -1,14 +1,35 @@
 //! What the records of a HOT file say, and how the records before a place stand.
 
+use std::alloc::AllocError;
 use thiserror::Error;
 
-/// Why a text is no HOT file.
+/// Why there is no HOT file, or why a text is none.
 #[derive(Clone, Copy, Debug, PartialEq, Eq, Hash, Error)]
 pub enum HotFault {
+    /// H01: a count or a total does not fit its place.
+    #[error("H01: a count or a total does not fit its place")]
+    H01,
+    /// H02: the period is unknown or not closed.
+    #[error("H02: the period is unknown or not closed")]
+    H02,
+    /// H03: an allocation was refused.
+    #[error("H03: no memory")]
+    H03,
     /// H04, with the number of the first record at fault, counted from 1; where the text ends too
     /// early, that is the number after the last.
     #[error("H04 record {0}")]
     H04(usize),
+}
+
+impl From<AllocError> for HotFault {
+    ghost use Rattle.std.specs.Prelude.{◌≡◌};
+    ghost use Rattle.bsp_hot_check.specs.declared.model.HotFault.TheVariants.{H03};
+
+    ghost from_gives = { λ _ fault. fault ≡ H03 };
+
+    fn from(_: AllocError) -> HotFault {
+        HotFault::H03
+    }
 }
 
 /// The totals of a HOT file: its records, its documents, and its net in minor units.
@@ -23,7 +44,7 @@ pub struct HotTotals {
 }
 
 /// The code of a document. A HOT file has them in this order.
-#[derive(Clone, Copy)]
+#[derive(Clone, Copy, Debug, PartialEq, Eq)]
 pub enum DocumentCode {
     /// A sale.
     Tktt,
@@ -39,11 +60,15 @@ pub enum DocumentCode {
 
 /// What documents add up to: how many there are, and their cash, credit and commission in minor
 /// units.
-#[derive(Clone, Copy)]
+#[derive(Clone, Copy, Debug, PartialEq, Eq)]
 pub struct Sums {
+    /// How many documents there are.
     pub documents: usize,
+    /// What was paid in cash (BKP84 with the form `CA`), in minor units.
     pub cash: i128,
+    /// What was paid by card (BKP84 with the form `CC`), in minor units.
     pub credit: i128,
+    /// The commission (BKS39), in minor units.
     pub commission: i128,
 }
 
@@ -209,10 +234,15 @@ pub enum Place {
 /// The sums of the documents of each code.
 #[derive(Clone, Copy)]
 pub struct CodeSums {
+    /// Of sales.
     pub tktt: Sums,
+    /// Of refunds.
     pub rfnd: Sums,
+    /// Of cancelled documents.
     pub canx: Sums,
+    /// Of agency debit memos.
     pub adma: Sums,
+    /// Of agency credit memos.
     pub acma: Sums,
 }
 

@@ -1,6 +1,7 @@
 //! What documents add up to.
 
-ghost use Rattle.std.specs.Prelude.{◌≡◌, ◌^◌, ◌-ℤ◌};
+ghost use Rattle.std.specs.Prelude.{◌≡◌, ◌-◌, ◌^◌, ◌-ℤ◌, Some};
+ghost use Rattle.bsp_hot_check.specs.Records.{code_of, code_text};
 ghost use Rattle.bsp_hot_check.specs.Sums.{add, is_same, has_totals, rank};
 ghost use Rattle.bsp_hot_check.specs.Hot.{is_before};
 ghost use Rattle.bsp_hot_check.specs.Standings.{sums_at, add_at, AreSmall, AreSmallSums};
@@ -9,7 +10,7 @@ use crate::model::{CodeSums, DocumentCode, DocumentKey, OfficeSums, Sums, Totals
 
 impl DocumentCode {
     /// The place of the code in their order, from 0.
-    pub(crate) fn rank(self) -> u8
+    pub fn rank(self) -> u8
         ensures { result ≡ rank self }
     {
         match self {
@@ -18,6 +19,22 @@ impl DocumentCode {
             DocumentCode::Canx => 2,
             DocumentCode::Adma => 3,
             DocumentCode::Acma => 4,
+        }
+    }
+
+    /// The four letters of the code, as `TKTT`.
+    #[tactic(auto, unfolding(crate::specs::Records::code_of))]
+    pub fn text(self) -> [u8; 4]
+        ensures text { result ≡ code_text self }
+        // The letters are of this code alone.
+        ensures read { code_of (code_text self) ≡ Some self }
+    {
+        match self {
+            DocumentCode::Tktt => *b"TKTT",
+            DocumentCode::Rfnd => *b"RFND",
+            DocumentCode::Canx => *b"CANX",
+            DocumentCode::Adma => *b"ADMA",
+            DocumentCode::Acma => *b"ACMA",
         }
     }
 }
@@ -34,7 +51,7 @@ impl DocumentKey {
 
 impl Sums {
     /// Of nothing.
-    pub(crate) const NONE: Sums = Sums {
+    pub const NONE: Sums = Sums {
         documents: 0,
         cash: 0,
         credit: 0,
@@ -42,7 +59,7 @@ impl Sums {
     };
 
     /// Of a document alone.
-    pub(crate) const DOCUMENT: Sums = Sums {
+    pub const DOCUMENT: Sums = Sums {
         documents: 1,
         cash: 0,
         credit: 0,
@@ -51,9 +68,10 @@ impl Sums {
 
     /// Both together.
     #[tactic(auto, unfolding(crate::specs::Sums::add))]
-    pub(crate) fn plus(self, other: Sums) -> Sums
+    pub fn plus(self, other: Sums) -> Sums
         requires small { AreSmall (2 ^ 63) self }
-        requires one { AreSmall 1 other }
+        // One less, so that the documents add up to less than 2 ^ 64.
+        requires also_small { AreSmall (2 ^ 63 - 1) other }
         ensures { result ≡ add self other }
     {
         Sums {
@@ -65,7 +83,7 @@ impl Sums {
     }
 
     /// The net: cash less commission.
-    pub(crate) fn net(self) -> i128
+    pub fn net(self) -> i128
         requires { AreSmall (2 ^ 63) self }
         ensures { result ≡ self.cash -ℤ self.commission }
     {
@@ -95,7 +113,7 @@ impl Sums {
 
 impl CodeSums {
     /// Of nothing.
-    pub(crate) const NONE: CodeSums = CodeSums {
+    pub const NONE: CodeSums = CodeSums {
         tktt: Sums::NONE,
         rfnd: Sums::NONE,
         canx: Sums::NONE,
@@ -104,7 +122,7 @@ impl CodeSums {
     };
 
     /// Those of a code.
-    pub(crate) fn of(self, code: DocumentCode) -> Sums
+    pub fn of(self, code: DocumentCode) -> Sums
         ensures { result ≡ sums_at self code }
     {
         match code {
@@ -116,10 +134,10 @@ impl CodeSums {
         }
     }
 
-    /// With one more document or part of the code.
-    pub(crate) fn plus(self, code: DocumentCode, sums: Sums) -> CodeSums
+    /// With more of the code.
+    pub fn plus(self, code: DocumentCode, sums: Sums) -> CodeSums
         requires small { AreSmallSums (2 ^ 63) self }
-        requires one { AreSmall 1 sums }
+        requires also_small { AreSmall (2 ^ 63 - 1) sums }
         ensures { result ≡ add_at self code sums }
     {
         match code {

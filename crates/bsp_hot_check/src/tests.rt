@@ -1,4 +1,4 @@
-use crate::{HotFault, HotTotals, check_hot};
+use crate::{CodeSums, DocumentCode, HotFault, HotTotals, RecordName, Sums, check_hot};
 use bsp_fields::write_digits;
 use std::test::Fail;
 
@@ -173,11 +173,13 @@ fn text(rt: &HostRuntime, lines: &[&[u8]]) -> Result<Vec<u8>, Fail> {
     changed(rt, lines, 0, b"", b"\n")
 }
 
-/// The number of the first record at fault, 0 where there is none.
+/// The number of the first record at fault, 0 where there is none, and the highest number for
+/// another fault.
 fn fault(bytes: &[u8]) -> usize {
     match check_hot(bytes) {
         Ok(_) => 0,
         Err(HotFault::H04(number)) => number,
+        Err(_) => usize::MAX,
     }
 }
 
@@ -407,5 +409,62 @@ fn a_sequence_number_is_compared(rt: HostRuntime) -> Result<(), Fail> {
     let more = text(&rt, &[END])?;
     whole.extend_from_slice(&more)?;
     assert_eq!(rt; fault(&whole), 20);
+    Ok(())
+}
+
+#[test]
+fn names_and_codes_are_texts(rt: HostRuntime) -> Result<(), Fail> {
+    let names = [
+        (RecordName::Bfh01, b"BFH01"),
+        (RecordName::Bch02, b"BCH02"),
+        (RecordName::Boh03, b"BOH03"),
+        (RecordName::Bkt06, b"BKT06"),
+        (RecordName::Bks24, b"BKS24"),
+        (RecordName::Bks30, b"BKS30"),
+        (RecordName::Bks39, b"BKS39"),
+        (RecordName::Bks45, b"BKS45"),
+        (RecordName::Bkp84, b"BKP84"),
+        (RecordName::Bot93, b"BOT93"),
+        (RecordName::Bot94, b"BOT94"),
+        (RecordName::Bct95, b"BCT95"),
+        (RecordName::Bft99, b"BFT99"),
+    ];
+    for (name, text) in names {
+        assert_eq!(rt; name.letters().as_slice(), &text[..3]);
+        assert_eq!(rt; name.digits().as_slice(), &text[3..]);
+    }
+    let codes = [
+        (DocumentCode::Tktt, b"TKTT"),
+        (DocumentCode::Rfnd, b"RFND"),
+        (DocumentCode::Canx, b"CANX"),
+        (DocumentCode::Adma, b"ADMA"),
+        (DocumentCode::Acma, b"ACMA"),
+    ];
+    for (place, (code, text)) in codes.iter().enumerate() {
+        assert_eq!(rt; code.text().as_slice(), text.as_slice());
+        assert_eq!(rt; usize::from(code.rank()), place);
+    }
+    Ok(())
+}
+
+#[test]
+fn sums_are_kept_by_code(rt: HostRuntime) -> Result<(), Fail> {
+    let paid = Sums {
+        documents: 0,
+        cash: 23_500,
+        credit: 0,
+        commission: 1_000,
+    };
+    let sale = Sums {
+        documents: 1,
+        cash: 23_500,
+        credit: 0,
+        commission: 1_000,
+    };
+    assert_eq!(rt; Sums::DOCUMENT.plus(paid), sale);
+    assert_eq!(rt; sale.net(), 22_500);
+    let sums = CodeSums::NONE.plus(DocumentCode::Adma, sale);
+    assert_eq!(rt; sums.of(DocumentCode::Adma), sale);
+    assert_eq!(rt; sums.of(DocumentCode::Acma), Sums::NONE);
     Ok(())
 }

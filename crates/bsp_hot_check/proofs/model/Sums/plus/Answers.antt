@@ -9,5 +9,5 @@ returns c =
     let x = c.args.self in
     let y = c.args.other in
     let one = c.requires.small in
-    let other = c.requires.one in
+    let other = c.requires.also_small in
     rw (added x.cash y.cash one.cash other.cash, added x.credit y.credit one.credit other.credit, added x.commission y.commission one.commission other.commission) refl
