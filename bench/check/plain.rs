@@ -1,35 +1,14 @@
 // A plain Rust twin of `bsp_office check FILE`: the same report and the same statuses, by the reader
-// of ../read_ret/plain.rs. It reads the whole file, and prints nothing before it is known to be whole.
-use std::fs::File;
-use std::io::{self, BufWriter, Read, Write};
+// of ../read_ret/plain.rs.
+use program::{Output, write_money};
+use std::io::{self, Write};
 use std::process::ExitCode;
 
+#[path = "../plain_program.rs"]
+mod program;
 #[path = "../read_ret/plain.rs"]
 #[allow(dead_code)]
 mod reader;
-
-const MOST: u64 = 1_073_741_824;
-
-fn read_whole(name: &str) -> io::Result<Vec<u8>> {
-    let mut bytes = Vec::new();
-    if name == "-" {
-        io::stdin().take(MOST + 1).read_to_end(&mut bytes)?;
-    } else {
-        let file = File::open(name)?;
-        bytes.reserve_exact(file.metadata()?.len().min(MOST + 1) as usize);
-        file.take(MOST + 1).read_to_end(&mut bytes)?;
-    }
-    if bytes.len() as u64 > MOST {
-        return Err(io::Error::other("too long"));
-    }
-    Ok(bytes)
-}
-
-fn write_money(out: &mut impl Write, amount: i128) -> io::Result<()> {
-    let sign = if amount < 0 { "-" } else { "" };
-    let size = amount.unsigned_abs();
-    write!(out, "{sign}{}.{:02}", size / 100, size % 100)
-}
 
 /// How many records a transaction has, and the sum of its forms.
 fn counted(group: &[u8]) -> (usize, i128) {
@@ -62,7 +41,7 @@ fn write_group(out: &mut impl Write, group: &[u8], sum: i128) -> io::Result<()> 
     out.write_all(b"\n")
 }
 
-fn report(bytes: &[u8], out: &mut impl Write) -> io::Result<u8> {
+fn report(bytes: &[u8], out: &mut Output) -> io::Result<u8> {
     let groups = match reader::read(bytes) {
         Ok(groups) => groups,
         Err((code, at)) => {
@@ -83,17 +62,6 @@ fn report(bytes: &[u8], out: &mut impl Write) -> io::Result<u8> {
     Ok(0)
 }
 
-fn check(name: &str) -> io::Result<u8> {
-    let bytes = read_whole(name)?;
-    let mut out = BufWriter::with_capacity(65_536, io::stdout().lock());
-    let status = report(&bytes, &mut out)?;
-    out.flush()?;
-    Ok(status)
-}
-
 fn main() -> ExitCode {
-    match std::env::args().nth(1) {
-        Some(name) => ExitCode::from(check(&name).unwrap_or(3)),
-        None => ExitCode::from(2),
-    }
+    program::run(report)
 }

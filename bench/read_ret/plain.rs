@@ -14,7 +14,7 @@ enum Last {
     Trailer,
 }
 
-fn digits(t: &[u8]) -> Option<u64> {
+pub fn digits(t: &[u8]) -> Option<u64> {
     let mut n = 0u64;
     for b in t {
         if !b.is_ascii_digit() {
@@ -40,7 +40,7 @@ pub fn zoned(t: &[u8]) -> Option<i64> {
     Some(if minus { -size } else { size })
 }
 
-fn day(t: &[u8]) -> bool {
+pub fn day(t: &[u8]) -> bool {
     let (Some(y), Some(m), Some(d)) = (digits(&t[..2]), digits(&t[2..4]), digits(&t[4..6])) else {
         return false;
     };
@@ -54,11 +54,11 @@ fn day(t: &[u8]) -> bool {
     1 <= d && d <= days
 }
 
-fn spaces(t: &[u8]) -> bool {
+pub fn spaces(t: &[u8]) -> bool {
     t.iter().all(|b| *b == b' ')
 }
 
-fn alnum(t: &[u8]) -> bool {
+pub fn alnum(t: &[u8]) -> bool {
     t.iter().all(|b| b.is_ascii_digit() || b.is_ascii_uppercase())
 }
 
@@ -66,11 +66,11 @@ fn sale(l: &[u8]) -> bool {
     matches!(&l[7..11], b"TKTT" | b"RFND" | b"CANX") && digits_only(&l[11..33]) && day(&l[33..39]) && spaces(&l[88..])
 }
 
-fn digits_only(t: &[u8]) -> bool {
+pub fn digits_only(t: &[u8]) -> bool {
     t.iter().all(|b| b.is_ascii_digit())
 }
 
-fn taxes(l: &[u8]) -> bool {
+pub fn taxes(l: &[u8]) -> bool {
     let mut before = [0u8; 2];
     let mut ended = false;
     for place in l[18..96].chunks(13) {

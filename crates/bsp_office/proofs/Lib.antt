@@ -1,4 +1,6 @@
 -- Lemmas of this crate.
 pub mod Lists
 pub mod Pieces
+pub mod RetReports
 pub mod Reports
+pub mod CommandLines

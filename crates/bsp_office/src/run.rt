@@ -1,10 +1,12 @@
 //! Runs the work that the command line asks for.
 
-use crate::checking::check;
+use crate::checking::{check, hotcheck};
+use crate::report::Format;
 use crate::words::{WordsFault, Work, words};
 use clap::error::ErrorKind;
 use std::convert::AsStr;
 use std::fs::File;
+use std::io::Read;
 use std::{env, io};
 
 /// The program did what it was asked for.
@@ -14,20 +16,30 @@ const WRONG_WORDS: u8 = 2;
 /// A read or a write failed, or an allocation was refused.
 const FAILED: u8 = 3;
 
-fn check_file(rt: &HostRuntime, name: &str) -> u8 {
+/// Writes the report on an input to standard output.
+fn report_input<R: Read>(rt: &HostRuntime, format: Format, input: &mut R) -> u8 {
     let mut output = io::writer(rt);
+    match format {
+        Format::Ret => check(rt.alloc(), input, &mut output),
+        Format::Hot => hotcheck(rt.alloc(), input, &mut output),
+    }
+}
+
+/// Writes the report on the FILE of that name, or on standard input.
+fn report_file(rt: &HostRuntime, format: Format, name: &str) -> u8 {
     if name == "-" {
-        return check(rt.alloc(), &mut rt.reader(), &mut output);
+        return report_input(rt, format, &mut rt.reader());
     }
     match File::open(rt, name) {
-        Ok(mut file) => check(rt.alloc(), &mut file, &mut output),
+        Ok(mut file) => report_input(rt, format, &mut file),
         Err(_) => FAILED,
     }
 }
 
 fn run_work(rt: &HostRuntime, work: &Work<'_>) -> u8 {
     match work {
-        Work::Check { file } => check_file(rt, file),
+        Work::Check { file } => report_file(rt, Format::Ret, file),
+        Work::Hotcheck { file } => report_file(rt, Format::Hot, file),
     }
 }
 

@@ -6,7 +6,7 @@
 ghost use Rattle.std.specs.Prelude.{◌≡◌, IfOk, IfErr, [], codes, map, option_map, false};
 ghost use Rattle.clap.specs.Words.{HasKind, app_of, fault_of, first_of, found_of, kind_of, rows_of, shape_of, subcommand_of, subcommand_rows_of};
 ghost use Rattle.clap.specs.declared.builder.command.Command.TheViews.{out-Command as fields_of};
-ghost use Rattle.bsp_office.specs.CommandLine.{AnswersWords, check_app, check_work, office, work_from, work_in, work_of};
+ghost use Rattle.bsp_office.specs.CommandLine.{AnswersWords, check_work, file_app, hotcheck_work, office, work_from, work_in, work_of};
 
 use clap::error::ErrorKind;
 use clap::{Arg, ArgMatches, Command, Error};
@@ -18,6 +18,8 @@ use std::convert::AsStr;
 pub enum Work<'a> {
     /// `check FILE`: to report on a RET file. The FILE `-` is standard input.
     Check { file: &'a str },
+    /// `hotcheck FILE`: to report on a HOT file. The FILE `-` is standard input.
+    Hotcheck { file: &'a str },
 }
 
 /// Why the words ask for no work.
@@ -29,17 +31,38 @@ pub enum WordsFault {
     OutOfForm,
 }
 
-fn check_command<'a>(alloc: Global) -> Result<Command<'a>, Error>
-    ensures ok { IfOk result (λ c. (shape_of c ≡ check_app.top) × ((fields_of c).has_globals ≡ false)) }
+/// A command of that name with a FILE behind it.
+fn file_command<'a>(alloc: Global, name: &'a str, about: &'a str) -> Result<Command<'a>, Error>
+    ensures ok { IfOk result (λ c. (shape_of c ≡ (file_app name.entry.now).top) × ((fields_of c).has_globals ≡ false)) }
     ensures err { IfErr result (λ e. kind_of e ≡ ErrorKind.OutOfMemory) }
 {
     let file = Arg::new(alloc, "FILE")
-        .help("the RET file, or - for standard input")
+        .help("the file, or - for standard input")
         .required(true);
-    let command = Command::new(alloc, "check")
-        .about("Reads a RET file and prints its transactions and their sum, or its first fault")
-        .arg(file)?;
+    let command = Command::new(alloc, name).about(about).arg(file)?;
     Ok(command)
+}
+
+fn check_command<'a>(alloc: Global) -> Result<Command<'a>, Error>
+    ensures ok { IfOk result (λ c. (shape_of c ≡ (file_app (codes "check")).top) × ((fields_of c).has_globals ≡ false)) }
+    ensures err { IfErr result (λ e. kind_of e ≡ ErrorKind.OutOfMemory) }
+{
+    file_command(
+        alloc,
+        "check",
+        "Reads a RET file and prints its transactions and their sum, or its first fault",
+    )
+}
+
+fn hotcheck_command<'a>(alloc: Global) -> Result<Command<'a>, Error>
+    ensures ok { IfOk result (λ c. (shape_of c ≡ (file_app (codes "hotcheck")).top) × ((fields_of c).has_globals ≡ false)) }
+    ensures err { IfErr result (λ e. kind_of e ≡ ErrorKind.OutOfMemory) }
+{
+    file_command(
+        alloc,
+        "hotcheck",
+        "Reads a HOT file and prints its totals, or its first record at fault",
+    )
 }
 
 fn office_command<'a>(alloc: Global) -> Result<Command<'a>, Error>
@@ -47,11 +70,13 @@ fn office_command<'a>(alloc: Global) -> Result<Command<'a>, Error>
     ensures err { IfErr result (λ e. kind_of e ≡ ErrorKind.OutOfMemory) }
 {
     let check = check_command(alloc)?;
+    let hotcheck = hotcheck_command(alloc)?;
     let office = Command::new(alloc, "bsp_office")
         .about("The office of a billing and settlement plan")
         .subcommand_required(true)
         .disable_help_subcommand(true);
     let office = office.subcommand(check)?;
+    let office = office.subcommand(hotcheck)?;
     Ok(office)
 }
 
@@ -69,11 +94,20 @@ fn check_given<'a>(matches: &ArgMatches<'a>) -> Option<Work<'a>>
     Some(Work::Check { file })
 }
 
+fn hotcheck_given<'a>(matches: &ArgMatches<'a>) -> Option<Work<'a>>
+    ensures { option_map work_of result ≡ hotcheck_work (rows_of (found_of matches.now)) }
+{
+    let file = value_of(matches, "FILE")?;
+    Some(Work::Hotcheck { file })
+}
+
+#[tactic(auto, unfolding(crate::specs::CommandLine::work_in))]
 fn work_given<'a>(name: &str, matches: &ArgMatches<'a>) -> Option<Work<'a>>
     ensures { option_map work_of result ≡ work_in name.now (rows_of (found_of matches.now)) }
 {
     match name {
         "check" => check_given(matches),
+        "hotcheck" => hotcheck_given(matches),
         _ => None,
     }
 }

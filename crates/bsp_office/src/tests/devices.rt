@@ -1,9 +1,10 @@
 //! Readers and writers that give or take little at a time, or fail.
 
 use super::files::{V1, front, text};
-use super::{Told, is_wanted};
-use crate::check;
-use crate::checking::{Fault, check_within};
+use super::hot_files::{NO_DOCUMENTS, V3};
+use super::{Told, is_wanted, status_of};
+use crate::checking::{Fault, report_within};
+use crate::report::Format;
 use bsp_fields::NoRoom;
 use std::io;
 use std::io::{ErrorKind, Read, Write};
@@ -78,10 +79,37 @@ impl Write for Output<'_> {
     }
 }
 
+/// The steps of a reader, and the status, the report and the number of unread bytes that are wanted.
+type ReadCase<'a> = (&'a [Step], u8, &'a [u8], usize);
+
+/// Whether the command for files of this format follows such a reader of these bytes.
+fn follows_reads(
+    rt: &HostRuntime,
+    format: Format,
+    bytes: &[u8],
+    case: ReadCase<'_>,
+) -> Result<bool, NoRoom> {
+    let (steps, status, report, left) = case;
+    let mut input = Input { bytes, steps };
+    let mut written = Vec::new(rt.alloc());
+    let status_told = status_of(rt, format, &mut input, &mut written);
+    let told = Told {
+        status: status_told,
+        written: &written,
+        left: input.bytes.len(),
+    };
+    let wanted = Told {
+        status,
+        written: report,
+        left,
+    };
+    is_wanted(told, wanted)
+}
+
 /// A reader that fails leaves nothing written, and is not read again.
 #[test]
 fn reads_are_followed(rt: HostRuntime) -> Result<(), Fail> {
-    let cases: [(&[Step], u8, &[u8], usize); 7] = [
+    let cases: [ReadCase<'_>; 7] = [
         (
             &[Step::Moves(1), Step::Moves(200), Step::Moves(136)],
             0,
@@ -101,29 +129,76 @@ fn reads_are_followed(rt: HostRuntime) -> Result<(), Fail> {
         ),
     ];
     let v1 = text(&rt, &V1, b"\n")?;
-    for (steps, status, report, left) in cases {
-        let mut input = Input { bytes: &v1, steps };
-        let mut written = Vec::new(rt.alloc());
-        let status_told = check(rt.alloc(), &mut input, &mut written);
-        let told = Told {
-            status: status_told,
-            written: &written,
-            left: input.bytes.len(),
-        };
-        let wanted = Told {
-            status,
-            written: report,
-            left,
-        };
-        assert!(rt; is_wanted(told, wanted)?);
+    for case in cases {
+        assert!(rt; follows_reads(&rt, Format::Ret, &v1, case)?);
     }
     Ok(())
+}
+
+/// The same of HOT files.
+#[test]
+fn reads_of_hot_files_are_followed(rt: HostRuntime) -> Result<(), Fail> {
+    let cases: [ReadCase<'_>; 5] = [
+        (
+            &[Step::Moves(1), Step::Interrupted, Step::Moves(200)],
+            0,
+            NO_DOCUMENTS,
+            0,
+        ),
+        (&[Step::Fails], 3, b"", 548),
+        (&[Step::Moves(411), Step::Fails], 3, b"", 137),
+        (&[Step::Moves(548), Step::Fails], 3, b"", 0),
+        (
+            &[Step::Moves(137), Step::Moves(0)],
+            1,
+            b"H04 record 2\n",
+            411,
+        ),
+    ];
+    let v3 = text(&rt, &V3, b"\n")?;
+    for case in cases {
+        assert!(rt; follows_reads(&rt, Format::Hot, &v3, case)?);
+    }
+    Ok(())
+}
+
+/// The steps of a writer, whether its flush fails, and the status and the number of the report's first
+/// bytes that are wanted.
+type WriteCase<'a> = (&'a [Step], bool, u8, usize);
+
+/// Whether the command for files of this format follows such a writer of this report on these bytes.
+fn follows_writes(
+    rt: &HostRuntime,
+    format: Format,
+    bytes: &[u8],
+    report: &[u8],
+    case: WriteCase<'_>,
+) -> Result<bool, Fail> {
+    let (steps, flush_fails, status, length) = case;
+    let mut input = bytes;
+    let mut output = Output {
+        written: Vec::with_capacity(rt.alloc(), 128)?,
+        steps,
+        flush_fails,
+    };
+    let status_told = status_of(rt, format, &mut input, &mut output);
+    let told = Told {
+        status: status_told,
+        written: &output.written,
+        left: input.len(),
+    };
+    let wanted = Told {
+        status,
+        written: front(report, length),
+        left: 0,
+    };
+    Ok(is_wanted(told, wanted)?)
 }
 
 /// A writer that fails or takes no byte has the report's first bytes, and is not written again.
 #[test]
 fn writes_are_followed(rt: HostRuntime) -> Result<(), Fail> {
-    let cases: [(&[Step], bool, u8, usize); 7] = [
+    let cases: [WriteCase<'_>; 7] = [
         (
             &[Step::Moves(1), Step::Moves(10), Step::Interrupted],
             false,
@@ -138,26 +213,25 @@ fn writes_are_followed(rt: HostRuntime) -> Result<(), Fail> {
         (&[], true, 3, 92),
     ];
     let v1 = text(&rt, &V1, b"\n")?;
-    for (steps, flush_fails, status, length) in cases {
-        let written = Vec::with_capacity(rt.alloc(), 128)?;
-        let mut input = v1.as_slice();
-        let mut output = Output {
-            written,
-            steps,
-            flush_fails,
-        };
-        let status_told = check(rt.alloc(), &mut input, &mut output);
-        let told = Told {
-            status: status_told,
-            written: &output.written,
-            left: input.len(),
-        };
-        let wanted = Told {
-            status,
-            written: front(SALE, length),
-            left: 0,
-        };
-        assert!(rt; is_wanted(told, wanted)?);
+    for case in cases {
+        assert!(rt; follows_writes(&rt, Format::Ret, &v1, SALE, case)?);
+    }
+    Ok(())
+}
+
+/// The same of HOT files.
+#[test]
+fn writes_on_hot_files_are_followed(rt: HostRuntime) -> Result<(), Fail> {
+    let cases: [WriteCase<'_>; 5] = [
+        (&[Step::Interrupted, Step::Moves(10)], false, 0, 34),
+        (&[Step::Fails], false, 3, 0),
+        (&[Step::Moves(10), Step::Moves(0)], false, 3, 10),
+        (&[Step::Moves(33), Step::Fails], false, 3, 33),
+        (&[], true, 3, 34),
+    ];
+    let v3 = text(&rt, &V3, b"\n")?;
+    for case in cases {
+        assert!(rt; follows_writes(&rt, Format::Hot, &v3, NO_DOCUMENTS, case)?);
     }
     Ok(())
 }
@@ -166,11 +240,12 @@ fn writes_are_followed(rt: HostRuntime) -> Result<(), Fail> {
 /// another answer.
 fn is_too_long(
     rt: &HostRuntime,
+    format: Format,
     input: &mut &[u8],
     written: &mut Vec<u8>,
     limit: u32,
 ) -> Result<Option<bool>, NoRoom> {
-    match check_within(rt.alloc(), input, written, limit as usize) {
+    match report_within(rt.alloc(), format, input, written, limit as usize) {
         Ok(0) => Ok(Some(false)),
         Err(Fault::TooLong) => Ok(Some(true)),
         Err(Fault::Memory) => Err(NoRoom),
@@ -182,19 +257,26 @@ fn is_too_long(
 /// written.
 #[test]
 fn long_files_are_refused(rt: HostRuntime) -> Result<(), Fail> {
-    let cases: [(u32, bool, &[u8], usize); 5] = [
-        (1_073_741_824, false, SALE, 0),
-        (686, false, SALE, 0),
-        (685, false, SALE, 0),
-        (684, true, b"", 0),
-        (0, true, b"", 684),
+    let cases: [(Format, u32, bool, &[u8], usize); 8] = [
+        (Format::Ret, 1_073_741_824, false, SALE, 0),
+        (Format::Ret, 686, false, SALE, 0),
+        (Format::Ret, 685, false, SALE, 0),
+        (Format::Ret, 684, true, b"", 0),
+        (Format::Ret, 0, true, b"", 684),
+        (Format::Hot, 548, false, NO_DOCUMENTS, 0),
+        (Format::Hot, 547, true, b"", 0),
+        (Format::Hot, 0, true, b"", 547),
     ];
     let v1 = text(&rt, &V1, b"\n")?;
-    for (limit, is_long, report, left) in cases {
-        let mut input = v1.as_slice();
+    let v3 = text(&rt, &V3, b"\n")?;
+    for (format, limit, is_long, report, left) in cases {
+        let mut input = match format {
+            Format::Ret => v1.as_slice(),
+            Format::Hot => v3.as_slice(),
+        };
         let mut written = Vec::new(rt.alloc());
         assert_eq!(rt;
-            is_too_long(&rt, &mut input, &mut written, limit)?,
+            is_too_long(&rt, format, &mut input, &mut written, limit)?,
             Some(is_long)
         );
         assert_eq!(rt; written.as_slice(), report);

@@ -1,8 +1,7 @@
-//! Reports on files.
+//! Reports on RET files.
 
-use super::{Told, is_wanted};
-use crate::check;
-use bsp_fields::NoRoom;
+use super::reports;
+use crate::report::Format;
 use std::test::Fail;
 
 const HEADER: &[u8] = b"1TSTA2401050930DE000001PROD001";
@@ -47,24 +46,6 @@ pub(super) fn front(bytes: &[u8], length: usize) -> &[u8] {
     &bytes[..length.min(bytes.len())]
 }
 
-/// Whether `check` of these bytes answers this status and writes this report, and nothing else.
-fn reports(rt: &HostRuntime, bytes: &[u8], status: u8, report: &[u8]) -> Result<bool, NoRoom> {
-    let mut input = bytes;
-    let mut written = Vec::new(rt.alloc());
-    let status_told = check(rt.alloc(), &mut input, &mut written);
-    let told = Told {
-        status: status_told,
-        written: &written,
-        left: input.len(),
-    };
-    let wanted = Told {
-        status,
-        written: report,
-        left: 0,
-    };
-    is_wanted(told, wanted)
-}
-
 #[test]
 fn files_are_reported(rt: HostRuntime) -> Result<(), Fail> {
     let refund: &[u8] = b"000001 RFND 12345675 125-1300000002-0 2024-01-05 -235.00\n\
@@ -76,13 +57,13 @@ fn files_are_reported(rt: HostRuntime) -> Result<(), Fail> {
     let v1 = text(&rt, &V1, b"\n")?;
     let refunded = text(&rt, &REFUND, b"\r\n")?;
     let nothing = b"records 2 transactions 0 sum 0.00\n";
-    assert!(rt; reports(&rt, &v0, 0, nothing)?);
-    assert!(rt; reports(&rt, front(&v0, 273), 0, nothing)?);
-    assert!(rt; reports(&rt, front(&v0, 272), 1, b"F01 record 2\n")?);
-    assert!(rt; reports(&rt, front(&v0, 137), 1, b"F08 record 2\n")?);
-    assert!(rt; reports(&rt, b"", 1, b"F08 record 1\n")?);
-    assert!(rt; reports(&rt, b"\x00\xff\n", 1, b"F01 record 1\n")?);
-    assert!(rt; reports(&rt, &v1, 0, sale)?);
-    assert!(rt; reports(&rt, &refunded, 0, refund)?);
+    assert!(rt; reports(&rt, Format::Ret, &v0, 0, nothing)?);
+    assert!(rt; reports(&rt, Format::Ret, front(&v0, 273), 0, nothing)?);
+    assert!(rt; reports(&rt, Format::Ret, front(&v0, 272), 1, b"F01 record 2\n")?);
+    assert!(rt; reports(&rt, Format::Ret, front(&v0, 137), 1, b"F08 record 2\n")?);
+    assert!(rt; reports(&rt, Format::Ret, b"", 1, b"F08 record 1\n")?);
+    assert!(rt; reports(&rt, Format::Ret, b"\x00\xff\n", 1, b"F01 record 1\n")?);
+    assert!(rt; reports(&rt, Format::Ret, &v1, 0, sale)?);
+    assert!(rt; reports(&rt, Format::Ret, &refunded, 0, refund)?);
     Ok(())
 }

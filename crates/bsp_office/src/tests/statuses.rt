@@ -15,7 +15,7 @@ fn status_alone(status: u8) -> Told<'static> {
 
 #[test]
 fn lines_have_their_status(rt: HostRuntime) -> Result<(), Fail> {
-    let cases: [(&[&str], u8); 8] = [
+    let cases: [(&[&str], u8); 12] = [
         (&["bsp_office", "--help"], 0),
         (&["bsp_office", "check", "--help"], 0),
         (&["bsp_office"], 2),
@@ -24,6 +24,10 @@ fn lines_have_their_status(rt: HostRuntime) -> Result<(), Fail> {
         (&["bsp_office", "check", "no such file"], 3),
         (&["bsp_office", "check", "/"], 3),
         (&["bsp_office", "check", ""], 3),
+        (&["bsp_office", "hotcheck", "--help"], 0),
+        (&["bsp_office", "hotcheck"], 2),
+        (&["bsp_office", "hotcheck", "no such file"], 3),
+        (&["bsp_office", "hotcheck", "/"], 3),
     ];
     for (line, status) in cases {
         let told = status_alone(run_line(&rt, line));

@@ -24,8 +24,9 @@ fn asked<'a>(rt: &HostRuntime, line: &'a [&'a str]) -> Result<Asked<'a>, NoRoom>
 #[test]
 fn words_ask_for_work(rt: HostRuntime) -> Result<(), Fail> {
     let work = |file| Ok(Work::Check { file });
+    let hot_work = |file| Ok(Work::Hotcheck { file });
     let refused = |kind| Err(Some(kind));
-    let cases: [(&[&str], Asked<'_>); 9] = [
+    let cases: [(&[&str], Asked<'_>); 12] = [
         (&["bsp_office", "check", "v1.ret"], work("v1.ret")),
         (&["bsp_office", "check", "-"], work("-")),
         (&["bsp_office", "check", "--", "-x"], work("-x")),
@@ -44,6 +45,15 @@ fn words_ask_for_work(rt: HostRuntime) -> Result<(), Fail> {
         (
             &["bsp_office", "check", "--help"],
             refused(ErrorKind::DisplayHelp),
+        ),
+        (&["bsp_office", "hotcheck", "v3.hot"], hot_work("v3.hot")),
+        (
+            &["bsp_office", "hotcheck"],
+            refused(ErrorKind::MissingRequiredArgument),
+        ),
+        (
+            &["bsp_office", "hot", "a"],
+            refused(ErrorKind::InvalidSubcommand),
         ),
         (
             &["bsp_office", "report", "a"],

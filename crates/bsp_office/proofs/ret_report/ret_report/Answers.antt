@@ -1,5 +1,5 @@
 use Rattle.std.proofs.Common.{refl, inl}
-use Rattle.bsp_office.proofs.checking.report_on.Goals as goal
+use Rattle.bsp_office.proofs.ret_report.ret_report.Goals as goal
 
 pub returns-in_ok-file_report-in-Ok : goal.returns-in_ok-file_report-in-Ok
 returns-in_ok-file_report-in-Ok c =

@@ -1,6 +1,6 @@
 use Rattle.std.proofs.Common.{Bor, List, ℕ, [], ◌++◌, get_or, ap, ◌∙◌}
 use Rattle.bsp_ret.proofs.WritingLemmas.{concat_more}
-use Rattle.bsp_office.proofs.report.push_fields.Goals as goal
+use Rattle.bsp_office.proofs.ret_report.push_fields.Goals as goal
 
 pub loop-field-preserved : goal.loop-field-preserved
 loop-field-preserved c =

@@ -1,6 +1,6 @@
 use Rattle.std.proofs.Common.{arith}
-use Rattle.bsp_office.proofs.Reports.{more_reported}
-use Rattle.bsp_office.proofs.report.push_transactions.Goals as goal
+use Rattle.bsp_office.proofs.RetReports.{more_reported}
+use Rattle.bsp_office.proofs.ret_report.push_transactions.Goals as goal
 
 pub loop-index-preserved : goal.loop-index-preserved
 loop-index-preserved c =

@@ -1,7 +1,7 @@
 use Rattle.std.proofs.Common.{refl, ◌∙◌}
 use Rattle.std.specs.Int.{w128}
 use Rattle.std.proofs.lemmas.Int.{to_z-of_z}
-use Rattle.bsp_office.proofs.report.total_line.Goals as goal
+use Rattle.bsp_office.proofs.ret_report.total_line.Goals as goal
 
 pub returns : goal.returns
 returns c =

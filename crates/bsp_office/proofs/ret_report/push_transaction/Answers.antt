@@ -1,7 +1,7 @@
 use Rattle.std.proofs.Common.{List, ℕ, ◌++◌, ap, ◌∙◌}
 use Rattle.bsp_fields.specs.Money.{money_text}
-use Rattle.bsp_office.proofs.Reports.{sum_stored, transaction_line}
-use Rattle.bsp_office.proofs.report.push_transaction.Goals as goal
+use Rattle.bsp_office.proofs.RetReports.{sum_stored, transaction_line}
+use Rattle.bsp_office.proofs.ret_report.push_transaction.Goals as goal
 
 pub returns : goal.returns
 returns c =

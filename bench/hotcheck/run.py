@@ -1,0 +1,16 @@
+#!/usr/bin/env python3
+"""Measures `bsp_office hotcheck`, as ../against_twin.py says, on a file of DOCUMENTS documents.
+
+usage: bench/hotcheck/run.py [DOCUMENTS [ROUNDS]]     (420000, which is 300 MB, and 7 by default)
+"""
+import pathlib
+import sys
+
+HERE = pathlib.Path(__file__).resolve().parent
+sys.dont_write_bytecode = True
+sys.path += [str(HERE), str(HERE.parent)]
+from against_twin import run
+from make_hot_file import write
+
+if __name__ == "__main__":
+    run("hotcheck", HERE / "plain.rs", write, 9_999_999, *map(int, sys.argv[1:] or ["420000"]))

@@ -1,0 +1,46 @@
+//! The report on a HOT file.
+
+ghost use Rattle.std.specs.Prelude.{◌≡◌, IfOk, string_bytes};
+ghost use Rattle.bsp_office.specs.HotReport.{totals_text, fault_text, IsHotReport};
+
+use crate::report::Report;
+use bsp_fields::{NoRoom, write_money};
+use bsp_hot_check::{HotFault, HotTotals, check_hot};
+use std::alloc::Global;
+
+/// The line of a file with these totals.
+fn totals_line(alloc: Global, totals: HotTotals) -> Result<String, NoRoom>
+    ensures { IfOk result (λ line. string_bytes line ≡ totals_text totals) }
+{
+    let HotTotals {
+        records,
+        documents,
+        net,
+    } = totals;
+    let money = write_money(alloc, net)?;
+    Ok(format!(in alloc; "OK records {records} documents {documents} net {money}\n")?)
+}
+
+/// The line of a fault.
+fn fault_line(alloc: Global, fault: HotFault) -> Result<String, NoRoom>
+    ensures { IfOk result (λ line. string_bytes line ≡ fault_text fault) }
+{
+    let HotFault::H04(record) = fault;
+    Ok(format!(in alloc; "H04 record {record}\n")?)
+}
+
+/// The report on the bytes of a HOT file: status 0 for a file, 1 for a fault.
+pub(crate) fn hot_report(alloc: Global, bytes: &[u8]) -> Result<Report, NoRoom>
+    ensures { IfOk result (λ report. IsHotReport bytes.now report.status report.text.items) }
+{
+    match check_hot(bytes) {
+        Ok(totals) => Ok(Report {
+            status: 0,
+            text: totals_line(alloc, totals)?.into_bytes(),
+        }),
+        Err(fault) => Ok(Report {
+            status: 1,
+            text: fault_line(alloc, fault)?.into_bytes(),
+        }),
+    }
+}
