@@ -109,7 +109,7 @@ stored z small = to_z-of_z w64 z (fits_signed_from_abs w64 z (omega (arith, smal
 ending-last_digit : (c : ℕ) → is_ascii_digit c ≡ false → not (is_plus c || is_minus c) ≡ false → ending (is_minus c) (last_digit c) ≡ c
 ending-last_digit c bare sign = grind (arith, common_steps)
 
-unsigned_abs-with_sign : (negative : Bool) (size : ℕ) → unsigned_abs (with_sign negative size) ≡ size
+pub unsigned_abs-with_sign : (negative : Bool) (size : ℕ) → unsigned_abs (with_sign negative size) ≡ size
 unsigned_abs-with_sign false size = refl
 unsigned_abs-with_sign true zero = refl
 unsigned_abs-with_sign true (suc size) = refl

@@ -156,7 +156,7 @@ with_office f agent items = record {
   offices = f.offices ++ record { agent = agent; items = items } ∷ [];
 }
 
-offices_snoc : (h : Heading) (n : ℕ) (offices : List Office) (o : Office) → offices_records h n (offices ++ o ∷ []) ≡ offices_records h n offices ++ office_records h (n + count_items offices) o
+pub offices_snoc : (h : Heading) (n : ℕ) (offices : List Office) (o : Office) → offices_records h n (offices ++ o ∷ []) ≡ offices_records h n offices ++ office_records h (n + count_items offices) o
 offices_snoc h n [] o =
     let k : n ≡ n + 0 = omega arith in
     append-nil (office_records h n o) ∙ ap (λ (i : ℕ). office_records h i o) k

@@ -24,7 +24,7 @@ pub abs_plus : (x y : ℤ) → unsigned_abs (x +ℤ y) ≤ unsigned_abs x + unsi
 abs_plus x y = omega (arith, ints)
 
 -- a number in the places of an `i128`
-stored : (z : ℤ) → unsigned_abs z < 2 ^ 127 → to_z w128 (of_z w128 z) ≡ z
+pub stored : (z : ℤ) → unsigned_abs z < 2 ^ 127 → to_z w128 (of_z w128 z) ≡ z
 stored z h = to_z-of_z w128 z (fits_signed_from_abs w128 z h)
 
 pub added : (x y : ℤ) → unsigned_abs x ≤ 2 ^ 63 * 10 ^ 11 → unsigned_abs y ≤ (2 ^ 63 - 1) * 10 ^ 11 → to_z w128 (of_z w128 (to_z w128 (of_z w128 x) +ℤ to_z w128 (of_z w128 y))) ≡ x +ℤ y
@@ -80,7 +80,7 @@ longer n sums h = record {
   acma = one_longer n sums.acma h.acma;
 }
 
-small_add_at : (n : ℕ) (sums : CodeSums) (c : DocumentCode) (t : Sums) → AreSmallSums n sums → AreSmall 1 t → AreSmallSums (n + 1) (add_at sums c t)
+pub small_add_at : (n : ℕ) (sums : CodeSums) (c : DocumentCode) (t : Sums) → AreSmallSums n sums → AreSmall 1 t → AreSmallSums (n + 1) (add_at sums c t)
 small_add_at n sums Tktt t h one = record { tktt = small_add n 1 sums.tktt t h.tktt one; rfnd = one_longer n sums.rfnd h.rfnd; canx = one_longer n sums.canx h.canx; adma = one_longer n sums.adma h.adma; acma = one_longer n sums.acma h.acma }
 small_add_at n sums Rfnd t h one = record { tktt = one_longer n sums.tktt h.tktt; rfnd = small_add n 1 sums.rfnd t h.rfnd one; canx = one_longer n sums.canx h.canx; adma = one_longer n sums.adma h.adma; acma = one_longer n sums.acma h.acma }
 small_add_at n sums Canx t h one = record { tktt = one_longer n sums.tktt h.tktt; rfnd = one_longer n sums.rfnd h.rfnd; canx = small_add n 1 sums.canx t h.canx one; adma = one_longer n sums.adma h.adma; acma = one_longer n sums.acma h.acma }

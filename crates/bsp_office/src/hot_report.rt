@@ -21,12 +21,11 @@ fn totals_line(alloc: Global, totals: HotTotals) -> Result<String, NoRoom>
     Ok(format!(in alloc; "OK records {records} documents {documents} net {money}\n")?)
 }
 
-/// The line of a fault.
-fn fault_line(alloc: Global, fault: HotFault) -> Result<String, NoRoom>
-    ensures { IfOk result (λ line. string_bytes line ≡ fault_text fault) }
+/// The line of the first record at fault.
+fn fault_line(alloc: Global, number: usize) -> Result<String, NoRoom>
+    ensures { IfOk result (λ line. string_bytes line ≡ fault_text number) }
 {
-    let HotFault::H04(record) = fault;
-    Ok(format!(in alloc; "H04 record {record}\n")?)
+    Ok(format!(in alloc; "H04 record {number}\n")?)
 }
 
 /// The report on the bytes of a HOT file: status 0 for a file, 1 for a fault.
@@ -38,9 +37,10 @@ pub(crate) fn hot_report(alloc: Global, bytes: &[u8]) -> Result<Report, NoRoom>
             status: 0,
             text: totals_line(alloc, totals)?.into_bytes(),
         }),
-        Err(fault) => Ok(Report {
+        Err(HotFault::H04(number)) => Ok(Report {
             status: 1,
-            text: fault_line(alloc, fault)?.into_bytes(),
+            text: fault_line(alloc, number)?.into_bytes(),
         }),
+        Err(HotFault::H01 | HotFault::H02 | HotFault::H03) => unreachable!(),
     }
 }

@@ -39,7 +39,7 @@ printable_are number fare places rate commission rest a b d e f g =
     rw (list_all-append (list_all is_printable) places (rate ∷ commission ∷ rest ∷ []), a, b, d, e, f, g) refl
 
 -- six lists in front of others
-six_of : (places others : List (List ℕ)) → map length places ≡ replicate 6 13 → get_or (places ++ others) 0 [] ∷ get_or (places ++ others) 1 [] ∷ get_or (places ++ others) 2 [] ∷ get_or (places ++ others) 3 [] ∷ get_or (places ++ others) 4 [] ∷ get_or (places ++ others) 5 [] ∷ [] ≡ places
+pub six_of : (places others : List (List ℕ)) → map length places ≡ replicate 6 13 → get_or (places ++ others) 0 [] ∷ get_or (places ++ others) 1 [] ∷ get_or (places ++ others) 2 [] ∷ get_or (places ++ others) 3 [] ∷ get_or (places ++ others) 4 [] ∷ get_or (places ++ others) 5 [] ∷ [] ≡ places
 six_of (a ∷ b ∷ d ∷ e ∷ f ∷ g ∷ []) others wide = refl
 six_of (a ∷ b ∷ d ∷ e ∷ f ∷ g ∷ h ∷ places) others wide = absurd (cc wide)
 six_of (a ∷ b ∷ d ∷ e ∷ f ∷ []) others wide = absurd (cc wide)

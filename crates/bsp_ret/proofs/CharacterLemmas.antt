@@ -15,7 +15,7 @@ use Rattle.bsp_fields.proofs.DecimalLemmas.{length-fixed_digits, digits-fixed_di
 use Rattle.bsp_ret.specs.Records.{is_letter_or_digit, is_printable}
 
 -- a test that another one entails
-list_all-weaker : (p q : ℕ → Bool) → ((c : ℕ) → p c ≡ true → q c ≡ true) → (text : List ℕ) → list_all p text ≡ true → list_all q text ≡ true
+pub list_all-weaker : (p q : ℕ → Bool) → ((c : ℕ) → p c ≡ true → q c ≡ true) → (text : List ℕ) → list_all p text ≡ true → list_all q text ≡ true
 list_all-weaker p q weaker [] all = refl
 list_all-weaker p q weaker (c ∷ text) all =
     let parts = and_parts (p c) (list_all p text) all in

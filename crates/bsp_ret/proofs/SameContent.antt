@@ -150,7 +150,7 @@ same_content g t u first second =
     let parts : values_from t.code t.agent t.document t.issued t.passenger t.related t.amounts t.cash t.credit t.exchange ≡ values_from u.code u.agent u.document u.issued u.passenger u.related u.amounts u.cash u.credit u.exchange = rw (code, agent, document, issued, passenger, related, amounts, cash, credit, exchange) refl in
     values_are t ∙ parts ∙ sym (values_are u)
 
-has_body_facts : (n : ℕ) (lines : List (List ℕ)) (t : Transaction) (has : HasContent n lines t) → BodyFacts n has.is.group
+pub has_body_facts : (n : ℕ) (lines : List (List ℕ)) (t : Transaction) (has : HasContent n lines t) → BodyFacts n has.is.group
 has_body_facts n lines t has =
     let Body : Option TransactionCode → Type 0 = λ o. HasBody n has.is.group o in
     body_facts n has.is.group t.code (subst Body has.content.code has.is.body)

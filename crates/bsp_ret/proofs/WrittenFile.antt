@@ -319,7 +319,7 @@ wide_printable : (line : List ℕ) → is_wide line ≡ true → list_all is_pri
 unfolding is_wide
 wide_printable line wide = (and_parts (length line == 136) (list_all is_printable line) wide).1
 
-lines-text_of : (ls : List (List ℕ)) → list_all is_wide ls ≡ true → lines (text_of ls) ≡ ls
+pub lines-text_of : (ls : List (List ℕ)) → list_all is_wide ls ≡ true → lines (text_of ls) ≡ ls
 lines-text_of [] all = lines_nil
 lines-text_of (line ∷ ls) all =
     let parts = and_parts (is_wide line) (list_all is_wide ls) all in

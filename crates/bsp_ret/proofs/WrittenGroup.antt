@@ -25,9 +25,9 @@ use Rattle.bsp_ret.specs.Stored.{InEach, IsStored, IsStoredAmount, IsStoredAmoun
 -- ---- what the test of the values says
 
 -- two places, of which the second has nothing
-record PlacesFacts (places : List (Option ReportedDocument)) : Type 0 where
-  two : places ≡ slice_index_or places 0 None ∷ None ∷ []
-  first : none_or is_document (slice_index_or places 0 None) ≡ true
+pub record PlacesFacts (places : List (Option ReportedDocument)) : Type 0 where
+  pub two : places ≡ slice_index_or places 0 None ∷ None ∷ []
+  pub first : none_or is_document (slice_index_or places 0 None) ≡ true
 
 places_facts : (places : List (Option ReportedDocument)) → length places ≡ 2 → are_related places ≡ true → PlacesFacts places
 unfolding are_related
@@ -37,14 +37,14 @@ places_facts (first ∷ None ∷ []) wide fit = record { two = refl; first = (an
 places_facts (first ∷ Some second ∷ []) wide fit = absurd (cc ((and_parts (none_or is_document first) false fit).1))
 places_facts (first ∷ second ∷ third ∷ places) wide fit = absurd (omega (arith, wide))
 
-record Facts (t : Transaction) : Type 0 where
-  sale : SaleFits t
-  related : PlacesFacts t.related
-  amounts : none_or are_amounts t.amounts ≡ true
-  credit : none_or is_card t.credit ≡ true
-  parts : has_parts t.code (is_some (related_of t)) (is_some t.amounts) (is_some t.cash) (is_some t.credit) (is_some t.exchange) ≡ true
+pub record Facts (t : Transaction) : Type 0 where
+  pub sale : SaleFits t
+  pub related : PlacesFacts t.related
+  pub amounts : none_or are_amounts t.amounts ≡ true
+  pub credit : none_or is_card t.credit ≡ true
+  pub parts : has_parts t.code (is_some (related_of t)) (is_some t.amounts) (is_some t.cash) (is_some t.credit) (is_some t.exchange) ≡ true
 
-facts_from : (t : Transaction) → length t.related ≡ 2 → is_group_values t ≡ true → Facts t
+pub facts_from : (t : Transaction) → length t.related ≡ 2 → is_group_values t ≡ true → Facts t
 unfolding is_group_values
 facts_from t two fits =
     let agent = all_ascii_digits t.agent in

@@ -40,3 +40,4 @@ pub use record_fields::{
 };
 pub use transactions::{Amounts, CardPayment, ReportedDocument, Tax, Transaction};
 pub use values::{one_content, transaction};
+pub use writing::write_tax;

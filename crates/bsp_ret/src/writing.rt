@@ -9,8 +9,9 @@ use crate::transactions::{Amounts, CardPayment, ReportedDocument, Tax, Transacti
 use bsp_fields::{Amount, write_amount, write_digits};
 use std::alloc::AllocError;
 
-/// A tax place.
-fn write_tax(tax: Option<Tax>) -> [u8; 13]
+/// Writes a tax place of 13 columns: its code and its amount, or spaces (record 5 of RET, BKS30 of
+/// HOT).
+pub fn write_tax(tax: Option<Tax>) -> [u8; 13]
     ensures { result ≡ tax_text tax }
 {
     let mut text = [b' '; 13];

@@ -21,5 +21,5 @@ pub use gathering::facts_of;
 pub use judging::judge;
 pub use rounding::commission;
 pub use rows::{Item, Range, Tally};
-pub use sums::net;
+pub use sums::{amount_or_zero, card_amount, commission_amount, net};
 pub use verdict::{Refusal, Reporter, Verdict};

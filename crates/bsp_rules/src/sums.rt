@@ -7,7 +7,8 @@ use crate::rows::Item;
 use bsp_fields::Amount;
 use bsp_ret::{Amounts, CardPayment, Tax, Transaction, TransactionCode};
 
-pub(crate) fn amount_or_zero(amount: Option<Amount>) -> i64
+/// An amount in minor units, and 0 where there is none.
+pub fn amount_or_zero(amount: Option<Amount>) -> i64
     ensures value { result ≡ amount_or_zero amount }
     ensures bound { unsigned_abs result ≤ 99_999_999_999 }
 {
@@ -17,7 +18,8 @@ pub(crate) fn amount_or_zero(amount: Option<Amount>) -> i64
     }
 }
 
-fn card_amount(payment: Option<CardPayment>) -> i64
+/// What was paid by card in minor units, and 0 where nothing was.
+pub fn card_amount(payment: Option<CardPayment>) -> i64
     ensures value { result ≡ card_amount payment }
     ensures bound { unsigned_abs result ≤ 99_999_999_999 }
 {
@@ -27,7 +29,8 @@ fn card_amount(payment: Option<CardPayment>) -> i64
     }
 }
 
-fn commission_amount(amounts: &Option<Amounts>) -> i64
+/// The commission in minor units, and 0 where there are no amounts.
+pub fn commission_amount(amounts: &Option<Amounts>) -> i64
     ensures value { result ≡ commission_amount amounts.now }
     ensures bound { unsigned_abs result ≤ 99_999_999_999 }
 {
