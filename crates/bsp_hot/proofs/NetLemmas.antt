@@ -1,0 +1,246 @@
+-- The net of a file is the sum over its records, and that of its rows in the words of the rules.
+use Rattle.std.proofs.Common.{◌≡◌, ℕ, ◌+◌, ◌==◌, refl, ap, ◌∙◌, sym, Bool, true, false, ◌&&◌, ◌||◌, List, [], ◌∷◌, ◌++◌, length, map, arith, cond, Option, None, Some}
+use Rattle.std.specs.Prelude.{ℤ, pos, ◌+ℤ◌, ◌-ℤ◌}
+use Rattle.std.specs.List.{filter}
+use Rattle.std.proofs.Math.IntN.{+ℤ_assoc, +ℤ_idl, +ℤ_idr}
+use Rattle.std.proofs.lemmas.Int.{ints}
+use Rattle.std.proofs.lemmas.Simd.{map-map}
+use Rattle.std.proofs.lemmas.List.{map-append}
+use Rattle.std.proofs.lemmas.List.Sorted.{IsPermutation-map}
+use Rattle.bsp_calendar.specs.declared.entries.Period.{Period}
+use Rattle.bsp_ret.specs.declared.model.TransactionCode.{TransactionCode}
+use Rattle.bsp_ret.specs.declared.model.TransactionCode.TheVariants.{Tktt, Rfnd, Canx}
+use Rattle.bsp_ret.specs.declared.transactions.ReportedDocument.{ReportedDocument}
+use Rattle.bsp_ret.specs.declared.transactions.Amounts.{Amounts}
+use Rattle.bsp_ret.specs.declared.transactions.CardPayment.{CardPayment}
+use Rattle.bsp_ret.specs.declared.transactions.Transaction.{Transaction}
+use Rattle.bsp_rules.specs.Amounts.{sum_of as sum_of_amounts, amount_or_zero, commission_amount, net_of}
+use Rattle.bsp_rules.specs.SameContent.{same_code}
+use Rattle.bsp_rules.specs.declared.rows.Item.{Item as Row}
+use Rattle.bsp_memos.specs.declared.fields.MemoFields.{MemoFields}
+use Rattle.bsp_hot_check.specs.declared.model.Sums.{Sums}
+use Rattle.bsp_hot_check.specs.Records.{Part, amounts, commission, related, cash, credit, exchange, Heading, Record, file_totals, part, code_totals, period_totals}
+use Rattle.bsp_hot_check.specs.Sums.{one_document, add, sum_of, with_net, all_codes}
+use Rattle.bsp_hot_check.specs.Hot.{Item, Office, File, part_sums, item_sums, items_sums, code_sums, file_sums, item_records, items_records, has_code, codes_records, closing_records, office_records, offices_records, headers, all_but_last, records_of}
+use Rattle.bsp_hot_check.proofs.SumLemmas.{plus_assoc, none_right}
+use Rattle.bsp_hot.specs.Rows.{Entry, amounts_parts, all_related_parts, cash_parts, credit_parts, exchange_parts, payment_parts, transaction_parts, memo_amount, is_reported, is_billed, row_entry, memo_entry, entries}
+use Rattle.bsp_hot.specs.Files.{IsInOrder, with_entry, offices_of, file_of, part_net, record_net, airline_net}
+use Rattle.bsp_hot.specs.Nets.{lives_in, net_of_rows}
+use Rattle.bsp_hot.proofs.SumLemmas.{sum_of-cons, sum_of-append, sum_filtered, sums_agree, sum_of-IsPermutation}
+
+abbrev net_of_sums : Sums → ℤ
+net_of_sums s = (with_net s).net
+
+-- ---- sums
+
+net_grows : (a b c d : ℤ) → (a +ℤ b) -ℤ (c +ℤ d) ≡ (a -ℤ c) +ℤ (b -ℤ d)
+net_grows a b c d = omega (arith, ints)
+
+net_of_add : (s t : Sums) → net_of_sums (add s t) ≡ net_of_sums s +ℤ net_of_sums t
+unfolding add
+net_of_add s t = net_grows s.cash t.cash s.commission t.commission
+
+net-append : (rs ss : List Record) → airline_net (rs ++ ss) ≡ airline_net rs +ℤ airline_net ss
+net-append [] ss = sym (+ℤ_idl (airline_net ss))
+net-append (r ∷ rs) ss =
+    ap (λ (n : ℤ). record_net r +ℤ n) (net-append rs ss) ∙ sym (+ℤ_assoc (record_net r) (airline_net rs) (airline_net ss))
+
+-- ---- parts
+
+less_nothing : (x : ℤ) → x ≡ x -ℤ pos 0
+less_nothing x = omega (arith, ints)
+
+part_adds : (x : Part) → part_net x ≡ net_of_sums (part_sums x)
+part_adds (amounts a) = refl
+part_adds (commission c) = refl
+part_adds (related r) = refl
+part_adds (cash paid) = less_nothing paid
+part_adds (credit card) = refl
+part_adds (exchange ex) = refl
+
+parts_add : (n : ℕ) (parts : List Part) → airline_net (map (part n) parts) ≡ net_of_sums (sum_of (map part_sums parts))
+parts_add n [] = refl
+parts_add n (x ∷ parts) =
+    ap (λ (a : ℤ). a +ℤ airline_net (map (part n) parts)) (part_adds x)
+    ∙ ap (λ (a : ℤ). net_of_sums (part_sums x) +ℤ a) (parts_add n parts)
+    ∙ sym (net_of_add (part_sums x) (sum_of (map part_sums parts)))
+
+-- ---- items
+
+-- the header and BKS24 add nothing
+item_adds : (airline agent n : ℕ) (it : Item) → airline_net (item_records airline agent n it) ≡ net_of_sums (item_sums it)
+item_adds airline agent n it =
+    +ℤ_idl (pos 0 +ℤ airline_net (map (part n) it.parts))
+    ∙ ap (λ (a : ℤ). pos 0 +ℤ a) (parts_add n it.parts)
+    ∙ sym (net_of_add one_document (sum_of (map part_sums it.parts)))
+
+items_add : (airline agent n : ℕ) (items : List Item) → airline_net (items_records airline agent n items) ≡ net_of_sums (items_sums items)
+items_add airline agent n [] = refl
+items_add airline agent n (it ∷ items) =
+    net-append (item_records airline agent n it) (items_records airline agent (n + 1) items)
+    ∙ ap (λ (a : ℤ). a +ℤ airline_net (items_records airline agent (n + 1) items)) (item_adds airline agent n it)
+    ∙ ap (λ (a : ℤ). net_of_sums (item_sums it) +ℤ a) (items_add airline agent (n + 1) items)
+    ∙ sym (net_of_add (item_sums it) (items_sums items))
+
+-- ---- offices
+
+no_net : {A : Type 0} (f : A → Record) → ((x : A) → record_net (f x) ≡ pos 0) → (xs : List A) → airline_net (map f xs) ≡ pos 0
+no_net f none [] = refl
+no_net f none (x ∷ xs) = ap (λ (a : ℤ). a +ℤ airline_net (map f xs)) (none x) ∙ +ℤ_idl (airline_net (map f xs)) ∙ no_net f none xs
+
+-- totals add nothing
+closing_adds : (agent : ℕ) (items : List Item) → airline_net (closing_records agent items) ≡ pos 0
+closing_adds agent items =
+    net-append (codes_records agent items all_codes) _
+    ∙ +ℤ_idr (airline_net (codes_records agent items all_codes))
+    ∙ no_net (λ c. code_totals agent c (with_net (code_sums c items))) (λ c. refl) (filter (has_code items) all_codes)
+
+office_adds : (h : Heading) (n : ℕ) (o : Office) → airline_net (office_records h n o) ≡ net_of_sums (items_sums o.items)
+office_adds h n o =
+    +ℤ_idl (airline_net (items_records h.airline o.agent n o.items ++ closing_records o.agent o.items))
+    ∙ net-append (items_records h.airline o.agent n o.items) (closing_records o.agent o.items)
+    ∙ ap (λ (a : ℤ). airline_net (items_records h.airline o.agent n o.items) +ℤ a) (closing_adds o.agent o.items)
+    ∙ +ℤ_idr (airline_net (items_records h.airline o.agent n o.items))
+    ∙ items_add h.airline o.agent n o.items
+
+offices_add : (h : Heading) (n : ℕ) (offices : List Office) → airline_net (offices_records h n offices) ≡ net_of_sums (file_sums offices)
+offices_add h n [] = refl
+offices_add h n (o ∷ offices) =
+    net-append (office_records h n o) (offices_records h (n + length o.items) offices)
+    ∙ ap (λ (a : ℤ). a +ℤ airline_net (offices_records h (n + length o.items) offices)) (office_adds h n o)
+    ∙ ap (λ (a : ℤ). net_of_sums (items_sums o.items) +ℤ a) (offices_add h (n + length o.items) offices)
+    ∙ sym (net_of_add (items_sums o.items) (file_sums offices))
+
+-- ---- files
+
+-- headers and a record of totals around records add nothing
+around : (rs : List Record) (r : Record) → record_net r ≡ pos 0 → airline_net (rs ++ r ∷ []) ≡ airline_net rs
+around rs r none =
+    net-append rs (r ∷ []) ∙ ap (λ (a : ℤ). airline_net rs +ℤ (a +ℤ pos 0)) none ∙ +ℤ_idr (airline_net rs)
+
+all_but_last_adds : (file : File) → airline_net (all_but_last file) ≡ net_of_sums (file_sums file.offices)
+all_but_last_adds file =
+    let totals = period_totals file.heading.period (length file.offices) (with_net (file_sums file.offices)) in
+    let between = offices_records file.heading 1 file.offices ++ totals ∷ [] in
+    net-append (headers file) between
+    ∙ +ℤ_idl (airline_net between)
+    ∙ around (offices_records file.heading 1 file.offices) totals refl
+    ∙ offices_add file.heading 1 file.offices
+
+pub net_is : (file : File) → (with_net (file_sums file.offices)).net ≡ airline_net (records_of file)
+net_is file =
+    sym (around (all_but_last file) (file_totals file.heading.airline (length (all_but_last file) + 1) (with_net (file_sums file.offices))) refl ∙ all_but_last_adds file)
+
+-- ---- rows
+
+abbrev parts_net : List Part → ℤ
+parts_net parts = airline_net (map (part 0) parts)
+
+parts_net-append : (xs ys : List Part) → parts_net (xs ++ ys) ≡ parts_net xs +ℤ parts_net ys
+parts_net-append xs ys = ap airline_net (map-append (part 0) xs ys) ∙ net-append (map (part 0) xs) (map (part 0) ys)
+
+amounts_net : (a : Option Amounts) → parts_net (amounts_parts a) ≡ pos 0 -ℤ commission_amount a
+amounts_net None = refl
+amounts_net (Some a) = one_commission a.commission where
+  one_commission : (c : ℤ) → pos 0 +ℤ ((pos 0 -ℤ c) +ℤ pos 0) ≡ pos 0 -ℤ c
+  one_commission c = omega (arith, ints)
+
+related_net : (places : List (Option ReportedDocument)) → parts_net (all_related_parts places) ≡ pos 0
+related_net [] = refl
+related_net (None ∷ places) = related_net places
+related_net (Some d ∷ places) = +ℤ_idl (parts_net (all_related_parts places)) ∙ related_net places
+
+payments_net : (paid : Option ℤ) (card : Option CardPayment) (ex : Option ℤ) → parts_net (cash_parts paid ++ (credit_parts card ++ exchange_parts ex)) ≡ amount_or_zero paid
+payments_net None None None = refl
+payments_net None None (Some ex) = refl
+payments_net None (Some card) None = refl
+payments_net None (Some card) (Some ex) = refl
+payments_net (Some paid) None None = +ℤ_idr paid
+payments_net (Some paid) None (Some ex) = +ℤ_idr paid
+payments_net (Some paid) (Some card) None = +ℤ_idr paid
+payments_net (Some paid) (Some card) (Some ex) = +ℤ_idr paid
+
+-- a TKTT or an RFND
+document_net : (t : Transaction) → parts_net (amounts_parts t.amounts ++ (all_related_parts t.related ++ payment_parts t)) ≡ amount_or_zero t.cash -ℤ commission_amount t.amounts
+document_net t =
+    parts_net-append (amounts_parts t.amounts) (all_related_parts t.related ++ payment_parts t)
+    ∙ ap (λ (a : ℤ). parts_net (amounts_parts t.amounts) +ℤ a) (parts_net-append (all_related_parts t.related) (payment_parts t))
+    ∙ total _ _ _ (commission_amount t.amounts) (amount_or_zero t.cash) (amounts_net t.amounts) (related_net t.related) (payments_net t.cash t.credit t.exchange) where
+      total : (a r p c paid : ℤ) → a ≡ pos 0 -ℤ c → r ≡ pos 0 → p ≡ paid → a +ℤ (r +ℤ p) ≡ paid -ℤ c
+      total a r p c paid first second third = omega (arith, ints, first, second, third)
+
+abbrev entry_net : Entry → ℤ
+entry_net e = net_of_sums (item_sums e.item)
+
+entry_adds : (e : Entry) → entry_net e ≡ parts_net e.item.parts
+entry_adds e =
+    net_of_add one_document (sum_of (map part_sums e.item.parts))
+    ∙ +ℤ_idl (net_of_sums (sum_of (map part_sums e.item.parts)))
+    ∙ sym (parts_add 0 e.item.parts)
+
+-- by the tests of its airline, its period and its life, and by its code
+row_agrees : (own same lives : Bool) (i : Row) (code : TransactionCode) →
+    cond (own && same && (same_code code Canx || lives)) (parts_net (transaction_parts code i.transaction)) (pos 0)
+    ≡ cond (own && same && lives) (net_of (record i { transaction = record i.transaction { code = code } })) (pos 0)
+row_agrees true true true i Tktt = document_net i.transaction
+row_agrees true true true i Rfnd = document_net i.transaction
+row_agrees true true true i Canx = refl
+row_agrees true true false i Tktt = refl
+row_agrees true true false i Rfnd = refl
+row_agrees true true false i Canx = refl
+row_agrees true false lives i code = refl
+row_agrees false same lives i code = refl
+
+rows_net : (airline period : ℕ) (items : List Row) → sum_of_amounts (map entry_net (map row_entry (filter (is_reported airline period) items))) ≡ sum_of_amounts (map net_of (filter (lives_in airline period) items))
+rows_net airline period items =
+    ap (λ (xs : List ℤ). sum_of_amounts xs) (map-map entry_net row_entry (filter (is_reported airline period) items))
+    ∙ sum_filtered (λ i. entry_net (row_entry i)) (is_reported airline period) items
+    ∙ sums_agree _ _ agrees items
+    ∙ sym (sum_filtered net_of (lives_in airline period) items) where
+      agrees : (i : Row) → cond (is_reported airline period i) (entry_net (row_entry i)) (pos 0) ≡ cond (lives_in airline period i) (net_of i) (pos 0)
+      agrees i =
+          ap (λ (a : ℤ). cond (is_reported airline period i) a (pos 0)) (entry_adds (row_entry i))
+          ∙ row_agrees (i.transaction.document.airline == airline) (i.period == period) i.lives i i.transaction.code
+
+memo_adds : (m : MemoFields) → entry_net (memo_entry m) ≡ memo_amount m.kind m.amount
+memo_adds m = entry_adds (memo_entry m) ∙ +ℤ_idl (memo_amount m.kind m.amount +ℤ pos 0) ∙ +ℤ_idr (memo_amount m.kind m.amount)
+
+memos_net : (memos : List MemoFields) → sum_of_amounts (map entry_net (map memo_entry memos)) ≡ sum_of_amounts (map (λ m. memo_amount m.kind m.amount) memos)
+memos_net memos = ap (λ (xs : List ℤ). sum_of_amounts xs) (map-map entry_net memo_entry memos) ∙ sums_agree _ _ memo_adds memos
+
+entries_net : (airline period : ℕ) (items : List Row) (memos : List MemoFields) → sum_of_amounts (map entry_net (entries airline period items memos)) ≡ net_of_rows airline period items memos
+entries_net airline period items memos =
+    let rows = map row_entry (filter (is_reported airline period) items) in
+    let billed = map memo_entry (filter (is_billed airline period) memos) in
+    ap (λ (xs : List ℤ). sum_of_amounts xs) (map-append entry_net rows billed)
+    ∙ sum_of-append (map entry_net rows) (map entry_net billed)
+    ∙ ap (λ (a : ℤ). a +ℤ sum_of_amounts (map entry_net billed)) (rows_net airline period items)
+    ∙ ap (λ (a : ℤ). sum_of_amounts (map net_of (filter (lives_in airline period) items)) +ℤ a) (memos_net (filter (is_billed airline period) memos))
+
+-- ---- offices over entries
+
+entry_in_front : (e : Entry) (offices : List Office) → file_sums (with_entry e offices) ≡ add (item_sums e.item) (file_sums offices)
+entry_in_front e [] = none_right (items_sums (e.item ∷ []))
+entry_in_front e (o ∷ offices) = by_agent (e.agent == o.agent) where
+  by_agent : (same : Bool) → file_sums (cond same (record { agent = o.agent; items = e.item ∷ o.items } ∷ offices) (record { agent = e.agent; items = e.item ∷ [] } ∷ o ∷ offices)) ≡ add (item_sums e.item) (file_sums (o ∷ offices))
+  by_agent true = plus_assoc (item_sums e.item) (items_sums o.items) (file_sums offices)
+  by_agent false = ap (λ (s : Sums). add s (file_sums (o ∷ offices))) (none_right (item_sums e.item))
+
+offices_net : (es : List Entry) → net_of_sums (file_sums (offices_of es)) ≡ sum_of_amounts (map entry_net es)
+offices_net [] = refl
+offices_net (e ∷ es) =
+    ap net_of_sums (entry_in_front e (offices_of es))
+    ∙ net_of_add (item_sums e.item) (file_sums (offices_of es))
+    ∙ ap (λ (a : ℤ). entry_net e +ℤ a) (offices_net es)
+    ∙ sym (sum_of-cons (entry_net e) (map entry_net es))
+
+-- the sum over the records of the file of rows in order is the net of the rows
+pub net_over_rows : (airline period : ℕ) (q : Period) (currency : List ℕ) (items : List Row) (memos : List MemoFields) (sorted : List Entry)
+    → IsInOrder (entries airline period items memos) sorted
+    → airline_net (records_of (file_of airline q currency sorted)) ≡ net_of_rows airline period items memos
+net_over_rows airline period q currency items memos sorted in_order =
+    let rows = entries airline period items memos in
+    sym (net_is (file_of airline q currency sorted))
+    ∙ offices_net sorted
+    ∙ sum_of-IsPermutation (map entry_net rows) (map entry_net sorted) (IsPermutation-map entry_net rows sorted in_order.same)
+    ∙ entries_net airline period items memos
