@@ -147,14 +147,18 @@ fn measure(rt: &HostRuntime, plan: &Plan, items: &[Item]) -> io::Result<()> {
     }
 }
 
+fn sales(alloc: Global, count: usize, agents: &[AgentCode]) -> io::Result<Vec<Item>> {
+    let sale = sale().ok_or(io::ErrorKind::Other)?;
+    let mut items = vec![in alloc; sale; count]?;
+    spread(&mut items, agents);
+    Ok(items)
+}
+
 fn main(rt: HostRuntime) -> io::Result<()> {
-    let (Some(plan), Some(sale)) = (closed_plan(rt.alloc()), sale()) else {
-        return Ok(());
-    };
+    let plan = closed_plan(rt.alloc()).ok_or(io::ErrorKind::Other)?;
     let agents = agents(rt.alloc())?;
     for count in [43_800, 438_000] {
-        let mut items = vec![in rt.alloc(); sale; count]?;
-        spread(&mut items, &agents);
+        let items = sales(rt.alloc(), count, &agents)?;
         for _ in 0..5 {
             measure(&rt, &plan, &items)?;
         }

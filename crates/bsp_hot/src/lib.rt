@@ -14,4 +14,4 @@ mod tests;
 mod write;
 
 pub use bsp_hot_check::{HotFault, HotTotals, check_hot};
-pub use write::write_hot;
+pub use write::{write_hot, write_hot_of};

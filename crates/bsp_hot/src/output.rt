@@ -1,6 +1,6 @@
 //! Records, each as its line and LF.
 
-ghost use Rattle.std.specs.Prelude.{◌≡◌, ◌+◌, ◌≤◌, [], ◌∷◌, ◌++◌, map, OnOk};
+ghost use Rattle.std.specs.Prelude.{◌≡◌, ◌+◌, ◌≤◌, [], ◌∷◌, ◌++◌, map, IfOk, OnOk};
 ghost use Rattle.std.specs.List.{concat};
 ghost use Rattle.bsp_hot.specs.Lines.{named_line};
 ghost use Rattle.bsp_hot.specs.Output.{IsOutput, AddsLine};
@@ -11,6 +11,9 @@ use std::alloc::{AllocError, Global};
 
 /// The columns of a record.
 const WIDTH: usize = 136;
+
+/// The bytes of a record with its LF.
+pub(crate) const LINE: usize = WIDTH + 1;
 
 /// The records of a file, as far as they are written.
 #[derive(Drop)]
@@ -41,6 +44,17 @@ impl Output {
             text: Vec::new(alloc),
             records: 0,
         }
+    }
+
+    /// Without records, with room for that many bytes.
+    pub(crate) fn with_room(alloc: Global, room: usize) -> Result<Output, AllocError>
+        ensures empty { IfOk result (λ out. out.text.items ≡ []) }
+        ensures none { IfOk result (λ out. out.records ≡ 0) }
+    {
+        Ok(Output {
+            text: Vec::with_capacity(alloc, room)?,
+            records: 0,
+        })
     }
 
     /// Appends the record of that name with these fields from column 14 on, and LF.

@@ -1,6 +1,6 @@
 //! A HOT file over rows.
 
-ghost use Rattle.std.specs.Prelude.{◌≡◌, ℕ, List, All, Some, IfOk, map};
+ghost use Rattle.std.specs.Prelude.{◌≡◌, [], ℕ, List, All, Some, IfOk, map};
 ghost use Rattle.bsp_hot_check.specs.Hot.{records_of};
 ghost use Rattle.bsp_hot.specs.Sorting.{entry_of, IsRow};
 ghost use Rattle.bsp_calendar.specs.declared.entries.Period.{Period as ClosedPeriod};
@@ -12,13 +12,13 @@ ghost use Rattle.bsp_hot.specs.Sound.{IsPublished, KeepRules, IsHotFileOver};
 ghost use Rattle.bsp_hot.specs.WrittenText.{IsTextOf};
 
 use crate::offices::FileFacts;
-use crate::output::Output;
+use crate::output::{LINE, Output};
 use crate::rows::{Row, rows_in_order};
 use bsp_calendar::{Currency, Period, Plan, Terms};
 use bsp_fields::{AirlineCode, PeriodCode};
 use bsp_hot_check::HotFault;
 use bsp_memos::Memo;
-use bsp_rules::Item;
+use bsp_rules::{Item, Tally};
 use std::alloc::Global;
 
 /// The period of a code, where it is published and closed.
@@ -64,17 +64,40 @@ impl FileFacts {
 }
 
 /// The file over rows in order.
-fn write_file(alloc: Global, file: &FileFacts, rows: &[Row]) -> Result<Vec<u8>, HotFault>
-    requires { All IsRow rows.now }
+fn write_file(mut out: Output, file: &FileFacts, rows: &[Row]) -> Result<Vec<u8>, HotFault>
+    requires rows { All IsRow rows.now }
+    requires empty { out.text.items ≡ [] }
+    requires none { out.records ≡ 0 }
     ensures { IsTextOf (λ text. text.items) (records_of (file_of file.now.airline file.now.period file.now.currency (map entry_of rows.now))) result }
 {
-    let mut out = Output::new(alloc);
     out.push_file_header(file.airline, &file.period, &file.currency)?;
     out.push_period_header(&file.period)?;
     let offices = out.push_offices(file, rows)?;
     out.push_period_totals(file.period.code, offices.count, offices.sums)?;
     out.push_file_totals(file.airline, offices.sums)?;
     Ok(out.text)
+}
+
+/// The file of an airline for a closed period over rows, behind nothing.
+fn write_over<'a>(
+    alloc: Global,
+    out: Output,
+    airline: AirlineCode,
+    period: PeriodCode,
+    closed: Period,
+    items: &'a [Item],
+    memos: &'a [Memo],
+    plan: &Plan,
+) -> Result<Vec<u8>, HotFault>
+    requires empty { out.text.items ≡ [] }
+    requires none { out.records ≡ 0 }
+    requires closed { closed_period plan.now period ≡ Some closed }
+    ensures written { AnswersOver (λ text. text.items) plan.now airline period (entries airline period items.now memos.now) result }
+    ensures stands { (terms : PublishedTerms) → plan.now.terms ≡ Some terms → KeepRules airline period items.now memos.now → IfOk result (λ text. (q : ClosedPeriod) × (closed_period plan.now period ≡ Some q) × IsHotFileOver airline q terms.currency (entries airline period items.now memos.now) text.items) }
+{
+    let rows = rows_in_order(alloc, airline, period, items, memos)?;
+    let file = FileFacts::of(airline, closed, plan.terms());
+    write_file(out, &file, &rows)
 }
 
 /// The HOT file of an airline for a closed period, over the airline's rows among those handed in, in
@@ -87,6 +110,7 @@ fn write_file(alloc: Global, file: &FileFacts, rows: &[Row]) -> Result<Vec<u8>, 
 ///
 /// H02 where the period is unknown or not closed, and else H01 where a count or a total does not fit its
 /// place; H03 where an allocation was refused.
+#[tactic(auto, using(crate::proofs::NetLemmas::net_over_rows))]
 pub fn write_hot<'a>(
     alloc: Global,
     airline: AirlineCode,
@@ -103,7 +127,47 @@ pub fn write_hot<'a>(
     ensures net { (q : ClosedPeriod) (currency : List ℕ) (sorted : List Entry) → IsInOrder (entries airline period items.now memos.now) sorted → airline_net (records_of (file_of airline q currency sorted)) ≡ net_of_rows airline period items.now memos.now }
 {
     let closed = closed_period(plan, period).ok_or(HotFault::H02)?;
-    let file = FileFacts::of(airline, closed, plan.terms());
-    let rows = rows_in_order(alloc, airline, period, items, memos)?;
-    write_file(alloc, &file, &rows)
+    let out = Output::new(alloc);
+    write_over(alloc, out, airline, period, closed, items, memos, plan)
+}
+
+/// About as many bytes as the file of these tallies has: six records for each TKTT and RFND, two for
+/// each CANX, four for each memo, seven more for each agent, and four.
+fn room_for(airline: AirlineCode, period: PeriodCode, tallies: &[Tally]) -> usize {
+    let mut records = 4_usize;
+    for tally in tallies {
+        if tally.airline == airline && tally.period == period {
+            let documents = 6 * tally.living as u64
+                + 2 * tally.canx as u64
+                + 4 * tally.memo_count as u64;
+            records = records.saturating_add(7 + documents as usize);
+        }
+    }
+    records.saturating_mul(LINE)
+}
+
+/// What [`write_hot`] gives. The tallies say how many documents there are, so that the room for the text is
+/// taken at once: where they are the sums of the rows, the text does not move while it is written. They
+/// change nothing else.
+///
+/// # Errors
+///
+/// As of [`write_hot`].
+#[tactic(auto, using(crate::proofs::NetLemmas::net_over_rows))]
+pub fn write_hot_of<'a>(
+    alloc: Global,
+    airline: AirlineCode,
+    period: PeriodCode,
+    items: &'a [Item],
+    memos: &'a [Memo],
+    tallies: &[Tally],
+    plan: &Plan,
+) -> Result<Vec<u8>, HotFault>
+    ensures written { AnswersOver (λ text. text.items) plan.now airline period (entries airline period items.now memos.now) result }
+    ensures stands { (terms : PublishedTerms) → plan.now.terms ≡ Some terms → KeepRules airline period items.now memos.now → IfOk result (λ text. (q : ClosedPeriod) × (closed_period plan.now period ≡ Some q) × IsHotFileOver airline q terms.currency (entries airline period items.now memos.now) text.items) }
+    ensures net { (q : ClosedPeriod) (currency : List ℕ) (sorted : List Entry) → IsInOrder (entries airline period items.now memos.now) sorted → airline_net (records_of (file_of airline q currency sorted)) ≡ net_of_rows airline period items.now memos.now }
+{
+    let closed = closed_period(plan, period).ok_or(HotFault::H02)?;
+    let out = Output::with_room(alloc, room_for(airline, period, tallies))?;
+    write_over(alloc, out, airline, period, closed, items, memos, plan)
 }

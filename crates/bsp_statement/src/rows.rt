@@ -1,43 +1,15 @@
 //! The postings of rows.
 
 ghost use Rattle.std.specs.Prelude.{◌≡◌, ◌≤◌, ◌++◌, unsigned_abs, OnOk, IfOk};
-ghost use Rattle.bsp_rules.specs.Amounts.{amount_or_zero, card_amount, commission_amount};
 ghost use Rattle.bsp_statement.specs.Postings.{amount_owed, is_billed, is_counted, item_posting, item_postings, memo_posting, memo_postings, postings};
 ghost use Rattle.bsp_statement.specs.Tallies.{is_used, tally_posting, tally_postings};
 
 use crate::posting::Posting;
 use bsp_fields::{Amount, PeriodCode};
 use bsp_memos::{Memo, MemoFields, MemoKind};
-use bsp_ret::{Amounts, CardPayment, TransactionCode};
-use bsp_rules::{Item, Tally};
+use bsp_ret::TransactionCode;
+use bsp_rules::{Item, Tally, amount_or_zero, card_amount, commission_amount};
 use std::alloc::{AllocError, Global};
-
-fn amount_or_zero(amount: Option<Amount>) -> i64
-    ensures { result ≡ amount_or_zero amount }
-{
-    match amount {
-        Some(amount) => amount.get(),
-        None => 0,
-    }
-}
-
-fn card_amount(payment: Option<CardPayment>) -> i64
-    ensures { result ≡ card_amount payment }
-{
-    match payment {
-        Some(payment) => payment.amount.get(),
-        None => 0,
-    }
-}
-
-fn commission_amount(amounts: Option<Amounts>) -> i64
-    ensures { result ≡ commission_amount amounts }
-{
-    match amounts {
-        Some(amounts) => amounts.commission.get(),
-        None => 0,
-    }
-}
 
 /// Whether an item is a living TKTT or RFND of the period.
 fn is_counted(period: PeriodCode, item: &Item) -> bool
@@ -56,7 +28,7 @@ fn item_posting(item: &Item) -> Posting
         documents: 1,
         cash: amount_or_zero(transaction.cash),
         credit: card_amount(transaction.credit),
-        commission: commission_amount(transaction.amounts),
+        commission: commission_amount(&transaction.amounts),
         memos: 0,
     }
 }

@@ -9,20 +9,13 @@ use Rattle.bsp_hot.specs.Rows.{entries}
 use Rattle.bsp_hot.specs.Files.{closed_period, currency_of, file_of, IsInOrder}
 use Rattle.bsp_hot.specs.WrittenText.{IsTextOf}
 use Rattle.bsp_hot.proofs.Answering.{some_of, answers, stands_over}
-use Rattle.bsp_hot.proofs.NetLemmas.{net_over_rows}
-use Rattle.bsp_hot.proofs.write.write_hot.Goals as goal
-
-pub returns-in_err-closed-clause-net : goal.returns-in_err-closed-clause-net
-returns-in_err-closed-clause-net c = λ q currency sorted in_order. net_over_rows c.args.airline c.args.period q currency c.args.items.now c.args.memos.now sorted in_order
-
-pub returns-in_err-rows-clause-net : goal.returns-in_err-rows-clause-net
-returns-in_err-rows-clause-net c = λ q currency sorted in_order. net_over_rows c.args.airline c.args.period q currency c.args.items.now c.args.memos.now sorted in_order
+use Rattle.bsp_hot.proofs.write.write_over.Goals as goal
 
 pub returns-clause-written : goal.returns-clause-written
 returns-clause-written c =
     let plan = c.args.plan.now in
-    let q = c.in_ok-closed.closed in
-    let closed : closed_period plan c.args.period ≡ Some q = sym c.closed_period.ensures ∙ some_of c.closed_period.result H02 q c.in_ok-closed.ensures.value in
+    let q = c.args.closed in
+    let closed = c.requires.closed in
     let rows = entries c.args.airline c.args.period c.args.items.now c.args.memos.now in
     let sorted = map entry_of c.deref.result.now in
     let in_order : IsInOrder rows sorted = subst (λ (xs : List Row). IsInOrder rows (map entry_of xs)) (sym c.deref.ensures.value) c.in_ok-rows.ensures.order in
@@ -34,8 +27,8 @@ returns-clause-written c =
 pub returns-clause-stands : goal.returns-clause-stands
 returns-clause-stands c = λ terms known keep.
     let plan = c.args.plan.now in
-    let q = c.in_ok-closed.closed in
-    let closed : closed_period plan c.args.period ≡ Some q = sym c.closed_period.ensures ∙ some_of c.closed_period.result H02 q c.in_ok-closed.ensures.value in
+    let q = c.args.closed in
+    let closed = c.requires.closed in
     let rows = entries c.args.airline c.args.period c.args.items.now c.args.memos.now in
     let sorted = map entry_of c.deref.result.now in
     let in_order : IsInOrder rows sorted = subst (λ (xs : List Row). IsInOrder rows (map entry_of xs)) (sym c.deref.ensures.value) c.in_ok-rows.ensures.order in
@@ -44,6 +37,3 @@ returns-clause-stands c = λ terms known keep.
     let text = subst Known c.terms.ensures (subst Facts c.of-file.ensures.value c.write_file.ensures) in
     let published = c.of-file.ensures.published terms (c.terms.ensures ∙ known) in
     stands_over (λ text. text.items) plan c.args.airline c.args.period q terms c.args.items.now c.args.memos.now sorted c.write_file.result closed known published keep in_order text
-
-pub returns-clause-net : goal.returns-clause-net
-returns-clause-net c = λ q currency sorted in_order. net_over_rows c.args.airline c.args.period q currency c.args.items.now c.args.memos.now sorted in_order
