@@ -146,9 +146,8 @@ fn room_for(airline: AirlineCode, period: PeriodCode, tallies: &[Tally]) -> usiz
     records.saturating_mul(LINE)
 }
 
-/// What [`write_hot`] gives. The tallies say how many documents there are, so that the room for the text is
-/// taken at once: where they are the sums of the rows, the text does not move while it is written. They
-/// change nothing else.
+/// What [`write_hot`] gives. The tallies say how many documents there are, so that about the room that the
+/// text needs is taken at once, and the text moves less as it grows. They change nothing else.
 ///
 /// # Errors
 ///
