@@ -4,6 +4,7 @@ pub mod Reasons
 pub mod States
 pub mod Texts
 pub mod Memos
+pub mod Owed
 pub mod Steps
 pub mod Billing
 pub mod Lives

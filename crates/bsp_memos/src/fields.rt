@@ -31,6 +31,31 @@ pub struct MemoFields {
 impl MemoFields {
     ghost use Rattle.std.specs.Prelude.{◌≡◌};
     ghost use Rattle.bsp_memos.specs.Memos.{amount_fits, is_memo};
+    ghost use Rattle.bsp_memos.specs.Owed.{amount_owed, is_billed_in};
+
+    /// What the agent owes the airline by it, in minor units: the amount of a debit memo, and minus the
+    /// amount of a credit memo.
+    pub fn amount_owed(&self) -> Amount
+        ensures { result ≡ amount_owed self.now.kind self.now.amount }
+    {
+        match self.kind {
+            MemoKind::Debit => self.amount,
+            MemoKind::Credit => match Amount::new(-self.amount.get()) {
+                Ok(amount) => amount,
+                Err(_) => unreachable!(),
+            },
+        }
+    }
+
+    /// Whether it is billed in the period.
+    pub fn is_billed_in(&self, period: PeriodCode) -> bool
+        ensures { result ≡ is_billed_in period self.now }
+    {
+        match self.billed {
+            Some(other) => other == period,
+            None => false,
+        }
+    }
 
     /// Whether the amounts are in range and fit the state.
     fn amount_fits(&self) -> bool
