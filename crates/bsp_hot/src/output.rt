@@ -1,6 +1,6 @@
 //! Records, each as its line and LF.
 
-ghost use Rattle.std.specs.Prelude.{◌≡◌, ◌+◌, ◌≤◌, [], ◌∷◌, ◌++◌, map, IfOk, OnOk};
+ghost use Rattle.std.specs.Prelude.{◌≡◌, ◌+◌, ◌≤◌, [], ◌∷◌, ◌++◌, map, OnOk};
 ghost use Rattle.std.specs.List.{concat};
 ghost use Rattle.bsp_hot.specs.Lines.{named_line};
 ghost use Rattle.bsp_hot.specs.Output.{IsOutput, AddsLine};
@@ -46,15 +46,15 @@ impl Output {
         }
     }
 
-    /// Without records, with room for that many bytes.
-    pub(crate) fn with_room(alloc: Global, room: usize) -> Result<Output, AllocError>
-        ensures empty { IfOk result (λ out. out.text.items ≡ []) }
-        ensures none { IfOk result (λ out. out.records ≡ 0) }
+    /// Without records, with room for that many bytes where memory gives it.
+    pub(crate) fn with_room(alloc: Global, room: usize) -> Output
+        ensures empty { result.text.items ≡ [] }
+        ensures none { result.records ≡ 0 }
     {
-        Ok(Output {
-            text: Vec::with_capacity(alloc, room)?,
-            records: 0,
-        })
+        match Vec::with_capacity(alloc, room) {
+            Ok(text) => Output { text, records: 0 },
+            Err(_) => Output::new(alloc),
+        }
     }
 
     /// Appends the record of that name with these fields from column 14 on, and LF.

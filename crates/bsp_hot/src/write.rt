@@ -167,6 +167,6 @@ pub fn write_hot_of<'a>(
     ensures net { (q : ClosedPeriod) (currency : List ℕ) (sorted : List Entry) → IsInOrder (entries airline period items.now memos.now) sorted → airline_net (records_of (file_of airline q currency sorted)) ≡ net_of_rows airline period items.now memos.now }
 {
     let closed = closed_period(plan, period).ok_or(HotFault::H02)?;
-    let out = Output::with_room(alloc, room_for(airline, period, tallies))?;
+    let out = Output::with_room(alloc, room_for(airline, period, tallies));
     write_over(alloc, out, airline, period, closed, items, memos, plan)
 }
