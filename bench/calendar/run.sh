@@ -4,25 +4,14 @@
 # each, and the growth from the smaller text to the larger one.
 #
 # usage: bench/calendar/run.sh     (needs python3)
-set -eu
-here=$(cd "$(dirname "$0")" && pwd)
-top=$(cd "$here/../.." && pwd)
-work=$(mktemp -d)
-trap 'rm -rf "$work"' EXIT
+. "$(dirname "$0")/../over_library.sh"
 
 for entries in 10000 100000; do
   python3 "$here/make_plan.py" "$entries" >"$work/$entries.toml"
 done
 
-# a program over the library, in a workspace of its own
-mkdir -p "$work/space/crates/publishing/src"
-cp -r "$top/crates/bsp_fields" "$top/crates/bsp_calendar" "$work/space/crates/"
-(cd "$work/space" && git init -q .)
-{
-  grep -E '^(bsp_fields|bsp_calendar):' "$top/crates.txt"
-  echo 'publishing: bsp_calendar bsp_fields'
-} >"$work/space/crates.txt"
-cat >"$work/space/crates/publishing/src/main.rt" <<'PROGRAM'
+workspace publishing bsp_fields bsp_calendar
+source_file publishing main.rt <<'PROGRAM'
 #![tactic(auto)]
 
 use bsp_calendar::{Plan, PlanText, read_plan};
@@ -109,8 +98,7 @@ fn main(rt: HostRuntime) -> io::Result<()> {
     Ok(())
 }
 PROGRAM
-(cd "$work/space/crates/publishing" && rt run </dev/null >"$work/built.log" 2>&1) || { tail -n 30 "$work/built.log"; exit 1; }
-program="$work/space/crates/publishing/out/publishing"
+build publishing
 
 best() { awk -v name="$1" '$1 == name && (!n++ || $2 < least) {least = $2; told = $3} END {print least, told}' "$2"; }
 for entries in 10000 100000; do

@@ -4,117 +4,26 @@
 # five each, as a ratio, and the growth. The two files are compared by their sizes and checksums.
 #
 # usage: bench/hot/run.sh
-set -eu
-here=$(cd "$(dirname "$0")" && pwd)
-top=$(cd "$here/../.." && pwd)
-work=$(mktemp -d)
-trap 'rm -rf "$work"' EXIT
+. "$(dirname "$0")/../over_library.sh"
+. "$top/bench/market.sh"
 
 rustc -O -o "$work/plain" "$here/plain.rs" 2>/dev/null
 
-# a program over the library, in a workspace of its own
-mkdir -p "$work/space/crates/writing/src"
-for crate in bsp_fields bsp_calendar bsp_ret bsp_rules bsp_memos bsp_hot_check bsp_hot; do
-  cp -r "$top/crates/$crate" "$work/space/crates/"
-  grep "^$crate:" "$top/crates.txt" >>"$work/space/crates.txt"
-done
-(cd "$work/space" && git init -q .)
-echo 'writing: bsp_fields bsp_calendar bsp_ret bsp_rules bsp_hot' >>"$work/space/crates.txt"
-cat >"$work/space/crates/writing/src/main.rt" <<'PROGRAM'
+workspace writing bsp_fields bsp_calendar bsp_ret bsp_rules bsp_memos bsp_hot_check bsp_hot
+market_module | source_file writing market.rt
+source_file writing main.rt <<'PROGRAM'
 #![tactic(auto)]
 
-use bsp_calendar::{Currency, Period, Plan, PlanText, Terms};
-use bsp_fields::{AgentCode, AirlineCode, Amount, Day, PeriodCode, write_digits};
+mod market;
+
+use bsp_calendar::Plan;
+use bsp_fields::{AgentCode, AirlineCode, PeriodCode, write_digits};
 use bsp_hot::write_hot;
-use bsp_ret::{Amounts, ReportedDocument, Tax, Transaction, TransactionCode};
 use bsp_rules::Item;
+use market::{agents, closed_plan, sale};
 use std::alloc::Global;
 use std::io;
 use std::time::Instant;
-
-fn closed_plan(alloc: Global) -> Option<Plan> {
-    let code = PeriodCode::read(b"24011").ok()?;
-    let mut text = PlanText {
-        terms: Terms {
-            currency: Currency::read(b"EUR")?,
-            review_days: 14,
-            documents_limit: 1000,
-        },
-        airlines: Vec::new(alloc),
-        rates: Vec::new(alloc),
-        periods: Vec::new(alloc),
-    };
-    text.periods
-        .push(Period {
-            code,
-            first: Day::read_text(b"2024-01-01").ok()?,
-            last: Day::read_text(b"2024-01-15").ok()?,
-            remittance: Day::read_text(b"2024-02-15").ok()?,
-        })
-        .ok()?;
-    let mut plan = Plan::empty(alloc);
-    plan.extend(&text).ok()?;
-    plan.set_day(Day::read_text(b"2024-01-16").ok()?).ok()?;
-    plan.close_next(code).ok()?;
-    Some(plan)
-}
-
-fn agent(number: u64) -> Option<AgentCode> {
-    let front = 1_000_000 + number % 500;
-    AgentCode::read(&write_digits::<8>(front * 10 + front % 7)).ok()
-}
-
-fn amounts() -> Option<Amounts> {
-    let tax = Tax {
-        code: *b"RA",
-        amount: Amount::new(3500).ok()?,
-    };
-    Some(Amounts {
-        fare: Amount::new(20000).ok()?,
-        taxes: [Some(tax), None, None, None, None, None],
-        rate: 500,
-        commission: Amount::new(1000).ok()?,
-    })
-}
-
-fn passenger() -> [u8; 49] {
-    let mut name = [b' '; 49];
-    name[..8].copy_from_slice(b"DOE/JANE");
-    name
-}
-
-fn sale() -> Option<Item> {
-    let transaction = Transaction {
-        code: TransactionCode::Tktt,
-        agent: *b"12345675",
-        document: ReportedDocument {
-            airline: AirlineCode::read(b"125").ok()?,
-            number: *b"1300000000",
-            check_digit: 0,
-        },
-        issued: Day::read_text(b"2024-01-05").ok()?,
-        passenger: passenger(),
-        related: [None, None],
-        amounts: amounts(),
-        cash: Some(Amount::new(23500).ok()?),
-        credit: None,
-        exchange: None,
-    };
-    Some(Item {
-        agent: agent(0)?,
-        period: PeriodCode::read(b"24011").ok()?,
-        transaction,
-        lives: true,
-    })
-}
-
-fn agents(alloc: Global) -> io::Result<Vec<AgentCode>> {
-    let mut agents = Vec::new(alloc);
-    for number in 0..500 {
-        agents.push(agent(number).ok_or(io::ErrorKind::Other)?)?;
-    }
-    Ok(agents)
-}
 
 fn spread(items: &mut [Item], agents: &[AgentCode]) {
     for i in 0..items.len() {
@@ -166,10 +75,8 @@ fn main(rt: HostRuntime) -> io::Result<()> {
     Ok(())
 }
 PROGRAM
-
-cd "$work/space/crates/writing"
-rt run </dev/null >"$work/built.log" 2>&1 || { tail -n 30 "$work/built.log"; exit 1; }
-out/writing >"$work/said"
+build writing
+"$program" >"$work/said"
 "$work/plain" 43800 438000 >>"$work/said"
 
 # best NAME COUNT: microseconds; file NAME COUNT: bytes and checksum

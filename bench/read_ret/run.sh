@@ -3,23 +3,15 @@
 # of five readings each of one file in memory, as ratios, and the growth from a tenth of the file.
 #
 # usage: bench/read_ret/run.sh [MEGABYTES]     (300 by default; needs python3 and rustc)
-set -eu
-here=$(cd "$(dirname "$0")" && pwd)
-top=$(cd "$here/../.." && pwd)
 megabytes=${1:-300}
-work=$(mktemp -d)
-trap 'rm -rf "$work"' EXIT
+. "$(dirname "$0")/../over_library.sh"
 
 python3 "$here/make_file.py" "$megabytes" "$work/whole.ret"
 python3 "$here/make_file.py" "$((megabytes / 10))" "$work/tenth.ret"
 rustc -O -o "$work/plain" "$here/plain.rs" 2>/dev/null
 
-# a program over the library, in a workspace of its own
-mkdir -p "$work/space/crates/reading/src"
-cp -r "$top/crates/bsp_fields" "$top/crates/bsp_ret" "$work/space/crates/"
-(cd "$work/space" && git init -q .)
-printf 'bsp_fields: jiff_core thiserror\n%s\nreading: bsp_ret\n' "$(grep '^bsp_ret:' "$top/crates.txt")" >"$work/space/crates.txt"
-cat >"$work/space/crates/reading/src/main.rt" <<'PROGRAM'
+workspace reading bsp_fields bsp_ret
+source_file reading main.rt <<'PROGRAM'
 #![tactic(auto)]
 
 use bsp_ret::{RetReader, read_ret};
@@ -60,8 +52,7 @@ fn main(rt: HostRuntime) -> io::Result<()> {
     Ok(())
 }
 PROGRAM
-(cd "$work/space/crates/reading" && rt run </dev/null >"$work/built.log" 2>&1) || { tail -n 30 "$work/built.log"; exit 1; }
-program="$work/space/crates/reading/out/reading"
+build reading
 
 best() { awk -v name="$1" '$1 == name && (!n++ || $2 < least) {least = $2} END {print least}'; }
 for file in tenth whole; do

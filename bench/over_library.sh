@@ -1,0 +1,32 @@
+# Sourced by the scripts that measure the library: a program over its crates, in a workspace of its own. Sets
+# here, the script's folder, top, the repository, and work, a folder that is removed at the end.
+set -eu
+here=$(cd "$(dirname "$0")" && pwd)
+top=$(cd "$here/../.." && pwd)
+work=$(mktemp -d)
+trap 'rm -rf "$work"' EXIT
+
+# workspace PROGRAM CRATE...: these crates, and the folder of a program over them
+workspace() {
+  local program=$1 crate
+  shift
+  mkdir -p "$work/space/crates/$program/src"
+  for crate in "$@"; do
+    cp -r "$top/crates/$crate" "$work/space/crates/"
+    grep "^$crate:" "$top/crates.txt" >>"$work/space/crates.txt"
+  done
+  echo "$program: $*" >>"$work/space/crates.txt"
+  (cd "$work/space" && git init -q .)
+}
+
+# source_file PROGRAM NAME: a file of the program, from standard input
+source_file() { cat >"$work/space/crates/$1/src/$2"; }
+
+# build PROGRAM: builds it, and sets program to its path
+build() {
+  program="$work/space/crates/$1/out/$1"
+  (cd "$work/space/crates/$1" && rt run </dev/null) >"$work/built.log" 2>&1 || {
+    tail -n 30 "$work/built.log"
+    exit 1
+  }
+}
