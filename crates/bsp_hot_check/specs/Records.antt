@@ -197,12 +197,12 @@ document_fits line =
     && all_ascii_digits (columns 43 50 line) && is_blank (columns 100 136 line)
 
 -- the six tax places stand as in a RET file's record 5, 14 columns further on
-unfoldable pub has_taxes : List ℕ → Bool
-has_taxes line = taxes_fit 0 (tax_places (columns 15 136 line))
+unfoldable pub tax_places_fit : List ℕ → Bool
+tax_places_fit line = taxes_fit 0 (tax_places (columns 15 136 line))
 
 unfoldable pub amounts_fit : List ℕ → Bool
 amounts_fit line =
-    all_ascii_digits (columns 14 21 line) && is_amount (columns 22 32 line) && has_taxes line
+    all_ascii_digits (columns 14 21 line) && is_amount (columns 22 32 line) && tax_places_fit line
     && is_blank (columns 111 136 line)
 
 unfoldable pub commission_fits : List ℕ → Bool

@@ -1,5 +1,5 @@
 -- How records stand with one more, where those before allow it.
-use Rattle.std.specs.Prelude.{◌≡◌, ◌≤◌, ℕ, ℤ, pos, ◌+◌, ◌*◌, ◌^◌, ◌==◌, ◌-ℤ◌, nat_le, nat_lt, unsigned_abs, Bool, true, false, not, ◌&&◌, ◌||◌, List, [], ◌∷◌, Option, Some, None, is_none, if◌then◌else◌}
+use Rattle.std.specs.Prelude.{◌≡◌, ◌≤◌, ℕ, ℤ, pos, ◌+◌, ◌*◌, ◌^◌, ◌==◌, ◌-ℤ◌, nat_lt, unsigned_abs, Bool, true, false, not, ◌&&◌, ◌||◌, List, [], ◌∷◌, Option, Some, None, is_none, if◌then◌else◌}
 use Rattle.std.specs.List.{find}
 use Rattle.std.specs.Str.{bytes_eq}
 use Rattle.bsp_hot_check.specs.declared.model.DocumentCode.{DocumentCode}
@@ -29,7 +29,7 @@ use Rattle.bsp_hot_check.specs.declared.model.CodeSums.{CodeSums}
 use Rattle.bsp_hot_check.specs.declared.model.OfficeSums.{OfficeSums}
 use Rattle.bsp_hot_check.specs.declared.model.Standing.{Standing}
 use Rattle.bsp_hot_check.specs.Records.{Heading, Part, amounts, commission, related, cash, credit, exchange, Record, file_header, period_header, office_header, transaction_header, document, part, code_totals, office_totals, period_totals, file_totals, is_blank}
-use Rattle.bsp_hot_check.specs.Sums.{no_sums, one_document, add, has_totals, rank, is_code, all_codes}
+use Rattle.bsp_hot_check.specs.Sums.{no_sums, one_document, add, has_totals, is_code, all_codes}
 use Rattle.bsp_hot_check.specs.Hot.{is_before}
 
 -- ---- what is judged of a record
@@ -210,16 +210,6 @@ stands_in sums c = nat_lt 0 (sums_at sums c).documents
 
 abbrev pub no_office : OfficeSums
 no_office = record { codes = no_code_sums; all = no_sums; latest = None }
-
--- the rank of the first code whose BOT93 may still come
-abbrev pub first_rank : Place → ℕ
-first_rank (InDocument x) = if is_complete_progress x then 0 else 5
-first_rank (Totalled c) = rank c + 1
-first_rank _ = 5
-
--- the code has this rank or a later one, and a document stands
-abbrev pub has_from : CodeSums → ℕ → DocumentCode → Bool
-has_from sums first c = nat_le first (rank c) && stands_in sums c
 
 -- the code whose BOT93 comes next
 abbrev pub next_code : CodeSums → Place → Option DocumentCode

@@ -13,22 +13,22 @@ use bsp_ret::first_line;
 /// How the lines stand, or the number of the first that those before do not allow.
 fn judge(bytes: &[u8]) -> Result<Standing, usize>
     ensures judged { result ≡ judge_from start (lines bytes.now) }
-    ensures small { IfOk result (λ at. IsSmall at × (at.records ≤ length bytes.now)) }
+    ensures small { IfOk result (λ standing. IsSmall standing × (standing.records ≤ length bytes.now)) }
 {
-    let mut at = Standing::start();
+    let mut standing = Standing::start();
     let mut rest = bytes;
     while !rest.is_empty() {
         let (line, after) = first_line(rest);
-        let Some(next) = at.with_line(line) else {
-            return Err(at.records + 1);
+        let Some(next) = standing.with_line(line) else {
+            return Err(standing.records + 1);
         };
-        at = next;
+        standing = next;
         rest = after;
     }
-    if at.place.is_ended() {
-        Ok(at)
+    if standing.place.is_ended() {
+        Ok(standing)
     } else {
-        Err(at.records + 1)
+        Err(standing.records + 1)
     }
 }
 
@@ -47,7 +47,7 @@ pub fn check_hot(bytes: &[u8]) -> Result<HotTotals, HotFault>
     ensures fault { IfErr result (IsFaultOf (lines bytes.now)) }
 {
     match judge(bytes) {
-        Ok(at) => Ok(at.totals()),
+        Ok(standing) => Ok(standing.totals()),
         Err(number) => Err(HotFault::H04(number)),
     }
 }

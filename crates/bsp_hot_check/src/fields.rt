@@ -1,7 +1,7 @@
 //! Whether the fields of each record are in their form, by its columns.
 
 ghost use Rattle.std.specs.Prelude.{◌≡◌, length};
-ghost use Rattle.bsp_hot_check.specs.Records.{is_blank, code_of, form_fits, totals_fit, file_header_fits, period_header_fits, office_header_fits, transaction_header_fits, document_fits, has_taxes, amounts_fit, commission_fits, related_fits, payment_fits, code_totals_fit, office_totals_fit, period_totals_fit, file_totals_fit, fields_fit};
+ghost use Rattle.bsp_hot_check.specs.Records.{is_blank, code_of, form_fits, totals_fit, file_header_fits, period_header_fits, office_header_fits, transaction_header_fits, document_fits, tax_places_fit, amounts_fit, commission_fits, related_fits, payment_fits, code_totals_fit, office_totals_fit, period_totals_fit, file_totals_fit, fields_fit};
 
 use crate::model::DocumentCode;
 use crate::name::RecordName;
@@ -109,10 +109,10 @@ fn document_fits(line: &[u8]) -> bool
 }
 
 /// The six tax places, which stand as in record 5 of a RET file, 14 columns further on.
-#[tactic(auto, unfolding(crate::specs::Records::has_taxes))]
-fn has_taxes(line: &[u8]) -> bool
+#[tactic(auto, unfolding(crate::specs::Records::tax_places_fit))]
+fn tax_places_fit(line: &[u8]) -> bool
     requires { length line.now ≡ 136 }
-    ensures { result ≡ has_taxes line.now }
+    ensures { result ≡ tax_places_fit line.now }
 {
     taxes_fit(&line[14..136])
 }
@@ -124,7 +124,7 @@ fn amounts_fit(line: &[u8]) -> bool
 {
     all_digits(&line[13..21])
         && is_amount(&line[21..32])
-        && has_taxes(line)
+        && tax_places_fit(line)
         && all_spaces(&line[110..136])
 }
 

@@ -1,7 +1,9 @@
 //! What may stand behind what.
 
 ghost use Rattle.std.specs.Prelude.{◌≡◌};
-ghost use Rattle.bsp_hot_check.specs.Standings.{is_ended, is_complete, is_complete_progress, takes_amounts, takes_commission, takes_related, takes_cash, takes_credit, takes_exchange, takes, stage_of, progress_behind, takes_transaction, stands_in, first_rank, has_from, next_code, judged_sums, IsSmallPart, AreSmall};
+ghost use Rattle.std.specs.List.{find};
+ghost use Rattle.std.specs.Option.{option_copied};
+ghost use Rattle.bsp_hot_check.specs.Standings.{is_ended, is_complete, is_complete_progress, takes_amounts, takes_commission, takes_related, takes_cash, takes_credit, takes_exchange, takes, stage_of, progress_behind, takes_transaction, stands_in, left_codes, next_code, judged_sums, IsSmallPart, AreSmall};
 
 use crate::model::{CodeSums, DocumentCode, Part, Place, Progress, Stage, Sums};
 
@@ -161,43 +163,37 @@ impl Place {
         }
     }
 
-    /// The rank of the first code whose BOT93 may still come.
-    fn first_rank(self) -> u8
-        ensures { result ≡ first_rank self }
+    /// The codes whose BOT93 may still come.
+    fn left_codes(self) -> &'static [DocumentCode]
+        ensures { result.now ≡ left_codes self }
     {
         match self {
-            Place::InDocument(progress) if progress.is_complete() => 0,
-            Place::Totalled(code) => code.rank() + 1,
-            _ => 5,
+            Place::InDocument(progress) if progress.is_complete() => &DocumentCode::ALL,
+            Place::Totalled(code) => &DocumentCode::ALL[usize::from(code.rank()) + 1..],
+            _ => &[],
         }
     }
 }
 
 impl CodeSums {
-    /// Whether the code's rank is this one or later, and a document of the code stands.
-    fn has_from(self, first: u8, code: DocumentCode) -> bool
-        ensures { result ≡ has_from self first code }
+    /// Whether a document of the code stands.
+    fn stands_in(self, code: DocumentCode) -> bool
+        ensures { result ≡ stands_in self code }
     {
-        first <= code.rank() && self.of(code).documents > 0
+        self.of(code).documents > 0
+    }
+
+    /// The first of the codes of which a document stands.
+    fn first_of<'a>(self, codes: &'a [DocumentCode]) -> Option<&'a DocumentCode>
+        ensures { option_copied result ≡ find (stands_in self) codes.now }
+    {
+        codes.iter().find(|code| self.stands_in(**code))
     }
 
     /// The code whose BOT93 comes next: the first with a document whose BOT93 does not stand yet.
     pub(crate) fn next_code(self, place: Place) -> Option<DocumentCode>
         ensures { result ≡ next_code self place }
     {
-        let first = place.first_rank();
-        if self.has_from(first, DocumentCode::Tktt) {
-            Some(DocumentCode::Tktt)
-        } else if self.has_from(first, DocumentCode::Rfnd) {
-            Some(DocumentCode::Rfnd)
-        } else if self.has_from(first, DocumentCode::Canx) {
-            Some(DocumentCode::Canx)
-        } else if self.has_from(first, DocumentCode::Adma) {
-            Some(DocumentCode::Adma)
-        } else if self.has_from(first, DocumentCode::Acma) {
-            Some(DocumentCode::Acma)
-        } else {
-            None
-        }
+        self.first_of(place.left_codes()).copied()
     }
 }

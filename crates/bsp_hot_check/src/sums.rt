@@ -9,6 +9,15 @@ ghost use Rattle.bsp_hot_check.specs.Standings.{sums_at, add_at, AreSmall, AreSm
 use crate::model::{CodeSums, DocumentCode, DocumentKey, OfficeSums, Sums, Totals};
 
 impl DocumentCode {
+    /// The codes in their order.
+    pub const ALL: [DocumentCode; 5] = [
+        DocumentCode::Tktt,
+        DocumentCode::Rfnd,
+        DocumentCode::Canx,
+        DocumentCode::Adma,
+        DocumentCode::Acma,
+    ];
+
     /// The place of the code in their order, from 0.
     pub fn rank(self) -> u8
         ensures { result ≡ rank self }

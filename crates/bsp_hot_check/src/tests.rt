@@ -413,6 +413,16 @@ fn a_sequence_number_is_compared(rt: HostRuntime) -> Result<(), Fail> {
 }
 
 #[test]
+fn a_fault_is_told_as_text(rt: HostRuntime) -> Result<(), Fail> {
+    let told = format!(in rt.alloc(); "{}; {}", HotFault::H02, HotFault::H04(3))?;
+    assert_eq!(rt;
+        told.as_str(),
+        "H02: the period is unknown or not closed; H04 record 3"
+    );
+    Ok(())
+}
+
+#[test]
 fn names_and_codes_are_texts(rt: HostRuntime) -> Result<(), Fail> {
     let names = [
         (RecordName::Bfh01, b"BFH01"),

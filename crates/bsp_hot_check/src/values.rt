@@ -145,7 +145,6 @@ fn document_record(line: &[u8]) -> Record
     })
 }
 
-/// The headers of the file, of its period, of an office and of a transaction.
 #[tactic(auto, unfolding(crate::specs::Records::record_of))]
 fn office_header_record(line: &[u8]) -> Record
     requires { length line.now ≡ 136 }

@@ -245,6 +245,17 @@ fn first_faults_are_told(rt: HostRuntime) -> Result<(), Fail> {
 }
 
 #[test]
+fn a_fault_is_told_as_text(rt: HostRuntime) -> Result<(), Fail> {
+    let fault = RetFault {
+        code: FaultCode::F03,
+        at: 2,
+    };
+    let told = format!(in rt.alloc(); "{fault}")?;
+    assert_eq!(rt; told.as_str(), "F03 record 2");
+    Ok(())
+}
+
+#[test]
 fn a_file_without_sales_cut_short_is_told(rt: HostRuntime) -> Result<(), Fail> {
     let v0 = text(&rt, &[HEADER, NO_SALES], b"\n")?;
     let cuts = [

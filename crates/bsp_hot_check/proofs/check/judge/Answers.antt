@@ -10,17 +10,17 @@ returns-in_default-clause-judged c =
     let l = c.loop-rest in
     let line = c.first_line.result.0.now in
     let after = c.first_line.result.1.now in
-    let none : step_line l.at line ≡ None = sym c.with_line.ensures.step ∙ c.in_default.is in
-    sym (sym l.invariant.judged ∙ ap (judge_from l.at) c.first_line.ensures.cut ∙ judge_cons l.at line (lines after) ∙ rw none refl)
+    let none : step_line l.standing line ≡ None = sym c.with_line.ensures.step ∙ c.in_default.is in
+    sym (sym l.invariant.judged ∙ ap (judge_from l.standing) c.first_line.ensures.cut ∙ judge_cons l.standing line (lines after) ∙ rw none refl)
 
 pub loop-rest-preserved : goal.loop-rest-preserved
 loop-rest-preserved c =
     let l = c.loop-rest in
     let line = c.first_line.result.0.now in
     let after = c.first_line.result.1.now in
-    let some : step_line l.at line ≡ Some c.in-Some.next = sym c.with_line.ensures.step ∙ c.in-Some.is in
-    let passed : judge_from l.at (lines l.rest.now) ≡ judge_from c.in-Some.next (lines after) =
-    ap (judge_from l.at) c.first_line.ensures.cut ∙ judge_cons l.at line (lines after) ∙ rw some refl in
+    let some : step_line l.standing line ≡ Some c.in-Some.next = sym c.with_line.ensures.step ∙ c.in-Some.is in
+    let passed : judge_from l.standing (lines l.rest.now) ≡ judge_from c.in-Some.next (lines after) =
+    ap (judge_from l.standing) c.first_line.ensures.cut ∙ judge_cons l.standing line (lines after) ∙ rw some refl in
     record {
       judged = sym passed ∙ l.invariant.judged;
       small = c.in-Some.ensures.small.small;
@@ -32,11 +32,11 @@ returns-then-is_ended-clause-judged c =
     let l = c.loop-rest in
     let none = lines_empty l.rest.now (sym c.is_empty.ensures ∙ c.loop-rest-test.false) in
     let end = sym c.is_ended.ensures ∙ c.if-is_ended.true in
-    sym (sym l.invariant.judged ∙ ap (judge_from l.at) none ∙ judge_nil l.at ∙ rw end refl)
+    sym (sym l.invariant.judged ∙ ap (judge_from l.standing) none ∙ judge_nil l.standing ∙ rw end refl)
 
 pub returns-else-is_ended-clause-judged : goal.returns-else-is_ended-clause-judged
 returns-else-is_ended-clause-judged c =
     let l = c.loop-rest in
     let none = lines_empty l.rest.now (sym c.is_empty.ensures ∙ c.loop-rest-test.false) in
     let end = sym c.is_ended.ensures ∙ c.if-is_ended.false in
-    sym (sym l.invariant.judged ∙ ap (judge_from l.at) none ∙ judge_nil l.at ∙ rw end refl)
+    sym (sym l.invariant.judged ∙ ap (judge_from l.standing) none ∙ judge_nil l.standing ∙ rw end refl)

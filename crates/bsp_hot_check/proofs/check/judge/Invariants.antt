@@ -6,9 +6,9 @@ use Rattle.bsp_hot_check.proofs.check.judge.Given as goal
 
 abbrev pub invariant-loop-rest : goal.invariant-loop-rest
 invariant-loop-rest l = record {
-  judged : judge_from l.at (lines l.rest) ≡ judge_from start (lines l.bytes);
-  small : IsSmall l.at;
-  room : l.at.records + length l.rest ≤ length l.bytes;
+  judged : judge_from l.standing (lines l.rest) ≡ judge_from start (lines l.bytes);
+  small : IsSmall l.standing;
+  room : l.standing.records + length l.rest ≤ length l.bytes;
 }
 
 abbrev pub decreases-loop-rest : goal.decreases-loop-rest
