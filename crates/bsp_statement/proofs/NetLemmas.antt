@@ -9,8 +9,9 @@ use Rattle.bsp_ret.specs.declared.model.TransactionCode.TheVariants.{Tktt, Rfnd,
 use Rattle.bsp_rules.specs.Amounts.{amount_or_zero, commission_amount, net_of}
 use Rattle.bsp_rules.specs.declared.rows.Item.{Item}
 use Rattle.bsp_memos.specs.declared.fields.MemoFields.{MemoFields}
+use Rattle.bsp_memos.specs.Owed.{amount_owed, is_billed_in}
 use Rattle.bsp_statement.specs.declared.posting.Posting.{Posting}
-use Rattle.bsp_statement.specs.Postings.{is_document, is_counted, item_posting, is_billed, amount_owed, memo_posting, item_postings, memo_postings, postings, is_of_agent, is_of_airline, of_agent, of_airline}
+use Rattle.bsp_statement.specs.Postings.{is_document, is_counted, item_posting, memo_posting, item_postings, memo_postings, postings, is_of_agent, is_of_airline, of_agent, of_airline}
 use Rattle.bsp_statement.specs.Sums.{sums, net_of_postings, AreCodes, lives_in, net_of_rows, agent_net, airline_net}
 use Rattle.bsp_statement.proofs.RunningLemmas.{net_is_sum}
 use Rattle.bsp_statement.proofs.SumLemmas.{sums-append, sums_agree, sums-filter, sums-map, sums_over_codes}
@@ -66,11 +67,11 @@ module _ (own : Posting → Bool) (period : ℕ) where
       ∙ sums_agree _ _ (λ i. item_agrees (own (item_posting i)) i.lives (i.period == period) i i.transaction.code) items
       ∙ sym (twice net_of (λ i. own (item_posting i)) (lives_in period) items)
 
-  memos_net : (memos : List MemoFields) → sums net_of_posting (filter own (memo_postings period memos)) ≡ sums (λ m. amount_owed m.kind m.amount) (filter (is_billed period) (filter (λ m. own (memo_posting m)) memos))
+  memos_net : (memos : List MemoFields) → sums net_of_posting (filter own (memo_postings period memos)) ≡ sums (λ m. amount_owed m.kind m.amount) (filter (is_billed_in period) (filter (λ m. own (memo_posting m)) memos))
   memos_net memos =
-      through memo_posting (is_billed period) memos
-      ∙ sums_agree _ _ (λ m. memo_agrees (own (memo_posting m)) (is_billed period m) (amount_owed m.kind m.amount)) memos
-      ∙ sym (twice (λ m. amount_owed m.kind m.amount) (λ m. own (memo_posting m)) (is_billed period) memos)
+      through memo_posting (is_billed_in period) memos
+      ∙ sums_agree _ _ (λ m. memo_agrees (own (memo_posting m)) (is_billed_in period m) (amount_owed m.kind m.amount)) memos
+      ∙ sym (twice (λ m. amount_owed m.kind m.amount) (λ m. own (memo_posting m)) (is_billed_in period) memos)
 
   pub own_net : (items : List Item) (memos : List MemoFields) → net_of_postings (filter own (postings period items memos)) ≡ net_of_rows period (filter (λ i. own (item_posting i)) items) (filter (λ m. own (memo_posting m)) memos)
   own_net items memos =

@@ -7,9 +7,9 @@ use Rattle.std.specs.List.Sorted.{IsStrictlyIncreasing}
 use Rattle.bsp_rules.specs.Amounts.{net_of}
 use Rattle.bsp_rules.specs.declared.rows.Item.{Item}
 use Rattle.bsp_memos.specs.declared.fields.MemoFields.{MemoFields}
+use Rattle.bsp_memos.specs.Owed.{amount_owed, is_billed_in}
 use Rattle.bsp_statement.specs.declared.posting.Posting.{Posting}
 use Rattle.bsp_statement.specs.declared.figures.Figures.{Figures}
-use Rattle.bsp_statement.specs.Postings.{is_billed, amount_owed}
 
 -- the sum of f over rows
 abbrev pub sums : {R : Type 0} → (R → ℤ) → List R → ℤ
@@ -100,7 +100,7 @@ lives_in period i = i.lives && (i.period == period)
 abbrev pub net_of_rows : ℕ → List Item → List MemoFields → ℤ
 net_of_rows period items memos =
     sums net_of (filter (lives_in period) items)
-    +ℤ sums (λ m. amount_owed m.kind m.amount) (filter (is_billed period) memos)
+    +ℤ sums (λ m. amount_owed m.kind m.amount) (filter (is_billed_in period) memos)
 
 abbrev pub agent_net : ℕ → ℕ → List Item → List MemoFields → ℤ
 agent_net agent period items memos =
