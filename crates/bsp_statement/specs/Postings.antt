@@ -4,6 +4,7 @@ use Rattle.std.specs.List.{filter}
 use Rattle.bsp_ret.specs.declared.model.TransactionCode.{TransactionCode}
 use Rattle.bsp_ret.specs.declared.model.TransactionCode.TheVariants.{Tktt, Rfnd, Canx}
 use Rattle.bsp_rules.specs.Amounts.{amount_or_zero, card_amount, commission_amount}
+use Rattle.bsp_rules.specs.Nets.{lives_in}
 use Rattle.bsp_rules.specs.declared.rows.Item.{Item}
 use Rattle.bsp_memos.specs.declared.fields.MemoFields.{MemoFields}
 use Rattle.bsp_memos.specs.Owed.{amount_owed, is_billed_in}
@@ -18,7 +19,7 @@ is_document Canx = false
 
 -- a living TKTT or RFND of the period
 abbrev pub is_counted : ℕ → Item → Bool
-is_counted period i = i.lives && (is_document i.transaction.code && (i.period == period))
+is_counted period i = lives_in period i && is_document i.transaction.code
 
 -- one document, with its cash, credit and commission
 abbrev pub item_posting : Item → Posting

@@ -2,6 +2,7 @@
 use Rattle.std.specs.Prelude.{◌≡◌, ℕ, List, map, codes, string_bytes, Option, Some, None, Result, Ok, Err, if◌then◌else◌}
 use Rattle.bsp_calendar.specs.Published.{Published, is_closed, period_of}
 use Rattle.bsp_calendar.specs.declared.entries.Period.{Period}
+use Rattle.bsp_rules.specs.Amounts.{sum_of}
 use Rattle.bsp_statement.specs.declared.fault.StatementFault.{StatementFault}
 use Rattle.bsp_statement.specs.declared.fault.StatementFault.TheVariants.{NotClosed, NoMemory}
 use Rattle.bsp_statement.specs.declared.figures.Figures.{Figures}
@@ -10,7 +11,7 @@ use Rattle.bsp_statement.specs.declared.nets.AgentNet.{AgentNet}
 use Rattle.bsp_statement.specs.declared.nets.AirlineNet.{AirlineNet}
 use Rattle.bsp_statement.specs.declared.nets.Settlement.{Settlement}
 use Rattle.bsp_statement.specs.Postings.{of_agent, of_airline}
-use Rattle.bsp_statement.specs.Sums.{sums, net_of_postings, AreCodes}
+use Rattle.bsp_statement.specs.Sums.{net_of_postings, AreCodes}
 use Rattle.bsp_statement.specs.Texts.{currency_text, period_text, statement_text, settlement_text}
 
 -- ---- faults
@@ -60,8 +61,8 @@ pub record IsSettlement (of_period : List ℕ) (rows : List Posting) (s : Settle
 
 -- the two sides have one sum, which is the total
 pub record HasOneSum (s : Settlement) : Type 0 where
-  pub agents : sums (λ n. n.net) s.agents.items ≡ s.total
-  pub airlines : sums (λ n. n.net) s.airlines.items ≡ s.total
+  pub agents : sum_of (map (λ n. n.net) s.agents.items) ≡ s.total
+  pub airlines : sum_of (map (λ n. n.net) s.airlines.items) ≡ s.total
 
 -- the same nets, total and text
 pub record IsSameSettlement (s other : Settlement) : Type 0 where

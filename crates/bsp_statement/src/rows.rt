@@ -15,7 +15,7 @@ use std::alloc::{AllocError, Global};
 fn is_counted(period: PeriodCode, item: &Item) -> bool
     ensures { result ≡ is_counted period item.now }
 {
-    item.lives && item.transaction.code != TransactionCode::Canx && item.period == period
+    item.lives_in(period) && item.transaction.code != TransactionCode::Canx
 }
 
 fn item_posting(item: &Item) -> Posting
