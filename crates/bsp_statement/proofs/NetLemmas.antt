@@ -7,16 +7,15 @@ use Rattle.std.proofs.lemmas.List.Elements.{filter-append}
 use Rattle.bsp_ret.specs.declared.model.TransactionCode.{TransactionCode}
 use Rattle.bsp_ret.specs.declared.model.TransactionCode.TheVariants.{Tktt, Rfnd, Canx}
 use Rattle.bsp_rules.specs.Amounts.{amount_or_zero, commission_amount, net_of}
+use Rattle.bsp_rules.specs.Nets.{lives_in, living_net}
 use Rattle.bsp_rules.specs.declared.rows.Item.{Item}
 use Rattle.bsp_memos.specs.declared.fields.MemoFields.{MemoFields}
+use Rattle.bsp_memos.specs.Owed.{amount_owed, is_billed_in}
 use Rattle.bsp_statement.specs.declared.posting.Posting.{Posting}
-use Rattle.bsp_statement.specs.Postings.{is_document, is_counted, item_posting, is_billed, amount_owed, memo_posting, item_postings, memo_postings, postings, is_of_agent, is_of_airline, of_agent, of_airline}
-use Rattle.bsp_statement.specs.Sums.{sums, net_of_postings, AreCodes, lives_in, net_of_rows, agent_net, airline_net}
-use Rattle.bsp_statement.proofs.RunningLemmas.{net_is_sum}
-use Rattle.bsp_statement.proofs.SumLemmas.{sums-append, sums_agree, sums-filter, sums-map, sums_over_codes}
-
-abbrev pub net_of_posting : Posting → ℤ
-net_of_posting p = (p.cash -ℤ p.commission) +ℤ p.memos
+use Rattle.bsp_statement.specs.Postings.{is_document, is_counted, item_posting, memo_posting, item_postings, memo_postings, postings, is_of_agent, is_of_airline, of_agent, of_airline}
+use Rattle.bsp_statement.specs.Sums.{net_of_postings, AreCodes, net_of_rows, agent_net, airline_net}
+use Rattle.bsp_statement.proofs.RunningLemmas.{net_of_posting, net_is_sum}
+use Rattle.bsp_statement.proofs.SumLemmas.{sums, sums-append, sums_agree, sums-filter, sums-map, sums_over_codes}
 
 no_memos : (x : ℤ) → x +ℤ pos 0 ≡ x
 no_memos x = omega (arith, ints)
@@ -24,24 +23,18 @@ no_memos x = omega (arith, ints)
 memos_alone : (x : ℤ) → (pos 0 -ℤ pos 0) +ℤ x ≡ x
 memos_alone x = omega (arith, ints)
 
--- an item, by the test of its side, by whether it lives, by its period and by its code
-item_agrees : (own lives same : Bool) (i : Item) (code : TransactionCode) →
-    cond (lives && (is_document code && same)) (cond own ((amount_or_zero i.transaction.cash -ℤ commission_amount i.transaction.amounts) +ℤ pos 0) (pos 0)) (pos 0)
-    ≡ cond own (cond (lives && same) (net_of (record i { transaction = record i.transaction { code = code } })) (pos 0)) (pos 0)
-item_agrees true true true i Tktt = no_memos (amount_or_zero i.transaction.cash -ℤ commission_amount i.transaction.amounts)
-item_agrees true true true i Rfnd = no_memos (amount_or_zero i.transaction.cash -ℤ commission_amount i.transaction.amounts)
-item_agrees true true true i Canx = refl
-item_agrees true true false i Tktt = refl
-item_agrees true true false i Rfnd = refl
-item_agrees true true false i Canx = refl
-item_agrees true false same i code = refl
-item_agrees false true true i Tktt = refl
-item_agrees false true true i Rfnd = refl
-item_agrees false true true i Canx = refl
-item_agrees false true false i Tktt = refl
-item_agrees false true false i Rfnd = refl
-item_agrees false true false i Canx = refl
-item_agrees false false same i code = refl
+-- an item, by the test of its side, by whether it lives in the period and by its code
+item_agrees : (own lives : Bool) (i : Item) (code : TransactionCode) →
+    cond (lives && is_document code) (cond own ((amount_or_zero i.transaction.cash -ℤ commission_amount i.transaction.amounts) +ℤ pos 0) (pos 0)) (pos 0)
+    ≡ cond own (cond lives (net_of (record i { transaction = record i.transaction { code = code } })) (pos 0)) (pos 0)
+item_agrees true true i Tktt = no_memos (amount_or_zero i.transaction.cash -ℤ commission_amount i.transaction.amounts)
+item_agrees true true i Rfnd = no_memos (amount_or_zero i.transaction.cash -ℤ commission_amount i.transaction.amounts)
+item_agrees true true i Canx = refl
+item_agrees true false i code = refl
+item_agrees false true i Tktt = refl
+item_agrees false true i Rfnd = refl
+item_agrees false true i Canx = refl
+item_agrees false false i code = refl
 
 memo_agrees : (own billed : Bool) (x : ℤ) → cond billed (cond own ((pos 0 -ℤ pos 0) +ℤ x) (pos 0)) (pos 0) ≡ cond own (cond billed x (pos 0)) (pos 0)
 memo_agrees true true x = memos_alone x
@@ -60,17 +53,17 @@ module _ (own : Posting → Bool) (period : ℕ) where
       ∙ sums-map (λ p. cond (own p) (net_of_posting p) (pos 0)) posting (filter counted rows)
       ∙ sums-filter (λ r. cond (own (posting r)) (net_of_posting (posting r)) (pos 0)) counted rows
 
-  items_net : (items : List Item) → sums net_of_posting (filter own (item_postings period items)) ≡ sums net_of (filter (lives_in period) (filter (λ i. own (item_posting i)) items))
+  items_net : (items : List Item) → sums net_of_posting (filter own (item_postings period items)) ≡ living_net period (filter (λ i. own (item_posting i)) items)
   items_net items =
       through item_posting (is_counted period) items
-      ∙ sums_agree _ _ (λ i. item_agrees (own (item_posting i)) i.lives (i.period == period) i i.transaction.code) items
+      ∙ sums_agree _ _ (λ i. item_agrees (own (item_posting i)) (lives_in period i) i i.transaction.code) items
       ∙ sym (twice net_of (λ i. own (item_posting i)) (lives_in period) items)
 
-  memos_net : (memos : List MemoFields) → sums net_of_posting (filter own (memo_postings period memos)) ≡ sums (λ m. amount_owed m.kind m.amount) (filter (is_billed period) (filter (λ m. own (memo_posting m)) memos))
+  memos_net : (memos : List MemoFields) → sums net_of_posting (filter own (memo_postings period memos)) ≡ sums (λ m. amount_owed m.kind m.amount) (filter (is_billed_in period) (filter (λ m. own (memo_posting m)) memos))
   memos_net memos =
-      through memo_posting (is_billed period) memos
-      ∙ sums_agree _ _ (λ m. memo_agrees (own (memo_posting m)) (is_billed period m) (amount_owed m.kind m.amount)) memos
-      ∙ sym (twice (λ m. amount_owed m.kind m.amount) (λ m. own (memo_posting m)) (is_billed period) memos)
+      through memo_posting (is_billed_in period) memos
+      ∙ sums_agree _ _ (λ m. memo_agrees (own (memo_posting m)) (is_billed_in period m) (amount_owed m.kind m.amount)) memos
+      ∙ sym (twice (λ m. amount_owed m.kind m.amount) (λ m. own (memo_posting m)) (is_billed_in period) memos)
 
   pub own_net : (items : List Item) (memos : List MemoFields) → net_of_postings (filter own (postings period items memos)) ≡ net_of_rows period (filter (λ i. own (item_posting i)) items) (filter (λ m. own (memo_posting m)) memos)
   own_net items memos =
@@ -78,7 +71,7 @@ module _ (own : Posting → Bool) (period : ℕ) where
       ∙ ap (λ (rows : List Posting). sums net_of_posting rows) (filter-append own (item_postings period items) (memo_postings period memos))
       ∙ sums-append net_of_posting (filter own (item_postings period items)) (filter own (memo_postings period memos))
       ∙ ap (λ (x : ℤ). x +ℤ sums net_of_posting (filter own (memo_postings period memos))) (items_net items)
-      ∙ ap (λ (x : ℤ). sums net_of (filter (lives_in period) (filter (λ i. own (item_posting i)) items)) +ℤ x) (memos_net memos)
+      ∙ ap (λ (x : ℤ). living_net period (filter (λ i. own (item_posting i)) items) +ℤ x) (memos_net memos)
 
 pub agent_net_is : (agent period : ℕ) (items : List Item) (memos : List MemoFields) → net_of_postings (of_agent agent (postings period items memos)) ≡ agent_net agent period items memos
 agent_net_is agent period items memos = own_net (is_of_agent agent) period items memos

@@ -1,12 +1,13 @@
 -- Figures that are added up posting by posting.
-use Rattle.std.proofs.Common.{◌≡◌, ℕ, ◌+◌, ◌≤◌, ◌<◌, length, take, get_or, refl, ap, ◌∙◌, sym, List, [], ◌∷◌, arith, fold}
+use Rattle.std.proofs.Common.{◌≡◌, ℕ, ◌+◌, ◌≤◌, ◌<◌, length, take, get_or, refl, ap, ◌∙◌, sym, List, [], ◌∷◌, map, arith, fold}
 use Rattle.std.specs.Prelude.{ℤ, pos, ◌+ℤ◌, ◌-ℤ◌}
 use Rattle.std.proofs.lemmas.Int.{ints}
 use Rattle.std.proofs.lemmas.List.{take_all}
 use Rattle.std.proofs.lemmas.List.Sums.{fold_more}
+use Rattle.bsp_rules.specs.Amounts.{sum_of}
 use Rattle.bsp_statement.specs.declared.posting.Posting.{Posting}
 use Rattle.bsp_statement.specs.declared.figures.Figures.{Figures}
-use Rattle.bsp_statement.specs.Sums.{figures_of, nothing, with_posting, IsWithin}
+use Rattle.bsp_statement.specs.Sums.{figures_of, net_of_postings, nothing, with_posting, IsWithin}
 
 pub figures_same : (f g : Figures) → f.documents ≡ g.documents → f.cash ≡ g.cash → f.credit ≡ g.credit → f.commission ≡ g.commission → f.memos ≡ g.memos → f.net ≡ g.net → f ≡ g
 figures_same f g documents cash credit commission memos net =
@@ -30,13 +31,16 @@ within_more m n f le within = record {
 abbrev pub running : List Posting → Figures
 running rows = fold with_posting nothing rows
 
+abbrev pub net_of_posting : Posting → ℤ
+net_of_posting p = (p.cash -ℤ p.commission) +ℤ p.memos
+
 folded : (f : Figures) (rows : List Posting) → fold with_posting f rows ≡ record {
   documents = fold (λ sum p. sum + p.documents) f.documents rows;
-  cash = fold (λ sum p. sum +ℤ p.cash) f.cash rows;
-  credit = fold (λ sum p. sum +ℤ p.credit) f.credit rows;
-  commission = fold (λ sum p. sum +ℤ p.commission) f.commission rows;
-  memos = fold (λ sum p. sum +ℤ p.memos) f.memos rows;
-  net = fold (λ sum p. sum +ℤ ((p.cash -ℤ p.commission) +ℤ p.memos)) f.net rows;
+  cash = fold ◌+ℤ◌ f.cash (map (λ p. p.cash) rows);
+  credit = fold ◌+ℤ◌ f.credit (map (λ p. p.credit) rows);
+  commission = fold ◌+ℤ◌ f.commission (map (λ p. p.commission) rows);
+  memos = fold ◌+ℤ◌ f.memos (map (λ p. p.memos) rows);
+  net = fold ◌+ℤ◌ f.net (map net_of_posting rows);
 }
 folded f [] = refl
 folded f (p ∷ rows) = folded (with_posting f p) rows
@@ -45,10 +49,10 @@ folded f (p ∷ rows) = folded (with_posting f p) rows
 net_more : (a b c x y z : ℤ) → ((a -ℤ b) +ℤ c) +ℤ ((x -ℤ y) +ℤ z) ≡ ((a +ℤ x) -ℤ (b +ℤ y)) +ℤ (c +ℤ z)
 net_more a b c x y z = omega (arith, ints)
 
-net_folded : (a b c : ℤ) (rows : List Posting) → fold (λ sum p. sum +ℤ ((p.cash -ℤ p.commission) +ℤ p.memos)) ((a -ℤ b) +ℤ c) rows ≡ (fold (λ sum p. sum +ℤ p.cash) a rows -ℤ fold (λ sum p. sum +ℤ p.commission) b rows) +ℤ fold (λ sum p. sum +ℤ p.memos) c rows
+net_folded : (a b c : ℤ) (rows : List Posting) → fold ◌+ℤ◌ ((a -ℤ b) +ℤ c) (map net_of_posting rows) ≡ (fold ◌+ℤ◌ a (map (λ p. p.cash) rows) -ℤ fold ◌+ℤ◌ b (map (λ p. p.commission) rows)) +ℤ fold ◌+ℤ◌ c (map (λ p. p.memos) rows)
 net_folded a b c [] = refl
 net_folded a b c (p ∷ rows) =
-    ap (λ (start : ℤ). fold (λ sum q. sum +ℤ ((q.cash -ℤ q.commission) +ℤ q.memos)) start rows) (net_more a b c p.cash p.commission p.memos)
+    ap (λ (start : ℤ). fold ◌+ℤ◌ start (map net_of_posting rows)) (net_more a b c p.cash p.commission p.memos)
     ∙ net_folded (a +ℤ p.cash) (b +ℤ p.commission) (c +ℤ p.memos) rows
 
 pub running_is : (rows : List Posting) → running rows ≡ figures_of rows
@@ -65,5 +69,5 @@ pub running_all : (xs : List Posting) (i : ℕ) (sum : Figures) → length xs �
 running_all xs i sum past is = is ∙ ap (λ (ys : List Posting). running ys) (take_all i xs past) ∙ running_is xs
 
 -- the net of postings is the sum of their nets
-pub net_is_sum : (rows : List Posting) → (fold (λ sum p. sum +ℤ p.cash) (pos 0) rows -ℤ fold (λ sum p. sum +ℤ p.commission) (pos 0) rows) +ℤ fold (λ sum p. sum +ℤ p.memos) (pos 0) rows ≡ fold (λ sum p. sum +ℤ ((p.cash -ℤ p.commission) +ℤ p.memos)) (pos 0) rows
+pub net_is_sum : (rows : List Posting) → net_of_postings rows ≡ sum_of (map net_of_posting rows)
 net_is_sum rows = sym (net_folded (pos 0) (pos 0) (pos 0) rows)

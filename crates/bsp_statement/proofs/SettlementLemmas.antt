@@ -9,9 +9,9 @@ use Rattle.bsp_statement.specs.declared.nets.AgentNet.{AgentNet}
 use Rattle.bsp_statement.specs.declared.nets.AirlineNet.{AirlineNet}
 use Rattle.bsp_statement.specs.declared.nets.Settlement.{Settlement}
 use Rattle.bsp_statement.specs.Postings.{postings, of_agent, of_airline}
-use Rattle.bsp_statement.specs.Sums.{sums, net_of_postings, agent_net, airline_net}
+use Rattle.bsp_statement.specs.Sums.{net_of_postings, agent_net, airline_net}
 use Rattle.bsp_statement.specs.Reports.{IsSettlement, HasOneSum}
-use Rattle.bsp_statement.proofs.SumLemmas.{sums-map}
+use Rattle.bsp_statement.proofs.SumLemmas.{sums, sums-map}
 use Rattle.bsp_statement.proofs.NetLemmas.{side, agent_net_is, airline_net_is}
 
 pub map_map : {X Y Z : Type 0} (f : Y → Z) (g : X → Y) (xs : List X) → map f (map g xs) ≡ map (λ x. f (g x)) xs

@@ -10,7 +10,8 @@ use Rattle.std.specs.Cmp.{unsigned_tied}
 use Rattle.std.proofs.lemmas.Bool.{cases_Bool, eqb-true, eq-eqb}
 use Rattle.std.proofs.lemmas.Int.{ints}
 use Rattle.std.proofs.lemmas.Map.Keys.{sorted_head, sorted_tail, sorted_from_strictly_increasing}
-use Rattle.bsp_statement.specs.Sums.{sums, AreCodes}
+use Rattle.bsp_rules.specs.Amounts.{sum_of}
+use Rattle.bsp_statement.specs.Sums.{AreCodes}
 
 add_zero : (x : ℤ) → x +ℤ pos 0 ≡ x
 add_zero x = omega (arith, ints)
@@ -24,14 +25,18 @@ regroup a b c = omega (arith, ints)
 swap_middle : (a b c d : ℤ) → (a +ℤ b) +ℤ (c +ℤ d) ≡ (a +ℤ c) +ℤ (b +ℤ d)
 swap_middle a b c d = omega (arith, ints)
 
-module _ {R : Type 0} where
-  sums_from : (f : R → ℤ) (a : ℤ) (rows : List R) → fold (λ sum row. sum +ℤ f row) a rows ≡ a +ℤ sums f rows
-  sums_from f a [] = sym (add_zero a)
-  sums_from f a (r ∷ rows) =
-      sums_from f (a +ℤ f r) rows ∙ regroup a (f r) (sums f rows) ∙ ap (λ (x : ℤ). a +ℤ x) (ap (λ (x : ℤ). x +ℤ sums f rows) (sym (zero_add (f r))) ∙ sym (sums_from f (pos 0 +ℤ f r) rows))
+sum_from : (a : ℤ) (xs : List ℤ) → fold ◌+ℤ◌ a xs ≡ a +ℤ sum_of xs
+sum_from a [] = sym (add_zero a)
+sum_from a (x ∷ xs) =
+    sum_from (a +ℤ x) xs ∙ regroup a x (sum_of xs) ∙ ap (λ (y : ℤ). a +ℤ y) (ap (λ (y : ℤ). y +ℤ sum_of xs) (sym (zero_add x)) ∙ sym (sum_from (pos 0 +ℤ x) xs))
 
+-- the sum of f over rows
+abbrev pub sums : {R : Type 0} → (R → ℤ) → List R → ℤ
+sums f rows = sum_of (map f rows)
+
+module _ {R : Type 0} where
   pub sums-cons : (f : R → ℤ) (r : R) (rows : List R) → sums f (r ∷ rows) ≡ f r +ℤ sums f rows
-  sums-cons f r rows = sums_from f (pos 0 +ℤ f r) rows ∙ ap (λ (x : ℤ). x +ℤ sums f rows) (zero_add (f r))
+  sums-cons f r rows = sum_from (pos 0 +ℤ f r) (map f rows) ∙ ap (λ (x : ℤ). x +ℤ sums f rows) (zero_add (f r))
 
   pub sums-append : (f : R → ℤ) (xs ys : List R) → sums f (xs ++ ys) ≡ sums f xs +ℤ sums f ys
   sums-append f [] ys = sym (zero_add (sums f ys))

@@ -11,10 +11,10 @@ use Rattle.bsp_rules.specs.declared.rows.Tally.{Tally}
 use Rattle.bsp_memos.specs.declared.fields.MemoFields.{MemoFields}
 use Rattle.bsp_statement.specs.declared.posting.Posting.{Posting}
 use Rattle.bsp_statement.specs.Postings.{postings}
-use Rattle.bsp_statement.specs.Sums.{sums, figures_of}
+use Rattle.bsp_statement.specs.Sums.{figures_of}
 use Rattle.bsp_statement.specs.Tallies.{is_used, tally_posting, tally_postings, is_under, under, IsTallyOf, same_key, AreTallies}
 use Rattle.bsp_statement.proofs.RunningLemmas.{figures_same}
-use Rattle.bsp_statement.proofs.SumLemmas.{sums-cons, sums_agree, sums-filter, sums-map, sums_nothing, sums_over}
+use Rattle.bsp_statement.proofs.SumLemmas.{sums, sums-cons, sums_agree, sums-filter, sums-map, sums_nothing, sums_over}
 
 -- ---- elements of filtered and mapped lists
 

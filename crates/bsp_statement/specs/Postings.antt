@@ -1,13 +1,13 @@
 -- What the rows of a period add to the sums: its living TKTT and RFND, and the memos billed in it.
-use Rattle.std.specs.Prelude.{ℕ, ℤ, pos, ◌-ℤ◌, Bool, true, false, ◌==◌, ◌&&◌, List, ◌++◌, map, Option, Some, None}
+use Rattle.std.specs.Prelude.{ℕ, pos, Bool, true, false, ◌==◌, ◌&&◌, List, ◌++◌, map}
 use Rattle.std.specs.List.{filter}
 use Rattle.bsp_ret.specs.declared.model.TransactionCode.{TransactionCode}
 use Rattle.bsp_ret.specs.declared.model.TransactionCode.TheVariants.{Tktt, Rfnd, Canx}
 use Rattle.bsp_rules.specs.Amounts.{amount_or_zero, card_amount, commission_amount}
+use Rattle.bsp_rules.specs.Nets.{lives_in}
 use Rattle.bsp_rules.specs.declared.rows.Item.{Item}
 use Rattle.bsp_memos.specs.declared.fields.MemoFields.{MemoFields}
-use Rattle.bsp_memos.specs.declared.kind.MemoKind.{MemoKind}
-use Rattle.bsp_memos.specs.declared.kind.MemoKind.TheVariants.{Debit, Credit}
+use Rattle.bsp_memos.specs.Owed.{amount_owed, is_billed_in}
 use Rattle.bsp_statement.specs.declared.posting.Posting.{Posting}
 
 -- ---- items
@@ -19,7 +19,7 @@ is_document Canx = false
 
 -- a living TKTT or RFND of the period
 abbrev pub is_counted : ℕ → Item → Bool
-is_counted period i = i.lives && (is_document i.transaction.code && (i.period == period))
+is_counted period i = lives_in period i && is_document i.transaction.code
 
 -- one document, with its cash, credit and commission
 abbrev pub item_posting : Item → Posting
@@ -34,19 +34,6 @@ item_posting i = record {
 }
 
 -- ---- memos
-
-abbrev pub is_period : ℕ → Option ℕ → Bool
-is_period period None = false
-is_period period (Some other) = other == period
-
--- a memo billed in the period
-abbrev pub is_billed : ℕ → MemoFields → Bool
-is_billed period m = is_period period m.billed
-
--- an ADMA is owed by the agent, an ACMA to the agent
-abbrev pub amount_owed : MemoKind → ℤ → ℤ
-amount_owed Debit amount = amount
-amount_owed Credit amount = pos 0 -ℤ amount
 
 abbrev pub memo_posting : MemoFields → Posting
 memo_posting m = record {
@@ -65,7 +52,7 @@ abbrev pub item_postings : ℕ → List Item → List Posting
 item_postings period items = map item_posting (filter (is_counted period) items)
 
 abbrev pub memo_postings : ℕ → List MemoFields → List Posting
-memo_postings period memos = map memo_posting (filter (is_billed period) memos)
+memo_postings period memos = map memo_posting (filter (is_billed_in period) memos)
 
 abbrev pub postings : ℕ → List Item → List MemoFields → List Posting
 postings period items memos = item_postings period items ++ memo_postings period memos

@@ -1,7 +1,9 @@
 -- Statements and settlements over rows, and when they are refused.
-use Rattle.std.specs.Prelude.{◌≡◌, ℕ, List, map, codes, string_bytes, Option, Some, None, Result, Ok, Err, if◌then◌else◌}
-use Rattle.bsp_calendar.specs.Published.{Published, is_closed, period_of}
+use Rattle.std.specs.Prelude.{◌≡◌, ℕ, List, map, codes, string_bytes, Some, None, Result, Ok, Err}
+use Rattle.bsp_calendar.specs.Published.{Published, closed_period}
 use Rattle.bsp_calendar.specs.declared.entries.Period.{Period}
+use Rattle.bsp_calendar.specs.declared.entries.Terms.{Terms}
+use Rattle.bsp_rules.specs.Amounts.{sum_of}
 use Rattle.bsp_statement.specs.declared.fault.StatementFault.{StatementFault}
 use Rattle.bsp_statement.specs.declared.fault.StatementFault.TheVariants.{NotClosed, NoMemory}
 use Rattle.bsp_statement.specs.declared.figures.Figures.{Figures}
@@ -10,8 +12,8 @@ use Rattle.bsp_statement.specs.declared.nets.AgentNet.{AgentNet}
 use Rattle.bsp_statement.specs.declared.nets.AirlineNet.{AirlineNet}
 use Rattle.bsp_statement.specs.declared.nets.Settlement.{Settlement}
 use Rattle.bsp_statement.specs.Postings.{of_agent, of_airline}
-use Rattle.bsp_statement.specs.Sums.{sums, net_of_postings, AreCodes}
-use Rattle.bsp_statement.specs.Texts.{currency_text, period_text, statement_text, settlement_text}
+use Rattle.bsp_statement.specs.Sums.{net_of_postings, AreCodes}
+use Rattle.bsp_statement.specs.Texts.{period_text, statement_text, settlement_text}
 
 -- ---- faults
 
@@ -19,19 +21,15 @@ abbrev pub code_text : StatementFault → List ℕ
 code_text NotClosed = codes "S01"
 code_text NoMemory = codes "S02"
 
--- the period of a code, where it is published and closed
-abbrev pub closed_period : Published → ℕ → Option Period
-closed_period plan code = if is_closed plan code then period_of plan code else None
-
--- an answer on a closed period, S01 exactly where the period is unknown or not closed, or want of memory
-abbrev pub Answers : {A : Type 0} → Published → ℕ → (Period → A → Type 0) → Result A StatementFault → Type 0
-Answers plan code Is (Ok x) = (q : Period) × (closed_period plan code ≡ Some q) × Is q x
+-- an answer on a closed period and the published terms, S01 exactly where the period is unknown or not closed, or want of memory
+abbrev pub Answers : {A : Type 0} → Published → ℕ → (Period → Terms → A → Type 0) → Result A StatementFault → Type 0
+Answers plan code Is (Ok x) = (q : Period) × (terms : Terms) × (closed_period plan code ≡ Some q) × (plan.terms ≡ Some terms) × Is q terms x
 Answers plan code Is (Err NotClosed) = closed_period plan code ≡ None
 Answers plan code Is (Err NoMemory) = (q : Period) × (closed_period plan code ≡ Some q)
 
 -- what the first line says of a closed period
-abbrev pub of_period : Published → Period → List ℕ
-of_period plan q = period_text q.code q.remittance (currency_text plan.terms)
+abbrev pub of_period : Period → Terms → List ℕ
+of_period q terms = period_text q.code q.remittance terms.currency
 
 -- ---- the statement of an agent over its rows
 
@@ -60,8 +58,8 @@ pub record IsSettlement (of_period : List ℕ) (rows : List Posting) (s : Settle
 
 -- the two sides have one sum, which is the total
 pub record HasOneSum (s : Settlement) : Type 0 where
-  pub agents : sums (λ n. n.net) s.agents.items ≡ s.total
-  pub airlines : sums (λ n. n.net) s.airlines.items ≡ s.total
+  pub agents : sum_of (map (λ n. n.net) s.agents.items) ≡ s.total
+  pub airlines : sum_of (map (λ n. n.net) s.airlines.items) ≡ s.total
 
 -- the same nets, total and text
 pub record IsSameSettlement (s other : Settlement) : Type 0 where

@@ -1,33 +1,30 @@
 -- Sums over postings, the codes that have a line, and the nets in the words of the rules.
-use Rattle.std.specs.Prelude.{◌≡◌, ℕ, ℤ, pos, ◌+◌, ◌*◌, ◌^◌, ◌≤◌, ◌+ℤ◌, ◌-ℤ◌, ◌↔◌, Bool, ◌==◌, ◌&&◌, List, map, fold, unsigned_abs, unwrap_or}
+use Rattle.std.specs.Prelude.{◌≡◌, ℕ, ℤ, pos, ◌+◌, ◌*◌, ◌^◌, ◌≤◌, ◌+ℤ◌, ◌-ℤ◌, ◌↔◌, ◌==◌, List, map, unsigned_abs, unwrap_or}
 use Rattle.std.specs.BTreeMap.{BTreeMap, get}
 use Rattle.std.specs.declared.cmp.Ordering.{Ordering}
 use Rattle.std.specs.List.{filter, sum_by, Contains}
 use Rattle.std.specs.List.Sorted.{IsStrictlyIncreasing}
-use Rattle.bsp_rules.specs.Amounts.{net_of}
+use Rattle.bsp_rules.specs.Amounts.{sum_of}
+use Rattle.bsp_rules.specs.Nets.{living_net}
 use Rattle.bsp_rules.specs.declared.rows.Item.{Item}
 use Rattle.bsp_memos.specs.declared.fields.MemoFields.{MemoFields}
+use Rattle.bsp_memos.specs.Owed.{amount_owed, is_billed_in}
 use Rattle.bsp_statement.specs.declared.posting.Posting.{Posting}
 use Rattle.bsp_statement.specs.declared.figures.Figures.{Figures}
-use Rattle.bsp_statement.specs.Postings.{is_billed, amount_owed}
-
--- the sum of f over rows
-abbrev pub sums : {R : Type 0} → (R → ℤ) → List R → ℤ
-sums f rows = fold (λ sum row. sum +ℤ f row) (pos 0) rows
 
 -- ---- what a list of postings adds up to
 
 abbrev pub cash_of : List Posting → ℤ
-cash_of rows = sums (λ p. p.cash) rows
+cash_of rows = sum_of (map (λ p. p.cash) rows)
 
 abbrev pub credit_of : List Posting → ℤ
-credit_of rows = sums (λ p. p.credit) rows
+credit_of rows = sum_of (map (λ p. p.credit) rows)
 
 abbrev pub commission_of : List Posting → ℤ
-commission_of rows = sums (λ p. p.commission) rows
+commission_of rows = sum_of (map (λ p. p.commission) rows)
 
 abbrev pub memos_of : List Posting → ℤ
-memos_of rows = sums (λ p. p.memos) rows
+memos_of rows = sum_of (map (λ p. p.memos) rows)
 
 -- cash less commission plus memos
 abbrev pub net_of_postings : List Posting → ℤ
@@ -93,14 +90,10 @@ sum_at cmp sums code = unwrap_or (get cmp sums code) nothing
 
 -- ---- nets in the words of the rules
 
-abbrev pub lives_in : ℕ → Item → Bool
-lives_in period i = i.lives && (i.period == period)
-
 -- the sum of `net` over living items of a period, and of the memos billed in it
 abbrev pub net_of_rows : ℕ → List Item → List MemoFields → ℤ
 net_of_rows period items memos =
-    sums net_of (filter (lives_in period) items)
-    +ℤ sums (λ m. amount_owed m.kind m.amount) (filter (is_billed period) memos)
+    living_net period items +ℤ sum_of (map (λ m. amount_owed m.kind m.amount) (filter (is_billed_in period) memos))
 
 abbrev pub agent_net : ℕ → ℕ → List Item → List MemoFields → ℤ
 agent_net agent period items memos =

@@ -1,12 +1,11 @@
 -- The texts of statements and settlements.
-use Rattle.std.specs.Prelude.{ℕ, ◌-◌, ℤ, List, [], ◌∷◌, ◌++◌, length, replicate, codes, Option, Some, None}
+use Rattle.std.specs.Prelude.{ℕ, ◌-◌, ℤ, List, [], ◌∷◌, ◌++◌, length, replicate, codes}
 use Rattle.std.specs.List.{flat_map}
 use Rattle.std.specs.Fmt.{decimal}
 use Rattle.bsp_fields.specs.CivilDay.{CivilDay}
 use Rattle.bsp_fields.specs.Days.{day_text}
 use Rattle.bsp_fields.specs.Decimal.{fixed_digits}
 use Rattle.bsp_fields.specs.Money.{money_text}
-use Rattle.bsp_calendar.specs.declared.entries.Terms.{Terms}
 use Rattle.bsp_statement.specs.declared.posting.Posting.{Posting}
 use Rattle.bsp_statement.specs.declared.figures.Figures.{Figures}
 use Rattle.bsp_statement.specs.declared.nets.AgentNet.{AgentNet}
@@ -23,11 +22,6 @@ abbrev pub left : ℕ → List ℕ → List ℕ
 left width text = text ++ replicate (width - length text) 32
 
 -- ---- the first line
-
--- the letters of the currency, and none where no terms are published
-abbrev pub currency_text : Option Terms → List ℕ
-currency_text None = []
-currency_text (Some terms) = terms.currency
 
 unfoldable pub period_text : ℕ → CivilDay → List ℕ → List ℕ
 period_text period remittance currency =

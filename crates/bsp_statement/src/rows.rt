@@ -1,12 +1,12 @@
 //! The postings of rows.
 
 ghost use Rattle.std.specs.Prelude.{◌≡◌, ◌≤◌, ◌++◌, unsigned_abs, OnOk, IfOk};
-ghost use Rattle.bsp_statement.specs.Postings.{amount_owed, is_billed, is_counted, item_posting, item_postings, memo_posting, memo_postings, postings};
+ghost use Rattle.bsp_statement.specs.Postings.{is_counted, item_posting, item_postings, memo_posting, memo_postings, postings};
 ghost use Rattle.bsp_statement.specs.Tallies.{is_used, tally_posting, tally_postings};
 
 use crate::posting::Posting;
-use bsp_fields::{Amount, PeriodCode};
-use bsp_memos::{Memo, MemoFields, MemoKind};
+use bsp_fields::PeriodCode;
+use bsp_memos::{Memo, MemoFields};
 use bsp_ret::TransactionCode;
 use bsp_rules::{Item, Tally, amount_or_zero, card_amount, commission_amount};
 use std::alloc::{AllocError, Global};
@@ -15,7 +15,7 @@ use std::alloc::{AllocError, Global};
 fn is_counted(period: PeriodCode, item: &Item) -> bool
     ensures { result ≡ is_counted period item.now }
 {
-    item.lives && item.transaction.code != TransactionCode::Canx && item.period == period
+    item.lives_in(period) && item.transaction.code != TransactionCode::Canx
 }
 
 fn item_posting(item: &Item) -> Posting
@@ -33,25 +33,6 @@ fn item_posting(item: &Item) -> Posting
     }
 }
 
-/// What the agent owes by a memo: less than nothing by a credit memo.
-fn amount_owed(kind: MemoKind, amount: Amount) -> i64
-    ensures { result ≡ amount_owed kind amount }
-{
-    match kind {
-        MemoKind::Debit => amount.get(),
-        MemoKind::Credit => -amount.get(),
-    }
-}
-
-fn is_billed(period: PeriodCode, memo: &MemoFields) -> bool
-    ensures { result ≡ is_billed period memo.now }
-{
-    match memo.billed {
-        Some(other) => other == period,
-        None => false,
-    }
-}
-
 fn memo_posting(memo: &MemoFields) -> Posting
     ensures { result ≡ memo_posting memo.now }
 {
@@ -62,7 +43,7 @@ fn memo_posting(memo: &MemoFields) -> Posting
         cash: 0,
         credit: 0,
         commission: 0,
-        memos: amount_owed(memo.kind, memo.amount),
+        memos: memo.amount_owed().get(),
     }
 }
 
@@ -84,7 +65,7 @@ fn push_memos(out: &mut Vec<Posting>, period: PeriodCode, memos: &[Memo]) -> Res
 {
     for memo in memos {
         let fields = memo.fields();
-        if is_billed(period, fields) {
+        if fields.is_billed_in(period) {
             out.push(memo_posting(fields))?;
         }
     }

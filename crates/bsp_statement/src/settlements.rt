@@ -2,24 +2,26 @@
 
 ghost use Rattle.std.specs.Prelude.{◌≡◌, ◌++◌, List, Some, IfOk, OnOk, map, string_bytes};
 ghost use Rattle.std.specs.List.{flat_map, All};
+ghost use Rattle.bsp_calendar.specs.Published.{closed_period};
 ghost use Rattle.bsp_calendar.specs.declared.entries.Period.{Period};
+ghost use Rattle.bsp_calendar.specs.declared.entries.Terms.{Terms};
 ghost use Rattle.bsp_statement.specs.declared.nets.Settlement.{Settlement};
 ghost use Rattle.bsp_rules.specs.declared.rows.Item.{Item as Row};
 ghost use Rattle.bsp_memos.specs.declared.fields.MemoFields.{MemoFields};
 ghost use Rattle.bsp_statement.specs.Tallies.{AreTallies, tally_postings};
 ghost use Rattle.bsp_statement.specs.Postings.{postings};
 ghost use Rattle.bsp_statement.specs.Sums.{agent_net, airline_net};
-ghost use Rattle.bsp_statement.specs.Texts.{agent_line, airline_net_line, currency_text, period_text, settlement_text};
-ghost use Rattle.bsp_statement.specs.Reports.{Answers, HasOneSum, IsSameSettlement, IsSettlement, agent_net_of, airline_net_of, closed_period, of_period};
+ghost use Rattle.bsp_statement.specs.Texts.{agent_line, airline_net_line, period_text, settlement_text};
+ghost use Rattle.bsp_statement.specs.Reports.{Answers, HasOneSum, IsSameSettlement, IsSettlement, agent_net_of, airline_net_of, of_period};
 
 use crate::columns::push_net;
 use crate::fault::StatementFault;
 use crate::figures::{Figures, MOST_POSTINGS, by_agent, by_airline, total};
 use crate::nets::{AgentNet, AirlineNet, Settlement};
-use crate::period::{closed_period, push_period};
+use crate::period::{closed_with_terms, push_period};
 use crate::posting::Posting;
 use crate::rows::{postings_of, tally_postings};
-use bsp_calendar::{Period, Plan, Terms};
+use bsp_calendar::{Currency, Period, Plan};
 use bsp_fields::{AgentCode, AirlineCode, NoRoom, PeriodCode};
 use bsp_memos::Memo;
 use bsp_rules::{Item, Tally};
@@ -88,15 +90,15 @@ fn push_airlines(alloc: Global, out: &mut String, nets: &[AirlineNet]) -> Result
 fn settlement_text(
     alloc: Global,
     period: &Period,
-    terms: Option<Terms>,
+    currency: Currency,
     agents: &[AgentNet],
     airlines: &[AirlineNet],
     total: i128,
 ) -> Result<String, NoRoom>
-    ensures { IfOk result (λ text. string_bytes text ≡ settlement_text (period_text period.now.code period.now.remittance (currency_text terms)) agents.now airlines.now total) }
+    ensures { IfOk result (λ text. string_bytes text ≡ settlement_text (period_text period.now.code period.now.remittance currency) agents.now airlines.now total) }
 {
     let mut text = String::from_str(alloc, "SETTLEMENT ")?;
-    push_period(alloc, &mut text, period, terms)?;
+    push_period(alloc, &mut text, period, currency)?;
     push_agents(alloc, &mut text, agents)?;
     push_net(alloc, &mut text, "TOTAL", "AGENTS", total)?;
     push_airlines(alloc, &mut text, airlines)?;
@@ -108,10 +110,10 @@ fn settlement_text(
 fn write_settlement(
     alloc: Global,
     period: &Period,
-    terms: Option<Terms>,
+    currency: Currency,
     postings: &[Posting],
 ) -> Result<Settlement, NoRoom>
-    ensures { IfOk result (λ settlement. IsSettlement (period_text period.now.code period.now.remittance (currency_text terms)) postings.now settlement) }
+    ensures { IfOk result (λ settlement. IsSettlement (period_text period.now.code period.now.remittance currency) postings.now settlement) }
 {
     if postings.len() > MOST_POSTINGS {
         return Err(NoRoom);
@@ -119,7 +121,7 @@ fn write_settlement(
     let agents = agent_nets(alloc, &by_agent(alloc, postings)?)?;
     let airlines = airline_nets(alloc, &by_airline(alloc, postings)?)?;
     let total = total(postings).net;
-    let text = settlement_text(alloc, period, terms, &agents, &airlines, total)?;
+    let text = settlement_text(alloc, period, currency, &agents, &airlines, total)?;
     Ok(Settlement {
         agents,
         airlines,
@@ -146,17 +148,17 @@ pub fn settlement(
     memos: &[Memo],
     plan: &Plan,
 ) -> Result<Settlement, StatementFault>
-    ensures settlement { Answers plan.now period (λ q settlement. IsSettlement (of_period plan.now q) (postings period items.now memos.now) settlement) result }
-    ensures only { IfOk result (λ settlement. (q : Period) (other : Settlement) → closed_period plan.now period ≡ Some q → IsSettlement (of_period plan.now q) (postings period items.now memos.now) other → IsSameSettlement settlement other) }
+    ensures settlement { Answers plan.now period (λ q terms settlement. IsSettlement (of_period q terms) (postings period items.now memos.now) settlement) result }
+    ensures only { IfOk result (λ settlement. (q : Period) (terms : Terms) (other : Settlement) → closed_period plan.now period ≡ Some q → plan.now.terms ≡ Some terms → IsSettlement (of_period q terms) (postings period items.now memos.now) other → IsSameSettlement settlement other) }
     ensures one_sum { IfOk result HasOneSum }
     ensures agents { IfOk result (λ settlement. All (λ n. n.net ≡ agent_net n.agent period items.now memos.now) settlement.agents.items) }
     ensures airlines { IfOk result (λ settlement. All (λ n. n.net ≡ airline_net n.airline period items.now memos.now) settlement.airlines.items) }
 {
-    let Some(closed) = closed_period(plan, period) else {
+    let Some((closed, terms)) = closed_with_terms(plan, period) else {
         return Err(StatementFault::NotClosed);
     };
     let postings = postings_of(alloc, period, items, memos)?;
-    let settlement = write_settlement(alloc, &closed, plan.terms(), &postings)?;
+    let settlement = write_settlement(alloc, &closed, terms.currency, &postings)?;
     Ok(settlement)
 }
 
@@ -173,14 +175,14 @@ pub fn settlement_of(
     tallies: &[Tally],
     plan: &Plan,
 ) -> Result<Settlement, StatementFault>
-    ensures settlement { Answers plan.now period (λ q settlement. IsSettlement (of_period plan.now q) (tally_postings period tallies.now) settlement) result }
+    ensures settlement { Answers plan.now period (λ q terms settlement. IsSettlement (of_period q terms) (tally_postings period tallies.now) settlement) result }
     ensures one_sum { IfOk result HasOneSum }
-    ensures rows { (items : List Row) (memos : List MemoFields) → AreTallies items memos tallies.now → Answers plan.now period (λ q settlement. IsSettlement (of_period plan.now q) (postings period items memos) settlement) result }
+    ensures rows { (items : List Row) (memos : List MemoFields) → AreTallies items memos tallies.now → Answers plan.now period (λ q terms settlement. IsSettlement (of_period q terms) (postings period items memos) settlement) result }
 {
-    let Some(closed) = closed_period(plan, period) else {
+    let Some((closed, terms)) = closed_with_terms(plan, period) else {
         return Err(StatementFault::NotClosed);
     };
     let postings = tally_postings(alloc, period, tallies)?;
-    let settlement = write_settlement(alloc, &closed, plan.terms(), &postings)?;
+    let settlement = write_settlement(alloc, &closed, terms.currency, &postings)?;
     Ok(settlement)
 }

@@ -3,22 +3,24 @@
 ghost use Rattle.std.specs.Prelude.{◌≡◌, ℕ, ◌++◌, List, Some, IfOk, OnOk, string_bytes};
 ghost use Rattle.std.specs.List.{flat_map};
 ghost use Rattle.bsp_fields.specs.Decimal.{fixed_digits};
+ghost use Rattle.bsp_calendar.specs.Published.{closed_period};
 ghost use Rattle.bsp_calendar.specs.declared.entries.Period.{Period};
+ghost use Rattle.bsp_calendar.specs.declared.entries.Terms.{Terms};
 ghost use Rattle.bsp_rules.specs.declared.rows.Item.{Item as Row};
 ghost use Rattle.bsp_memos.specs.declared.fields.MemoFields.{MemoFields};
 ghost use Rattle.bsp_statement.specs.Tallies.{AreTallies, tally_postings};
 ghost use Rattle.bsp_statement.specs.Postings.{of_agent, postings};
 ghost use Rattle.bsp_statement.specs.Sums.{agent_net, net_of_postings};
-ghost use Rattle.bsp_statement.specs.Texts.{currency_text, figures_line, period_text};
-ghost use Rattle.bsp_statement.specs.Reports.{Answers, IsStatement, closed_period, of_period};
+ghost use Rattle.bsp_statement.specs.Texts.{figures_line, period_text};
+ghost use Rattle.bsp_statement.specs.Reports.{Answers, IsStatement, of_period};
 
 use crate::columns::{push_figures, push_heading};
 use crate::fault::StatementFault;
 use crate::figures::{Figures, MOST_POSTINGS, by_airline, total};
-use crate::period::{closed_period, push_period};
+use crate::period::{closed_with_terms, push_period};
 use crate::posting::Posting;
 use crate::rows::{postings_of, tally_postings};
-use bsp_calendar::{Period, Plan, Terms};
+use bsp_calendar::{Currency, Period, Plan};
 use bsp_fields::{AgentCode, AirlineCode, NoRoom, PeriodCode};
 use bsp_memos::Memo;
 use bsp_rules::{Item, Tally};
@@ -45,17 +47,17 @@ fn write_statement(
     alloc: Global,
     agent: AgentCode,
     period: &Period,
-    terms: Option<Terms>,
+    currency: Currency,
     postings: &[Posting],
 ) -> Result<String, NoRoom>
-    ensures { IfOk result (λ text. IsStatement agent (period_text period.now.code period.now.remittance (currency_text terms)) postings.now (string_bytes text)) }
+    ensures { IfOk result (λ text. IsStatement agent (period_text period.now.code period.now.remittance currency) postings.now (string_bytes text)) }
 {
     if postings.len() > MOST_POSTINGS {
         return Err(NoRoom);
     }
     let sums = by_airline(alloc, postings)?;
     let mut text = format!(in alloc; "STATEMENT {agent} ")?;
-    push_period(alloc, &mut text, period, terms)?;
+    push_period(alloc, &mut text, period, currency)?;
     push_heading(&mut text)?;
     push_airlines(alloc, &mut text, &sums)?;
     push_figures(alloc, &mut text, "TOT", &total(postings))?;
@@ -91,16 +93,16 @@ pub fn statement(
     memos: &[Memo],
     plan: &Plan,
 ) -> Result<String, StatementFault>
-    ensures text { Answers plan.now period (λ q text. IsStatement agent (of_period plan.now q) (of_agent agent (postings period items.now memos.now)) (string_bytes text)) result }
-    ensures only { IfOk result (λ text. (q : Period) (other : List ℕ) → closed_period plan.now period ≡ Some q → IsStatement agent (of_period plan.now q) (of_agent agent (postings period items.now memos.now)) other → other ≡ string_bytes text) }
+    ensures text { Answers plan.now period (λ q terms text. IsStatement agent (of_period q terms) (of_agent agent (postings period items.now memos.now)) (string_bytes text)) result }
+    ensures only { IfOk result (λ text. (q : Period) (terms : Terms) (other : List ℕ) → closed_period plan.now period ≡ Some q → plan.now.terms ≡ Some terms → IsStatement agent (of_period q terms) (of_agent agent (postings period items.now memos.now)) other → other ≡ string_bytes text) }
     ensures net { net_of_postings (of_agent agent (postings period items.now memos.now)) ≡ agent_net agent period items.now memos.now }
 {
-    let Some(closed) = closed_period(plan, period) else {
+    let Some((closed, terms)) = closed_with_terms(plan, period) else {
         return Err(StatementFault::NotClosed);
     };
     let mut postings = postings_of(alloc, period, items, memos)?;
     keep_agent(&mut postings, agent);
-    let text = write_statement(alloc, agent, &closed, plan.terms(), &postings)?;
+    let text = write_statement(alloc, agent, &closed, terms.currency, &postings)?;
     Ok(text)
 }
 
@@ -118,14 +120,14 @@ pub fn statement_of(
     tallies: &[Tally],
     plan: &Plan,
 ) -> Result<String, StatementFault>
-    ensures text { Answers plan.now period (λ q text. IsStatement agent (of_period plan.now q) (of_agent agent (tally_postings period tallies.now)) (string_bytes text)) result }
-    ensures rows { (items : List Row) (memos : List MemoFields) → AreTallies items memos tallies.now → Answers plan.now period (λ q text. IsStatement agent (of_period plan.now q) (of_agent agent (postings period items memos)) (string_bytes text)) result }
+    ensures text { Answers plan.now period (λ q terms text. IsStatement agent (of_period q terms) (of_agent agent (tally_postings period tallies.now)) (string_bytes text)) result }
+    ensures rows { (items : List Row) (memos : List MemoFields) → AreTallies items memos tallies.now → Answers plan.now period (λ q terms text. IsStatement agent (of_period q terms) (of_agent agent (postings period items memos)) (string_bytes text)) result }
 {
-    let Some(closed) = closed_period(plan, period) else {
+    let Some((closed, terms)) = closed_with_terms(plan, period) else {
         return Err(StatementFault::NotClosed);
     };
     let mut postings = tally_postings(alloc, period, tallies)?;
     keep_agent(&mut postings, agent);
-    let text = write_statement(alloc, agent, &closed, plan.terms(), &postings)?;
+    let text = write_statement(alloc, agent, &closed, terms.currency, &postings)?;
     Ok(text)
 }

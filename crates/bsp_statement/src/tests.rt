@@ -293,39 +293,71 @@ fn tallies(alloc: Global) -> Result<Vec<Tally>, Fail> {
     Ok(tallies)
 }
 
-/// The statement of an agent for 24011 over rows, on the plan in which it is closed.
+/// The statement of an agent for 24011 over rows, on a plan.
+fn statement_on(
+    alloc: Global,
+    agent: &[u8],
+    items: &[Item],
+    memos: &[Memo],
+    plan: &Plan,
+) -> Result<String, Fail> {
+    let agent = AgentCode::read(agent)?;
+    let period = code(b"24011").ok_or("period")?;
+    Ok(statement(alloc, agent, period, items, memos, plan)?)
+}
+
+/// That statement, on the plan in which 24011 is closed.
 fn statement_text(
     alloc: Global,
     agent: &[u8],
     items: &[Item],
     memos: &[Memo],
 ) -> Result<String, Fail> {
-    let agent = AgentCode::read(agent)?;
-    let period = code(b"24011").ok_or("period")?;
-    let plan = closed_plan(alloc)?;
-    Ok(statement(alloc, agent, period, items, memos, &plan)?)
+    statement_on(alloc, agent, items, memos, &closed_plan(alloc)?)
 }
 
-/// The settlement of 24011 over rows, on the same plan.
+/// The settlement of 24011 over rows, on a plan.
+fn settlement_on(
+    alloc: Global,
+    items: &[Item],
+    memos: &[Memo],
+    plan: &Plan,
+) -> Result<Settlement, Fail> {
+    let period = code(b"24011").ok_or("period")?;
+    Ok(settlement(alloc, period, items, memos, plan)?)
+}
+
+/// That settlement, on the plan in which 24011 is closed.
 fn settlement_found(alloc: Global, items: &[Item], memos: &[Memo]) -> Result<Settlement, Fail> {
-    let period = code(b"24011").ok_or("period")?;
-    let plan = closed_plan(alloc)?;
-    Ok(settlement(alloc, period, items, memos, &plan)?)
+    settlement_on(alloc, items, memos, &closed_plan(alloc)?)
 }
 
-/// The statement of an agent from the tallies.
-fn statement_of_tallies(alloc: Global, agent: &[u8]) -> Result<String, Fail> {
+/// The statement of an agent for 24011 from tallies, on a plan.
+fn statement_of_on(
+    alloc: Global,
+    agent: &[u8],
+    tallies: &[Tally],
+    plan: &Plan,
+) -> Result<String, Fail> {
     let agent = AgentCode::read(agent)?;
     let period = code(b"24011").ok_or("period")?;
-    let plan = closed_plan(alloc)?;
-    Ok(statement_of(alloc, agent, period, &tallies(alloc)?, &plan)?)
+    Ok(statement_of(alloc, agent, period, tallies, plan)?)
 }
 
-/// The settlement from the tallies.
-fn settlement_of_tallies(alloc: Global) -> Result<Settlement, Fail> {
+/// That statement from the tallies, on the plan in which 24011 is closed.
+fn statement_of_tallies(alloc: Global, agent: &[u8]) -> Result<String, Fail> {
+    statement_of_on(alloc, agent, &tallies(alloc)?, &closed_plan(alloc)?)
+}
+
+/// The settlement of 24011 from tallies, on a plan.
+fn settlement_of_on(alloc: Global, tallies: &[Tally], plan: &Plan) -> Result<Settlement, Fail> {
     let period = code(b"24011").ok_or("period")?;
-    let plan = closed_plan(alloc)?;
-    Ok(settlement_of(alloc, period, &tallies(alloc)?, &plan)?)
+    Ok(settlement_of(alloc, period, tallies, plan)?)
+}
+
+/// That settlement from the tallies, on the plan in which 24011 is closed.
+fn settlement_of_tallies(alloc: Global) -> Result<Settlement, Fail> {
+    settlement_of_on(alloc, &tallies(alloc)?, &closed_plan(alloc)?)
 }
 
 const AGENT_A: &[u8] = b"12345675";
@@ -354,6 +386,14 @@ fn the_statements_of_two_agents(rt: HostRuntime) -> Result<(), Fail> {
     Ok(())
 }
 
+/// Whether the second agent of a settlement is 76543213, to whom 50.00 are owed.
+fn agent_b_is_owed_50(found: &Settlement) -> bool {
+    match (found.agents.get(1), agent_b()) {
+        (Some(second), Some(agent)) => *second == AgentNet { agent, net: -5000 },
+        _ => false,
+    }
+}
+
 #[test]
 fn the_settlement_of_two_agents(rt: HostRuntime) -> Result<(), Fail> {
     let items = sales(rt.alloc())?;
@@ -363,9 +403,7 @@ fn the_settlement_of_two_agents(rt: HostRuntime) -> Result<(), Fail> {
     assert_eq!(rt; found.total, 20500);
     assert_eq!(rt; found.agents.len(), 2);
     assert_eq!(rt; found.airlines.len(), 2);
-    let agent = agent_b().ok_or("agent")?;
-    let wanted = AgentNet { agent, net: -5000 };
-    assert_eq!(rt; found.agents.get(1).copied(), Some(wanted));
+    assert!(rt; agent_b_is_owed_50(&found));
     Ok(())
 }
 
@@ -432,27 +470,43 @@ fn is_refused(alloc: Global, period: &[u8], plan: &Plan) -> Result<bool, Fail> {
     )
 }
 
+/// Whether they all answer so where 24011 alone is closed.
+fn is_refused_after_close(alloc: Global, period: &[u8]) -> Result<bool, Fail> {
+    is_refused(alloc, period, &closed_plan(alloc)?)
+}
+
+/// Whether they all answer so on 24011 before it is closed.
+fn is_refused_before_close(alloc: Global) -> Result<bool, Fail> {
+    is_refused(alloc, b"24011", &open_plan(alloc)?)
+}
+
 #[test]
 fn only_a_closed_period_has_reports(rt: HostRuntime) -> Result<(), Fail> {
-    let closed = closed_plan(rt.alloc())?;
-    assert!(rt; is_refused(rt.alloc(), b"24012", &closed)?);
-    assert!(rt; is_refused(rt.alloc(), b"24021", &closed)?);
-    let open = open_plan(rt.alloc())?;
-    assert!(rt; is_refused(rt.alloc(), b"24011", &open)?);
+    assert!(rt; is_refused_after_close(rt.alloc(), b"24012")?);
+    assert!(rt; is_refused_after_close(rt.alloc(), b"24021")?);
+    assert!(rt; is_refused_before_close(rt.alloc())?);
+    Ok(())
+}
+
+#[test]
+fn the_codes_of_the_faults(rt: HostRuntime) -> Result<(), Fail> {
     assert_eq!(rt; StatementFault::NotClosed.code(), "S01");
     assert_eq!(rt; StatementFault::NoMemory.code(), "S02");
     Ok(())
 }
 
-/// The statement from one tally whose cash is the largest of its type.
-fn wide_statement(alloc: Global) -> Result<String, Fail> {
-    let agent = agent_a().ok_or("agent")?;
-    let period = code(b"24011").ok_or("period")?;
-    let mut tally = tally(agent, b"125", b"24011").ok_or("tally")?;
+/// A tally whose cash is the largest of its type.
+fn wide_tally() -> Option<Tally> {
+    let mut tally = tally(agent_a()?, b"125", b"24011")?;
     tally.living = 1;
     tally.cash = i64::MAX;
-    let plan = closed_plan(alloc)?;
-    Ok(statement_of(alloc, agent, period, &[tally], &plan)?)
+    Some(tally)
+}
+
+/// The statement from that tally.
+fn wide_statement(alloc: Global) -> Result<String, Fail> {
+    let tallies = [wide_tally().ok_or("tally")?];
+    statement_of_on(alloc, AGENT_A, &tallies, &closed_plan(alloc)?)
 }
 
 #[test]

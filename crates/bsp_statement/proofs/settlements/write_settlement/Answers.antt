@@ -6,7 +6,7 @@ use Rattle.bsp_statement.specs.declared.nets.AgentNet.{AgentNet}
 use Rattle.bsp_statement.specs.declared.nets.AirlineNet.{AirlineNet}
 use Rattle.bsp_statement.specs.Postings.{of_agent, of_airline}
 use Rattle.bsp_statement.specs.Sums.{figures_of}
-use Rattle.bsp_statement.specs.Texts.{currency_text, period_text, settlement_text}
+use Rattle.bsp_statement.specs.Texts.{period_text, settlement_text}
 use Rattle.bsp_statement.specs.Reports.{agent_net_of, airline_net_of}
 use Rattle.bsp_statement.proofs.SettlementLemmas.{map_map}
 use Rattle.bsp_statement.proofs.settlements.write_settlement.Goals as goal
@@ -29,6 +29,6 @@ returns c =
           ∙ map_map airline_net_of (λ code. (code, figures_of (of_airline code rows))) of_airlines.codes;
       total = to_z-of_z w128 c.total-total.result.net (search rules) ∙ ap (λ (f : Figures). f.net) c.total-total.ensures;
       text_is = c.in_ok-text.ensures
-          ∙ ap (λ (nets : List AgentNet). settlement_text (period_text c.args.period.now.code c.args.period.now.remittance (currency_text c.args.terms)) nets c.deref-2.result.now (to_z w128 (of_z w128 c.total-total.result.net))) c.deref.ensures.value
-          ∙ ap (λ (nets : List AirlineNet). settlement_text (period_text c.args.period.now.code c.args.period.now.remittance (currency_text c.args.terms)) c.in_ok-agents.agents.items nets (to_z w128 (of_z w128 c.total-total.result.net))) c.deref-2.ensures.value;
+          ∙ ap (λ (nets : List AgentNet). settlement_text (period_text c.args.period.now.code c.args.period.now.remittance c.args.currency) nets c.deref-2.result.now (to_z w128 (of_z w128 c.total-total.result.net))) c.deref.ensures.value
+          ∙ ap (λ (nets : List AirlineNet). settlement_text (period_text c.args.period.now.code c.args.period.now.remittance c.args.currency) c.in_ok-agents.agents.items nets (to_z w128 (of_z w128 c.total-total.result.net))) c.deref-2.ensures.value;
     }

@@ -5,7 +5,7 @@ use Rattle.bsp_fields.specs.Decimal.{fixed_digits}
 use Rattle.bsp_statement.specs.declared.figures.Figures.{Figures}
 use Rattle.bsp_statement.specs.Postings.{of_airline}
 use Rattle.bsp_statement.specs.Sums.{figures_of}
-use Rattle.bsp_statement.specs.Texts.{airline_line, figures_line, period_text, statement_lines, currency_text}
+use Rattle.bsp_statement.specs.Texts.{airline_line, figures_line, period_text, statement_lines}
 use Rattle.bsp_statement.proofs.PieceLemmas.{flat_map_map, pieces4}
 use Rattle.bsp_statement.proofs.statements.write_statement.Goals as goal
 
@@ -24,5 +24,5 @@ returns c =
           c.in_ok-push_period.ensures c.in_ok-push_heading.ensures
           (c.in_ok-push_airlines.ensures ∙ ap (λ (ls : List ℕ). string_bytes c.push_heading.new.out ++ ls) lines)
           (c.in_ok-push_figures.ensures ∙ ap (λ (f : Figures). before_total ++ figures_line (codes "TOT") f) c.total.ensures)
-          ∙ ap (λ (start : List ℕ). start ++ (period_text c.args.period.now.code c.args.period.now.remittance (currency_text c.args.terms) ++ statement_lines grouped.codes rows)) c.in_ok-text.ensures.ok;
+          ∙ ap (λ (start : List ℕ). start ++ (period_text c.args.period.now.code c.args.period.now.remittance c.args.currency ++ statement_lines grouped.codes rows)) c.in_ok-text.ensures.ok;
     }
