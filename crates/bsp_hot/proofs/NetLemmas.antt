@@ -18,12 +18,13 @@ use Rattle.bsp_rules.specs.Amounts.{sum_of as sum_of_amounts, amount_or_zero, co
 use Rattle.bsp_rules.specs.SameContent.{same_code}
 use Rattle.bsp_rules.specs.declared.rows.Item.{Item as Row}
 use Rattle.bsp_memos.specs.declared.fields.MemoFields.{MemoFields}
+use Rattle.bsp_memos.specs.Owed.{amount_owed}
 use Rattle.bsp_hot_check.specs.declared.model.Sums.{Sums}
 use Rattle.bsp_hot_check.specs.Records.{Part, amounts, commission, related, cash, credit, exchange, Heading, Record, file_totals, part, code_totals, period_totals}
 use Rattle.bsp_hot_check.specs.Sums.{one_document, add, sum_of, with_net, all_codes}
 use Rattle.bsp_hot_check.specs.Hot.{Item, Office, File, part_sums, item_sums, items_sums, code_sums, file_sums, item_records, items_records, has_code, codes_records, closing_records, office_records, offices_records, headers, all_but_last, records_of}
 use Rattle.bsp_hot_check.proofs.SumLemmas.{plus_assoc, none_right}
-use Rattle.bsp_hot.specs.Rows.{Entry, amounts_parts, all_related_parts, cash_parts, credit_parts, exchange_parts, payment_parts, transaction_parts, memo_amount, is_reported, is_billed, row_entry, memo_entry, entries}
+use Rattle.bsp_hot.specs.Rows.{Entry, amounts_parts, all_related_parts, cash_parts, credit_parts, exchange_parts, payment_parts, transaction_parts, is_reported, is_billed, row_entry, memo_entry, entries}
 use Rattle.bsp_hot.specs.Files.{IsInOrder, with_entry, offices_of, file_of, part_net, record_net, airline_net}
 use Rattle.bsp_hot.specs.Nets.{lives_in, net_of_rows}
 use Rattle.bsp_hot.proofs.SumLemmas.{sum_of-cons, sum_of-append, sum_filtered, sums_agree, sum_of-IsPermutation}
@@ -202,10 +203,10 @@ rows_net airline period items =
           ap (λ (a : ℤ). cond (is_reported airline period i) a (pos 0)) (entry_adds (row_entry i))
           ∙ row_agrees (i.transaction.document.airline == airline) (i.period == period) i.lives i i.transaction.code
 
-memo_adds : (m : MemoFields) → entry_net (memo_entry m) ≡ memo_amount m.kind m.amount
-memo_adds m = entry_adds (memo_entry m) ∙ +ℤ_idl (memo_amount m.kind m.amount +ℤ pos 0) ∙ +ℤ_idr (memo_amount m.kind m.amount)
+memo_adds : (m : MemoFields) → entry_net (memo_entry m) ≡ amount_owed m.kind m.amount
+memo_adds m = entry_adds (memo_entry m) ∙ +ℤ_idl (amount_owed m.kind m.amount +ℤ pos 0) ∙ +ℤ_idr (amount_owed m.kind m.amount)
 
-memos_net : (memos : List MemoFields) → sum_of_amounts (map entry_net (map memo_entry memos)) ≡ sum_of_amounts (map (λ m. memo_amount m.kind m.amount) memos)
+memos_net : (memos : List MemoFields) → sum_of_amounts (map entry_net (map memo_entry memos)) ≡ sum_of_amounts (map (λ m. amount_owed m.kind m.amount) memos)
 memos_net memos = ap (λ (xs : List ℤ). sum_of_amounts xs) (map-map entry_net memo_entry memos) ∙ sums_agree _ _ memo_adds memos
 
 entries_net : (airline period : ℕ) (items : List Row) (memos : List MemoFields) → sum_of_amounts (map entry_net (entries airline period items memos)) ≡ net_of_rows airline period items memos

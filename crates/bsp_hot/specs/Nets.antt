@@ -4,7 +4,8 @@ use Rattle.std.specs.List.{filter}
 use Rattle.bsp_rules.specs.Amounts.{sum_of, net_of}
 use Rattle.bsp_rules.specs.declared.rows.Item.{Item as Row}
 use Rattle.bsp_memos.specs.declared.fields.MemoFields.{MemoFields}
-use Rattle.bsp_hot.specs.Rows.{memo_amount, is_billed}
+use Rattle.bsp_memos.specs.Owed.{amount_owed}
+use Rattle.bsp_hot.specs.Rows.{is_billed}
 
 -- a living item of the airline and the period
 abbrev pub lives_in : ℕ → ℕ → Row → Bool
@@ -14,4 +15,4 @@ lives_in airline period i = (i.transaction.document.airline == airline) && (i.pe
 abbrev pub net_of_rows : ℕ → ℕ → List Row → List MemoFields → ℤ
 net_of_rows airline period items memos =
     sum_of (map net_of (filter (lives_in airline period) items))
-    +ℤ sum_of (map (λ m. memo_amount m.kind m.amount) (filter (is_billed airline period) memos))
+    +ℤ sum_of (map (λ m. amount_owed m.kind m.amount) (filter (is_billed airline period) memos))

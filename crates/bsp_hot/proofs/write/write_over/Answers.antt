@@ -1,14 +1,13 @@
-use Rattle.std.proofs.Common.{◌≡◌, List, Option, Some, map, sym, ◌∙◌, subst}
-use Rattle.bsp_hot_check.specs.declared.model.HotFault.TheVariants.{H02}
+use Rattle.std.proofs.Common.{List, Option, map, sym, ◌∙◌, subst}
 use Rattle.bsp_hot_check.specs.Hot.{records_of}
 use Rattle.bsp_calendar.specs.declared.entries.Terms.{Terms}
 use Rattle.bsp_hot.specs.declared.offices.FileFacts.{FileFacts}
 use Rattle.bsp_hot.specs.declared.rows.Row.{Row}
 use Rattle.bsp_hot.specs.Sorting.{entry_of}
 use Rattle.bsp_hot.specs.Rows.{entries}
-use Rattle.bsp_hot.specs.Files.{closed_period, currency_of, file_of, IsInOrder}
+use Rattle.bsp_hot.specs.Files.{currency_of, file_of, IsInOrder}
 use Rattle.bsp_hot.specs.WrittenText.{IsTextOf}
-use Rattle.bsp_hot.proofs.Answering.{some_of, answers, stands_over}
+use Rattle.bsp_hot.proofs.Answering.{answers, stands_over}
 use Rattle.bsp_hot.proofs.write.write_over.Goals as goal
 
 pub returns-clause-written : goal.returns-clause-written
