@@ -3,6 +3,7 @@ pub mod Commission
 pub mod SameContent
 pub mod Refusals
 pub mod Amounts
+pub mod Nets
 pub mod Tickets
 pub mod Rows
 pub mod FactsOf

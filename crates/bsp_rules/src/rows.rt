@@ -1,5 +1,8 @@
 //! The rows of an agent that a verdict reads, and the sums over them.
 
+ghost use Rattle.std.specs.Prelude.{◌≡◌};
+ghost use Rattle.bsp_rules.specs.Nets.{lives_in};
+
 use bsp_fields::{AgentCode, AirlineCode, DocNumber, PeriodCode};
 use bsp_ret::Transaction;
 
@@ -14,6 +17,15 @@ pub struct Item {
     pub transaction: Transaction,
     /// Whether it lives: no CANX of its number has been accepted. A CANX itself always lives.
     pub lives: bool,
+}
+
+impl Item {
+    /// Whether it lives and was accepted in the period.
+    pub fn lives_in(&self, period: PeriodCode) -> bool
+        ensures { result ≡ lives_in period self.now }
+    {
+        self.lives && self.period == period
+    }
 }
 
 /// A range of an agent's stock, both ends included.
