@@ -1,6 +1,6 @@
 -- What the calls of a plan answer, over its periods.
 use Rattle.std.proofs.Common.{◌≡◌, ℕ, ◌+◌, ◌<◌, ◌≤◌, ◌==◌, Bool, true, false, not, List, [], ◌∷◌, ◌++◌, Some, None, Ok, Err, length, get_or, max, sym, refl, ◌∙◌, ap, arith, ltb, inl, inr}
-use Rattle.std.specs.Prelude.{Option, option_map}
+use Rattle.std.specs.Prelude.{Option, option_map, if◌then◌else◌}
 use Rattle.std.specs.List.{find}
 use Rattle.std.proofs.lemmas.Bool.{eqb-true, lt-ltb, le-ltb, ne_eqb, eq-eqb, both_ways, cases_lt}
 use Rattle.std.proofs.lemmas.List.{map_more}
@@ -20,6 +20,10 @@ use Rattle.bsp_calendar.proofs.PeriodLemmas.{period_is, has_period_code, among_i
 abbrev told : ℕ → List ℕ → Period → Period × Bool
 told code closed q = (q, is_among code closed)
 
+-- whether the period at a place is closed
+place_closed : (qs : List Period) (n code i : ℕ) → IsStanding qs n → IsPlaceOf qs code (Some i) → is_among code (first_codes qs n) ≡ ltb i n
+place_closed qs n code i h at = with_item qs i at.0 (λ q. rw (← eqb-true _ _ (at.1 q)) (among_is qs i n q h.distinct at.0))
+
 -- ---- `period`
 
 pub period_found : (qs : List Period) (n code i : ℕ) (q : Period) → IsStanding qs n → IsPlaceOf qs code (Some i) → q ≡ get_or qs i q → Some (q, ltb i n) ≡ option_map (told code (first_codes qs n)) (find (has_period_code code) qs)
@@ -30,6 +34,22 @@ period_found qs n code i q h at is =
 
 pub period_unknown : (qs : List Period) (n code : ℕ) → IsPlaceOf qs code None → None ≡ option_map (told code (first_codes qs n)) (find (has_period_code code) qs)
 period_unknown qs n code none = rw (find_none (has_period_code code) qs none) refl
+
+-- ---- `closed_period`
+
+abbrev closed_among : List Period → ℕ → ℕ → Option Period
+closed_among qs n code = if is_among code (first_codes qs n) then find (has_period_code code) qs else None
+
+pub closed_found : (qs : List Period) (n code i : ℕ) (q : Period) → IsStanding qs n → IsPlaceOf qs code (Some i) → q ≡ get_or qs i q → i < n → Some q ≡ closed_among qs n code
+closed_found qs n code i q h at is lt =
+    let closed = place_closed qs n code i h at ∙ lt-ltb i n lt in
+    rw (closed, period_is qs code i q h.distinct at.0 (eqb-true _ _ (at.1 q)), ← is) refl
+
+pub closed_open : (qs : List Period) (n code i : ℕ) → IsStanding qs n → IsPlaceOf qs code (Some i) → n ≤ i → None ≡ closed_among qs n code
+closed_open qs n code i h at ge = rw (place_closed qs n code i h at, le-ltb i n ge) refl
+
+pub closed_unknown : (qs : List Period) (n code : ℕ) → IsPlaceOf qs code None → None ≡ closed_among qs n code
+closed_unknown qs n code none = rw (among_none qs code n none) refl
 
 -- ---- `target`
 
@@ -61,9 +81,6 @@ plan_of terms airlines rates qs day n = record {
   day = day;
   closed = first_codes qs n;
 }
-
-place_closed : (qs : List Period) (n code i : ℕ) → IsStanding qs n → IsPlaceOf qs code (Some i) → is_among code (first_codes qs n) ≡ ltb i n
-place_closed qs n code i h at = with_item qs i at.0 (λ q. rw (← eqb-true _ _ (at.1 q)) (among_is qs i n q h.distinct at.0))
 
 abbrev next_among : List Period → ℕ → Option Period
 next_among qs n = find (λ q. not (is_among q.code (first_codes qs n))) qs

@@ -43,6 +43,10 @@ is_closed p code = is_among code p.closed
 abbrev pub period_of : Published → ℕ → Option Period
 period_of p code = find (λ q. q.code == code) p.periods
 
+-- the period of a code, where it is published and closed
+abbrev pub closed_period : Published → ℕ → Option Period
+closed_period p code = if is_closed p code then period_of p code else None
+
 -- a period that takes a transaction of this date of issue: not closed, its last day not before the date, and its first
 -- day not after the business day
 abbrev pub takes : Published → CivilDay → Period → Bool

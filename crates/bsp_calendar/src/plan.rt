@@ -44,7 +44,7 @@ pub struct Plan {
 
 impl Model for Plan {
     ghost use Rattle.bsp_calendar.specs.Published.{Published};
-    ghost use Rattle.bsp_calendar.specs.Standing.{IsStanding, first_codes};
+    ghost use Rattle.bsp_calendar.specs.Standing.{IsPlan, first_codes};
 
     ghost Value = { Published };
 
@@ -57,7 +57,7 @@ impl Model for Plan {
       closed = first_codes p.lists.periods p.closed;
     } };
 
-    ghost invariant = { λ p. IsStanding p.lists.periods p.closed };
+    ghost invariant = { λ p. IsPlan p.terms p.lists.periods p.closed };
 }
 
 impl Plan {

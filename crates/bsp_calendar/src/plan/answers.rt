@@ -1,7 +1,7 @@
 //! What a plan answers about its entries.
 
-ghost use Rattle.std.specs.Prelude.{◌≡◌, option_map};
-ghost use Rattle.bsp_calendar.specs.Published.{IsLatestRate, has_airline, is_closed, period_of, rate_on};
+ghost use Rattle.std.specs.Prelude.{◌≡◌, IfSome, IsSome, option_map};
+ghost use Rattle.bsp_calendar.specs.Published.{IsLatestRate, closed_period, has_airline, is_closed, period_of, rate_on};
 
 use crate::entries::{Period, Terms};
 use crate::keys::{has_airline, period_place, rate_key};
@@ -34,6 +34,17 @@ impl Plan {
     {
         let place = period_place(&self.lists.periods, code)?;
         Some((self.lists.periods.list()[place], place < self.closed))
+    }
+
+    /// The period of a code, where it is published and closed. Terms are then published too.
+    pub fn closed_period(&self, code: PeriodCode) -> Option<Period>
+        ensures value { result ≡ closed_period self.now code }
+        ensures terms { IfSome result (λ _. IsSome self.now.terms) }
+    {
+        match period_place(&self.lists.periods, code) {
+            Some(place) if place < self.closed => Some(self.lists.periods.list()[place]),
+            _ => None,
+        }
     }
 
     /// Currency, review days and documents limit, once they are published.

@@ -187,6 +187,27 @@ fn periods_are_closed_in_order(rt: HostRuntime) -> Result<(), Fail> {
 }
 
 #[test]
+fn only_a_closed_period_is_told_as_closed(rt: HostRuntime) -> Result<(), Fail> {
+    let mut plan = january(rt.alloc())?;
+    plan.set_day(day("2024-01-16")?)?;
+    assert_eq!(rt; plan.closed_period(code("24011")?), None);
+    plan.close_next(code("24011")?)?;
+    let rows = [
+        ("24011", Some(JANUARY[0])),
+        ("24012", None),
+        ("24013", None),
+    ];
+    for (digits, row) in rows {
+        let closed = match row {
+            Some(row) => Some(period(row)?),
+            None => None,
+        };
+        assert_eq!(rt; plan.closed_period(code(digits)?), closed);
+    }
+    Ok(())
+}
+
+#[test]
 fn a_period_that_has_not_begun_takes_nothing(rt: HostRuntime) -> Result<(), Fail> {
     let mut plan = january(rt.alloc())?;
     assert_eq!(rt; plan.target(day("2024-01-05")?), None);

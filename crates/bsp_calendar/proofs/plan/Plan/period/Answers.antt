@@ -13,4 +13,4 @@ pub returns : goal.returns
 returns c =
     let p = c.self.inside in
     let at : IsPlaceOf p.lists.periods c.args.code (Some c.in_ok-place.place) = c.in_ok-place.ensures in
-    rw (← c.self.view_is) (period_found p.lists.periods p.closed c.args.code c.in_ok-place.place c.index-list-place.result c.self.invariant at (rw (← c.list.ensures) c.index-list-place.is))
+    rw (← c.self.view_is) (period_found p.lists.periods p.closed c.args.code c.in_ok-place.place c.index-list-place.result c.self.invariant.standing at (rw (← c.list.ensures) c.index-list-place.is))
