@@ -15,18 +15,20 @@ use Rattle.bsp_ret.specs.declared.transactions.Amounts.{Amounts}
 use Rattle.bsp_ret.specs.declared.transactions.CardPayment.{CardPayment}
 use Rattle.bsp_ret.specs.declared.transactions.Transaction.{Transaction}
 use Rattle.bsp_rules.specs.Amounts.{sum_of as sum_of_amounts, amount_or_zero, commission_amount, net_of}
+use Rattle.bsp_rules.specs.Nets.{lives_in, living_net}
 use Rattle.bsp_rules.specs.SameContent.{same_code}
 use Rattle.bsp_rules.specs.declared.rows.Item.{Item as Row}
 use Rattle.bsp_memos.specs.declared.fields.MemoFields.{MemoFields}
+use Rattle.bsp_memos.specs.Owed.{amount_owed, is_billed_in}
 use Rattle.bsp_hot_check.specs.declared.model.Sums.{Sums}
 use Rattle.bsp_hot_check.specs.Records.{Part, amounts, commission, related, cash, credit, exchange, Heading, Record, file_totals, part, code_totals, period_totals}
 use Rattle.bsp_hot_check.specs.Sums.{one_document, add, sum_of, with_net, all_codes}
 use Rattle.bsp_hot_check.specs.Hot.{Item, Office, File, part_sums, item_sums, items_sums, code_sums, file_sums, item_records, items_records, has_code, codes_records, closing_records, office_records, offices_records, headers, all_but_last, records_of}
 use Rattle.bsp_hot_check.proofs.SumLemmas.{plus_assoc, none_right}
-use Rattle.bsp_hot.specs.Rows.{Entry, amounts_parts, all_related_parts, cash_parts, credit_parts, exchange_parts, payment_parts, transaction_parts, memo_amount, is_reported, is_billed, row_entry, memo_entry, entries}
+use Rattle.bsp_hot.specs.Rows.{Entry, amounts_parts, all_related_parts, cash_parts, credit_parts, exchange_parts, payment_parts, transaction_parts, is_reported, is_billed, row_entry, memo_entry, entries}
 use Rattle.bsp_hot.specs.Files.{IsInOrder, with_entry, offices_of, file_of, part_net, record_net, airline_net}
-use Rattle.bsp_hot.specs.Nets.{lives_in, net_of_rows}
-use Rattle.bsp_hot.proofs.SumLemmas.{sum_of-cons, sum_of-append, sum_filtered, sums_agree, sum_of-IsPermutation}
+use Rattle.bsp_hot.specs.Nets.{net_of_rows}
+use Rattle.bsp_hot.proofs.SumLemmas.{sum_of-cons, sum_of-append, filter_both, sum_filtered, sums_agree, sum_of-IsPermutation}
 
 abbrev net_of_sums : Sums → ℤ
 net_of_sums s = (with_net s).net
@@ -181,32 +183,47 @@ entry_adds e =
 -- by the tests of its airline, its period and its life, and by its code
 row_agrees : (own same lives : Bool) (i : Row) (code : TransactionCode) →
     cond (own && same && (same_code code Canx || lives)) (parts_net (transaction_parts code i.transaction)) (pos 0)
-    ≡ cond (own && same && lives) (net_of (record i { transaction = record i.transaction { code = code } })) (pos 0)
+    ≡ cond (own && (lives && same)) (net_of (record i { transaction = record i.transaction { code = code } })) (pos 0)
 row_agrees true true true i Tktt = document_net i.transaction
 row_agrees true true true i Rfnd = document_net i.transaction
 row_agrees true true true i Canx = refl
 row_agrees true true false i Tktt = refl
 row_agrees true true false i Rfnd = refl
 row_agrees true true false i Canx = refl
-row_agrees true false lives i code = refl
+row_agrees true false true i code = refl
+row_agrees true false false i code = refl
 row_agrees false same lives i code = refl
 
-rows_net : (airline period : ℕ) (items : List Row) → sum_of_amounts (map entry_net (map row_entry (filter (is_reported airline period) items))) ≡ sum_of_amounts (map net_of (filter (lives_in airline period) items))
+abbrev is_of : ℕ → Row → Bool
+is_of airline i = i.transaction.document.airline == airline
+
+rows_net : (airline period : ℕ) (items : List Row) → sum_of_amounts (map entry_net (map row_entry (filter (is_reported airline period) items))) ≡ living_net period (filter (is_of airline) items)
 rows_net airline period items =
     ap (λ (xs : List ℤ). sum_of_amounts xs) (map-map entry_net row_entry (filter (is_reported airline period) items))
     ∙ sum_filtered (λ i. entry_net (row_entry i)) (is_reported airline period) items
     ∙ sums_agree _ _ agrees items
-    ∙ sym (sum_filtered net_of (lives_in airline period) items) where
-      agrees : (i : Row) → cond (is_reported airline period i) (entry_net (row_entry i)) (pos 0) ≡ cond (lives_in airline period i) (net_of i) (pos 0)
+    ∙ sym (sum_filtered net_of (λ i. is_of airline i && lives_in period i) items)
+    ∙ ap (λ (rows : List Row). sum_of_amounts (map net_of rows)) (sym (filter_both (is_of airline) (lives_in period) items)) where
+      agrees : (i : Row) → cond (is_reported airline period i) (entry_net (row_entry i)) (pos 0) ≡ cond (is_of airline i && lives_in period i) (net_of i) (pos 0)
       agrees i =
           ap (λ (a : ℤ). cond (is_reported airline period i) a (pos 0)) (entry_adds (row_entry i))
           ∙ row_agrees (i.transaction.document.airline == airline) (i.period == period) i.lives i i.transaction.code
 
-memo_adds : (m : MemoFields) → entry_net (memo_entry m) ≡ memo_amount m.kind m.amount
-memo_adds m = entry_adds (memo_entry m) ∙ +ℤ_idl (memo_amount m.kind m.amount +ℤ pos 0) ∙ +ℤ_idr (memo_amount m.kind m.amount)
+memo_adds : (m : MemoFields) → entry_net (memo_entry m) ≡ amount_owed m.kind m.amount
+memo_adds m = entry_adds (memo_entry m) ∙ +ℤ_idl (amount_owed m.kind m.amount +ℤ pos 0) ∙ +ℤ_idr (amount_owed m.kind m.amount)
 
-memos_net : (memos : List MemoFields) → sum_of_amounts (map entry_net (map memo_entry memos)) ≡ sum_of_amounts (map (λ m. memo_amount m.kind m.amount) memos)
-memos_net memos = ap (λ (xs : List ℤ). sum_of_amounts xs) (map-map entry_net memo_entry memos) ∙ sums_agree _ _ memo_adds memos
+abbrev owed_of : MemoFields → ℤ
+owed_of m = amount_owed m.kind m.amount
+
+abbrev is_from : ℕ → MemoFields → Bool
+is_from airline m = m.airline == airline
+
+memos_net : (airline period : ℕ) (memos : List MemoFields) → sum_of_amounts (map entry_net (map memo_entry (filter (is_billed airline period) memos))) ≡ sum_of_amounts (map owed_of (filter (is_billed_in period) (filter (is_from airline) memos)))
+memos_net airline period memos =
+    let billed = filter (is_billed airline period) memos in
+    ap (λ (xs : List ℤ). sum_of_amounts xs) (map-map entry_net memo_entry billed)
+    ∙ sums_agree _ _ memo_adds billed
+    ∙ ap (λ (ms : List MemoFields). sum_of_amounts (map owed_of ms)) (sym (filter_both (is_from airline) (is_billed_in period) memos))
 
 entries_net : (airline period : ℕ) (items : List Row) (memos : List MemoFields) → sum_of_amounts (map entry_net (entries airline period items memos)) ≡ net_of_rows airline period items memos
 entries_net airline period items memos =
@@ -215,7 +232,7 @@ entries_net airline period items memos =
     ap (λ (xs : List ℤ). sum_of_amounts xs) (map-append entry_net rows billed)
     ∙ sum_of-append (map entry_net rows) (map entry_net billed)
     ∙ ap (λ (a : ℤ). a +ℤ sum_of_amounts (map entry_net billed)) (rows_net airline period items)
-    ∙ ap (λ (a : ℤ). sum_of_amounts (map net_of (filter (lives_in airline period) items)) +ℤ a) (memos_net (filter (is_billed airline period) memos))
+    ∙ ap (λ (a : ℤ). living_net period (filter (is_of airline) items) +ℤ a) (memos_net airline period memos)
 
 -- ---- offices over entries
 

@@ -3,7 +3,7 @@ use Rattle.std.specs.Prelude.{◌≡◌, ℕ, ℤ, pos, ◌+ℤ◌, ◌-ℤ◌, 
 use Rattle.std.specs.List.{list_all, filter, Contains}
 use Rattle.std.specs.List.Sorted.{IsPermutation, IsSortedBy, ties}
 use Rattle.bsp_fields.specs.Days.{record_text}
-use Rattle.bsp_calendar.specs.Published.{Published, is_closed, period_of}
+use Rattle.bsp_calendar.specs.Published.{Published, closed_period}
 use Rattle.bsp_calendar.specs.declared.entries.Period.{Period}
 use Rattle.bsp_calendar.specs.declared.entries.Terms.{Terms}
 use Rattle.bsp_ret.specs.Writing.{spaces, text_of}
@@ -103,10 +103,6 @@ pub record IsTooWide (airline : ℕ) (q : Period) (currency : List ℕ) (rows : 
   pub file : File
   pub over : IsFileOver airline q currency rows file
   pub wide : all_fit (records_of file) ≡ false
-
--- the period of a code, where it is published and closed
-abbrev pub closed_period : Published → ℕ → Option Period
-closed_period plan code = if is_closed plan code then period_of plan code else None
 
 -- H02 exactly where the period is unknown or not closed, else the text, H01 exactly where a count or a total does not fit, or want of memory
 abbrev pub AnswersOver : {A : Type 0} → (A → List ℕ) → Published → ℕ → ℕ → List Entry → Result A HotFault → Type 0

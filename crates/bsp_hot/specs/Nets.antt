@@ -1,17 +1,14 @@
 -- The net of an airline and a period over rows, in the words of the rules.
-use Rattle.std.specs.Prelude.{ℕ, ℤ, ◌+ℤ◌, ◌==◌, Bool, ◌&&◌, List, map}
+use Rattle.std.specs.Prelude.{ℕ, ℤ, ◌+ℤ◌, ◌==◌, List, map}
 use Rattle.std.specs.List.{filter}
-use Rattle.bsp_rules.specs.Amounts.{sum_of, net_of}
+use Rattle.bsp_rules.specs.Amounts.{sum_of}
+use Rattle.bsp_rules.specs.Nets.{living_net}
 use Rattle.bsp_rules.specs.declared.rows.Item.{Item as Row}
 use Rattle.bsp_memos.specs.declared.fields.MemoFields.{MemoFields}
-use Rattle.bsp_hot.specs.Rows.{memo_amount, is_billed}
+use Rattle.bsp_memos.specs.Owed.{amount_owed, is_billed_in}
 
--- a living item of the airline and the period
-abbrev pub lives_in : ℕ → ℕ → Row → Bool
-lives_in airline period i = (i.transaction.document.airline == airline) && (i.period == period) && i.lives
-
--- the nets of the living TKTT and RFND (that of a CANX is 0) and the amounts of the memos billed in the period, a credit memo below zero
+-- the net of the airline's living items of the period, and what is owed by its memos billed in it
 abbrev pub net_of_rows : ℕ → ℕ → List Row → List MemoFields → ℤ
 net_of_rows airline period items memos =
-    sum_of (map net_of (filter (lives_in airline period) items))
-    +ℤ sum_of (map (λ m. memo_amount m.kind m.amount) (filter (is_billed airline period) memos))
+    living_net period (filter (λ i. i.transaction.document.airline == airline) items)
+    +ℤ sum_of (map (λ m. amount_owed m.kind m.amount) (filter (is_billed_in period) (filter (λ m. m.airline == airline) memos)))

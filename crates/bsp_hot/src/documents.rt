@@ -4,7 +4,7 @@ ghost use Rattle.std.specs.Prelude.{◌≡◌, [], ◌∷◌, ◌++◌, OnOk, ma
 ghost use Rattle.bsp_hot_check.specs.Records.{part, number_in, transaction_header};
 ghost use Rattle.bsp_hot_check.specs.Hot.{item_records};
 ghost use Rattle.bsp_hot.specs.Output.{IsOutput, Adds, document_record};
-ghost use Rattle.bsp_hot.specs.Rows.{code_of, memo_code, memo_amount, amounts_parts, related_parts, all_related_parts, cash_parts, credit_parts, exchange_parts, payment_parts, transaction_item, memo_item};
+ghost use Rattle.bsp_hot.specs.Rows.{code_of, memo_code, amounts_parts, related_parts, all_related_parts, cash_parts, credit_parts, exchange_parts, payment_parts, transaction_item, memo_item};
 ghost use Rattle.bsp_hot.specs.Lines.{filled};
 
 use crate::output::Output;
@@ -49,19 +49,6 @@ pub(crate) fn document_number(document: DocNumber) -> u64
     ensures { result ≡ document }
 {
     number_in(&document.digits())
-}
-
-/// The amount of a memo, below zero of a credit memo.
-pub(crate) fn memo_amount(kind: MemoKind, amount: Amount) -> Amount
-    ensures { result ≡ memo_amount kind amount }
-{
-    match kind {
-        MemoKind::Debit => amount,
-        MemoKind::Credit => match Amount::new(-amount.get()) {
-            Ok(amount) => amount,
-            Err(_) => unreachable!(),
-        },
-    }
 }
 
 /// A memo's reason in the columns of a passenger's name.
@@ -219,7 +206,7 @@ impl Output {
         requires { IsOutput self.old }
         ensures { OnOk result (Adds self.old self.new (item_records place.now.airline place.now.agent place.now.transaction (memo_item memo.now))) }
     {
-        let amount = memo_amount(memo.kind, memo.amount);
+        let amount = memo.amount_owed();
         let fields = DocumentFields {
             code: memo_code(memo.kind),
             issued: memo.issued,

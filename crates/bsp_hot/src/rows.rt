@@ -43,11 +43,7 @@ fn is_billed(airline: AirlineCode, period: PeriodCode, memo: &Memo) -> bool
     ensures { result ≡ is_billed airline period memo.now }
 {
     let memo = memo.fields();
-    memo.airline == airline
-        && match memo.billed {
-            Some(other) => other == period,
-            None => false,
-        }
+    memo.airline == airline && memo.is_billed_in(period)
 }
 
 impl<'a> Row<'a> {

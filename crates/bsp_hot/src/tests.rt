@@ -338,20 +338,12 @@ fn file(
     Ok(write_hot(alloc, airline, period, items, memos, plan)?)
 }
 
-/// The same by a tally of one agent with this many sales.
-fn file_by_tally(
-    alloc: Global,
-    living: u32,
-    items: &[Item],
-    memos: &[Memo],
-    plan: &Plan,
-) -> Result<Vec<u8>, Fail> {
-    let airline = AirlineCode::read(b"125")?;
-    let period = PeriodCode::read(b"24011")?;
-    let tally = Tally {
+/// A tally of one agent that counts this many sales.
+fn tally(living: u32) -> Result<Tally, Fail> {
+    Ok(Tally {
         agent: AgentCode::read(b"12345675")?,
-        airline,
-        period,
+        airline: AirlineCode::read(b"125")?,
+        period: PeriodCode::read(b"24011")?,
         accepted: living,
         living,
         canx: 0,
@@ -360,8 +352,20 @@ fn file_by_tally(
         credit: 0,
         commission: 1_000,
         memos: 0,
-    };
-    Ok(write_hot_of(alloc, airline, period, items, memos, &[tally], plan)?)
+    })
+}
+
+/// The file of 125 for 24011 by tallies.
+fn file_by_tallies(
+    alloc: Global,
+    tallies: &[Tally],
+    items: &[Item],
+    memos: &[Memo],
+    plan: &Plan,
+) -> Result<Vec<u8>, Fail> {
+    let airline = AirlineCode::read(b"125")?;
+    let period = PeriodCode::read(b"24011")?;
+    Ok(write_hot_of(alloc, airline, period, items, memos, tallies, plan)?)
 }
 
 /// Why there is no file of 125 for a period, if there is none; want of memory is a failure of its own.
@@ -414,9 +418,22 @@ fn tallies_change_nothing(rt: HostRuntime) -> Result<(), Fail> {
     let plan = closed_plan(rt.alloc())?;
     let wanted = text(rt.alloc(), &FILE_OF_125, b"\n")?;
     for living in [0, 1, 1_000] {
-        let written = file_by_tally(rt.alloc(), living, &items, &memos, &plan)?;
+        let written = file_by_tallies(rt.alloc(), &[tally(living)?], &items, &memos, &plan)?;
         assert_eq!(rt; written.as_slice(), wanted.as_slice());
     }
+    Ok(())
+}
+
+/// They count far more documents than there is room for.
+#[test]
+fn tallies_of_too_many_documents_change_nothing(rt: HostRuntime) -> Result<(), Fail> {
+    let items = items_of(rt.alloc(), &SALES)?;
+    let memos = two_memos(rt.alloc())?;
+    let plan = closed_plan(rt.alloc())?;
+    let tallies = [tally(u32::MAX)?; 64];
+    let written = file_by_tallies(rt.alloc(), &tallies, &items, &memos, &plan)?;
+    let wanted = file(rt.alloc(), b"125", b"24011", &items, &memos, &plan)?;
+    assert_eq!(rt; written.as_slice(), wanted.as_slice());
     Ok(())
 }
 

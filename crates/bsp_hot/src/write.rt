@@ -1,35 +1,26 @@
 //! A HOT file over rows.
 
-ghost use Rattle.std.specs.Prelude.{◌≡◌, [], ℕ, List, All, Some, IfOk, map};
+ghost use Rattle.std.specs.Prelude.{◌≡◌, [], ℕ, List, All, Some, None, IfOk, MatchOption, map};
+ghost use Rattle.bsp_calendar.specs.Published.{closed_period};
 ghost use Rattle.bsp_hot_check.specs.Hot.{records_of};
 ghost use Rattle.bsp_hot.specs.Sorting.{entry_of, IsRow};
 ghost use Rattle.bsp_calendar.specs.declared.entries.Period.{Period as ClosedPeriod};
 ghost use Rattle.bsp_calendar.specs.declared.entries.Terms.{Terms as PublishedTerms};
 ghost use Rattle.bsp_hot.specs.Rows.{Entry, entries};
-ghost use Rattle.bsp_hot.specs.Files.{currency_of, closed_period, file_of, airline_net, IsInOrder, AnswersOver};
+ghost use Rattle.bsp_hot.specs.Files.{file_of, airline_net, IsInOrder, AnswersOver};
 ghost use Rattle.bsp_hot.specs.Nets.{net_of_rows};
 ghost use Rattle.bsp_hot.specs.Sound.{IsPublished, KeepRules, IsHotFileOver};
-ghost use Rattle.bsp_hot.specs.WrittenText.{IsTextOf};
+ghost use Rattle.bsp_hot.specs.WrittenText.{IsTextOf, AreFactsOf};
 
 use crate::offices::FileFacts;
 use crate::output::{LINE, Output};
 use crate::rows::{Row, rows_in_order};
-use bsp_calendar::{Currency, Period, Plan, Terms};
+use bsp_calendar::{Currency, Period, Plan};
 use bsp_fields::{AirlineCode, PeriodCode};
 use bsp_hot_check::HotFault;
 use bsp_memos::Memo;
 use bsp_rules::{Item, Tally};
 use std::alloc::Global;
-
-/// The period of a code, where it is published and closed.
-fn closed_period(plan: &Plan, code: PeriodCode) -> Option<Period>
-    ensures { result ≡ closed_period plan.now code }
-{
-    match plan.period(code) {
-        Some((period, true)) => Some(period),
-        _ => None,
-    }
-}
 
 /// What the types of a period and of a currency say of them.
 fn published(period: &Period, currency: Currency)
@@ -45,21 +36,18 @@ fn published(period: &Period, currency: Currency)
 }
 
 impl FileFacts {
-    /// Of a closed period; the currency is spaces where no terms are published.
-    fn of(airline: AirlineCode, period: Period, terms: Option<Terms>) -> FileFacts
-        ensures value { result ≡ record { airline = airline; period = period; currency = currency_of terms } }
-        ensures published { (known : PublishedTerms) → terms ≡ Some known → IsPublished period known.currency }
+    /// Of the period of a code, where it is published and closed. Terms are then published too.
+    fn of(airline: AirlineCode, period: PeriodCode, plan: &Plan) -> Option<FileFacts>
+        ensures { MatchOption result (closed_period plan.now period ≡ None) (AreFactsOf plan.now airline period) }
     {
-        let mut currency = [b' '; 3];
-        if let Some(terms) = terms {
-            published(&period, terms.currency);
-            currency = terms.currency.letters();
-        }
-        FileFacts {
+        let period = plan.closed_period(period)?;
+        let currency = plan.terms()?.currency;
+        published(&period, currency);
+        Some(FileFacts {
             airline,
             period,
-            currency,
-        }
+            currency: currency.letters(),
+        })
     }
 }
 
@@ -78,25 +66,23 @@ fn write_file(mut out: Output, file: &FileFacts, rows: &[Row]) -> Result<Vec<u8>
     Ok(out.text)
 }
 
-/// The file of an airline for a closed period over rows, behind nothing.
+/// The file of an airline and a period over rows, behind nothing.
 fn write_over<'a>(
     alloc: Global,
     out: Output,
     airline: AirlineCode,
     period: PeriodCode,
-    closed: Period,
     items: &'a [Item],
     memos: &'a [Memo],
     plan: &Plan,
 ) -> Result<Vec<u8>, HotFault>
     requires empty { out.text.items ≡ [] }
     requires none { out.records ≡ 0 }
-    requires closed { closed_period plan.now period ≡ Some closed }
     ensures written { AnswersOver (λ text. text.items) plan.now airline period (entries airline period items.now memos.now) result }
-    ensures stands { (terms : PublishedTerms) → plan.now.terms ≡ Some terms → KeepRules airline period items.now memos.now → IfOk result (λ text. (q : ClosedPeriod) × (closed_period plan.now period ≡ Some q) × IsHotFileOver airline q terms.currency (entries airline period items.now memos.now) text.items) }
+    ensures stands { KeepRules airline period items.now memos.now → IfOk result (λ text. (q : ClosedPeriod) × (terms : PublishedTerms) × (closed_period plan.now period ≡ Some q) × (plan.now.terms ≡ Some terms) × IsHotFileOver airline q terms.currency (entries airline period items.now memos.now) text.items) }
 {
+    let file = FileFacts::of(airline, period, plan).ok_or(HotFault::H02)?;
     let rows = rows_in_order(alloc, airline, period, items, memos)?;
-    let file = FileFacts::of(airline, closed, plan.terms());
     write_file(out, &file, &rows)
 }
 
@@ -122,13 +108,12 @@ pub fn write_hot<'a>(
     // The text of the records of the definition.
     ensures written { AnswersOver (λ text. text.items) plan.now airline period (entries airline period items.now memos.now) result }
     // For rows that keep the rules of the book it is a HOT file.
-    ensures stands { (terms : PublishedTerms) → plan.now.terms ≡ Some terms → KeepRules airline period items.now memos.now → IfOk result (λ text. (q : ClosedPeriod) × (closed_period plan.now period ≡ Some q) × IsHotFileOver airline q terms.currency (entries airline period items.now memos.now) text.items) }
+    ensures stands { KeepRules airline period items.now memos.now → IfOk result (λ text. (q : ClosedPeriod) × (terms : PublishedTerms) × (closed_period plan.now period ≡ Some q) × (plan.now.terms ≡ Some terms) × IsHotFileOver airline q terms.currency (entries airline period items.now memos.now) text.items) }
     // The net of its records in the words of the rules.
     ensures net { (q : ClosedPeriod) (currency : List ℕ) (sorted : List Entry) → IsInOrder (entries airline period items.now memos.now) sorted → airline_net (records_of (file_of airline q currency sorted)) ≡ net_of_rows airline period items.now memos.now }
 {
-    let closed = closed_period(plan, period).ok_or(HotFault::H02)?;
     let out = Output::new(alloc);
-    write_over(alloc, out, airline, period, closed, items, memos, plan)
+    write_over(alloc, out, airline, period, items, memos, plan)
 }
 
 /// About as many bytes as the file of these tallies has: six records for each TKTT and RFND, two for
@@ -163,10 +148,9 @@ pub fn write_hot_of<'a>(
     plan: &Plan,
 ) -> Result<Vec<u8>, HotFault>
     ensures written { AnswersOver (λ text. text.items) plan.now airline period (entries airline period items.now memos.now) result }
-    ensures stands { (terms : PublishedTerms) → plan.now.terms ≡ Some terms → KeepRules airline period items.now memos.now → IfOk result (λ text. (q : ClosedPeriod) × (closed_period plan.now period ≡ Some q) × IsHotFileOver airline q terms.currency (entries airline period items.now memos.now) text.items) }
+    ensures stands { KeepRules airline period items.now memos.now → IfOk result (λ text. (q : ClosedPeriod) × (terms : PublishedTerms) × (closed_period plan.now period ≡ Some q) × (plan.now.terms ≡ Some terms) × IsHotFileOver airline q terms.currency (entries airline period items.now memos.now) text.items) }
     ensures net { (q : ClosedPeriod) (currency : List ℕ) (sorted : List Entry) → IsInOrder (entries airline period items.now memos.now) sorted → airline_net (records_of (file_of airline q currency sorted)) ≡ net_of_rows airline period items.now memos.now }
 {
-    let closed = closed_period(plan, period).ok_or(HotFault::H02)?;
     let out = Output::with_room(alloc, room_for(airline, period, tallies));
-    write_over(alloc, out, airline, period, closed, items, memos, plan)
+    write_over(alloc, out, airline, period, items, memos, plan)
 }
