@@ -14,7 +14,7 @@ use Rattle.bsp_hot.specs.Rows.{Entry, entries}
 use Rattle.bsp_hot.specs.Files.{currency_of, file_of, IsInOrder, IsWritten, AnswersOver}
 use Rattle.bsp_hot.specs.declared.offices.FileFacts.{FileFacts}
 use Rattle.bsp_hot.specs.WrittenText.{IsTextOf, AreFactsOf}
-use Rattle.bsp_hot.specs.Sound.{IsPublished, KeepRules, IsHotFileOver}
+use Rattle.bsp_hot.specs.Sound.{AreInBounds, KeepRules, IsHotFileOver}
 use Rattle.bsp_hot.proofs.NetLemmas.{net_is}
 use Rattle.bsp_hot.proofs.WrittenFiles.{written_is_hot}
 
@@ -54,9 +54,9 @@ answers characters plan airline code q rows sorted (Err (H04 at)) closed in_orde
 
 -- for rows that keep the rules it is a HOT file
 pub stands_over : {A : Type 0} (characters : A → List ℕ) (plan : Published) (airline code : ℕ) (q : Period) (terms : Terms) (items : List Row) (memos : List MemoFields) (sorted : List Entry) (result : Result A HotFault)
-    → closed_period plan code ≡ Some q → plan.terms ≡ Some terms → IsPublished q terms.currency → KeepRules airline code items memos → IsInOrder (entries airline code items memos) sorted → IsTextOf characters (records_of (file_of airline q terms.currency sorted)) result
+    → closed_period plan code ≡ Some q → plan.terms ≡ Some terms → AreInBounds airline q terms.currency → KeepRules airline code items memos → IsInOrder (entries airline code items memos) sorted → IsTextOf characters (records_of (file_of airline q terms.currency sorted)) result
     → IfOk result (λ x. (p : Period) × (known : Terms) × (closed_period plan code ≡ Some p) × (plan.terms ≡ Some known) × IsHotFileOver airline p known.currency (entries airline code items memos) (characters x))
-stands_over characters plan airline code q terms items memos sorted (Err e) closed known published keep in_order is = tt
-stands_over characters plan airline code q terms items memos sorted (Ok x) closed known published keep in_order is =
+stands_over characters plan airline code q terms items memos sorted (Err e) closed known bounds keep in_order is = tt
+stands_over characters plan airline code q terms items memos sorted (Ok x) closed known bounds keep in_order is =
     let written = written_over airline q terms.currency (entries airline code items memos) sorted (characters x) in_order is.0 is.1 in
-    (q, terms, closed, known, record { file = written.file; over = written.over; stands = written_is_hot airline code q terms.currency items memos (characters x) keep published written })
+    (q, terms, closed, known, record { file = written.file; over = written.over; stands = written_is_hot airline code q terms.currency items memos (characters x) keep bounds written })

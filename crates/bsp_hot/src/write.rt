@@ -9,7 +9,7 @@ ghost use Rattle.bsp_calendar.specs.declared.entries.Terms.{Terms as PublishedTe
 ghost use Rattle.bsp_hot.specs.Rows.{Entry, entries};
 ghost use Rattle.bsp_hot.specs.Files.{file_of, airline_net, IsInOrder, AnswersOver};
 ghost use Rattle.bsp_hot.specs.Nets.{net_of_rows};
-ghost use Rattle.bsp_hot.specs.Sound.{IsPublished, KeepRules, IsHotFileOver};
+ghost use Rattle.bsp_hot.specs.Sound.{AreInBounds, KeepRules, IsHotFileOver};
 ghost use Rattle.bsp_hot.specs.WrittenText.{IsTextOf, AreFactsOf};
 
 use crate::offices::FileFacts;
@@ -22,18 +22,10 @@ use bsp_memos::Memo;
 use bsp_rules::{Item, Tally};
 use std::alloc::Global;
 
-/// What the types of a period and of a currency say of them.
-fn published(period: &Period, currency: Currency)
-    ensures { IsPublished period.now currency }
-{
-    let _days = (
-        period.first.number(),
-        period.last.number(),
-        period.remittance.number(),
-    );
-    let _code = period.code.digits();
-    let _letters = currency.letters();
-}
+/// What the types say of an airline, a period and a currency.
+fn bounds(airline: AirlineCode, period: Period, currency: Currency)
+    ensures { AreInBounds airline period currency }
+{}
 
 impl FileFacts {
     /// Of the period of a code, where it is published and closed. Terms are then published too.
@@ -42,7 +34,7 @@ impl FileFacts {
     {
         let period = plan.closed_period(period)?;
         let currency = plan.terms()?.currency;
-        published(&period, currency);
+        bounds(airline, period, currency);
         Some(FileFacts {
             airline,
             period,
@@ -66,24 +58,22 @@ fn write_file(mut out: Output, file: &FileFacts, rows: &[Row]) -> Result<Vec<u8>
     Ok(out.text)
 }
 
-/// The file of an airline and a period over rows, behind nothing.
+/// The file of an airline and a period over rows, with that much room for its text at once.
 fn write_over<'a>(
     alloc: Global,
-    out: Output,
+    room: usize,
     airline: AirlineCode,
     period: PeriodCode,
     items: &'a [Item],
     memos: &'a [Memo],
     plan: &Plan,
 ) -> Result<Vec<u8>, HotFault>
-    requires empty { out.text.items ≡ [] }
-    requires none { out.records ≡ 0 }
     ensures written { AnswersOver (λ text. text.items) plan.now airline period (entries airline period items.now memos.now) result }
     ensures stands { KeepRules airline period items.now memos.now → IfOk result (λ text. (q : ClosedPeriod) × (terms : PublishedTerms) × (closed_period plan.now period ≡ Some q) × (plan.now.terms ≡ Some terms) × IsHotFileOver airline q terms.currency (entries airline period items.now memos.now) text.items) }
 {
     let file = FileFacts::of(airline, period, plan).ok_or(HotFault::H02)?;
     let rows = rows_in_order(alloc, airline, period, items, memos)?;
-    write_file(out, &file, &rows)
+    write_file(Output::with_room(alloc, room), &file, &rows)
 }
 
 /// The HOT file of an airline for a closed period, over the airline's rows among those handed in, in
@@ -112,8 +102,7 @@ pub fn write_hot<'a>(
     // The net of its records in the words of the rules.
     ensures net { (q : ClosedPeriod) (currency : List ℕ) (sorted : List Entry) → IsInOrder (entries airline period items.now memos.now) sorted → airline_net (records_of (file_of airline q currency sorted)) ≡ net_of_rows airline period items.now memos.now }
 {
-    let out = Output::new(alloc);
-    write_over(alloc, out, airline, period, items, memos, plan)
+    write_over(alloc, 0, airline, period, items, memos, plan)
 }
 
 /// About as many bytes as the file of these tallies has: six records for each TKTT and RFND, two for
@@ -151,6 +140,6 @@ pub fn write_hot_of<'a>(
     ensures stands { KeepRules airline period items.now memos.now → IfOk result (λ text. (q : ClosedPeriod) × (terms : PublishedTerms) × (closed_period plan.now period ≡ Some q) × (plan.now.terms ≡ Some terms) × IsHotFileOver airline q terms.currency (entries airline period items.now memos.now) text.items) }
     ensures net { (q : ClosedPeriod) (currency : List ℕ) (sorted : List Entry) → IsInOrder (entries airline period items.now memos.now) sorted → airline_net (records_of (file_of airline q currency sorted)) ≡ net_of_rows airline period items.now memos.now }
 {
-    let out = Output::with_room(alloc, room_for(airline, period, tallies));
-    write_over(alloc, out, airline, period, items, memos, plan)
+    let room = room_for(airline, period, tallies);
+    write_over(alloc, room, airline, period, items, memos, plan)
 }

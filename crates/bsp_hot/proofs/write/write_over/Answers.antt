@@ -38,4 +38,4 @@ returns-clause-written c =
 pub returns-clause-stands : goal.returns-clause-stands
 returns-clause-stands c = λ keep.
     let f = facts c in
-    stands_over (λ text. text.items) c.args.plan.now c.args.airline c.args.period c.in_ok-file.file.period f.terms c.args.items.now c.args.memos.now (sorted c) c.write_file.result f.closed f.known f.published keep (in_order c) (text c)
+    stands_over (λ text. text.items) c.args.plan.now c.args.airline c.args.period c.in_ok-file.file.period f.terms c.args.items.now c.args.memos.now (sorted c) c.write_file.result f.closed f.known f.bounds keep (in_order c) (text c)
