@@ -620,21 +620,40 @@ fn the_first_row_tells(rt: HostRuntime) {
     }
 }
 
-/// The verdict on a transaction that agent 12345675 reports on 2024-01-05, by these facts.
-fn verdict_by(
+/// The verdict on a transaction on a day, by these facts.
+fn verdict_on(
     alloc: Global,
-    transaction: Option<Transaction>,
-    facts: Option<Facts>,
-) -> Option<&'static str> {
-    let plan = plan(alloc, 1000, b"2024-01-05")?;
-    let reporter = Reporter::Agent(AgentCode::read(b"12345675").ok()?);
-    let verdict = judged_by(reporter, transaction.as_ref()?, facts.as_ref()?, &plan);
-    Some(verdict_text(verdict))
+    day: &[u8],
+    reporter: Reporter,
+    transaction: &Transaction,
+    facts: &Facts,
+) -> &'static str {
+    match plan(alloc, 1000, day) {
+        Some(plan) => verdict_text(judged_by(reporter, transaction, facts, &plan)),
+        None => "no plan",
+    }
 }
 
-/// That verdict, where there is one.
+/// The verdict on a transaction that agent 12345675 reports on 2024-01-05, by these facts.
+fn told_of(alloc: Global, transaction: &Transaction, facts: &Facts) -> &'static str {
+    match AgentCode::read(b"12345675") {
+        Ok(agent) => verdict_on(
+            alloc,
+            b"2024-01-05",
+            Reporter::Agent(agent),
+            transaction,
+            facts,
+        ),
+        Err(_) => "no agent",
+    }
+}
+
+/// That verdict, where there are a transaction and facts.
 fn told_by(alloc: Global, transaction: Option<Transaction>, facts: Option<Facts>) -> &'static str {
-    verdict_by(alloc, transaction, facts).unwrap_or("no verdict")
+    match (&transaction, &facts) {
+        (Some(transaction), Some(facts)) => told_of(alloc, transaction, facts),
+        _ => "no case",
+    }
 }
 
 /// That verdict on a transaction of a number that nothing stands under.
@@ -697,16 +716,16 @@ fn each_fact_has_its_code(rt: HostRuntime) {
 }
 
 /// The verdict on a sale of 2024-02-03 on 2024-02-05, after all periods.
-fn told_late(alloc: Global) -> Option<&'static str> {
-    let plan = plan(alloc, 1000, b"2024-02-05")?;
-    let late = issued_on(ticket(), b"2024-02-03");
-    let verdict = judged_by(Reporter::Office, late.as_ref()?, &no_rows(), &plan);
-    Some(verdict_text(verdict))
+fn told_late(alloc: Global) -> &'static str {
+    match &issued_on(ticket(), b"2024-02-03") {
+        Some(late) => verdict_on(alloc, b"2024-02-05", Reporter::Office, late, &no_rows()),
+        None => "no ticket",
+    }
 }
 
 #[test]
 fn no_period_is_e10(rt: HostRuntime) -> Result<(), Fail> {
-    assert_eq!(rt; told_late(rt.alloc()), Some("E10"));
+    assert_eq!(rt; told_late(rt.alloc()), "E10");
     let told = format!(in rt.alloc(); "{}", Refusal::NoPeriod)?;
     assert_eq!(rt; told.as_str(), "E10: there is no period to bill it in");
     Ok(())
