@@ -265,6 +265,14 @@ fn memos_of(alloc: Global, fields: &[MemoFields]) -> Result<Vec<Memo>, Fail> {
     Ok(memos)
 }
 
+/// Rows, and the plan under which they were accepted.
+#[derive(Drop)]
+struct Book {
+    items: Vec<Item>,
+    memos: Vec<Memo>,
+    plan: Plan,
+}
+
 /// A debit memo of 220, and a credit memo of 125 to 76543213.
 fn two_memos(alloc: Global) -> Result<Vec<Memo>, Fail> {
     let other = MemoFields {
@@ -273,6 +281,15 @@ fn two_memos(alloc: Global) -> Result<Vec<Memo>, Fail> {
     };
     let owed = debit(b"220", 7_000_000_001, 3_000, b"FARE DIFFERENCE")?;
     memos_of(alloc, &[owed, other])
+}
+
+/// The two sales and these memos.
+fn sales(alloc: Global, plan: Plan) -> Result<Book, Fail> {
+    Ok(Book {
+        items: items_of(alloc, &SALES)?,
+        memos: two_memos(alloc)?,
+        plan,
+    })
 }
 
 /// A credit memo, and a debit memo of 50.00 that was reduced to 30.00.
@@ -286,6 +303,15 @@ fn reduced_and_credit(alloc: Global) -> Result<Vec<Memo>, Fail> {
         alloc,
         &[credit(b"125", 6_000_000_001, 100, b"FARE")?, reduced],
     )
+}
+
+/// The documents of every kind.
+fn kinds(alloc: Global) -> Result<Book, Fail> {
+    Ok(Book {
+        items: items_of(alloc, &KINDS)?,
+        memos: reduced_and_credit(alloc)?,
+        plan: closed_plan(alloc)?,
+    })
 }
 
 /// What is in no file of 125 for 24011: an item of another airline, one of another period, and a
@@ -324,18 +350,34 @@ fn push_other_memos(alloc: Global, memos: &mut Vec<Memo>) -> Result<(), Fail> {
     Ok(())
 }
 
+/// The same documents in another order, with these rows among them.
+fn kinds_among_others(alloc: Global) -> Result<Book, Fail> {
+    let mut book = kinds(alloc)?;
+    push_other_items(alloc, &mut book.items)?;
+    push_other_memos(alloc, &mut book.memos)?;
+    book.items.reverse();
+    book.memos.reverse();
+    Ok(book)
+}
+
 /// The file of an airline for a period.
-fn file(
-    alloc: Global,
-    airline: &[u8],
-    period: &[u8],
-    items: &[Item],
-    memos: &[Memo],
-    plan: &Plan,
-) -> Result<Vec<u8>, Fail> {
+fn file(alloc: Global, book: &Book, airline: &[u8], period: &[u8]) -> Result<Vec<u8>, Fail> {
     let airline = AirlineCode::read(airline)?;
     let period = PeriodCode::read(period)?;
-    Ok(write_hot(alloc, airline, period, items, memos, plan)?)
+    Ok(write_hot(alloc, airline, period, &book.items, &book.memos, &book.plan)?)
+}
+
+/// Whether the file of an airline for a period has these lines.
+fn is_written(
+    alloc: Global,
+    book: &Book,
+    airline: &[u8],
+    period: &[u8],
+    lines: &[&[u8]],
+) -> Result<bool, Fail> {
+    let written = file(alloc, book, airline, period)?;
+    let wanted = text(alloc, lines, b"\n")?;
+    Ok(written.as_slice() == wanted.as_slice())
 }
 
 /// A tally of one agent that counts this many sales.
@@ -356,70 +398,111 @@ fn tally(living: u32) -> Result<Tally, Fail> {
 }
 
 /// The file of 125 for 24011 by tallies.
-fn file_by_tallies(
-    alloc: Global,
-    tallies: &[Tally],
-    items: &[Item],
-    memos: &[Memo],
-    plan: &Plan,
-) -> Result<Vec<u8>, Fail> {
+fn file_by_tallies(alloc: Global, book: &Book, tallies: &[Tally]) -> Result<Vec<u8>, Fail> {
     let airline = AirlineCode::read(b"125")?;
     let period = PeriodCode::read(b"24011")?;
-    Ok(write_hot_of(alloc, airline, period, items, memos, tallies, plan)?)
+    Ok(write_hot_of(
+        alloc,
+        airline,
+        period,
+        &book.items,
+        &book.memos,
+        tallies,
+        &book.plan,
+    )?)
+}
+
+/// Whether the file of 125 for 24011 by tallies has the lines of that of the two sales.
+fn is_written_by_tallies(alloc: Global, book: &Book, tallies: &[Tally]) -> Result<bool, Fail> {
+    let written = file_by_tallies(alloc, book, tallies)?;
+    let wanted = text(alloc, &FILE_OF_125, b"\n")?;
+    Ok(written.as_slice() == wanted.as_slice())
+}
+
+/// Whether the file of 125 for 24011 by tallies is the one without them.
+fn is_same_by_tallies(alloc: Global, book: &Book, tallies: &[Tally]) -> Result<bool, Fail> {
+    let written = file_by_tallies(alloc, book, tallies)?;
+    let wanted = file(alloc, book, b"125", b"24011")?;
+    Ok(written.as_slice() == wanted.as_slice())
 }
 
 /// Why there is no file of 125 for a period, if there is none; want of memory is a failure of its own.
-fn fault(
-    alloc: Global,
-    period: &[u8],
-    memos: &[Memo],
-    plan: &Plan,
-) -> Result<Option<HotFault>, Fail> {
+fn fault(alloc: Global, book: &Book, period: &[u8]) -> Result<Option<HotFault>, Fail> {
     let airline = AirlineCode::read(b"125")?;
     let period = PeriodCode::read(period)?;
-    match write_hot(alloc, airline, period, &[], memos, plan) {
+    match write_hot(alloc, airline, period, &book.items, &book.memos, &book.plan) {
         Ok(_) => Ok(None),
         Err(HotFault::H03) => Err(HotFault::H03)?,
         Err(fault) => Ok(Some(fault)),
     }
 }
 
-/// What the checker tells of a text.
-fn totals(bytes: &[u8]) -> Result<HotTotals, Fail> {
-    Ok(check_hot(bytes)?)
+/// The same without rows, where these periods are closed.
+fn fault_without_rows(
+    alloc: Global,
+    closed: &[&[u8]],
+    period: &[u8],
+) -> Result<Option<HotFault>, Fail> {
+    let book = Book {
+        items: Vec::new(alloc),
+        memos: Vec::new(alloc),
+        plan: plan_on(alloc, b"2024-01-16", closed)?,
+    };
+    fault(alloc, &book, period)
 }
 
-/// The same of lines ended by LF, by CR LF, and by LF but for the last.
-fn totals_of_lines(alloc: Global, lines: &[&[u8]]) -> Result<[HotTotals; 3], Fail> {
+/// What the checker tells of lines with these ends.
+fn totals_of_lines(alloc: Global, lines: &[&[u8]], end: &[u8]) -> Result<HotTotals, Fail> {
+    let bytes = text(alloc, lines, end)?;
+    Ok(check_hot(&bytes)?)
+}
+
+/// The same of lines whose last one has no end.
+fn totals_of_unended(alloc: Global, lines: &[&[u8]]) -> Result<HotTotals, Fail> {
     let bytes = text(alloc, lines, b"\n")?;
-    let other_ends = text(alloc, lines, b"\r\n")?;
-    let unended = &bytes[..bytes.len().saturating_sub(1)];
-    Ok([totals(&bytes)?, totals(&other_ends)?, totals(unended)?])
+    Ok(check_hot(&bytes[..bytes.len().saturating_sub(1)])?)
+}
+
+/// The same of the file of 125 for 24011.
+fn totals_of_file(alloc: Global, book: &Book) -> Result<HotTotals, Fail> {
+    let bytes = file(alloc, book, b"125", b"24011")?;
+    Ok(check_hot(&bytes)?)
+}
+
+/// Billed debit memos of the largest amount.
+fn largest_memos(alloc: Global, count: u64) -> Result<Vec<Memo>, Fail> {
+    let mut memos = Vec::new(alloc);
+    for number in 0..count {
+        let fields = debit(b"125", number, 99_999_999_999, b"FARE")?;
+        memos.push(Memo::restore(fields).ok_or("memo")?)?;
+    }
+    Ok(memos)
+}
+
+/// That many of them alone.
+fn largest(alloc: Global, count: u64) -> Result<Book, Fail> {
+    Ok(Book {
+        items: Vec::new(alloc),
+        memos: largest_memos(alloc, count)?,
+        plan: closed_plan(alloc)?,
+    })
 }
 
 #[test]
 fn the_files_of_two_airlines(rt: HostRuntime) -> Result<(), Fail> {
-    let items = items_of(rt.alloc(), &SALES)?;
-    let memos = two_memos(rt.alloc())?;
-    let plan = closed_plan(rt.alloc())?;
+    let book = sales(rt.alloc(), closed_plan(rt.alloc())?)?;
     let cases: [(&[u8], &[&[u8]]); 2] = [(b"125", &FILE_OF_125), (b"220", &FILE_OF_220)];
     for (airline, lines) in cases {
-        let written = file(rt.alloc(), airline, b"24011", &items, &memos, &plan)?;
-        let wanted = text(rt.alloc(), lines, b"\n")?;
-        assert_eq!(rt; written.as_slice(), wanted.as_slice());
+        assert!(rt; is_written(rt.alloc(), &book, airline, b"24011", lines)?);
     }
     Ok(())
 }
 
 #[test]
 fn tallies_change_nothing(rt: HostRuntime) -> Result<(), Fail> {
-    let items = items_of(rt.alloc(), &SALES)?;
-    let memos = two_memos(rt.alloc())?;
-    let plan = closed_plan(rt.alloc())?;
-    let wanted = text(rt.alloc(), &FILE_OF_125, b"\n")?;
+    let book = sales(rt.alloc(), closed_plan(rt.alloc())?)?;
     for living in [0, 1, 1_000] {
-        let written = file_by_tallies(rt.alloc(), &[tally(living)?], &items, &memos, &plan)?;
-        assert_eq!(rt; written.as_slice(), wanted.as_slice());
+        assert!(rt; is_written_by_tallies(rt.alloc(), &book, &[tally(living)?])?);
     }
     Ok(())
 }
@@ -427,42 +510,32 @@ fn tallies_change_nothing(rt: HostRuntime) -> Result<(), Fail> {
 /// They count far more documents than there is room for.
 #[test]
 fn tallies_of_too_many_documents_change_nothing(rt: HostRuntime) -> Result<(), Fail> {
-    let items = items_of(rt.alloc(), &SALES)?;
-    let memos = two_memos(rt.alloc())?;
-    let plan = closed_plan(rt.alloc())?;
+    let book = sales(rt.alloc(), closed_plan(rt.alloc())?)?;
     let tallies = [tally(u32::MAX)?; 64];
-    let written = file_by_tallies(rt.alloc(), &tallies, &items, &memos, &plan)?;
-    let wanted = file(rt.alloc(), b"125", b"24011", &items, &memos, &plan)?;
-    assert_eq!(rt; written.as_slice(), wanted.as_slice());
+    assert!(rt; is_same_by_tallies(rt.alloc(), &book, &tallies)?);
     Ok(())
 }
 
 #[test]
 fn a_period_without_rows(rt: HostRuntime) -> Result<(), Fail> {
-    let items = items_of(rt.alloc(), &SALES)?;
-    let memos = two_memos(rt.alloc())?;
     let plan = plan_on(rt.alloc(), b"2024-02-01", &[b"24011", b"24012"])?;
-    let written = file(rt.alloc(), b"220", b"24012", &items, &memos, &plan)?;
-    let wanted = text(rt.alloc(), &FILE_WITHOUT_ROWS, b"\n")?;
-    assert_eq!(rt; written.as_slice(), wanted.as_slice());
+    let book = sales(rt.alloc(), plan)?;
+    assert!(rt; is_written(rt.alloc(), &book, b"220", b"24012", &FILE_WITHOUT_ROWS)?);
+    Ok(())
+}
+
+#[test]
+fn every_kind_of_document(rt: HostRuntime) -> Result<(), Fail> {
+    let book = kinds(rt.alloc())?;
+    assert!(rt; is_written(rt.alloc(), &book, b"125", b"24011", &FILE_OF_KINDS)?);
     Ok(())
 }
 
 /// Rows that are in no file change nothing, and neither does the order of the rows.
 #[test]
-fn every_kind_of_document(rt: HostRuntime) -> Result<(), Fail> {
-    let mut items = items_of(rt.alloc(), &KINDS)?;
-    let mut memos = reduced_and_credit(rt.alloc())?;
-    let plan = closed_plan(rt.alloc())?;
-    let wanted = text(rt.alloc(), &FILE_OF_KINDS, b"\n")?;
-    let written = file(rt.alloc(), b"125", b"24011", &items, &memos, &plan)?;
-    assert_eq!(rt; written.as_slice(), wanted.as_slice());
-    push_other_items(rt.alloc(), &mut items)?;
-    push_other_memos(rt.alloc(), &mut memos)?;
-    items.reverse();
-    memos.reverse();
-    let again = file(rt.alloc(), b"125", b"24011", &items, &memos, &plan)?;
-    assert_eq!(rt; again.as_slice(), wanted.as_slice());
+fn other_rows_change_nothing(rt: HostRuntime) -> Result<(), Fail> {
+    let book = kinds_among_others(rt.alloc())?;
+    assert!(rt; is_written(rt.alloc(), &book, b"125", b"24011", &FILE_OF_KINDS)?);
     Ok(())
 }
 
@@ -480,49 +553,43 @@ fn written_files_are_passed(rt: HostRuntime) -> Result<(), Fail> {
             documents,
             net,
         };
-        let told = totals_of_lines(rt.alloc(), lines)?;
-        assert_eq!(rt; told, [wanted; 3]);
+        assert_eq!(rt; totals_of_lines(rt.alloc(), lines, b"\n")?, wanted);
+        assert_eq!(rt; totals_of_lines(rt.alloc(), lines, b"\r\n")?, wanted);
+        assert_eq!(rt; totals_of_unended(rt.alloc(), lines)?, wanted);
     }
     Ok(())
 }
 
-/// Billed debit memos of the largest amount.
-fn largest_memos(alloc: Global, count: u64) -> Result<Vec<Memo>, Fail> {
-    let mut memos = Vec::new(alloc);
-    for number in 0..count {
-        let fields = debit(b"125", number, 99_999_999_999, b"FARE")?;
-        memos.push(Memo::restore(fields).ok_or("memo")?)?;
-    }
-    Ok(memos)
+#[test]
+fn a_net_that_does_not_fit_is_told(rt: HostRuntime) -> Result<(), Fail> {
+    let book = largest(rt.alloc(), 10_001)?;
+    assert_eq!(rt; fault(rt.alloc(), &book, b"24011")?, Some(HotFault::H01));
+    Ok(())
 }
 
 #[test]
-fn a_net_that_does_not_fit_is_told(rt: HostRuntime) -> Result<(), Fail> {
-    let plan = closed_plan(rt.alloc())?;
-    let mut memos = largest_memos(rt.alloc(), 10_001)?;
-    assert_eq!(rt;
-        fault(rt.alloc(), b"24011", &memos, &plan)?,
-        Some(HotFault::H01)
-    );
-    memos.pop();
-    let written = file(rt.alloc(), b"125", b"24011", &[], &memos, &plan)?;
+fn the_largest_net_is_written(rt: HostRuntime) -> Result<(), Fail> {
+    let book = largest(rt.alloc(), 10_000)?;
     let wanted = HotTotals {
         records: 40_007,
         documents: 10_000,
         net: 999_999_999_990_000,
     };
-    assert_eq!(rt; totals(&written)?, wanted);
+    assert_eq!(rt; totals_of_file(rt.alloc(), &book)?, wanted);
     Ok(())
 }
 
 #[test]
 fn only_a_closed_period_has_a_file(rt: HostRuntime) -> Result<(), Fail> {
-    let open = plan_on(rt.alloc(), b"2024-01-16", &[])?;
-    let closed = closed_plan(rt.alloc())?;
-    let wanted = Some(HotFault::H02);
-    assert_eq!(rt; fault(rt.alloc(), b"24011", &[], &open)?, wanted);
-    assert_eq!(rt; fault(rt.alloc(), b"24012", &[], &closed)?, wanted);
-    assert_eq!(rt; fault(rt.alloc(), b"24021", &[], &closed)?, wanted);
-    assert_eq!(rt; fault(rt.alloc(), b"24011", &[], &closed)?, None);
+    let first: &[&[u8]] = &[b"24011"];
+    let cases: [(&[&[u8]], &[u8], Option<HotFault>); 4] = [
+        (&[], b"24011", Some(HotFault::H02)),
+        (first, b"24012", Some(HotFault::H02)),
+        (first, b"24021", Some(HotFault::H02)),
+        (first, b"24011", None),
+    ];
+    for (closed, period, wanted) in cases {
+        assert_eq!(rt; fault_without_rows(rt.alloc(), closed, period)?, wanted);
+    }
     Ok(())
 }
