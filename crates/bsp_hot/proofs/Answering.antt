@@ -11,7 +11,7 @@ use Rattle.bsp_hot_check.specs.declared.model.HotFault.{HotFault}
 use Rattle.bsp_hot_check.specs.declared.model.HotFault.TheVariants.{H01, H02, H03, H04}
 use Rattle.bsp_hot_check.specs.Hot.{records_of}
 use Rattle.bsp_hot.specs.Rows.{Entry, entries}
-use Rattle.bsp_hot.specs.Files.{currency_of, file_of, IsInOrder, IsWritten, AnswersOver}
+use Rattle.bsp_hot.specs.Files.{file_of, IsInOrder, IsWritten, AnswersOver}
 use Rattle.bsp_hot.specs.declared.offices.FileFacts.{FileFacts}
 use Rattle.bsp_hot.specs.WrittenText.{IsTextOf, AreFactsOf}
 use Rattle.bsp_hot.specs.Sound.{AreInBounds, KeepRules, IsHotFileOver}
@@ -42,15 +42,15 @@ written_over airline q currency rows sorted text in_order is fits = record {
   net = net_is (file_of airline q currency sorted);
 }
 
-pub answers : {A : Type 0} (characters : A → List ℕ) (plan : Published) (airline code : ℕ) (q : Period) (rows sorted : List Entry) (result : Result A HotFault)
-    → closed_period plan code ≡ Some q → IsInOrder rows sorted → IsTextOf characters (records_of (file_of airline q (currency_of plan.terms) sorted)) result → AnswersOver characters plan airline code rows result
-answers characters plan airline code q rows sorted (Ok x) closed in_order is =
-    (q, closed, written_over airline q (currency_of plan.terms) rows sorted (characters x) in_order is.0 is.1)
-answers characters plan airline code q rows sorted (Err H01) closed in_order is =
-    (q, closed, record { file = file_of airline q (currency_of plan.terms) sorted; over = record { sorted = sorted; in_order = in_order; file_is = refl }; wide = is })
-answers characters plan airline code q rows sorted (Err H02) closed in_order is = absurd is
-answers characters plan airline code q rows sorted (Err H03) closed in_order is = (q, closed)
-answers characters plan airline code q rows sorted (Err (H04 at)) closed in_order is = absurd is
+pub answers : {A : Type 0} (characters : A → List ℕ) (plan : Published) (airline code : ℕ) (q : Period) (terms : Terms) (rows sorted : List Entry) (result : Result A HotFault)
+    → closed_period plan code ≡ Some q → plan.terms ≡ Some terms → IsInOrder rows sorted → IsTextOf characters (records_of (file_of airline q terms.currency sorted)) result → AnswersOver characters plan airline code rows result
+answers characters plan airline code q terms rows sorted (Ok x) closed known in_order is =
+    (q, terms, closed, known, written_over airline q terms.currency rows sorted (characters x) in_order is.0 is.1)
+answers characters plan airline code q terms rows sorted (Err H01) closed known in_order is =
+    (q, terms, closed, known, record { file = file_of airline q terms.currency sorted; over = record { sorted = sorted; in_order = in_order; file_is = refl }; wide = is })
+answers characters plan airline code q terms rows sorted (Err H02) closed known in_order is = absurd is
+answers characters plan airline code q terms rows sorted (Err H03) closed known in_order is = (q, closed)
+answers characters plan airline code q terms rows sorted (Err (H04 at)) closed known in_order is = absurd is
 
 -- for rows that keep the rules it is a HOT file
 pub stands_over : {A : Type 0} (characters : A → List ℕ) (plan : Published) (airline code : ℕ) (q : Period) (terms : Terms) (items : List Row) (memos : List MemoFields) (sorted : List Entry) (result : Result A HotFault)

@@ -1,12 +1,12 @@
 -- The file of an airline and a closed period over rows, and its text.
-use Rattle.std.specs.Prelude.{◌≡◌, ℕ, ℤ, pos, ◌+ℤ◌, ◌-ℤ◌, ◌==◌, nat_lt, Bool, true, false, ◌&&◌, ◌||◌, List, [], ◌∷◌, length, Option, Some, None, Result, Ok, Err, if◌then◌else◌}
+use Rattle.std.specs.Prelude.{◌≡◌, ℕ, ℤ, pos, ◌+ℤ◌, ◌-ℤ◌, ◌==◌, nat_lt, Bool, true, false, ◌&&◌, ◌||◌, List, [], ◌∷◌, length, Some, None, Result, Ok, Err, if◌then◌else◌}
 use Rattle.std.specs.List.{list_all, filter, Contains}
 use Rattle.std.specs.List.Sorted.{IsPermutation, IsSortedBy, ties}
 use Rattle.bsp_fields.specs.Days.{record_text}
 use Rattle.bsp_calendar.specs.Published.{Published, closed_period}
 use Rattle.bsp_calendar.specs.declared.entries.Period.{Period}
 use Rattle.bsp_calendar.specs.declared.entries.Terms.{Terms}
-use Rattle.bsp_ret.specs.Writing.{spaces, text_of}
+use Rattle.bsp_ret.specs.Writing.{text_of}
 use Rattle.bsp_hot_check.specs.declared.model.HotFault.{HotFault}
 use Rattle.bsp_hot_check.specs.declared.model.HotFault.TheVariants.{H01, H02, H03, H04}
 use Rattle.bsp_hot_check.specs.Records.{Part, commission, cash, Record, part}
@@ -44,11 +44,6 @@ offices_of [] = []
 offices_of (e ∷ more) = with_entry e (offices_of more)
 
 -- ---- the file
-
--- the letters of the currency; spaces where no terms are published
-abbrev pub currency_of : Option Terms → List ℕ
-currency_of None = spaces 3
-currency_of (Some terms) = terms.currency
 
 abbrev pub file_of : ℕ → Period → List ℕ → List Entry → File
 file_of airline q currency sorted = record {
@@ -104,12 +99,12 @@ pub record IsTooWide (airline : ℕ) (q : Period) (currency : List ℕ) (rows : 
   pub over : IsFileOver airline q currency rows file
   pub wide : all_fit (records_of file) ≡ false
 
--- H02 exactly where the period is unknown or not closed, else the text, H01 exactly where a count or a total does not fit, or want of memory
+-- H02 exactly where the period is unknown or not closed, else the text in the published currency, H01 exactly where a count or a total does not fit, or want of memory
 abbrev pub AnswersOver : {A : Type 0} → (A → List ℕ) → Published → ℕ → ℕ → List Entry → Result A HotFault → Type 0
 AnswersOver characters plan airline code rows (Ok x) =
-    (q : Period) × (closed_period plan code ≡ Some q) × IsWritten airline q (currency_of plan.terms) rows (characters x)
+    (q : Period) × (terms : Terms) × (closed_period plan code ≡ Some q) × (plan.terms ≡ Some terms) × IsWritten airline q terms.currency rows (characters x)
 AnswersOver characters plan airline code rows (Err H01) =
-    (q : Period) × (closed_period plan code ≡ Some q) × IsTooWide airline q (currency_of plan.terms) rows
+    (q : Period) × (terms : Terms) × (closed_period plan code ≡ Some q) × (plan.terms ≡ Some terms) × IsTooWide airline q terms.currency rows
 AnswersOver characters plan airline code rows (Err H02) = closed_period plan code ≡ None
 AnswersOver characters plan airline code rows (Err H03) = (q : Period) × (closed_period plan code ≡ Some q)
 AnswersOver characters plan airline code rows (Err (H04 at)) = ⊥

@@ -1,11 +1,10 @@
-use Rattle.std.proofs.Common.{◌≡◌, List, Option, None, map, sym, subst}
+use Rattle.std.proofs.Common.{◌≡◌, List, None, map, sym, subst}
 use Rattle.bsp_hot_check.specs.Hot.{records_of}
 use Rattle.bsp_calendar.specs.Published.{closed_period}
-use Rattle.bsp_calendar.specs.declared.entries.Terms.{Terms}
 use Rattle.bsp_hot.specs.declared.rows.Row.{Row}
 use Rattle.bsp_hot.specs.Sorting.{entry_of}
 use Rattle.bsp_hot.specs.Rows.{Entry, entries}
-use Rattle.bsp_hot.specs.Files.{currency_of, file_of, IsInOrder}
+use Rattle.bsp_hot.specs.Files.{file_of, IsInOrder}
 use Rattle.bsp_hot.specs.WrittenText.{IsTextOf, AreFactsOf}
 use Rattle.bsp_hot.proofs.Answering.{told_of, text_of_facts, answers, stands_over}
 use Rattle.bsp_hot.proofs.write.write_over.Goals as goal
@@ -31,9 +30,8 @@ pub returns-clause-written : goal.returns-clause-written
 returns-clause-written c =
     let q = c.in_ok-file.file.period in
     let rows = entries c.args.airline c.args.period c.args.items.now c.args.memos.now in
-    let Known : Option Terms → Type 0 = λ t. IsTextOf (λ text. text.items) (records_of (file_of c.args.airline q (currency_of t) (sorted c))) c.write_file.result in
-    let known = subst Known (sym (facts c).known) (text c) in
-    answers (λ text. text.items) c.args.plan.now c.args.airline c.args.period q rows (sorted c) c.write_file.result (facts c).closed (in_order c) known
+    let f = facts c in
+    answers (λ text. text.items) c.args.plan.now c.args.airline c.args.period q f.terms rows (sorted c) c.write_file.result f.closed f.known (in_order c) (text c)
 
 pub returns-clause-stands : goal.returns-clause-stands
 returns-clause-stands c = λ keep.
