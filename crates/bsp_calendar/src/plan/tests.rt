@@ -150,13 +150,16 @@ fn no_terms_stand_before_a_text(rt: HostRuntime) {
     assert_eq!(rt; plan.terms(), None);
 }
 
+fn assert_published_once(rt: &impl Abort, plan: &mut Plan, text: &PlanText) -> Result<(), Fail> {
+    assert_published(rt, plan, text, Change::Done)?;
+    assert_published(rt, plan, text, Change::Held)?;
+    assert_terms(rt, plan, 14)
+}
+
 #[test]
 fn a_text_is_published_once(rt: HostRuntime) -> Result<(), Fail> {
-    let mut plan = Plan::empty(rt.alloc());
     let text = january_text(rt.alloc())?;
-    assert_published(&rt, &mut plan, &text, Change::Done)?;
-    assert_published(&rt, &mut plan, &text, Change::Held)?;
-    assert_terms(&rt, &plan, 14)
+    assert_published_once(&rt, &mut Plan::empty(rt.alloc()), &text)
 }
 
 #[test]
@@ -207,13 +210,17 @@ fn plan_with_rates(alloc: Global) -> Result<Plan, Fail> {
     Ok(plan)
 }
 
+fn assert_rates(rt: &impl Abort, plan: &Plan, rows: &[RateRow]) -> Result<(), Fail> {
+    for row in rows {
+        assert_rate(rt, plan, *row)?;
+    }
+    Ok(())
+}
+
 #[test]
 fn the_rate_is_that_of_the_latest_first_day(rt: HostRuntime) -> Result<(), Fail> {
     let plan = plan_with_rates(rt.alloc())?;
-    for row in RATES_ON_DAYS {
-        assert_rate(&rt, &plan, row)?;
-    }
-    Ok(())
+    assert_rates(&rt, &plan, &RATES_ON_DAYS)
 }
 
 /// What is asked of a plan.
@@ -259,13 +266,17 @@ fn assert_step(rt: &impl Abort, plan: &mut Plan, step: Step) -> Result<(), Fail>
     assert_target(rt, plan, "2024-01-05", target)
 }
 
+fn assert_steps(rt: &impl Abort, plan: &mut Plan, steps: &[Step]) -> Result<(), Fail> {
+    for step in steps {
+        assert_step(rt, plan, *step)?;
+    }
+    Ok(())
+}
+
 #[test]
 fn periods_are_closed_in_order(rt: HostRuntime) -> Result<(), Fail> {
     let mut plan = january(rt.alloc())?;
-    for step in STEPS {
-        assert_step(&rt, &mut plan, step)?;
-    }
-    Ok(())
+    assert_steps(&rt, &mut plan, &STEPS)
 }
 
 /// January's plan with its first period closed.
@@ -281,14 +292,16 @@ fn no_period_is_closed_before_its_close(rt: HostRuntime) -> Result<(), Fail> {
     assert_not_closed(&rt, &plan, "24011")
 }
 
+fn assert_first_closed(rt: &impl Abort, plan: &Plan) -> Result<(), Fail> {
+    assert_closed(rt, plan, FIRST_HALF)?;
+    assert_not_closed(rt, plan, "24012")?;
+    assert_not_closed(rt, plan, "24013")
+}
+
 #[test]
 fn only_a_closed_period_is_told_as_closed(rt: HostRuntime) -> Result<(), Fail> {
     let plan = january_closed(rt.alloc())?;
-    assert_closed(&rt, &plan, FIRST_HALF)?;
-    for digits in ["24012", "24013"] {
-        assert_not_closed(&rt, &plan, digits)?;
-    }
-    Ok(())
+    assert_first_closed(&rt, &plan)
 }
 
 #[test]
@@ -537,13 +550,21 @@ fn assert_published_later(rt: &impl Abort, plan: &mut Plan, text: &PlanText) -> 
     assert_published(rt, plan, text, Change::Done)
 }
 
+fn assert_published_or_as_before(
+    rt: &impl Abort,
+    plan: &mut Plan,
+    text: &PlanText,
+) -> Result<(), Fail> {
+    match publish(plan, text) {
+        Err(PlanFault::NoMemory) => assert_published_later(rt, plan, text)?,
+        first => assert_done(rt, first),
+    }
+    assert_rate(rt, plan, ("220", "2024-02-01", 900))
+}
+
 #[test]
 fn want_of_memory_changes_nothing(rt: HostRuntime) -> Result<(), Fail> {
     let mut plan = january(rt.alloc())?;
     let text = february_text(rt.alloc())?;
-    match publish(&mut plan, &text) {
-        Err(PlanFault::NoMemory) => assert_published_later(&rt, &mut plan, &text)?,
-        first => assert_done(&rt, first),
-    }
-    assert_rate(&rt, &plan, ("220", "2024-02-01", 900))
+    assert_published_or_as_before(&rt, &mut plan, &text)
 }
