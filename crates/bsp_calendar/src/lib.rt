@@ -13,6 +13,8 @@ mod keys;
 mod listed;
 mod plan;
 mod reading;
+#[cfg(test)]
+mod samples;
 
 pub use change::Change;
 pub use currency::Currency;

@@ -1,143 +1,226 @@
 use super::*;
-use crate::currency::Currency;
 use crate::entries::{Period, Rate};
+use crate::samples::*;
 use bsp_fields::AirlineCode;
+use std::process::Abort;
 use std::test::Fail;
 
-/// An airline, a first day and hundredths of a percent.
-type RateRow = (&'static str, &'static str, u16);
+const JANUARY: [PeriodRow; 2] = [FIRST_HALF, SECOND_HALF];
 
-/// A code, a first day, a last day and a day of remittance.
-type PeriodRow = (&'static str, &'static str, &'static str, &'static str);
-
-fn day(text: &str) -> Result<Day, Fail> {
-    Ok(Day::read_text(text.as_bytes())?)
+fn rates(alloc: Global, rows: &[RateRow]) -> Result<Vec<Rate>, Fail> {
+    let mut rates = Vec::new(alloc);
+    for row in rows {
+        rates.push(rate(*row)?)?;
+    }
+    Ok(rates)
 }
 
-fn airline(digits: &str) -> Result<AirlineCode, Fail> {
-    Ok(AirlineCode::read(digits.as_bytes())?)
+fn periods(alloc: Global, rows: &[PeriodRow]) -> Result<Vec<Period>, Fail> {
+    let mut periods = Vec::new(alloc);
+    for row in rows {
+        periods.push(period(*row)?)?;
+    }
+    Ok(periods)
 }
 
-fn code(digits: &str) -> Result<PeriodCode, Fail> {
-    Ok(PeriodCode::read(digits.as_bytes())?)
-}
-
-fn rate(row: RateRow) -> Result<Rate, Fail> {
-    Ok(Rate {
-        airline: airline(row.0)?,
-        from: day(row.1)?,
-        hundredths: row.2,
-    })
-}
-
-fn period(row: PeriodRow) -> Result<Period, Fail> {
-    Ok(Period {
-        code: code(row.0)?,
-        first: day(row.1)?,
-        last: day(row.2)?,
-        remittance: day(row.3)?,
-    })
-}
-
-fn terms(review_days: u8) -> Result<Terms, Fail> {
-    Ok(Terms {
-        currency: Currency::read(b"EUR").ok_or("EUR is no currency")?,
-        review_days,
-        documents_limit: 1000,
-    })
+fn airlines(alloc: Global) -> Result<Vec<AirlineCode>, Fail> {
+    Ok([airline("125")?, airline("220")?].to_vec(alloc)?)
 }
 
 /// The text of a market with two airlines.
 fn text(
     alloc: Global,
     review_days: u8,
-    rates: &[RateRow],
-    periods: &[PeriodRow],
+    rate_rows: &[RateRow],
+    period_rows: &[PeriodRow],
 ) -> Result<PlanText, Fail> {
-    let mut text = PlanText {
-        terms: terms(review_days)?,
-        airlines: [airline("125")?, airline("220")?].to_vec(alloc)?,
-        rates: Vec::new(alloc),
-        periods: Vec::new(alloc),
-    };
-    for row in rates {
-        text.rates.push(rate(*row)?)?;
-    }
-    for row in periods {
-        text.periods.push(period(*row)?)?;
-    }
-    Ok(text)
+    Ok(PlanText {
+        terms: terms(review_days, 1000)?,
+        airlines: airlines(alloc)?,
+        rates: rates(alloc, rate_rows)?,
+        periods: periods(alloc, period_rows)?,
+    })
 }
 
-const JANUARY: [PeriodRow; 2] = [
-    ("24011", "2024-01-01", "2024-01-15", "2024-02-15"),
-    ("24012", "2024-01-16", "2024-01-31", "2024-02-29"),
-];
+// The proof of a test takes much longer with each assertion and each `?` in its body, so these
+// functions have one assertion each, and no contract.
 
-const FIVE_PERCENT: [RateRow; 1] = [("125", "2024-01-01", 500)];
+fn publish(plan: &mut Plan, text: &PlanText) -> Result<Change, PlanFault> {
+    plan.extend(text)
+}
 
-/// The plan of January, in which one airline pays 5 %.
+fn set_day(plan: &mut Plan, text: &str) -> Result<Result<Change, PlanFault>, Fail> {
+    Ok(plan.set_day(day(text)?))
+}
+
+fn close(plan: &mut Plan, digits: &str) -> Result<Result<Change, PlanFault>, Fail> {
+    Ok(plan.close_next(code(digits)?))
+}
+
+fn assert_published(
+    rt: &impl Abort,
+    plan: &mut Plan,
+    text: &PlanText,
+    change: Change,
+) -> Result<(), Fail> {
+    assert_eq!(rt; plan.extend(text)?, change);
+    Ok(())
+}
+
+fn assert_terms(rt: &impl Abort, plan: &Plan, review_days: u8) -> Result<(), Fail> {
+    let terms = terms(review_days, 1000)?;
+    assert_eq!(rt; plan.terms(), Some(terms));
+    Ok(())
+}
+
+fn assert_day(rt: &impl Abort, plan: &Plan, text: &str) -> Result<(), Fail> {
+    let day = day(text)?;
+    assert_eq!(rt; plan.day(), day);
+    Ok(())
+}
+
+fn assert_airline(rt: &impl Abort, plan: &Plan, digits: &str, published: bool) -> Result<(), Fail> {
+    let airline = airline(digits)?;
+    assert_eq!(rt; plan.has_airline(airline), published, "{digits}");
+    Ok(())
+}
+
+fn assert_rate(rt: &impl Abort, plan: &Plan, row: RateRow) -> Result<(), Fail> {
+    let (of, on, hundredths) = row;
+    let rate = plan.rate(airline(of)?, day(on)?);
+    assert_eq!(rt; rate, hundredths, "{of} on {on}");
+    Ok(())
+}
+
+/// The period of the row is published, and not closed.
+fn assert_open(rt: &impl Abort, plan: &Plan, row: PeriodRow) -> Result<(), Fail> {
+    let period = period(row)?;
+    assert_eq!(rt; plan.period(period.code), Some((period, false)));
+    Ok(())
+}
+
+fn assert_unknown(rt: &impl Abort, plan: &Plan, digits: &str) -> Result<(), Fail> {
+    let code = code(digits)?;
+    assert_eq!(rt; plan.period(code), None);
+    Ok(())
+}
+
+fn assert_closed(rt: &impl Abort, plan: &Plan, row: PeriodRow) -> Result<(), Fail> {
+    let period = period(row)?;
+    assert_eq!(rt; plan.closed_period(period.code), Some(period));
+    Ok(())
+}
+
+fn assert_not_closed(rt: &impl Abort, plan: &Plan, digits: &str) -> Result<(), Fail> {
+    let code = code(digits)?;
+    assert_eq!(rt; plan.closed_period(code), None, "{digits}");
+    Ok(())
+}
+
+/// The target of a date of issue is the period of these digits, or none where they are none.
+fn assert_target(rt: &impl Abort, plan: &Plan, issued: &str, digits: &str) -> Result<(), Fail> {
+    let issued = day(issued)?;
+    let wanted = PeriodCode::read(digits.as_bytes()).ok();
+    assert_eq!(rt; plan.target(issued), wanted, "{issued}");
+    Ok(())
+}
+
+/// The text of January, in which one airline pays 5 %.
+fn january_text(alloc: Global) -> Result<PlanText, Fail> {
+    text(alloc, 14, &[FIVE_PERCENT], &JANUARY)
+}
+
+/// The plan of January.
 fn january(alloc: Global) -> Result<Plan, Fail> {
     let mut plan = Plan::empty(alloc);
-    plan.extend(&text(alloc, 14, &FIVE_PERCENT, &JANUARY)?)?;
+    publish(&mut plan, &january_text(alloc)?)?;
+    Ok(plan)
+}
+
+/// January's plan on a day.
+fn january_on(alloc: Global, date: &str) -> Result<Plan, Fail> {
+    let mut plan = january(alloc)?;
+    set_day(&mut plan, date)??;
     Ok(plan)
 }
 
 #[test]
-fn a_text_is_published_once(rt: HostRuntime) -> Result<(), Fail> {
-    let mut plan = Plan::empty(rt.alloc());
-    let text = text(rt.alloc(), 14, &FIVE_PERCENT, &JANUARY)?;
+fn no_terms_stand_before_a_text(rt: HostRuntime) {
+    let plan = Plan::empty(rt.alloc());
     assert_eq!(rt; plan.terms(), None);
-    assert_eq!(rt; plan.extend(&text)?, Change::Done);
-    assert_eq!(rt; plan.extend(&text)?, Change::Held);
-    assert_eq!(rt; plan.terms(), Some(terms(14)?));
-    Ok(())
+}
+
+fn assert_published_once(rt: &impl Abort, plan: &mut Plan, text: &PlanText) -> Result<(), Fail> {
+    assert_published(rt, plan, text, Change::Done)?;
+    assert_published(rt, plan, text, Change::Held)?;
+    assert_terms(rt, plan, 14)
+}
+
+#[test]
+fn a_text_is_published_once(rt: HostRuntime) -> Result<(), Fail> {
+    let text = january_text(rt.alloc())?;
+    assert_published_once(&rt, &mut Plan::empty(rt.alloc()), &text)
+}
+
+#[test]
+fn a_plan_begins_on_its_first_day(rt: HostRuntime) -> Result<(), Fail> {
+    let plan = january(rt.alloc())?;
+    assert_day(&rt, &plan, "2000-01-01")
 }
 
 #[test]
 fn a_plan_has_what_was_published(rt: HostRuntime) -> Result<(), Fail> {
     let plan = january(rt.alloc())?;
-    assert_eq!(rt; plan.day(), day("2000-01-01")?);
-    assert_eq!(rt;
-        plan.period(code("24012")?),
-        Some((period(JANUARY[1])?, false))
-    );
-    assert_eq!(rt; plan.period(code("24013")?), None);
+    assert_open(&rt, &plan, SECOND_HALF)?;
+    assert_unknown(&rt, &plan, "24013")
+}
+
+#[test]
+fn a_plan_has_its_airlines(rt: HostRuntime) -> Result<(), Fail> {
+    let plan = january(rt.alloc())?;
     for (digits, published) in [("125", true), ("220", true), ("126", false)] {
-        assert_eq!(rt; plan.has_airline(airline(digits)?), published);
+        assert_airline(&rt, &plan, digits, published)?;
+    }
+    Ok(())
+}
+
+const LATER_RATES: [RateRow; 3] = [
+    ("125", "2024-03-01", 700),
+    ("125", "2024-02-01", 600),
+    ("220", "2024-02-10", 900),
+];
+
+const RATES_ON_DAYS: [RateRow; 10] = [
+    ("125", "2023-12-31", 0),
+    ("125", "2024-01-01", 500),
+    ("125", "2024-01-31", 500),
+    ("125", "2024-02-01", 600),
+    ("125", "2024-02-29", 600),
+    ("125", "2024-03-01", 700),
+    ("125", "2099-12-31", 700),
+    ("220", "2024-01-01", 0),
+    ("220", "2024-02-10", 900),
+    ("999", "2024-02-10", 0),
+];
+
+/// January's plan with later rates.
+fn plan_with_rates(alloc: Global) -> Result<Plan, Fail> {
+    let mut plan = january(alloc)?;
+    publish(&mut plan, &text(alloc, 14, &LATER_RATES, &[])?)?;
+    Ok(plan)
+}
+
+fn assert_rates(rt: &impl Abort, plan: &Plan, rows: &[RateRow]) -> Result<(), Fail> {
+    for row in rows {
+        assert_rate(rt, plan, *row)?;
     }
     Ok(())
 }
 
 #[test]
 fn the_rate_is_that_of_the_latest_first_day(rt: HostRuntime) -> Result<(), Fail> {
-    let mut plan = january(rt.alloc())?;
-    let more = [
-        ("125", "2024-03-01", 700),
-        ("125", "2024-02-01", 600),
-        ("220", "2024-02-10", 900),
-    ];
-    plan.extend(&text(rt.alloc(), 14, &more, &[])?)?;
-    let rows = [
-        ("125", "2023-12-31", 0),
-        ("125", "2024-01-01", 500),
-        ("125", "2024-01-31", 500),
-        ("125", "2024-02-01", 600),
-        ("125", "2024-02-29", 600),
-        ("125", "2024-03-01", 700),
-        ("125", "2099-12-31", 700),
-        ("220", "2024-01-01", 0),
-        ("220", "2024-02-10", 900),
-        ("999", "2024-02-10", 0),
-    ];
-    for (of, on, hundredths) in rows {
-        assert_eq!(rt;
-            plan.rate(airline(of)?, day(on)?),
-            hundredths,
-            "{of} on {on}"
-        );
-    }
-    Ok(())
+    let plan = plan_with_rates(rt.alloc())?;
+    assert_rates(&rt, &plan, &RATES_ON_DAYS)
 }
 
 /// What is asked of a plan.
@@ -149,151 +232,339 @@ enum Asked {
 
 fn ask(plan: &mut Plan, asked: Asked) -> Result<Result<Change, PlanFault>, Fail> {
     match asked {
-        Asked::Day(text) => Ok(plan.set_day(day(text)?)),
-        Asked::Close(digits) => Ok(plan.close_next(code(digits)?)),
+        Asked::Day(text) => set_day(plan, text),
+        Asked::Close(digits) => close(plan, digits),
     }
+}
+
+/// What is asked, the answer, and then the target of 5 January.
+type Step = (Asked, Result<Change, PlanFault>, &'static str);
+
+const STEPS: [Step; 13] = [
+    (Asked::Day("2024-01-05"), Ok(Change::Done), "24011"),
+    (Asked::Day("2024-01-15"), Ok(Change::Done), "24011"),
+    (Asked::Close("24011"), Err(PlanFault::NotOver), "24011"),
+    (Asked::Day("2024-01-16"), Ok(Change::Done), "24011"),
+    (Asked::Close("24012"), Err(PlanFault::NotEarliest), "24011"),
+    (Asked::Close("24013"), Err(PlanFault::NotEarliest), "24011"),
+    (Asked::Close("24011"), Ok(Change::Done), "24012"),
+    (Asked::Close("24011"), Ok(Change::Held), "24012"),
+    (
+        Asked::Day("2024-01-15"),
+        Err(PlanFault::DayBackwards),
+        "24012",
+    ),
+    (Asked::Day("2024-01-16"), Ok(Change::Held), "24012"),
+    (Asked::Day("2024-02-01"), Ok(Change::Done), "24012"),
+    (Asked::Close("24012"), Ok(Change::Done), ""),
+    (Asked::Close("24013"), Err(PlanFault::NotEarliest), ""),
+];
+
+fn assert_step(rt: &impl Abort, plan: &mut Plan, step: Step) -> Result<(), Fail> {
+    let (asked, answer, target) = step;
+    assert_eq!(rt; ask(plan, asked)?, answer);
+    assert_target(rt, plan, "2024-01-05", target)
+}
+
+fn assert_steps(rt: &impl Abort, plan: &mut Plan, steps: &[Step]) -> Result<(), Fail> {
+    for step in steps {
+        assert_step(rt, plan, *step)?;
+    }
+    Ok(())
 }
 
 #[test]
 fn periods_are_closed_in_order(rt: HostRuntime) -> Result<(), Fail> {
     let mut plan = january(rt.alloc())?;
-    let rows = [
-        (Asked::Day("2024-01-05"), Ok(Change::Done), "24011"),
-        (Asked::Day("2024-01-15"), Ok(Change::Done), "24011"),
-        (Asked::Close("24011"), Err(PlanFault::NotOver), "24011"),
-        (Asked::Day("2024-01-16"), Ok(Change::Done), "24011"),
-        (Asked::Close("24012"), Err(PlanFault::NotEarliest), "24011"),
-        (Asked::Close("24013"), Err(PlanFault::NotEarliest), "24011"),
-        (Asked::Close("24011"), Ok(Change::Done), "24012"),
-        (Asked::Close("24011"), Ok(Change::Held), "24012"),
-        (
-            Asked::Day("2024-01-15"),
-            Err(PlanFault::DayBackwards),
-            "24012",
-        ),
-        (Asked::Day("2024-01-16"), Ok(Change::Held), "24012"),
-        (Asked::Day("2024-02-01"), Ok(Change::Done), "24012"),
-        (Asked::Close("24012"), Ok(Change::Done), ""),
-        (Asked::Close("24013"), Err(PlanFault::NotEarliest), ""),
-    ];
-    for (asked, answer, target) in rows {
-        assert_eq!(rt; ask(&mut plan, asked)?, answer);
-        assert_eq!(rt;
-            plan.target(day("2024-01-05")?),
-            PeriodCode::read(target.as_bytes()).ok()
-        );
-    }
-    Ok(())
+    assert_steps(&rt, &mut plan, &STEPS)
+}
+
+/// January's plan with its first period closed.
+fn january_closed(alloc: Global) -> Result<Plan, Fail> {
+    let mut plan = january_on(alloc, "2024-01-16")?;
+    close(&mut plan, "24011")??;
+    Ok(plan)
+}
+
+#[test]
+fn no_period_is_closed_before_its_close(rt: HostRuntime) -> Result<(), Fail> {
+    let plan = january_on(rt.alloc(), "2024-01-16")?;
+    assert_not_closed(&rt, &plan, "24011")
+}
+
+fn assert_first_closed(rt: &impl Abort, plan: &Plan) -> Result<(), Fail> {
+    assert_closed(rt, plan, FIRST_HALF)?;
+    assert_not_closed(rt, plan, "24012")?;
+    assert_not_closed(rt, plan, "24013")
 }
 
 #[test]
 fn only_a_closed_period_is_told_as_closed(rt: HostRuntime) -> Result<(), Fail> {
-    let mut plan = january(rt.alloc())?;
-    plan.set_day(day("2024-01-16")?)?;
-    assert_eq!(rt; plan.closed_period(code("24011")?), None);
-    plan.close_next(code("24011")?)?;
-    let rows = [
-        ("24011", Some(JANUARY[0])),
-        ("24012", None),
-        ("24013", None),
-    ];
-    for (digits, row) in rows {
-        let closed = match row {
-            Some(row) => Some(period(row)?),
-            None => None,
-        };
-        assert_eq!(rt; plan.closed_period(code(digits)?), closed);
-    }
-    Ok(())
+    let plan = january_closed(rt.alloc())?;
+    assert_first_closed(&rt, &plan)
 }
 
 #[test]
 fn a_period_that_has_not_begun_takes_nothing(rt: HostRuntime) -> Result<(), Fail> {
-    let mut plan = january(rt.alloc())?;
-    assert_eq!(rt; plan.target(day("2024-01-05")?), None);
-    plan.set_day(day("2024-01-05")?)?;
-    for (issued, target) in [
-        ("2024-01-05", "24011"),
-        ("2023-12-31", "24011"),
-        ("2024-01-20", ""),
-    ] {
-        assert_eq!(rt;
-            plan.target(day(issued)?),
-            PeriodCode::read(target.as_bytes()).ok()
-        );
+    let plan = january(rt.alloc())?;
+    assert_target(&rt, &plan, "2024-01-05", "")
+}
+
+/// Dates of issue, and their targets on 5 January.
+const TARGETS: [(&str, &str); 3] = [
+    ("2024-01-05", "24011"),
+    ("2023-12-31", "24011"),
+    ("2024-01-20", ""),
+];
+
+#[test]
+fn a_period_that_has_begun_takes_what_is_issued(rt: HostRuntime) -> Result<(), Fail> {
+    let plan = january_on(rt.alloc(), "2024-01-05")?;
+    for (issued, digits) in TARGETS {
+        assert_target(&rt, &plan, issued, digits)?;
     }
     Ok(())
 }
 
-/// What January's plan answers on 5 January to these terms, rate and periods, or want of memory.
-fn answer(
+/// A rate beside that of January's plan.
+#[derive(Clone, Copy)]
+enum Rated {
+    Known,
+    Unknown,
+    Large,
+    Other,
+    Late,
+    Future,
+}
+
+fn rate_row(rated: Rated) -> RateRow {
+    match rated {
+        Rated::Known => FIVE_PERCENT,
+        Rated::Unknown => ("126", "2024-02-01", 1),
+        Rated::Large => ("125", "2024-02-01", 10_001),
+        Rated::Other => ("125", "2024-01-01", 501),
+        Rated::Late => ("125", "2024-01-05", 600),
+        Rated::Future => ("125", "2024-01-06", 600),
+    }
+}
+
+/// A period beside those of January's plan.
+#[derive(Clone, Copy)]
+enum Dated {
+    Held,
+    Moved,
+    Gap,
+    Overlap,
+    Early,
+    Next,
+}
+
+fn period_row(dated: Dated) -> PeriodRow {
+    match dated {
+        Dated::Held => FIRST_HALF,
+        Dated::Moved => ("24012", "2024-01-16", "2024-01-31", "2024-03-01"),
+        Dated::Gap => ("24021", "2024-02-02", "2024-02-15", "2024-03-15"),
+        Dated::Overlap => ("24021", "2024-01-31", "2024-02-15", "2024-03-15"),
+        Dated::Early => ("24021", "2024-02-01", "2024-02-15", "2024-02-15"),
+        Dated::Next => ("24021", "2024-02-01", "2024-02-15", "2024-03-15"),
+    }
+}
+
+/// The text of these review days, rate and periods.
+fn text_of(
     alloc: Global,
     review_days: u8,
-    rate: RateRow,
-    periods: [PeriodRow; 2],
-) -> Result<Result<Change, PlanFault>, Fail> {
-    let mut plan = january(alloc)?;
-    plan.set_day(day("2024-01-05")?)?;
-    match plan.extend(&text(alloc, review_days, &[rate], &periods)?) {
-        Err(PlanFault::NoMemory) => Err(PlanFault::NoMemory)?,
+    rated: Rated,
+    dated: [Dated; 2],
+) -> Result<PlanText, Fail> {
+    let [first, second] = dated;
+    let periods = [period_row(first), period_row(second)];
+    text(alloc, review_days, &[rate_row(rated)], &periods)
+}
+
+/// What January's plan answers on 5 January to a text.
+fn answer(alloc: Global, text: &PlanText) -> Result<Result<Change, PlanFault>, Fail> {
+    let mut plan = january_on(alloc, "2024-01-05")?;
+    Ok(publish(&mut plan, text))
+}
+
+/// An answer that is not want of memory.
+fn unless_no_memory(
+    answer: Result<Change, PlanFault>,
+) -> Result<Result<Change, PlanFault>, PlanFault> {
+    match answer {
+        Err(PlanFault::NoMemory) => Err(PlanFault::NoMemory),
         answer => Ok(answer),
     }
 }
 
+/// Review days, a rate, two periods, and the answer.
+type Publication = (u8, Rated, [Dated; 2], Result<Change, PlanFault>);
+
+const PUBLICATIONS: [Publication; 18] = [
+    (
+        14,
+        Rated::Known,
+        [Dated::Held, Dated::Held],
+        Ok(Change::Held),
+    ),
+    (
+        14,
+        Rated::Future,
+        [Dated::Held, Dated::Held],
+        Ok(Change::Done),
+    ),
+    (
+        14,
+        Rated::Known,
+        [Dated::Next, Dated::Next],
+        Ok(Change::Done),
+    ),
+    (
+        0,
+        Rated::Known,
+        [Dated::Held, Dated::Held],
+        Err(PlanFault::WrongKey),
+    ),
+    (
+        61,
+        Rated::Known,
+        [Dated::Held, Dated::Held],
+        Err(PlanFault::WrongKey),
+    ),
+    (
+        14,
+        Rated::Unknown,
+        [Dated::Held, Dated::Held],
+        Err(PlanFault::WrongKey),
+    ),
+    (
+        14,
+        Rated::Large,
+        [Dated::Held, Dated::Held],
+        Err(PlanFault::WrongKey),
+    ),
+    (
+        15,
+        Rated::Known,
+        [Dated::Held, Dated::Held],
+        Err(PlanFault::Differs),
+    ),
+    (
+        14,
+        Rated::Other,
+        [Dated::Held, Dated::Held],
+        Err(PlanFault::Differs),
+    ),
+    (
+        14,
+        Rated::Known,
+        [Dated::Held, Dated::Moved],
+        Err(PlanFault::Differs),
+    ),
+    (
+        14,
+        Rated::Known,
+        [Dated::Gap, Dated::Next],
+        Err(PlanFault::Differs),
+    ),
+    (
+        14,
+        Rated::Known,
+        [Dated::Held, Dated::Gap],
+        Err(PlanFault::OutOfOrder),
+    ),
+    (
+        14,
+        Rated::Known,
+        [Dated::Held, Dated::Overlap],
+        Err(PlanFault::OutOfOrder),
+    ),
+    (
+        14,
+        Rated::Known,
+        [Dated::Held, Dated::Early],
+        Err(PlanFault::OutOfOrder),
+    ),
+    (
+        14,
+        Rated::Late,
+        [Dated::Held, Dated::Held],
+        Err(PlanFault::LateRate),
+    ),
+    (
+        15,
+        Rated::Unknown,
+        [Dated::Held, Dated::Gap],
+        Err(PlanFault::WrongKey),
+    ),
+    (
+        15,
+        Rated::Late,
+        [Dated::Held, Dated::Gap],
+        Err(PlanFault::Differs),
+    ),
+    (
+        14,
+        Rated::Late,
+        [Dated::Held, Dated::Gap],
+        Err(PlanFault::OutOfOrder),
+    ),
+];
+
+fn assert_answer(rt: &impl Abort, alloc: Global, publication: Publication) -> Result<(), Fail> {
+    let (review_days, rated, dated, expected) = publication;
+    let text = text_of(alloc, review_days, rated, dated)?;
+    let answer = unless_no_memory(answer(alloc, &text)?)?;
+    assert_eq!(rt; answer, expected);
+    Ok(())
+}
+
 #[test]
 fn a_text_is_refused_for_the_first_reason(rt: HostRuntime) -> Result<(), Fail> {
-    let known = ("125", "2024-01-01", 500);
-    let unknown = ("126", "2024-02-01", 1);
-    let large = ("125", "2024-02-01", 10_001);
-    let other = ("125", "2024-01-01", 501);
-    let late = ("125", "2024-01-05", 600);
-    let future = ("125", "2024-01-06", 600);
-    let held = JANUARY[0];
-    let moved = ("24012", "2024-01-16", "2024-01-31", "2024-03-01");
-    let gap = ("24021", "2024-02-02", "2024-02-15", "2024-03-15");
-    let overlap = ("24021", "2024-01-31", "2024-02-15", "2024-03-15");
-    let early = ("24021", "2024-02-01", "2024-02-15", "2024-02-15");
-    let next = ("24021", "2024-02-01", "2024-02-15", "2024-03-15");
-    let rows = [
-        (14, known, [held, held], Ok(Change::Held)),
-        (14, future, [held, held], Ok(Change::Done)),
-        (14, known, [next, next], Ok(Change::Done)),
-        (0, known, [held, held], Err(PlanFault::WrongKey)),
-        (61, known, [held, held], Err(PlanFault::WrongKey)),
-        (14, unknown, [held, held], Err(PlanFault::WrongKey)),
-        (14, large, [held, held], Err(PlanFault::WrongKey)),
-        (15, known, [held, held], Err(PlanFault::Differs)),
-        (14, other, [held, held], Err(PlanFault::Differs)),
-        (14, known, [held, moved], Err(PlanFault::Differs)),
-        (14, known, [gap, next], Err(PlanFault::Differs)),
-        (14, known, [held, gap], Err(PlanFault::OutOfOrder)),
-        (14, known, [held, overlap], Err(PlanFault::OutOfOrder)),
-        (14, known, [held, early], Err(PlanFault::OutOfOrder)),
-        (14, late, [held, held], Err(PlanFault::LateRate)),
-        (15, unknown, [held, gap], Err(PlanFault::WrongKey)),
-        (15, late, [held, gap], Err(PlanFault::Differs)),
-        (14, late, [held, gap], Err(PlanFault::OutOfOrder)),
-    ];
-    for (review_days, rate, periods, expected) in rows {
-        assert_eq!(rt; answer(rt.alloc(), review_days, rate, periods)?, expected);
+    for publication in PUBLICATIONS {
+        assert_answer(&rt, rt.alloc(), publication)?;
     }
     Ok(())
+}
+
+/// February, in which the other airline pays 9 %.
+fn february_text(alloc: Global) -> Result<PlanText, Fail> {
+    text(
+        alloc,
+        14,
+        &[("220", "2024-02-01", 900)],
+        &[period_row(Dated::Next)],
+    )
+}
+
+fn assert_done(rt: &impl Abort, answer: Result<Change, PlanFault>) {
+    assert_eq!(rt; answer, Ok(Change::Done));
+}
+
+/// The plan has January's rates and periods and no others, and then February's too.
+fn assert_published_later(rt: &impl Abort, plan: &mut Plan, text: &PlanText) -> Result<(), Fail> {
+    assert_rate(rt, plan, ("220", "2024-02-01", 0))?;
+    assert_rate(rt, plan, FIVE_PERCENT)?;
+    assert_unknown(rt, plan, "24021")?;
+    assert_published(rt, plan, text, Change::Done)
+}
+
+fn assert_published_or_as_before(
+    rt: &impl Abort,
+    plan: &mut Plan,
+    text: &PlanText,
+) -> Result<(), Fail> {
+    match publish(plan, text) {
+        Err(PlanFault::NoMemory) => assert_published_later(rt, plan, text)?,
+        first => assert_done(rt, first),
+    }
+    assert_rate(rt, plan, ("220", "2024-02-01", 900))
 }
 
 #[test]
 fn want_of_memory_changes_nothing(rt: HostRuntime) -> Result<(), Fail> {
     let mut plan = january(rt.alloc())?;
-    let february = ("24021", "2024-02-01", "2024-02-15", "2024-03-15");
-    let text = text(rt.alloc(), 14, &[("220", "2024-02-01", 900)], &[february])?;
-    let first = plan.extend(&text);
-    if first == Err(PlanFault::NoMemory) {
-        assert_eq!(rt; plan.rate(airline("220")?, day("2024-02-01")?), 0);
-        assert_eq!(rt; plan.rate(airline("125")?, day("2024-01-01")?), 500);
-        assert_eq!(rt; plan.period(code("24021")?), None);
-        assert_eq!(rt; plan.extend(&text), Ok(Change::Done));
-    } else {
-        assert_eq!(rt; first, Ok(Change::Done));
-    }
-    assert_eq!(rt; plan.rate(airline("220")?, day("2024-02-01")?), 900);
-    Ok(())
+    let text = february_text(rt.alloc())?;
+    assert_published_or_as_before(&rt, &mut plan, &text)
 }

@@ -1,0 +1,56 @@
+//! Entries for tests, from texts as a plan text has them.
+
+use crate::currency::Currency;
+use crate::entries::{Period, Rate, Terms};
+use bsp_fields::{AirlineCode, Day, PeriodCode};
+use std::test::Fail;
+
+/// An airline, a first day and hundredths of a percent.
+pub(crate) type RateRow = (&'static str, &'static str, u16);
+
+/// A code, a first day, a last day and a day of remittance.
+pub(crate) type PeriodRow = (&'static str, &'static str, &'static str, &'static str);
+
+pub(crate) const FIVE_PERCENT: RateRow = ("125", "2024-01-01", 500);
+
+pub(crate) const FIRST_HALF: PeriodRow = ("24011", "2024-01-01", "2024-01-15", "2024-02-15");
+
+pub(crate) const SECOND_HALF: PeriodRow = ("24012", "2024-01-16", "2024-01-31", "2024-02-29");
+
+pub(crate) fn day(text: &str) -> Result<Day, Fail> {
+    Ok(Day::read_text(text.as_bytes())?)
+}
+
+pub(crate) fn airline(digits: &str) -> Result<AirlineCode, Fail> {
+    Ok(AirlineCode::read(digits.as_bytes())?)
+}
+
+pub(crate) fn code(digits: &str) -> Result<PeriodCode, Fail> {
+    Ok(PeriodCode::read(digits.as_bytes())?)
+}
+
+pub(crate) fn rate(row: RateRow) -> Result<Rate, Fail> {
+    Ok(Rate {
+        airline: airline(row.0)?,
+        from: day(row.1)?,
+        hundredths: row.2,
+    })
+}
+
+pub(crate) fn period(row: PeriodRow) -> Result<Period, Fail> {
+    Ok(Period {
+        code: code(row.0)?,
+        first: day(row.1)?,
+        last: day(row.2)?,
+        remittance: day(row.3)?,
+    })
+}
+
+/// Terms in euro.
+pub(crate) fn terms(review_days: u8, documents_limit: u32) -> Result<Terms, Fail> {
+    Ok(Terms {
+        currency: Currency::read(b"EUR").ok_or("EUR is no currency")?,
+        review_days,
+        documents_limit,
+    })
+}
