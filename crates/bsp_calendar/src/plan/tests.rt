@@ -145,6 +145,13 @@ fn january_on(alloc: Global, date: &str) -> Result<Plan, Fail> {
 }
 
 #[test]
+fn a_fault_is_told_as_text(rt: HostRuntime) -> Result<(), Fail> {
+    let text = format!(in rt.alloc(); "{}", PlanFault::NotOver)?;
+    assert_eq!(rt; text.as_str(), "P07: the period is not over");
+    Ok(())
+}
+
+#[test]
 fn no_terms_stand_before_a_text(rt: HostRuntime) {
     let plan = Plan::empty(rt.alloc());
     assert_eq!(rt; plan.terms(), None);
