@@ -11,7 +11,7 @@ fn issue(kind: MemoKind, amount: i64, reason: &[u8]) -> Option<Memo> {
     let document = DocNumber::read(b"6000000001", 2).ok()?;
     let agent = AgentCode::read(b"12345675").ok()?;
     let reason = Reason::read(reason)?;
-    let issued = day(b"2024-01-05")?;
+    let issued = day("2024-01-05")?;
     Memo::issue(airline, document, agent, kind, amount, reason, issued).ok()
 }
 
@@ -23,125 +23,197 @@ fn credit(amount: i64) -> Option<Memo> {
     issue(MemoKind::Credit, amount, b"fare difference")
 }
 
-fn day(text: &[u8]) -> Option<Day> {
-    Day::read_text(text).ok()
+fn day(text: &str) -> Option<Day> {
+    Day::read_text(text.as_bytes()).ok()
 }
 
-/// The amount that a close on the day bills, in period 24011.
-fn close(memo: &mut Memo, text: &[u8]) -> Option<i64> {
+/// What is done about a memo, some of it on a day.
+#[derive(Clone, Copy)]
+enum Step {
+    Dispute(&'static str),
+    Agree(&'static str),
+    Uphold,
+    Reduce(i64),
+    Withdraw,
+    Close(&'static str),
+}
+
+/// What a step answers; a close the amount that it bills, or 0.
+#[derive(Clone, Copy, Debug, PartialEq, Eq)]
+enum Outcome {
+    Done,
+    Held,
+    Refused(MemoFault),
+    Bills(i64),
+}
+
+fn outcome_of(answer: Result<Change, MemoFault>) -> Outcome {
+    match answer {
+        Ok(Change::Done) => Outcome::Done,
+        Ok(Change::Held) => Outcome::Held,
+        Err(fault) => Outcome::Refused(fault),
+    }
+}
+
+/// A close of period 24011 on the day.
+fn close(memo: &mut Memo, day: Day) -> Option<Outcome> {
     let period = PeriodCode::read(b"24011").ok()?;
-    let amount = billed_now(memo, day(text)?, REVIEW)?;
+    let Some(amount) = billed_now(memo, day, REVIEW) else {
+        return Some(Outcome::Bills(0));
+    };
     bill(memo, period);
-    Some(amount.get())
+    Some(Outcome::Bills(amount.get()))
+}
+
+fn take(memo: &mut Memo, step: Step) -> Option<Outcome> {
+    match step {
+        Step::Dispute(on) => Some(outcome_of(dispute(memo, day(on)?, REVIEW))),
+        Step::Agree(on) => Some(outcome_of(agree(memo, day(on)?, REVIEW))),
+        Step::Uphold => Some(outcome_of(uphold(memo))),
+        Step::Reduce(amount) => Some(outcome_of(reduce(memo, amount))),
+        Step::Withdraw => Some(outcome_of(withdraw(memo))),
+        Step::Close(on) => close(memo, day(on)?),
+    }
+}
+
+/// How many of the steps answer as they say, up to the first that does not; none without a memo.
+fn followed(memo: Option<Memo>, steps: &[(Step, Outcome)]) -> Option<usize> {
+    let mut memo = memo?;
+    for (place, (step, wanted)) in steps.iter().enumerate() {
+        if take(&mut memo, *step) != Some(*wanted) {
+            return Some(place);
+        }
+    }
+    Some(steps.len())
+}
+
+const REDUCED: [(Step, Outcome); 12] = [
+    (Step::Dispute("2024-01-19"), Outcome::Done),
+    (Step::Dispute("2024-01-20"), Outcome::Held),
+    (
+        Step::Agree("2024-01-19"),
+        Outcome::Refused(MemoFault::StateForbids),
+    ),
+    (
+        Step::Reduce(5000),
+        Outcome::Refused(MemoFault::AmountOutOfRange),
+    ),
+    (
+        Step::Reduce(0),
+        Outcome::Refused(MemoFault::AmountOutOfRange),
+    ),
+    (Step::Reduce(3000), Outcome::Done),
+    (Step::Reduce(3000), Outcome::Held),
+    (
+        Step::Reduce(2000),
+        Outcome::Refused(MemoFault::StateForbids),
+    ),
+    (Step::Close("2024-01-20"), Outcome::Bills(3000)),
+    (Step::Close("2024-02-01"), Outcome::Bills(0)),
+    (Step::Withdraw, Outcome::Refused(MemoFault::StateForbids)),
+    (Step::Reduce(3000), Outcome::Held),
+];
+
+const OPEN: [(Step, Outcome); 5] = [
+    (Step::Close("2024-01-19"), Outcome::Bills(0)),
+    (
+        Step::Dispute("2024-01-20"),
+        Outcome::Refused(MemoFault::ReviewOver),
+    ),
+    (Step::Close("2024-01-20"), Outcome::Bills(5000)),
+    (
+        Step::Dispute("2024-01-20"),
+        Outcome::Refused(MemoFault::ReviewOver),
+    ),
+    (Step::Withdraw, Outcome::Refused(MemoFault::StateForbids)),
+];
+
+const DISPUTED: [(Step, Outcome); 5] = [
+    (Step::Dispute("2024-01-19"), Outcome::Done),
+    (Step::Close("2024-01-19"), Outcome::Bills(0)),
+    (Step::Reduce(3000), Outcome::Done),
+    (Step::Close("2024-02-01"), Outcome::Bills(3000)),
+    (Step::Close("2024-02-01"), Outcome::Bills(0)),
+];
+
+const CREDIT: [(Step, Outcome); 3] = [
+    (
+        Step::Agree("2024-01-05"),
+        Outcome::Refused(MemoFault::CreditMemo),
+    ),
+    (Step::Close("2024-01-05"), Outcome::Bills(5000)),
+    (Step::Close("2024-01-20"), Outcome::Bills(0)),
+];
+
+const AGREED: [(Step, Outcome); 3] = [
+    (Step::Agree("2024-01-05"), Outcome::Done),
+    (Step::Agree("2024-01-05"), Outcome::Held),
+    (Step::Close("2024-01-05"), Outcome::Bills(5000)),
+];
+
+const UPHELD: [(Step, Outcome); 5] = [
+    (Step::Uphold, Outcome::Refused(MemoFault::StateForbids)),
+    (Step::Dispute("2024-01-05"), Outcome::Done),
+    (Step::Uphold, Outcome::Done),
+    (Step::Uphold, Outcome::Held),
+    (Step::Close("2024-01-05"), Outcome::Bills(5000)),
+];
+
+const WITHDRAWN: [(Step, Outcome); 3] = [
+    (Step::Withdraw, Outcome::Done),
+    (Step::Withdraw, Outcome::Held),
+    (Step::Close("2024-02-01"), Outcome::Bills(0)),
+];
+
+#[test]
+fn a_reduced_memo_is_billed_once(rt: HostRuntime) {
+    assert_eq!(rt; followed(debit(5000), &REDUCED), Some(REDUCED.len()));
 }
 
 #[test]
-fn a_reduced_memo_is_billed_once(rt: HostRuntime) -> Result<(), Fail> {
-    let mut memo = debit(5000).ok_or("issue")?;
-    let (last, past) = (
-        day(b"2024-01-19").ok_or("day")?,
-        day(b"2024-01-20").ok_or("day")?,
-    );
-    assert_eq!(rt; dispute(&mut memo, last, REVIEW), Ok(Change::Done));
-    assert_eq!(rt; dispute(&mut memo, past, REVIEW), Ok(Change::Held));
-    assert_eq!(rt;
-        agree(&mut memo, last, REVIEW),
-        Err(MemoFault::StateForbids)
-    );
-    assert_eq!(rt; reduce(&mut memo, 5000), Err(MemoFault::AmountOutOfRange));
-    assert_eq!(rt; reduce(&mut memo, 0), Err(MemoFault::AmountOutOfRange));
-    assert_eq!(rt; reduce(&mut memo, 3000), Ok(Change::Done));
-    assert_eq!(rt; reduce(&mut memo, 3000), Ok(Change::Held));
-    assert_eq!(rt; reduce(&mut memo, 2000), Err(MemoFault::StateForbids));
-    assert_eq!(rt; memo.fields().issued_amount.get(), 5000);
-    assert_eq!(rt; close(&mut memo, b"2024-01-20"), Some(3000));
-    assert_eq!(rt; close(&mut memo, b"2024-02-01"), None);
-    assert_eq!(rt; withdraw(&mut memo), Err(MemoFault::StateForbids));
-    assert_eq!(rt; reduce(&mut memo, 3000), Ok(Change::Held));
-    Ok(())
+fn an_open_memo_is_billed_after_its_review(rt: HostRuntime) {
+    assert_eq!(rt; followed(debit(5000), &OPEN), Some(OPEN.len()));
 }
 
 #[test]
-fn an_open_memo_is_billed_after_its_review(rt: HostRuntime) -> Result<(), Fail> {
-    let mut memo = debit(5000).ok_or("issue")?;
-    let past = day(b"2024-01-20").ok_or("day")?;
-    assert_eq!(rt; close(&mut memo, b"2024-01-19"), None);
-    assert_eq!(rt;
-        dispute(&mut memo, past, REVIEW),
-        Err(MemoFault::ReviewOver)
-    );
-    assert_eq!(rt; close(&mut memo, b"2024-01-20"), Some(5000));
-    assert_eq!(rt;
-        dispute(&mut memo, past, REVIEW),
-        Err(MemoFault::ReviewOver)
-    );
-    assert_eq!(rt; withdraw(&mut memo), Err(MemoFault::StateForbids));
-    let mut memo = credit(5000).ok_or("issue")?;
-    assert_eq!(rt; agree(&mut memo, past, REVIEW), Err(MemoFault::CreditMemo));
-    assert_eq!(rt; close(&mut memo, b"2024-01-05"), Some(5000));
-    assert_eq!(rt; close(&mut memo, b"2024-01-20"), None);
-    Ok(())
+fn a_disputed_memo_is_not_billed(rt: HostRuntime) {
+    assert_eq!(rt; followed(debit(5000), &DISPUTED), Some(DISPUTED.len()));
 }
 
 #[test]
-fn each_close_bills_what_is_due(rt: HostRuntime) -> Result<(), Fail> {
-    let mut disputed = debit(5000).ok_or("issue")?;
-    let mut open = debit(5000).ok_or("issue")?;
-    let mut acma = credit(100).ok_or("issue")?;
-    let last = day(b"2024-01-19").ok_or("day")?;
-    assert_eq!(rt; dispute(&mut disputed, last, REVIEW), Ok(Change::Done));
-    let bills = [
-        close(&mut disputed, b"2024-01-19"),
-        close(&mut open, b"2024-01-19"),
-        close(&mut acma, b"2024-01-19"),
-    ];
-    assert_eq!(rt; bills, [None, None, Some(100)]);
-    assert_eq!(rt;
-        reduce(&mut disputed, 5000),
-        Err(MemoFault::AmountOutOfRange)
-    );
-    assert_eq!(rt; reduce(&mut disputed, 3000), Ok(Change::Done));
-    let bills = [
-        close(&mut disputed, b"2024-02-01"),
-        close(&mut open, b"2024-02-01"),
-        close(&mut acma, b"2024-02-01"),
-    ];
-    assert_eq!(rt; bills, [Some(3000), Some(5000), None]);
-    let bills = [
-        close(&mut disputed, b"2024-02-01"),
-        close(&mut open, b"2024-02-01"),
-        close(&mut acma, b"2024-02-01"),
-    ];
-    assert_eq!(rt; bills, [None, None, None]);
-    Ok(())
+fn an_agreed_memo_is_billed(rt: HostRuntime) {
+    assert_eq!(rt; followed(debit(5000), &AGREED), Some(AGREED.len()));
 }
 
 #[test]
-fn actions_are_done_and_held(rt: HostRuntime) -> Result<(), Fail> {
-    let first = day(b"2024-01-05").ok_or("day")?;
-    let mut agreed = debit(5000).ok_or("issue")?;
-    assert_eq!(rt; agree(&mut agreed, first, REVIEW), Ok(Change::Done));
-    assert_eq!(rt; agree(&mut agreed, first, REVIEW), Ok(Change::Held));
-    assert_eq!(rt; close(&mut agreed, b"2024-01-05"), Some(5000));
-    let mut upheld = debit(5000).ok_or("issue")?;
-    assert_eq!(rt; uphold(&mut upheld), Err(MemoFault::StateForbids));
-    assert_eq!(rt; dispute(&mut upheld, first, REVIEW), Ok(Change::Done));
-    assert_eq!(rt; uphold(&mut upheld), Ok(Change::Done));
-    assert_eq!(rt; uphold(&mut upheld), Ok(Change::Held));
-    assert_eq!(rt; close(&mut upheld, b"2024-01-05"), Some(5000));
-    let mut withdrawn = debit(5000).ok_or("issue")?;
-    assert_eq!(rt; withdraw(&mut withdrawn), Ok(Change::Done));
-    assert_eq!(rt; withdraw(&mut withdrawn), Ok(Change::Held));
-    assert_eq!(rt; close(&mut withdrawn, b"2024-02-01"), None);
-    Ok(())
+fn an_upheld_memo_is_billed(rt: HostRuntime) {
+    assert_eq!(rt; followed(debit(5000), &UPHELD), Some(UPHELD.len()));
 }
 
 #[test]
-fn the_same_issue_is_known_again(rt: HostRuntime) -> Result<(), Fail> {
-    let mut memo = debit(5000).ok_or("issue")?;
-    let first = day(b"2024-01-05").ok_or("day")?;
-    assert_eq!(rt; dispute(&mut memo, first, REVIEW), Ok(Change::Done));
-    assert_eq!(rt; reduce(&mut memo, 3000), Ok(Change::Done));
+fn a_withdrawn_memo_is_not_billed(rt: HostRuntime) {
+    assert_eq!(rt; followed(debit(5000), &WITHDRAWN), Some(WITHDRAWN.len()));
+}
+
+#[test]
+fn a_credit_memo_is_billed_at_once(rt: HostRuntime) {
+    assert_eq!(rt; followed(credit(5000), &CREDIT), Some(CREDIT.len()));
+}
+
+/// A memo that is reduced from 5000 to 3000.
+fn reduced() -> Option<Memo> {
+    let mut memo = debit(5000)?;
+    dispute(&mut memo, day("2024-01-05")?, REVIEW).ok()?;
+    reduce(&mut memo, 3000).ok()?;
+    Some(memo)
+}
+
+fn is_issued_again(other: Option<Memo>) -> Option<bool> {
+    Some(reduced()?.is_same_issue(&other?))
+}
+
+#[test]
+fn the_same_issue_is_known_again(rt: HostRuntime) {
     let others = [
         (debit(5000), true),
         (debit(3000), false),
@@ -150,13 +222,12 @@ fn the_same_issue_is_known_again(rt: HostRuntime) -> Result<(), Fail> {
         (issue(MemoKind::Debit, 5000, b"fare difference "), false),
     ];
     for (other, same) in others {
-        assert_eq!(rt; memo.is_same_issue(&other.ok_or("issue")?), same);
+        assert_eq!(rt; is_issued_again(other), Some(same));
     }
-    Ok(())
 }
 
 #[test]
-fn amounts_and_reasons_are_judged(rt: HostRuntime) -> Result<(), Fail> {
+fn amounts_are_judged(rt: HostRuntime) {
     let amounts = [
         (i64::MIN, false),
         (0, false),
@@ -167,108 +238,106 @@ fn amounts_and_reasons_are_judged(rt: HostRuntime) -> Result<(), Fail> {
     for (amount, taken) in amounts {
         assert_eq!(rt; debit(amount).is_some(), taken, "at {amount}");
     }
-    let reasons: [(&[u8], bool); 6] = [
-        (b"", false),
-        (b" ", true),
-        (b"~", true),
-        (b"0123456789012345678901234567890123456789", true),
-        (b"01234567890123456789012345678901234567890", false),
-        (b"a\x7f", false),
+}
+
+/// A reason that is read is given back.
+fn is_reason(text: &str) -> bool {
+    match Reason::read(text.as_bytes()) {
+        Some(reason) => reason.as_str() == text,
+        None => false,
+    }
+}
+
+#[test]
+fn reasons_are_judged(rt: HostRuntime) {
+    let reasons = [
+        ("", false),
+        (" ", true),
+        ("~", true),
+        ("fare difference ", true),
+        ("0123456789012345678901234567890123456789", true),
+        ("01234567890123456789012345678901234567890", false),
+        ("a\x7f", false),
     ];
     for (text, taken) in reasons {
-        assert_eq!(rt; Reason::read(text).is_some(), taken);
+        assert_eq!(rt; is_reason(text), taken, "at {text}");
     }
-    let reason = Reason::read(b"fare difference ").ok_or("reason")?;
-    assert_eq!(rt; reason.as_str(), "fare difference ");
-    Ok(())
+}
+
+/// Kind, state, whether billed, the amount and the amount as issued of stored fields.
+type Stored = (MemoKind, MemoState, bool, i64, i64);
+
+/// Whether fields that a store kept make a memo.
+fn is_restored(stored: Stored) -> Option<bool> {
+    let (kind, state, is_billed, amount, issued_amount) = stored;
+    let period = PeriodCode::read(b"24011").ok()?;
+    let fields = MemoFields {
+        kind,
+        state,
+        billed: is_billed.then_some(period),
+        amount: Amount::new(amount).ok()?,
+        issued_amount: Amount::new(issued_amount).ok()?,
+        ..*debit(5000)?.fields()
+    };
+    Some(Memo::restore(fields).is_some())
+}
+
+const STORED: [(Stored, bool); 11] = [
+    ((MemoKind::Debit, MemoState::Open, false, 5000, 5000), true),
+    (
+        (MemoKind::Debit, MemoState::Reduced, false, 5000, 5000),
+        false,
+    ),
+    ((MemoKind::Debit, MemoState::Open, false, 3000, 5000), false),
+    (
+        (MemoKind::Debit, MemoState::Reduced, false, 3000, 5000),
+        true,
+    ),
+    (
+        (MemoKind::Debit, MemoState::Reduced, false, 6000, 5000),
+        false,
+    ),
+    ((MemoKind::Credit, MemoState::Open, false, 5000, 5000), true),
+    (
+        (MemoKind::Credit, MemoState::Agreed, false, 5000, 5000),
+        false,
+    ),
+    ((MemoKind::Debit, MemoState::Open, true, 5000, 5000), true),
+    (
+        (MemoKind::Debit, MemoState::Disputed, true, 5000, 5000),
+        false,
+    ),
+    (
+        (MemoKind::Debit, MemoState::Withdrawn, true, 5000, 5000),
+        false,
+    ),
+    ((MemoKind::Debit, MemoState::Open, false, 0, 0), false),
+];
+
+#[test]
+fn stored_fields_are_judged(rt: HostRuntime) {
+    for (stored, taken) in STORED {
+        assert_eq!(rt; is_restored(stored), Some(taken));
+    }
+}
+
+fn is_code(kind: MemoKind, code: &str) -> bool {
+    kind.code() == code && MemoKind::read(code) == Some(kind)
 }
 
 #[test]
-fn stored_fields_are_judged(rt: HostRuntime) -> Result<(), Fail> {
-    let fields = *debit(5000).ok_or("issue")?.fields();
-    let billed = Some(PeriodCode::read(b"24011")?);
-    let (low, high) = (Amount::new(3000)?, Amount::new(6000)?);
-    let state = MemoState::Reduced;
-    let cases = [
-        (fields, true),
-        (MemoFields { state, ..fields }, false),
-        (
-            MemoFields {
-                amount: low,
-                ..fields
-            },
-            false,
-        ),
-        (
-            MemoFields {
-                amount: low,
-                state,
-                ..fields
-            },
-            true,
-        ),
-        (
-            MemoFields {
-                amount: high,
-                state,
-                ..fields
-            },
-            false,
-        ),
-        (
-            MemoFields {
-                kind: MemoKind::Credit,
-                ..fields
-            },
-            true,
-        ),
-        (
-            MemoFields {
-                kind: MemoKind::Credit,
-                state: MemoState::Agreed,
-                ..fields
-            },
-            false,
-        ),
-        (MemoFields { billed, ..fields }, true),
-        (
-            MemoFields {
-                billed,
-                state: MemoState::Disputed,
-                ..fields
-            },
-            false,
-        ),
-        (
-            MemoFields {
-                billed,
-                state: MemoState::Withdrawn,
-                ..fields
-            },
-            false,
-        ),
-        (
-            MemoFields {
-                amount: Amount::new(0)?,
-                issued_amount: Amount::new(0)?,
-                ..fields
-            },
-            false,
-        ),
-    ];
-    for (fields, taken) in cases {
-        let memo = Memo::restore(fields);
-        assert_eq!(rt; memo.is_some(), taken, "at {fields:?}");
-    }
-    Ok(())
-}
-
-#[test]
-fn words_are_written_and_read(rt: HostRuntime) -> Result<(), Fail> {
+fn kinds_are_written_and_read(rt: HostRuntime) {
     for (kind, code) in [(MemoKind::Debit, "ADMA"), (MemoKind::Credit, "ACMA")] {
-        assert_eq!(rt; kind.code(), code);
-        assert_eq!(rt; MemoKind::read(code), Some(kind));
+        assert!(rt; is_code(kind, code), "{code}");
     }
+}
+
+fn is_word(state: MemoState, word: &str) -> bool {
+    state.word() == word && MemoState::read(word) == Some(state)
+}
+
+#[test]
+fn states_are_written_and_read(rt: HostRuntime) {
     let states = [
         (MemoState::Open, "open"),
         (MemoState::Agreed, "agreed"),
@@ -278,11 +347,18 @@ fn words_are_written_and_read(rt: HostRuntime) -> Result<(), Fail> {
         (MemoState::Withdrawn, "withdrawn"),
     ];
     for (state, word) in states {
-        assert_eq!(rt; state.word(), word);
-        assert_eq!(rt; MemoState::read(word), Some(state));
+        assert!(rt; is_word(state, word), "{word}");
     }
+}
+
+#[test]
+fn other_words_are_not_read(rt: HostRuntime) {
     assert_eq!(rt; MemoKind::read("TKTT"), None);
     assert_eq!(rt; MemoState::read("Open"), None);
+}
+
+#[test]
+fn a_fault_has_its_text(rt: HostRuntime) -> Result<(), Fail> {
     assert_eq!(rt; MemoFault::ReviewOver.code(), "M02");
     let text = format!(in rt.alloc(); "{}", MemoFault::ReviewOver)?;
     assert_eq!(rt; text.as_str(), "M02: the review is over");
