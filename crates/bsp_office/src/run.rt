@@ -64,7 +64,7 @@ fn refuse(rt: &HostRuntime, fault: &WordsFault) -> u8 {
 }
 
 /// Runs the work that these words ask for, the first being the program's name.
-pub(crate) fn run_line<S: AsStr>(rt: &HostRuntime, line: &[S]) -> u8 {
+fn run_line<S: AsStr>(rt: &HostRuntime, line: &[S]) -> u8 {
     match words(rt.alloc(), line) {
         Ok(work) => run_work(rt, &work),
         Err(fault) => refuse(rt, &fault),

@@ -2,10 +2,9 @@
 
 use super::files::{V1, front, text};
 use super::hot_files::{NO_DOCUMENTS, V3};
-use super::{Told, is_wanted, status_of};
+use super::status_of;
 use crate::checking::{Fault, report_within};
 use crate::report::Format;
-use bsp_fields::NoRoom;
 use std::io;
 use std::io::{ErrorKind, Read, Write};
 use std::test::Fail;
@@ -83,27 +82,12 @@ impl Write for Output<'_> {
 type ReadCase<'a> = (&'a [Step], u8, &'a [u8], usize);
 
 /// Whether the command for files of this format follows such a reader of these bytes.
-fn follows_reads(
-    rt: &HostRuntime,
-    format: Format,
-    bytes: &[u8],
-    case: ReadCase<'_>,
-) -> Result<bool, NoRoom> {
+fn follows_reads(rt: &HostRuntime, format: Format, bytes: &[u8], case: ReadCase<'_>) -> bool {
     let (steps, status, report, left) = case;
     let mut input = Input { bytes, steps };
     let mut written = Vec::new(rt.alloc());
-    let status_told = status_of(rt, format, &mut input, &mut written);
-    let told = Told {
-        status: status_told,
-        written: &written,
-        left: input.bytes.len(),
-    };
-    let wanted = Told {
-        status,
-        written: report,
-        left,
-    };
-    is_wanted(told, wanted)
+    let answer = status_of(rt, format, &mut input, &mut written);
+    answer == status && written.as_slice() == report && input.bytes.len() == left
 }
 
 /// A reader that fails leaves nothing written, and is not read again.
@@ -130,7 +114,7 @@ fn reads_are_followed(rt: HostRuntime) -> Result<(), Fail> {
     ];
     let v1 = text(&rt, &V1, b"\n")?;
     for case in cases {
-        assert!(rt; follows_reads(&rt, Format::Ret, &v1, case)?);
+        assert!(rt; follows_reads(&rt, Format::Ret, &v1, case));
     }
     Ok(())
 }
@@ -157,7 +141,7 @@ fn reads_of_hot_files_are_followed(rt: HostRuntime) -> Result<(), Fail> {
     ];
     let v3 = text(&rt, &V3, b"\n")?;
     for case in cases {
-        assert!(rt; follows_reads(&rt, Format::Hot, &v3, case)?);
+        assert!(rt; follows_reads(&rt, Format::Hot, &v3, case));
     }
     Ok(())
 }
@@ -181,18 +165,9 @@ fn follows_writes(
         steps,
         flush_fails,
     };
-    let status_told = status_of(rt, format, &mut input, &mut output);
-    let told = Told {
-        status: status_told,
-        written: &output.written,
-        left: input.len(),
-    };
-    let wanted = Told {
-        status,
-        written: front(report, length),
-        left: 0,
-    };
-    Ok(is_wanted(told, wanted)?)
+    let answer = status_of(rt, format, &mut input, &mut output);
+    let is_front = output.written.as_slice() == front(report, length);
+    Ok(answer == status && is_front && input.is_empty())
 }
 
 /// A writer that fails or takes no byte has the report's first bytes, and is not written again.
@@ -236,20 +211,20 @@ fn writes_on_hot_files_are_followed(rt: HostRuntime) -> Result<(), Fail> {
     Ok(())
 }
 
-/// Whether the input is told to be longer than the limit, or is reported on with status 0; none for
-/// another answer.
-fn is_too_long(
+/// Whether a limit on these bytes leaves this answer, this report and so many unread bytes.
+fn follows_limit(
     rt: &HostRuntime,
     format: Format,
-    input: &mut &[u8],
-    written: &mut Vec<u8>,
+    bytes: &[u8],
     limit: u32,
-) -> Result<Option<bool>, NoRoom> {
-    match report_within(rt.alloc(), format, input, written, limit as usize) {
-        Ok(0) => Ok(Some(false)),
-        Err(Fault::TooLong) => Ok(Some(true)),
-        Err(Fault::Memory) => Err(NoRoom),
-        _ => Ok(None),
+    wanted: Result<&[u8], usize>,
+) -> bool {
+    let mut input = bytes;
+    let mut written = Vec::new(rt.alloc());
+    match report_within(rt.alloc(), format, &mut input, &mut written, limit as usize) {
+        Ok(status) => status == 0 && wanted == Ok(written.as_slice()) && input.is_empty(),
+        Err(Fault::TooLong) => written.is_empty() && wanted == Err(input.len()),
+        Err(_) => false,
     }
 }
 
@@ -257,30 +232,37 @@ fn is_too_long(
 /// written.
 #[test]
 fn long_files_are_refused(rt: HostRuntime) -> Result<(), Fail> {
-    let cases: [(Format, u32, bool, &[u8], usize); 8] = [
-        (Format::Ret, 1_073_741_824, false, SALE, 0),
-        (Format::Ret, 686, false, SALE, 0),
-        (Format::Ret, 685, false, SALE, 0),
-        (Format::Ret, 684, true, b"", 0),
-        (Format::Ret, 0, true, b"", 684),
-        (Format::Hot, 548, false, NO_DOCUMENTS, 0),
-        (Format::Hot, 547, true, b"", 0),
-        (Format::Hot, 0, true, b"", 547),
+    let cases: [(u32, Result<&[u8], usize>); 5] = [
+        (1_073_741_824, Ok(SALE)),
+        (686, Ok(SALE)),
+        (685, Ok(SALE)),
+        (684, Err(0)),
+        (0, Err(684)),
     ];
     let v1 = text(&rt, &V1, b"\n")?;
-    let v3 = text(&rt, &V3, b"\n")?;
-    for (format, limit, is_long, report, left) in cases {
-        let mut input = match format {
-            Format::Ret => v1.as_slice(),
-            Format::Hot => v3.as_slice(),
-        };
-        let mut written = Vec::new(rt.alloc());
-        assert_eq!(rt;
-            is_too_long(&rt, format, &mut input, &mut written, limit)?,
-            Some(is_long)
+    for (limit, wanted) in cases {
+        assert!(rt;
+            follows_limit(&rt, Format::Ret, &v1, limit, wanted),
+            "{limit}"
         );
-        assert_eq!(rt; written.as_slice(), report);
-        assert_eq!(rt; input.len(), left);
+    }
+    Ok(())
+}
+
+/// The same of HOT files.
+#[test]
+fn long_hot_files_are_refused(rt: HostRuntime) -> Result<(), Fail> {
+    let cases: [(u32, Result<&[u8], usize>); 3] = [
+        (548, Ok(NO_DOCUMENTS)),
+        (547, Err(0)),
+        (0, Err(547)),
+    ];
+    let v3 = text(&rt, &V3, b"\n")?;
+    for (limit, wanted) in cases {
+        assert!(rt;
+            follows_limit(&rt, Format::Hot, &v3, limit, wanted),
+            "{limit}"
+        );
     }
     Ok(())
 }

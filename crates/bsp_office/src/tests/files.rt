@@ -53,17 +53,22 @@ fn files_are_reported(rt: HostRuntime) -> Result<(), Fail> {
         records 9 transactions 2 sum 0.00\n";
     let sale: &[u8] = b"000001 TKTT 12345675 125-1300000001-6 2024-01-05 235.00\n\
         records 5 transactions 1 sum 235.00\n";
+    let nothing = b"records 2 transactions 0 sum 0.00\n";
     let v0 = text(&rt, &[HEADER, NO_SALES], b"\n")?;
     let v1 = text(&rt, &V1, b"\n")?;
     let refunded = text(&rt, &REFUND, b"\r\n")?;
-    let nothing = b"records 2 transactions 0 sum 0.00\n";
-    assert!(rt; reports(&rt, Format::Ret, &v0, 0, nothing)?);
-    assert!(rt; reports(&rt, Format::Ret, front(&v0, 273), 0, nothing)?);
-    assert!(rt; reports(&rt, Format::Ret, front(&v0, 272), 1, b"F01 record 2\n")?);
-    assert!(rt; reports(&rt, Format::Ret, front(&v0, 137), 1, b"F08 record 2\n")?);
-    assert!(rt; reports(&rt, Format::Ret, b"", 1, b"F08 record 1\n")?);
-    assert!(rt; reports(&rt, Format::Ret, b"\x00\xff\n", 1, b"F01 record 1\n")?);
-    assert!(rt; reports(&rt, Format::Ret, &v1, 0, sale)?);
-    assert!(rt; reports(&rt, Format::Ret, &refunded, 0, refund)?);
+    let cases: [(&[u8], u8, &[u8]); 8] = [
+        (&v0, 0, nothing),
+        (front(&v0, 273), 0, nothing),
+        (front(&v0, 272), 1, b"F01 record 2\n"),
+        (front(&v0, 137), 1, b"F08 record 2\n"),
+        (b"", 1, b"F08 record 1\n"),
+        (b"\x00\xff\n", 1, b"F01 record 1\n"),
+        (&v1, 0, sale),
+        (&refunded, 0, refund),
+    ];
+    for (bytes, status, report) in cases {
+        assert!(rt; reports(&rt, Format::Ret, bytes, status, report));
+    }
     Ok(())
 }

@@ -54,7 +54,7 @@ fn hot_files_are_reported(rt: HostRuntime) -> Result<(), Fail> {
         (b"\x00\xff\n", 1, b"H04 record 1\n"),
     ];
     for (bytes, status, report) in cases {
-        assert!(rt; reports(&rt, Format::Hot, bytes, status, report)?);
+        assert!(rt; reports(&rt, Format::Hot, bytes, status, report));
     }
     Ok(())
 }
