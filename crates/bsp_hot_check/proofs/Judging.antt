@@ -4,7 +4,8 @@ use Rattle.std.specs.Str.{bytes_eq}
 use Rattle.std.proofs.lemmas.Bool.{and_parts, cases_Bool}
 use Rattle.std.proofs.lemmas.List.{take_all}
 use Rattle.std.proofs.Math.Seq.{take-append_seam, take-append-add}
-use Rattle.bsp_ret.specs.Records.{columns, is_wide, spells}
+use Rattle.bsp_records.specs.Columns.{columns, is_wide}
+use Rattle.bsp_records.specs.Fields.{spells}
 use Rattle.bsp_hot_check.specs.declared.name.RecordName.{RecordName}
 use Rattle.bsp_hot_check.specs.declared.model.Standing.{Standing}
 use Rattle.bsp_hot_check.specs.Records.{Record, letters, name_of, fields_fit, record_of, IsRecord, AreRecords}

@@ -1,7 +1,8 @@
 -- What a line says, as record number n of a file, and how records stand with it.
 use Rattle.std.specs.Prelude.{ℕ, ◌+◌, ◌&&◌, List, [], ◌∷◌, Option, Some, None, Result, Ok, Err, if◌then◌else◌}
 use Rattle.std.specs.Str.{bytes_eq}
-use Rattle.bsp_ret.specs.Records.{columns, is_wide, spells}
+use Rattle.bsp_records.specs.Columns.{columns, is_wide}
+use Rattle.bsp_records.specs.Fields.{spells}
 use Rattle.bsp_hot_check.specs.declared.name.RecordName.{RecordName}
 use Rattle.bsp_hot_check.specs.declared.model.Record.{Record as JudgedRecord}
 use Rattle.bsp_hot_check.specs.declared.model.Standing.{Standing}

@@ -1,14 +1,14 @@
 //! A HOT file, from its text to its totals.
 
 ghost use Rattle.std.specs.Prelude.{◌≡◌, ◌≤◌, ℕ, List, length, Ok, IfOk, IfErr};
-ghost use Rattle.bsp_ret.specs.Lines.{lines};
+ghost use Rattle.bsp_records.specs.Lines.{lines};
 ghost use Rattle.bsp_hot_check.specs.Hot.{File, Hot, HotOrFault, totals_of_file};
 ghost use Rattle.bsp_hot_check.specs.Standings.{start, IsSmall};
 ghost use Rattle.bsp_hot_check.specs.Reading.{judge_from};
 ghost use Rattle.bsp_hot_check.specs.Checked.{HasTotals, IsFaultOf};
 
 use crate::model::{HotFault, HotTotals, Standing};
-use bsp_ret::first_line;
+use bsp_records::first_line;
 
 /// How the lines stand, or the number of the first that those before do not allow.
 fn judge(bytes: &[u8]) -> Result<Standing, usize>

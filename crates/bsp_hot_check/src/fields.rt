@@ -5,7 +5,7 @@ ghost use Rattle.bsp_hot_check.specs.Records.{is_blank, code_of, form_fits, tota
 
 use crate::model::DocumentCode;
 use crate::name::RecordName;
-use bsp_ret::{
+use bsp_records::{
     all_digits, all_letters, all_letters_or_digits, all_spaces, is_amount, is_record_day, is_total,
     spells_at_most, taxes_fit,
 };

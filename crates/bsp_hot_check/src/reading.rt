@@ -8,7 +8,7 @@ use crate::fields::fields_fit;
 use crate::model::Record;
 use crate::name::RecordName;
 use crate::values::record_of;
-use bsp_ret::{is_wide, spells};
+use bsp_records::{is_wide, spells};
 
 /// What is judged of a line, where it is a record with this number in its file.
 #[tactic(auto, unfolding(crate::specs::Reading::record_at))]

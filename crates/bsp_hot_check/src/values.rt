@@ -10,8 +10,8 @@ use crate::model::{
     OfficeTotals, Part, PartOf, PeriodTotals, Record, Sums, Totals, TransactionHeader,
 };
 use crate::name::RecordName;
-use bsp_fields::{read_amount, read_total};
-use bsp_ret::{all_spaces, read_number};
+use bsp_fields::{read_amount, read_digits, read_total};
+use bsp_records::all_spaces;
 
 /// The number of digits, 0 where there is none.
 #[tactic(auto, unfolding(crate::specs::Records::number_in))]
@@ -19,7 +19,7 @@ fn number_in(text: &[u8]) -> u64
     requires { length text.now ≤ 15 }
     ensures { result ≡ number_in text.now }
 {
-    read_number(text).unwrap_or(0)
+    read_digits(text).unwrap_or(0)
 }
 
 /// The same, as a count.

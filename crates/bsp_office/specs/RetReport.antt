@@ -9,7 +9,7 @@ use Rattle.bsp_ret.specs.declared.transactions.CardPayment.{CardPayment}
 use Rattle.bsp_ret.specs.declared.transactions.Transaction.{Transaction}
 use Rattle.bsp_ret.specs.declared.model.RetFault.{RetFault}
 use Rattle.bsp_ret.specs.Texts.{code_text, fault_text}
-use Rattle.bsp_ret.specs.Lines.{lines}
+use Rattle.bsp_records.specs.Lines.{lines}
 use Rattle.bsp_ret.specs.Table.{total_paid, first_fault}
 use Rattle.bsp_ret.specs.Ret.{File, Ret, flatten}
 use Rattle.bsp_ret.specs.Writing.{HaveContents, file_lines}

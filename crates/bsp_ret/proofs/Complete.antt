@@ -9,7 +9,8 @@ use Rattle.bsp_ret.specs.declared.model.TransactionCode.TheVariants.{Tktt, Rfnd,
 use Rattle.bsp_ret.specs.declared.model.LastRecord.{LastRecord}
 use Rattle.bsp_ret.specs.declared.model.LastRecord.TheVariants as last
 use Rattle.bsp_ret.specs.declared.model.Standing.{Standing}
-use Rattle.bsp_ret.specs.Records.{identifier, code_of, sale_fits, related_fits, amounts_fit, form_of}
+use Rattle.bsp_records.specs.Columns.{identifier}
+use Rattle.bsp_ret.specs.Records.{code_of, sale_fits, related_fits, amounts_fit, form_of}
 use Rattle.bsp_ret.specs.Table.{paid, total_paid, standing, is_complete, takes_related, takes_amounts, takes_form, has_form}
 use Rattle.bsp_ret.specs.Standings.{standing_behind}
 use Rattle.bsp_ret.specs.Ret.{Group, File, flatten, lines_of, forms_of, IsRecord, IsForm, IsPaid, HasRelated, HasBody, IsGroup, AreGroups, IsTrailer, Ret}

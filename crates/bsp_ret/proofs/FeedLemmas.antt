@@ -2,12 +2,12 @@
 use Rattle.std.proofs.Common.{◌≡◌, ℕ, ◌-◌, ◌≤◌, true, false, List, [], ◌++◌, length, take, drop, sym, ap, subst, ◌∙◌, arith, append_assoc, length-append, length-drop}
 use Rattle.std.proofs.lemmas.List.{take-append-le, take-append-drop}
 use Rattle.bsp_ret.specs.declared.model.Standing.{Standing}
-use Rattle.bsp_ret.specs.Lines.{lines, has_end, IsRest, before_rest, IsWholeLines}
+use Rattle.bsp_records.specs.Lines.{lines, has_end, IsRest, before_rest, IsWholeLines}
 use Rattle.bsp_ret.specs.Table.{standing, has_ended, first_fault}
 use Rattle.bsp_ret.specs.Standings.{fault_behind}
 use Rattle.bsp_ret.specs.Pieces.{IsClear, IsClearSoFar, Leaves, IsJudgedTo}
-use Rattle.bsp_ret.proofs.CutLemmas.{lines_nil, IsRest-drop}
-use Rattle.bsp_ret.proofs.BuildingLemmas.{rest_itself, before_itself, rest_of_rest, before_joined, whole_nothing, whole_joined}
+use Rattle.bsp_records.proofs.CutLemmas.{lines_nil, IsRest-drop}
+use Rattle.bsp_records.proofs.RestLemmas.{rest_itself, before_itself, rest_of_rest, before_joined, whole_nothing, whole_joined}
 use Rattle.bsp_ret.proofs.LawLemmas.{is_first}
 
 -- no lines are without fault

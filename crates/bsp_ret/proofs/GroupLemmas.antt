@@ -7,7 +7,8 @@ use Rattle.std.proofs.lemmas.Bool.{and_parts, eqb-true}
 use Rattle.bsp_ret.specs.declared.model.TransactionCode.{TransactionCode}
 use Rattle.bsp_ret.specs.declared.model.FormOfPayment.{FormOfPayment}
 use Rattle.bsp_ret.specs.declared.model.FormOfPayment.TheVariants.{Cash, Credit, Exchange}
-use Rattle.bsp_ret.specs.Records.{identifier, is_wide, is_printable, code_of, related_fits, amounts_fit, form_of, form_fits}
+use Rattle.bsp_records.specs.Columns.{identifier, is_wide, is_printable}
+use Rattle.bsp_ret.specs.Records.{code_of, related_fits, amounts_fit, form_of, form_fits}
 use Rattle.bsp_ret.proofs.Wide.{group_at}
 use Rattle.bsp_ret.proofs.BodyLemmas.{BodyFacts, body_facts}
 use Rattle.bsp_ret.specs.Ret.{File, Ret, Group, forms_of, IsRecord, IsForm, HasBody, IsGroup}

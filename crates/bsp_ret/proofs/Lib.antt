@@ -1,5 +1,4 @@
 -- Lemmas of this crate.
-pub mod CutLemmas
 pub mod BuildingLemmas
 pub mod Rows
 pub mod Steps
@@ -13,11 +12,8 @@ pub mod LoopLemmas
 pub mod AnswerLemmas
 pub mod PieceLemmas
 pub mod FeedLemmas
-pub mod JudgedTaxes
+pub mod AmountTests
 pub mod GroupLemmas
-pub mod FieldLemmas
-pub mod CharacterLemmas
-pub mod TextLemmas
 pub mod FormLemmas
 pub mod DocumentLemmas
 pub mod SaleLemmas
@@ -28,7 +24,6 @@ pub mod WrittenGroup
 pub mod ReadLemmas
 pub mod ContentMakes
 pub mod TaxTests
-pub mod DigitLemmas
 pub mod ValueLemmas
 pub mod WritingLemmas
 pub mod SameGroup

@@ -5,12 +5,12 @@ use Rattle.std.proofs.lemmas.List.{append-nil, take-append-drop}
 use Rattle.bsp_ret.specs.declared.model.FaultCode.{FaultCode}
 use Rattle.bsp_ret.specs.declared.model.FaultCode.TheVariants.{F08, F09}
 use Rattle.bsp_ret.specs.declared.model.Standing.{Standing}
-use Rattle.bsp_ret.specs.Lines.{lines, has_end, before_rest, IsWholeLines, BeginsWithLine}
+use Rattle.bsp_records.specs.Lines.{lines, has_end, before_rest, IsWholeLines, BeginsWithLine}
 use Rattle.bsp_ret.specs.Table.{standing, has_ended, row_fault}
 use Rattle.bsp_ret.specs.Standings.{standing_behind, fault_behind}
 use Rattle.bsp_ret.specs.Pieces.{Leaves, Fails}
-use Rattle.bsp_ret.proofs.CutLemmas.{lines_nil, lines_last, some_lines}
-use Rattle.bsp_ret.proofs.BuildingLemmas.{rest_itself, before_itself, rest_of_rest, before_joined, whole_nothing, whole_joined, whole_cut, cut_alone}
+use Rattle.bsp_records.proofs.CutLemmas.{lines_nil, lines_last, some_lines}
+use Rattle.bsp_records.proofs.RestLemmas.{rest_itself, before_itself, rest_of_rest, before_joined, whole_nothing, whole_joined, whole_cut, cut_alone}
 use Rattle.bsp_ret.proofs.Steps.{standing_snoc}
 use Rattle.bsp_ret.proofs.LawLemmas.{behind_nil, behind_cons}
 

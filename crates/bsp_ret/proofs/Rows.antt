@@ -13,7 +13,9 @@ use Rattle.bsp_ret.specs.declared.model.LastRecord.TheVariants as last
 use Rattle.bsp_ret.specs.declared.model.Standing.{Standing}
 use Rattle.bsp_ret.specs.declared.model.FaultCode.{FaultCode}
 use Rattle.bsp_ret.specs.declared.model.FaultCode.TheVariants.{F01, F02, F03, F04, F05, F06, F07, F09}
-use Rattle.bsp_ret.specs.Records.{columns, identifier, spells, is_wide, is_header, is_production, header_fits, sale_fits, related_fits, amounts_fit, form_of, form_fits, trailer_fits}
+use Rattle.bsp_records.specs.Columns.{columns, identifier, is_wide}
+use Rattle.bsp_records.specs.Fields.{spells}
+use Rattle.bsp_ret.specs.Records.{is_header, is_production, header_fits, sale_fits, related_fits, amounts_fit, form_of, form_fits, trailer_fits}
 use Rattle.bsp_ret.specs.Table.{is_trailer, has_ended, is_start, is_complete, takes_related, takes_amounts, takes_form, is_allowed, fields_fit, has_value, has_counts, has_sum, header_table, later_table, row_fault}
 use Rattle.bsp_ret.specs.Ret.{IsHeader, IsRecord, IsTrailer}
 

@@ -14,7 +14,8 @@ use Rattle.bsp_ret.specs.declared.model.LastRecord.{LastRecord}
 use Rattle.bsp_ret.specs.declared.model.LastRecord.TheVariants as last
 use Rattle.bsp_ret.specs.declared.model.FaultCode.TheVariants.{F08}
 use Rattle.bsp_ret.specs.declared.model.Standing.{Standing}
-use Rattle.bsp_ret.specs.Records.{identifier, is_header, code_of, form_of}
+use Rattle.bsp_records.specs.Columns.{identifier}
+use Rattle.bsp_ret.specs.Records.{is_header, code_of, form_of}
 use Rattle.bsp_ret.specs.Table.{is_sale, is_related, paid, total_paid, code_or, last_code, behind_sale, kind_of, standing, has_ended, row_fault}
 use Rattle.bsp_ret.specs.Standings.{standing_behind}
 use Rattle.bsp_ret.specs.Reading.{Draft, with_group, add, or_read, read_from}

@@ -1,7 +1,7 @@
 -- What the reader holds of a file that it has read to a place.
 use Rattle.std.specs.Prelude.{◌<◌, ℕ, List, length}
 use Rattle.bsp_ret.specs.declared.building.Building as code
-use Rattle.bsp_ret.specs.Lines.{lines, IsRest, before_rest, IsWholeLines}
+use Rattle.bsp_records.specs.Lines.{lines, IsRest, before_rest, IsWholeLines}
 use Rattle.bsp_ret.specs.Ret.{File}
 use Rattle.bsp_ret.specs.Reading.{Draft}
 

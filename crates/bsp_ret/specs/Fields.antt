@@ -7,7 +7,7 @@ use Rattle.bsp_ret.specs.declared.record_fields.AmountsFields.{AmountsFields}
 use Rattle.bsp_ret.specs.declared.record_fields.FormFields.{FormFields}
 use Rattle.bsp_ret.specs.declared.record_fields.TrailerFields.{TrailerFields}
 use Rattle.bsp_ret.specs.declared.record_fields.GroupFields.{GroupFields}
-use Rattle.bsp_ret.specs.Records.{columns}
+use Rattle.bsp_records.specs.Columns.{columns}
 use Rattle.bsp_ret.specs.Ret.{Group, IsGroup}
 use Rattle.bsp_ret.specs.Content.{InBoth}
 

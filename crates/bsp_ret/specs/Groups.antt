@@ -4,7 +4,8 @@ use Rattle.std.specs.Option.{option_copied}
 use Rattle.bsp_ret.specs.declared.model.FormOfPayment.{FormOfPayment}
 use Rattle.bsp_ret.specs.declared.model.FormOfPayment.TheVariants.{Cash, Credit, Exchange}
 use Rattle.bsp_ret.specs.declared.records.Records.{Records}
-use Rattle.bsp_ret.specs.Records.{identifier, sale_fits, related_fits, amounts_fit, form_of, form_fits}
+use Rattle.bsp_records.specs.Columns.{identifier}
+use Rattle.bsp_ret.specs.Records.{sale_fits, related_fits, amounts_fit, form_of, form_fits}
 use Rattle.bsp_ret.specs.Ret.{Group, IsGroup}
 
 -- what slices point to

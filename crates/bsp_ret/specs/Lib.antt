@@ -1,5 +1,4 @@
 -- What the contracts of RET files cite.
-pub mod Lines
 pub mod Records
 pub mod Table
 pub mod Standings

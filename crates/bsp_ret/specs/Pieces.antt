@@ -5,7 +5,7 @@ use Rattle.bsp_ret.specs.declared.model.RetFault.{RetFault}
 use Rattle.bsp_ret.specs.declared.model.Standing.{Standing}
 use Rattle.bsp_ret.specs.declared.model.Progress.{Progress}
 use Rattle.bsp_ret.specs.declared.model.Progress.TheVariants.{Reading, Ended, Failed}
-use Rattle.bsp_ret.specs.Lines.{lines, has_end, IsRest, before_rest, IsWholeLines}
+use Rattle.bsp_records.specs.Lines.{lines, has_end, IsRest, before_rest, IsWholeLines}
 use Rattle.bsp_ret.specs.Table.{standing, has_ended, first_fault}
 use Rattle.bsp_ret.specs.Standings.{fault_behind}
 

@@ -15,7 +15,9 @@ use Rattle.bsp_ret.specs.declared.model.Standing.{Standing}
 use Rattle.bsp_ret.specs.declared.model.FaultCode.{FaultCode}
 use Rattle.bsp_ret.specs.declared.model.FaultCode.TheVariants.{F01, F02, F03, F04, F05, F06, F07, F08, F09}
 use Rattle.bsp_ret.specs.declared.model.RetFault.{RetFault}
-use Rattle.bsp_ret.specs.Records.{columns, identifier, spells, is_wide, is_header, is_production, header_fits, code_of, sale_fits, related_fits, amounts_fit, form_of, form_fits, form_amount, trailer_fits}
+use Rattle.bsp_records.specs.Columns.{columns, identifier, is_wide}
+use Rattle.bsp_records.specs.Fields.{spells}
+use Rattle.bsp_ret.specs.Records.{is_header, is_production, header_fits, code_of, sale_fits, related_fits, amounts_fit, form_of, form_fits, form_amount, trailer_fits}
 
 -- ---- kinds of records
 

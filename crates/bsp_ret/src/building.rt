@@ -1,7 +1,7 @@
 //! A RET file as far as it was read.
 
 ghost use Rattle.std.specs.Prelude.{◌≡◌, length, OnOk, OnErr, Err};
-ghost use Rattle.bsp_ret.specs.Lines.{lines, HasFirstLine};
+ghost use Rattle.bsp_records.specs.Lines.{lines, HasFirstLine};
 ghost use Rattle.bsp_ret.specs.Reading.{no_memory, nothing, add, with_group};
 
 use crate::file::Group;

@@ -1,43 +1,14 @@
 //! The fields of each record, by its columns.
 
-ghost use Rattle.std.specs.Prelude.{◌≡◌, ◌≤◌, length, true, unsigned_abs};
-ghost use Rattle.bsp_ret.specs.Records.{is_wide, is_amount, is_total, is_record_day, is_header, is_production, header_fits, code_of, sale_fits, related_fits, tax_code, tax_fits, taxes_fit, tax_places, amounts_fit, form_of, vendor_fits, form_fits, form_amount, trailer_fits};
+ghost use Rattle.std.specs.Prelude.{◌≡◌, ◌≤◌, length, unsigned_abs};
+ghost use Rattle.bsp_ret.specs.Records.{is_header, is_production, header_fits, code_of, sale_fits, related_fits, amounts_fit, form_of, vendor_fits, form_fits, form_amount, trailer_fits};
 
-use crate::characters::{
-    all_digits, all_letters, all_letters_or_digits, all_printable, all_spaces, spells_at_most,
-};
 use crate::model::{FormOfPayment, TransactionCode};
-use bsp_fields::{Day, read_amount, read_total};
-
-/// Whether a record has 136 characters, all from 0x20 to 0x7E.
-#[tactic(auto, unfolding(crate::specs::Records::is_wide))]
-pub fn is_wide(line: &[u8]) -> bool
-    ensures value { result ≡ is_wide line.now }
-    ensures long { result ≡ true → length line.now ≡ 136 }
-{
-    line.len() == 136 && all_printable(line)
-}
-
-/// Whether a text is an amount, in any spelling.
-pub fn is_amount(text: &[u8]) -> bool
-    ensures { result ≡ is_amount text.now }
-{
-    read_amount(text).is_ok()
-}
-
-/// Whether a text is a total, in any spelling.
-pub fn is_total(text: &[u8]) -> bool
-    ensures { result ≡ is_total text.now }
-{
-    read_total(text).is_ok()
-}
-
-/// Whether a text is a day as YYMMDD.
-pub fn is_record_day(text: &[u8]) -> bool
-    ensures { result ≡ is_record_day text.now }
-{
-    Day::read_record(text).is_ok()
-}
+use bsp_fields::read_amount;
+use bsp_records::{
+    all_digits, all_letters, all_letters_or_digits, all_spaces, is_amount, is_record_day, is_total,
+    spells_at_most, taxes_fit,
+};
 
 /// Whether a record is a header of this profile.
 #[tactic(auto, unfolding(crate::specs::Records::is_header))]
@@ -102,42 +73,6 @@ pub(crate) fn related_fits(line: &[u8]) -> bool
     ensures { result ≡ related_fits line.now }
 {
     all_digits(&line[7..21]) && all_spaces(&line[21..136])
-}
-
-/// The characters of a tax code as a number, which orders codes by their bytes.
-fn tax_code(place: &[u8]) -> u16
-    requires { length place.now ≡ 13 }
-    ensures { result ≡ tax_code place.now }
-{
-    u16::from_be_bytes([place[0], place[1]])
-}
-
-fn tax_fits(place: &[u8]) -> bool
-    requires { length place.now ≡ 13 }
-    ensures { result ≡ tax_fits place.now }
-{
-    all_letters_or_digits(&place[..2]) && is_amount(&place[2..13])
-}
-
-/// Whether the six places of taxes in columns 19 to 96 have the used ones first, with codes that
-/// rise, and spaces behind them.
-pub fn taxes_fit(line: &[u8]) -> bool
-    requires { 96 ≤ length line.now }
-    ensures { result ≡ taxes_fit 0 (tax_places line.now) }
-{
-    let mut before = 0;
-    for index in 0..6 {
-        let place = &line[18 + 13 * index..31 + 13 * index];
-        if all_spaces(place) {
-            return all_spaces(&line[31 + 13 * index..96]);
-        }
-        let code = tax_code(place);
-        if !tax_fits(place) || code <= before {
-            return false;
-        }
-        before = code;
-    }
-    true
 }
 
 #[tactic(auto, unfolding(crate::specs::Records::amounts_fit))]

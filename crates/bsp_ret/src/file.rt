@@ -2,8 +2,9 @@
 
 ghost use Rattle.std.specs.Prelude.{◌≡◌, ◌+◌, ◌<◌, ◌≤◌, List, ℕ, [], ◌∷◌, true, length, MatchOption, slice_index_or};
 ghost use Rattle.std.specs.List.{list_all};
-ghost use Rattle.bsp_ret.specs.Lines.{lines};
-ghost use Rattle.bsp_ret.specs.Records.{is_wide, trailer_fits};
+ghost use Rattle.bsp_records.specs.Lines.{lines};
+ghost use Rattle.bsp_records.specs.Columns.{is_wide};
+ghost use Rattle.bsp_ret.specs.Records.{trailer_fits};
 ghost use Rattle.bsp_ret.specs.Groups.{records_of, sale_alone, with_records, HasRecords, IsFit};
 
 use crate::building::Building;
@@ -21,7 +22,7 @@ pub struct Group<'a> {
 
 impl<'a> Model for Group<'a> {
     ghost use Rattle.std.specs.Prelude.{List, ℕ};
-    ghost use Rattle.bsp_ret.specs.Lines.{lines};
+    ghost use Rattle.bsp_records.specs.Lines.{lines};
 
     ghost Value = { List (List ℕ) };
 

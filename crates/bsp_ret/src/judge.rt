@@ -5,13 +5,13 @@ ghost use Rattle.bsp_fields.specs.FirstFault.{first_fault_or};
 ghost use Rattle.bsp_ret.specs.Table.{is_allowed, fields_fit, has_counts, has_sum, header_table, later_table, row_fault};
 ghost use Rattle.bsp_ret.specs.Standings.{standing_behind};
 
-use crate::characters::spells;
 use crate::fields::{
     amounts_fit, code_of, form_amount, form_fits, form_of, header_fits, is_header, is_production,
-    is_wide, related_fits, sale_fits, trailer_fits,
+    related_fits, sale_fits, trailer_fits,
 };
 use crate::model::{FaultCode, FormOfPayment, LastRecord, Standing, TransactionCode};
 use bsp_fields::read_total;
+use bsp_records::{is_wide, spells};
 
 /// Whether the identifier, the transaction number and the form may stand here.
 fn is_allowed(at: Standing, line: &[u8]) -> bool

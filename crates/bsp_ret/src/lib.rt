@@ -2,13 +2,11 @@
 #![tactic(auto)]
 
 mod building;
-mod characters;
 mod content;
 mod fields;
 mod file;
 mod file_text;
 mod judge;
-mod lines;
 mod model;
 mod pieces;
 mod reader;
@@ -22,14 +20,9 @@ mod transactions;
 mod values;
 mod writing;
 
-pub use characters::{
-    all_digits, all_letters, all_letters_or_digits, all_spaces, read_number, spells, spells_at_most,
-};
 pub use content::is_group;
-pub use fields::{is_amount, is_record_day, is_total, is_wide, taxes_fit};
 pub use file::{Group, RetFile};
 pub use file_text::write_ret;
-pub use lines::first_line;
 pub use model::{
     FaultCode, FormOfPayment, LastRecord, Progress, RetFault, Standing, TransactionCode,
 };

@@ -1,14 +1,14 @@
 //! Lines that are judged as their bytes come.
 
 ghost use Rattle.std.specs.Prelude.{◌≡◌, ◌+◌, ◌-◌, ◌^◌, [], true, false, Some, None, length, IfOk, IfErr};
-ghost use Rattle.bsp_ret.specs.Lines.{lines, has_end};
+ghost use Rattle.bsp_records.specs.Lines.{lines, has_end};
 ghost use Rattle.bsp_ret.specs.Table.{has_ended};
 ghost use Rattle.bsp_ret.specs.Standings.{FitsIn, fault_behind};
 ghost use Rattle.bsp_ret.specs.Pieces.{Leaves, Fails};
 
 use crate::judge::{row_fault, standing_behind};
-use crate::lines::ended_line;
 use crate::model::{FaultCode, RetFault, Standing};
+use bsp_records::ended_line;
 
 /// Judges the lines that have an end, and whether a line begins behind a trailer. Answers how the
 /// records stand then, and the bytes that are left.

@@ -1,7 +1,7 @@
 //! A file from its text.
 
 ghost use Rattle.std.specs.Prelude.{◌≡◌, ◌⊎◌, List, ℕ, IfOk, IfErr, Ok, Err, Some};
-ghost use Rattle.bsp_ret.specs.Lines.{lines};
+ghost use Rattle.bsp_records.specs.Lines.{lines};
 ghost use Rattle.bsp_ret.specs.Table.{first_fault};
 ghost use Rattle.bsp_ret.specs.Ret.{File, Ret};
 ghost use Rattle.bsp_ret.specs.Reading.{read_all, no_memory};
@@ -11,8 +11,8 @@ ghost use Rattle.bsp_ret.specs.Building.{file_of};
 use crate::building::Building;
 use crate::file::RetFile;
 use crate::judge::{row_fault, standing_behind};
-use crate::lines::first_line;
 use crate::model::{FaultCode, RetFault, Standing};
+use bsp_records::first_line;
 use std::alloc::Global;
 
 /// Reads line by line, to the end or the first fault.

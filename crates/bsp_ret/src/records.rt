@@ -2,13 +2,13 @@
 
 ghost use Rattle.std.specs.Prelude.{◌≡◌, ◌<◌, ◌∷◌, List, ℕ, true, length};
 ghost use Rattle.std.specs.List.{list_all};
-ghost use Rattle.bsp_ret.specs.Lines.{lines};
-ghost use Rattle.bsp_ret.specs.Records.{is_wide};
+ghost use Rattle.bsp_records.specs.Lines.{lines};
+ghost use Rattle.bsp_records.specs.Columns.{is_wide};
 
 use crate::fields::form_of;
-use crate::lines::first_line;
 use crate::model::FormOfPayment;
 use crate::record_fields::{AmountsFields, FormFields, GroupFields, RelatedFields, SaleFields};
+use bsp_records::first_line;
 
 /// The records of a transaction, as slices of the text, without their line ends.
 #[derive(Clone, Copy)]

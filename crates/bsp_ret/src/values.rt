@@ -6,18 +6,21 @@ ghost use Rattle.std.specs.Str.{all_ascii_digits};
 ghost use Rattle.bsp_fields.specs.Decimal.{number_of};
 ghost use Rattle.bsp_fields.specs.Zoned.{zoned_reading};
 ghost use Rattle.bsp_fields.specs.Days.{record_reading};
-ghost use Rattle.bsp_ret.specs.Records.{columns, is_space, is_amount, is_total, is_record_day, tax_fits, code_of, related_fits, amounts_fit, form_fits, trailer_fits};
+ghost use Rattle.bsp_records.specs.Columns.{columns, is_space};
+ghost use Rattle.bsp_records.specs.Fields.{is_amount, is_total, is_record_day};
+ghost use Rattle.bsp_records.specs.Taxes.{tax_fits};
+ghost use Rattle.bsp_ret.specs.Records.{code_of, related_fits, amounts_fit, form_fits, trailer_fits};
 ghost use Rattle.bsp_ret.specs.Content.{IsDocument, IsTax, AreAmounts, IsPayment, IsCardPayment, IsContent, HasContent};
 ghost use Rattle.bsp_ret.specs.Groups.{records_of, IsFit, AreFit};
 ghost use Rattle.bsp_ret.specs.Law.{HasOneContent};
 
-use crate::characters::number_of;
 use crate::fields::code_of;
 use crate::file::RetFile;
 use crate::model::TransactionCode;
 use crate::records::Records;
 use crate::transactions::{Amounts, CardPayment, ReportedDocument, Tax, Transaction};
 use bsp_fields::{AirlineCode, Amount, Day, Total, read_amount, read_total};
+use bsp_records::number_of;
 
 /// The characters of a text of that width.
 fn array_of<const N: usize>(text: &[u8]) -> [u8; N]

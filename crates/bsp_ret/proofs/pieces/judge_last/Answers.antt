@@ -1,8 +1,8 @@
 use Rattle.std.proofs.Common.{◌≡◌, ◌+◌, ◌∙◌, length, sym, ap, arith}
 use Rattle.bsp_ret.specs.declared.model.Standing.{Standing}
-use Rattle.bsp_ret.specs.Lines.{lines}
+use Rattle.bsp_records.specs.Lines.{lines}
 use Rattle.bsp_ret.specs.Standings.{fault_behind}
-use Rattle.bsp_ret.proofs.BuildingLemmas.{lines_empty}
+use Rattle.bsp_records.proofs.RestLemmas.{lines_empty}
 use Rattle.bsp_ret.proofs.PieceLemmas.{rest_judged, rest_fails, one_unended}
 use Rattle.bsp_ret.proofs.pieces.judge_last.Goals as goal
 

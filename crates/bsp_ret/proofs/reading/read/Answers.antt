@@ -1,10 +1,10 @@
 use Rattle.std.proofs.Common.{◌≡◌, ◌+◌, ◌∙◌, Ok, sym, ap, inr, arith}
 use Rattle.bsp_ret.specs.declared.model.Standing.{Standing}
-use Rattle.bsp_ret.specs.Lines.{lines}
+use Rattle.bsp_records.specs.Lines.{lines}
 use Rattle.bsp_ret.specs.Table.{row_fault}
 use Rattle.bsp_ret.specs.Reading.{read_all}
 use Rattle.bsp_ret.specs.Building.{draft_of}
-use Rattle.bsp_ret.proofs.BuildingLemmas.{lines_empty}
+use Rattle.bsp_records.proofs.RestLemmas.{lines_empty}
 use Rattle.bsp_ret.proofs.LoopLemmas.{goes_on, fails, ends, lacks}
 use Rattle.bsp_ret.proofs.reading.read.Goals as goal
 

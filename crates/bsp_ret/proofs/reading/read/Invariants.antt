@@ -1,5 +1,5 @@
 use Rattle.std.proofs.Common.{◌≡◌, ◌≤◌, ◌+◌, ◌*◌, ◌^◌, length, unsigned_abs}
-use Rattle.bsp_ret.specs.Lines.{lines}
+use Rattle.bsp_records.specs.Lines.{lines}
 use Rattle.bsp_ret.specs.Reading.{read_from, read_all}
 use Rattle.bsp_ret.specs.Building.{draft_of, IsReadTo}
 use Rattle.bsp_ret.proofs.reading.read.Given as goal

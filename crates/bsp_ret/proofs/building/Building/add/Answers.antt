@@ -1,6 +1,7 @@
 use Rattle.std.proofs.Common.{refl, sym, arith}
 use Rattle.bsp_ret.specs.Building.{draft_of}
-use Rattle.bsp_ret.proofs.BuildingLemmas.{add_other, no_lines, one_line, one_more, read_nothing, read_one, read_more}
+use Rattle.bsp_ret.proofs.BuildingLemmas.{add_other, one_more, read_nothing, read_one, read_more}
+use Rattle.bsp_records.proofs.RestLemmas.{no_lines, one_line}
 use Rattle.bsp_ret.proofs.building.Building.add.Goals as goal
 
 pub returns-in-49-clause-ok : goal.returns-in-49-clause-ok

@@ -1,5 +1,6 @@
 use Rattle.std.proofs.Common.{refl}
-use Rattle.bsp_ret.proofs.BuildingLemmas.{no_lines, read_nothing}
+use Rattle.bsp_records.proofs.RestLemmas.{no_lines}
+use Rattle.bsp_ret.proofs.BuildingLemmas.{read_nothing}
 use Rattle.bsp_ret.proofs.building.Building.new.Goals as goal
 
 pub returns-clause-nothing : goal.returns-clause-nothing

@@ -1,7 +1,7 @@
 use Rattle.std.proofs.Common.{◌≡◌, ◌∙◌, List, ℕ, Some, sym, ap, subst, drop}
 use Rattle.bsp_ret.specs.declared.model.Progress.{Progress}
 use Rattle.bsp_ret.specs.declared.model.Progress.TheVariants.{Failed}
-use Rattle.bsp_ret.specs.Lines.{lines}
+use Rattle.bsp_records.specs.Lines.{lines}
 use Rattle.bsp_ret.specs.Table.{first_fault}
 use Rattle.bsp_ret.specs.Standings.{fault_behind}
 use Rattle.bsp_ret.specs.Ret.{File, Ret}
