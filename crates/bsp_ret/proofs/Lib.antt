@@ -1,10 +1,12 @@
 -- Lemmas of this crate.
 pub mod BuildingLemmas
+pub mod SaidLemmas
 pub mod Rows
 pub mod Steps
 pub mod Forms
 pub mod Drafts
 pub mod Sound
+pub mod FewForms
 pub mod Complete
 pub mod LawLemmas
 pub mod Wide

@@ -44,15 +44,6 @@ pub record HasRecords (n : ℕ) (lines : List (List ℕ)) (g : Group) : Type 0 w
   pub is : IsGroup n lines
   pub group_is : is.group ≡ g
 
--- each record has its width
-pub record AreWide (g : Group) : Type 0 where
-  pub sale : length g.sale ≡ 136
-  pub related : IfSome g.related (λ line. length line ≡ 136)
-  pub amounts : IfSome g.amounts (λ line. length line ≡ 136)
-  pub cash : IfSome g.cash (λ line. length line ≡ 136)
-  pub credit : IfSome g.credit (λ line. length line ≡ 136)
-  pub exchange : IfSome g.exchange (λ line. length line ≡ 136)
-
 -- a record of its width, whose fields fit
 abbrev pub IsFit : (List ℕ → Bool) → List ℕ → Type 0
 IsFit fits line = (length line ≡ 136) × (fits line ≡ true)

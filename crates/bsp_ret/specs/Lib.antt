@@ -9,7 +9,7 @@ pub mod Building
 pub mod Pieces
 pub mod Groups
 pub mod Content
-pub mod Fields
+pub mod Sales
 pub mod Stored
 pub mod Texts
 pub mod Writing

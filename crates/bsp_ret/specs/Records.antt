@@ -1,5 +1,5 @@
 -- The fields of each record, by its columns.
-use Rattle.std.specs.Prelude.{ℕ, ℤ, pos, ◌==◌, Bool, false, ◌&&◌, List, Option, Some, None, is_some, if◌then◌else◌, codes}
+use Rattle.std.specs.Prelude.{ℕ, ℤ, pos, ◌==◌, Bool, false, ◌&&◌, List, Option, Some, None, is_some, unwrap_or, if◌then◌else◌, codes}
 use Rattle.std.specs.Result.{result_unwrap_or}
 use Rattle.std.specs.List.{list_all}
 use Rattle.std.specs.Str.{all_ascii_digits, bytes_eq}
@@ -11,6 +11,8 @@ use Rattle.bsp_ret.specs.declared.model.TransactionCode.{TransactionCode}
 use Rattle.bsp_ret.specs.declared.model.TransactionCode.TheVariants.{Tktt, Rfnd, Canx}
 use Rattle.bsp_ret.specs.declared.model.FormOfPayment.{FormOfPayment}
 use Rattle.bsp_ret.specs.declared.model.FormOfPayment.TheVariants.{Cash, Credit, Exchange}
+use Rattle.bsp_ret.specs.declared.model.Record.{Record}
+use Rattle.bsp_ret.specs.declared.model.Record.TheVariants as said
 
 -- ---- record 1, the header
 
@@ -81,3 +83,13 @@ form_amount line = result_unwrap_or (zoned_reading 11 (columns 10 20 line)) (pos
 unfoldable pub trailer_fits : List ℕ → Bool
 trailer_fits line =
     all_ascii_digits (columns 2 15 line) && is_total (columns 16 30 line) && list_all is_space (columns 31 136 line)
+
+-- ---- what a record says, by its identifier
+
+unfoldable pub record_in : List ℕ → Record
+record_in line =
+    if identifier line == 50 then said.Sale (unwrap_or (code_of line) Tktt)
+    else (if identifier line == 51 then said.Related
+    else (if identifier line == 53 then said.Amounts
+    else (if identifier line == 56 then said.Form (unwrap_or (form_of line) Cash) (form_amount line)
+    else (if identifier line == 90 then said.Trailer else said.Header))))

@@ -1,10 +1,10 @@
 //! The fields of each record, by its columns.
 
-ghost use Rattle.std.specs.Prelude.{◌≡◌, ◌≤◌, length, unsigned_abs};
+ghost use Rattle.std.specs.Prelude.{◌≡◌, length, true, false, Some, IfSome, IfNone};
 ghost use Rattle.bsp_ret.specs.Records.{is_header, is_production, header_fits, code_of, sale_fits, related_fits, amounts_fit, form_of, vendor_fits, form_fits, form_amount, trailer_fits};
 
 use crate::model::{FormOfPayment, TransactionCode};
-use bsp_fields::read_amount;
+use bsp_fields::{Amount, read_amount};
 use bsp_records::{
     all_digits, all_letters, all_letters_or_digits, all_spaces, is_amount, is_record_day, is_total,
     spells_at_most, taxes_fit,
@@ -56,15 +56,18 @@ pub(crate) fn code_of(line: &[u8]) -> Option<TransactionCode>
     }
 }
 
+/// The code of a record 2 whose other fields fit.
 #[tactic(auto, unfolding(crate::specs::Records::sale_fits))]
-pub(crate) fn sale_fits(line: &[u8]) -> bool
+pub(crate) fn sale_code(line: &[u8]) -> Option<TransactionCode>
     requires { length line.now ≡ 136 }
-    ensures { result ≡ sale_fits line.now }
+    ensures some { IfSome result (λ code. (sale_fits line.now ≡ true) × (code_of line.now ≡ Some code)) }
+    ensures none { IfNone result (sale_fits line.now ≡ false) }
 {
-    code_of(line).is_some()
-        && all_digits(&line[11..33])
+    let code = code_of(line)?;
+    let fits = all_digits(&line[11..33])
         && is_record_day(&line[33..39])
-        && all_spaces(&line[88..136])
+        && all_spaces(&line[88..136]);
+    if fits { Some(code) } else { None }
 }
 
 #[tactic(auto, unfolding(crate::specs::Records::related_fits))]
@@ -101,36 +104,32 @@ pub(crate) fn form_of(line: &[u8]) -> Option<FormOfPayment>
     }
 }
 
-fn vendor_fits(form: Option<FormOfPayment>, text: &[u8]) -> bool
-    ensures { result ≡ vendor_fits form text.now }
+fn vendor_fits(form: FormOfPayment, text: &[u8]) -> bool
+    ensures { result ≡ vendor_fits (Some form) text.now }
 {
     match form {
-        Some(FormOfPayment::Cash | FormOfPayment::Exchange) => all_spaces(text),
-        Some(FormOfPayment::Credit) => all_letters_or_digits(text),
-        None => false,
+        FormOfPayment::Cash | FormOfPayment::Exchange => all_spaces(text),
+        FormOfPayment::Credit => all_letters_or_digits(text),
     }
 }
 
-#[tactic(auto, unfolding(crate::specs::Records::form_fits))]
-pub(crate) fn form_fits(line: &[u8]) -> bool
-    requires { length line.now ≡ 136 }
-    ensures { result ≡ form_fits line.now }
+/// The amount of a record 8 with that form, whose other fields fit.
+#[tactic(auto, using(crate::proofs::SaidLemmas::other_vendor, crate::proofs::SaidLemmas::no_spaces), unfolding(crate::specs::Records::form_fits, crate::specs::Records::form_amount))]
+pub(crate) fn payment(line: &[u8], form: FormOfPayment) -> Option<Amount>
+    requires wide { length line.now ≡ 136 }
+    requires form { form_of line.now ≡ Some form }
+    ensures some { IfSome result (λ amount. (form_fits line.now ≡ true) × (amount ≡ form_amount line.now)) }
+    ensures none { IfNone result (form_fits line.now ≡ false) }
 {
-    vendor_fits(form_of(line), &line[20..22])
-        && is_amount(&line[9..20])
-        && all_spaces(&line[22..136])
-}
-
-/// The amount of a record 8, 0 where there is none.
-#[tactic(auto, unfolding(crate::specs::Records::form_amount))]
-pub(crate) fn form_amount(line: &[u8]) -> i64
-    requires { length line.now ≡ 136 }
-    ensures value { result ≡ form_amount line.now }
-    ensures bound { unsigned_abs result ≤ 99_999_999_999 }
-{
+    if !vendor_fits(form, &line[20..22]) {
+        return None;
+    }
+    if !all_spaces(&line[22..136]) {
+        return None;
+    }
     match read_amount(&line[9..20]) {
-        Ok(amount) => amount.get(),
-        Err(_) => 0,
+        Ok(amount) => Some(amount),
+        Err(_) => None,
     }
 }
 

@@ -11,7 +11,6 @@ mod model;
 mod pieces;
 mod reader;
 mod reading;
-mod record_fields;
 mod records;
 mod standing;
 #[cfg(test)]
@@ -21,16 +20,11 @@ mod values;
 mod writing;
 
 pub use content::is_group;
-pub use file::{Group, RetFile};
+pub use file::RetFile;
 pub use file_text::write_ret;
-pub use model::{
-    FaultCode, FormOfPayment, LastRecord, Progress, RetFault, Standing, TransactionCode,
-};
+pub use model::{FaultCode, FormOfPayment, Progress, RetFault, TransactionCode};
 pub use reader::RetReader;
 pub use reading::{fault_or_file, read_ret};
-pub use record_fields::{
-    AmountsFields, FormFields, GroupFields, HeaderFields, RelatedFields, SaleFields, TrailerFields,
-};
-pub use transactions::{Amounts, CardPayment, ReportedDocument, Tax, Transaction};
+pub use transactions::{Amounts, CardPayment, PaidSale, ReportedDocument, Sale, Tax, Transaction};
 pub use values::{one_content, transaction};
 pub use writing::write_tax;
