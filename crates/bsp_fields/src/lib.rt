@@ -26,6 +26,6 @@ pub use day::Day;
 pub use digits::{read_digits, write_digits};
 pub use document_number::{DocNumber, check_digit};
 pub use fault::FieldFault;
-pub use money::{NoRoom, write_money};
+pub use money::{NoRoom, push_money, write_money};
 pub use total::{Total, read_total, write_total};
 pub use zoned::read_ending;
