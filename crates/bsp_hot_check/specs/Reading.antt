@@ -25,6 +25,10 @@ judged_or (Some r) = Some (judged r)
 abbrev pub judged_at : ℕ → List ℕ → Option JudgedRecord
 judged_at n line = judged_or (record_at n line)
 
+-- what a record with the name says that is judged, where its fields are in their form
+abbrev pub judged_if : RecordName → List ℕ → Option JudgedRecord
+judged_if name line = if fields_fit name line then Some (judged (record_of name line)) else None
+
 abbrev pub step_or : Standing → Option JudgedRecord → Option Standing
 step_or at None = None
 step_or at (Some r) = step at r

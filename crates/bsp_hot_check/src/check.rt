@@ -8,7 +8,7 @@ ghost use Rattle.bsp_hot_check.specs.Reading.{judge_from};
 ghost use Rattle.bsp_hot_check.specs.Checked.{HasTotals, IsFaultOf};
 
 use crate::model::{HotFault, HotTotals, Standing};
-use bsp_records::first_line;
+use bsp_records::first_record;
 
 /// How the lines stand, or the number of the first that those before do not allow.
 fn judge(bytes: &[u8]) -> Result<Standing, usize>
@@ -18,7 +18,9 @@ fn judge(bytes: &[u8]) -> Result<Standing, usize>
     let mut standing = Standing::start();
     let mut rest = bytes;
     while !rest.is_empty() {
-        let (line, after) = first_line(rest);
+        let Some((line, after)) = first_record(rest) else {
+            return Err(standing.records + 1);
+        };
         let Some(next) = standing.with_line(line) else {
             return Err(standing.records + 1);
         };

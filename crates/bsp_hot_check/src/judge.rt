@@ -1,6 +1,7 @@
 //! Each record behind those before it: whether they allow it, and how they stand with it.
 
-ghost use Rattle.std.specs.Prelude.{◌≡◌, ◌<◌, ◌^◌, IfSome};
+ghost use Rattle.std.specs.Prelude.{◌≡◌, ◌<◌, ◌^◌, length, true, IfSome};
+ghost use Rattle.bsp_records.specs.Columns.{is_wide};
 ghost use Rattle.bsp_hot_check.specs.Standings.{heading_step, period_step, office_step, transaction_step, document_step, part_step, code_totals_step, office_totals_step, period_totals_step, file_totals_step, step, is_agent, is_agent_after, is_key_after, is_next, IsSmall, IsSmallPart, IsSmallRecord, IsSmallNext};
 ghost use Rattle.bsp_hot_check.specs.Reading.{step_line};
 
@@ -259,8 +260,11 @@ impl Standing {
         }
     }
 
-    /// How the lines stand with one more, where it is a record that those before allow.
+    /// How the lines stand with one more of a record's width, where it is a record that those
+    /// before allow.
     pub(crate) fn with_line(self, line: &[u8]) -> Option<Standing>
+        requires wide { is_wide line.now ≡ true }
+        requires long { length line.now ≡ 136 }
         requires room { self.records < 2 ^ 63 }
         requires small { IsSmall self }
         ensures step { result ≡ step_line self line.now }
