@@ -18,13 +18,13 @@ fn judge(bytes: &[u8]) -> Result<Standing, usize>
     let mut standing = Standing::start();
     let mut rest = bytes;
     while !rest.is_empty() {
+        let number = standing.records + 1;
         let Some((line, after)) = first_record(rest) else {
-            return Err(standing.records + 1);
+            return Err(number);
         };
-        let Some(next) = standing.with_line(line) else {
-            return Err(standing.records + 1);
-        };
-        standing = next;
+        if !standing.take_line(line) {
+            return Err(number);
+        }
         rest = after;
     }
     if standing.place.is_ended() {
