@@ -7,8 +7,9 @@ use Rattle.std.proofs.lemmas.List.{map_more}
 use Rattle.bsp_fields.specs.CivilDay.{CivilDay}
 use Rattle.bsp_calendar.specs.DayOrder.{is_before, is_up_to}
 use Rattle.bsp_calendar.specs.Published.{Published, is_among, is_closed}
-use Rattle.bsp_calendar.specs.Requests.{closing, has_code, change_of}
-use Rattle.bsp_calendar.specs.declared.change.Change.TheVariants.{Done, Held}
+use Rattle.bsp_fields.specs.Changes.{change_of}
+use Rattle.bsp_calendar.specs.Requests.{closing, has_code}
+use Rattle.bsp_fields.specs.declared.change.Change.TheVariants.{Done, Held}
 use Rattle.bsp_calendar.specs.declared.entries.Rate.{Rate}
 use Rattle.bsp_calendar.specs.declared.entries.Terms.{Terms}
 use Rattle.bsp_calendar.specs.Standing.{first_codes, IsStanding, IsPlaceOf, IsFirstNotOver}

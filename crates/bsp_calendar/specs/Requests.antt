@@ -3,11 +3,11 @@ use Rattle.std.specs.Prelude.{◌≡◌, ℕ, nat_le, ◌==◌, ◌&&◌, ◌||�
 use Rattle.std.specs.List.{list_all, list_any, filter, find}
 use Rattle.std.specs.Str.{bytes_eq}
 use Rattle.bsp_fields.specs.FirstFault.{first_fault_or}
+use Rattle.bsp_fields.specs.Changes.{change_of}
 use Rattle.bsp_fields.specs.CivilDay.{CivilDay}
 use Rattle.bsp_calendar.specs.DayOrder.{is_up_to, is_before, is_next_day, same_day}
 use Rattle.bsp_calendar.specs.Published.{Published, is_among, is_closed}
-use Rattle.bsp_calendar.specs.declared.change.Change.{Change}
-use Rattle.bsp_calendar.specs.declared.change.Change.TheVariants.{Done, Held}
+use Rattle.bsp_fields.specs.declared.change.Change.{Change}
 use Rattle.bsp_calendar.specs.declared.entries.Period.{Period}
 use Rattle.bsp_calendar.specs.declared.entries.PlanText.{PlanText}
 use Rattle.bsp_calendar.specs.declared.entries.Rate.{Rate}
@@ -126,9 +126,6 @@ holds_already p text =
     && (is_empty (added same_airline p.airlines text.airlines.items)
     && (is_empty (added same_rate p.rates text.rates.items)
     && is_empty (added same_period p.periods text.periods.items)))
-
-abbrev pub change_of : Bool → Change
-change_of held = if held then Held else Done
 
 -- ---- the business day, and closing
 

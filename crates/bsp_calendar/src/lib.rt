@@ -2,7 +2,6 @@
 //! business day, and the closing of periods.
 #![tactic(auto)]
 
-mod change;
 mod checks;
 mod currency;
 mod days;
@@ -16,7 +15,6 @@ mod reading;
 #[cfg(test)]
 mod samples;
 
-pub use change::Change;
 pub use currency::Currency;
 pub use entries::{Period, PlanText, Rate, Terms};
 pub use fault::PlanFault;

@@ -8,7 +8,6 @@ mod target;
 #[cfg(test)]
 mod tests;
 
-use crate::change::Change;
 use crate::checks::{
     are_in_order, are_within_bounds, differ_in_terms, has_late_rate, has_none_beyond, have_airlines,
 };
@@ -18,7 +17,7 @@ use crate::fault::PlanFault;
 use crate::keys::{
     Airlines, Periods, Rates, join_airlines, join_periods, join_rates, period_place,
 };
-use bsp_fields::{Day, PeriodCode};
+use bsp_fields::{Change, Day, PeriodCode};
 use std::alloc::Global;
 use std::marker::Model;
 

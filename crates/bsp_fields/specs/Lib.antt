@@ -1,5 +1,6 @@
 -- What the contracts of the fields cite.
 pub mod FirstFault
+pub mod Changes
 pub mod Decimal
 pub mod Zoned
 pub mod Codes

@@ -7,6 +7,7 @@
 #![tactic(auto)]
 
 mod amount;
+mod change;
 mod codes;
 mod day;
 mod digits;
@@ -19,6 +20,7 @@ mod total;
 mod zoned;
 
 pub use amount::{Amount, read_amount, write_amount};
+pub use change::Change;
 pub use codes::{AgentCode, AirlineCode, PeriodCode};
 pub use day::Day;
 pub use digits::write_digits;

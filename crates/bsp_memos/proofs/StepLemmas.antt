@@ -2,8 +2,8 @@
 use Rattle.std.proofs.Common.{◌≡◌, ℕ, Bool, true, false, not, ◌&&◌, ◌||◌, [], ◌∷◌, Ok, Err, is_some, refl, ℤ}
 use Rattle.std.specs.Prelude.{Result, Option}
 use Rattle.bsp_fields.specs.CivilDay.{CivilDay}
-use Rattle.bsp_calendar.specs.declared.change.Change.{Change}
-use Rattle.bsp_calendar.specs.declared.change.Change.TheVariants.{Done, Held}
+use Rattle.bsp_fields.specs.declared.change.Change.{Change}
+use Rattle.bsp_fields.specs.declared.change.Change.TheVariants.{Done, Held}
 use Rattle.bsp_memos.specs.declared.fault.MemoFault.{MemoFault}
 use Rattle.bsp_memos.specs.declared.fault.MemoFault.TheVariants.{ReviewOver, StateForbids, AmountOutOfRange, CreditMemo}
 use Rattle.bsp_memos.specs.declared.fields.MemoFields.{MemoFields}

@@ -3,8 +3,8 @@ use Rattle.std.specs.Prelude.{◌≡◌, ℕ, Bool, true, false, not, ◌&&◌, 
 use Rattle.std.specs.Ordering.{int_eq}
 use Rattle.bsp_fields.specs.CivilDay.{CivilDay}
 use Rattle.bsp_fields.specs.Days.{day_number}
-use Rattle.bsp_calendar.specs.declared.change.Change.{Change}
-use Rattle.bsp_calendar.specs.declared.change.Change.TheVariants.{Done, Held}
+use Rattle.bsp_fields.specs.declared.change.Change.{Change}
+use Rattle.bsp_fields.specs.declared.change.Change.TheVariants.{Done, Held}
 use Rattle.bsp_memos.specs.declared.fault.MemoFault.{MemoFault}
 use Rattle.bsp_memos.specs.declared.fault.MemoFault.TheVariants.{ReviewOver, StateForbids, AmountOutOfRange, CreditMemo}
 use Rattle.bsp_memos.specs.declared.fields.MemoFields.{MemoFields}

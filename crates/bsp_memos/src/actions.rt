@@ -10,8 +10,7 @@ use crate::fault::MemoFault;
 use crate::memo::Memo;
 use crate::review::{require_debit, require_review};
 use crate::state::MemoState;
-use bsp_calendar::Change;
-use bsp_fields::Day;
+use bsp_fields::{Change, Day};
 
 /// The agent disputes an open memo, on a business day up to its last review day.
 ///

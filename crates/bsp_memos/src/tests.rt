@@ -1,6 +1,5 @@
 use crate::*;
-use bsp_calendar::Change;
-use bsp_fields::{AgentCode, AirlineCode, Amount, Day, DocNumber, PeriodCode};
+use bsp_fields::{AgentCode, AirlineCode, Amount, Change, Day, DocNumber, PeriodCode};
 use std::test::Fail;
 
 const REVIEW: u32 = 14;

@@ -3,8 +3,8 @@
 use crate::calls::{Answer, Mistake, answered, made};
 use crate::fields::{airline, code, day};
 use crate::plan::{february_period, february_text, january_periods, january_plan, terms};
-use bsp_calendar::{Change, Period, Plan, PlanFault, PlanText, Terms};
-use bsp_fields::{Day, PeriodCode};
+use bsp_calendar::{Period, Plan, PlanFault, PlanText, Terms};
+use bsp_fields::{Change, Day, PeriodCode};
 use std::alloc::Global;
 
 /// What a plan answers about the samples.

@@ -1,7 +1,7 @@
 use super::*;
 use crate::entries::{Period, Rate};
 use crate::samples::*;
-use bsp_fields::AirlineCode;
+use bsp_fields::{AirlineCode, Change};
 use std::process::Abort;
 use std::test::Fail;
 

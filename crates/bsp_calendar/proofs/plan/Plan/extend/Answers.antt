@@ -1,5 +1,5 @@
 use Rattle.std.proofs.Common.{ap, refl, ◌∙◌, Ok}
-use Rattle.bsp_calendar.specs.Requests.{change_of}
+use Rattle.bsp_fields.specs.Changes.{change_of}
 use Rattle.bsp_calendar.proofs.ExtendLemmas.{standing_more, with_entries_is, holds_is}
 use Rattle.bsp_calendar.proofs.plan.Plan.extend.Goals as goal
 

@@ -1,18 +1,18 @@
 ghost use Rattle.std.specs.Prelude.{◌≡◌};
-ghost use Rattle.bsp_calendar.specs.Requests.{change_of};
+ghost use Rattle.bsp_fields.specs.Changes.{change_of};
 
 /// What an accepted request did.
 #[derive(Clone, Copy, Debug, PartialEq, Eq, Hash, Drop)]
 pub enum Change {
     /// The request was carried out.
     Done,
-    /// What was asked for stood already, and nothing changed.
+    /// What was asked for was so already, and nothing changed.
     Held,
 }
 
 impl Change {
-    /// `Held` where what was asked for stood already.
-    pub(crate) fn of(held: bool) -> Change
+    /// `Held` if and only if what was asked for was so already.
+    pub fn of(held: bool) -> Change
         ensures { result ≡ change_of held }
     {
         if held { Change::Held } else { Change::Done }
