@@ -5,8 +5,8 @@ use Rattle.std.proofs.lemmas.Int.{ints}
 use Rattle.std.proofs.lemmas.Bool.{and_parts, and_from, or_parts, or_right, not-false}
 use Rattle.std.proofs.lemmas.Bool.Decides.{Decides-int_eq}
 use Rattle.bsp_fields.specs.CivilDay.{CivilDay}
-use Rattle.bsp_calendar.specs.declared.change.Change.{Change}
-use Rattle.bsp_calendar.specs.declared.change.Change.TheVariants.{Done, Held}
+use Rattle.bsp_fields.specs.declared.change.Change.{Change}
+use Rattle.bsp_fields.specs.declared.change.Change.TheVariants.{Done, Held}
 use Rattle.bsp_memos.specs.declared.fault.MemoFault.{MemoFault}
 use Rattle.bsp_memos.specs.declared.fault.MemoFault.TheVariants.{ReviewOver, StateForbids, AmountOutOfRange, CreditMemo}
 use Rattle.bsp_memos.specs.declared.fields.MemoFields.{MemoFields}
