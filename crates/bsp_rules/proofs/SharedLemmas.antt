@@ -1,33 +1,43 @@
--- Numbers that are shared, place by place.
-use Rattle.std.proofs.Common.{◌≡◌, ℕ, Bool, ◌||◌, List, [], ◌∷◌, Option, Some, None, option_map, refl, sym, ap, ◌∙◌}
+-- The numbers of a transaction, place by place.
+use Rattle.std.proofs.Common.{◌≡◌, ℕ, Bool, true, false, ◌||◌, List, [], ◌∷◌, Option, Some, None, option_map, refl, sym, ap, ◌∙◌}
 use Rattle.std.specs.List.{filter_map, list_any}
 use Rattle.std.specs.Str.{bytes_eq}
+use Rattle.std.proofs.lemmas.Bool.Decides.{Decides-like, same_from_decides}
+use Rattle.std.proofs.lemmas.Slice.Eq.{bytes_eq-Decides}
 use Rattle.bsp_ret.specs.declared.transactions.ReportedDocument.{ReportedDocument}
 use Rattle.bsp_ret.specs.declared.transactions.Transaction.{Transaction}
 use Rattle.bsp_rules.specs.declared.rows.Item.{Item}
-use Rattle.bsp_rules.specs.Selected.{bears, in_place, is_among, numbers_of, shares}
+use Rattle.bsp_rules.specs.Rows.{names, names_number}
+use Rattle.bsp_rules.specs.Selected.{in_place, is_among, numbers_of, shares}
 
-any_places : (p : List ℕ → Bool) (places : List (Option ReportedDocument)) →
-    list_any p (filter_map (λ place. option_map (λ (d : ReportedDocument). d.number) place) places) ≡ list_any (in_place p) places
-any_places p [] = refl
-any_places p (None ∷ places) = any_places p places
-any_places p (Some d ∷ places) = ap (λ b. p d.number || b) (any_places p places)
+-- the two ways through an or
+pub or_first : (x y r : Bool) → x ≡ true → (x || y) ≡ r → x ≡ r
+or_first x y r t e = t ∙ (sym (ap (λ b. b || y) t) ∙ e)
 
-any_agree : {X : Type 0} (p q : X → Bool) → ((x : X) → p x ≡ q x) → (xs : List X) → list_any p xs ≡ list_any q xs
-any_agree p q same [] = refl
-any_agree p q same (x ∷ xs) = ap (λ b. b || list_any p xs) (same x) ∙ ap (λ b. q x || b) (any_agree p q same xs)
+pub or_second : (x y r : Bool) → x ≡ false → (x || y) ≡ r → y ≡ r
+or_second x y r f e = sym (ap (λ b. b || y) f) ∙ e
 
-place_agree : (p q : List ℕ → Bool) → ((n : List ℕ) → p n ≡ q n) → (place : Option ReportedDocument) → in_place p place ≡ in_place q place
-place_agree p q same None = refl
-place_agree p q same (Some d) = same d.number
+pub bytes_swapped : (xs ys : List ℕ) → bytes_eq xs ys ≡ bytes_eq ys xs
+bytes_swapped xs ys = same_from_decides _ _ (bytes_eq-Decides xs ys) (Decides-like _ sym sym (bytes_eq-Decides ys xs))
 
-bears_among : (t : Transaction) (number : List ℕ) → bears number t ≡ is_among number (numbers_of t)
-bears_among t number = ap (λ b. bytes_eq number t.document.number || b) (sym (any_places (bytes_eq number) t.related))
+-- a number that related places name is among their numbers
+pub named_among : (number : List ℕ) (places : List (Option ReportedDocument)) →
+    list_any (names_number number) places ≡ is_among number (filter_map (λ place. option_map (λ d. d.number) place) places)
+named_among number [] = refl
+named_among number (None ∷ places) = named_among number places
+named_among number (Some d ∷ places) =
+    ap (λ b. b || list_any (names_number number) places) (bytes_swapped d.number number) ∙ ap (λ b. bytes_eq number d.number || b) (named_among number places)
 
-pub shares_placed : (t : Transaction) (i : Item) →
-    (bears i.transaction.document.number t || list_any (in_place (λ number. bears number t)) i.transaction.related) ≡ shares (numbers_of t) i
-shares_placed t i =
-    let among = λ (n : List ℕ). is_among n (numbers_of t) in
-    ap (λ b. b || list_any (in_place (λ n. bears n t)) i.transaction.related) (bears_among t i.transaction.document.number)
-    ∙ ap (λ b. among i.transaction.document.number || b)
-    (any_agree (in_place (λ n. bears n t)) (in_place among) (place_agree (λ n. bears n t) among (bears_among t)) i.transaction.related ∙ sym (any_places among i.transaction.related))
+pub borne_among : (t : Transaction) (number : List ℕ) → (bytes_eq t.document.number number || names number t) ≡ is_among number (numbers_of t)
+borne_among t number =
+    ap (λ b. b || names number t) (bytes_swapped t.document.number number) ∙ ap (λ b. bytes_eq number t.document.number || b) (named_among number t.related)
+
+any_places : (test : List ℕ → Bool) (places : List (Option ReportedDocument)) →
+    list_any (in_place test) places ≡ list_any test (filter_map (λ place. option_map (λ (d : ReportedDocument). d.number) place) places)
+any_places test [] = refl
+any_places test (None ∷ places) = any_places test places
+any_places test (Some d ∷ places) = ap (λ b. test d.number || b) (any_places test places)
+
+pub shares_placed : (numbers : List (List ℕ)) (i : Item) →
+    (is_among i.transaction.document.number numbers || list_any (in_place (λ number. is_among number numbers)) i.transaction.related) ≡ shares numbers i
+shares_placed numbers i = ap (λ b. is_among i.transaction.document.number numbers || b) (any_places (λ number. is_among number numbers) i.transaction.related)

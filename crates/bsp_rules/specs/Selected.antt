@@ -1,5 +1,5 @@
 -- Which of an agent's items bear on a transaction.
-use Rattle.std.specs.Prelude.{◌≡◌, ℕ, Bool, true, false, ◌||◌, List, ◌∷◌, Option, Some, None, option_map}
+use Rattle.std.specs.Prelude.{◌≡◌, ℕ, Bool, true, false, List, ◌∷◌, Option, Some, None, option_map}
 use Rattle.std.specs.List.{Contains, filter, filter_map, list_any}
 use Rattle.std.specs.Str.{bytes_eq}
 use Rattle.bsp_calendar.specs.Published.{Published, target_of}
@@ -26,14 +26,10 @@ is_among number numbers = list_any (bytes_eq number) numbers
 abbrev pub shares : List (List ℕ) → Item → Bool
 shares numbers i = list_any (λ number. is_among number numbers) (numbers_of i.transaction)
 
--- the same place by place: a related place has a number that passes the test
+-- a related place has a number that passes the test
 abbrev pub in_place : (List ℕ → Bool) → Option ReportedDocument → Bool
 in_place test None = false
 in_place test (Some d) = test d.number
-
--- the number is the transaction's, or that of a related document
-abbrev pub bears : List ℕ → Transaction → Bool
-bears number t = bytes_eq number t.document.number || list_any (in_place (bytes_eq number)) t.related
 
 -- the items that share a number with the transaction
 unfoldable pub selected : Transaction → List Item → List Item
