@@ -1,8 +1,11 @@
 -- What each verdict says of the rows of the table.
-use Rattle.std.proofs.Common.{◌≡◌, ℕ, Bool, true, false, ◌&&◌, ◌||◌, not, List, [], ◌∷◌, Option, Some, None, is_some, is_none, Result, Ok, Err, refl, ap, ◌∙◌, nat_le}
+use Rattle.std.proofs.Common.{◌≡◌, ℕ, Bool, true, false, ◌&&◌, ◌||◌, not, List, [], ◌∷◌, Option, Some, None, is_some, is_none, Result, Ok, Err, refl, sym, ap, ◌∙◌, nat_le}
 use Rattle.std.specs.Option.{unwrap_or}
 use Rattle.std.specs.List.{list_any}
 use Rattle.std.proofs.lemmas.Bool.{false≢true, not-false, leb-false, or_parts, lt-leb}
+use Rattle.std.specs.Str.{bytes_eq}
+use Rattle.std.proofs.lemmas.Slice.Eq.{bytes_eq-Decides}
+use Rattle.bsp_fields.specs.Decimal.{fixed_digits}
 use Rattle.bsp_fields.specs.FirstFault.{first_fault_or}
 use Rattle.bsp_calendar.specs.DayOrder.{is_before}
 use Rattle.bsp_calendar.specs.Published.{Published, has_airline, rate_on, target_of}
@@ -13,12 +16,13 @@ use Rattle.bsp_rules.specs.declared.facts.Facts.{Facts}
 use Rattle.bsp_rules.specs.declared.verdict.Refusal.{Refusal}
 use Rattle.bsp_rules.specs.declared.verdict.Refusal.TheVariants.{WrongAgent, UnknownAirline, WrongCheckDigit, NotYetIssued, NotInStock, NumberUsed, WrongAmounts, NoTicket, TicketEnded, WrongAgainstTicket, NoPeriod, LimitReached}
 use Rattle.bsp_rules.specs.declared.verdict.Reporter.{Reporter}
+use Rattle.bsp_rules.specs.declared.verdict.Reporter.TheVariants.{Office, Agent}
 use Rattle.bsp_rules.specs.declared.verdict.Verdict.{Verdict}
 use Rattle.bsp_rules.specs.declared.verdict.Verdict.TheVariants.{Held, Accepted, Refused}
 use Rattle.bsp_rules.specs.Amounts.{has_wrong_amounts}
 use Rattle.bsp_rules.specs.Tickets.{disagrees_with_tickets}
-use Rattle.bsp_rules.specs.Verdicts.{are_missing, has_ended, has_wrong_agent, has_wrong_check_digit, is_ended, is_missing, is_number_used, lacks_ticket, limit_of, rows, told, verdict_on}
-use Rattle.bsp_rules.specs.Meanings.{AcceptedCanxIsFree, AcceptedIsPassed, AcceptedTicketsLive, HeldIsFound, IsFirstRow, IsPassed, RefusedIsFirst, WrongAgentIsFirst, ends_tickets}
+use Rattle.bsp_rules.specs.Verdicts.{are_missing, has_ended, has_wrong_agent, has_wrong_check_digit, is_ended, is_missing, is_number_used, is_other_agent, lacks_ticket, limit_of, rows, told, verdict_on}
+use Rattle.bsp_rules.specs.Meanings.{AcceptedCanxIsFree, AcceptedIsPassed, AcceptedTicketsLive, AgentIsReporters, HeldIsFound, IsFirstRow, IsPassed, IsReporterOf, RefusedIsFirst, WrongAgentIsFirst, ends_tickets}
 
 -- ---- the first row of a table
 
@@ -199,6 +203,26 @@ wrong_agent reporter t f p h = rw h refl
 
 pub wrong_agent_first : WrongAgentIsFirst
 wrong_agent_first reporter t f p = (agent_wrong reporter t f p, wrong_agent reporter t f p)
+
+-- ---- the right agent
+
+not_either : (x y : Bool) → x ≡ false → y ≡ false → (x || y) ≡ false
+not_either x y h k = ap (λ b. b || y) h ∙ k
+
+reporter_of : (reporter : Reporter) (t : Transaction) → is_other_agent reporter t ≡ false → IsReporterOf reporter t
+reporter_of Office t h = tt
+reporter_of (Agent agent) t h = sym ((bytes_eq-Decides (fixed_digits 8 agent) t.agent).0 (not-false (bytes_eq (fixed_digits 8 agent) t.agent) h))
+
+not_other : (reporter : Reporter) (t : Transaction) → IsReporterOf reporter t → is_other_agent reporter t ≡ false
+not_other Office t h = refl
+not_other (Agent agent) t h = ap not ((bytes_eq-Decides (fixed_digits 8 agent) t.agent).1 (sym h))
+
+pub agent_is_reporters : AgentIsReporters
+unfolding has_wrong_agent
+agent_is_reporters reporter t f = (
+  (λ h. let both = or_parts (not f.registered) (is_other_agent reporter t) h in (not-false f.registered both.0, reporter_of reporter t both.1)),
+  (λ h. not_either (not f.registered) (is_other_agent reporter t) (ap not h.0) (not_other reporter t h.1)),
+)
 
 -- ---- rows E06, E08 and E09 of what is accepted
 

@@ -1,6 +1,7 @@
 -- What each verdict says of the rows of the table.
 use Rattle.std.specs.Prelude.{◌≡◌, ◌↔◌, ℕ, ◌<◌, Bool, true, false, List, ◌∷◌, ◌++◌, Some, None, is_some}
 use Rattle.std.specs.List.{list_any}
+use Rattle.bsp_fields.specs.Decimal.{fixed_digits}
 use Rattle.bsp_calendar.specs.DayOrder.{is_before}
 use Rattle.bsp_calendar.specs.Published.{Published, has_airline, rate_on, target_of}
 use Rattle.bsp_ret.specs.declared.model.TransactionCode.{TransactionCode}
@@ -10,6 +11,7 @@ use Rattle.bsp_rules.specs.declared.facts.Facts.{Facts}
 use Rattle.bsp_rules.specs.declared.verdict.Refusal.{Refusal}
 use Rattle.bsp_rules.specs.declared.verdict.Refusal.TheVariants.{WrongAgent}
 use Rattle.bsp_rules.specs.declared.verdict.Reporter.{Reporter}
+use Rattle.bsp_rules.specs.declared.verdict.Reporter.TheVariants.{Office, Agent}
 use Rattle.bsp_rules.specs.declared.verdict.Verdict.{Verdict}
 use Rattle.bsp_rules.specs.declared.verdict.Verdict.TheVariants.{Held, Accepted, Refused}
 use Rattle.bsp_rules.specs.Amounts.{has_wrong_amounts}
@@ -43,6 +45,17 @@ abbrev pub HeldIsFound : Type 0
 HeldIsFound =
     (reporter : Reporter) (t : Transaction) (f : Facts) (p : Published) (period : ℕ) →
     (verdict_on reporter t f p ≡ Held period) ↔ ((has_wrong_agent reporter t f ≡ false) × (f.held ≡ Some period))
+
+-- the office reports for any agent, and an agent what bears its own code
+abbrev pub IsReporterOf : Reporter → Transaction → Type 0
+IsReporterOf Office t = Unit {0}
+IsReporterOf (Agent agent) t = t.agent ≡ fixed_digits 8 agent
+
+-- the agent is right exactly where it is registered and the reporter reports for it
+abbrev pub AgentIsReporters : Type 0
+AgentIsReporters =
+    (reporter : Reporter) (t : Transaction) (f : Facts) →
+    (has_wrong_agent reporter t f ≡ false) ↔ ((f.registered ≡ true) × IsReporterOf reporter t)
 
 -- E02 exactly where the agent is wrong, whatever else applies
 abbrev pub WrongAgentIsFirst : Type 0

@@ -1,6 +1,6 @@
 //! Laws of the verdicts, for callers.
 
-ghost use Rattle.bsp_rules.specs.Meanings.{AcceptedCanxIsFree, AcceptedIsPassed, AcceptedTicketsLive, HeldIsFound, RefusedIsFirst, WrongAgentIsFirst};
+ghost use Rattle.bsp_rules.specs.Meanings.{AcceptedCanxIsFree, AcceptedIsPassed, AcceptedTicketsLive, AgentIsReporters, HeldIsFound, RefusedIsFirst, WrongAgentIsFirst};
 ghost use Rattle.bsp_rules.specs.Selected.{AreFoundFacts};
 
 /// The facts over items that are found by key are those over all of the agent's items, the count apart:
@@ -18,6 +18,7 @@ pub fn meaning_of_verdicts()
     ensures accepted { AcceptedIsPassed }
     ensures held { HeldIsFound }
     ensures wrong_agent { WrongAgentIsFirst }
+    ensures agent { AgentIsReporters }
     ensures refused { RefusedIsFirst }
     ensures tickets { AcceptedTicketsLive }
     ensures canx { AcceptedCanxIsFree }
