@@ -1,5 +1,10 @@
 //! A HOT file over rows.
 
+ghost use Rattle.std.specs.List.{AllPairs};
+ghost use Rattle.std.specs.List.Sorted.{IsPermutation};
+ghost use Rattle.bsp_rules.specs.declared.rows.Item.{Item as ItemRow};
+ghost use Rattle.bsp_memos.specs.declared.fields.MemoFields.{MemoFields as MemoRow};
+ghost use Rattle.bsp_hot.specs.Part.{HaveOnePart};
 ghost use Rattle.std.specs.Prelude.{◌≡◌, [], ℕ, List, All, Some, None, IfOk, MatchOption, map};
 ghost use Rattle.bsp_calendar.specs.Published.{closed_period};
 ghost use Rattle.bsp_hot_check.specs.Hot.{records_of};
@@ -7,9 +12,9 @@ ghost use Rattle.bsp_hot.specs.Sorting.{entry_of, IsRow};
 ghost use Rattle.bsp_calendar.specs.declared.entries.Period.{Period as ClosedPeriod};
 ghost use Rattle.bsp_calendar.specs.declared.entries.Terms.{Terms as PublishedTerms};
 ghost use Rattle.bsp_hot.specs.Rows.{Entry, entries};
-ghost use Rattle.bsp_hot.specs.Files.{file_of, airline_net, IsInOrder, AnswersOver};
-ghost use Rattle.bsp_hot.specs.Nets.{net_of_rows};
-ghost use Rattle.bsp_hot.specs.Sound.{AreInBounds, KeepRules, IsHotFileOver};
+ghost use Rattle.bsp_hot.specs.Files.{file_of, net_of_records, IsInOrder, IsWritten, AnswersOver};
+ghost use Rattle.bsp_postings.specs.Nets.{airline_net};
+ghost use Rattle.bsp_hot.specs.Sound.{AreApart, AreInBounds, KeepRules, IsHotFileOver};
 ghost use Rattle.bsp_hot.specs.WrittenText.{IsTextOf, AreFactsOf};
 
 use crate::offices::FileFacts;
@@ -19,7 +24,8 @@ use bsp_calendar::{Currency, Period, Plan};
 use bsp_fields::{AirlineCode, PeriodCode};
 use bsp_hot_check::HotFault;
 use bsp_memos::Memo;
-use bsp_rules::{Item, Tally};
+use bsp_postings::Tally;
+use bsp_rules::Item;
 use std::alloc::Global;
 
 /// What the types say of an airline, a period and a currency.
@@ -69,6 +75,9 @@ fn write_over<'a>(
     plan: &Plan,
 ) -> Result<Vec<u8>, HotFault>
     ensures written { AnswersOver (λ text. text.items) plan.now airline period (entries airline period items.now memos.now) result }
+    ensures only { IfOk result (λ text. (q : ClosedPeriod) (terms : PublishedTerms) (other : List ℕ) → closed_period plan.now period ≡ Some q → plan.now.terms ≡ Some terms → IsWritten airline q terms.currency (entries airline period items.now memos.now) other → other ≡ text.items) }
+    ensures order { (others : List ItemRow) (other_memos : List MemoRow) → IsPermutation items.now others → IsPermutation memos.now other_memos → AllPairs AreApart (entries airline period items.now memos.now) → AnswersOver (λ text. text.items) plan.now airline period (entries airline period others other_memos) result }
+    ensures part { (others : List ItemRow) (other_memos : List MemoRow) → HaveOnePart airline items.now others memos.now other_memos → AnswersOver (λ text. text.items) plan.now airline period (entries airline period others other_memos) result }
     ensures stands { KeepRules airline period items.now memos.now → IfOk result (λ text. (q : ClosedPeriod) × (terms : PublishedTerms) × (closed_period plan.now period ≡ Some q) × (plan.now.terms ≡ Some terms) × IsHotFileOver airline q terms.currency (entries airline period items.now memos.now) text.items) }
 {
     let file = FileFacts::of(airline, period, plan).ok_or(HotFault::H02)?;
@@ -97,10 +106,13 @@ pub fn write_hot<'a>(
 ) -> Result<Vec<u8>, HotFault>
     // The text of the records of the definition.
     ensures written { AnswersOver (λ text. text.items) plan.now airline period (entries airline period items.now memos.now) result }
+    ensures only { IfOk result (λ text. (q : ClosedPeriod) (terms : PublishedTerms) (other : List ℕ) → closed_period plan.now period ≡ Some q → plan.now.terms ≡ Some terms → IsWritten airline q terms.currency (entries airline period items.now memos.now) other → other ≡ text.items) }
+    ensures order { (others : List ItemRow) (other_memos : List MemoRow) → IsPermutation items.now others → IsPermutation memos.now other_memos → AllPairs AreApart (entries airline period items.now memos.now) → AnswersOver (λ text. text.items) plan.now airline period (entries airline period others other_memos) result }
+    ensures part { (others : List ItemRow) (other_memos : List MemoRow) → HaveOnePart airline items.now others memos.now other_memos → AnswersOver (λ text. text.items) plan.now airline period (entries airline period others other_memos) result }
     // For rows that keep the rules of the book it is a HOT file.
     ensures stands { KeepRules airline period items.now memos.now → IfOk result (λ text. (q : ClosedPeriod) × (terms : PublishedTerms) × (closed_period plan.now period ≡ Some q) × (plan.now.terms ≡ Some terms) × IsHotFileOver airline q terms.currency (entries airline period items.now memos.now) text.items) }
     // The net of its records in the words of the rules.
-    ensures net { (q : ClosedPeriod) (currency : List ℕ) (sorted : List Entry) → IsInOrder (entries airline period items.now memos.now) sorted → airline_net (records_of (file_of airline q currency sorted)) ≡ net_of_rows airline period items.now memos.now }
+    ensures net { (q : ClosedPeriod) (currency : List ℕ) (sorted : List Entry) → IsInOrder (entries airline period items.now memos.now) sorted → net_of_records (records_of (file_of airline q currency sorted)) ≡ airline_net airline period items.now memos.now }
 {
     write_over(alloc, 0, airline, period, items, memos, plan)
 }
@@ -137,8 +149,11 @@ pub fn write_hot_of<'a>(
     plan: &Plan,
 ) -> Result<Vec<u8>, HotFault>
     ensures written { AnswersOver (λ text. text.items) plan.now airline period (entries airline period items.now memos.now) result }
+    ensures only { IfOk result (λ text. (q : ClosedPeriod) (terms : PublishedTerms) (other : List ℕ) → closed_period plan.now period ≡ Some q → plan.now.terms ≡ Some terms → IsWritten airline q terms.currency (entries airline period items.now memos.now) other → other ≡ text.items) }
+    ensures order { (others : List ItemRow) (other_memos : List MemoRow) → IsPermutation items.now others → IsPermutation memos.now other_memos → AllPairs AreApart (entries airline period items.now memos.now) → AnswersOver (λ text. text.items) plan.now airline period (entries airline period others other_memos) result }
+    ensures part { (others : List ItemRow) (other_memos : List MemoRow) → HaveOnePart airline items.now others memos.now other_memos → AnswersOver (λ text. text.items) plan.now airline period (entries airline period others other_memos) result }
     ensures stands { KeepRules airline period items.now memos.now → IfOk result (λ text. (q : ClosedPeriod) × (terms : PublishedTerms) × (closed_period plan.now period ≡ Some q) × (plan.now.terms ≡ Some terms) × IsHotFileOver airline q terms.currency (entries airline period items.now memos.now) text.items) }
-    ensures net { (q : ClosedPeriod) (currency : List ℕ) (sorted : List Entry) → IsInOrder (entries airline period items.now memos.now) sorted → airline_net (records_of (file_of airline q currency sorted)) ≡ net_of_rows airline period items.now memos.now }
+    ensures net { (q : ClosedPeriod) (currency : List ℕ) (sorted : List Entry) → IsInOrder (entries airline period items.now memos.now) sorted → net_of_records (records_of (file_of airline q currency sorted)) ≡ airline_net airline period items.now memos.now }
 {
     let room = room_for(airline, period, tallies);
     write_over(alloc, room, airline, period, items, memos, plan)

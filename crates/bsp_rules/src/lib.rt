@@ -20,6 +20,6 @@ pub use facts::{Facts, OwnNumber, RelatedDocument};
 pub use gathering::facts_of;
 pub use judging::judge;
 pub use rounding::commission;
-pub use rows::{Item, Range, Tally};
+pub use rows::{Item, Range};
 pub use sums::{amount_or_zero, card_amount, commission_amount, net};
 pub use verdict::{Refusal, Reporter, Verdict};
