@@ -6,6 +6,7 @@ use Rattle.bsp_rules.specs.declared.rows.Item.{Item}
 use Rattle.bsp_rules.specs.Rows.{is_canx}
 use Rattle.bsp_postings.specs.declared.tally.Tally.{Tally}
 use Rattle.bsp_memos.specs.declared.fields.MemoFields.{MemoFields}
+use Rattle.bsp_memos.specs.Owed.{is_billed_in}
 use Rattle.bsp_postings.specs.declared.posting.Posting.{Posting}
 use Rattle.bsp_postings.specs.Postings.{is_counted, item_posting, memo_posting, postings}
 use Rattle.bsp_postings.specs.Nets.{cash_of, credit_of, commission_of, memos_of}
@@ -101,6 +102,10 @@ under items memos t = filter (is_under t) (postings t.period items memos)
 -- the items of the tally's agent, airline and period, cancelled ones and CANX too
 abbrev pub is_item_under : Tally → Item → Bool
 is_item_under t i = (i.agent == t.agent) && ((i.transaction.document.airline == t.airline) && (i.period == t.period))
+
+-- the memo is billed in the tally's period to its agent by its airline
+abbrev pub is_memo_under : Tally → MemoFields → Bool
+is_memo_under t m = (m.agent == t.agent) && ((m.airline == t.airline) && is_billed_in t.period m)
 
 abbrev pub items_under : List Item → Tally → List Item
 items_under items t = filter (is_item_under t) items

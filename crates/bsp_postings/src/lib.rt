@@ -9,7 +9,7 @@ mod posting;
 mod rows;
 mod tally;
 
-pub use law::two_sides;
+pub use law::{tallies_grow, two_sides};
 pub use posting::Posting;
 pub use rows::{is_counted, postings_of};
 pub use tally::{Tally, tally_postings};
