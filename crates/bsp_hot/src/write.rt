@@ -11,9 +11,8 @@ ghost use Rattle.bsp_hot_check.specs.Hot.{records_of};
 ghost use Rattle.bsp_hot.specs.Sorting.{entry_of, IsRow};
 ghost use Rattle.bsp_calendar.specs.declared.entries.Period.{Period as ClosedPeriod};
 ghost use Rattle.bsp_calendar.specs.declared.entries.Terms.{Terms as PublishedTerms};
-ghost use Rattle.bsp_hot.specs.Rows.{Entry, entries};
-ghost use Rattle.bsp_hot.specs.Files.{file_of, net_of_records, IsInOrder, IsWritten, AnswersOver};
-ghost use Rattle.bsp_postings.specs.Nets.{airline_net};
+ghost use Rattle.bsp_hot.specs.Rows.{entries};
+ghost use Rattle.bsp_hot.specs.Files.{file_of, IsWritten, AnswersOver};
 ghost use Rattle.bsp_hot.specs.Sound.{AreApart, AreInBounds, KeepRules, IsHotFileOver};
 ghost use Rattle.bsp_hot.specs.WrittenText.{IsTextOf, AreFactsOf};
 
@@ -22,7 +21,7 @@ use crate::output::{LINE, Output};
 use crate::rows::{Row, rows_in_order};
 use bsp_calendar::{Currency, Period, Plan};
 use bsp_fields::{AirlineCode, PeriodCode};
-use bsp_hot_check::HotFault;
+use crate::fault::HotFault;
 use bsp_memos::Memo;
 use bsp_postings::Tally;
 use bsp_rules::Item;
@@ -80,7 +79,7 @@ fn write_over<'a>(
     ensures part { (others : List ItemRow) (other_memos : List MemoRow) → HaveOnePart airline items.now others memos.now other_memos → AnswersOver (λ text. text.items) plan.now airline period (entries airline period others other_memos) result }
     ensures stands { KeepRules airline period items.now memos.now → IfOk result (λ text. (q : ClosedPeriod) × (terms : PublishedTerms) × (closed_period plan.now period ≡ Some q) × (plan.now.terms ≡ Some terms) × IsHotFileOver airline q terms.currency (entries airline period items.now memos.now) text.items) }
 {
-    let file = FileFacts::of(airline, period, plan).ok_or(HotFault::H02)?;
+    let file = FileFacts::of(airline, period, plan).ok_or(HotFault::NotClosed)?;
     let rows = rows_in_order(alloc, airline, period, items, memos)?;
     write_file(Output::with_room(alloc, room), &file, &rows)
 }
@@ -93,9 +92,8 @@ fn write_over<'a>(
 ///
 /// # Errors
 ///
-/// H02 where the period is unknown or not closed, and else H01 where a count or a total does not fit its
-/// place; H03 where an allocation was refused.
-#[tactic(auto, using(crate::proofs::NetLemmas::net_over_rows))]
+/// `NotClosed` where the period is unknown or not closed, and else `TooWide` where a count or a total does
+/// not fit its place; `NoMemory` where an allocation was refused.
 pub fn write_hot<'a>(
     alloc: Global,
     airline: AirlineCode,
@@ -111,8 +109,6 @@ pub fn write_hot<'a>(
     ensures part { (others : List ItemRow) (other_memos : List MemoRow) → HaveOnePart airline items.now others memos.now other_memos → AnswersOver (λ text. text.items) plan.now airline period (entries airline period others other_memos) result }
     // For rows that keep the rules of the book it is a HOT file.
     ensures stands { KeepRules airline period items.now memos.now → IfOk result (λ text. (q : ClosedPeriod) × (terms : PublishedTerms) × (closed_period plan.now period ≡ Some q) × (plan.now.terms ≡ Some terms) × IsHotFileOver airline q terms.currency (entries airline period items.now memos.now) text.items) }
-    // The net of its records in the words of the rules.
-    ensures net { (q : ClosedPeriod) (currency : List ℕ) (sorted : List Entry) → IsInOrder (entries airline period items.now memos.now) sorted → net_of_records (records_of (file_of airline q currency sorted)) ≡ airline_net airline period items.now memos.now }
 {
     write_over(alloc, 0, airline, period, items, memos, plan)
 }
@@ -138,7 +134,6 @@ fn room_for(airline: AirlineCode, period: PeriodCode, tallies: &[Tally]) -> usiz
 /// # Errors
 ///
 /// As of [`write_hot`].
-#[tactic(auto, using(crate::proofs::NetLemmas::net_over_rows))]
 pub fn write_hot_of<'a>(
     alloc: Global,
     airline: AirlineCode,
@@ -153,7 +148,6 @@ pub fn write_hot_of<'a>(
     ensures order { (others : List ItemRow) (other_memos : List MemoRow) → IsPermutation items.now others → IsPermutation memos.now other_memos → AllPairs AreApart (entries airline period items.now memos.now) → AnswersOver (λ text. text.items) plan.now airline period (entries airline period others other_memos) result }
     ensures part { (others : List ItemRow) (other_memos : List MemoRow) → HaveOnePart airline items.now others memos.now other_memos → AnswersOver (λ text. text.items) plan.now airline period (entries airline period others other_memos) result }
     ensures stands { KeepRules airline period items.now memos.now → IfOk result (λ text. (q : ClosedPeriod) × (terms : PublishedTerms) × (closed_period plan.now period ≡ Some q) × (plan.now.terms ≡ Some terms) × IsHotFileOver airline q terms.currency (entries airline period items.now memos.now) text.items) }
-    ensures net { (q : ClosedPeriod) (currency : List ℕ) (sorted : List Entry) → IsInOrder (entries airline period items.now memos.now) sorted → net_of_records (records_of (file_of airline q currency sorted)) ≡ airline_net airline period items.now memos.now }
 {
     let room = room_for(airline, period, tallies);
     write_over(alloc, room, airline, period, items, memos, plan)

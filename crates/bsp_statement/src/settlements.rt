@@ -9,6 +9,7 @@ ghost use Rattle.bsp_calendar.specs.declared.entries.Terms.{Terms};
 ghost use Rattle.bsp_statement.specs.declared.nets.Settlement.{Settlement};
 ghost use Rattle.bsp_rules.specs.declared.rows.Item.{Item as Row};
 ghost use Rattle.bsp_memos.specs.declared.fields.MemoFields.{MemoFields};
+ghost use Rattle.bsp_postings.specs.declared.tally.Tally.{Tally as TallyRow};
 ghost use Rattle.bsp_postings.specs.Tallies.{AreTallies, tally_postings};
 ghost use Rattle.bsp_postings.specs.Postings.{postings};
 ghost use Rattle.bsp_postings.specs.Nets.{agent_net, airline_net};
@@ -181,6 +182,7 @@ pub fn settlement_of(
     ensures one_sum { IfOk result HasOneSum }
     ensures agents { (items : List Row) (memos : List MemoFields) → AreTallies items memos tallies.now → IfOk result (λ settlement. All (λ n. n.net ≡ agent_net n.agent period items memos) settlement.agents.items) }
     ensures airlines { (items : List Row) (memos : List MemoFields) → AreTallies items memos tallies.now → IfOk result (λ settlement. All (λ n. n.net ≡ airline_net n.airline period items memos) settlement.airlines.items) }
+    ensures order { (others : List TallyRow) → IsPermutation tallies.now others → Answers plan.now period (λ q terms settlement. IsSettlement (of_period q terms) (tally_postings period others) settlement) result }
     ensures rows { (items : List Row) (memos : List MemoFields) → AreTallies items memos tallies.now → Answers plan.now period (λ q terms settlement. IsSettlement (of_period q terms) (postings period items memos) settlement) result }
 {
     let Some((closed, terms)) = closed_with_terms(plan, period) else {

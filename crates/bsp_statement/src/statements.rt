@@ -9,6 +9,7 @@ ghost use Rattle.bsp_calendar.specs.declared.entries.Period.{Period};
 ghost use Rattle.bsp_calendar.specs.declared.entries.Terms.{Terms};
 ghost use Rattle.bsp_rules.specs.declared.rows.Item.{Item as Row};
 ghost use Rattle.bsp_memos.specs.declared.fields.MemoFields.{MemoFields};
+ghost use Rattle.bsp_postings.specs.declared.tally.Tally.{Tally as TallyRow};
 ghost use Rattle.bsp_postings.specs.Tallies.{AreTallies, tally_postings};
 ghost use Rattle.bsp_postings.specs.Postings.{of_agent, postings};
 ghost use Rattle.bsp_postings.specs.Nets.{agent_net, net_of_postings};
@@ -124,6 +125,7 @@ pub fn statement_of(
     ensures text { Answers plan.now period (λ q terms text. IsStatement agent (of_period q terms) (of_agent agent (tally_postings period tallies.now)) (string_bytes text)) result }
     ensures only { IfOk result (λ text. (q : Period) (terms : Terms) (other : List ℕ) → closed_period plan.now period ≡ Some q → plan.now.terms ≡ Some terms → IsStatement agent (of_period q terms) (of_agent agent (tally_postings period tallies.now)) other → other ≡ string_bytes text) }
     ensures net { (items : List Row) (memos : List MemoFields) → AreTallies items memos tallies.now → net_of_postings (of_agent agent (tally_postings period tallies.now)) ≡ agent_net agent period items memos }
+    ensures order { (others : List TallyRow) → IsPermutation tallies.now others → Answers plan.now period (λ q terms text. IsStatement agent (of_period q terms) (of_agent agent (tally_postings period others)) (string_bytes text)) result }
     ensures rows { (items : List Row) (memos : List MemoFields) → AreTallies items memos tallies.now → Answers plan.now period (λ q terms text. IsStatement agent (of_period q terms) (of_agent agent (postings period items memos)) (string_bytes text)) result }
 {
     let Some((closed, terms)) = closed_with_terms(plan, period) else {
