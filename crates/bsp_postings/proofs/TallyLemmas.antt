@@ -1,6 +1,6 @@
 -- Tallies grow row by row.
 use Rattle.std.proofs.Common.{◌≡◌, ℕ, ◌+◌, ◌==◌, refl, ap, subst, ◌∙◌, sym, inl, inr, Bool, true, false, ◌&&◌, List, [], ◌∷◌, ◌++◌, map, length, arith, cond, IsPermutation}
-use Rattle.std.specs.Prelude.{ℤ, pos, ◌+ℤ◌, count_by}
+use Rattle.std.specs.Prelude.{ℤ, ◌+ℤ◌, count_by}
 use Rattle.std.specs.List.{filter, sum_by}
 use Rattle.std.specs.Cmp.Derive.{both_true}
 use Rattle.std.proofs.lemmas.Bool.{cases_Bool, and_parts, eqb-true}
@@ -17,7 +17,7 @@ use Rattle.bsp_postings.specs.declared.posting.Posting.{Posting}
 use Rattle.bsp_postings.specs.declared.tally.Tally.{Tally}
 use Rattle.bsp_postings.specs.Postings.{is_counted, item_posting, memo_posting, item_postings, memo_postings, postings}
 use Rattle.bsp_postings.specs.Tallies.{IsTallyOf, counting, is_item_under, is_memo_under, is_under, is_used, items_under, no_tally, tally_posting, tally_postings, under, with_item, with_memo, with_posting}
-use Rattle.bsp_postings.proofs.SumLemmas.{sums, sums-cons, sums-append}
+use Rattle.bsp_postings.proofs.SumLemmas.{sums, sums-cons}
 use Rattle.bsp_postings.proofs.Permutations.{IsPermutation-filter, postings_permuted, sums_permuted}
 
 -- ---- one posting more
@@ -29,8 +29,8 @@ IsMore p rows more = IsPermutation more (p ∷ rows)
 sums_more : (f : Posting → ℤ) (p : Posting) (rows more : List Posting) (z : ℤ) → IsMore p rows more → z ≡ sums f rows → z +ℤ f p ≡ sums f more
 sums_more f p rows more z same is =
     ap (λ (x : ℤ). x +ℤ f p) is ∙ turned (sums f rows) (f p) ∙ sym (sums-cons f p rows) ∙ sym (sums_permuted f more (p ∷ rows) same) where
-    turned : (x y : ℤ) → x +ℤ y ≡ y +ℤ x
-    turned x y = omega (arith, ints)
+      turned : (x y : ℤ) → x +ℤ y ≡ y +ℤ x
+      turned x y = omega (arith, ints)
 
 documents_more : (p : Posting) (rows more : List Posting) (n : ℕ) → IsMore p rows more → n ≡ sum_by (λ q. q.documents) rows → n + p.documents ≡ sum_by (λ q. q.documents) more
 documents_more p rows more n same is =
@@ -72,6 +72,7 @@ module _ (i : Item) (items : List Item) (memos : List MemoFields) (t : Tally) wh
     without true true false false is lives = sym lives
     without true false c l is lives = refl
     without false b c l is lives = refl
+
     not_under : lives_in t.period i ≡ true → is_under t (item_posting i) ≡ false
     not_under = without (i.agent == t.agent) (i.transaction.document.airline == t.airline) (i.period == t.period) i.lives other
 
@@ -177,6 +178,7 @@ module _ (m : MemoFields) (items : List Item) (memos : List MemoFields) (t : Tal
     without true true c is passes = sym passes ∙ is
     without true false c is passes = refl
     without false b c is passes = refl
+
     not_under : is_billed_in t.period m ≡ true → is_under t (memo_posting m) ≡ false
     not_under = without (m.agent == t.agent) (m.airline == t.airline) (is_billed_in t.period m) other
 

@@ -1,5 +1,5 @@
 -- Tallies: what the rows of an agent, an airline and a period add up to.
-use Rattle.std.specs.Prelude.{◌≡◌, ◌<◌, ℕ, ℤ, pos, ◌+◌, ◌^◌, ◌+ℤ◌, FitsSigned, ◌==◌, nat_lt, Bool, true, false, ◌&&◌, ◌||◌, if◌then◌else◌, List, map, length, count_by}
+use Rattle.std.specs.Prelude.{◌≡◌, ◌<◌, ℕ, pos, ◌+◌, ◌^◌, ◌+ℤ◌, FitsSigned, ◌==◌, nat_lt, Bool, true, false, ◌&&◌, ◌||◌, if◌then◌else◌, List, map, length, count_by}
 use mir.Syntax.{w64}
 use Rattle.std.specs.List.{filter, sum_by, All, AllPairs, Contains}
 use Rattle.bsp_rules.specs.declared.rows.Item.{Item}

@@ -8,6 +8,8 @@ mod law;
 mod posting;
 mod rows;
 mod tally;
+#[cfg(test)]
+mod tests;
 
 pub use law::{tallies_grow, two_sides};
 pub use posting::Posting;
