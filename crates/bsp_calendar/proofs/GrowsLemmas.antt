@@ -150,10 +150,7 @@ request_grows p (Publish text) m s h = publish_grows p text m s h
 request_grows p (SetDay day) m s h = day_grows p day m h
 request_grows p (Close code) m s h = close_grows p code m h
 
-reached_grows : (requests : List Request) (p m : Published) → IsSoundPlan p → IsReached p requests m → Grows p m
+pub reached_grows : (requests : List Request) (p m : Published) → IsSoundPlan p → IsReached p requests m → Grows p m
 reached_grows [] p m s is = subst (λ (x : Published). Grows p x) (sym is) (grows_itself p)
 reached_grows (r ∷ rs) p m s (next, done, rest) =
     grows_further p next m (request_grows p r next s done) (reached_grows rs next m (sound_kept p r next s done) rest)
-
-pub closed_stays : (p : Published) (requests : List Request) (m : Published) → IsSoundPlan p → IsReached p requests m → Grows p m
-closed_stays p requests m s is = reached_grows requests p m s is

@@ -217,7 +217,7 @@ pub reached_more : (requests : List Request) (start p : Published) (request : Re
 reached_more [] start p r m is h = (m, subst (λ (x : Published). outcome x r ≡ Ok m) is h, refl)
 reached_more (q ∷ rs) start p r m (next, done, rest) h = (next, done, reached_more rs next p r m rest h)
 
--- where no period is, none of the terms may be missing
+-- where there is a period, terms are published
 pub terms_there : (p : Published) → IsSoundPlan p → (q : Period) → Contains p.periods q → (t : Terms) × (p.terms ≡ Some t)
 terms_there p s q in' = there p.terms refl where
   there : (o : Option Terms) → p.terms ≡ o → (t : Terms) × (p.terms ≡ Some t)

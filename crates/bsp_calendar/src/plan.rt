@@ -4,6 +4,8 @@ ghost use Rattle.bsp_calendar.specs.Published.{is_closed, opening};
 ghost use Rattle.bsp_calendar.specs.Requests.{Answers, AnswersOrLacksMemory, are_within_bounds, closing, extended, has_terms, holds_already, is_empty, on_day, with_entries};
 
 mod answers;
+mod entries;
+mod periods;
 mod target;
 #[cfg(test)]
 mod tests;
