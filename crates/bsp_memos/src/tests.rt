@@ -266,19 +266,23 @@ fn reasons_are_judged(rt: HostRuntime) {
 /// Kind, state, whether billed, the amount and the amount as issued of stored fields.
 type Stored = (MemoKind, MemoState, bool, i64, i64);
 
-/// Whether fields that a store kept make a memo.
-fn is_restored(stored: Stored) -> Option<bool> {
+/// Those fields of a memo of 2024-01-05.
+fn stored_fields(stored: Stored) -> Option<MemoFields> {
     let (kind, state, is_billed, amount, issued_amount) = stored;
     let period = PeriodCode::read(b"24011").ok()?;
-    let fields = MemoFields {
+    Some(MemoFields {
         kind,
         state,
         billed: is_billed.then_some(period),
         amount: Amount::new(amount).ok()?,
         issued_amount: Amount::new(issued_amount).ok()?,
         ..*debit(5000)?.fields()
-    };
-    Some(Memo::restore(fields).is_some())
+    })
+}
+
+/// Whether fields that a store kept make a memo.
+fn is_restored(stored: Stored) -> Option<bool> {
+    Some(Memo::restore(stored_fields(stored)?).is_some())
 }
 
 const STORED: [(Stored, bool); 11] = [
@@ -317,6 +321,46 @@ const STORED: [(Stored, bool); 11] = [
 fn stored_fields_are_judged(rt: HostRuntime) {
     for (stored, taken) in STORED {
         assert_eq!(rt; is_restored(stored), Some(taken));
+    }
+}
+
+fn is_right(stored: Stored, on: &str) -> Option<bool> {
+    let memo = Memo::restore(stored_fields(stored)?)?;
+    Some(is_rightly_billed(&memo, day(on)?, REVIEW))
+}
+
+const BILLED: [(Stored, &str, bool); 5] = [
+    (
+        (MemoKind::Debit, MemoState::Open, true, 5000, 5000),
+        "2024-01-19",
+        false,
+    ),
+    (
+        (MemoKind::Debit, MemoState::Open, true, 5000, 5000),
+        "2024-01-20",
+        true,
+    ),
+    (
+        (MemoKind::Debit, MemoState::Open, false, 5000, 5000),
+        "2024-01-20",
+        false,
+    ),
+    (
+        (MemoKind::Debit, MemoState::Reduced, true, 3000, 5000),
+        "2024-01-05",
+        true,
+    ),
+    (
+        (MemoKind::Credit, MemoState::Open, true, 5000, 5000),
+        "2024-01-05",
+        true,
+    ),
+];
+
+#[test]
+fn billed_memos_are_judged(rt: HostRuntime) {
+    for (stored, on, right) in BILLED {
+        assert_eq!(rt; is_right(stored, on), Some(right), "on {on}");
     }
 }
 
