@@ -37,13 +37,12 @@ impl FileFacts {
     fn of(airline: AirlineCode, period: PeriodCode, plan: &Plan) -> Option<FileFacts>
         ensures { MatchOption result (closed_period plan.now period ≡ None) (AreFactsOf plan.now airline period) }
     {
-        let period = plan.closed_period(period)?;
-        let currency = plan.terms()?.currency;
-        bounds(airline, period, currency);
+        let (period, terms) = plan.closed_with_terms(period)?;
+        bounds(airline, period, terms.currency);
         Some(FileFacts {
             airline,
             period,
-            currency: currency.letters(),
+            currency: terms.currency.letters(),
         })
     }
 }

@@ -20,7 +20,7 @@ use crate::columns::push_net;
 use crate::fault::StatementFault;
 use crate::figures::{Figures, MOST_POSTINGS, by_agent, by_airline, total};
 use crate::nets::{AgentNet, AirlineNet, Settlement};
-use crate::period::{closed_with_terms, push_period};
+use crate::period::push_period;
 use bsp_calendar::{Currency, Period, Plan};
 use bsp_fields::{AgentCode, AirlineCode, NoRoom, PeriodCode};
 use bsp_memos::Memo;
@@ -156,7 +156,7 @@ pub fn settlement(
     ensures airlines { IfOk result (λ settlement. All (λ n. n.net ≡ airline_net n.airline period items.now memos.now) settlement.airlines.items) }
     ensures order { (others : List Row) (other_memos : List MemoFields) → IsPermutation items.now others → IsPermutation memos.now other_memos → Answers plan.now period (λ q terms settlement. IsSettlement (of_period q terms) (postings period others other_memos) settlement) result }
 {
-    let Some((closed, terms)) = closed_with_terms(plan, period) else {
+    let Some((closed, terms)) = plan.closed_with_terms(period) else {
         return Err(StatementFault::NotClosed);
     };
     let postings = postings_of(alloc, period, items, memos)?;
@@ -185,7 +185,7 @@ pub fn settlement_of(
     ensures order { (others : List TallyRow) → IsPermutation tallies.now others → Answers plan.now period (λ q terms settlement. IsSettlement (of_period q terms) (tally_postings period others) settlement) result }
     ensures rows { (items : List Row) (memos : List MemoFields) → AreTallies items memos tallies.now → Answers plan.now period (λ q terms settlement. IsSettlement (of_period q terms) (postings period items memos) settlement) result }
 {
-    let Some((closed, terms)) = closed_with_terms(plan, period) else {
+    let Some((closed, terms)) = plan.closed_with_terms(period) else {
         return Err(StatementFault::NotClosed);
     };
     let postings = tally_postings(alloc, period, tallies)?;

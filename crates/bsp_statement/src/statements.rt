@@ -19,7 +19,7 @@ ghost use Rattle.bsp_statement.specs.Reports.{Answers, IsStatement, of_period};
 use crate::columns::{push_figures, push_heading};
 use crate::fault::StatementFault;
 use crate::figures::{Figures, MOST_POSTINGS, by_airline, total};
-use crate::period::{closed_with_terms, push_period};
+use crate::period::push_period;
 use bsp_calendar::{Currency, Period, Plan};
 use bsp_fields::{AgentCode, AirlineCode, NoRoom, PeriodCode};
 use bsp_memos::Memo;
@@ -99,7 +99,7 @@ pub fn statement(
     ensures net { net_of_postings (of_agent agent (postings period items.now memos.now)) ≡ agent_net agent period items.now memos.now }
     ensures order { (others : List Row) (other_memos : List MemoFields) → IsPermutation items.now others → IsPermutation memos.now other_memos → Answers plan.now period (λ q terms text. IsStatement agent (of_period q terms) (of_agent agent (postings period others other_memos)) (string_bytes text)) result }
 {
-    let Some((closed, terms)) = closed_with_terms(plan, period) else {
+    let Some((closed, terms)) = plan.closed_with_terms(period) else {
         return Err(StatementFault::NotClosed);
     };
     let mut postings = postings_of(alloc, period, items, memos)?;
@@ -128,7 +128,7 @@ pub fn statement_of(
     ensures order { (others : List TallyRow) → IsPermutation tallies.now others → Answers plan.now period (λ q terms text. IsStatement agent (of_period q terms) (of_agent agent (tally_postings period others)) (string_bytes text)) result }
     ensures rows { (items : List Row) (memos : List MemoFields) → AreTallies items memos tallies.now → Answers plan.now period (λ q terms text. IsStatement agent (of_period q terms) (of_agent agent (postings period items memos)) (string_bytes text)) result }
 {
-    let Some((closed, terms)) = closed_with_terms(plan, period) else {
+    let Some((closed, terms)) = plan.closed_with_terms(period) else {
         return Err(StatementFault::NotClosed);
     };
     let mut postings = tally_postings(alloc, period, tallies)?;
