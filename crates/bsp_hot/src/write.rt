@@ -16,34 +16,36 @@ ghost use Rattle.bsp_hot.specs.Files.{file_of, IsWritten, AnswersOver};
 ghost use Rattle.bsp_hot.specs.Sound.{AreApart, AreInBounds, KeepRules, IsHotFileOver};
 ghost use Rattle.bsp_hot.specs.WrittenText.{IsTextOf, AreFactsOf};
 
+use crate::fault::HotFault;
 use crate::offices::FileFacts;
 use crate::output::{LINE, Output};
 use crate::rows::{Row, rows_in_order};
 use bsp_calendar::{Currency, Period, Plan};
 use bsp_fields::{AirlineCode, PeriodCode};
-use crate::fault::HotFault;
 use bsp_memos::Memo;
 use bsp_postings::Tally;
 use bsp_rules::Item;
 use std::alloc::Global;
 
-/// What the types say of an airline, a period and a currency.
-fn bounds(airline: AirlineCode, period: Period, currency: Currency)
-    ensures { AreInBounds airline period currency }
-{}
-
 impl FileFacts {
+    /// Of an airline, a period and a currency.
+    fn over(airline: AirlineCode, period: Period, currency: Currency) -> FileFacts
+        ensures value { result ≡ record { airline = airline; period = period; currency = currency } }
+        ensures bounds { AreInBounds airline period currency }
+    {
+        FileFacts {
+            airline,
+            period,
+            currency: currency.letters(),
+        }
+    }
+
     /// Of the period of a code, where it is published and closed. Terms are then published too.
     fn of(airline: AirlineCode, period: PeriodCode, plan: &Plan) -> Option<FileFacts>
         ensures { MatchOption result (closed_period plan.now period ≡ None) (AreFactsOf plan.now airline period) }
     {
         let (period, terms) = plan.closed_with_terms(period)?;
-        bounds(airline, period, terms.currency);
-        Some(FileFacts {
-            airline,
-            period,
-            currency: terms.currency.letters(),
-        })
+        Some(FileFacts::over(airline, period, terms.currency))
     }
 }
 
