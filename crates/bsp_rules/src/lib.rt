@@ -23,6 +23,6 @@ pub use gathering::facts_of;
 pub use judging::judge;
 pub use laws::{facts_by_key, meaning_of_verdicts};
 pub use rounding::commission;
-pub use rows::{Item, Range, Tally};
+pub use rows::{Item, Range};
 pub use sums::{amount_or_zero, card_amount, commission_amount, net};
 pub use verdict::{Refusal, Reporter, Verdict};
