@@ -91,7 +91,7 @@ AcceptedTicketsLive =
     ends_tickets t.code (is_some t.exchange) ≡ true →
     (list_any is_some f.related ≡ true) × ((list_any (is_missing t.document.airline) f.related ≡ false) × (list_any is_ended f.related ≡ false))
 
--- what stands under the number of a CANX that is accepted
+-- the facts on the number of a CANX that is accepted
 pub record IsFreeToCancel (f : Facts) : Type 0 where
   pub not_cancelled : f.own.is_cancelled ≡ false
   pub own_airline : f.own.is_of_another_airline ≡ false
