@@ -12,7 +12,7 @@ use Rattle.bsp_calendar.specs.Requests.{closing, has_code}
 use Rattle.bsp_fields.specs.declared.change.Change.TheVariants.{Done, Held}
 use Rattle.bsp_calendar.specs.declared.entries.Rate.{Rate}
 use Rattle.bsp_calendar.specs.declared.entries.Terms.{Terms}
-use Rattle.bsp_calendar.specs.Standing.{first_codes, IsStanding, IsPlaceOf, IsFirstNotOver}
+use Rattle.bsp_calendar.specs.Standing.{first_codes, plan_of, IsStanding, IsPlaceOf, IsFirstNotOver}
 use Rattle.bsp_calendar.specs.declared.entries.Period.{Period}
 use Rattle.bsp_calendar.specs.declared.fault.PlanFault.TheVariants.{NotEarliest, NotOver}
 use Rattle.bsp_calendar.proofs.ListLemmas.{with_item, find_none}
@@ -72,16 +72,6 @@ pub target_missing : (qs : List Period) (n f i : ℕ) (day issued : CivilDay) �
 target_missing qs n f i day issued h first is past = rw (target_past qs n f i day issued h first is past) refl
 
 -- ---- `close_next`
-
-abbrev pub plan_of : Option Terms → List ℕ → List Rate → List Period → CivilDay → ℕ → Published
-plan_of terms airlines rates qs day n = record {
-  terms = terms;
-  airlines = airlines;
-  rates = rates;
-  periods = qs;
-  day = day;
-  closed = first_codes qs n;
-}
 
 abbrev next_among : List Period → ℕ → Option Period
 next_among qs n = find (λ q. not (is_among q.code (first_codes qs n))) qs

@@ -27,6 +27,9 @@ before_from a b h = grind (arith, ints)
 pub not_before : (a b : ℤ) → int_lt a b ≡ false → b ≤ℤ a
 not_before a b h = grind (arith, ints)
 
+pub not_before_from : (a b : ℤ) → a ≤ℤ b → int_lt b a ≡ false
+not_before_from a b h = grind (arith, ints)
+
 -- the number after another is above it
 pub next_above : (a b : ℤ) → int_eq b (a +ℤ pos 1) ≡ true → a <ℤ b
 next_above a b h =

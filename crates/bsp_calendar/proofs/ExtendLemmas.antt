@@ -1,5 +1,5 @@
 -- Lemmas on a plan with the entries of a text.
-use Rattle.std.proofs.Common.{◌≡◌, ℕ, ◌&&◌, ◌==◌, Bool, true, false, List, ◌++◌, length, drop, refl, sym, ap, ◌∙◌, arith, Ok, Err, nat_eq}
+use Rattle.std.proofs.Common.{◌≡◌, ℕ, ◌≤◌, ◌&&◌, ◌==◌, Bool, true, false, List, ◌++◌, length, take, drop, map, refl, sym, ap, ◌∙◌, arith, Ok, Err, nat_eq}
 use Rattle.std.specs.Prelude.{Option, Some}
 use Rattle.std.specs.List.{list_all, list_any}
 use Rattle.std.proofs.lemmas.Bool.{or_left, or_right, or_from}
@@ -7,12 +7,11 @@ use Rattle.std.proofs.lemmas.List.{length-append, take-append-le}
 use Rattle.std.proofs.lemmas.Cmp.{nat_eq_equiv}
 use Rattle.bsp_fields.specs.CivilDay.{CivilDay}
 use Rattle.bsp_calendar.specs.declared.entries.Terms.{Terms}
-use Rattle.bsp_calendar.proofs.AnswerLemmas.{plan_of}
 use Rattle.bsp_calendar.proofs.KeyLemmas.{eqb_symm}
-use Rattle.bsp_calendar.proofs.ListedLemmas.{any_once, once_distinct, once_more_front}
+use Rattle.bsp_calendar.proofs.ListedLemmas.{any_once, once_more_front}
 use Rattle.bsp_calendar.specs.DayOrder.{is_up_to}
 use Rattle.bsp_calendar.specs.Published.{Published, is_among}
-use Rattle.bsp_calendar.specs.Standing.{IsStanding, first_codes}
+use Rattle.bsp_calendar.specs.Standing.{IsStanding, first_codes, plan_of}
 use Rattle.bsp_calendar.specs.Requests.{once, has_conflict, same_airline, same_rate, same_period, differ_in_rate, differ_in_days, differ_in_terms, are_within_bounds, have_airlines, has_difference, are_in_order, has_late_rate, extended, with_entries, has_terms, is_empty, holds_already}
 use Rattle.bsp_calendar.specs.declared.entries.Period.{Period}
 use Rattle.bsp_calendar.specs.declared.entries.PlanText.{PlanText}
@@ -86,20 +85,19 @@ front_of qs more list n h joined =
     let (zs, e) = once_more_front nat_eq nat_eq_equiv code_of qs more h.distinct in
     (zs, joined ∙ e)
 
-pub standing_more : (qs more list : List Period) (n : ℕ) → IsStanding qs n → list ≡ once same_period (qs ++ more) → are_in_order list ≡ true → IsStanding list n
-standing_more qs more list n h joined order =
+pub within_more : (qs more list : List Period) (n : ℕ) → IsStanding qs n → list ≡ once same_period (qs ++ more) → n ≤ length list
+within_more qs more list n h joined =
     let (zs, e) = front_of qs more list n h joined in
-    record {
-      within = rw (e, length-append) (omega (arith, h.within));
-      distinct = rw joined (once_distinct nat_eq nat_eq_equiv code_of (qs ++ more));
-      in_order = order;
-    }
+    rw (e, length-append) (omega (arith, h.within))
 
-pub first_codes_more : (qs more list : List Period) (n : ℕ) → IsStanding qs n → list ≡ once same_period (qs ++ more) → first_codes list n ≡ first_codes qs n
-first_codes_more qs more list n h joined =
+pub first_periods_more : (qs more list : List Period) (n : ℕ) → IsStanding qs n → list ≡ once same_period (qs ++ more) → take n list ≡ take n qs
+first_periods_more qs more list n h joined =
     let (zs, e) = front_of qs more list n h joined in
     let within = h.within in
     rw (e, take-append-le) refl
+
+pub first_codes_more : (qs more list : List Period) (n : ℕ) → IsStanding qs n → list ≡ once same_period (qs ++ more) → first_codes list n ≡ first_codes qs n
+first_codes_more qs more list n h joined = ap (map code_of) (first_periods_more qs more list n h joined)
 
 -- ---- the new plan
 

@@ -1,29 +1,27 @@
 -- Lemmas for the law of a plan's history.
-use Rattle.std.proofs.Common.{◌≡◌, ℕ, ◌==◌, ◌&&◌, ◌||◌, Bool, true, false, not, List, [], ◌∷◌, ◌++◌, refl, sym, ap, ◌∙◌, inl, inr, Ok, nat_eq, cond, subst}
+use Rattle.std.proofs.Common.{◌≡◌, ℕ, ◌==◌, Bool, true, false, List, [], ◌∷◌, ◌++◌, refl, sym, ap, ◌∙◌, inl, inr, Ok, nat_eq, cond, length, subst}
 use Rattle.std.specs.Prelude.{Option, Some}
-use Rattle.std.specs.List.{Contains, flat_map, list_any}
-use Rattle.std.specs.Str.{bytes_eq}
+use Rattle.std.specs.List.{flat_map, list_any}
 use Rattle.std.proofs.lemmas.Cmp.{nat_eq_equiv}
-use Rattle.std.proofs.lemmas.Bool.{and_parts, or_parts, not-false, eqb-true, both_ways}
-use Rattle.std.proofs.lemmas.Slice.Eq.{bytes_eq-Decides}
+use Rattle.std.proofs.lemmas.Bool.{or_parts, both_ways}
 use Rattle.std.proofs.lemmas.List.{append-nil, append_assoc}
 use Rattle.bsp_fields.specs.CivilDay.{CivilDay}
-use Rattle.bsp_fields.specs.FirstFault.{first_fault_or}
-use Rattle.bsp_fields.proofs.FirstFaultLemmas.{row_passed, value_told}
-use Rattle.bsp_calendar.specs.DayOrder.{is_before}
 use Rattle.bsp_calendar.specs.History.{Request, outcome, IsReached, airlines_of, rates_of, periods_of, closes_of, publishes, same_code, IsLastDay, IsHistory}
 use Rattle.bsp_calendar.specs.History.Request.{Publish, SetDay, Close}
-use Rattle.bsp_calendar.specs.Published.{Published, opening, is_among, is_closed}
-use Rattle.bsp_calendar.specs.Requests.{once, same_airline, same_rate, same_period, differ_in_terms, extended, with_entries, on_day, with_closed, has_difference, has_conflict, differ_in_rate, differ_in_days, are_within_bounds, have_airlines, are_in_order, has_late_rate, has_code, is_over, next_open}
+use Rattle.bsp_calendar.specs.Published.{Published, is_among}
+use Rattle.bsp_calendar.specs.Requests.{once, AreDistinct, closing, same_airline, same_rate, same_period, extended, on_day}
 use Rattle.bsp_calendar.specs.declared.entries.Period.{Period}
 use Rattle.bsp_calendar.specs.declared.entries.PlanText.{PlanText}
 use Rattle.bsp_calendar.specs.declared.entries.Rate.{Rate}
 use Rattle.bsp_calendar.specs.declared.entries.Terms.{Terms}
-use Rattle.bsp_calendar.specs.declared.fault.PlanFault.TheVariants.{WrongKey, Differs, OutOfOrder, LateRate, DayBackwards, NotEarliest, NotOver}
-use Rattle.std.specs.Prelude.{if◌then◌else◌}
 use Rattle.std.specs.Ordering.{eq_by_cmp}
 use Rattle.std.proofs.lemmas.Cmp.{eq_by_cmp_equiv}
 use Rattle.bsp_calendar.specs.KeyLaws.{rate_key_cmp}
+use Rattle.bsp_calendar.proofs.MadeLemmas.{airlines_once, periods_once, rates_once}
+use Rattle.bsp_calendar.proofs.OutcomeLemmas.{published, terms_kept, day_set, closed_now}
+use Rattle.bsp_calendar.proofs.PeriodLemmas.{codes_apart}
+use Rattle.bsp_calendar.proofs.SoundLemmas.{sound_kept}
+use Rattle.bsp_calendar.specs.SoundPlan.{IsSoundPlan}
 use Rattle.bsp_calendar.proofs.KeyLemmas.{eqb_symm, rate_key, same_rates}
 use Rattle.bsp_calendar.proofs.RateKeyLemmas.{rate_key_total}
 use Rattle.bsp_calendar.proofs.ListLemmas.{contains_cases, contains_none}
@@ -41,12 +39,6 @@ Joins {A} same = (xs ys : List A) → once same (once same xs ++ ys) ≡ once sa
 
 grown_none : {A : Type 0} (same : A → A → Bool) (old : List A) → once same old ≡ old → Grown same old [] old
 grown_none same old fixed = rw append-nil (sym fixed)
-
-grown_fixed : {A : Type 0} (same : A → A → Bool) → Joins same → (old more new : List A) → Grown same old more new → once same new ≡ new
-grown_fixed same joins old more new grown =
-    let twice : once same (once same (old ++ more)) ≡ once same (old ++ more) =
-    ap (once same) (sym (append-nil (once same (old ++ more)))) ∙ (joins (old ++ more) [] ∙ ap (once same) (append-nil (old ++ more))) in
-    rw grown twice
 
 grown_more : {A : Type 0} (same : A → A → Bool) → Joins same → (old a mid b new : List A) → Grown same old a mid → Grown same mid b new → Grown same old (a ++ b) new
 grown_more same joins old a mid b new first second =
@@ -91,42 +83,18 @@ record Step (p : Published) (r : Request) (m : Published) : Type 0 where
   terms : m.terms ≡ terms_after p.terms r
   kept : (t : Terms) → p.terms ≡ Some t → m.terms ≡ Some t
 
-terms_from : (s t : Terms) → s.currency ≡ t.currency → s.review_days ≡ t.review_days → s.documents_limit ≡ t.documents_limit → s ≡ t
-terms_from s t c r d = λ i. record { currency = c i; review_days = r i; documents_limit = d i }
-
-same_terms : (s t : Terms) → differ_in_terms (Some s) t ≡ false → s ≡ t
-same_terms s t h =
-    let all = not-false _ h in
-    let outer = and_parts (bytes_eq s.currency t.currency) ((s.review_days == t.review_days) && (s.documents_limit == t.documents_limit)) all in
-    let inner = and_parts (s.review_days == t.review_days) (s.documents_limit == t.documents_limit) outer.1 in
-    terms_from s t ((bytes_eq-Decides s.currency t.currency).0 outer.0) (eqb-true s.review_days t.review_days inner.0) (eqb-true s.documents_limit t.documents_limit inner.1)
-
--- tables with a value: no row applies
-passed_one : {V F : Type 0} (s : Bool) (f : F) (v x : V) → first_fault_or ((s, f) ∷ []) v ≡ Ok x → v ≡ x
-passed_one s f v x h = value_told v x (row_passed s f [] v x h).1
-
-passed_two : {V F : Type 0} (s t : Bool) (f g : F) (v x : V) → first_fault_or ((s, f) ∷ (t, g) ∷ []) v ≡ Ok x → v ≡ x
-passed_two s t f g v x h = passed_one t g v x (row_passed s f ((t, g) ∷ []) v x h).1
-
-passed_four : {V F : Type 0} (a b c d : Bool) (e f g h : F) (v x : V) → first_fault_or ((a, e) ∷ (b, f) ∷ (c, g) ∷ (d, h) ∷ []) v ≡ Ok x → (b ≡ false) × (v ≡ x)
-passed_four a b c d e f g h v x told =
-    let first = row_passed a e ((b, f) ∷ (c, g) ∷ (d, h) ∷ []) v x told in
-    let second = row_passed b f ((c, g) ∷ (d, h) ∷ []) v x first.1 in
-    (second.0, passed_two c d g h v x second.1)
-
 step_publish : (p : Published) (text : PlanText) (m : Published) → Fixed p → extended p text ≡ Ok m → Step p (Publish text) m
 step_publish p text m f h =
-    let told = passed_four (not (are_within_bounds text && have_airlines p text)) (has_difference p text) (not (are_in_order (once same_period (p.periods ++ text.periods.items)))) (has_late_rate p text) WrongKey Differs OutOfOrder LateRate (with_entries p text) m h in
-    let is : with_entries p text ≡ m = told.1 in
-    let terms = (or_parts (differ_in_terms p.terms text.terms) (has_conflict same_rate differ_in_rate (p.rates ++ text.rates.items) || has_conflict same_period differ_in_days (p.periods ++ text.periods.items)) told.0).0 in
+    let told = published p text m h in
+    let is = sym told.is in
     record {
-      airlines = ap (λ (q : Published). q.airlines) (sym is);
-      rates = ap (λ (q : Published). q.rates) (sym is);
-      periods = ap (λ (q : Published). q.periods) (sym is);
-      closed = ap (λ (q : Published). q.closed) (sym is) ∙ grown_none same_code p.closed f.closed;
-      day = ap (λ (q : Published). q.day) (sym is);
-      terms = ap (λ (q : Published). q.terms) (sym is);
-      kept = λ t e. ap (λ (q : Published). q.terms) (sym is) ∙ ap (λ (u : Terms). Some u) (sym (same_terms t text.terms (rw e at terms)));
+      airlines = ap (λ (q : Published). q.airlines) is;
+      rates = ap (λ (q : Published). q.rates) is;
+      periods = ap (λ (q : Published). q.periods) is;
+      closed = ap (λ (q : Published). q.closed) is ∙ grown_none same_code p.closed f.closed;
+      day = ap (λ (q : Published). q.day) is;
+      terms = ap (λ (q : Published). q.terms) is;
+      kept = terms_kept p text m told;
     }
 
 -- a request that publishes nothing and closes nothing, or one code
@@ -143,8 +111,7 @@ step_quiet p r m f a s q t na ns nq nt day closed = record {
 
 step_day : (p : Published) (day : CivilDay) (m : Published) → Fixed p → on_day p day ≡ Ok m → Step p (SetDay day) m
 step_day p day m f h =
-    let is : record p { day = day } ≡ m = passed_one (is_before day p.day) DayBackwards (record p { day = day }) m h in
-    let back = sym is in
+    let back = sym (day_set p day m h).1 in
     step_quiet p (SetDay day) m f (ap (λ (q : Published). q.airlines) back) (ap (λ (q : Published). q.rates) back) (ap (λ (q : Published). q.periods) back) (ap (λ (q : Published). q.terms) back) refl refl refl refl (ap (λ (q : Published). q.day) back)
     (ap (λ (q : Published). q.closed) back ∙ grown_none same_code p.closed f.closed)
 
@@ -156,41 +123,33 @@ among_turned codes code =
 once_code : (codes : List ℕ) (code : ℕ) → once same_code (codes ++ code ∷ []) ≡ cond (is_among code codes) (once same_code codes) (once same_code codes ++ code ∷ [])
 once_code codes code = once_push nat_eq nat_eq_equiv (λ (a : ℕ). a) codes code ∙ ap (λ b. cond b (once same_code codes) (once same_code codes ++ code ∷ [])) (among_turned codes code)
 
-step_close_by : (p : Published) (code : ℕ) (m : Published) → Fixed p → (b : Bool) → is_closed p code ≡ b → (if b then Ok p else with_closed p code) ≡ Ok m → Step p (Close code) m
-step_close_by p code m f true is h =
-    let back : m ≡ p = cc h in
-    step_quiet p (Close code) m f (ap (λ (q : Published). q.airlines) back) (ap (λ (q : Published). q.rates) back) (ap (λ (q : Published). q.periods) back) (ap (λ (q : Published). q.terms) back) refl refl refl refl (ap (λ (q : Published). q.day) back)
-    (ap (λ (q : Published). q.closed) back ∙ sym (once_code p.closed code ∙ (rw is f.closed)))
-step_close_by p code m f false is h =
-    let same : record p { closed = p.closed ++ code ∷ [] } ≡ m = passed_two (not (has_code code (next_open p))) (not (is_over p (next_open p))) NotEarliest NotOver (record p { closed = p.closed ++ code ∷ [] }) m h in
-    let back = sym same in
-    step_quiet p (Close code) m f (ap (λ (q : Published). q.airlines) back) (ap (λ (q : Published). q.rates) back) (ap (λ (q : Published). q.periods) back) (ap (λ (q : Published). q.terms) back) refl refl refl refl (ap (λ (q : Published). q.day) back)
-    (ap (λ (q : Published). q.closed) back ∙ sym (once_code p.closed code ∙ (rw (is, f.closed) refl)))
+step_close : (p : Published) (code : ℕ) (m : Published) → Fixed p → closing p code ≡ Ok m → Step p (Close code) m
+step_close p code m f h = elim (closed_now p code m h) [
+  | inl same ↦
+      let back = sym same.1 in
+      step_quiet p (Close code) m f (ap (λ (q : Published). q.airlines) back) (ap (λ (q : Published). q.rates) back) (ap (λ (q : Published). q.periods) back) (ap (λ (q : Published). q.terms) back) refl refl refl refl (ap (λ (q : Published). q.day) back)
+      (ap (λ (q : Published). q.closed) back ∙ sym (once_code p.closed code ∙ (rw same.0 f.closed)))
+  | inr more ↦
+      let back = sym more.1.is in
+      step_quiet p (Close code) m f (ap (λ (q : Published). q.airlines) back) (ap (λ (q : Published). q.rates) back) (ap (λ (q : Published). q.periods) back) (ap (λ (q : Published). q.terms) back) refl refl refl refl (ap (λ (q : Published). q.day) back)
+      (ap (λ (q : Published). q.closed) back ∙ sym (once_code p.closed code ∙ (rw (more.0, f.closed) refl)))
+]
 
 step : (p : Published) (r : Request) (m : Published) → Fixed p → outcome p r ≡ Ok m → Step p r m
 step p (Publish text) m f h = step_publish p text m f h
 step p (SetDay day) m f h = step_day p day m f h
-step p (Close code) m f h = step_close_by p code m f (is_closed p code) refl h
+step p (Close code) m f h = step_close p code m f h
 
-fixed_after : (p : Published) (r : Request) (m : Published) → Step p r m → Fixed m
-fixed_after p r m s = record {
-  airlines = grown_fixed same_airline join_airlines p.airlines (airlines_of r) m.airlines s.airlines;
-  rates = grown_fixed same_rate join_rates p.rates (rates_of r) m.rates s.rates;
-  periods = grown_fixed same_period join_periods p.periods (periods_of r) m.periods s.periods;
-  closed = grown_fixed same_code join_codes p.closed (closes_of r) m.closed s.closed;
+-- the entries and the closed codes of a sound plan are each there once
+fixed_in : (p : Published) → IsSoundPlan p → Fixed p
+fixed_in p s = record {
+  airlines = airlines_once p.airlines s.airlines;
+  rates = rates_once p.rates s.rates;
+  periods = periods_once p.periods s.periods;
+  closed = airlines_once p.closed (subst (AreDistinct same_code) (sym s.closed_first) (codes_apart p.periods (length p.closed) s.periods));
 }
 
 -- ---- many requests
-
-record Whole (p : Published) (rs : List Request) (q : Published) : Type 0 where
-  airlines : Grown same_airline p.airlines (flat_map airlines_of rs) q.airlines
-  rates : Grown same_rate p.rates (flat_map rates_of rs) q.rates
-  periods : Grown same_period p.periods (flat_map periods_of rs) q.periods
-  closed : Grown same_code p.closed (flat_map closes_of rs) q.closed
-  day : IsLastDay p.day rs q.day
-  terms : (text : PlanText) → Contains rs (Publish text) → q.terms ≡ Some text.terms
-  no_terms : list_any publishes rs ≡ false → q.terms ≡ p.terms
-  kept : (t : Terms) → p.terms ≡ Some t → q.terms ≡ Some t
 
 last_day_more : (r : Request) (rs : List Request) (first mid day : CivilDay) → mid ≡ day_after first r → IsLastDay mid rs day → IsLastDay first (r ∷ rs) day
 last_day_more r rs first mid day is (inl (before, (after, split, none))) = inl (r ∷ before, (after, ap (λ (xs : List Request). r ∷ xs) split, none))
@@ -203,46 +162,38 @@ terms_quiet (Publish text) terms h = absurd (both_ways true h refl)
 terms_quiet (SetDay day) terms h = refl
 terms_quiet (Close code) terms h = refl
 
-whole : (rs : List Request) (p q : Published) → Fixed p → IsReached p rs q → Whole p rs q
-whole [] p q f is = record {
-  airlines = ap (λ (x : Published). x.airlines) is ∙ grown_none same_airline p.airlines f.airlines;
-  rates = ap (λ (x : Published). x.rates) is ∙ grown_none same_rate p.rates f.rates;
-  periods = ap (λ (x : Published). x.periods) is ∙ grown_none same_period p.periods f.periods;
-  closed = ap (λ (x : Published). x.closed) is ∙ grown_none same_code p.closed f.closed;
-  day = inr (refl, ap (λ (x : Published). x.day) is);
-  terms = λ text h. contains_none (Publish text) h;
-  no_terms = λ h. ap (λ (x : Published). x.terms) is;
-  kept = λ t e. ap (λ (x : Published). x.terms) is ∙ e;
-}
-whole (r ∷ rs) p q f (m, done, rest) =
-    let s = step p r m f done in
-    let w = whole rs m q (fixed_after p r m s) rest in
+history : (rs : List Request) (p q : Published) → IsSoundPlan p → IsReached p rs q → IsHistory p rs q
+history [] p q s is =
+    let f = fixed_in p s in
     record {
-      airlines = grown_more same_airline join_airlines p.airlines (airlines_of r) m.airlines (flat_map airlines_of rs) q.airlines s.airlines w.airlines;
-      rates = grown_more same_rate join_rates p.rates (rates_of r) m.rates (flat_map rates_of rs) q.rates s.rates w.rates;
-      periods = grown_more same_period join_periods p.periods (periods_of r) m.periods (flat_map periods_of rs) q.periods s.periods w.periods;
-      closed = grown_more same_code join_codes p.closed (closes_of r) m.closed (flat_map closes_of rs) q.closed s.closed w.closed;
-      day = last_day_more r rs p.day m.day q.day s.day w.day;
+      airlines = ap (λ (x : Published). x.airlines) is ∙ grown_none same_airline p.airlines f.airlines;
+      rates = ap (λ (x : Published). x.rates) is ∙ grown_none same_rate p.rates f.rates;
+      periods = ap (λ (x : Published). x.periods) is ∙ grown_none same_period p.periods f.periods;
+      closed = ap (λ (x : Published). x.closed) is ∙ grown_none same_code p.closed f.closed;
+      day = inr (refl, ap (λ (x : Published). x.day) is);
+      terms = λ text h. contains_none (Publish text) h;
+      no_terms = λ h. ap (λ (x : Published). x.terms) is;
+      old_terms = λ t e. ap (λ (x : Published). x.terms) is ∙ e;
+    }
+history (r ∷ rs) p q s (m, done, rest) =
+    let one = step p r m (fixed_in p s) done in
+    let w = history rs m q (sound_kept p r m s done) rest in
+    record {
+      airlines = grown_more same_airline join_airlines p.airlines (airlines_of r) m.airlines (flat_map airlines_of rs) q.airlines one.airlines w.airlines;
+      rates = grown_more same_rate join_rates p.rates (rates_of r) m.rates (flat_map rates_of rs) q.rates one.rates w.rates;
+      periods = grown_more same_period join_periods p.periods (periods_of r) m.periods (flat_map periods_of rs) q.periods one.periods w.periods;
+      closed = grown_more same_code join_codes p.closed (closes_of r) m.closed (flat_map closes_of rs) q.closed one.closed w.closed;
+      day = last_day_more r rs p.day m.day q.day one.day w.day;
       terms = λ text h. elim (contains_cases r rs (Publish text) h) [
-        | inl here ↦ w.kept text.terms (s.terms ∙ ap (terms_after p.terms) here)
+        | inl here ↦ w.old_terms text.terms (one.terms ∙ ap (terms_after p.terms) here)
         | inr there ↦ w.terms text there
       ];
       no_terms = λ h.
           let parts = or_parts (publishes r) (list_any publishes rs) h in
-          w.no_terms parts.1 ∙ (s.terms ∙ terms_quiet r p.terms parts.0);
-      kept = λ t e. w.kept t (s.kept t e);
+          w.no_terms parts.1 ∙ (one.terms ∙ terms_quiet r p.terms parts.0);
+      old_terms = λ t e. w.old_terms t (one.kept t e);
     }
 
--- what is reached from the opening is the history of its requests
-pub history_holds : (rs : List Request) (q : Published) → IsReached opening rs q → IsHistory rs q
-history_holds rs q h =
-    let w = whole rs opening q (record { airlines = refl; rates = refl; periods = refl; closed = refl }) h in
-    record {
-      airlines = w.airlines;
-      rates = w.rates;
-      periods = w.periods;
-      terms = w.terms;
-      no_terms = w.no_terms;
-      day = w.day;
-      closed = w.closed;
-    }
+-- what is reached from a sound plan is the history of that start and its requests
+pub history_holds : (start : Published) (requests : List Request) (q : Published) → IsSoundPlan start → IsReached start requests q → IsHistory start requests q
+history_holds start requests q s is = history requests start q s is

@@ -9,5 +9,11 @@ pub mod KeyLemmas
 pub mod FollowLemmas
 pub mod ExtendLemmas
 pub mod RateKeyLemmas
+pub mod OutcomeLemmas
+pub mod SoundLemmas
+pub mod MadeLemmas
+pub mod GrowsLemmas
+pub mod HeldLemmas
+pub mod TargetLemmas
 pub mod HistoryLemmas
 pub mod DocumentLemmas

@@ -1,12 +1,12 @@
 -- Lemmas on lists: the first element that passes a test, and membership.
 use Rattle.std.proofs.Common.{◌≡◌, ℕ, zero, suc, ◌<◌, ◌⊎◌, inl, inr, cond, Bool, true, false, List, [], ◌∷◌, Some, None, length, get_or, drop, leb, arith, refl, ◌∙◌, ap}
-use Rattle.std.specs.List.{find, All, Contains, filter, slice_get}
+use Rattle.std.specs.List.{find, All, Contains, filter, list_all, slice_get}
 use Rattle.std.proofs.lemmas.List.Folds.{find_at}
-use Rattle.std.proofs.lemmas.List.Sums.{position_or_len_is}
+use Rattle.std.proofs.lemmas.List.Sums.{position_or_len_is, AllPass-from_list_all, list_all-from_AllPass}
 use Rattle.std.proofs.lemmas.Bool.{cases_lt, lt-leb, le-leb}
 use Rattle.std.proofs.lemmas.List.{drop_more, drop_all}
 use Rattle.bsp_calendar.specs.Requests.{is_empty}
-use Rattle.std.proofs.lemmas.List.Elements.{All-filter, All-contains, All-contains_itself, filter_passes}
+use Rattle.std.proofs.lemmas.List.Elements.{All-filter, All-contains, All-contains_itself, Contains-get_or, filter_passes}
 use Rattle.std.proofs.lemmas.Option.{slice_get-get_or, slice_get_past}
 
 -- an element of a list that has a place
@@ -63,6 +63,22 @@ filter_holds p xs y h = All-contains (λ x. p x ≡ true) (filter p xs) y (filte
 pub filter_none : {X : Type 0} (p : X → Bool) (xs : List X) → All (λ x. p x ≡ false) xs → filter p xs ≡ []
 filter_none p [] h = refl
 filter_none p (x ∷ xs) h = rw (h 0 x (omega arith), filter_none p xs (λ k d l. h (suc k) d (omega arith))) refl
+
+-- a test that all pass, and each
+pub each_passes : {X : Type 0} (p : X → Bool) (xs : List X) (x : X) → list_all p xs ≡ true → Contains xs x → p x ≡ true
+each_passes p xs x h in' = All-contains (λ y. p y ≡ true) xs x (AllPass-from_list_all p xs h) in'
+
+pub all_pass : {X : Type 0} (p : X → Bool) (xs : List X) → ((x : X) → Contains xs x → p x ≡ true) → list_all p xs ≡ true
+all_pass p xs h = list_all-from_AllPass p xs (λ k d l. h (get_or xs k d) (Contains-get_or xs k d l))
+
+-- what is found is an element that passes
+find_step : {X : Type 0} (p : X → Bool) (x : X) (xs : List X) (y : X) → (find p xs ≡ Some y → Contains xs y × (p y ≡ true)) → (b : Bool) → p x ≡ b → cond b (Some x) (find p xs) ≡ Some y → Contains (x ∷ xs) y × (p y ≡ true)
+find_step p x xs y rest true is h = let e : x ≡ y = cc in (rw e (contains_head y xs), rw (← e) is)
+find_step p x xs y rest false is h = let r = rest h in (contains_tail x xs y r.0, r.1)
+
+pub find_contains : {X : Type 0} (p : X → Bool) (xs : List X) (y : X) → find p xs ≡ Some y → Contains xs y × (p y ≡ true)
+find_contains p [] y h = absurd (cc h)
+find_contains p (x ∷ xs) y h = find_step p x xs y (find_contains p xs y) (p x) refl h
 
 -- ---- a list beyond its first elements
 

@@ -6,17 +6,19 @@ use Rattle.std.specs.Ordering.{eq_by_cmp, is_gt, is_lt}
 use Rattle.std.specs.declared.cmp.Ordering.{Ordering}
 use Rattle.std.specs.declared.cmp.Ordering.TheVariants.{Equal}
 use Rattle.std.proofs.lemmas.Cmp.{eq_by_cmp_equiv}
-use Rattle.std.specs.Prelude.{Option, Some, None, IsSome}
+use Rattle.std.specs.Prelude.{Option, Some, None, IsSome, Result, MatchResult}
 use Rattle.std.proofs.lemmas.Bool.{both_ways, not_from_false, and_from, and_parts, and_left, false_from_ne_true, cases_order, not-true}
 use Rattle.std.proofs.lemmas.List.{append-nil, append_assoc, take_more, take-append-drop, get_or_default}
 use Rattle.std.proofs.lemmas.List.Elements.{filter-append, filter_agree, filter_passes, Contains-append_left, Contains-push_cases, Contains-push, Contains-get_or, All-weaker}
 use Rattle.std.proofs.lemmas.List.Folds.{list_any_none, Any-from_list_any, list_any-from_Any}
 use Rattle.std.proofs.lemmas.List.Kept.{AllPairs-cons, AllPairs-filter}
 use Rattle.std.proofs.lemmas.Map.Views.{any-filter_same}
+use Rattle.std.proofs.lemmas.Result.{MatchResult-weaker}
 use Rattle.std.proofs.lemmas.Option.{MatchOption-at_some, MatchOption-at_none}
 use Rattle.bsp_calendar.specs.Requests.{once, has_conflict}
-use Rattle.bsp_calendar.specs.Listed.{same_key, is_other, IsPlaceOfKey, IsListed, IsRefusal}
+use Rattle.bsp_calendar.specs.Listed.{same_key, is_other, IsJoined, IsPlaceOfKey, IsListed, IsRefusal}
 use Rattle.bsp_calendar.specs.declared.fault.PlanFault.{PlanFault}
+use Rattle.bsp_calendar.specs.declared.fault.PlanFault.TheVariants.{NoMemory}
 use Rattle.bsp_calendar.proofs.ListLemmas.{contains_head, contains_tail, contains_cases, filter_contains}
 
 -- ---- a test of the elements, and membership
@@ -59,6 +61,15 @@ neither true false = refl
 neither false true = refl
 neither false false = refl
 
+-- each of those each once is one of all
+pub once_contains : {A : Type 0} (same : A → A → Bool) (xs : List A) (x : A) → Contains (once same xs) x → Contains xs x
+once_contains same [] x h = h
+once_contains same (y ∷ ys) x h =
+    elim (contains_cases y (filter (λ z. not (same y z)) (once same ys)) x h) [
+      | inl here ↦ rw here (contains_head x ys)
+      | inr there ↦ contains_tail y ys x (once_contains same ys x (filter_contains (λ z. not (same y z)) (once same ys) x there))
+    ]
+
 module _ {A K : Type 0} (eq : K → K → Bool) (laws : IsEquivalence eq) (key : A → K) where
   abbrev same : A → A → Bool
   same = same_key eq key
@@ -67,14 +78,6 @@ module _ {A K : Type 0} (eq : K → K → Bool) (laws : IsEquivalence eq) (key :
   others x y = not (same x y)
 
   -- ---- each once
-
-  once_contains : (xs : List A) (x : A) → Contains (once same xs) x → Contains xs x
-  once_contains [] x h = h
-  once_contains (y ∷ ys) x h =
-      elim (contains_cases y (filter (others y) (once same ys)) x h) [
-        | inl here ↦ rw here (contains_head x ys)
-        | inr there ↦ contains_tail y ys x (once_contains ys x (filter_contains (others y) (once same ys) x there))
-      ]
 
   same_step : (y x z : A) → same y x ≡ true → same z x ≡ same z y
   same_step y x z h = laws.symm (key z) (key x) ∙ (sym (laws.congr (key y) (key x) (key z) h) ∙ laws.symm (key y) (key z))
@@ -190,7 +193,7 @@ module _ {A K : Type 0} (eq : K → K → Bool) (laws : IsEquivalence eq) (key :
     conflict_push xs x h =
         let (y, hy, both) = contains_any (is_other eq key differ x) (once same xs) h in
         let (s, d) = and_parts (same y x) (differ y x) both in
-        conflict_from (xs ++ x ∷ []) y x (Contains-append_left xs (x ∷ []) y (once_contains xs y hy)) (Contains-push xs x) s d
+        conflict_from (xs ++ x ∷ []) y x (Contains-append_left xs (x ∷ []) y (once_contains same xs y hy)) (Contains-push xs x) s d
 
     -- where no two have one key, they agree
     pub agree_distinct : (xs : List A) → AllPairs (λ x y. same x y ≡ false) xs → Agree same xs
@@ -210,7 +213,7 @@ module _ {A K : Type 0} (eq : K → K → Bool) (laws : IsEquivalence eq) (key :
         let (z, hz, zx) = contains_any (λ y. same y x) (once same xs) (any_once xs x ∙ any_contains (λ y. same y x) xs a ina s) in
         let apart : differ z x ≡ false = and_second (same z x) (differ z x) zx (any_false (is_other eq key differ x) (once same xs) z none hz) in
         let is : z ≡ x = alike z x zx apart in
-        agree a z ina (once_contains xs z hz) (sym (same_step z x a zx) ∙ s) ∙ is
+        agree a z ina (once_contains same xs z hz) (sym (same_step z x a zx) ∙ s) ∙ is
 
     -- one more entry, where none of its key differs
     pub agree_push : (xs : List A) (x : A) → Agree same xs → list_any (is_other eq key differ x) (once same xs) ≡ false → Agree same (xs ++ x ∷ [])
@@ -227,6 +230,12 @@ module _ {A K : Type 0} (eq : K → K → Bool) (laws : IsEquivalence eq) (key :
                 | inr bx ↦ sym ax ∙ bx
               ]
         ]
+
+    -- entries each once, to which none are joined
+    pub copied_same : (xs : List A) (r : Result (List A) PlanFault) → AllPairs (λ x y. same x y ≡ false) xs → IsJoined same differ (xs ++ []) r → MatchResult r (λ copy. copy ≡ xs) (λ fault. fault ≡ NoMemory)
+    copied_same xs r apart h =
+        MatchResult-weaker r (rw append-nil at h) (λ list joined. joined.0 ∙ once_same xs apart)
+        (λ fault why. elim why [ inl lack ↦ lack | inr both ↦ absurd (both_ways _ (no_conflict xs (agree_distinct xs apart)) both.1) ])
 
     -- ---- one entry, and many in turn
 

@@ -66,6 +66,16 @@ among_none qs code n none =
     let is : get_or (map f (take n qs)) k e ≡ (get_or qs k d).code = get_or-map f (take n qs) k d e short ∙ ap f (get_or-take n qs k d (omega (arith, length-take n qs))) in
     ne_eqb _ _ (λ same. eqb-false _ _ (none k d (omega (arith, length-take n qs))) (sym (same ∙ is)))))
 
+-- no two of the closed codes are one
+pub codes_apart : (qs : List Period) (n : ℕ) → AreApart qs → AllPairs (λ a b. (a == b) ≡ false) (first_codes qs n)
+codes_apart qs n apart i j d lt l =
+    let f : Period → ℕ = λ q. q.code in
+    let short : j < length (take n qs) = rw (← length-map (take n qs) f) l in
+    with_item qs j (omega (arith, length-take n qs))
+    (λ e.
+    let at : (k : ℕ) → k < length (take n qs) → get_or (map f (take n qs)) k d ≡ (get_or qs k e).code = λ k s. get_or-map f (take n qs) k e d s ∙ ap f (get_or-take n qs k e (omega (arith, length-take n qs))) in
+    rw (at i (omega arith), at j short) (apart i j e lt (omega (arith, length-take n qs))))
+
 -- ---- the next period to be closed
 
 pub next_open_is : (qs : List Period) (n : ℕ) (d : Period) → AreApart qs → n < length qs → find (λ q. not (is_among q.code (first_codes qs n))) qs ≡ Some (get_or qs n d)

@@ -1,12 +1,14 @@
 -- What accepted requests have made of a plan, read off the list of them.
-use Rattle.std.specs.Prelude.{◌≡◌, ℕ, ◌==◌, ◌⊎◌, Bool, true, false, List, [], ◌∷◌, ◌++◌, Some, None, Result, Ok}
+use Rattle.std.specs.Prelude.{◌≡◌, ℕ, ◌==◌, ◌⊎◌, Bool, true, false, List, [], ◌∷◌, ◌++◌, map, Some, None, Result, Ok}
 use Rattle.std.specs.List.{Contains, flat_map, list_any}
 use Rattle.bsp_fields.specs.CivilDay.{CivilDay}
 use Rattle.bsp_calendar.specs.Published.{Published, opening}
 use Rattle.bsp_calendar.specs.Requests.{once, same_airline, same_rate, same_period, extended, on_day, closing}
+use Rattle.bsp_calendar.specs.SoundPlan.{Grows, IsSoundPlan}
 use Rattle.bsp_calendar.specs.declared.entries.Period.{Period}
 use Rattle.bsp_calendar.specs.declared.entries.PlanText.{PlanText}
 use Rattle.bsp_calendar.specs.declared.entries.Rate.{Rate}
+use Rattle.bsp_calendar.specs.declared.entries.Terms.{Terms}
 use Rattle.bsp_calendar.specs.declared.fault.PlanFault.{PlanFault}
 
 -- a text is published, the business day is set, the period of a code is closed
@@ -70,17 +72,50 @@ IsLastDay first requests day =
     ((before : List Request) × ((after : List Request) × (requests ≡ before ++ SetDay day ∷ after) × (list_any sets_day after ≡ false)))
     ⊎ ((list_any sets_day requests ≡ false) × (day ≡ first))
 
--- the entries are those of all texts, each once, in the order of their first publication; the terms those of every text;
--- the day the last that was set, or 2000-01-01; and the closed periods those that were closed, in the order of their closing
-pub record IsHistory (requests : List Request) (plan : Published) : Type 0 where
-  pub airlines : plan.airlines ≡ once same_airline (flat_map airlines_of requests)
-  pub rates : plan.rates ≡ once same_rate (flat_map rates_of requests)
-  pub periods : plan.periods ≡ once same_period (flat_map periods_of requests)
+-- the entries are those of the start and of all texts, each once, in the order of their first publication; the terms those
+-- of every text, and of the start where it has terms or no text is published; the day the last that was set, or that of the
+-- start; and the closed periods those of the start and those that were closed, in the order of their closing
+pub record IsHistory (start : Published) (requests : List Request) (plan : Published) : Type 0 where
+  pub airlines : plan.airlines ≡ once same_airline (start.airlines ++ flat_map airlines_of requests)
+  pub rates : plan.rates ≡ once same_rate (start.rates ++ flat_map rates_of requests)
+  pub periods : plan.periods ≡ once same_period (start.periods ++ flat_map periods_of requests)
   pub terms : (text : PlanText) → Contains requests (Publish text) → plan.terms ≡ Some text.terms
-  pub no_terms : list_any publishes requests ≡ false → plan.terms ≡ None
-  pub day : IsLastDay opening.day requests plan.day
-  pub closed : plan.closed ≡ once same_code (flat_map closes_of requests)
+  pub old_terms : (terms : Terms) → start.terms ≡ Some terms → plan.terms ≡ Some terms
+  pub no_terms : list_any publishes requests ≡ false → plan.terms ≡ start.terms
+  pub day : IsLastDay start.day requests plan.day
+  pub closed : plan.closed ≡ once same_code (start.closed ++ flat_map closes_of requests)
 
--- what is reached from the opening is the history of its requests
+-- ---- the laws
+
+-- what is reached from a sound plan is the history of that start and its requests
 abbrev pub HistoryHolds : Type 0
-HistoryHolds = (requests : List Request) (plan : Published) → IsReached opening requests plan → IsHistory requests plan
+HistoryHolds = (start : Published) (requests : List Request) (plan : Published) → IsSoundPlan start → IsReached start requests plan → IsHistory start requests plan
+
+-- an accepted request makes a sound plan of a sound plan
+abbrev pub SoundKept : Type 0
+SoundKept = (p : Published) (request : Request) (m : Published) → IsSoundPlan p → outcome p request ≡ Ok m → IsSoundPlan m
+
+-- a text with the terms and the entries of a plan
+pub record IsTextOf (p : Published) (text : PlanText) : Type 0 where
+  pub terms : p.terms ≡ Some text.terms
+  pub airlines : text.airlines.items ≡ p.airlines
+  pub rates : text.rates.items ≡ p.rates
+  pub periods : text.periods.items ≡ p.periods
+
+-- what makes a plan: its entries are published in one text, its business day is set, and its closed periods are closed in turn
+abbrev pub made_by : PlanText → Published → List Request
+made_by text p = Publish text ∷ SetDay p.day ∷ map (λ code. Close code) p.closed
+
+-- a sound plan is made again from the opening, each request accepted: of its entries, its day and its closes; or of its
+-- day alone where no terms are published
+pub record IsMadeAgain (p : Published) : Type 0 where
+  pub with_terms : (text : PlanText) → IsTextOf p text → IsReached opening (made_by text p) p
+  pub without_terms : p.terms ≡ None → IsReached opening (SetDay p.day ∷ []) p
+
+abbrev pub SoundMadeAgain : Type 0
+SoundMadeAgain = (p : Published) → IsSoundPlan p → IsMadeAgain p
+
+-- whatever is requested of a sound plan: its closed periods, its terms, its rates on the days that have begun and what else
+-- `Grows` names stay
+abbrev pub ClosedStays : Type 0
+ClosedStays = (p : Published) (requests : List Request) (m : Published) → IsSoundPlan p → IsReached p requests m → Grows p m

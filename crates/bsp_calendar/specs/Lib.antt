@@ -5,6 +5,7 @@ pub mod DayOrder
 pub mod Published
 pub mod Requests
 pub mod Standing
+pub mod SoundPlan
 pub mod Listed
 pub mod KeyLaws
 pub mod History

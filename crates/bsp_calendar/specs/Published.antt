@@ -1,6 +1,6 @@
 -- The published plan: its entries, each once and in the order of their first publication, the business day and the
 -- periods that are closed; and what it answers.
-use Rattle.std.specs.Prelude.{◌≡◌, ℕ, ◌==◌, ◌&&◌, ◌⊎◌, not, Bool, false, IsTrue, List, [], ◌∷◌, if◌then◌else◌, Option, Some, None, option_map}
+use Rattle.std.specs.Prelude.{◌≡◌, ℕ, ◌==◌, ◌&&◌, ◌⊎◌, not, Bool, true, false, IsTrue, List, [], ◌∷◌, if◌then◌else◌, Option, MatchOption, Some, None, option_map}
 use Rattle.std.specs.List.{list_any, filter, find, Contains}
 use Rattle.bsp_fields.specs.CivilDay.{CivilDay}
 use Rattle.bsp_calendar.specs.DayOrder.{is_up_to, is_before}
@@ -47,6 +47,11 @@ period_of p code = find (λ q. q.code == code) p.periods
 abbrev pub closed_period : Published → ℕ → Option Period
 closed_period p code = if is_closed p code then period_of p code else None
 
+-- the closed period of a code and the published terms, or none where no closed period has the code
+abbrev pub IsClosedWithTerms : Published → ℕ → Option (Period × Terms) → Type 0
+IsClosedWithTerms p code found =
+    MatchOption found (closed_period p code ≡ None) (λ both. (closed_period p code ≡ Some both.0) × (p.terms ≡ Some both.1))
+
 -- a period that takes a transaction of this date of issue: not closed, its last day not before the date, and its first
 -- day not after the business day
 abbrev pub takes : Published → CivilDay → Period → Bool
@@ -55,6 +60,15 @@ takes p issued q = not (is_closed p q.code) && (is_up_to issued q.last && is_up_
 -- the earliest of them
 abbrev pub target_of : Published → CivilDay → Option ℕ
 target_of p issued = option_map (λ q. q.code) (find (takes p issued) p.periods)
+
+-- the code of a published period that is not closed, whose last day is not before the date of issue, and whose first
+-- day is not after the business day
+pub record IsTarget (p : Published) (issued : CivilDay) (code : ℕ) : Type 0 where
+  pub period : Period
+  pub is : period_of p code ≡ Some period
+  pub unclosed : is_closed p code ≡ false
+  pub in_time : is_up_to issued period.last ≡ true
+  pub begun : is_up_to period.first p.day ≡ true
 
 -- the entry is the airline's, and begins on the day or before
 abbrev pub applies : ℕ → CivilDay → Rate → Bool

@@ -1,6 +1,6 @@
 -- What a request makes of the published plan: a plan text, another business day, the close of a period.
 use Rattle.std.specs.Prelude.{◌≡◌, ℕ, nat_le, ◌==◌, ◌&&◌, ◌||◌, not, Bool, true, false, List, [], ◌∷◌, ◌++◌, length, drop, if◌then◌else◌, Option, Some, None, Result, Ok, Err}
-use Rattle.std.specs.List.{list_all, list_any, filter, find}
+use Rattle.std.specs.List.{AllPairs, list_all, list_any, filter, find}
 use Rattle.std.specs.Str.{bytes_eq}
 use Rattle.bsp_fields.specs.FirstFault.{first_fault_or}
 use Rattle.bsp_fields.specs.Changes.{change_of}
@@ -26,6 +26,10 @@ module _ {A : Type 0} (same : A → A → Bool) where
   -- those of `more` that are new beside `xs`, each once
   abbrev pub added : List A → List A → List A
   added xs more = drop (length xs) (once (xs ++ more))
+
+  -- no two of the list have the same key
+  abbrev pub AreDistinct : List A → Type 0
+  AreDistinct xs = AllPairs (λ x y. same x y ≡ false) xs
 
   -- two of the list have the same key and differ
   abbrev pub has_conflict : (A → A → Bool) → List A → Bool
@@ -59,12 +63,18 @@ with_entries p text = record {
   closed = p.closed;
 }
 
--- review days of 1 to 60, a documents limit of 1 to 1,000,000, and rates up to 10,000
+-- review days of 1 to 60, and a documents limit of 1 to 1,000,000
+abbrev pub terms_within_bounds : Terms → Bool
+terms_within_bounds terms =
+    (nat_le 1 terms.review_days && nat_le terms.review_days 60)
+    && (nat_le 1 terms.documents_limit && nat_le terms.documents_limit 1_000_000)
+
+-- rates up to 10,000
+abbrev pub rates_within_bounds : List Rate → Bool
+rates_within_bounds rates = list_all (λ r. nat_le r.hundredths 10_000) rates
+
 abbrev pub are_within_bounds : PlanText → Bool
-are_within_bounds text =
-    (nat_le 1 text.terms.review_days && nat_le text.terms.review_days 60)
-    && ((nat_le 1 text.terms.documents_limit && nat_le text.terms.documents_limit 1_000_000)
-    && list_all (λ r. nat_le r.hundredths 10_000) text.rates.items)
+are_within_bounds text = terms_within_bounds text.terms && rates_within_bounds text.rates.items
 
 -- each rate is that of a published airline, or of one of the text
 abbrev pub have_airlines : Published → PlanText → Bool

@@ -1,11 +1,13 @@
--- What holds of every plan, and the codes of its closed periods, which are the first of the list.
-use Rattle.std.specs.Prelude.{◌≡◌, ℕ, ◌<◌, ◌≤◌, ◌==◌, Bool, true, false, List, map, length, take, Option, IsSome, MatchOption}
+-- The periods of a plan, of which the first are closed.
+use Rattle.std.specs.Prelude.{◌≡◌, ℕ, ◌<◌, ◌≤◌, ◌==◌, Bool, true, false, List, map, length, take, Option, MatchOption}
 use Rattle.std.specs.List.{All, AllPairs, HoldsAt}
 use Rattle.std.specs.List.Sorted.{IsPartitionPoint}
 use Rattle.bsp_fields.specs.CivilDay.{CivilDay}
 use Rattle.bsp_calendar.specs.DayOrder.{is_before}
+use Rattle.bsp_calendar.specs.Published.{Published}
 use Rattle.bsp_calendar.specs.Requests.{are_in_order}
 use Rattle.bsp_calendar.specs.declared.entries.Period.{Period}
+use Rattle.bsp_calendar.specs.declared.entries.Rate.{Rate}
 use Rattle.bsp_calendar.specs.declared.entries.Terms.{Terms}
 
 -- the codes of the first periods
@@ -18,10 +20,16 @@ pub record IsStanding (periods : List Period) (closed : ℕ) : Type 0 where
   pub distinct : AllPairs (λ q r. (q.code == r.code) ≡ false) periods
   pub in_order : are_in_order periods ≡ true
 
--- the periods stand, and where there is one, terms are published
-pub record IsPlan (terms : Option Terms) (periods : List Period) (closed : ℕ) : Type 0 where
-  pub standing : IsStanding periods closed
-  pub has_terms : 0 < length periods → IsSome terms
+-- the plan of these entries on a business day, with so many periods closed
+abbrev pub plan_of : Option Terms → List ℕ → List Rate → List Period → CivilDay → ℕ → Published
+plan_of terms airlines rates periods day closed = record {
+  terms = terms;
+  airlines = airlines;
+  rates = rates;
+  periods = periods;
+  day = day;
+  closed = first_codes periods closed;
+}
 
 -- the place of the period of a code, or none where no period has it
 abbrev pub IsPlaceOf : List Period → ℕ → Option ℕ → Type 0

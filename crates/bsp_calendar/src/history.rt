@@ -1,9 +1,26 @@
-//! The law of a plan's history.
+//! The laws of a plan's history.
 
-ghost use Rattle.bsp_calendar.specs.History.{HistoryHolds};
+ghost use Rattle.bsp_calendar.specs.History.{ClosedStays, HistoryHolds, SoundKept, SoundMadeAgain};
+ghost use Rattle.bsp_calendar.specs.Published.{opening};
+ghost use Rattle.bsp_calendar.specs.SoundPlan.{IsSoundPlan};
 
-/// After any accepted requests the plan has the entries of all texts, each once, in the order of
-/// their first publication, the last day that was set, and the periods that were closed.
+/// After any accepted requests, begun with a plan that meets the rules, the plan has the entries of
+/// the start and of all texts, each once, in the order of their first publication, the last day that
+/// was set, and the periods that were closed.
 pub fn published_history()
     ensures { HistoryHolds }
+{}
+
+/// The opening meets the rules of a plan, and each accepted request keeps them. A plan that meets
+/// them is made again from its entries, its day and its closes.
+pub fn sound_plan()
+    ensures opening { IsSoundPlan opening }
+    ensures kept { SoundKept }
+    ensures made_again { SoundMadeAgain }
+{}
+
+/// A closed period, the terms and the rates of the days that have begun stay the same under every
+/// further request.
+pub fn closed_stays()
+    ensures { ClosedStays }
 {}

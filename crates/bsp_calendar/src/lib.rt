@@ -18,6 +18,6 @@ mod samples;
 pub use currency::Currency;
 pub use entries::{Period, PlanText, Rate, Terms};
 pub use fault::PlanFault;
-pub use history::published_history;
+pub use history::{closed_stays, published_history, sound_plan};
 pub use plan::Plan;
 pub use reading::read_plan;

@@ -1,6 +1,6 @@
 //! Entries that are found by their keys.
 
-ghost use Rattle.std.specs.Prelude.{◌≡◌, [], ◌++◌, false, OnOk};
+ghost use Rattle.std.specs.Prelude.{◌≡◌, [], ◌++◌, false, MatchResult, OnOk};
 ghost use Rattle.std.specs.List.{All, AllPairs};
 ghost use Rattle.std.specs.Ordering.{eq_by_cmp};
 ghost use Rattle.std.specs.BTreeMap.{get};
@@ -91,6 +91,19 @@ impl<K: Ord + Copy + Drop, E: Entry<K>> Listed<K, E> {
     {
         let (_, place) = self.index.range(..=key).next_back()?;
         Some(self.list[*place])
+    }
+
+    /// The same entries.
+    ///
+    /// # Errors
+    ///
+    /// `NoMemory`.
+    pub(crate) fn copied(&self, alloc: Global) -> Result<Self, PlanFault>
+        ensures { MatchResult result (λ copy. copy ≡ self.now) (λ fault. fault ≡ PlanFault.NoMemory) }
+    {
+        // The proof knows the invariant of a struct where one of its fields is read.
+        let _list = &self.list;
+        self.joined(alloc, &[])
     }
 
     /// These entries and more, each once.

@@ -1,9 +1,11 @@
-ghost use Rattle.std.specs.Prelude.{◌≡◌, ◌&&◌, ◌⊎◌, true, Ok, Err, MatchResult, drop, length};
+ghost use Rattle.std.specs.Prelude.{◌≡◌, ◌&&◌, ◌⊎◌, false, Ok, Err, MatchResult, drop, length};
 ghost use Rattle.bsp_calendar.specs.DayOrder.{same_day};
 ghost use Rattle.bsp_calendar.specs.Published.{is_closed, opening};
-ghost use Rattle.bsp_calendar.specs.Requests.{Answers, AnswersOrLacksMemory, are_in_order, closing, extended, has_terms, holds_already, is_empty, on_day, with_entries};
+ghost use Rattle.bsp_calendar.specs.Requests.{Answers, AnswersOrLacksMemory, are_within_bounds, closing, extended, has_terms, holds_already, is_empty, on_day, with_entries};
 
 mod answers;
+mod entries;
+mod periods;
 mod target;
 #[cfg(test)]
 mod tests;
@@ -30,8 +32,9 @@ struct Lists {
 }
 
 /// The published plan of a market, the business day and the closed periods. It only grows, and a
-/// closed period never changes. A contract sees it as a `Published`: the entries, each once and in
-/// the order of their first publication, the business day and the codes of the closed periods.
+/// closed period never changes (`closed_stays`). A contract sees it as a `Published`: the entries,
+/// each once and in the order of their first publication, the business day and the codes of the
+/// closed periods. It always meets the rules of a plan (`Plan::meets_rules`).
 #[derive(Drop)]
 pub struct Plan {
     alloc: Global,
@@ -43,20 +46,14 @@ pub struct Plan {
 
 impl Model for Plan {
     ghost use Rattle.bsp_calendar.specs.Published.{Published};
-    ghost use Rattle.bsp_calendar.specs.Standing.{IsPlan, first_codes};
+    ghost use Rattle.bsp_calendar.specs.SoundPlan.{IsPlan};
+    ghost use Rattle.bsp_calendar.specs.Standing.{plan_of};
 
     ghost Value = { Published };
 
-    ghost view = { λ p. record {
-      terms = p.terms;
-      airlines = p.lists.airlines;
-      rates = p.lists.rates;
-      periods = p.lists.periods;
-      day = p.day;
-      closed = first_codes p.lists.periods p.closed;
-    } };
+    ghost view = { λ p. plan_of p.terms p.lists.airlines p.lists.rates p.lists.periods p.day p.closed };
 
-    ghost invariant = { λ p. IsPlan p.terms p.lists.periods p.closed };
+    ghost invariant = { λ p. IsPlan p.terms p.lists.airlines p.lists.rates p.lists.periods p.day p.closed };
 }
 
 impl Plan {
@@ -77,15 +74,40 @@ impl Plan {
         }
     }
 
-    /// Publishes the entries of a text that are new. `Held` where none is.
+    /// The same plan.
+    ///
+    /// # Errors
+    ///
+    /// `NoMemory`.
+    pub fn copied(&self) -> Result<Plan, PlanFault>
+        ensures { MatchResult result (λ copy. copy ≡ self.now) (λ fault. fault ≡ PlanFault.NoMemory) }
+    {
+        let lists = &self.lists;
+        Ok(Plan {
+            alloc: self.alloc,
+            terms: self.terms,
+            lists: Lists {
+                airlines: lists.airlines.copied(self.alloc)?,
+                rates: lists.rates.copied(self.alloc)?,
+                periods: lists.periods.copied(self.alloc)?,
+            },
+            day: self.day,
+            closed: self.closed,
+        })
+    }
+
+    /// Publishes the entries of a text that are new. `Held` where none is, and the plan is then as it
+    /// was.
     ///
     /// # Errors
     ///
     /// The first of `WrongKey` (a value out of its bounds, or a rate of an airline that neither the
-    /// plan nor the text has), `Differs`, `OutOfOrder` and `LateRate` that applies, or `NoMemory`. The
-    /// plan is then as it was.
+    /// plan nor the text has), `Differs`, `OutOfOrder` and `LateRate` that applies, or `NoMemory`, but
+    /// not in place of a value out of its bounds. The plan is then as it was.
     pub fn extend(&mut self, text: &PlanText) -> Result<Change, PlanFault>
-        ensures { AnswersOrLacksMemory (extended self.old text.now) (holds_already self.old text.now) self.old result self.new }
+        ensures answers { AnswersOrLacksMemory (extended self.old text.now) (holds_already self.old text.now) self.old result self.new }
+        ensures bounds { are_within_bounds text.now ≡ false → result ≡ Err PlanFault.WrongKey }
+        ensures held { result ≡ Ok Change.Held → self.new ≡ self.old }
     {
         let lists = self.lists_with(text)?;
         let change = Change::of(self.holds(&lists));
@@ -96,8 +118,9 @@ impl Plan {
 
     /// The lists with the entries of a text.
     fn lists_with(&self, text: &PlanText) -> Result<Lists, PlanFault>
-        ensures { MatchResult result
-            (λ lists. (extended self.now text.now ≡ Ok (with_entries self.now text.now)) × (are_in_order lists.periods ≡ true)
+        ensures bounds { are_within_bounds text.now ≡ false → result ≡ Err PlanFault.WrongKey }
+        ensures lists { MatchResult result
+            (λ lists. (extended self.now text.now ≡ Ok (with_entries self.now text.now))
             × (lists.airlines ≡ (with_entries self.now text.now).airlines) × (lists.rates ≡ (with_entries self.now text.now).rates) × (lists.periods ≡ (with_entries self.now text.now).periods))
             (λ fault. (fault ≡ PlanFault.NoMemory) ⊎ (extended self.now text.now ≡ Err fault)) }
     {
@@ -146,7 +169,8 @@ impl Plan {
     ///
     /// `DayBackwards` where it is before the business day. The plan is then as it was.
     pub fn set_day(&mut self, day: Day) -> Result<Change, PlanFault>
-        ensures { Answers (on_day self.old day) (same_day self.old.day day) self.old result self.new }
+        ensures answers { Answers (on_day self.old day) (same_day self.old.day day) self.old result self.new }
+        ensures held { result ≡ Ok Change.Held → self.new ≡ self.old }
     {
         if is_before(day, self.day) {
             return Err(PlanFault::DayBackwards);
@@ -165,7 +189,8 @@ impl Plan {
     /// The first of `NotEarliest` (it is not the earliest unclosed period) and `NotOver` (the business
     /// day is not after its last day) that applies. The plan is then as it was.
     pub fn close_next(&mut self, code: PeriodCode) -> Result<Change, PlanFault>
-        ensures { Answers (closing self.old code) (is_closed self.old code) self.old result self.new }
+        ensures answers { Answers (closing self.old code) (is_closed self.old code) self.old result self.new }
+        ensures held { result ≡ Ok Change.Held → self.new ≡ self.old }
     {
         let Some(place) = period_place(&self.lists.periods, code) else {
             return Err(PlanFault::NotEarliest);

@@ -3,7 +3,6 @@
 use crate::currency::Currency;
 use crate::entries::{Period, Rate, Terms};
 use bsp_fields::{AirlineCode, Day, PeriodCode};
-use std::test::Fail;
 
 /// An airline, a first day and hundredths of a percent.
 pub(crate) type RateRow = (&'static str, &'static str, u16);
@@ -17,28 +16,28 @@ pub(crate) const FIRST_HALF: PeriodRow = ("24011", "2024-01-01", "2024-01-15", "
 
 pub(crate) const SECOND_HALF: PeriodRow = ("24012", "2024-01-16", "2024-01-31", "2024-02-29");
 
-pub(crate) fn day(text: &str) -> Result<Day, Fail> {
-    Ok(Day::read_text(text.as_bytes())?)
+pub(crate) fn day(text: &str) -> Option<Day> {
+    Day::read_text(text.as_bytes()).ok()
 }
 
-pub(crate) fn airline(digits: &str) -> Result<AirlineCode, Fail> {
-    Ok(AirlineCode::read(digits.as_bytes())?)
+pub(crate) fn airline(digits: &str) -> Option<AirlineCode> {
+    AirlineCode::read(digits.as_bytes()).ok()
 }
 
-pub(crate) fn code(digits: &str) -> Result<PeriodCode, Fail> {
-    Ok(PeriodCode::read(digits.as_bytes())?)
+pub(crate) fn code(digits: &str) -> Option<PeriodCode> {
+    PeriodCode::read(digits.as_bytes()).ok()
 }
 
-pub(crate) fn rate(row: RateRow) -> Result<Rate, Fail> {
-    Ok(Rate {
+pub(crate) fn rate(row: RateRow) -> Option<Rate> {
+    Some(Rate {
         airline: airline(row.0)?,
         from: day(row.1)?,
         hundredths: row.2,
     })
 }
 
-pub(crate) fn period(row: PeriodRow) -> Result<Period, Fail> {
-    Ok(Period {
+pub(crate) fn period(row: PeriodRow) -> Option<Period> {
+    Some(Period {
         code: code(row.0)?,
         first: day(row.1)?,
         last: day(row.2)?,
@@ -47,9 +46,9 @@ pub(crate) fn period(row: PeriodRow) -> Result<Period, Fail> {
 }
 
 /// Terms in euro.
-pub(crate) fn terms(review_days: u8, documents_limit: u32) -> Result<Terms, Fail> {
-    Ok(Terms {
-        currency: Currency::read(b"EUR").ok_or("EUR is no currency")?,
+pub(crate) fn terms(review_days: u8, documents_limit: u32) -> Option<Terms> {
+    Some(Terms {
+        currency: Currency::read(b"EUR")?,
         review_days,
         documents_limit,
     })

@@ -1,45 +1,51 @@
 //! A HOT file over rows.
 
+ghost use Rattle.std.specs.List.{AllPairs};
+ghost use Rattle.std.specs.List.Sorted.{IsPermutation};
+ghost use Rattle.bsp_rules.specs.declared.rows.Item.{Item as ItemRow};
+ghost use Rattle.bsp_memos.specs.declared.fields.MemoFields.{MemoFields as MemoRow};
+ghost use Rattle.bsp_hot.specs.Part.{HaveOnePart};
 ghost use Rattle.std.specs.Prelude.{◌≡◌, [], ℕ, List, All, Some, None, IfOk, MatchOption, map};
 ghost use Rattle.bsp_calendar.specs.Published.{closed_period};
 ghost use Rattle.bsp_hot_check.specs.Hot.{records_of};
 ghost use Rattle.bsp_hot.specs.Sorting.{entry_of, IsRow};
 ghost use Rattle.bsp_calendar.specs.declared.entries.Period.{Period as ClosedPeriod};
 ghost use Rattle.bsp_calendar.specs.declared.entries.Terms.{Terms as PublishedTerms};
-ghost use Rattle.bsp_hot.specs.Rows.{Entry, entries};
-ghost use Rattle.bsp_hot.specs.Files.{file_of, airline_net, IsInOrder, AnswersOver};
-ghost use Rattle.bsp_hot.specs.Nets.{net_of_rows};
-ghost use Rattle.bsp_hot.specs.Sound.{AreInBounds, KeepRules, IsHotFileOver};
+ghost use Rattle.bsp_hot.specs.Rows.{entries};
+ghost use Rattle.bsp_hot.specs.Files.{file_of, IsWritten, AnswersOver};
+ghost use Rattle.bsp_hot.specs.Sound.{AreApart, AreInBounds, KeepRules, IsHotFileOver};
 ghost use Rattle.bsp_hot.specs.WrittenText.{IsTextOf, AreFactsOf};
 
+use crate::fault::HotFault;
 use crate::offices::FileFacts;
 use crate::output::{LINE, Output};
 use crate::rows::{Row, rows_in_order};
 use bsp_calendar::{Currency, Period, Plan};
 use bsp_fields::{AirlineCode, PeriodCode};
-use bsp_hot_check::HotFault;
 use bsp_memos::Memo;
-use bsp_rules::{Item, Tally};
+use bsp_postings::Tally;
+use bsp_rules::Item;
 use std::alloc::Global;
 
-/// What the types say of an airline, a period and a currency.
-fn bounds(airline: AirlineCode, period: Period, currency: Currency)
-    ensures { AreInBounds airline period currency }
-{}
-
 impl FileFacts {
+    /// Of an airline, a period and a currency.
+    fn over(airline: AirlineCode, period: Period, currency: Currency) -> FileFacts
+        ensures value { result ≡ record { airline = airline; period = period; currency = currency } }
+        ensures bounds { AreInBounds airline period currency }
+    {
+        FileFacts {
+            airline,
+            period,
+            currency: currency.letters(),
+        }
+    }
+
     /// Of the period of a code, where it is published and closed. Terms are then published too.
     fn of(airline: AirlineCode, period: PeriodCode, plan: &Plan) -> Option<FileFacts>
         ensures { MatchOption result (closed_period plan.now period ≡ None) (AreFactsOf plan.now airline period) }
     {
-        let period = plan.closed_period(period)?;
-        let currency = plan.terms()?.currency;
-        bounds(airline, period, currency);
-        Some(FileFacts {
-            airline,
-            period,
-            currency: currency.letters(),
-        })
+        let (period, terms) = plan.closed_with_terms(period)?;
+        Some(FileFacts::over(airline, period, terms.currency))
     }
 }
 
@@ -69,9 +75,12 @@ fn write_over<'a>(
     plan: &Plan,
 ) -> Result<Vec<u8>, HotFault>
     ensures written { AnswersOver (λ text. text.items) plan.now airline period (entries airline period items.now memos.now) result }
+    ensures only { IfOk result (λ text. (q : ClosedPeriod) (terms : PublishedTerms) (other : List ℕ) → closed_period plan.now period ≡ Some q → plan.now.terms ≡ Some terms → IsWritten airline q terms.currency (entries airline period items.now memos.now) other → other ≡ text.items) }
+    ensures order { (others : List ItemRow) (other_memos : List MemoRow) → IsPermutation items.now others → IsPermutation memos.now other_memos → AllPairs AreApart (entries airline period items.now memos.now) → AnswersOver (λ text. text.items) plan.now airline period (entries airline period others other_memos) result }
+    ensures part { (others : List ItemRow) (other_memos : List MemoRow) → HaveOnePart airline items.now others memos.now other_memos → AnswersOver (λ text. text.items) plan.now airline period (entries airline period others other_memos) result }
     ensures stands { KeepRules airline period items.now memos.now → IfOk result (λ text. (q : ClosedPeriod) × (terms : PublishedTerms) × (closed_period plan.now period ≡ Some q) × (plan.now.terms ≡ Some terms) × IsHotFileOver airline q terms.currency (entries airline period items.now memos.now) text.items) }
 {
-    let file = FileFacts::of(airline, period, plan).ok_or(HotFault::H02)?;
+    let file = FileFacts::of(airline, period, plan).ok_or(HotFault::NotClosed)?;
     let rows = rows_in_order(alloc, airline, period, items, memos)?;
     write_file(Output::with_room(alloc, room), &file, &rows)
 }
@@ -84,9 +93,8 @@ fn write_over<'a>(
 ///
 /// # Errors
 ///
-/// H02 where the period is unknown or not closed, and else H01 where a count or a total does not fit its
-/// place; H03 where an allocation was refused.
-#[tactic(auto, using(crate::proofs::NetLemmas::net_over_rows))]
+/// `NotClosed` where the period is unknown or not closed, and else `TooWide` where a count or a total does
+/// not fit its place; `NoMemory` where an allocation was refused.
 pub fn write_hot<'a>(
     alloc: Global,
     airline: AirlineCode,
@@ -97,10 +105,11 @@ pub fn write_hot<'a>(
 ) -> Result<Vec<u8>, HotFault>
     // The text of the records of the definition.
     ensures written { AnswersOver (λ text. text.items) plan.now airline period (entries airline period items.now memos.now) result }
+    ensures only { IfOk result (λ text. (q : ClosedPeriod) (terms : PublishedTerms) (other : List ℕ) → closed_period plan.now period ≡ Some q → plan.now.terms ≡ Some terms → IsWritten airline q terms.currency (entries airline period items.now memos.now) other → other ≡ text.items) }
+    ensures order { (others : List ItemRow) (other_memos : List MemoRow) → IsPermutation items.now others → IsPermutation memos.now other_memos → AllPairs AreApart (entries airline period items.now memos.now) → AnswersOver (λ text. text.items) plan.now airline period (entries airline period others other_memos) result }
+    ensures part { (others : List ItemRow) (other_memos : List MemoRow) → HaveOnePart airline items.now others memos.now other_memos → AnswersOver (λ text. text.items) plan.now airline period (entries airline period others other_memos) result }
     // For rows that keep the rules of the book it is a HOT file.
     ensures stands { KeepRules airline period items.now memos.now → IfOk result (λ text. (q : ClosedPeriod) × (terms : PublishedTerms) × (closed_period plan.now period ≡ Some q) × (plan.now.terms ≡ Some terms) × IsHotFileOver airline q terms.currency (entries airline period items.now memos.now) text.items) }
-    // The net of its records in the words of the rules.
-    ensures net { (q : ClosedPeriod) (currency : List ℕ) (sorted : List Entry) → IsInOrder (entries airline period items.now memos.now) sorted → airline_net (records_of (file_of airline q currency sorted)) ≡ net_of_rows airline period items.now memos.now }
 {
     write_over(alloc, 0, airline, period, items, memos, plan)
 }
@@ -126,7 +135,6 @@ fn room_for(airline: AirlineCode, period: PeriodCode, tallies: &[Tally]) -> usiz
 /// # Errors
 ///
 /// As of [`write_hot`].
-#[tactic(auto, using(crate::proofs::NetLemmas::net_over_rows))]
 pub fn write_hot_of<'a>(
     alloc: Global,
     airline: AirlineCode,
@@ -137,8 +145,10 @@ pub fn write_hot_of<'a>(
     plan: &Plan,
 ) -> Result<Vec<u8>, HotFault>
     ensures written { AnswersOver (λ text. text.items) plan.now airline period (entries airline period items.now memos.now) result }
+    ensures only { IfOk result (λ text. (q : ClosedPeriod) (terms : PublishedTerms) (other : List ℕ) → closed_period plan.now period ≡ Some q → plan.now.terms ≡ Some terms → IsWritten airline q terms.currency (entries airline period items.now memos.now) other → other ≡ text.items) }
+    ensures order { (others : List ItemRow) (other_memos : List MemoRow) → IsPermutation items.now others → IsPermutation memos.now other_memos → AllPairs AreApart (entries airline period items.now memos.now) → AnswersOver (λ text. text.items) plan.now airline period (entries airline period others other_memos) result }
+    ensures part { (others : List ItemRow) (other_memos : List MemoRow) → HaveOnePart airline items.now others memos.now other_memos → AnswersOver (λ text. text.items) plan.now airline period (entries airline period others other_memos) result }
     ensures stands { KeepRules airline period items.now memos.now → IfOk result (λ text. (q : ClosedPeriod) × (terms : PublishedTerms) × (closed_period plan.now period ≡ Some q) × (plan.now.terms ≡ Some terms) × IsHotFileOver airline q terms.currency (entries airline period items.now memos.now) text.items) }
-    ensures net { (q : ClosedPeriod) (currency : List ℕ) (sorted : List Entry) → IsInOrder (entries airline period items.now memos.now) sorted → airline_net (records_of (file_of airline q currency sorted)) ≡ net_of_rows airline period items.now memos.now }
 {
     let room = room_for(airline, period, tallies);
     write_over(alloc, room, airline, period, items, memos, plan)

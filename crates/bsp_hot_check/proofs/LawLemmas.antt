@@ -4,8 +4,7 @@ use Rattle.std.proofs.lemmas.Bool.{cases_order}
 use Rattle.std.proofs.lemmas.List.{take-append-drop, take-take}
 use Rattle.bsp_hot_check.specs.declared.model.Standing.{Standing}
 use Rattle.bsp_hot_check.specs.declared.model.HotTotals.{HotTotals}
-use Rattle.bsp_hot_check.specs.declared.model.HotFault.{HotFault}
-use Rattle.bsp_hot_check.specs.declared.model.HotFault.TheVariants.{H04}
+use Rattle.bsp_hot_check.specs.declared.model.RecordFault.{RecordFault}
 use Rattle.bsp_hot_check.specs.Records.{Record, AreRecords}
 use Rattle.bsp_hot_check.specs.Checked.{HasTotals}
 use Rattle.bsp_hot_check.specs.Hot.{File, records_of, Hot, totals_of_file, BeginFile, IsFirstFault, HotOrFault}
@@ -91,7 +90,7 @@ law lines = record {
 -- ---- what is told
 
 abbrev Answer : Type 0
-Answer = Result HotTotals HotFault
+Answer = Result HotTotals RecordFault
 
 no_fault : (n : ℕ) (at : Standing) → ◌≡◌ {A = Outcome} (Err n) (Ok at) → ⊥
 no_fault n at k = absurd cc
@@ -110,5 +109,5 @@ only_totals lines at h file hot =
 pub faulty : (lines : List (List ℕ)) (n : ℕ) → judge_from start lines ≡ Err n → IsFirstFault lines n
 faulty lines n h = subst (IsJudged lines) h (judged_all lines)
 
-pub no_file : (lines : List (List ℕ)) (n : ℕ) → judge_from start lines ≡ Err n → (file : File) → Hot lines file → ◌≡◌ {A = Answer} (Err (H04 n)) (Ok (totals_of_file file))
+pub no_file : (lines : List (List ℕ)) (n : ℕ) → judge_from start lines ≡ Err n → (file : File) → Hot lines file → ◌≡◌ {A = Answer} (Err (record { number = n })) (Ok (totals_of_file file))
 no_file lines n h file hot = absurd (no_fault n (standing_of (ended file)) (sym h ∙ hot_judged lines file hot))

@@ -7,7 +7,7 @@ ghost use Rattle.bsp_hot_check.specs.Standings.{start, IsSmall};
 ghost use Rattle.bsp_hot_check.specs.Reading.{judge_from};
 ghost use Rattle.bsp_hot_check.specs.Checked.{HasTotals, IsFaultOf};
 
-use crate::model::{HotFault, HotTotals, Standing};
+use crate::model::{HotTotals, RecordFault, Standing};
 use bsp_records::first_record;
 
 /// How the lines stand, or the number of the first that those before do not allow.
@@ -39,8 +39,8 @@ fn judge(bytes: &[u8]) -> Result<Standing, usize>
 ///
 /// # Errors
 ///
-/// H04 with the number of the first record at fault.
-pub fn check_hot(bytes: &[u8]) -> Result<HotTotals, HotFault>
+/// The first record at fault, where there is one.
+pub fn check_hot(bytes: &[u8]) -> Result<HotTotals, RecordFault>
     // What is found is a file, with its totals.
     ensures found { IfOk result (HasTotals (lines bytes.now)) }
     // A file is found.
@@ -50,7 +50,7 @@ pub fn check_hot(bytes: &[u8]) -> Result<HotTotals, HotFault>
 {
     match judge(bytes) {
         Ok(standing) => Ok(standing.totals()),
-        Err(number) => Err(HotFault::H04(number)),
+        Err(number) => Err(RecordFault { number }),
     }
 }
 

@@ -16,5 +16,5 @@ mod sums;
 mod tests;
 
 pub use check::{check_hot, hot_or_fault};
-pub use model::{CodeSums, DocumentCode, HotFault, HotTotals, Sums};
+pub use model::{CodeSums, DocumentCode, HotTotals, RecordFault, Sums};
 pub use name::RecordName;

@@ -1,35 +1,13 @@
 //! What the records of a HOT file say, and how the records before a place stand.
 
-use std::alloc::AllocError;
 use thiserror::Error;
 
-/// Why there is no HOT file, or why a text is none.
+/// The first record at fault of a text that is no HOT file.
 #[derive(Clone, Copy, Debug, PartialEq, Eq, Hash, Error)]
-pub enum HotFault {
-    /// H01: a count or a total does not fit its place.
-    #[error("H01: a count or a total does not fit its place")]
-    H01,
-    /// H02: the period is unknown or not closed.
-    #[error("H02: the period is unknown or not closed")]
-    H02,
-    /// H03: an allocation was refused.
-    #[error("H03: no memory")]
-    H03,
-    /// H04, with the number of the first record at fault, counted from 1; where the text ends too
-    /// early, that is the number after the last.
-    #[error("H04 record {0}")]
-    H04(usize),
-}
-
-impl From<AllocError> for HotFault {
-    ghost use Rattle.std.specs.Prelude.{◌≡◌};
-    ghost use Rattle.bsp_hot_check.specs.declared.model.HotFault.TheVariants.{H03};
-
-    ghost from_gives = { λ _ fault. fault ≡ H03 };
-
-    fn from(_: AllocError) -> HotFault {
-        HotFault::H03
-    }
+#[error("H04 record {number}")]
+pub struct RecordFault {
+    /// Its number, counted from 1; where the text ends too early, the number after the last record.
+    pub number: usize,
 }
 
 /// The totals of a HOT file: its records, its documents, and its net in minor units.

@@ -1,4 +1,4 @@
-use crate::{CodeSums, DocumentCode, HotFault, HotTotals, RecordName, Sums, check_hot};
+use crate::{CodeSums, DocumentCode, HotTotals, RecordFault, RecordName, Sums, check_hot};
 use bsp_fields::write_digits;
 use std::test::Fail;
 
@@ -173,13 +173,11 @@ fn text(rt: &HostRuntime, lines: &[&[u8]]) -> Result<Vec<u8>, Fail> {
     changed(rt, lines, 0, b"", b"\n")
 }
 
-/// The number of the first record at fault, 0 where there is none, and the highest number for
-/// another fault.
+/// The number of the first record at fault, 0 where there is none.
 fn fault(bytes: &[u8]) -> usize {
     match check_hot(bytes) {
         Ok(_) => 0,
-        Err(HotFault::H04(number)) => number,
-        Err(_) => usize::MAX,
+        Err(fault) => fault.number,
     }
 }
 
@@ -218,7 +216,7 @@ fn the_last_totals_are_compared(rt: HostRuntime) -> Result<(), Fail> {
     let end =
         b"BFT99220000000040000000000000000000000{00000000000000{00000000000000{00000000000000A";
     let bytes = changed(&rt, &EMPTY, 4, end, b"\n")?;
-    assert_eq!(rt; check_hot(&bytes), Err(HotFault::H04(4)));
+    assert_eq!(rt; check_hot(&bytes), Err(RecordFault { number: 4 }));
     Ok(())
 }
 
@@ -414,11 +412,8 @@ fn a_sequence_number_is_compared(rt: HostRuntime) -> Result<(), Fail> {
 
 #[test]
 fn a_fault_is_told_as_text(rt: HostRuntime) -> Result<(), Fail> {
-    let told = format!(in rt.alloc(); "{}; {}", HotFault::H02, HotFault::H04(3))?;
-    assert_eq!(rt;
-        told.as_str(),
-        "H02: the period is unknown or not closed; H04 record 3"
-    );
+    let told = format!(in rt.alloc(); "{}", RecordFault { number: 3 })?;
+    assert_eq!(rt; told.as_str(), "H04 record 3");
     Ok(())
 }
 

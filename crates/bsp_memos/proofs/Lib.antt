@@ -1,5 +1,8 @@
 -- Lemmas of this crate.
 pub mod ReasonLemmas
+pub mod IssueLemmas
 pub mod StepLemmas
 pub mod LifeLemmas
 pub mod LawLemmas
+pub mod FitLemmas
+pub mod KeptLemmas

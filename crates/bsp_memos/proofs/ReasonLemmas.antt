@@ -8,6 +8,7 @@ use Rattle.std.specs.Bool.{Decides}
 use Rattle.std.specs.Str.{bytes_eq}
 use Rattle.std.specs.Cmp.Lexicographic.{bytes_decides}
 use Rattle.std.proofs.Common.{eqb}
+use Rattle.std.proofs.lemmas.Bool.Decides.{same_from_decides}
 use Rattle.std.proofs.lemmas.Grind.{common_steps}
 use Rattle.std.proofs.lemmas.List.{drop-replicate}
 use Rattle.std.proofs.lemmas.Str.{IsUtf8-from_ascii}
@@ -37,10 +38,9 @@ filled text bound h =
       filled = rw (front, drop-replicate {X = ℕ} (length text) 40 32) refl;
     }
 
--- the test of two reasons with their spaces
-pub same_reason : (own other : List ℕ) →
+decided : (own other : List ℕ) →
     Decides (bytes_eq (own ++ replicate (40 - length own) 32) (other ++ replicate (40 - length other) 32) && eqb (length own) (length other)) (own ≡ other)
-same_reason own other = (
+decided own other = (
   (λ h.
       let p = and_parts (bytes_eq (own ++ replicate (40 - length own) 32) (other ++ replicate (40 - length other) 32)) (eqb (length own) (length other)) h in
       let whole = (bytes_decides (own ++ replicate (40 - length own) 32) (other ++ replicate (40 - length other) 32)).0 p.0 in
@@ -49,3 +49,8 @@ same_reason own other = (
       ∙ ap (λ n. take n (other ++ replicate (40 - length other) 32)) long ∙ take-append_seam other (replicate (40 - length other) 32)),
   (λ e. rw (e, (bytes_decides (other ++ replicate (40 - length other) 32) (other ++ replicate (40 - length other) 32)).1 refl, eq-eqb (length other) (length other) refl) refl),
 )
+
+-- the test of two reasons with their spaces is that of the reasons
+pub same_reason : (own other : List ℕ) →
+    (bytes_eq (own ++ replicate (40 - length own) 32) (other ++ replicate (40 - length other) 32) && eqb (length own) (length other)) ≡ bytes_eq own other
+same_reason own other = same_from_decides _ _ (decided own other) (bytes_decides own other)

@@ -8,3 +8,4 @@ pub mod Owed
 pub mod Steps
 pub mod Billing
 pub mod Lives
+pub mod Kept

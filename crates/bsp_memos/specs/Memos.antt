@@ -1,7 +1,12 @@
 -- Which fields make a memo, and which memos are the same issue.
-use Rattle.std.specs.Prelude.{◌≡◌, Bool, not, ◌&&◌, ◌||◌, if◌then◌else◌, ℤ, pos, int_le, int_lt, is_some}
+use Rattle.std.specs.Prelude.{◌≡◌, ℕ, ◌==◌, Bool, true, false, not, ◌&&◌, ◌||◌, if◌then◌else◌, ℤ, pos, int_le, int_lt, List, None, is_some}
 use Rattle.std.specs.Ordering.{int_eq}
+use Rattle.std.specs.Str.{bytes_eq}
+use Rattle.bsp_fields.specs.CivilDay.{CivilDay}
 use Rattle.bsp_memos.specs.declared.fields.MemoFields.{MemoFields}
+use Rattle.bsp_memos.specs.declared.kind.MemoKind.{MemoKind}
+use Rattle.bsp_memos.specs.declared.kind.MemoKind.TheVariants.{Debit, Credit}
+use Rattle.bsp_memos.specs.declared.state.MemoState.TheVariants.{Open}
 use Rattle.bsp_memos.specs.States.{is_credit, is_open, is_disputed, is_reduced, is_withdrawn}
 
 -- 1 to 99,999,999,999
@@ -26,9 +31,36 @@ billing_fits memo = not (is_some memo.billed) || not (is_disputed memo.state || 
 abbrev pub is_memo : MemoFields → Bool
 is_memo memo = amount_fits memo && (kind_fits memo && billing_fits memo)
 
+-- the memo that an airline issues to an agent on a day: open, and not billed
+abbrev pub issued_memo : ℕ → ℕ → ℕ → MemoKind → ℤ → List ℕ → CivilDay → MemoFields
+issued_memo airline document agent kind amount reason issued = record {
+  airline = airline;
+  document = document;
+  agent = agent;
+  kind = kind;
+  amount = amount;
+  issued_amount = amount;
+  reason = reason;
+  issued = issued;
+  state = Open;
+  billed = None;
+}
+
 -- what an issue is compared by, beside airline and document
 pub record IsSameIssue (memo other : MemoFields) : Type 0 where
   pub agent : other.agent ≡ memo.agent
   pub kind : other.kind ≡ memo.kind
   pub reason : other.reason ≡ memo.reason
   pub amount : other.issued_amount ≡ memo.issued_amount
+
+abbrev pub same_kind : MemoKind → MemoKind → Bool
+same_kind Debit Debit = true
+same_kind Credit Credit = true
+same_kind Debit Credit = false
+same_kind Credit Debit = false
+
+-- the same as a test
+abbrev pub is_same_issue : MemoFields → MemoFields → Bool
+is_same_issue memo other =
+    ((memo.agent == other.agent) && same_kind memo.kind other.kind)
+    && (bytes_eq memo.reason other.reason && int_eq memo.issued_amount other.issued_amount)

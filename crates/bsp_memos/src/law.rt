@@ -1,3 +1,4 @@
+ghost use Rattle.bsp_memos.specs.Kept.{IsIssueSound, IsFitKept, IsBilledUnchanged, IsRightAtClose, IsRightLater, IsRightSinceIssue};
 ghost use Rattle.bsp_memos.specs.Lives.{IsIssueKept, IsBilledOnce, IsNotBilledInDispute, IsNotBilledWithdrawn, IsCreditBilledFirst};
 
 /// The law of billing, over every list of actions and closes that a memo may see from its issue on.
@@ -8,4 +9,16 @@ pub fn billed_once()
     ensures disputed { IsNotBilledInDispute }
     ensures withdrawn { IsNotBilledWithdrawn }
     ensures credit { IsCreditBilledFirst }
+{}
+
+/// What actions and closes keep of a memo, over every list of them: its fields fit together, once it is
+/// billed it stays as it is, and on each day from its billing on a close would bill it, were it unbilled.
+/// The contract is the law; the body has nothing to do.
+pub fn billing_kept()
+    ensures issue { IsIssueSound }
+    ensures fit { IsFitKept }
+    ensures billed { IsBilledUnchanged }
+    ensures at_close { IsRightAtClose }
+    ensures later { IsRightLater }
+    ensures since_issue { IsRightSinceIssue }
 {}

@@ -20,11 +20,11 @@ mod state;
 mod tests;
 
 pub use actions::{agree, dispute, reduce, uphold, withdraw};
-pub use billing::{bill, billed_now};
+pub use billing::{bill, billed_now, is_rightly_billed};
 pub use fault::MemoFault;
 pub use fields::MemoFields;
 pub use kind::MemoKind;
-pub use law::billed_once;
+pub use law::{billed_once, billing_kept};
 pub use memo::Memo;
 pub use reason::Reason;
 pub use state::MemoState;

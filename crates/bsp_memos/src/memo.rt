@@ -31,9 +31,12 @@ impl Model for Memo {
 }
 
 impl Memo {
-    ghost use Rattle.std.specs.Prelude.{◌≡◌, ◌↔◌, IsTrue, not, Some, None, if◌then◌else◌, [], ◌∷◌};
+    ghost use Rattle.std.specs.Bool.{Decides};
+    ghost use Rattle.std.specs.Prelude.{◌≡◌, ◌==◌, ◌&&◌, IsTrue, not, Some, None, if◌then◌else◌, [], ◌∷◌};
+    ghost use Rattle.std.specs.Ordering.{int_eq};
+    ghost use Rattle.std.specs.Str.{bytes_eq};
     ghost use Rattle.bsp_fields.specs.FirstFault.{first_fault_or};
-    ghost use Rattle.bsp_memos.specs.Memos.{is_memo, is_amount, IsSameIssue};
+    ghost use Rattle.bsp_memos.specs.Memos.{is_memo, is_amount, issued_memo, same_kind, is_same_issue, IsSameIssue};
 
     /// The memo that an airline issues to an agent on a business day. It is open and not billed.
     ///
@@ -51,18 +54,7 @@ impl Memo {
     ) -> Result<Memo, MemoFault>
         ensures { result ≡ first_fault_or
             ((not (is_amount amount), MemoFault.AmountOutOfRange) ∷ [])
-            (record {
-              airline = airline;
-              document = document;
-              agent = agent;
-              kind = kind;
-              amount = amount;
-              issued_amount = amount;
-              reason = reason;
-              issued = issued;
-              state = MemoState.Open;
-              billed = None;
-            }) }
+            (issued_memo airline document agent kind amount reason issued) }
     {
         let amount = issued_amount(amount)?;
         let fields = MemoFields {
@@ -101,15 +93,14 @@ impl Memo {
 
     /// Whether agent and kind are the same.
     fn has_same_parties(&self, other: &Memo) -> bool
-        ensures { IsTrue result ↔ ((other.now.agent ≡ self.now.agent) × (other.now.kind ≡ self.now.kind)) }
+        ensures { result ≡ ((self.now.agent == other.now.agent) && same_kind self.now.kind other.now.kind) }
     {
         self.fields.agent == other.fields.agent && self.fields.kind == other.fields.kind
     }
 
     /// Whether reason and the amount as issued are the same.
     fn has_same_claim(&self, other: &Memo) -> bool
-        ensures { IsTrue result
-            ↔ ((other.now.reason ≡ self.now.reason) × (other.now.issued_amount ≡ self.now.issued_amount)) }
+        ensures { result ≡ (bytes_eq self.now.reason other.now.reason && int_eq self.now.issued_amount other.now.issued_amount) }
     {
         self.fields.reason == other.fields.reason
             && self.fields.issued_amount == other.fields.issued_amount
@@ -118,7 +109,8 @@ impl Memo {
     /// Whether another issue under the same airline and document number is that of this memo: agent,
     /// kind, reason and the amount as issued are the same. Day and state are not compared.
     pub fn is_same_issue(&self, other: &Memo) -> bool
-        ensures { IsTrue result ↔ IsSameIssue self.now other.now }
+        ensures value { result ≡ is_same_issue self.now other.now }
+        ensures same { Decides result (IsSameIssue self.now other.now) }
     {
         self.has_same_parties(other) && self.has_same_claim(other)
     }

@@ -320,6 +320,27 @@ fn stored_fields_are_judged(rt: HostRuntime) {
     }
 }
 
+/// Whether a memo after a close on a day is rightly billed on another.
+fn is_right(memo: Option<Memo>, closed_on: &str, on: &str) -> Option<bool> {
+    let mut memo = memo?;
+    close(&mut memo, day(closed_on)?)?;
+    Some(is_rightly_billed(&memo, day(on)?, REVIEW))
+}
+
+#[test]
+fn billed_memos_are_judged(rt: HostRuntime) {
+    let cases = [
+        (debit(5000), "2024-01-20", "2024-01-20", true),
+        (debit(5000), "2024-01-20", "2024-01-19", false),
+        (debit(5000), "2024-01-19", "2024-02-01", false),
+        (reduced(), "2024-01-05", "2024-01-05", true),
+        (credit(5000), "2024-01-05", "2024-01-05", true),
+    ];
+    for (memo, closed_on, on, right) in cases {
+        assert_eq!(rt; is_right(memo, closed_on, on), Some(right), "on {on}");
+    }
+}
+
 fn is_code(kind: MemoKind, code: &str) -> bool {
     kind.code() == code && MemoKind::read(code) == Some(kind)
 }

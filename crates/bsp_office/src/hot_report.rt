@@ -5,7 +5,7 @@ ghost use Rattle.bsp_office.specs.HotReport.{totals_text, fault_text, IsHotRepor
 
 use crate::report::Report;
 use bsp_fields::{NoRoom, write_money};
-use bsp_hot_check::{HotFault, HotTotals, check_hot};
+use bsp_hot_check::{HotTotals, check_hot};
 use std::alloc::Global;
 
 /// The line of a file with these totals.
@@ -37,10 +37,9 @@ pub(crate) fn hot_report(alloc: Global, bytes: &[u8]) -> Result<Report, NoRoom>
             status: 0,
             text: totals_line(alloc, totals)?.into_bytes(),
         }),
-        Err(HotFault::H04(number)) => Ok(Report {
+        Err(fault) => Ok(Report {
             status: 1,
-            text: fault_line(alloc, number)?.into_bytes(),
+            text: fault_line(alloc, fault.number)?.into_bytes(),
         }),
-        Err(HotFault::H01 | HotFault::H02 | HotFault::H03) => unreachable!(),
     }
 }

@@ -7,7 +7,8 @@ use bsp_calendar::Plan;
 use bsp_fields::{AgentCode, DocNumber, PeriodCode};
 use bsp_memos::{Memo, MemoFields, MemoKind, MemoState, Reason};
 use bsp_ret::{Transaction, read_ret, transaction};
-use bsp_rules::{Item, Tally};
+use bsp_postings::Tally;
+use bsp_rules::Item;
 use std::alloc::Global;
 
 /// The rows, what they add up to, and the plan on which both periods of January are closed.

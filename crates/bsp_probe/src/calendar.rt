@@ -1,4 +1,4 @@
-//! The call of `bsp_calendar` that publishes a text.
+//! The calls of `bsp_calendar` that publish a text and copy a plan.
 
 use crate::calls::{Answer, Mistake, answered, made};
 use crate::fields::{airline, code, day};
@@ -97,9 +97,18 @@ fn extend(plan: &mut Plan, february: &PlanText) -> Answer {
     answer.only_where(is_expected(plan, is_extended))
 }
 
+/// Copies a plan on which February is published.
+fn copy(plan: &Plan) -> Answer {
+    match plan.copied() {
+        Ok(copy) => Answer::value(is_expected(&copy, true)),
+        Err(fault) => Answer::fault(fault == PlanFault::NoMemory),
+    }
+}
+
 pub fn make_calls(alloc: Global) -> Result<(), Mistake> {
     let february = made!("February's text", february_text(alloc))?;
     let closed: &[&[u8]] = &[b"24011"];
     let mut plan = made!("the plan PL", january_plan(alloc, b"2024-01-16", closed))?;
-    answered!("Plan::extend", extend(&mut plan, &february))
+    answered!("Plan::extend", extend(&mut plan, &february))?;
+    answered!("Plan::copied", copy(&plan))
 }

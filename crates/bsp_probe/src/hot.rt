@@ -58,7 +58,7 @@ fn file_of(alloc: Global, of: &[u8], period: &[u8], lines: &[&[u8]]) -> Option<H
 fn answer_to(written: Result<Vec<u8>, HotFault>, file: &HotFile) -> Answer {
     match written {
         Ok(text) => Answer::value(text == file.text),
-        Err(fault) => Answer::fault(fault == HotFault::H03),
+        Err(fault) => Answer::fault(fault == HotFault::NoMemory),
     }
 }
 

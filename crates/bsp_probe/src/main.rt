@@ -16,6 +16,7 @@ mod lines;
 mod money;
 mod plan;
 mod plan_text;
+mod postings;
 mod reports;
 mod ret;
 
@@ -31,6 +32,7 @@ fn make_calls(alloc: Global) -> Result<(), Mistake> {
     money::make_calls(alloc)?;
     plan_text::make_calls(alloc)?;
     let book = made!("the book", sample_book(alloc))?;
+    postings::make_calls(alloc, &book)?;
     reports::make_calls(alloc, &book)?;
     hot::make_calls(alloc, &book)
 }

@@ -1,4 +1,7 @@
 -- Lemmas on the rules.
 pub mod CommissionLemmas
+pub mod SharedLemmas
 pub mod SelectedLemmas
 pub mod SameContentLemmas
+pub mod FoundLemmas
+pub mod MeaningLemmas

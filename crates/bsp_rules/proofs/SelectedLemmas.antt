@@ -11,9 +11,10 @@ use Rattle.bsp_ret.specs.declared.transactions.Transaction.{Transaction}
 use Rattle.bsp_rules.specs.declared.facts.Facts.{Facts}
 use Rattle.bsp_rules.specs.declared.rows.Item.{Item}
 use Rattle.bsp_rules.specs.declared.rows.Range.{Range}
-use Rattle.bsp_rules.specs.Rows.{cancelled, has_number, held_period, is_canx, is_living_relation, is_past, is_ticket, names, names_number, relates, ticket, used, used_elsewhere, used_in_closed_period}
+use Rattle.bsp_rules.specs.Rows.{cancelled, has_number, held_period, is_canx, is_living_relation, is_past, is_ticket, names, relates, ticket, used, used_elsewhere, used_in_closed_period}
 use Rattle.bsp_rules.specs.SameContent.{same_code, same_content, same_document}
 use Rattle.bsp_rules.specs.FactsOf.{facts_in, own_number, related_document}
+use Rattle.bsp_rules.proofs.SharedLemmas.{bytes_swapped, named_among}
 use Rattle.bsp_rules.specs.Selected.{AreSelected, is_among, numbers_of, selected, shares, without_count}
 
 -- ---- tests that only kept elements pass
@@ -39,10 +40,6 @@ same_bytes xs ys h = (bytes_eq-Decides xs ys).0 h
 bytes_same : (xs : List ℕ) → bytes_eq xs xs ≡ true
 bytes_same xs = (bytes_eq-Decides xs xs).1 refl
 
--- a test that takes equal texts
-bytes_swapped : (xs ys : List ℕ) → bytes_eq xs ys ≡ true → bytes_eq ys xs ≡ true
-bytes_swapped xs ys h = (bytes_eq-Decides ys xs).1 (sym (same_bytes xs ys h))
-
 is_among-same : (number other : List ℕ) (numbers : List (List ℕ)) → bytes_eq number other ≡ true → is_among number numbers ≡ true → is_among other numbers ≡ true
 is_among-same number other numbers e h = let P : List ℕ → Type 0 = λ n. is_among n numbers ≡ true in subst P (same_bytes number other e) h
 
@@ -57,28 +54,14 @@ in_both number numbers (other ∷ others) h g =
 
 -- ---- the numbers of a transaction
 
-number_in : Option ReportedDocument → Option (List ℕ)
-number_in place = option_map (λ d. d.number) place
-
--- a number that related places name is among their numbers
-named_is_among : (number : List ℕ) (places : List (Option ReportedDocument)) → list_any (names_number number) places ≡ true → is_among number (filter_map (λ place. option_map (λ d. d.number) place) places) ≡ true
-named_is_among number [] h = h
-named_is_among number (None ∷ places) h = named_is_among number places h
-named_is_among number (Some d ∷ places) h =
-    let rest = filter_map (λ place. option_map (λ (e : ReportedDocument). e.number) place) places in
-    elim (or_cases (bytes_eq d.number number) (list_any (names_number number) places) h) as (λ _. is_among number (d.number ∷ rest) ≡ true) [
-      | inl e ↦ or_left (bytes_eq number d.number) (is_among number rest) (bytes_swapped d.number number e)
-      | inr e ↦ or_right (bytes_eq number d.number) (is_among number rest) (named_is_among number places e)
-    ]
-
 -- an item with the number, and one that names it, share it with every list that has it
 kept_by_number : (number : List ℕ) (numbers : List (List ℕ)) → is_among number numbers ≡ true → (i : Item) → has_number number i ≡ true → shares numbers i ≡ true
 kept_by_number number numbers h i own =
-    in_both number numbers (numbers_of i.transaction) h (or_left _ _ (bytes_swapped i.transaction.document.number number own))
+    in_both number numbers (numbers_of i.transaction) h (or_left _ _ (sym (bytes_swapped i.transaction.document.number number) ∙ own))
 
 kept_by_name : (number : List ℕ) (numbers : List (List ℕ)) → is_among number numbers ≡ true → (i : Item) → names number i.transaction ≡ true → shares numbers i ≡ true
 kept_by_name number numbers h i named =
-    in_both number numbers (numbers_of i.transaction) h (or_right _ _ (named_is_among number i.transaction.related named))
+    in_both number numbers (numbers_of i.transaction) h (or_right _ _ (sym (named_among number i.transaction.related) ∙ named))
 
 own_is_among : (t : Transaction) → is_among t.document.number (numbers_of t) ≡ true
 own_is_among t = or_left (bytes_eq t.document.number t.document.number) _ (bytes_same t.document.number)

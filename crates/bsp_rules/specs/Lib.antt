@@ -9,3 +9,4 @@ pub mod Rows
 pub mod FactsOf
 pub mod Selected
 pub mod Verdicts
+pub mod Meanings

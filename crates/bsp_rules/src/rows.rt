@@ -1,9 +1,9 @@
-//! The rows of an agent that a verdict reads, and the sums over them.
+//! The rows of an agent that a verdict reads.
 
 ghost use Rattle.std.specs.Prelude.{◌≡◌};
 ghost use Rattle.bsp_rules.specs.Nets.{lives_in};
 
-use bsp_fields::{AgentCode, AirlineCode, DocNumber, PeriodCode};
+use bsp_fields::{AgentCode, DocNumber, PeriodCode};
 use bsp_ret::Transaction;
 
 /// A transaction as it was accepted.
@@ -35,31 +35,4 @@ pub struct Range {
     pub first: DocNumber,
     /// The last document number.
     pub last: DocNumber,
-}
-
-/// What an agent's rows of an airline and a period add up to: counts, and sums in minor units.
-#[derive(Clone, Copy, Debug, PartialEq, Eq)]
-pub struct Tally {
-    /// The agent.
-    pub agent: AgentCode,
-    /// The airline.
-    pub airline: AirlineCode,
-    /// The period.
-    pub period: PeriodCode,
-    /// All accepted transactions, cancelled ones and CANX too.
-    pub accepted: u32,
-    /// The living TKTT and RFND.
-    pub living: u32,
-    /// The CANX.
-    pub canx: u32,
-    /// The memos billed.
-    pub memo_count: u32,
-    /// The cash (form CA) of the living TKTT and RFND.
-    pub cash: i64,
-    /// The credit (form CC) of the living TKTT and RFND.
-    pub credit: i64,
-    /// The commission of the living TKTT and RFND.
-    pub commission: i64,
-    /// The memos billed: debit memos less credit memos.
-    pub memos: i64,
 }

@@ -72,7 +72,7 @@ pub(crate) fn is_used_in_closed_period(plan: &Plan, number: &[u8; 10], items: &[
 }
 
 /// Whether one of the related documents has the number.
-fn names(transaction: &Transaction, number: &[u8; 10]) -> bool
+pub(crate) fn names(transaction: &Transaction, number: &[u8; 10]) -> bool
     ensures { result ≡ names number.now transaction.now }
 {
     transaction.related.iter().any(|place| match place {

@@ -56,13 +56,15 @@ fn plan(alloc: Global, documents_limit: u32, day: &[u8]) -> Option<Plan> {
 /// An agent's rows, and the plan.
 #[derive(Drop)]
 struct World {
+    agent: [u8; 8],
     range: Range,
     items: Vec<Item>,
     plan: Plan,
 }
 
-fn empty_world(alloc: Global, range: Range, plan: Plan) -> World {
+fn empty_world(alloc: Global, agent: [u8; 8], range: Range, plan: Plan) -> World {
     World {
+        agent,
         range,
         items: Vec::new(alloc),
         plan,
@@ -88,7 +90,7 @@ fn other_stock() -> Option<Range> {
 /// The empty rows of agent 12345675 on 2024-01-05.
 fn start(alloc: Global) -> Option<World> {
     let plan = plan(alloc, 1000, b"2024-01-05")?;
-    Some(empty_world(alloc, stock()?, plan))
+    Some(empty_world(alloc, *b"12345675", stock()?, plan))
 }
 
 fn judged_by(reporter: Reporter, transaction: &Transaction, facts: &Facts, plan: &Plan) -> Verdict {
@@ -140,20 +142,6 @@ fn verdict_text(verdict: Verdict) -> &'static str {
         Verdict::Held(period) => in_first_period(period, "held"),
         Verdict::Refused(refusal) => refusal.code(),
     }
-}
-
-/// The verdict on a transaction as text. It joins the rows where it is accepted.
-fn report(world: &mut World, transaction: Option<Transaction>) -> &'static str {
-    let Some(transaction) = &transaction else {
-        return "no transaction";
-    };
-    let verdict = judged(world, transaction);
-    if let Verdict::Accepted(period) = verdict {
-        if accept(world, transaction, period).is_none() {
-            return "no memory";
-        }
-    }
-    verdict_text(verdict)
 }
 
 fn document(number: &[u8; 10], check_digit: u8) -> Option<ReportedDocument> {
@@ -303,11 +291,14 @@ fn of_airline(transaction: Option<Transaction>, code: &[u8]) -> Option<Transacti
     Some(transaction)
 }
 
-fn of_other_agent(transaction: Option<Transaction>) -> Option<Transaction> {
+fn by_agent(transaction: Option<Transaction>, agent: [u8; 8]) -> Option<Transaction> {
     let mut transaction = transaction?;
-    let agent = *b"76543213";
     transaction.agent = agent;
     Some(transaction)
+}
+
+fn of_other_agent(transaction: Option<Transaction>) -> Option<Transaction> {
+    by_agent(transaction, *b"76543213")
 }
 
 fn of_other_passenger(transaction: Option<Transaction>) -> Option<Transaction> {
@@ -400,104 +391,6 @@ fn commission_is_rounded_away_from_zero(rt: HostRuntime) {
     }
 }
 
-fn net_of(transaction: Option<Transaction>) -> Option<i64> {
-    Some(net(item(transaction).as_ref()?))
-}
-
-fn net_sum(items: &[Item]) -> i64 {
-    let mut sum = 0;
-    for item in items {
-        sum = net(item).wrapping_add(sum);
-    }
-    sum
-}
-
-#[test]
-fn net_is_cash_less_commission(rt: HostRuntime) {
-    let cases = [
-        (net_of(ticket()), 22_500),
-        (net_of(whole_refund(b"1300000002", 0)), -22_500),
-        (net_of(exchanged()), 4_750),
-        (net_of(canx(b"1300000001", 6)), 0),
-    ];
-    for (told, amount) in cases {
-        assert_eq!(rt; told, Some(amount));
-    }
-}
-
-/// The sale of a number for 0.99 at half a per cent.
-fn below_half(number: &[u8; 10], check_digit: u8, commission: i64) -> Option<Transaction> {
-    sale(number, check_digit, amounts(99, 0, 50, commission), 99)
-}
-
-#[test]
-fn a_half_minor_unit_counts_as_one(rt: HostRuntime) -> Result<(), Fail> {
-    let mut world = start(rt.alloc()).ok_or("no world")?;
-    let back = refund(b"1300000004", 2, amounts(-100, 0, 50, -1), -100);
-    let dear = sale(b"1300000005", 3, amounts(20_000, 3_500, 501, 1_002), 23_500);
-    let told = [
-        report(&mut world, cheap_sale(b"1300000001", 6)),
-        report(&mut world, below_half(b"1300000002", 0, 0)),
-        report(&mut world, below_half(b"1300000003", 1, 1)),
-        report(&mut world, back),
-        report(&mut world, dear),
-    ];
-    assert_eq!(rt; told, ["accepted", "accepted", "E07", "accepted", "E07"]);
-    Ok(())
-}
-
-#[test]
-fn a_refund_needs_its_ticket(rt: HostRuntime) -> Result<(), Fail> {
-    let mut world = start(rt.alloc()).ok_or("no world")?;
-    let told = [
-        report(&mut world, whole_refund(b"1300000002", 0)),
-        report(&mut world, ticket()),
-        report(&mut world, whole_refund(b"1300000002", 0)),
-        report(&mut world, ticket()),
-    ];
-    assert_eq!(rt; told, ["E08", "accepted", "accepted", "held"]);
-    assert_eq!(rt; net_sum(&world.items), 0);
-    Ok(())
-}
-
-#[test]
-fn a_cancelled_number_stays_used(rt: HostRuntime) -> Result<(), Fail> {
-    let mut world = start(rt.alloc()).ok_or("no world")?;
-    let told = [
-        report(&mut world, ticket()),
-        report(&mut world, canx(b"1300000001", 6)),
-        report(&mut world, ticket()),
-        report(&mut world, canx(b"1300000001", 6)),
-        report(&mut world, of_other_passenger(ticket())),
-        report(&mut world, canx(b"1300000005", 3)),
-        report(&mut world, cheap_sale(b"1300000005", 3)),
-    ];
-    assert_eq!(rt;
-        told,
-        [
-            "accepted", "accepted", "held", "held", "E06", "accepted", "E06"
-        ]
-    );
-    Ok(())
-}
-
-#[test]
-fn an_exchange_takes_its_ticket(rt: HostRuntime) -> Result<(), Fail> {
-    let mut world = start(rt.alloc()).ok_or("no world")?;
-    let told = [
-        report(&mut world, ticket()),
-        report(&mut world, exchanged()),
-        report(&mut world, whole_refund(b"1300000004", 2)),
-        report(&mut world, canx(b"1300000003", 1)),
-        report(&mut world, whole_refund(b"1300000004", 2)),
-    ];
-    assert_eq!(rt;
-        told,
-        ["accepted", "accepted", "E09", "accepted", "accepted"]
-    );
-    Ok(())
-}
-
 /// The refund of a fare of 200.01, which is more than the ticket's.
 fn refund_beyond() -> Option<Transaction> {
     let amounts = amounts(-20_001, -3_500, 500, -1_000);
@@ -509,85 +402,246 @@ fn part_refund() -> Option<Transaction> {
     refund(b"1300000002", 0, amounts(-10_000, 0, 500, -500), -10_000)
 }
 
-#[test]
-fn a_refund_is_within_its_ticket(rt: HostRuntime) -> Result<(), Fail> {
-    let mut world = start(rt.alloc()).ok_or("no world")?;
-    let below = exchange(b"1300000002", 0, amounts(15_000, 3_500, 500, 0), -5_000);
-    let told = [
-        report(&mut world, ticket()),
-        report(&mut world, refund_beyond()),
-        report(&mut world, below),
-        report(&mut world, part_refund()),
-    ];
-    assert_eq!(rt; told, ["accepted", "E12", "E07", "accepted"]);
-    assert_eq!(rt; net_of(part_refund()), Some(-9_500));
-    Ok(())
-}
-
-/// The rows of a stock under a plan with a documents limit of 2.
-fn limited(alloc: Global, range: Option<Range>) -> Option<World> {
-    let plan = plan(alloc, 2, b"2024-01-05")?;
-    Some(empty_world(alloc, range?, plan))
+fn net_of(transaction: Option<Transaction>) -> Option<i64> {
+    Some(net(item(transaction).as_ref()?))
 }
 
 #[test]
-fn the_limit_counts_cancelled_ones(rt: HostRuntime) -> Result<(), Fail> {
-    let mut world = limited(rt.alloc(), stock()).ok_or("no world")?;
-    let elsewhere = of_airline(sale(b"1300000002", 0, amounts(100, 0, 0, 0), 100), b"220");
-    let told = [
-        report(&mut world, ticket()),
-        report(&mut world, canx(b"1300000001", 6)),
-        report(&mut world, cheap_sale(b"1300000002", 0)),
-        report(&mut world, elsewhere),
+fn net_is_cash_less_commission(rt: HostRuntime) {
+    let cases = [
+        (net_of(ticket()), 22_500),
+        (net_of(whole_refund(b"1300000002", 0)), -22_500),
+        (net_of(part_refund()), -9_500),
+        (net_of(exchanged()), 4_750),
+        (net_of(canx(b"1300000001", 6)), 0),
     ];
-    assert_eq!(rt; told, ["accepted", "accepted", "E11", "accepted"]);
-    Ok(())
+    for (told, amount) in cases {
+        assert_eq!(rt; told, Some(amount));
+    }
 }
 
-/// Reports a transaction of agent 76543213.
-fn report_by_other(world: &mut World, transaction: Option<Transaction>) -> &'static str {
-    report(world, of_other_agent(transaction))
+/// What happens to an agent's rows: a report of 2024-01-05, or the close of a period.
+#[derive(Clone, Copy)]
+enum Step {
+    /// The sale of 1300000001 at a fare of 200.00, with a tax of 35.00 and a commission of 10.00.
+    Ticket,
+    /// The same of another passenger.
+    OtherPassenger,
+    /// A sale in cash.
+    Sale(&'static [u8; 10], u8, Money),
+    /// A sale of airline 220.
+    Elsewhere(&'static [u8; 10], u8, Money),
+    /// A refund of the ticket.
+    Refund(&'static [u8; 10], u8, Money),
+    /// A sale for which the ticket is taken in exchange.
+    Exchange(&'static [u8; 10], u8, Money),
+    Canx(&'static [u8; 10], u8),
+    /// The close of the first period on the day after its last.
+    Close,
 }
 
-#[test]
-fn another_agent_has_rows_of_its_own(rt: HostRuntime) -> Result<(), Fail> {
-    let mut world = limited(rt.alloc(), other_stock()).ok_or("no world")?;
-    let told = [
-        report_by_other(&mut world, ticket()),
-        report_by_other(&mut world, whole_refund(b"1400000000", 0)),
-        report_by_other(&mut world, cheap_sale(b"1400000000", 0)),
-    ];
-    assert_eq!(rt; told, ["E05", "E08", "accepted"]);
-    Ok(())
+/// Fare, the tax RA (none where it is 0), rate, commission and cash.
+type Money = (i64, i64, u16, i64, i64);
+
+const WHOLE: Money = (-20_000, -3_500, 500, -1_000, -23_500);
+
+const CHEAP: Money = (100, 0, 50, 1, 100);
+
+fn paid((fare, tax, rate, commission, _): Money) -> Option<Amounts> {
+    amounts(fare, tax, rate, commission)
+}
+
+/// The transaction that a step reports.
+fn reported(step: Step) -> Option<Transaction> {
+    match step {
+        Step::Ticket => ticket(),
+        Step::OtherPassenger => of_other_passenger(ticket()),
+        Step::Sale(number, digit, money) => sale(number, digit, paid(money), money.4),
+        Step::Elsewhere(number, digit, money) => {
+            of_airline(sale(number, digit, paid(money), money.4), b"220")
+        }
+        Step::Refund(number, digit, money) => refund(number, digit, paid(money), money.4),
+        Step::Exchange(number, digit, money) => exchange(number, digit, paid(money), money.4),
+        Step::Canx(number, digit) => canx(number, digit),
+        Step::Close => None,
+    }
 }
 
 /// Closes the first period on the day after its last.
-fn close_first_period(plan: &mut Plan) -> bool {
-    let (Ok(day), Ok(code)) = (Day::read_text(b"2024-01-16"), PeriodCode::read(b"24011")) else {
-        return false;
+fn close_first_period(plan: &mut Plan) -> Option<()> {
+    plan.set_day(Day::read_text(b"2024-01-16").ok()?).ok()?;
+    plan.close_next(PeriodCode::read(b"24011").ok()?).ok()?;
+    Some(())
+}
+
+/// The verdict on a transaction as text. It joins the rows where it is accepted.
+fn report(world: &mut World, transaction: &Transaction) -> Option<&'static str> {
+    let verdict = judged(world, transaction);
+    if let Verdict::Accepted(period) = verdict {
+        accept(world, transaction, period)?;
+    }
+    Some(verdict_text(verdict))
+}
+
+fn take(world: &mut World, step: Step) -> Option<&'static str> {
+    if let Step::Close = step {
+        close_first_period(&mut world.plan)?;
+        return Some("closed");
+    }
+    let transaction = by_agent(reported(step), world.agent);
+    let Some(transaction) = &transaction else {
+        return None;
     };
-    plan.set_day(day).is_ok() && plan.close_next(code).is_ok()
+    report(world, transaction)
+}
+
+/// How many of the steps end as they say, up to the first that does not; none without rows.
+fn followed(world: Option<World>, steps: &[(Step, &'static str)]) -> usize {
+    let Some(mut world) = world else {
+        return 0;
+    };
+    for (place, (step, wanted)) in steps.iter().enumerate() {
+        if take(&mut world, *step) != Some(*wanted) {
+            return place;
+        }
+    }
+    steps.len()
+}
+
+const HALVES: [(Step, &str); 5] = [
+    (Step::Sale(b"1300000001", 6, CHEAP), "accepted"),
+    (Step::Sale(b"1300000002", 0, (99, 0, 50, 0, 99)), "accepted"),
+    (Step::Sale(b"1300000003", 1, (99, 0, 50, 1, 99)), "E07"),
+    (
+        Step::Refund(b"1300000004", 2, (-100, 0, 50, -1, -100)),
+        "accepted",
+    ),
+    (
+        Step::Sale(b"1300000005", 3, (20_000, 3_500, 501, 1_002, 23_500)),
+        "E07",
+    ),
+];
+
+const REFUNDS: [(Step, &str); 4] = [
+    (Step::Refund(b"1300000002", 0, WHOLE), "E08"),
+    (Step::Ticket, "accepted"),
+    (Step::Refund(b"1300000002", 0, WHOLE), "accepted"),
+    (Step::Ticket, "held"),
+];
+
+const CANCELLED: [(Step, &str); 7] = [
+    (Step::Ticket, "accepted"),
+    (Step::Canx(b"1300000001", 6), "accepted"),
+    (Step::Ticket, "held"),
+    (Step::Canx(b"1300000001", 6), "held"),
+    (Step::OtherPassenger, "E06"),
+    (Step::Canx(b"1300000005", 3), "accepted"),
+    (Step::Sale(b"1300000005", 3, CHEAP), "E06"),
+];
+
+const EXCHANGED: [(Step, &str); 5] = [
+    (Step::Ticket, "accepted"),
+    (
+        Step::Exchange(b"1300000003", 1, (25_000, 3_500, 500, 250, 5_000)),
+        "accepted",
+    ),
+    (Step::Refund(b"1300000004", 2, WHOLE), "E09"),
+    (Step::Canx(b"1300000003", 1), "accepted"),
+    (Step::Refund(b"1300000004", 2, WHOLE), "accepted"),
+];
+
+const WITHIN: [(Step, &str); 4] = [
+    (Step::Ticket, "accepted"),
+    (
+        Step::Refund(b"1300000002", 0, (-20_001, -3_500, 500, -1_000, -23_501)),
+        "E12",
+    ),
+    (
+        Step::Exchange(b"1300000002", 0, (15_000, 3_500, 500, 0, -5_000)),
+        "E07",
+    ),
+    (
+        Step::Refund(b"1300000002", 0, (-10_000, 0, 500, -500, -10_000)),
+        "accepted",
+    ),
+];
+
+const LIMITED: [(Step, &str); 4] = [
+    (Step::Ticket, "accepted"),
+    (Step::Canx(b"1300000001", 6), "accepted"),
+    (Step::Sale(b"1300000002", 0, CHEAP), "E11"),
+    (
+        Step::Elsewhere(b"1300000002", 0, (100, 0, 0, 0, 100)),
+        "accepted",
+    ),
+];
+
+const CLOSED: [(Step, &str); 4] = [
+    (Step::Ticket, "accepted"),
+    (Step::Close, "closed"),
+    (Step::Canx(b"1300000001", 6), "E09"),
+    (Step::Ticket, "held"),
+];
+
+const OTHER_AGENT: [(Step, &str); 3] = [
+    (Step::Ticket, "E05"),
+    (Step::Refund(b"1400000000", 0, WHOLE), "E08"),
+    (Step::Sale(b"1400000000", 0, CHEAP), "accepted"),
+];
+
+#[test]
+fn a_half_minor_unit_counts_as_one(rt: HostRuntime) {
+    assert_eq!(rt; followed(start(rt.alloc()), &HALVES), HALVES.len());
 }
 
 #[test]
-fn a_closed_period_stays(rt: HostRuntime) -> Result<(), Fail> {
-    let mut world = start(rt.alloc()).ok_or("no world")?;
-    let sold = report(&mut world, ticket());
-    assert!(rt; close_first_period(&mut world.plan));
-    let told = [
-        sold,
-        report(&mut world, canx(b"1300000001", 6)),
-        report(&mut world, ticket()),
-    ];
-    assert_eq!(rt; told, ["accepted", "E09", "held"]);
-    Ok(())
+fn a_refund_needs_its_ticket(rt: HostRuntime) {
+    assert_eq!(rt; followed(start(rt.alloc()), &REFUNDS), REFUNDS.len());
+}
+
+#[test]
+fn a_cancelled_number_stays_used(rt: HostRuntime) {
+    assert_eq!(rt; followed(start(rt.alloc()), &CANCELLED), CANCELLED.len());
+}
+
+#[test]
+fn an_exchange_takes_its_ticket(rt: HostRuntime) {
+    assert_eq!(rt; followed(start(rt.alloc()), &EXCHANGED), EXCHANGED.len());
+}
+
+#[test]
+fn a_refund_is_within_its_ticket(rt: HostRuntime) {
+    assert_eq!(rt; followed(start(rt.alloc()), &WITHIN), WITHIN.len());
+}
+
+/// The empty rows of an agent under a plan with a documents limit of 2.
+fn limited(alloc: Global, agent: [u8; 8], range: Option<Range>) -> Option<World> {
+    let plan = plan(alloc, 2, b"2024-01-05")?;
+    Some(empty_world(alloc, agent, range?, plan))
+}
+
+#[test]
+fn the_limit_counts_cancelled_ones(rt: HostRuntime) {
+    let world = limited(rt.alloc(), *b"12345675", stock());
+    assert_eq!(rt; followed(world, &LIMITED), LIMITED.len());
+}
+
+#[test]
+fn another_agent_has_rows_of_its_own(rt: HostRuntime) {
+    let world = limited(rt.alloc(), *b"76543213", other_stock());
+    assert_eq!(rt; followed(world, &OTHER_AGENT), OTHER_AGENT.len());
+}
+
+#[test]
+fn a_closed_period_stays(rt: HostRuntime) {
+    assert_eq!(rt; followed(start(rt.alloc()), &CLOSED), CLOSED.len());
 }
 
 /// The verdict on a transaction by the empty rows, as text.
 fn first_told(alloc: Global, transaction: Option<Transaction>) -> &'static str {
-    match start(alloc) {
-        Some(mut world) => report(&mut world, transaction),
-        None => "no world",
+    match (start(alloc), &transaction) {
+        (Some(world), Some(transaction)) => verdict_text(judged(&world, transaction)),
+        _ => "no case",
     }
 }
 
@@ -724,8 +778,12 @@ fn told_late(alloc: Global) -> &'static str {
 }
 
 #[test]
-fn no_period_is_e10(rt: HostRuntime) -> Result<(), Fail> {
+fn no_period_is_e10(rt: HostRuntime) {
     assert_eq!(rt; told_late(rt.alloc()), "E10");
+}
+
+#[test]
+fn a_refusal_has_its_text(rt: HostRuntime) -> Result<(), Fail> {
     let told = format!(in rt.alloc(); "{}", Refusal::NoPeriod)?;
     assert_eq!(rt; told.as_str(), "E10: there is no period to bill it in");
     Ok(())

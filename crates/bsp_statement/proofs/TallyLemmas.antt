@@ -1,92 +1,20 @@
 -- Where tallies are the sums of rows, their postings add up to what the rows' postings add up to.
 use Rattle.std.proofs.Common.{◌≡◌, ℕ, zero, suc, ◌+◌, ◌<◌, ◌==◌, refl, ap, subst, ◌∙◌, sym, inl, inr, Bool, true, false, ◌&&◌, ◌||◌, List, [], ◌∷◌, map, length, get_or, arith, cond}
 use Rattle.std.specs.Prelude.{ℤ, pos, ◌+ℤ◌, ◌-ℤ◌, nat_lt}
-use Rattle.std.specs.List.{filter, sum_by, All, AllPairs, Contains}
-use Rattle.std.proofs.lemmas.Bool.{cases_Bool, cond_both, eqb-true, eq-eqb, and_parts, and_from, or_left, or_right, or_cases, lt-ltb, ltb-true, false_from_ne_true, true≢false}
-use Rattle.std.proofs.lemmas.Int.{ints}
+use Rattle.std.specs.List.{filter, sum_by, Contains}
+use Rattle.std.proofs.lemmas.Bool.{cases_Bool, cond_both, eqb-true, eq-eqb, and_parts, and_from, or_left, or_right, or_cases, lt-ltb, ltb-true, true≢false}
 use Rattle.std.proofs.lemmas.List.Sums.{sum_by-cons}
-use Rattle.std.proofs.lemmas.List.Elements.{All-head, All-tail, All-contains}
+use Rattle.std.proofs.lemmas.List.Elements.{All-contains}
 use Rattle.bsp_rules.specs.declared.rows.Item.{Item}
-use Rattle.bsp_rules.specs.declared.rows.Tally.{Tally}
+use Rattle.bsp_postings.specs.declared.tally.Tally.{Tally}
 use Rattle.bsp_memos.specs.declared.fields.MemoFields.{MemoFields}
-use Rattle.bsp_statement.specs.declared.posting.Posting.{Posting}
-use Rattle.bsp_statement.specs.Postings.{postings}
+use Rattle.bsp_postings.specs.declared.posting.Posting.{Posting}
+use Rattle.bsp_postings.specs.Postings.{postings}
 use Rattle.bsp_statement.specs.Sums.{figures_of}
-use Rattle.bsp_statement.specs.Tallies.{is_used, tally_posting, tally_postings, is_under, under, IsTallyOf, same_key, AreTallies}
+use Rattle.bsp_postings.specs.Tallies.{is_used, tally_posting, tally_postings, is_under, under, IsTallyOf, same_key, AreTallies}
+use Rattle.bsp_postings.proofs.ListLemmas.{contains_more, kept, keeps, filter_none}
 use Rattle.bsp_statement.proofs.RunningLemmas.{figures_same}
-use Rattle.bsp_statement.proofs.SumLemmas.{sums, sums-cons, sums_agree, sums-filter, sums-map, sums_nothing, sums_over}
-
--- ---- elements of filtered and mapped lists
-
-contains_more : {X : Type 0} (x y : X) (xs : List X) → Contains xs y → Contains (x ∷ xs) y
-contains_more x y xs has = (suc has.0, omega (arith, has.1), has.2)
-
-abbrev IsKept : {X Y : Type 0} → (X → Y) → (X → Bool) → List X → Y → Type 0
-IsKept {X} f test xs y = (x : X) × Contains xs x × (test x ≡ true) × (f x ≡ y)
-
-kept_later : {X Y : Type 0} (f : X → Y) (test : X → Bool) (x : X) (xs : List X) (y : Y) → IsKept f test xs y → IsKept f test (x ∷ xs) y
-kept_later f test x xs y found = (found.0, contains_more x found.0 xs found.1, found.2, found.3)
-
-kept_here : {X Y : Type 0} (f : X → Y) (test : X → Bool) (x : X) (xs : List X) (y : Y) → test x ≡ true → (Contains (map f (filter test xs)) y → IsKept f test xs y) → Contains (map f (x ∷ filter test xs)) y → IsKept f test (x ∷ xs) y
-kept_here f test x xs y passes rest (zero, below, is) = (x, (0, omega arith, refl), passes, is)
-kept_here f test x xs y passes rest (suc k, below, is) = kept_later f test x xs y (rest (k, omega (arith, below), is))
-
-kept : {X Y : Type 0} (f : X → Y) (test : X → Bool) (xs : List X) (y : Y) → Contains (map f (filter test xs)) y → IsKept f test xs y
-kept f test [] y (k, below, is) = absurd (omega (arith, below))
-kept {X} {Y} f test (x ∷ xs) y has = elim (cases_Bool (test x)) [
-  | inl passes ↦ kept_here f test x xs y passes (kept f test xs y) (subst (λ (b : Bool). Contains (map f (cond b (x ∷ filter test xs) (filter test xs))) y) passes has)
-  | inr fails ↦ kept_later f test x xs y (kept f test xs y (subst (λ (b : Bool). Contains (map f (cond b (x ∷ filter test xs) (filter test xs))) y) fails has))
-]
-
-keeps : {X Y : Type 0} (f : X → Y) (test : X → Bool) (xs : List X) (x : X) → Contains xs x → test x ≡ true → Contains (map f (filter test xs)) (f x)
-keeps f test [] x (k, below, is) passes = absurd (omega (arith, below))
-keeps f test (z ∷ xs) x (zero, below, is) passes =
-    let first : test z ≡ true = ap test is ∙ passes in
-    subst (λ (b : Bool). Contains (map f (cond b (z ∷ filter test xs) (filter test xs))) (f x)) (sym first) (0, omega arith, ap f is)
-keeps f test (z ∷ xs) x (suc k, below, is) passes =
-    let rest = keeps f test xs x (k, omega (arith, below), is) passes in
-    cond_both (test z) (z ∷ filter test xs) (filter test xs) (λ ys. Contains (map f ys) (f x)) (λ first. contains_more (f z) (f x) (map f (filter test xs)) rest) (λ other. rest)
-
--- ---- a test that one element passes
-
-none_pass : {C : Type 0} (test : C → Bool) (v : ℤ) (cs : List C) → All (λ c. test c ≡ false) cs → sums (λ c. cond (test c) v (pos 0)) cs ≡ pos 0
-none_pass test v [] all = refl
-none_pass test v (c ∷ cs) all =
-    sums-cons (λ d. cond (test d) v (pos 0)) c cs
-    ∙ ap (λ (n : ℤ). cond (test c) v (pos 0) +ℤ n) (none_pass test v cs (All-tail (λ d. test d ≡ false) c cs all))
-    ∙ ap (λ (b : Bool). cond b v (pos 0) +ℤ pos 0) (All-head (λ d. test d ≡ false) c cs all)
-
-add_none : (x : ℤ) → x +ℤ pos 0 ≡ x
-add_none x = omega (arith, ints)
-
-none_add : (x : ℤ) → pos 0 +ℤ x ≡ x
-none_add x = omega (arith, ints)
-
-single : {C : Type 0} (test : C → Bool) (v : ℤ) (cs : List C) → AllPairs (λ s t. test s ≡ true → test t ≡ true → ⊥) cs → (c : C) → Contains cs c → test c ≡ true → sums (λ d. cond (test d) v (pos 0)) cs ≡ v
-single test v [] apart c (k, below, is) passes = absurd (omega (arith, below))
-single {C} test v (x ∷ cs) apart c has passes =
-    sums-cons (λ d. cond (test d) v (pos 0)) x cs
-    ∙ elim (cases_Bool (test x)) [
-      | inl here ↦
-          ap (λ (b : Bool). cond b v (pos 0) +ℤ sums (λ d. cond (test d) v (pos 0)) cs) here
-          ∙ ap (λ (n : ℤ). v +ℤ n) (none_pass test v cs (λ k d below. false_from_ne_true (test (get_or cs k d)) (apart 0 (suc k) d (omega arith) (omega (arith, below)) here)))
-          ∙ add_none v
-      | inr there ↦
-          ap (λ (b : Bool). cond b v (pos 0) +ℤ sums (λ d. cond (test d) v (pos 0)) cs) there
-          ∙ none_add (sums (λ d. cond (test d) v (pos 0)) cs)
-          ∙ single test v cs (λ i j d less below. apart (suc i) (suc j) d (omega arith) (omega (arith, below))) c (in_rest has there) passes
-    ] where
-      in_rest : Contains (x ∷ cs) c → test x ≡ false → Contains cs c
-      in_rest (zero, below, is) there = let e : test x ≡ true = ap test is ∙ passes in cc
-      in_rest (suc k, below, is) there = (k, omega (arith, below), is)
-
-sums_agree_on : {R : Type 0} (f g : R → ℤ) (rows : List R) → All (λ r. f r ≡ g r) rows → sums f rows ≡ sums g rows
-sums_agree_on f g [] all = refl
-sums_agree_on f g (r ∷ rows) all =
-    sums-cons f r rows
-    ∙ ap (λ (n : ℤ). n +ℤ sums f rows) (All-head (λ q. f q ≡ g q) r rows all)
-    ∙ ap (λ (n : ℤ). g r +ℤ n) (sums_agree_on f g rows (All-tail (λ q. f q ≡ g q) r rows all))
-    ∙ sym (sums-cons g r rows)
+use Rattle.bsp_postings.proofs.SumLemmas.{sums, sums-cons, sums_agree, sums-filter, sums-map, sums_nothing, sums_over, sums_agree_on, single}
 
 masked : {R : Type 0} (f : R → ℤ) (b : Bool) (rows : List R) → sums (λ r. cond b (f r) (pos 0)) rows ≡ cond b (sums f rows) (pos 0)
 masked f true rows = refl
@@ -100,23 +28,6 @@ documents_as_int (p ∷ rows) =
     ∙ sym (sums-cons (λ (q : Posting). pos q.documents) p rows)
 
 -- ---- filters
-
-filter_none : {X : Type 0} (xs : List X) → filter (λ x. false) xs ≡ []
-filter_none [] = refl
-filter_none (x ∷ xs) = filter_none xs
-
-pub filter_all : {X : Type 0} (xs : List X) → filter (λ x. true) xs ≡ xs
-filter_all [] = refl
-filter_all (x ∷ xs) = ap (λ rest. x ∷ rest) (filter_all xs)
-
-filter_step : {X : Type 0} (first second : X → Bool) (x : X) (xs : List X) (b c : Bool) → filter second (filter first xs) ≡ filter (λ y. first y && second y) xs → second x ≡ c → filter second (cond b (x ∷ filter first xs) (filter first xs)) ≡ cond (b && c) (x ∷ filter (λ y. first y && second y) xs) (filter (λ y. first y && second y) xs)
-filter_step {X} first second x xs true c rest is =
-    ap (λ (d : Bool). cond d (x ∷ filter second (filter first xs)) (filter second (filter first xs))) is ∙ ap (λ (ys : List X). cond c (x ∷ ys) ys) rest
-filter_step first second x xs false c rest is = rest
-
-pub filter_filter : {X : Type 0} (first second : X → Bool) (xs : List X) → filter second (filter first xs) ≡ filter (λ x. first x && second x) xs
-filter_filter first second [] = refl
-filter_filter first second (x ∷ xs) = filter_step first second x xs (first x) (second x) (filter_filter first second xs) refl
 
 some_passes : {X : Type 0} (test : X → Bool) (xs : List X) → 0 < length (filter test xs) → (x : X) × Contains xs x × (test x ≡ true)
 some_passes test [] more = absurd (omega (arith, more))

@@ -5,25 +5,28 @@ use Rattle.bsp_fields.specs.Decimal.{fixed_digits}
 use Rattle.std.specs.List.{flat_map, Contains}
 use Rattle.std.proofs.lemmas.Bool.{and_parts, eqb-true}
 use Rattle.bsp_rules.specs.declared.rows.Item.{Item}
-use Rattle.bsp_rules.specs.declared.rows.Tally.{Tally}
+use Rattle.bsp_postings.specs.declared.tally.Tally.{Tally}
 use Rattle.bsp_memos.specs.declared.fields.MemoFields.{MemoFields}
-use Rattle.bsp_statement.specs.declared.posting.Posting.{Posting}
+use Rattle.bsp_postings.specs.declared.posting.Posting.{Posting}
 use Rattle.bsp_statement.specs.declared.figures.Figures.{Figures}
 use Rattle.bsp_statement.specs.declared.nets.AgentNet.{AgentNet}
 use Rattle.bsp_statement.specs.declared.nets.AirlineNet.{AirlineNet}
 use Rattle.bsp_statement.specs.declared.nets.Settlement.{Settlement}
-use Rattle.bsp_statement.specs.Postings.{postings, is_of_agent, is_of_airline, of_agent}
-use Rattle.bsp_statement.specs.Sums.{figures_of, net_of_postings, AreCodes}
-use Rattle.bsp_statement.specs.Tallies.{is_under, tally_posting, tally_postings, AreTallies}
+use Rattle.bsp_postings.specs.Postings.{postings, is_of_agent, is_of_airline, of_agent}
+use Rattle.bsp_statement.specs.Sums.{figures_of, AreCodes}
+use Rattle.bsp_postings.proofs.NetLemmas.{agent_net_is}
+use Rattle.bsp_postings.specs.Nets.{agent_net, net_of_postings}
+use Rattle.bsp_postings.specs.Tallies.{is_under, tally_posting, tally_postings, AreTallies}
 use Rattle.bsp_statement.specs.Texts.{figures_line, airline_line, heading}
 use Rattle.bsp_statement.specs.Reports.{IsStatement, IsSettlement}
-use Rattle.bsp_statement.proofs.TallyLemmas.{filter_all, filter_filter, own_figures, to_rows, to_tallies}
+use Rattle.bsp_statement.proofs.TallyLemmas.{own_figures, to_rows, to_tallies}
+use Rattle.bsp_postings.proofs.ListLemmas.{filter_all, filter_filter}
 
-flat_map_agree : {X Y : Type 0} (f g : X → List Y) → ((x : X) → f x ≡ g x) → (xs : List X) → flat_map f xs ≡ flat_map g xs
+pub flat_map_agree : {X Y : Type 0} (f g : X → List Y) → ((x : X) → f x ≡ g x) → (xs : List X) → flat_map f xs ≡ flat_map g xs
 flat_map_agree f g same [] = refl
 flat_map_agree f g same (x ∷ xs) = ap (λ front. front ++ flat_map f xs) (same x) ∙ ap (λ rest. g x ++ rest) (flat_map_agree f g same xs)
 
-map_agree : {X Y : Type 0} (f g : X → Y) → ((x : X) → f x ≡ g x) → (xs : List X) → map f xs ≡ map g xs
+pub map_agree : {X Y : Type 0} (f g : X → Y) → ((x : X) → f x ≡ g x) → (xs : List X) → map f xs ≡ map g xs
 map_agree f g same [] = refl
 map_agree f g same (x ∷ xs) = ap (λ front. front ∷ map f xs) (same x) ∙ ap (λ rest. g x ∷ rest) (map_agree f g same xs)
 
@@ -43,19 +46,19 @@ both_agree : (agent airline : ℕ) (t : Tally) (p : Posting) → is_under t p �
 both_agree agent airline t p below =
     ap (λ (b : Bool). b && is_of_airline airline p) (of_agent_agrees agent t p below) ∙ ap (λ (b : Bool). is_of_agent agent (tally_posting t) && b) (of_airline_agrees airline t p below)
 
-abbrev line_of : ℕ → Figures → List ℕ
+abbrev pub line_of : ℕ → Figures → List ℕ
 line_of airline f = figures_line (fixed_digits 3 airline) f
 
 abbrev airline_line_of : ℕ → List Posting → List ℕ
 airline_line_of airline ps = figures_line (fixed_digits 3 airline) (figures_of ps)
 
-abbrev text_with : ℕ → List ℕ → List ℕ → Figures → List ℕ
+abbrev pub text_with : ℕ → List ℕ → List ℕ → Figures → List ℕ
 text_with agent of_period lines f = codes "STATEMENT " ++ (fixed_digits 8 agent ++ (codes " " ++ (of_period ++ (heading ++ (lines ++ figures_line (codes "TOT") f)))))
 
-abbrev agent_net_with : ℕ → Figures → AgentNet
+abbrev pub agent_net_with : ℕ → Figures → AgentNet
 agent_net_with code f = record { agent = code; net = f.net }
 
-abbrev airline_net_with : ℕ → Figures → AirlineNet
+abbrev pub airline_net_with : ℕ → Figures → AirlineNet
 airline_net_with code f = record { airline = code; net = f.net }
 
 module _ (items : List Item) (memos : List MemoFields) (tallies : List Tally) (are : AreTallies items memos tallies) (period : ℕ) where
@@ -111,3 +114,7 @@ module _ (items : List Item) (memos : List MemoFields) (tallies : List Tally) (a
         ∙ ap (λ (ps : List Posting). net_of_postings ps) (filter_all (postings period items memos));
     text_is = is.text_is;
   }
+
+  -- what tallies give an agent is its net
+  pub agent_net_of_tallies : (agent : ℕ) → net_of_postings (of_agent agent (tally_postings period tallies)) ≡ agent_net agent period items memos
+  agent_net_of_tallies agent = ap (λ (f : Figures). f.net) (own_figures items memos tallies are period (is_of_agent agent) (of_agent_agrees agent)) ∙ agent_net_is agent period items memos

@@ -9,8 +9,6 @@ mod fault;
 mod figures;
 mod nets;
 mod period;
-mod posting;
-mod rows;
 mod settlements;
 mod statements;
 #[cfg(test)]

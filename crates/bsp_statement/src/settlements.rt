@@ -1,5 +1,6 @@
 //! The settlement of a period between its agents and its airlines.
 
+ghost use Rattle.std.specs.List.Sorted.{IsPermutation};
 ghost use Rattle.std.specs.Prelude.{◌≡◌, ◌++◌, List, Some, IfOk, OnOk, map, string_bytes};
 ghost use Rattle.std.specs.List.{flat_map, All};
 ghost use Rattle.bsp_calendar.specs.Published.{closed_period};
@@ -8,9 +9,10 @@ ghost use Rattle.bsp_calendar.specs.declared.entries.Terms.{Terms};
 ghost use Rattle.bsp_statement.specs.declared.nets.Settlement.{Settlement};
 ghost use Rattle.bsp_rules.specs.declared.rows.Item.{Item as Row};
 ghost use Rattle.bsp_memos.specs.declared.fields.MemoFields.{MemoFields};
-ghost use Rattle.bsp_statement.specs.Tallies.{AreTallies, tally_postings};
-ghost use Rattle.bsp_statement.specs.Postings.{postings};
-ghost use Rattle.bsp_statement.specs.Sums.{agent_net, airline_net};
+ghost use Rattle.bsp_postings.specs.declared.tally.Tally.{Tally as TallyRow};
+ghost use Rattle.bsp_postings.specs.Tallies.{AreTallies, tally_postings};
+ghost use Rattle.bsp_postings.specs.Postings.{postings};
+ghost use Rattle.bsp_postings.specs.Nets.{agent_net, airline_net};
 ghost use Rattle.bsp_statement.specs.Texts.{agent_line, airline_net_line, period_text, settlement_text};
 ghost use Rattle.bsp_statement.specs.Reports.{Answers, HasOneSum, IsSameSettlement, IsSettlement, agent_net_of, airline_net_of, of_period};
 
@@ -18,13 +20,12 @@ use crate::columns::push_net;
 use crate::fault::StatementFault;
 use crate::figures::{Figures, MOST_POSTINGS, by_agent, by_airline, total};
 use crate::nets::{AgentNet, AirlineNet, Settlement};
-use crate::period::{closed_with_terms, push_period};
-use crate::posting::Posting;
-use crate::rows::{postings_of, tally_postings};
+use crate::period::push_period;
 use bsp_calendar::{Currency, Period, Plan};
 use bsp_fields::{AgentCode, AirlineCode, NoRoom, PeriodCode};
 use bsp_memos::Memo;
-use bsp_rules::{Item, Tally};
+use bsp_postings::{Posting, Tally, postings_of, tally_postings};
+use bsp_rules::Item;
 use std::alloc::{AllocError, Global};
 use std::collections::BTreeMap;
 
@@ -153,8 +154,9 @@ pub fn settlement(
     ensures one_sum { IfOk result HasOneSum }
     ensures agents { IfOk result (λ settlement. All (λ n. n.net ≡ agent_net n.agent period items.now memos.now) settlement.agents.items) }
     ensures airlines { IfOk result (λ settlement. All (λ n. n.net ≡ airline_net n.airline period items.now memos.now) settlement.airlines.items) }
+    ensures order { (others : List Row) (other_memos : List MemoFields) → IsPermutation items.now others → IsPermutation memos.now other_memos → Answers plan.now period (λ q terms settlement. IsSettlement (of_period q terms) (postings period others other_memos) settlement) result }
 {
-    let Some((closed, terms)) = closed_with_terms(plan, period) else {
+    let Some((closed, terms)) = plan.closed_with_terms(period) else {
         return Err(StatementFault::NotClosed);
     };
     let postings = postings_of(alloc, period, items, memos)?;
@@ -176,10 +178,14 @@ pub fn settlement_of(
     plan: &Plan,
 ) -> Result<Settlement, StatementFault>
     ensures settlement { Answers plan.now period (λ q terms settlement. IsSettlement (of_period q terms) (tally_postings period tallies.now) settlement) result }
+    ensures only { IfOk result (λ settlement. (q : Period) (terms : Terms) (other : Settlement) → closed_period plan.now period ≡ Some q → plan.now.terms ≡ Some terms → IsSettlement (of_period q terms) (tally_postings period tallies.now) other → IsSameSettlement settlement other) }
     ensures one_sum { IfOk result HasOneSum }
+    ensures agents { (items : List Row) (memos : List MemoFields) → AreTallies items memos tallies.now → IfOk result (λ settlement. All (λ n. n.net ≡ agent_net n.agent period items memos) settlement.agents.items) }
+    ensures airlines { (items : List Row) (memos : List MemoFields) → AreTallies items memos tallies.now → IfOk result (λ settlement. All (λ n. n.net ≡ airline_net n.airline period items memos) settlement.airlines.items) }
+    ensures order { (others : List TallyRow) → IsPermutation tallies.now others → Answers plan.now period (λ q terms settlement. IsSettlement (of_period q terms) (tally_postings period others) settlement) result }
     ensures rows { (items : List Row) (memos : List MemoFields) → AreTallies items memos tallies.now → Answers plan.now period (λ q terms settlement. IsSettlement (of_period q terms) (postings period items memos) settlement) result }
 {
-    let Some((closed, terms)) = closed_with_terms(plan, period) else {
+    let Some((closed, terms)) = plan.closed_with_terms(period) else {
         return Err(StatementFault::NotClosed);
     };
     let postings = tally_postings(alloc, period, tallies)?;

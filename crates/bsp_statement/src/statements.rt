@@ -1,5 +1,6 @@
 //! The billing statement of an agent.
 
+ghost use Rattle.std.specs.List.Sorted.{IsPermutation};
 ghost use Rattle.std.specs.Prelude.{◌≡◌, ℕ, ◌++◌, List, Some, IfOk, OnOk, string_bytes};
 ghost use Rattle.std.specs.List.{flat_map};
 ghost use Rattle.bsp_fields.specs.Decimal.{fixed_digits};
@@ -8,22 +9,22 @@ ghost use Rattle.bsp_calendar.specs.declared.entries.Period.{Period};
 ghost use Rattle.bsp_calendar.specs.declared.entries.Terms.{Terms};
 ghost use Rattle.bsp_rules.specs.declared.rows.Item.{Item as Row};
 ghost use Rattle.bsp_memos.specs.declared.fields.MemoFields.{MemoFields};
-ghost use Rattle.bsp_statement.specs.Tallies.{AreTallies, tally_postings};
-ghost use Rattle.bsp_statement.specs.Postings.{of_agent, postings};
-ghost use Rattle.bsp_statement.specs.Sums.{agent_net, net_of_postings};
+ghost use Rattle.bsp_postings.specs.declared.tally.Tally.{Tally as TallyRow};
+ghost use Rattle.bsp_postings.specs.Tallies.{AreTallies, tally_postings};
+ghost use Rattle.bsp_postings.specs.Postings.{of_agent, postings};
+ghost use Rattle.bsp_postings.specs.Nets.{agent_net, net_of_postings};
 ghost use Rattle.bsp_statement.specs.Texts.{figures_line, period_text};
 ghost use Rattle.bsp_statement.specs.Reports.{Answers, IsStatement, of_period};
 
 use crate::columns::{push_figures, push_heading};
 use crate::fault::StatementFault;
 use crate::figures::{Figures, MOST_POSTINGS, by_airline, total};
-use crate::period::{closed_with_terms, push_period};
-use crate::posting::Posting;
-use crate::rows::{postings_of, tally_postings};
+use crate::period::push_period;
 use bsp_calendar::{Currency, Period, Plan};
 use bsp_fields::{AgentCode, AirlineCode, NoRoom, PeriodCode};
 use bsp_memos::Memo;
-use bsp_rules::{Item, Tally};
+use bsp_postings::{Posting, Tally, postings_of, tally_postings};
+use bsp_rules::Item;
 use std::alloc::Global;
 use std::collections::BTreeMap;
 
@@ -84,7 +85,7 @@ fn keep_agent(postings: &mut Vec<Posting>, agent: AgentCode)
 ///
 /// `NotClosed` where the period is unknown or not closed, and `NoMemory` where it is closed and an
 /// allocation was refused.
-#[tactic(auto, using(crate::proofs::NetLemmas::agent_net_is))]
+#[tactic(auto, using(bsp_postings::proofs::NetLemmas::agent_net_is))]
 pub fn statement(
     alloc: Global,
     agent: AgentCode,
@@ -96,8 +97,9 @@ pub fn statement(
     ensures text { Answers plan.now period (λ q terms text. IsStatement agent (of_period q terms) (of_agent agent (postings period items.now memos.now)) (string_bytes text)) result }
     ensures only { IfOk result (λ text. (q : Period) (terms : Terms) (other : List ℕ) → closed_period plan.now period ≡ Some q → plan.now.terms ≡ Some terms → IsStatement agent (of_period q terms) (of_agent agent (postings period items.now memos.now)) other → other ≡ string_bytes text) }
     ensures net { net_of_postings (of_agent agent (postings period items.now memos.now)) ≡ agent_net agent period items.now memos.now }
+    ensures order { (others : List Row) (other_memos : List MemoFields) → IsPermutation items.now others → IsPermutation memos.now other_memos → Answers plan.now period (λ q terms text. IsStatement agent (of_period q terms) (of_agent agent (postings period others other_memos)) (string_bytes text)) result }
 {
-    let Some((closed, terms)) = closed_with_terms(plan, period) else {
+    let Some((closed, terms)) = plan.closed_with_terms(period) else {
         return Err(StatementFault::NotClosed);
     };
     let mut postings = postings_of(alloc, period, items, memos)?;
@@ -121,9 +123,12 @@ pub fn statement_of(
     plan: &Plan,
 ) -> Result<String, StatementFault>
     ensures text { Answers plan.now period (λ q terms text. IsStatement agent (of_period q terms) (of_agent agent (tally_postings period tallies.now)) (string_bytes text)) result }
+    ensures only { IfOk result (λ text. (q : Period) (terms : Terms) (other : List ℕ) → closed_period plan.now period ≡ Some q → plan.now.terms ≡ Some terms → IsStatement agent (of_period q terms) (of_agent agent (tally_postings period tallies.now)) other → other ≡ string_bytes text) }
+    ensures net { (items : List Row) (memos : List MemoFields) → AreTallies items memos tallies.now → net_of_postings (of_agent agent (tally_postings period tallies.now)) ≡ agent_net agent period items memos }
+    ensures order { (others : List TallyRow) → IsPermutation tallies.now others → Answers plan.now period (λ q terms text. IsStatement agent (of_period q terms) (of_agent agent (tally_postings period others)) (string_bytes text)) result }
     ensures rows { (items : List Row) (memos : List MemoFields) → AreTallies items memos tallies.now → Answers plan.now period (λ q terms text. IsStatement agent (of_period q terms) (of_agent agent (postings period items memos)) (string_bytes text)) result }
 {
-    let Some((closed, terms)) = closed_with_terms(plan, period) else {
+    let Some((closed, terms)) = plan.closed_with_terms(period) else {
         return Err(StatementFault::NotClosed);
     };
     let mut postings = tally_postings(alloc, period, tallies)?;

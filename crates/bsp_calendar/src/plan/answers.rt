@@ -1,12 +1,12 @@
-//! What a plan answers about its entries.
+//! The rates, the airlines and the terms of a plan, and its business day.
 
-ghost use Rattle.std.specs.Prelude.{◌≡◌, IfSome, IsSome, option_map};
-ghost use Rattle.bsp_calendar.specs.Published.{IsLatestRate, closed_period, has_airline, is_closed, period_of, rate_on};
+ghost use Rattle.std.specs.Prelude.{◌≡◌};
+ghost use Rattle.bsp_calendar.specs.Published.{IsLatestRate, has_airline, rate_on};
 
-use crate::entries::{Period, Terms};
-use crate::keys::{has_airline, period_place, rate_key};
+use crate::entries::Terms;
+use crate::keys::{has_airline, rate_key};
 use crate::plan::Plan;
-use bsp_fields::{AirlineCode, Day, PeriodCode};
+use bsp_fields::{AirlineCode, Day};
 
 impl Plan {
     /// The rate of an airline on a day, in hundredths of a percent: that of its entry with the latest
@@ -26,25 +26,6 @@ impl Plan {
         ensures { result ≡ has_airline self.now airline }
     {
         has_airline(&self.lists.airlines, airline)
-    }
-
-    /// The period of a code, and whether it is closed.
-    pub fn period(&self, code: PeriodCode) -> Option<(Period, bool)>
-        ensures { result ≡ option_map (λ q. (q, is_closed self.now code)) (period_of self.now code) }
-    {
-        let place = period_place(&self.lists.periods, code)?;
-        Some((self.lists.periods.list()[place], place < self.closed))
-    }
-
-    /// The period of a code, where it is published and closed. Terms are then published too.
-    pub fn closed_period(&self, code: PeriodCode) -> Option<Period>
-        ensures value { result ≡ closed_period self.now code }
-        ensures terms { IfSome result (λ _. IsSome self.now.terms) }
-    {
-        match period_place(&self.lists.periods, code) {
-            Some(place) if place < self.closed => Some(self.lists.periods.list()[place]),
-            _ => None,
-        }
     }
 
     /// Currency, review days and documents limit, once they are published.

@@ -1,8 +1,8 @@
 //! The period that takes a transaction.
 
-ghost use Rattle.std.specs.Prelude.{◌≡◌};
+ghost use Rattle.std.specs.Prelude.{◌≡◌, IfSome};
 ghost use Rattle.std.specs.List.Sorted.{IsPartitionedBy};
-ghost use Rattle.bsp_calendar.specs.Published.{target_of};
+ghost use Rattle.bsp_calendar.specs.Published.{IsTarget, target_of};
 ghost use Rattle.bsp_calendar.specs.Standing.{IsFirstNotOver, ends_before};
 
 use crate::days::{is_before, is_up_to};
@@ -22,7 +22,8 @@ impl Plan {
     /// The earliest unclosed period whose last day is not before the date of issue and whose first day
     /// is not after the business day.
     pub fn target(&self, issued: Day) -> Option<PeriodCode>
-        ensures { result ≡ target_of self.now issued }
+        ensures value { result ≡ target_of self.now issued }
+        ensures is_target { IfSome result (IsTarget self.now issued) }
     {
         let periods = self.lists.periods.list();
         let place = first_not_over(periods, issued).max(self.closed);

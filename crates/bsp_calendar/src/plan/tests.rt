@@ -1,147 +1,75 @@
 use super::*;
-use crate::entries::{Period, Rate};
+use crate::entries::Period;
 use crate::samples::*;
-use bsp_fields::{AirlineCode, Change};
 use std::process::Abort;
 use std::test::Fail;
 
-const JANUARY: [PeriodRow; 2] = [FIRST_HALF, SECOND_HALF];
+// The proof of a test takes much longer with each assertion and each `?` in its body, so these
+// functions have one assertion each, and no contract.
 
-fn rates(alloc: Global, rows: &[RateRow]) -> Result<Vec<Rate>, Fail> {
-    let mut rates = Vec::new(alloc);
-    for row in rows {
-        rates.push(rate(*row)?)?;
-    }
-    Ok(rates)
-}
-
-fn periods(alloc: Global, rows: &[PeriodRow]) -> Result<Vec<Period>, Fail> {
-    let mut periods = Vec::new(alloc);
-    for row in rows {
-        periods.push(period(*row)?)?;
-    }
-    Ok(periods)
-}
-
-fn airlines(alloc: Global) -> Result<Vec<AirlineCode>, Fail> {
-    Ok([airline("125")?, airline("220")?].to_vec(alloc)?)
-}
-
-/// The text of a market with two airlines.
+/// A text with these review days, this rate and these periods, of a market with two airlines.
 fn text(
     alloc: Global,
     review_days: u8,
-    rate_rows: &[RateRow],
-    period_rows: &[PeriodRow],
-) -> Result<PlanText, Fail> {
-    Ok(PlanText {
+    paid: RateRow,
+    first: PeriodRow,
+    second: PeriodRow,
+) -> Option<PlanText> {
+    Some(PlanText {
         terms: terms(review_days, 1000)?,
-        airlines: airlines(alloc)?,
-        rates: rates(alloc, rate_rows)?,
-        periods: periods(alloc, period_rows)?,
+        airlines: [airline("125")?, airline("220")?].to_vec(alloc).ok()?,
+        rates: [rate(paid)?].to_vec(alloc).ok()?,
+        periods: [period(first)?, period(second)?].to_vec(alloc).ok()?,
     })
 }
 
-// The proof of a test takes much longer with each assertion and each `?` in its body, so these
-// functions have one assertion each, and no contract.
+/// The text of PL.
+fn january_text(alloc: Global) -> Option<PlanText> {
+    text(alloc, 14, FIVE_PERCENT, FIRST_HALF, SECOND_HALF)
+}
 
 fn publish(plan: &mut Plan, text: &PlanText) -> Result<Change, PlanFault> {
     plan.extend(text)
 }
 
-fn set_day(plan: &mut Plan, text: &str) -> Result<Result<Change, PlanFault>, Fail> {
-    Ok(plan.set_day(day(text)?))
-}
-
-fn close(plan: &mut Plan, digits: &str) -> Result<Result<Change, PlanFault>, Fail> {
-    Ok(plan.close_next(code(digits)?))
-}
-
-fn assert_published(
-    rt: &impl Abort,
-    plan: &mut Plan,
-    text: &PlanText,
-    change: Change,
-) -> Result<(), Fail> {
-    assert_eq!(rt; plan.extend(text)?, change);
-    Ok(())
-}
-
-fn assert_terms(rt: &impl Abort, plan: &Plan, review_days: u8) -> Result<(), Fail> {
-    let terms = terms(review_days, 1000)?;
-    assert_eq!(rt; plan.terms(), Some(terms));
-    Ok(())
-}
-
-fn assert_day(rt: &impl Abort, plan: &Plan, text: &str) -> Result<(), Fail> {
-    let day = day(text)?;
-    assert_eq!(rt; plan.day(), day);
-    Ok(())
-}
-
-fn assert_airline(rt: &impl Abort, plan: &Plan, digits: &str, published: bool) -> Result<(), Fail> {
-    let airline = airline(digits)?;
-    assert_eq!(rt; plan.has_airline(airline), published, "{digits}");
-    Ok(())
-}
-
-fn assert_rate(rt: &impl Abort, plan: &Plan, row: RateRow) -> Result<(), Fail> {
-    let (of, on, hundredths) = row;
-    let rate = plan.rate(airline(of)?, day(on)?);
-    assert_eq!(rt; rate, hundredths, "{of} on {on}");
-    Ok(())
-}
-
-/// The period of the row is published, and not closed.
-fn assert_open(rt: &impl Abort, plan: &Plan, row: PeriodRow) -> Result<(), Fail> {
-    let period = period(row)?;
-    assert_eq!(rt; plan.period(period.code), Some((period, false)));
-    Ok(())
-}
-
-fn assert_unknown(rt: &impl Abort, plan: &Plan, digits: &str) -> Result<(), Fail> {
-    let code = code(digits)?;
-    assert_eq!(rt; plan.period(code), None);
-    Ok(())
-}
-
-fn assert_closed(rt: &impl Abort, plan: &Plan, row: PeriodRow) -> Result<(), Fail> {
-    let period = period(row)?;
-    assert_eq!(rt; plan.closed_period(period.code), Some(period));
-    Ok(())
-}
-
-fn assert_not_closed(rt: &impl Abort, plan: &Plan, digits: &str) -> Result<(), Fail> {
-    let code = code(digits)?;
-    assert_eq!(rt; plan.closed_period(code), None, "{digits}");
-    Ok(())
-}
-
-/// The target of a date of issue is the period of these digits, or none where they are none.
-fn assert_target(rt: &impl Abort, plan: &Plan, issued: &str, digits: &str) -> Result<(), Fail> {
-    let issued = day(issued)?;
-    let wanted = PeriodCode::read(digits.as_bytes()).ok();
-    assert_eq!(rt; plan.target(issued), wanted, "{issued}");
-    Ok(())
-}
-
-/// The text of January, in which one airline pays 5 %.
-fn january_text(alloc: Global) -> Result<PlanText, Fail> {
-    text(alloc, 14, &[FIVE_PERCENT], &JANUARY)
-}
-
-/// The plan of January.
-fn january(alloc: Global) -> Result<Plan, Fail> {
+/// The plan PL.
+fn january(alloc: Global) -> Option<Plan> {
     let mut plan = Plan::empty(alloc);
-    publish(&mut plan, &january_text(alloc)?)?;
-    Ok(plan)
+    publish(&mut plan, &january_text(alloc)?).ok()?;
+    Some(plan)
 }
 
-/// January's plan on a day.
-fn january_on(alloc: Global, date: &str) -> Result<Plan, Fail> {
+/// What is requested of a plan.
+#[derive(Clone, Copy)]
+enum Request {
+    Day(&'static str),
+    Close(&'static str),
+}
+
+fn answer(plan: &mut Plan, request: Request) -> Option<Result<Change, PlanFault>> {
+    match request {
+        Request::Day(text) => Some(plan.set_day(day(text)?)),
+        Request::Close(digits) => Some(plan.close_next(code(digits)?)),
+    }
+}
+
+/// PL on a day.
+fn january_on(alloc: Global, text: &'static str) -> Option<Plan> {
     let mut plan = january(alloc)?;
-    set_day(&mut plan, date)??;
-    Ok(plan)
+    answer(&mut plan, Request::Day(text))?.ok()?;
+    Some(plan)
+}
+
+/// PL on 2024-01-16, its first period closed.
+fn january_closed(alloc: Global) -> Option<Plan> {
+    let mut plan = january_on(alloc, "2024-01-16")?;
+    answer(&mut plan, Request::Close("24011"))?.ok()?;
+    Some(plan)
+}
+
+/// The target of a date of issue.
+fn target(plan: &Plan, issued: &str) -> Option<PeriodCode> {
+    plan.target(day(issued)?)
 }
 
 #[test]
@@ -151,427 +79,175 @@ fn a_fault_is_told_as_text(rt: HostRuntime) -> Result<(), Fail> {
     Ok(())
 }
 
-#[test]
-fn no_terms_stand_before_a_text(rt: HostRuntime) {
-    let plan = Plan::empty(rt.alloc());
-    assert_eq!(rt; plan.terms(), None);
-}
-
-fn assert_published_once(rt: &impl Abort, plan: &mut Plan, text: &PlanText) -> Result<(), Fail> {
-    assert_published(rt, plan, text, Change::Done)?;
-    assert_published(rt, plan, text, Change::Held)?;
-    assert_terms(rt, plan, 14)
+/// What a new plan answers to one text twice.
+fn published_twice(alloc: Global) -> Option<[Result<Change, PlanFault>; 2]> {
+    let mut plan = Plan::empty(alloc);
+    let text = january_text(alloc)?;
+    Some([publish(&mut plan, &text), publish(&mut plan, &text)])
 }
 
 #[test]
-fn a_text_is_published_once(rt: HostRuntime) -> Result<(), Fail> {
-    let text = january_text(rt.alloc())?;
-    assert_published_once(&rt, &mut Plan::empty(rt.alloc()), &text)
+fn a_text_is_published_once(rt: HostRuntime) {
+    let answers = published_twice(rt.alloc());
+    assert_eq!(rt; answers, Some([Ok(Change::Done), Ok(Change::Held)]));
 }
 
-#[test]
-fn a_plan_begins_on_its_first_day(rt: HostRuntime) -> Result<(), Fail> {
-    let plan = january(rt.alloc())?;
-    assert_day(&rt, &plan, "2000-01-01")
+fn assert_rate(rt: &impl Abort, plan: &Plan, row: RateRow) -> Option<()> {
+    let (of, on, hundredths) = row;
+    let rate = plan.rate(airline(of)?, day(on)?);
+    assert_eq!(rt; rate, hundredths, "{of} on {on}");
+    Some(())
 }
 
-#[test]
-fn a_plan_has_what_was_published(rt: HostRuntime) -> Result<(), Fail> {
-    let plan = january(rt.alloc())?;
-    assert_open(&rt, &plan, SECOND_HALF)?;
-    assert_unknown(&rt, &plan, "24013")
-}
-
-#[test]
-fn a_plan_has_its_airlines(rt: HostRuntime) -> Result<(), Fail> {
-    let plan = january(rt.alloc())?;
-    for (digits, published) in [("125", true), ("220", true), ("126", false)] {
-        assert_airline(&rt, &plan, digits, published)?;
-    }
-    Ok(())
-}
-
-const LATER_RATES: [RateRow; 3] = [
-    ("125", "2024-03-01", 700),
-    ("125", "2024-02-01", 600),
-    ("220", "2024-02-10", 900),
-];
-
-const RATES_ON_DAYS: [RateRow; 10] = [
+/// An airline, a day and its rate.
+const RATES: [RateRow; 3] = [
     ("125", "2023-12-31", 0),
     ("125", "2024-01-01", 500),
-    ("125", "2024-01-31", 500),
-    ("125", "2024-02-01", 600),
-    ("125", "2024-02-29", 600),
-    ("125", "2024-03-01", 700),
-    ("125", "2099-12-31", 700),
     ("220", "2024-01-01", 0),
-    ("220", "2024-02-10", 900),
-    ("999", "2024-02-10", 0),
 ];
-
-/// January's plan with later rates.
-fn plan_with_rates(alloc: Global) -> Result<Plan, Fail> {
-    let mut plan = january(alloc)?;
-    publish(&mut plan, &text(alloc, 14, &LATER_RATES, &[])?)?;
-    Ok(plan)
-}
-
-fn assert_rates(rt: &impl Abort, plan: &Plan, rows: &[RateRow]) -> Result<(), Fail> {
-    for row in rows {
-        assert_rate(rt, plan, *row)?;
-    }
-    Ok(())
-}
 
 #[test]
 fn the_rate_is_that_of_the_latest_first_day(rt: HostRuntime) -> Result<(), Fail> {
-    let plan = plan_with_rates(rt.alloc())?;
-    assert_rates(&rt, &plan, &RATES_ON_DAYS)
-}
-
-/// What is asked of a plan.
-#[derive(Clone, Copy)]
-enum Asked {
-    Day(&'static str),
-    Close(&'static str),
-}
-
-fn ask(plan: &mut Plan, asked: Asked) -> Result<Result<Change, PlanFault>, Fail> {
-    match asked {
-        Asked::Day(text) => set_day(plan, text),
-        Asked::Close(digits) => close(plan, digits),
+    let plan = january(rt.alloc()).ok_or("PL")?;
+    for row in RATES {
+        assert_rate(&rt, &plan, row).ok_or("a rate")?;
     }
+    Ok(())
 }
 
-/// What is asked, the answer, and then the target of 5 January.
-type Step = (Asked, Result<Change, PlanFault>, &'static str);
+/// What is requested, the answer, and then the target of 5 January.
+type Step = (Request, Result<Change, PlanFault>, &'static str);
 
-const STEPS: [Step; 13] = [
-    (Asked::Day("2024-01-05"), Ok(Change::Done), "24011"),
-    (Asked::Day("2024-01-15"), Ok(Change::Done), "24011"),
-    (Asked::Close("24011"), Err(PlanFault::NotOver), "24011"),
-    (Asked::Day("2024-01-16"), Ok(Change::Done), "24011"),
-    (Asked::Close("24012"), Err(PlanFault::NotEarliest), "24011"),
-    (Asked::Close("24013"), Err(PlanFault::NotEarliest), "24011"),
-    (Asked::Close("24011"), Ok(Change::Done), "24012"),
-    (Asked::Close("24011"), Ok(Change::Held), "24012"),
+const STEPS: [Step; 9] = [
+    (Request::Day("2024-01-15"), Ok(Change::Done), "24011"),
+    (Request::Close("24011"), Err(PlanFault::NotOver), "24011"),
+    (Request::Day("2024-01-16"), Ok(Change::Done), "24011"),
     (
-        Asked::Day("2024-01-15"),
+        Request::Close("24012"),
+        Err(PlanFault::NotEarliest),
+        "24011",
+    ),
+    (Request::Close("24011"), Ok(Change::Done), "24012"),
+    (Request::Close("24011"), Ok(Change::Held), "24012"),
+    (
+        Request::Day("2024-01-15"),
         Err(PlanFault::DayBackwards),
         "24012",
     ),
-    (Asked::Day("2024-01-16"), Ok(Change::Held), "24012"),
-    (Asked::Day("2024-02-01"), Ok(Change::Done), "24012"),
-    (Asked::Close("24012"), Ok(Change::Done), ""),
-    (Asked::Close("24013"), Err(PlanFault::NotEarliest), ""),
+    (Request::Day("2024-02-01"), Ok(Change::Done), "24012"),
+    (Request::Close("24012"), Ok(Change::Done), ""),
 ];
 
-fn assert_step(rt: &impl Abort, plan: &mut Plan, step: Step) -> Result<(), Fail> {
-    let (asked, answer, target) = step;
-    assert_eq!(rt; ask(plan, asked)?, answer);
-    assert_target(rt, plan, "2024-01-05", target)
+/// The answer to a request, and then the target of 5 January.
+fn step(
+    plan: &mut Plan,
+    request: Request,
+) -> Option<(Result<Change, PlanFault>, Option<PeriodCode>)> {
+    let answer = answer(plan, request)?;
+    Some((answer, target(plan, "2024-01-05")))
 }
 
-fn assert_steps(rt: &impl Abort, plan: &mut Plan, steps: &[Step]) -> Result<(), Fail> {
-    for step in steps {
-        assert_step(rt, plan, *step)?;
-    }
-    Ok(())
+fn assert_step(rt: &impl Abort, plan: &mut Plan, expected: Step) {
+    let (request, answer, digits) = expected;
+    assert_eq!(rt; step(plan, request), Some((answer, code(digits))));
 }
 
 #[test]
 fn periods_are_closed_in_order(rt: HostRuntime) -> Result<(), Fail> {
-    let mut plan = january(rt.alloc())?;
-    assert_steps(&rt, &mut plan, &STEPS)
-}
-
-/// January's plan with its first period closed.
-fn january_closed(alloc: Global) -> Result<Plan, Fail> {
-    let mut plan = january_on(alloc, "2024-01-16")?;
-    close(&mut plan, "24011")??;
-    Ok(plan)
-}
-
-#[test]
-fn no_period_is_closed_before_its_close(rt: HostRuntime) -> Result<(), Fail> {
-    let plan = january_on(rt.alloc(), "2024-01-16")?;
-    assert_not_closed(&rt, &plan, "24011")
-}
-
-fn assert_first_closed(rt: &impl Abort, plan: &Plan) -> Result<(), Fail> {
-    assert_closed(rt, plan, FIRST_HALF)?;
-    assert_not_closed(rt, plan, "24012")?;
-    assert_not_closed(rt, plan, "24013")
-}
-
-#[test]
-fn only_a_closed_period_is_told_as_closed(rt: HostRuntime) -> Result<(), Fail> {
-    let plan = january_closed(rt.alloc())?;
-    assert_first_closed(&rt, &plan)
-}
-
-#[test]
-fn a_period_that_has_not_begun_takes_nothing(rt: HostRuntime) -> Result<(), Fail> {
-    let plan = january(rt.alloc())?;
-    assert_target(&rt, &plan, "2024-01-05", "")
-}
-
-/// Dates of issue, and their targets on 5 January.
-const TARGETS: [(&str, &str); 3] = [
-    ("2024-01-05", "24011"),
-    ("2023-12-31", "24011"),
-    ("2024-01-20", ""),
-];
-
-#[test]
-fn a_period_that_has_begun_takes_what_is_issued(rt: HostRuntime) -> Result<(), Fail> {
-    let plan = january_on(rt.alloc(), "2024-01-05")?;
-    for (issued, digits) in TARGETS {
-        assert_target(&rt, &plan, issued, digits)?;
+    let mut plan = january(rt.alloc()).ok_or("PL")?;
+    for step in STEPS {
+        assert_step(&rt, &mut plan, step);
     }
     Ok(())
 }
 
-/// A rate beside that of January's plan.
-#[derive(Clone, Copy)]
-enum Rated {
-    Known,
-    Unknown,
-    Large,
-    Other,
-    Late,
-    Future,
+/// A business day, a date of issue, and the digits of its target.
+type Target = (&'static str, &'static str, &'static str);
+
+const TARGETS: [Target; 3] = [
+    ("2023-12-31", "2024-01-05", ""),
+    ("2024-01-05", "2024-01-05", "24011"),
+    ("2024-01-05", "2024-01-20", ""),
+];
+
+fn target_on(alloc: Global, today: &'static str, issued: &str) -> Option<PeriodCode> {
+    target(&january_on(alloc, today)?, issued)
 }
 
-fn rate_row(rated: Rated) -> RateRow {
-    match rated {
-        Rated::Known => FIVE_PERCENT,
-        Rated::Unknown => ("126", "2024-02-01", 1),
-        Rated::Large => ("125", "2024-02-01", 10_001),
-        Rated::Other => ("125", "2024-01-01", 501),
-        Rated::Late => ("125", "2024-01-05", 600),
-        Rated::Future => ("125", "2024-01-06", 600),
+fn assert_target(rt: &impl Abort, alloc: Global, row: Target) {
+    let (today, issued, digits) = row;
+    assert_eq!(rt;
+        target_on(alloc, today, issued),
+        code(digits),
+        "{today} {issued}"
+    );
+}
+
+#[test]
+fn a_period_that_has_begun_takes_what_is_issued(rt: HostRuntime) {
+    for row in TARGETS {
+        assert_target(&rt, rt.alloc(), row);
     }
 }
 
-/// A period beside those of January's plan.
-#[derive(Clone, Copy)]
-enum Dated {
-    Held,
-    Moved,
-    Gap,
-    Overlap,
-    Early,
-    Next,
-}
+const LATE_RATE: RateRow = ("125", "2024-01-05", 600);
 
-fn period_row(dated: Dated) -> PeriodRow {
-    match dated {
-        Dated::Held => FIRST_HALF,
-        Dated::Moved => ("24012", "2024-01-16", "2024-01-31", "2024-03-01"),
-        Dated::Gap => ("24021", "2024-02-02", "2024-02-15", "2024-03-15"),
-        Dated::Overlap => ("24021", "2024-01-31", "2024-02-15", "2024-03-15"),
-        Dated::Early => ("24021", "2024-02-01", "2024-02-15", "2024-02-15"),
-        Dated::Next => ("24021", "2024-02-01", "2024-02-15", "2024-03-15"),
-    }
-}
+const AFTER_A_GAP: PeriodRow = ("24021", "2024-02-02", "2024-02-15", "2024-03-15");
 
-/// The text of these review days, rate and periods.
-fn text_of(
-    alloc: Global,
-    review_days: u8,
-    rated: Rated,
-    dated: [Dated; 2],
-) -> Result<PlanText, Fail> {
-    let [first, second] = dated;
-    let periods = [period_row(first), period_row(second)];
-    text(alloc, review_days, &[rate_row(rated)], &periods)
-}
+/// Review days, a rate and a period beside the first of PL, and why they are refused on 5 January.
+type Refused = (u8, RateRow, PeriodRow, PlanFault);
 
-/// What January's plan answers on 5 January to a text.
-fn answer(alloc: Global, text: &PlanText) -> Result<Result<Change, PlanFault>, Fail> {
+const REFUSED: [Refused; 4] = [
+    (15, FIVE_PERCENT, SECOND_HALF, PlanFault::Differs),
+    (14, LATE_RATE, SECOND_HALF, PlanFault::LateRate),
+    (14, FIVE_PERCENT, AFTER_A_GAP, PlanFault::OutOfOrder),
+    (15, LATE_RATE, AFTER_A_GAP, PlanFault::Differs),
+];
+
+fn refusal(alloc: Global, refused: Refused) -> Option<PlanFault> {
+    let (review_days, paid, second, _) = refused;
     let mut plan = january_on(alloc, "2024-01-05")?;
-    Ok(publish(&mut plan, text))
-}
-
-/// An answer that is not want of memory.
-fn unless_no_memory(
-    answer: Result<Change, PlanFault>,
-) -> Result<Result<Change, PlanFault>, PlanFault> {
-    match answer {
-        Err(PlanFault::NoMemory) => Err(PlanFault::NoMemory),
-        answer => Ok(answer),
-    }
-}
-
-/// Review days, a rate, two periods, and the answer.
-type Publication = (u8, Rated, [Dated; 2], Result<Change, PlanFault>);
-
-const PUBLICATIONS: [Publication; 18] = [
-    (
-        14,
-        Rated::Known,
-        [Dated::Held, Dated::Held],
-        Ok(Change::Held),
-    ),
-    (
-        14,
-        Rated::Future,
-        [Dated::Held, Dated::Held],
-        Ok(Change::Done),
-    ),
-    (
-        14,
-        Rated::Known,
-        [Dated::Next, Dated::Next],
-        Ok(Change::Done),
-    ),
-    (
-        0,
-        Rated::Known,
-        [Dated::Held, Dated::Held],
-        Err(PlanFault::WrongKey),
-    ),
-    (
-        61,
-        Rated::Known,
-        [Dated::Held, Dated::Held],
-        Err(PlanFault::WrongKey),
-    ),
-    (
-        14,
-        Rated::Unknown,
-        [Dated::Held, Dated::Held],
-        Err(PlanFault::WrongKey),
-    ),
-    (
-        14,
-        Rated::Large,
-        [Dated::Held, Dated::Held],
-        Err(PlanFault::WrongKey),
-    ),
-    (
-        15,
-        Rated::Known,
-        [Dated::Held, Dated::Held],
-        Err(PlanFault::Differs),
-    ),
-    (
-        14,
-        Rated::Other,
-        [Dated::Held, Dated::Held],
-        Err(PlanFault::Differs),
-    ),
-    (
-        14,
-        Rated::Known,
-        [Dated::Held, Dated::Moved],
-        Err(PlanFault::Differs),
-    ),
-    (
-        14,
-        Rated::Known,
-        [Dated::Gap, Dated::Next],
-        Err(PlanFault::Differs),
-    ),
-    (
-        14,
-        Rated::Known,
-        [Dated::Held, Dated::Gap],
-        Err(PlanFault::OutOfOrder),
-    ),
-    (
-        14,
-        Rated::Known,
-        [Dated::Held, Dated::Overlap],
-        Err(PlanFault::OutOfOrder),
-    ),
-    (
-        14,
-        Rated::Known,
-        [Dated::Held, Dated::Early],
-        Err(PlanFault::OutOfOrder),
-    ),
-    (
-        14,
-        Rated::Late,
-        [Dated::Held, Dated::Held],
-        Err(PlanFault::LateRate),
-    ),
-    (
-        15,
-        Rated::Unknown,
-        [Dated::Held, Dated::Gap],
-        Err(PlanFault::WrongKey),
-    ),
-    (
-        15,
-        Rated::Late,
-        [Dated::Held, Dated::Gap],
-        Err(PlanFault::Differs),
-    ),
-    (
-        14,
-        Rated::Late,
-        [Dated::Held, Dated::Gap],
-        Err(PlanFault::OutOfOrder),
-    ),
-];
-
-fn assert_answer(rt: &impl Abort, alloc: Global, publication: Publication) -> Result<(), Fail> {
-    let (review_days, rated, dated, expected) = publication;
-    let text = text_of(alloc, review_days, rated, dated)?;
-    let answer = unless_no_memory(answer(alloc, &text)?)?;
-    assert_eq!(rt; answer, expected);
-    Ok(())
-}
-
-#[test]
-fn a_text_is_refused_for_the_first_reason(rt: HostRuntime) -> Result<(), Fail> {
-    for publication in PUBLICATIONS {
-        assert_answer(&rt, rt.alloc(), publication)?;
-    }
-    Ok(())
-}
-
-/// February, in which the other airline pays 9 %.
-fn february_text(alloc: Global) -> Result<PlanText, Fail> {
-    text(
-        alloc,
-        14,
-        &[("220", "2024-02-01", 900)],
-        &[period_row(Dated::Next)],
+    publish(
+        &mut plan,
+        &text(alloc, review_days, paid, FIRST_HALF, second)?,
     )
+    .err()
 }
 
-fn assert_done(rt: &impl Abort, answer: Result<Change, PlanFault>) {
-    assert_eq!(rt; answer, Ok(Change::Done));
-}
-
-/// The plan has January's rates and periods and no others, and then February's too.
-fn assert_published_later(rt: &impl Abort, plan: &mut Plan, text: &PlanText) -> Result<(), Fail> {
-    assert_rate(rt, plan, ("220", "2024-02-01", 0))?;
-    assert_rate(rt, plan, FIVE_PERCENT)?;
-    assert_unknown(rt, plan, "24021")?;
-    assert_published(rt, plan, text, Change::Done)
-}
-
-fn assert_published_or_as_before(
-    rt: &impl Abort,
-    plan: &mut Plan,
-    text: &PlanText,
-) -> Result<(), Fail> {
-    match publish(plan, text) {
-        Err(PlanFault::NoMemory) => assert_published_later(rt, plan, text)?,
-        first => assert_done(rt, first),
-    }
-    assert_rate(rt, plan, ("220", "2024-02-01", 900))
+fn assert_refused(rt: &impl Abort, alloc: Global, refused: Refused) {
+    assert_eq!(rt; refusal(alloc, refused), Some(refused.3));
 }
 
 #[test]
-fn want_of_memory_changes_nothing(rt: HostRuntime) -> Result<(), Fail> {
-    let mut plan = january(rt.alloc())?;
-    let text = february_text(rt.alloc())?;
-    assert_published_or_as_before(&rt, &mut plan, &text)
+fn a_text_is_refused_for_the_first_reason(rt: HostRuntime) {
+    for refused in REFUSED {
+        assert_refused(&rt, rt.alloc(), refused);
+    }
+}
+
+/// How many airlines, rates, periods and closed periods a plan has, and a closed period with the terms.
+type Held = ([usize; 4], Option<(Period, Terms)>);
+
+fn held(plan: &Plan) -> Option<Held> {
+    let counts = [
+        plan.airlines().len(),
+        plan.rates().len(),
+        plan.periods().len(),
+        plan.closed_count(),
+    ];
+    Some((counts, plan.closed_with_terms(code("24011")?)))
+}
+
+/// What a copy of PL has, its first period closed.
+fn copied(alloc: Global) -> Option<Held> {
+    held(&january_closed(alloc)?.copied().ok()?)
+}
+
+fn expected() -> Option<Held> {
+    Some(([2, 1, 2, 1], Some((period(FIRST_HALF)?, terms(14, 1000)?))))
+}
+
+#[test]
+fn a_copy_has_the_entries_and_the_closes(rt: HostRuntime) {
+    assert_eq!(rt; copied(rt.alloc()), expected());
 }

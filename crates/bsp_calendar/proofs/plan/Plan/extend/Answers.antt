@@ -1,24 +1,46 @@
-use Rattle.std.proofs.Common.{ap, refl, ◌∙◌, Ok}
+use Rattle.std.proofs.Common.{◌≡◌, ap, sym, subst, ◌∙◌, Ok}
 use Rattle.bsp_fields.specs.Changes.{change_of}
-use Rattle.bsp_calendar.proofs.ExtendLemmas.{standing_more, with_entries_is, holds_is}
+use Rattle.bsp_fields.specs.declared.change.Change.TheVariants.{Held}
+use Rattle.bsp_calendar.specs.Requests.{with_entries}
+use Rattle.bsp_calendar.specs.SoundPlan.{IsSoundPlan}
+use Rattle.bsp_calendar.specs.Standing.{plan_of}
+use Rattle.bsp_calendar.proofs.ExtendLemmas.{within_more, with_entries_is, holds_is}
+use Rattle.bsp_calendar.proofs.HeldLemmas.{held_same, was_held}
+use Rattle.bsp_calendar.proofs.SoundLemmas.{publish_sound, standing_in}
 use Rattle.bsp_calendar.proofs.plan.Plan.extend.Goals as goal
 
 pub invariant_of-self : goal.invariant_of-self
 invariant_of-self c =
     let i = c.self.inside in
+    let p = plan_of i.terms i.lists.airlines i.lists.rates i.lists.periods i.day i.closed in
     let text = c.args.text.now in
-    let e = rw (← c.self.view_is) at c.in_ok-lists.ensures in
+    let after = c.in_ok-lists.lists in
+    let e = rw (← c.self.view_is) at c.in_ok-lists.ensures.lists in
+    let same = with_entries_is i.terms i.lists.airlines i.lists.rates i.lists.periods i.day i.closed text after.airlines after.rates after.periods (standing_in c.self.invariant) e.1 e.2 e.3 in
     record {
-      standing = standing_more i.lists.periods text.periods.items c.in_ok-lists.lists.periods i.closed c.self.invariant.standing e.4 e.1;
-      has_terms = λ _. refl;
+      within = within_more i.lists.periods text.periods.items after.periods i.closed (standing_in c.self.invariant) e.3;
+      sound = subst IsSoundPlan same (publish_sound p text (with_entries p text) c.self.invariant.sound e.0);
     }
 
-pub returns : goal.returns
-returns c =
+pub returns-clause-answers : goal.returns-clause-answers
+returns-clause-answers c =
     let i = c.self.inside in
     let text = c.args.text.now in
     let after = c.in_ok-lists.lists in
-    let e = rw (← c.self.view_is) at c.in_ok-lists.ensures in
-    let same = with_entries_is i.terms i.lists.airlines i.lists.rates i.lists.periods i.day i.closed text after.airlines after.rates after.periods c.self.invariant.standing e.2 e.3 e.4 in
-    let held = holds_is i.terms i.lists.airlines i.lists.rates i.lists.periods i.day i.closed text after.airlines after.rates after.periods c.holds.result e.2 e.3 e.4 (rw (← c.self.view_is) at c.holds.ensures) in
+    let e = rw (← c.self.view_is) at c.in_ok-lists.ensures.lists in
+    let same = with_entries_is i.terms i.lists.airlines i.lists.rates i.lists.periods i.day i.closed text after.airlines after.rates after.periods (standing_in c.self.invariant) e.1 e.2 e.3 in
+    let held = holds_is i.terms i.lists.airlines i.lists.rates i.lists.periods i.day i.closed text after.airlines after.rates after.periods c.holds.result e.1 e.2 e.3 (rw (← c.self.view_is) at c.holds.ensures) in
     rw (← c.self.view_is) (e.0 ∙ ap (λ p. Ok p) same, c.of-change.ensures ∙ ap change_of held)
+
+pub returns-clause-held : goal.returns-clause-held
+returns-clause-held c =
+    let i = c.self.inside in
+    let p = plan_of i.terms i.lists.airlines i.lists.rates i.lists.periods i.day i.closed in
+    let text = c.args.text.now in
+    let after = c.in_ok-lists.lists in
+    let e = rw (← c.self.view_is) at c.in_ok-lists.ensures.lists in
+    let same = with_entries_is i.terms i.lists.airlines i.lists.rates i.lists.periods i.day i.closed text after.airlines after.rates after.periods (standing_in c.self.invariant) e.1 e.2 e.3 in
+    let held = holds_is i.terms i.lists.airlines i.lists.rates i.lists.periods i.day i.closed text after.airlines after.rates after.periods c.holds.result e.1 e.2 e.3 (rw (← c.self.view_is) at c.holds.ensures) in
+    λ told.
+    let is : change_of c.holds.result ≡ Held = cc (c.of-change.ensures) in
+    rw (← c.self.view_is) (sym same ∙ held_same p text c.self.invariant.sound e.0 (sym held ∙ was_held c.holds.result is))

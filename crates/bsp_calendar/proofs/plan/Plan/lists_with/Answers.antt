@@ -1,12 +1,12 @@
 use Rattle.std.proofs.Common.{◌≡◌, sym, inl, inr, ◌∙◌, ap, ◌++◌, true, false, length}
 use Rattle.std.proofs.lemmas.Result.{err_from_is_err_and}
 use Rattle.bsp_calendar.specs.Requests.{are_within_bounds, have_airlines, has_difference, are_in_order, has_late_rate, once, same_period}
-use Rattle.bsp_calendar.proofs.AnswerLemmas.{plan_of}
+use Rattle.bsp_calendar.specs.Standing.{plan_of}
 use Rattle.bsp_calendar.proofs.ExtendLemmas.{without_airline, with_difference, not_in_order, with_late_rate, accepted, have_from, difference_of_terms, difference_of_rates, difference_of_periods, no_difference, order_from, late_from}
 use Rattle.bsp_calendar.proofs.plan.Plan.lists_with.Goals as goal
 
-pub returns-then-not-have_airlines : goal.returns-then-not-have_airlines
-returns-then-not-have_airlines c =
+pub returns-then-not-have_airlines-clause-lists : goal.returns-then-not-have_airlines-clause-lists
+returns-then-not-have_airlines-clause-lists c =
     let i = c.self.inside in
     let p = plan_of i.terms i.lists.airlines i.lists.rates i.lists.periods i.day i.closed in
     let text = c.args.text.now in
@@ -14,8 +14,8 @@ returns-then-not-have_airlines c =
     let have : have_airlines p text ≡ false = have_from p text c.in_ok-airlines.airlines c.deref.result.now c.deref-2.result.now false c.in_ok-airlines.ensures c.deref.ensures.value c.deref-2.ensures.value c.if-not-have_airlines.ensures in
     rw (← c.self.view_is) (inr (without_airline p text bounds have))
 
-pub returns-then-differ_in_terms : goal.returns-then-differ_in_terms
-returns-then-differ_in_terms c =
+pub returns-then-differ_in_terms-clause-lists : goal.returns-then-differ_in_terms-clause-lists
+returns-then-differ_in_terms-clause-lists c =
     let i = c.self.inside in
     let p = plan_of i.terms i.lists.airlines i.lists.rates i.lists.periods i.day i.closed in
     let text = c.args.text.now in
@@ -24,8 +24,8 @@ returns-then-differ_in_terms c =
     let other : has_difference p text ≡ true = difference_of_terms p text (sym c.if-differ_in_terms.ensures) in
     rw (← c.self.view_is) (inr (with_difference p text bounds have other))
 
-pub returns-in_err-rates : goal.returns-in_err-rates
-returns-in_err-rates c =
+pub returns-in_err-rates-clause-lists : goal.returns-in_err-rates-clause-lists
+returns-in_err-rates-clause-lists c =
     let i = c.self.inside in
     let p = plan_of i.terms i.lists.airlines i.lists.rates i.lists.periods i.day i.closed in
     let text = c.args.text.now in
@@ -38,8 +38,8 @@ returns-in_err-rates c =
       | inr both ↦ inr (rw both.0 (with_difference p text bounds have (difference_of_rates p text c.deref-3.result.now c.deref-3.ensures.value both.1)))
     ])
 
-pub returns-in_err-periods : goal.returns-in_err-periods
-returns-in_err-periods c =
+pub returns-in_err-periods-clause-lists : goal.returns-in_err-periods-clause-lists
+returns-in_err-periods-clause-lists c =
     let i = c.self.inside in
     let p = plan_of i.terms i.lists.airlines i.lists.rates i.lists.periods i.day i.closed in
     let text = c.args.text.now in
@@ -52,8 +52,8 @@ returns-in_err-periods c =
       | inr both ↦ inr (rw both.0 (with_difference p text bounds have (difference_of_periods p text c.deref-4.result.now c.deref-4.ensures.value both.1)))
     ])
 
-pub returns-then-not-are_in_order : goal.returns-then-not-are_in_order
-returns-then-not-are_in_order c =
+pub returns-then-not-are_in_order-clause-lists : goal.returns-then-not-are_in_order-clause-lists
+returns-then-not-are_in_order-clause-lists c =
     let i = c.self.inside in
     let p = plan_of i.terms i.lists.airlines i.lists.rates i.lists.periods i.day i.closed in
     let text = c.args.text.now in
@@ -63,8 +63,8 @@ returns-then-not-are_in_order c =
     let order : are_in_order (once same_period (p.periods ++ text.periods.items)) ≡ false = order_from p text c.deref-4.result.now c.list.result.now false c.deref-4.ensures.value (c.list.ensures ∙ c.in_ok-periods.ensures.0) c.if-not-are_in_order.ensures in
     rw (← c.self.view_is) (inr (not_in_order p text bounds have none order))
 
-pub returns-then-has_late_rate : goal.returns-then-has_late_rate
-returns-then-has_late_rate c =
+pub returns-then-has_late_rate-clause-lists : goal.returns-then-has_late_rate-clause-lists
+returns-then-has_late_rate-clause-lists c =
     let i = c.self.inside in
     let p = plan_of i.terms i.lists.airlines i.lists.rates i.lists.periods i.day i.closed in
     let text = c.args.text.now in
@@ -75,8 +75,8 @@ returns-then-has_late_rate c =
     let late : has_late_rate p text ≡ true = late_from p text c.deref-3.result.now c.list-2.result.now (length c.list-3.result.now) true c.deref-3.ensures.value (c.list-2.ensures ∙ c.in_ok-rates.ensures.0) (ap length c.list-3.ensures) c.if-has_late_rate.ensures in
     rw (← c.self.view_is) (inr (with_late_rate p text bounds have none order late))
 
-pub returns : goal.returns
-returns c =
+pub returns-clause-lists : goal.returns-clause-lists
+returns-clause-lists c =
     let i = c.self.inside in
     let p = plan_of i.terms i.lists.airlines i.lists.rates i.lists.periods i.day i.closed in
     let text = c.args.text.now in
@@ -87,7 +87,6 @@ returns c =
     let late : has_late_rate p text ≡ false = late_from p text c.deref-3.result.now c.list-2.result.now (length c.list-3.result.now) false c.deref-3.ensures.value (c.list-2.ensures ∙ c.in_ok-rates.ensures.0) (ap length c.list-3.ensures) c.if-has_late_rate.ensures in
     rw (← c.self.view_is) (
       accepted p text bounds have none order late,
-      sym (rw c.list.ensures at c.if-not-are_in_order.ensures),
       (rw c.deref.ensures.value at c.in_ok-airlines.ensures),
       (rw c.deref-3.ensures.value at c.in_ok-rates.ensures.0),
       (rw c.deref-4.ensures.value at c.in_ok-periods.ensures.0),
