@@ -23,10 +23,28 @@ fn read_whole(name: &str) -> io::Result<Vec<u8>> {
     Ok(bytes)
 }
 
-pub fn write_money(out: &mut impl Write, amount: i128) -> io::Result<()> {
-    let sign = if amount < 0 { "-" } else { "" };
-    let size = amount.unsigned_abs();
-    write!(out, "{sign}{}.{:02}", size / 100, size % 100)
+// Writes units, a point and two digits, from the last digit to the first.
+pub fn write_money(out: &mut impl Write, amount: i64) -> io::Result<()> {
+    let mut text = [0; 24];
+    let mut from = text.len();
+    let mut left = amount.unsigned_abs();
+    loop {
+        if from == text.len() - 2 {
+            from -= 1;
+            text[from] = b'.';
+        }
+        from -= 1;
+        text[from] = b'0' + (left % 10) as u8;
+        left /= 10;
+        if left == 0 && from < text.len() - 3 {
+            break;
+        }
+    }
+    if amount < 0 {
+        from -= 1;
+        text[from] = b'-';
+    }
+    out.write_all(&text[from..])
 }
 
 type Report = fn(&[u8], &mut Output) -> io::Result<u8>;

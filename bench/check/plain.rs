@@ -10,54 +10,37 @@ mod program;
 #[allow(dead_code)]
 mod reader;
 
-/// How many records a transaction has, and the sum of its forms.
-fn counted(group: &[u8]) -> (usize, i128) {
-    let (mut records, mut sum) = (0, 0);
-    for line in group.split(|b| *b == b'\n').filter(|line| !line.is_empty()) {
-        records += 1;
-        if line[0] == b'8' {
-            sum += i128::from(reader::zoned(&line[9..20]).unwrap_or(0));
-        }
-    }
-    (records, sum)
-}
-
-fn write_group(out: &mut impl Write, group: &[u8], sum: i128) -> io::Result<()> {
-    for (part, end) in [
-        (&group[1..7], " "),
-        (&group[7..11], " "),
-        (&group[11..19], " "),
-        (&group[19..22], "-"),
-        (&group[22..32], "-"),
-        (&group[32..33], " 20"),
-        (&group[33..35], "-"),
-        (&group[35..37], "-"),
-        (&group[37..39], " "),
-    ] {
-        out.write_all(part)?;
-        out.write_all(end.as_bytes())?;
-    }
-    write_money(out, sum)?;
+/// The line of a transaction, from the columns of its record 2.
+fn write_group(out: &mut impl Write, group: &reader::Group<'_>) -> io::Result<()> {
+    let sale = group.text;
+    let mut line = *b"000000 CODE 00000000 000-0000000000-0 2000-00-00 ";
+    line[..6].copy_from_slice(&sale[1..7]);
+    line[7..11].copy_from_slice(&sale[7..11]);
+    line[12..20].copy_from_slice(&sale[11..19]);
+    line[21..24].copy_from_slice(&sale[19..22]);
+    line[25..35].copy_from_slice(&sale[22..32]);
+    line[36] = sale[32];
+    line[40..42].copy_from_slice(&sale[33..35]);
+    line[43..45].copy_from_slice(&sale[35..37]);
+    line[46..48].copy_from_slice(&sale[37..39]);
+    out.write_all(&line)?;
+    write_money(out, group.sum)?;
     out.write_all(b"\n")
 }
 
 fn report(bytes: &[u8], out: &mut Output) -> io::Result<u8> {
-    let groups = match reader::read(bytes) {
-        Ok(groups) => groups,
+    let file = match reader::read(bytes) {
+        Ok(file) => file,
         Err((code, at)) => {
             writeln!(out, "F{code:02} record {at}")?;
             return Ok(1);
         }
     };
-    let (mut records, mut total) = (2, 0);
-    for group in &groups {
-        let (lines, sum) = counted(group);
-        write_group(out, group, sum)?;
-        records += lines;
-        total += sum;
+    for group in &file.groups {
+        write_group(out, group)?;
     }
-    write!(out, "records {records} transactions {} sum ", groups.len())?;
-    write_money(out, total)?;
+    write!(out, "records {} transactions {} sum ", file.records, file.groups.len())?;
+    write_money(out, file.sum)?;
     out.write_all(b"\n")?;
     Ok(0)
 }

@@ -10,7 +10,7 @@ python3 "$here/make_file.py" "$megabytes" "$work/whole.ret"
 python3 "$here/make_file.py" "$((megabytes / 10))" "$work/tenth.ret"
 rustc -O -o "$work/plain" "$here/plain.rs" 2>/dev/null
 
-workspace reading bsp_fields bsp_ret
+workspace reading bsp_fields bsp_records bsp_ret
 source_file reading main.rt <<'PROGRAM'
 #![tactic(auto)]
 
@@ -34,7 +34,8 @@ fn pieces(rt: &HostRuntime, bytes: &[u8]) -> io::Result<()> {
     for piece in bytes.chunks(65_536) {
         let _ = reader.feed(piece);
     }
-    let count = match reader.finish() {
+    let _ = reader.finish();
+    let count = match reader.file() {
         Ok(file) => file.transactions(),
         Err(fault) => fault.at,
     };
@@ -62,5 +63,5 @@ for file in tenth whole; do
   ours=$(best read_ret <"$work/$file.out")
   fed=$(best RetReader <"$work/$file.out")
   echo "$file: $(stat -c %s "$work/$file.ret") bytes; plain Rust: $(cat "$work/$file.plain")"
-  echo "$file: read_ret $ours us, $(awk "BEGIN {printf \"%.2f\", $ours / $plain}") of plain; RetReader with finish $fed us, $(awk "BEGIN {printf \"%.2f\", $fed / $plain}") of plain"
+  echo "$file: read_ret $ours us, $(awk "BEGIN {printf \"%.2f\", $ours / $plain}") of plain; RetReader with finish and file $fed us, $(awk "BEGIN {printf \"%.2f\", $fed / $plain}") of plain"
 done

@@ -7,8 +7,13 @@ ghost use Rattle.bsp_fields.specs.Decimal.{digits_reading, fixed_digits};
 use crate::fault::FieldFault;
 use std::{fmt, str};
 
-/// The number that the digits write.
-pub(crate) fn read_digits(text: &[u8]) -> Result<u64, FieldFault>
+/// The number that at most 19 digits write.
+///
+/// # Errors
+///
+/// `NotDigit` where a character is none.
+#[inline]
+pub fn read_digits(text: &[u8]) -> Result<u64, FieldFault>
     requires { length text.now ≤ 19 }
     ensures value { result ≡ digits_reading text.now }
     ensures bound { IfOk result (λ number. number < 10 ^ 19) }

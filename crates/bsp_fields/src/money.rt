@@ -1,6 +1,8 @@
-ghost use Rattle.std.specs.Prelude.{◌≡◌, IfOk, string_bytes};
+ghost use Rattle.std.specs.Prelude.{◌≡◌, ◌++◌, IfOk, OnOk, string_bytes};
 ghost use Rattle.bsp_fields.specs.Money.{money_text};
 
+use crate::digits::write_digits;
+use itoa::Buffer;
 use std::alloc::{AllocError, Global};
 use thiserror::Error;
 
@@ -29,4 +31,25 @@ pub fn write_money(alloc: Global, amount: i128) -> Result<String, NoRoom>
     let cents = (size % 100) as u8;
     let sign = if amount < 0 { "-" } else { "" };
     Ok(format!(in alloc; "{sign}{units}.{cents:02}")?)
+}
+
+/// Appends an amount of minor units (hundredths of the currency) as money text. Where it errs, a
+/// part of the text may be appended.
+///
+/// # Errors
+///
+/// `NoRoom` where an allocation was refused, and for no other cause.
+#[inline]
+pub fn push_money(out: &mut Vec<u8>, amount: i64) -> Result<(), NoRoom>
+    ensures { OnOk result (out.new.items ≡ out.old.items ++ money_text amount) }
+{
+    if amount < 0 {
+        out.extend_from_slice(b"-")?;
+    }
+    let size = amount.unsigned_abs();
+    let mut units = Buffer::new();
+    out.extend_from_slice(units.format(size / 100).as_bytes())?;
+    let [tens, ones] = write_digits::<2>(size % 100);
+    out.extend_from_slice(&[b'.', tens, ones])?;
+    Ok(())
 }

@@ -4,8 +4,13 @@ ghost use Rattle.bsp_fields.specs.Zoned.{IsSpelling, zoned_reading, spelling, en
 use crate::digits::{read_digits, write_digits};
 use crate::fault::FieldFault;
 
-/// Whether the last character has a minus, and its digit.
-fn read_ending(last: u8) -> Result<(bool, u8), FieldFault>
+/// What the last character of an amount or a total carries: whether a minus, and its digit.
+///
+/// # Errors
+///
+/// `NotSign` where it carries none.
+#[inline]
+pub fn read_ending(last: u8) -> Result<(bool, u8), FieldFault>
     ensures { result ≡ ending_reading last }
 {
     match last {

@@ -1,7 +1,8 @@
 -- What a line says, as record number n of a file, and how records stand with it.
 use Rattle.std.specs.Prelude.{ℕ, ◌+◌, ◌&&◌, List, [], ◌∷◌, Option, Some, None, Result, Ok, Err, if◌then◌else◌}
 use Rattle.std.specs.Str.{bytes_eq}
-use Rattle.bsp_ret.specs.Records.{columns, is_wide, spells}
+use Rattle.bsp_records.specs.Columns.{columns, is_wide}
+use Rattle.bsp_records.specs.Fields.{spells}
 use Rattle.bsp_hot_check.specs.declared.name.RecordName.{RecordName}
 use Rattle.bsp_hot_check.specs.declared.model.Record.{Record as JudgedRecord}
 use Rattle.bsp_hot_check.specs.declared.model.Standing.{Standing}
@@ -23,6 +24,10 @@ judged_or (Some r) = Some (judged r)
 
 abbrev pub judged_at : ℕ → List ℕ → Option JudgedRecord
 judged_at n line = judged_or (record_at n line)
+
+-- what a record with the name says that is judged, where its fields are in their form
+abbrev pub judged_if : RecordName → List ℕ → Option JudgedRecord
+judged_if name line = if fields_fit name line then Some (judged (record_of name line)) else None
 
 abbrev pub step_or : Standing → Option JudgedRecord → Option Standing
 step_or at None = None

@@ -5,7 +5,9 @@ use Rattle.std.specs.List.{list_all}
 use Rattle.std.specs.Str.{all_ascii_digits, bytes_eq}
 use Rattle.bsp_fields.specs.Decimal.{number_of}
 use Rattle.bsp_fields.specs.Zoned.{zoned_reading}
-use Rattle.bsp_ret.specs.Records.{columns, is_letter, is_letter_or_digit, is_space, is_wide, spells, spells_at_most, is_amount, is_total, is_record_day, tax_places, taxes_fit}
+use Rattle.bsp_records.specs.Columns.{columns, is_letter, is_letter_or_digit, is_space, is_wide}
+use Rattle.bsp_records.specs.Fields.{spells, spells_at_most, is_amount, is_total, is_record_day}
+use Rattle.bsp_records.specs.Taxes.{tax_places, taxes_fit}
 use Rattle.bsp_hot_check.specs.declared.model.DocumentCode.{DocumentCode}
 use Rattle.bsp_hot_check.specs.declared.model.DocumentCode.TheVariants.{Tktt, Rfnd, Canx, Adma, Acma}
 use Rattle.bsp_hot_check.specs.declared.model.Totals.{Totals}

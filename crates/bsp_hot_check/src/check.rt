@@ -1,14 +1,14 @@
 //! A HOT file, from its text to its totals.
 
 ghost use Rattle.std.specs.Prelude.{◌≡◌, ◌≤◌, ℕ, List, length, Ok, IfOk, IfErr};
-ghost use Rattle.bsp_ret.specs.Lines.{lines};
+ghost use Rattle.bsp_records.specs.Lines.{lines};
 ghost use Rattle.bsp_hot_check.specs.Hot.{File, Hot, HotOrFault, totals_of_file};
 ghost use Rattle.bsp_hot_check.specs.Standings.{start, IsSmall};
 ghost use Rattle.bsp_hot_check.specs.Reading.{judge_from};
 ghost use Rattle.bsp_hot_check.specs.Checked.{HasTotals, IsFaultOf};
 
 use crate::model::{HotTotals, RecordFault, Standing};
-use bsp_ret::first_line;
+use bsp_records::first_record;
 
 /// How the lines stand, or the number of the first that those before do not allow.
 fn judge(bytes: &[u8]) -> Result<Standing, usize>
@@ -18,11 +18,13 @@ fn judge(bytes: &[u8]) -> Result<Standing, usize>
     let mut standing = Standing::start();
     let mut rest = bytes;
     while !rest.is_empty() {
-        let (line, after) = first_line(rest);
-        let Some(next) = standing.with_line(line) else {
-            return Err(standing.records + 1);
+        let number = standing.records + 1;
+        let Some((line, after)) = first_record(rest) else {
+            return Err(number);
         };
-        standing = next;
+        if !standing.take_line(line) {
+            return Err(number);
+        }
         rest = after;
     }
     if standing.place.is_ended() {

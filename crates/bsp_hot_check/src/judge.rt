@@ -1,6 +1,7 @@
 //! Each record behind those before it: whether they allow it, and how they stand with it.
 
-ghost use Rattle.std.specs.Prelude.{◌≡◌, ◌<◌, ◌^◌, IfSome};
+ghost use Rattle.std.specs.Prelude.{◌≡◌, ◌<◌, ◌^◌, length, true, false, Some, None};
+ghost use Rattle.bsp_records.specs.Columns.{is_wide};
 ghost use Rattle.bsp_hot_check.specs.Standings.{heading_step, period_step, office_step, transaction_step, document_step, part_step, code_totals_step, office_totals_step, period_totals_step, file_totals_step, step, is_agent, is_agent_after, is_key_after, is_next, IsSmall, IsSmallPart, IsSmallRecord, IsSmallNext};
 ghost use Rattle.bsp_hot_check.specs.Reading.{step_line};
 
@@ -54,76 +55,79 @@ fn is_next(next: Option<DocumentCode>, code: DocumentCode) -> bool
 impl Standing {
     /// BFH01 is the first record.
     #[tactic(auto, unfolding(crate::specs::Standings::heading_step))]
-    fn with_heading(self, heading: Heading) -> Option<Standing>
-        requires { self.records < 2 ^ 63 }
-        ensures { result ≡ heading_step self heading }
+    fn take_heading(&mut self, heading: Heading) -> bool
+        requires { self.old.records < 2 ^ 63 }
+        ensures taken { result ≡ true → heading_step self.old heading ≡ Some self.new }
+        ensures refused { result ≡ false → heading_step self.old heading ≡ None }
     {
         if !matches!(self.place, Place::Start) {
-            return None;
+            return false;
         }
-        Some(Standing {
-            heading,
-            ..self.moved(Place::Headed)
-        })
+        self.heading = heading;
+        self.move_to(Place::Headed);
+        true
     }
 
     /// BCH02 is the second, of the same period.
     #[tactic(auto, unfolding(crate::specs::Standings::period_step))]
-    fn with_period(self, period: u64) -> Option<Standing>
-        requires { self.records < 2 ^ 63 }
-        ensures { result ≡ period_step self period }
+    fn take_period(&mut self, period: u64) -> bool
+        requires { self.old.records < 2 ^ 63 }
+        ensures taken { result ≡ true → period_step self.old period ≡ Some self.new }
+        ensures refused { result ≡ false → period_step self.old period ≡ None }
     {
         if !matches!(self.place, Place::Headed) || period != self.heading.period {
-            return None;
+            return false;
         }
-        Some(self.moved(Place::Between))
+        self.move_to(Place::Between);
+        true
     }
 
     /// BOH03 begins the office of a later agent, with the file's period and currency.
     #[tactic(auto, unfolding(crate::specs::Standings::office_step))]
-    fn with_office(self, office: OfficeHeader) -> Option<Standing>
-        requires { self.records < 2 ^ 63 }
-        ensures { result ≡ office_step self office }
+    fn take_office(&mut self, office: OfficeHeader) -> bool
+        requires { self.old.records < 2 ^ 63 }
+        ensures taken { result ≡ true → office_step self.old office ≡ Some self.new }
+        ensures refused { result ≡ false → office_step self.old office ≡ None }
     {
         let allowed = matches!(self.place, Place::Between)
             && is_agent_after(self.agent, office.agent)
             && office.period == self.heading.period
             && office.currency.as_slice() == self.heading.currency.as_slice();
         if !allowed {
-            return None;
+            return false;
         }
-        Some(Standing {
-            agent: Some(office.agent),
-            ..self.moved(Place::Opened)
-        })
+        self.agent = Some(office.agent);
+        self.move_to(Place::Opened);
+        true
     }
 
     /// BKT06 begins the next transaction, of the file's airline.
     #[tactic(auto, unfolding(crate::specs::Standings::transaction_step))]
-    fn with_transaction(self, header: TransactionHeader) -> Option<Standing>
-        requires room { self.records < 2 ^ 63 }
-        requires small { IsSmall self }
-        ensures { result ≡ transaction_step self header }
+    fn take_transaction(&mut self, header: TransactionHeader) -> bool
+        requires room { self.old.records < 2 ^ 63 }
+        requires small { IsSmall self.old }
+        ensures taken { result ≡ true → transaction_step self.old header ≡ Some self.new }
+        ensures refused { result ≡ false → transaction_step self.old header ≡ None }
     {
         let transactions = self.transactions + 1;
         let allowed = self.place.takes_transaction()
             && header.transaction == transactions
             && header.airline == self.heading.airline;
         if !allowed {
-            return None;
+            return false;
         }
-        Some(Standing {
-            transactions,
-            ..self.moved(Place::Begun)
-        })
+        self.transactions = transactions;
+        self.move_to(Place::Begun);
+        true
     }
 
     /// BKS24 follows BKT06, with a later document of the office's agent.
     #[tactic(auto, unfolding(crate::specs::Standings::document_step))]
-    fn with_document(self, document: Document) -> Option<Standing>
-        requires room { self.records < 2 ^ 63 }
-        requires small { IsSmall self }
-        ensures { result ≡ document_step self document }
+    fn take_document(&mut self, document: Document) -> bool
+        requires room { self.old.records < 2 ^ 63 }
+        requires small { IsSmall self.old }
+        ensures taken { result ≡ true → document_step self.old document ≡ Some self.new }
+        ensures refused { result ≡ false → document_step self.old document ≡ None }
     {
         let key = document.key;
         let allowed = matches!(self.place, Place::Begun)
@@ -131,144 +135,152 @@ impl Standing {
             && is_agent(self.agent, document.agent)
             && is_key_after(self.office.latest, key);
         if !allowed {
-            return None;
+            return false;
         }
-        let known = Standing {
-            office: OfficeSums {
-                latest: Some(key),
-                ..self.office
-            },
-            ..self
-        };
+        self.office.latest = Some(key);
         let progress = Progress {
             code: key.code,
             stage: Stage::Document,
             related: false,
         };
-        Some(known.counted(progress, Sums::DOCUMENT))
+        self.count(progress, Sums::DOCUMENT);
+        true
     }
 
     /// BKS30, BKS39, BKS45 or BKP84 follows where the document takes it.
     #[tactic(auto, unfolding(crate::specs::Standings::part_step))]
-    fn with_part(self, next: PartOf) -> Option<Standing>
-        requires room { self.records < 2 ^ 63 }
-        requires small { IsSmall self }
+    fn take_part(&mut self, next: PartOf) -> bool
+        requires room { self.old.records < 2 ^ 63 }
+        requires small { IsSmall self.old }
         requires part { IsSmallPart next.part }
-        ensures { result ≡ part_step self next }
+        ensures taken { result ≡ true → part_step self.old next ≡ Some self.new }
+        ensures refused { result ≡ false → part_step self.old next ≡ None }
     {
         let Place::InDocument(progress) = self.place else {
-            return None;
+            return false;
         };
         let allowed = progress.takes(self.heading.airline, next.part)
             && next.transaction == self.transactions;
         if !allowed {
-            return None;
+            return false;
         }
-        Some(self.counted(progress.behind(next.part), next.part.sums()))
+        self.count(progress.behind(next.part), next.part.sums());
+        true
     }
 
     /// BOT93 has the totals of the next code that has a document.
     #[tactic(auto, unfolding(crate::specs::Standings::code_totals_step))]
-    fn with_code_totals(self, next: CodeTotals) -> Option<Standing>
-        requires room { self.records < 2 ^ 63 }
-        requires small { IsSmall self }
-        ensures { result ≡ code_totals_step self next }
+    fn take_code_totals(&mut self, next: &CodeTotals) -> bool
+        requires room { self.old.records < 2 ^ 63 }
+        requires small { IsSmall self.old }
+        ensures taken { result ≡ true → code_totals_step self.old next.now ≡ Some self.new }
+        ensures refused { result ≡ false → code_totals_step self.old next.now ≡ None }
     {
         let allowed = is_next(self.office.codes.next_code(self.place), next.code)
             && is_agent(self.agent, next.agent)
             && self.office.codes.of(next.code).has(next.totals);
         if !allowed {
-            return None;
+            return false;
         }
-        Some(self.moved(Place::Totalled(next.code)))
+        self.move_to(Place::Totalled(next.code));
+        true
     }
 
     /// BOT94 has the totals of the office behind its last BOT93.
     #[tactic(auto, unfolding(crate::specs::Standings::office_totals_step))]
-    fn with_office_totals(self, next: OfficeTotals) -> Option<Standing>
-        requires room { self.records < 2 ^ 63 }
-        requires small { IsSmall self }
-        ensures { result ≡ office_totals_step self next }
+    fn take_office_totals(&mut self, next: &OfficeTotals) -> bool
+        requires room { self.old.records < 2 ^ 63 }
+        requires small { IsSmall self.old }
+        ensures taken { result ≡ true → office_totals_step self.old next.now ≡ Some self.new }
+        ensures refused { result ≡ false → office_totals_step self.old next.now ≡ None }
     {
         let allowed = matches!(self.place, Place::Totalled(_))
             && self.office.codes.next_code(self.place).is_none()
             && is_agent(self.agent, next.agent)
             && self.office.all.has(next.totals);
         if !allowed {
-            return None;
+            return false;
         }
-        Some(Standing {
-            offices: self.offices + 1,
-            office: OfficeSums::NONE,
-            ..self.moved(Place::Between)
-        })
+        self.offices += 1;
+        self.office = OfficeSums::NONE;
+        self.move_to(Place::Between);
+        true
     }
 
     /// BCT95 has the number of offices and the totals of all documents, behind the last office.
     #[tactic(auto, unfolding(crate::specs::Standings::period_totals_step))]
-    fn with_period_totals(self, next: PeriodTotals) -> Option<Standing>
-        requires room { self.records < 2 ^ 63 }
-        requires small { IsSmall self }
-        ensures { result ≡ period_totals_step self next }
+    fn take_period_totals(&mut self, next: &PeriodTotals) -> bool
+        requires room { self.old.records < 2 ^ 63 }
+        requires small { IsSmall self.old }
+        ensures taken { result ≡ true → period_totals_step self.old next.now ≡ Some self.new }
+        ensures refused { result ≡ false → period_totals_step self.old next.now ≡ None }
     {
         let allowed = matches!(self.place, Place::Between)
             && next.period == self.heading.period
             && next.offices == self.offices
             && self.file.has(next.totals);
         if !allowed {
-            return None;
+            return false;
         }
-        Some(self.moved(Place::Closed))
+        self.move_to(Place::Closed);
+        true
     }
 
     /// BFT99 is the last record, and has their number and the totals.
     #[tactic(auto, unfolding(crate::specs::Standings::file_totals_step))]
-    fn with_file_totals(self, next: FileTotals) -> Option<Standing>
-        requires room { self.records < 2 ^ 63 }
-        requires small { IsSmall self }
-        ensures { result ≡ file_totals_step self next }
+    fn take_file_totals(&mut self, next: &FileTotals) -> bool
+        requires room { self.old.records < 2 ^ 63 }
+        requires small { IsSmall self.old }
+        ensures taken { result ≡ true → file_totals_step self.old next.now ≡ Some self.new }
+        ensures refused { result ≡ false → file_totals_step self.old next.now ≡ None }
     {
         let allowed = matches!(self.place, Place::Closed)
             && next.airline == self.heading.airline
             && next.records == self.records + 1
             && self.file.has(next.totals);
         if !allowed {
-            return None;
+            return false;
         }
-        Some(self.moved(Place::Ended))
+        self.move_to(Place::Ended);
+        true
     }
 
-    /// How the records stand with one more, where those before allow it.
-    fn with_record(self, next: Record) -> Option<Standing>
-        requires room { self.records < 2 ^ 63 }
-        requires small { IsSmall self }
-        requires next { IsSmallRecord next }
-        ensures { result ≡ step self next }
+    /// Takes one more record, where those before allow it, and answers whether they do.
+    fn take_record(&mut self, next: &Record) -> bool
+        requires room { self.old.records < 2 ^ 63 }
+        requires small { IsSmall self.old }
+        requires next { IsSmallRecord next.now }
+        ensures taken { result ≡ true → step self.old next.now ≡ Some self.new }
+        ensures refused { result ≡ false → step self.old next.now ≡ None }
     {
         match next {
-            Record::FileHeader(heading) => self.with_heading(heading),
-            Record::PeriodHeader(period) => self.with_period(period),
-            Record::OfficeHeader(office) => self.with_office(office),
-            Record::TransactionHeader(header) => self.with_transaction(header),
-            Record::Document(document) => self.with_document(document),
-            Record::PartOf(part) => self.with_part(part),
-            Record::CodeTotals(next) => self.with_code_totals(next),
-            Record::OfficeTotals(next) => self.with_office_totals(next),
-            Record::PeriodTotals(next) => self.with_period_totals(next),
-            Record::FileTotals(next) => self.with_file_totals(next),
+            Record::FileHeader(heading) => self.take_heading(*heading),
+            Record::PeriodHeader(period) => self.take_period(*period),
+            Record::OfficeHeader(office) => self.take_office(*office),
+            Record::TransactionHeader(header) => self.take_transaction(*header),
+            Record::Document(document) => self.take_document(*document),
+            Record::PartOf(part) => self.take_part(*part),
+            Record::CodeTotals(next) => self.take_code_totals(next),
+            Record::OfficeTotals(next) => self.take_office_totals(next),
+            Record::PeriodTotals(next) => self.take_period_totals(next),
+            Record::FileTotals(next) => self.take_file_totals(next),
         }
     }
 
-    /// How the lines stand with one more, where it is a record that those before allow.
-    pub(crate) fn with_line(self, line: &[u8]) -> Option<Standing>
-        requires room { self.records < 2 ^ 63 }
-        requires small { IsSmall self }
-        ensures step { result ≡ step_line self line.now }
-        ensures small { IfSome result (IsSmallNext self) }
+    /// Takes one more line of a record's width, where it is a record that those before allow, and
+    /// answers whether it is. After a refusal the lines stand as no file's do.
+    pub(crate) fn take_line(&mut self, line: &[u8]) -> bool
+        requires wide { is_wide line.now ≡ true }
+        requires long { length line.now ≡ 136 }
+        requires room { self.old.records < 2 ^ 63 }
+        requires small { IsSmall self.old }
+        ensures taken { result ≡ true → step_line self.old line.now ≡ Some self.new }
+        ensures small { result ≡ true → IsSmallNext self.old self.new }
+        ensures refused { result ≡ false → step_line self.old line.now ≡ None }
     {
         match read_record(self.records + 1, line) {
-            Some(next) => self.with_record(next),
-            None => None,
+            Some(next) => self.take_record(&next),
+            None => false,
         }
     }
 }

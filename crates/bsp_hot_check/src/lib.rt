@@ -9,11 +9,11 @@ mod model;
 mod name;
 mod places;
 mod reading;
+mod records;
 mod standing;
 mod sums;
 #[cfg(test)]
 mod tests;
-mod values;
 
 pub use check::{check_hot, hot_or_fault};
 pub use model::{CodeSums, DocumentCode, HotTotals, RecordFault, Sums};

@@ -1,30 +1,31 @@
 //! A record from its line.
 
-ghost use Rattle.std.specs.Prelude.{◌≡◌, IfSome};
+ghost use Rattle.std.specs.Prelude.{◌≡◌, length, true, IfSome};
+ghost use Rattle.bsp_records.specs.Columns.{is_wide};
 ghost use Rattle.bsp_hot_check.specs.Reading.{record_at, judged_at};
 ghost use Rattle.bsp_hot_check.specs.Standings.{IsSmallRecord};
 
-use crate::fields::fields_fit;
 use crate::model::Record;
 use crate::name::RecordName;
-use crate::values::record_of;
-use bsp_ret::{is_wide, spells};
+use crate::records::record_of;
+use bsp_records::spells;
 
-/// What is judged of a line, where it is a record with this number in its file.
+/// What is judged of a line that has a record's width, where it is a record with this number in its
+/// file.
 #[tactic(auto, unfolding(crate::specs::Reading::record_at))]
+#[inline]
 pub(crate) fn read_record(number: usize, line: &[u8]) -> Option<Record>
+    requires wide { is_wide line.now ≡ true }
+    requires long { length line.now ≡ 136 }
     ensures value { result ≡ judged_at number line.now }
     ensures small { IfSome result IsSmallRecord }
 {
-    if !is_wide(line) || !spells(number, &line[3..11]) {
+    if !spells(number, &line[3..11]) {
         return None;
     }
-    let Some(name) = RecordName::of(&line[11..13]) else {
+    let name = RecordName::of(&line[11..13])?;
+    if !name.has_letters(&line[..3]) {
         return None;
-    };
-    if name.has_letters(&line[..3]) && fields_fit(name, line) {
-        Some(record_of(name, line))
-    } else {
-        None
     }
+    record_of(name, line)
 }

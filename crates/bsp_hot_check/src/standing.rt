@@ -26,34 +26,28 @@ impl Standing {
         }
     }
 
-    /// With one more record, which brings them to that place.
-    pub(crate) fn moved(self, place: Place) -> Standing
-        requires { self.records < 2 ^ 63 }
-        ensures { result ≡ moved self place }
+    /// Takes one more record, which brings them to that place.
+    #[inline]
+    pub(crate) fn move_to(&mut self, place: Place)
+        requires { self.old.records < 2 ^ 63 }
+        ensures { self.new ≡ moved self.old place }
     {
-        Standing {
-            records: self.records + 1,
-            place,
-            ..self
-        }
+        self.records += 1;
+        self.place = place;
     }
 
-    /// With one more record of a document, which adds these sums.
-    pub(crate) fn counted(self, progress: Progress, sums: Sums) -> Standing
-        requires room { self.records < 2 ^ 63 }
-        requires small { IsSmall self }
+    /// Takes one more record of a document, which adds these sums.
+    #[inline]
+    pub(crate) fn count(&mut self, progress: Progress, sums: Sums)
+        requires room { self.old.records < 2 ^ 63 }
+        requires small { IsSmall self.old }
         requires one { AreSmall 1 sums }
-        ensures { result ≡ counted self progress sums }
+        ensures { self.new ≡ counted self.old progress sums }
     {
-        Standing {
-            file: self.file.plus(sums),
-            office: OfficeSums {
-                codes: self.office.codes.plus(progress.code, sums),
-                all: self.office.all.plus(sums),
-                latest: self.office.latest,
-            },
-            ..self.moved(Place::InDocument(progress))
-        }
+        self.move_to(Place::InDocument(progress));
+        self.file = self.file.plus(sums);
+        self.office.all = self.office.all.plus(sums);
+        self.office.codes.add(progress.code, sums);
     }
 
     /// The totals of a file that stands so.

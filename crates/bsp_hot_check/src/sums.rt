@@ -76,6 +76,7 @@ impl Sums {
     };
 
     /// Both together.
+    #[inline]
     #[tactic(auto, unfolding(crate::specs::Sums::add))]
     pub fn plus(self, other: Sums) -> Sums
         requires small { AreSmall (2 ^ 63) self }
@@ -149,27 +150,23 @@ impl CodeSums {
         requires also_small { AreSmall (2 ^ 63 - 1) sums }
         ensures { result ≡ add_at self code sums }
     {
+        let mut codes = self;
+        codes.add(code, sums);
+        codes
+    }
+
+    /// Adds more of the code.
+    pub(crate) fn add(&mut self, code: DocumentCode, sums: Sums)
+        requires small { AreSmallSums (2 ^ 63) self.old }
+        requires also_small { AreSmall (2 ^ 63 - 1) sums }
+        ensures { self.new ≡ add_at self.old code sums }
+    {
         match code {
-            DocumentCode::Tktt => CodeSums {
-                tktt: self.tktt.plus(sums),
-                ..self
-            },
-            DocumentCode::Rfnd => CodeSums {
-                rfnd: self.rfnd.plus(sums),
-                ..self
-            },
-            DocumentCode::Canx => CodeSums {
-                canx: self.canx.plus(sums),
-                ..self
-            },
-            DocumentCode::Adma => CodeSums {
-                adma: self.adma.plus(sums),
-                ..self
-            },
-            DocumentCode::Acma => CodeSums {
-                acma: self.acma.plus(sums),
-                ..self
-            },
+            DocumentCode::Tktt => self.tktt = self.tktt.plus(sums),
+            DocumentCode::Rfnd => self.rfnd = self.rfnd.plus(sums),
+            DocumentCode::Canx => self.canx = self.canx.plus(sums),
+            DocumentCode::Adma => self.adma = self.adma.plus(sums),
+            DocumentCode::Acma => self.acma = self.acma.plus(sums),
         }
     }
 }

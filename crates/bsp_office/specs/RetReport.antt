@@ -1,52 +1,51 @@
 -- The report of `check` on a RET file.
-use Rattle.std.specs.Prelude.{◌≡◌, ℕ, suc, ℤ, pos, ◌+ℤ◌, List, [], ◌∷◌, ◌++◌, length, codes, Option, Some, None, ◌⊎◌}
+use Rattle.std.specs.Prelude.{◌≡◌, ℕ, suc, ℤ, List, [], ◌∷◌, ◌++◌, length, codes, Some, ◌⊎◌}
 use Rattle.std.specs.List.{concat}
 use Rattle.std.specs.Fmt.{decimal}
 use Rattle.bsp_fields.specs.Decimal.{fixed_digits}
 use Rattle.bsp_fields.specs.Days.{day_text}
 use Rattle.bsp_fields.specs.Money.{money_text}
-use Rattle.bsp_ret.specs.declared.transactions.CardPayment.{CardPayment}
-use Rattle.bsp_ret.specs.declared.transactions.Transaction.{Transaction}
+use Rattle.bsp_ret.specs.declared.transactions.ReportedDocument.{ReportedDocument}
+use Rattle.bsp_ret.specs.declared.transactions.Sale.{Sale}
+use Rattle.bsp_ret.specs.declared.transactions.PaidSale.{PaidSale}
+use Rattle.bsp_ret.specs.Sales.{HasSale}
 use Rattle.bsp_ret.specs.declared.model.RetFault.{RetFault}
 use Rattle.bsp_ret.specs.Texts.{code_text, fault_text}
-use Rattle.bsp_ret.specs.Lines.{lines}
+use Rattle.bsp_records.specs.Lines.{lines}
 use Rattle.bsp_ret.specs.Table.{total_paid, first_fault}
 use Rattle.bsp_ret.specs.Ret.{File, Ret, flatten}
-use Rattle.bsp_ret.specs.Writing.{HaveContents, file_lines}
+use Rattle.bsp_ret.specs.Writing.{file_lines}
 
-abbrev pub amount_or : Option ℤ → ℤ
-amount_or None = pos 0
-amount_or (Some amount) = amount
+unfoldable pub document_text : ReportedDocument → List ℕ
+document_text d = concat (fixed_digits 3 d.airline ∷ codes "-" ∷ d.number ∷ codes "-" ∷ fixed_digits 1 d.check_digit ∷ [])
 
-abbrev pub card_amount : Option CardPayment → ℤ
-card_amount None = pos 0
-card_amount (Some payment) = payment.amount
-
--- the sum of a transaction's forms
-abbrev pub forms_sum : Transaction → ℤ
-forms_sum t = amount_or t.cash +ℤ card_amount t.credit +ℤ amount_or t.exchange
+unfoldable pub sale_text : Sale → List ℕ
+sale_text s = concat (code_text s.code ∷ codes " " ∷ s.agent ∷ codes " " ∷ document_text s.document ∷ codes " " ∷ day_text s.issued ∷ [])
 
 -- the line of transaction n
-unfoldable pub transaction_text : ℕ → Transaction → List ℕ
-transaction_text n t =
-    concat
-    (fixed_digits 6 n ∷ codes " " ∷ code_text t.code ∷ codes " " ∷ t.agent ∷ codes " "
-    ∷ fixed_digits 3 t.document.airline ∷ codes "-" ∷ t.document.number ∷ codes "-" ∷ fixed_digits 1 t.document.check_digit
-    ∷ codes " " ∷ day_text t.issued ∷ codes " " ∷ money_text (forms_sum t) ∷ codes "\n" ∷ [])
+unfoldable pub transaction_text : ℕ → PaidSale → List ℕ
+transaction_text n p = concat (fixed_digits 6 n ∷ codes " " ∷ sale_text p.sale ∷ codes " " ∷ money_text p.paid ∷ codes "\n" ∷ [])
 
 -- the lines of transactions, from number n on
-abbrev pub transactions_text : ℕ → List Transaction → List ℕ
+abbrev pub transactions_text : ℕ → List PaidSale → List ℕ
 transactions_text n [] = []
-transactions_text n (t ∷ ts) = transaction_text n t ++ transactions_text (suc n) ts
+transactions_text n (p ∷ sales) = transaction_text n p ++ transactions_text (suc n) sales
+
+-- the groups have these records 2 and these sums of their forms, from number n on
+abbrev pub HaveSales : ℕ → List (List (List ℕ)) → List PaidSale → Type 0
+HaveSales n [] [] = Unit {0}
+HaveSales n (group ∷ groups) (p ∷ sales) = HasSale n group p × HaveSales (suc n) groups sales
+HaveSales n [] (p ∷ sales) = ⊥
+HaveSales n (group ∷ groups) [] = ⊥
 
 abbrev pub total_text : ℕ → ℕ → ℤ → List ℕ
 total_text records transactions sum =
     codes "records " ++ (decimal records ++ (codes " transactions " ++ (decimal transactions ++ (codes " sum " ++ (money_text sum ++ codes "\n")))))
 
--- the report on a file whose groups have these values
-abbrev pub file_report : File → List Transaction → List ℕ
-file_report file ts =
-    transactions_text 1 ts ++ total_text (length (file_lines file)) (length file.groups) (total_paid (flatten file.groups))
+-- the report on a file whose groups have these records 2
+abbrev pub file_report : File → List PaidSale → List ℕ
+file_report file sales =
+    transactions_text 1 sales ++ total_text (length (file_lines file)) (length file.groups) (total_paid (flatten file.groups))
 
 abbrev pub fault_report : RetFault → List ℕ
 fault_report fault = fault_text fault.code ++ codes " record " ++ decimal fault.at ++ codes "\n"
@@ -55,9 +54,9 @@ fault_report fault = fault_text fault.code ++ codes " record " ++ decimal fault.
 pub record IsFileReport (bytes text : List ℕ) : Type 0 where
   pub file : File
   pub stands : Ret (lines bytes) file
-  pub transactions : List Transaction
-  pub contents : HaveContents 1 file.groups transactions
-  pub text_is : text ≡ file_report file transactions
+  pub sales : List PaidSale
+  pub have : HaveSales 1 file.groups sales
+  pub text_is : text ≡ file_report file sales
 
 -- the text is the report on the first fault of the bytes
 pub record IsFaultReport (bytes text : List ℕ) : Type 0 where
@@ -69,8 +68,8 @@ pub record IsFaultReport (bytes text : List ℕ) : Type 0 where
 abbrev pub IsRetReport : List ℕ → ℕ → List ℕ → Type 0
 IsRetReport bytes status text = ((status ≡ 0) × IsFileReport bytes text) ⊎ ((status ≡ 1) × IsFaultReport bytes text)
 
--- values of the groups, and their lines behind the old text
+-- records 2 of the groups, and their lines behind the old text
 pub record AreReported (old : List ℕ) (groups : List (List (List ℕ))) (text : List ℕ) : Type 0 where
-  pub transactions : List Transaction
-  pub contents : HaveContents 1 groups transactions
-  pub text_is : text ≡ old ++ transactions_text 1 transactions
+  pub sales : List PaidSale
+  pub have : HaveSales 1 groups sales
+  pub text_is : text ≡ old ++ transactions_text 1 sales

@@ -2,7 +2,7 @@
 
 ghost use Rattle.std.specs.Prelude.{◌≡◌, ◌≤◌, ◌<◌, ◌+◌, ◌⊎◌, ℕ, List, length, OnOk};
 ghost use Rattle.std.specs.Io.KnownBytes.{Consumes, IsAtEnd, Appends};
-ghost use Rattle.bsp_office.specs.Streams.{most, IsSent, IsReported};
+ghost use Rattle.bsp_office.specs.Streams.{most, IsSent, IsReported, IsCutShort};
 ghost use Rattle.bsp_office.specs.RetReport.{IsRetReport};
 ghost use Rattle.bsp_office.specs.HotReport.{IsHotReport};
 ghost use Rattle.bsp_office.specs.Report.{IsReport};
@@ -84,6 +84,8 @@ fn report_to<R: Read, W: Write>(
 pub fn check<R: Read, W: Write>(alloc: Global, reader: &mut R, writer: &mut W) -> u8
     ensures reports { (result ≡ 0) ⊎ (result ≡ 1) → (bytes : List ℕ) × Consumes (R.remaining reader.old) (R.remaining reader.new) bytes
         × IsAtEnd (R.remaining reader.new) × (text : List ℕ) × IsRetReport bytes result text × Appends (W.contents writer.old) (W.contents writer.new) text }
+    ensures refused { result ≡ 3 → (bytes : List ℕ) × Consumes (R.remaining reader.old) (R.remaining reader.new) bytes
+        × IsCutShort IsRetReport bytes (W.contents writer.old) (W.contents writer.new) }
     ensures limit { (bytes : List ℕ) × Consumes (R.remaining reader.old) (R.remaining reader.new) bytes × (length bytes ≤ most + 1) }
     ensures statuses { (result ≡ 0) ⊎ ((result ≡ 1) ⊎ (result ≡ 3)) }
 {
@@ -99,6 +101,8 @@ pub fn check<R: Read, W: Write>(alloc: Global, reader: &mut R, writer: &mut W) -
 pub fn hotcheck<R: Read, W: Write>(alloc: Global, reader: &mut R, writer: &mut W) -> u8
     ensures reports { (result ≡ 0) ⊎ (result ≡ 1) → (bytes : List ℕ) × Consumes (R.remaining reader.old) (R.remaining reader.new) bytes
         × IsAtEnd (R.remaining reader.new) × (text : List ℕ) × IsHotReport bytes result text × Appends (W.contents writer.old) (W.contents writer.new) text }
+    ensures refused { result ≡ 3 → (bytes : List ℕ) × Consumes (R.remaining reader.old) (R.remaining reader.new) bytes
+        × IsCutShort IsHotReport bytes (W.contents writer.old) (W.contents writer.new) }
     ensures limit { (bytes : List ℕ) × Consumes (R.remaining reader.old) (R.remaining reader.new) bytes × (length bytes ≤ most + 1) }
     ensures statuses { (result ≡ 0) ⊎ ((result ≡ 1) ⊎ (result ≡ 3)) }
 {

@@ -1,104 +1,70 @@
 //! The report on a RET file.
 
-ghost use Rattle.std.specs.Prelude.{◌≡◌, ◌≤◌, ◌++◌, unsigned_abs, [], ◌∷◌, List, IfOk, OnOk, map, length, string_bytes};
-ghost use Rattle.std.specs.List.{concat};
+ghost use Rattle.std.specs.Prelude.{◌≡◌, ◌++◌, List, IfOk, OnOk, length, string_bytes};
 ghost use Rattle.bsp_ret.specs.Table.{total_paid};
 ghost use Rattle.bsp_ret.specs.Ret.{flatten};
-ghost use Rattle.bsp_ret.specs.Writing.{HaveContents, file_lines};
-ghost use Rattle.bsp_ret.specs.declared.transactions.Transaction.{Transaction as Values};
-ghost use Rattle.bsp_office.specs.RetReport.{amount_or, card_amount, forms_sum, transaction_text, total_text, file_report, fault_report, AreReported, IsRetReport};
+ghost use Rattle.bsp_ret.specs.Writing.{file_lines};
+ghost use Rattle.bsp_ret.specs.declared.transactions.PaidSale.{PaidSale as Paid};
+ghost use Rattle.bsp_office.specs.RetReport.{document_text, sale_text, transaction_text, total_text, file_report, fault_report, HaveSales, AreReported, IsRetReport};
 
 use crate::report::Report;
-use bsp_fields::{Amount, NoRoom, write_digits, write_money};
-use bsp_ret::{CardPayment, FaultCode, RetFault, RetFile, Transaction, read_ret, transaction};
+use bsp_fields::{NoRoom, push_money, write_digits, write_money};
+use bsp_ret::{FaultCode, PaidSale, ReportedDocument, RetFault, RetFile, Sale, read_ret};
 use std::alloc::{AllocError, Global};
 
-fn amount_or(amount: Option<Amount>) -> i64
-    ensures value { result ≡ amount_or amount }
-    ensures small { unsigned_abs result ≤ 99_999_999_999 }
+/// Appends a document: its airline, its number and its check digit.
+#[tactic(auto, unfolding(crate::specs::RetReport::document_text))]
+#[inline]
+fn push_document(out: &mut Vec<u8>, document: &ReportedDocument) -> Result<(), AllocError>
+    ensures { OnOk result (out.new.items ≡ out.old.items ++ document_text document.now) }
 {
-    match amount {
-        Some(amount) => amount.get(),
-        None => 0,
-    }
+    out.extend_from_slice(&document.airline.digits())?;
+    out.extend_from_slice(b"-")?;
+    out.extend_from_slice(&document.number)?;
+    out.extend_from_slice(b"-")?;
+    out.extend_from_slice(&write_digits::<1>(document.check_digit as u64))?;
+    Ok(())
 }
 
-fn card_amount(payment: Option<CardPayment>) -> i64
-    ensures value { result ≡ card_amount payment }
-    ensures small { unsigned_abs result ≤ 99_999_999_999 }
+/// Appends what a line says of a record 2.
+#[tactic(auto, unfolding(crate::specs::RetReport::sale_text))]
+#[inline]
+fn push_sale(out: &mut Vec<u8>, sale: &Sale) -> Result<(), AllocError>
+    ensures { OnOk result (out.new.items ≡ out.old.items ++ sale_text sale.now) }
 {
-    match payment {
-        Some(payment) => payment.amount.get(),
-        None => 0,
-    }
-}
-
-/// The sum of a transaction's forms of payment, in minor units.
-fn forms_sum(transaction: &Transaction) -> i128
-    ensures value { result ≡ forms_sum transaction.now }
-    ensures small { unsigned_abs result ≤ 299_999_999_997 }
-{
-    amount_or(transaction.cash) as i128
-        + card_amount(transaction.credit) as i128
-        + amount_or(transaction.exchange) as i128
-}
-
-/// Appends these fields, one behind the other.
-fn push_fields(out: &mut Vec<u8>, fields: &[&[u8]]) -> Result<(), AllocError>
-    ensures { OnOk result (out.new.items ≡ out.old.items ++ concat (map (λ field. field.now) fields.now)) }
-{
-    for field in fields {
-        out.extend_from_slice(field)?;
-    }
+    out.extend_from_slice(&sale.code.text())?;
+    out.extend_from_slice(b" ")?;
+    out.extend_from_slice(&sale.agent)?;
+    out.extend_from_slice(b" ")?;
+    push_document(out, &sale.document)?;
+    out.extend_from_slice(b" ")?;
+    out.extend_from_slice(&sale.issued.write_text())?;
     Ok(())
 }
 
 /// Appends the line of the transaction with that number.
 #[tactic(auto, unfolding(crate::specs::RetReport::transaction_text))]
-fn push_transaction(
-    alloc: Global,
-    out: &mut Vec<u8>,
-    number: u64,
-    transaction: &Transaction,
-) -> Result<(), NoRoom>
-    ensures { OnOk result (out.new.items ≡ out.old.items ++ transaction_text number transaction.now) }
+fn push_transaction(out: &mut Vec<u8>, number: u64, paid: &PaidSale) -> Result<(), NoRoom>
+    ensures { OnOk result (out.new.items ≡ out.old.items ++ transaction_text number paid.now) }
 {
-    let sum = write_money(alloc, forms_sum(transaction))?;
-    let airline = transaction.document.airline.digits();
-    let check = write_digits::<1>(transaction.document.check_digit as u64);
-    push_fields(
-        out,
-        &[
-            write_digits::<6>(number).as_slice(),
-            b" ",
-            &transaction.code.text(),
-            b" ",
-            &transaction.agent,
-            b" ",
-            &airline,
-            b"-",
-            &transaction.document.number,
-            b"-",
-            &check,
-            b" ",
-            &transaction.issued.write_text(),
-            b" ",
-            sum.as_bytes(),
-            b"\n",
-        ],
-    )?;
+    out.extend_from_slice(&write_digits::<6>(number))?;
+    out.extend_from_slice(b" ")?;
+    push_sale(out, &paid.sale)?;
+    out.extend_from_slice(b" ")?;
+    push_money(out, paid.paid)?;
+    out.extend_from_slice(b"\n")?;
     Ok(())
 }
 
 /// Appends the lines of all transactions.
-fn push_transactions(alloc: Global, out: &mut Vec<u8>, file: &RetFile<'_>) -> Result<(), NoRoom>
+fn push_transactions(out: &mut Vec<u8>, file: &RetFile<'_>) -> Result<(), NoRoom>
     ensures { OnOk result (AreReported out.old.items file.now.groups out.new.items) }
 {
     for index in 0..file.transactions() {
-        let Some(found) = transaction(file, index) else {
+        let Some(paid) = file.sale(index) else {
             unreachable!()
         };
-        push_transaction(alloc, out, index as u64 + 1, &found)?;
+        push_transaction(out, index as u64 + 1, &paid)?;
     }
     Ok(())
 }
@@ -128,10 +94,10 @@ fn push_total(alloc: Global, out: &mut Vec<u8>, file: &RetFile<'_>) -> Result<()
 
 /// The report on a file.
 fn file_report(alloc: Global, file: &RetFile<'_>) -> Result<Vec<u8>, NoRoom>
-    ensures { IfOk result (λ text. (transactions : List Values) × HaveContents 1 file.now.groups transactions × (text.items ≡ file_report file.now transactions)) }
+    ensures { IfOk result (λ text. (sales : List Paid) × HaveSales 1 file.now.groups sales × (text.items ≡ file_report file.now sales)) }
 {
     let mut out = Vec::new(alloc);
-    push_transactions(alloc, &mut out, file)?;
+    push_transactions(&mut out, file)?;
     push_total(alloc, &mut out, file)?;
     Ok(out)
 }

@@ -29,8 +29,8 @@ fn feed(reader: &mut RetReader, piece: &[u8]) -> Answer {
     }
 }
 
-fn finish(reader: &mut RetReader) -> Answer {
-    match reader.finish() {
+fn file(reader: &RetReader) -> Answer {
+    match reader.file() {
         Ok(file) => Answer::value(is_v1(&file)),
         Err(fault) => answer_to(fault),
     }
@@ -58,8 +58,9 @@ fn feed_pieces(alloc: Global, v1: &[u8], size: usize) -> Result<(), Mistake>
     for piece in v1.chunks(size) {
         answered!("RetReader::feed", feed(&mut reader, piece))?;
     }
-    answered!("RetReader::finish", finish(&mut reader))?;
-    answered!("RetReader::finish", finish(&mut reader))
+    made!("the end of V1", reader.finish().ok())?;
+    answered!("RetReader::file", file(&reader))?;
+    answered!("RetReader::file", file(&reader))
 }
 
 /// Reads V1 and writes the file.

@@ -1,5 +1,5 @@
 -- What stands in Ret is read, and no other file is.
-use Rattle.std.proofs.Common.{◌≡◌, ℕ, suc, ◌+◌, ◌==◌, Bool, true, false, List, [], ◌∷◌, ◌++◌, length, Option, Some, None, IfSome, IsSomeAnd, is_some, option_to_list, Ok, refl, sym, ap, subst, ◌∙◌, arith, append_assoc, add-one, append-nil, length-append}
+use Rattle.std.proofs.Common.{◌≡◌, ℕ, suc, ◌+◌, Bool, true, false, List, [], ◌∷◌, ◌++◌, length, Option, Some, None, IfSome, IsSomeAnd, is_some, option_to_list, Ok, refl, sym, ap, subst, ◌∙◌, arith, append_assoc, add-one, append-nil, length-append}
 use Rattle.std.proofs.Math.IntN.{+ℤ_idl}
 use Rattle.std.proofs.lemmas.Option.{IfSome_then}
 use Rattle.bsp_ret.specs.declared.model.FormOfPayment.{FormOfPayment}
@@ -9,13 +9,14 @@ use Rattle.bsp_ret.specs.declared.model.TransactionCode.TheVariants.{Tktt, Rfnd,
 use Rattle.bsp_ret.specs.declared.model.LastRecord.{LastRecord}
 use Rattle.bsp_ret.specs.declared.model.LastRecord.TheVariants as last
 use Rattle.bsp_ret.specs.declared.model.Standing.{Standing}
-use Rattle.bsp_ret.specs.Records.{identifier, code_of, sale_fits, related_fits, amounts_fit, form_of}
+use Rattle.bsp_records.specs.Columns.{identifier}
+use Rattle.bsp_ret.specs.Records.{code_of, sale_fits, related_fits, amounts_fit, form_of}
 use Rattle.bsp_ret.specs.Table.{paid, total_paid, standing, is_complete, takes_related, takes_amounts, takes_form, has_form}
 use Rattle.bsp_ret.specs.Standings.{standing_behind}
 use Rattle.bsp_ret.specs.Ret.{Group, File, flatten, lines_of, forms_of, IsRecord, IsForm, IsPaid, HasRelated, HasBody, IsGroup, AreGroups, IsTrailer, Ret}
 use Rattle.bsp_ret.specs.Reading.{with_group, nothing, read_from, read_all}
 use Rattle.bsp_ret.proofs.Rows.{Clean, clean_header, clean_sale, clean_related, clean_amounts, clean_form, clean_trailer}
-use Rattle.bsp_ret.proofs.Steps.{standing_snoc, Stands, begins_49, after_header, after_sale, after_related, after_amounts, after_form, after_trailer, next, read_nil, draft, add_header, add_sale, add_trailer, add_more}
+use Rattle.bsp_ret.proofs.Steps.{standing_snoc, Stands, begins_49, after_header, after_sale, after_related, after_amounts, after_form, after_trailer, next, read_nil, draft, add_header, add_sale, add_trailer, add_more, is_further}
 use Rattle.bsp_ret.proofs.Forms.{or_last, last_form, forms_list, credit_taken, exchange_taken, tktt_complete, rfnd_complete}
 
 -- how lines stand with more of them
@@ -58,12 +59,12 @@ more_joined at xs ys n code b l n2 code2 b2 l2 p q = record {
 }
 
 -- one further record
-one_more : (at : Standing) (line : List ℕ) (letter n : ℕ) (code : TransactionCode) (b : Bool) (l : LastRecord) → Clean at line → identifier line ≡ letter → (letter == 49) ≡ false → (letter == 50) ≡ false → (letter == 90) ≡ false
+one_more : (at : Standing) (line : List ℕ) (letter n : ℕ) (code : TransactionCode) (b : Bool) (l : LastRecord) → Clean at line → identifier line ≡ letter → is_further letter ≡ true
     → Stands (standing_behind at line) n code b l → More at (line ∷ []) n code b l
-one_more at line letter n code b l is name header sale trailer s = record {
+one_more at line letter n code b l is name further s = record {
   goes = λ first closed latest last_line rest.
       next at (draft first closed latest last_line) line rest is
-      ∙ ap (λ d. read_from (standing_behind at line) d rest) (add_more (draft first closed latest last_line) line letter name header sale trailer);
+      ∙ ap (λ d. read_from (standing_behind at line) d rest) (add_more (draft first closed latest last_line) line letter name further);
   stands = s;
 }
 
@@ -72,14 +73,14 @@ one_related : (at : Standing) (line : List ℕ) (n : ℕ) (code : TransactionCod
 one_related at line n code b l s takes is =
     let takes2 : takes_related at.last at.code ≡ true = rw (s.last_is, s.code_is) takes in
     let is2 : IsRecord 51 at.transactions related_fits line = rw s.transactions_are is in
-    one_more at line 51 n code true last.Related (clean_related takes2 is2) is.name refl refl refl (after_related at line n code b l s is.name)
+    one_more at line 51 n code true last.Related (clean_related takes2 is2) is.name refl (after_related at line n code b l s is.name)
 
 one_amounts : (at : Standing) (line : List ℕ) (n : ℕ) (code : TransactionCode) (b : Bool) (l : LastRecord) → Stands at n code b l → takes_amounts l code ≡ true → IsRecord 53 n amounts_fit line
     → More at (line ∷ []) n code b last.Amounts
 one_amounts at line n code b l s takes is =
     let takes2 : takes_amounts at.last at.code ≡ true = rw (s.last_is, s.code_is) takes in
     let is2 : IsRecord 53 at.transactions amounts_fit line = rw s.transactions_are is in
-    one_more at line 53 n code b last.Amounts (clean_amounts takes2 is2) is.name refl refl refl (after_amounts at line n code b l s is.name)
+    one_more at line 53 n code b last.Amounts (clean_amounts takes2 is2) is.name refl (after_amounts at line n code b l s is.name)
 
 -- a form, where there is one
 maybe_form : (at : Standing) (form : Option (List ℕ)) (n : ℕ) (code : TransactionCode) (b : Bool) (l : LastRecord) (kind : FormOfPayment) → Stands at n code b l → IfSome form (λ line. takes_form l code b (Some kind) ≡ true)
@@ -88,7 +89,7 @@ maybe_form at None n code b l kind s takes is = no_more at n code b l s
 maybe_form at (Some line) n code b l kind s takes is =
     let takes2 : takes_form at.last at.code at.related (form_of line) ≡ true = rw (s.last_is, s.code_is, s.related_is, is.form) takes in
     let is2 = rw (← s.transactions_are) at is.stands in
-    one_more at line 56 n code b (last.Form kind) (clean_form takes2 is2) is.stands.name refl refl refl (after_form at line n code b l kind s is.stands.name is.form)
+    one_more at line 56 n code b (last.Form kind) (clean_form takes2 is2) is.stands.name refl (after_form at line n code b l kind s is.stands.name is.form)
 
 -- ---- a group
 

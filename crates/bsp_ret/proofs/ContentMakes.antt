@@ -12,7 +12,10 @@ use Rattle.bsp_ret.specs.declared.transactions.ReportedDocument.{ReportedDocumen
 use Rattle.bsp_ret.specs.declared.transactions.Amounts.{Amounts}
 use Rattle.bsp_ret.specs.declared.transactions.CardPayment.{CardPayment}
 use Rattle.bsp_ret.specs.declared.transactions.Transaction.{Transaction}
-use Rattle.bsp_ret.specs.Records.{columns, is_amount, is_space, is_letter_or_digit, is_printable, tax_places, vendor_fits, form_of, form_fits, related_fits, amounts_fit}
+use Rattle.bsp_records.specs.Columns.{columns, is_space, is_letter_or_digit, is_printable}
+use Rattle.bsp_records.specs.Fields.{is_amount}
+use Rattle.bsp_records.specs.Taxes.{tax_places}
+use Rattle.bsp_ret.specs.Records.{vendor_fits, form_of, form_fits, related_fits, amounts_fit}
 use Rattle.bsp_ret.specs.Ret.{Group, IsRecord, IsForm, IsPaid, HasRelated, HasBody}
 use Rattle.bsp_ret.specs.Content.{InBoth, IsDocument, HasRelatedValues, AreAmounts, IsPayment, IsCardPayment, IsContent, HasContent, none_or, is_document, are_related, are_amounts, is_card, has_parts, related_of, is_group_values, MakesGroup}
 use Rattle.bsp_ret.specs.Writing.{group_lines}

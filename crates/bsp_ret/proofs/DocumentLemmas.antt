@@ -8,13 +8,14 @@ use Rattle.bsp_fields.specs.Decimal.{fixed_digits}
 use Rattle.bsp_fields.proofs.DecimalLemmas.{length-fixed_digits, digits-fixed_digits, number_of-fixed_digits}
 use Rattle.bsp_fields.proofs.CodeLemmas.{code_reading-fixed_digits}
 use Rattle.bsp_ret.specs.declared.transactions.ReportedDocument.{ReportedDocument}
-use Rattle.bsp_ret.specs.Records.{columns, identifier, is_wide, is_printable, is_space, related_fits}
+use Rattle.bsp_records.specs.Columns.{columns, identifier, is_wide, is_printable, is_space}
+use Rattle.bsp_ret.specs.Records.{related_fits}
 use Rattle.bsp_ret.specs.Ret.{IsRecord}
 use Rattle.bsp_ret.specs.Content.{IsDocument, is_document}
 use Rattle.bsp_ret.specs.Writing.{related_line, spaces}
-use Rattle.bsp_ret.proofs.FieldLemmas.{field_at, fields_at, wide_fields}
-use Rattle.bsp_ret.proofs.CharacterLemmas.{printable-digits, list_all-replicate, digits-concat}
-use Rattle.bsp_ret.proofs.TextLemmas.{spells-digits}
+use Rattle.bsp_records.proofs.FieldLemmas.{field_at, fields_at, wide_fields}
+use Rattle.bsp_records.proofs.CharacterLemmas.{printable-digits, list_all-replicate, digits-concat}
+use Rattle.bsp_records.proofs.TextLemmas.{spells-digits}
 use Rattle.bsp_ret.specs.Stored.{IsStoredDocument}
 
 -- what the test of a document says

@@ -2,13 +2,16 @@
 use Rattle.std.proofs.Common.{◌≡◌, ℕ, ◌-◌, ◌≤◌, true, false, List, [], ◌++◌, length, take, drop, sym, ap, subst, ◌∙◌, arith, append_assoc, length-append, length-drop}
 use Rattle.std.proofs.lemmas.List.{take-append-le, take-append-drop}
 use Rattle.bsp_ret.specs.declared.model.Standing.{Standing}
-use Rattle.bsp_ret.specs.Lines.{lines, has_end, IsRest, before_rest, IsWholeLines}
+use Rattle.bsp_records.specs.Lines.{lines, has_end, IsRest, before_rest, IsWholeLines}
 use Rattle.bsp_ret.specs.Table.{standing, has_ended, first_fault}
 use Rattle.bsp_ret.specs.Standings.{fault_behind}
 use Rattle.bsp_ret.specs.Pieces.{IsClear, IsClearSoFar, Leaves, IsJudgedTo}
-use Rattle.bsp_ret.proofs.CutLemmas.{lines_nil, IsRest-drop}
-use Rattle.bsp_ret.proofs.BuildingLemmas.{rest_itself, before_itself, rest_of_rest, before_joined, whole_nothing, whole_joined}
+use Rattle.bsp_records.proofs.CutLemmas.{lines_nil, IsRest-drop}
+use Rattle.bsp_records.proofs.RestLemmas.{rest_itself, before_itself, rest_of_rest, before_joined, whole_nothing, whole_joined, lines_empty}
 use Rattle.bsp_ret.proofs.LawLemmas.{is_first}
+use Rattle.bsp_ret.proofs.PieceLemmas.{one_unended}
+use Rattle.std.specs.Prelude.{◌==◌}
+use Rattle.std.proofs.Common.{◌+◌}
 
 -- no lines are without fault
 clear_nothing : IsClear []
@@ -81,3 +84,18 @@ all_lines at bytes rest known =
 pub fault_of_all : (at : Standing) (bytes rest : List ℕ) → IsJudgedTo at bytes rest → first_fault (lines bytes) ≡ fault_behind at (lines rest)
 fault_of_all at bytes rest known =
     ap first_fault (all_lines at bytes rest known) ∙ known.clear (lines rest) ∙ ap (λ (x : Standing). fault_behind x (lines rest)) (sym known.stands)
+
+-- how many lines came before the end
+came : (at : Standing) (bytes rest : List ℕ) → IsJudgedTo at bytes rest → length (lines bytes) ≡ at.records + length (lines rest)
+came at bytes rest known =
+    ap length (all_lines at bytes rest known) ∙ length-append (lines (before_rest bytes rest)) (lines rest)
+    ∙ ap (λ (k : ℕ). k + length (lines rest)) (sym (ap (λ (x : Standing). x.records) known.stands))
+
+pub came_some : (at : Standing) (bytes rest : List ℕ) → IsJudgedTo at bytes rest → (length rest == 0) ≡ false → length (lines bytes) ≡ at.records + 1
+came_some at bytes rest known some =
+    came at bytes rest known ∙ ap (λ (ls : List (List ℕ)). at.records + length ls) (one_unended rest known.unended some)
+
+pub came_none : (at : Standing) (bytes rest : List ℕ) → IsJudgedTo at bytes rest → (length rest == 0) ≡ true → length (lines bytes) ≡ at.records
+came_none at bytes rest known none =
+    let no_lines : length (lines rest) ≡ 0 = ap length (lines_empty rest none) in
+    omega (arith, came at bytes rest known, no_lines)

@@ -7,13 +7,15 @@ use Rattle.bsp_fields.specs.Zoned.{spelling}
 use Rattle.bsp_fields.proofs.DecimalLemmas.{length-fixed_digits, digits-fixed_digits}
 use Rattle.bsp_ret.specs.declared.model.FormOfPayment.{FormOfPayment}
 use Rattle.bsp_ret.specs.declared.model.FormOfPayment.TheVariants.{Cash, Credit, Exchange}
-use Rattle.bsp_ret.specs.Records.{columns, identifier, is_wide, is_printable, is_space, is_letter_or_digit, is_amount, vendor_fits, form_of, form_fits}
+use Rattle.bsp_records.specs.Columns.{columns, identifier, is_wide, is_printable, is_space, is_letter_or_digit}
+use Rattle.bsp_records.specs.Fields.{is_amount}
+use Rattle.bsp_ret.specs.Records.{vendor_fits, form_of, form_fits}
 use Rattle.bsp_ret.specs.Ret.{IsForm}
 use Rattle.bsp_ret.specs.Content.{IsPayment}
 use Rattle.bsp_ret.specs.Writing.{form_line, spaces}
-use Rattle.bsp_ret.proofs.FieldLemmas.{field_at, wide_fields}
-use Rattle.bsp_ret.proofs.TextLemmas.{spells-digits, is_amount-spelling, amount_reads}
-use Rattle.bsp_ret.proofs.CharacterLemmas.{printable-digits, printable-letters, printable-spelling, length-spelling, list_all-replicate}
+use Rattle.bsp_records.proofs.FieldLemmas.{field_at, wide_fields}
+use Rattle.bsp_records.proofs.TextLemmas.{spells-digits, is_amount-spelling, amount_reads}
+use Rattle.bsp_records.proofs.CharacterLemmas.{printable-digits, printable-letters, printable-spelling, length-spelling, list_all-replicate}
 
 -- the columns of a record 8
 pub record FormColumns (line number form amount vendor rest : List ℕ) : Type 0 where

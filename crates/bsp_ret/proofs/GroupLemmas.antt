@@ -7,15 +7,18 @@ use Rattle.std.proofs.lemmas.Bool.{and_parts, eqb-true}
 use Rattle.bsp_ret.specs.declared.model.TransactionCode.{TransactionCode}
 use Rattle.bsp_ret.specs.declared.model.FormOfPayment.{FormOfPayment}
 use Rattle.bsp_ret.specs.declared.model.FormOfPayment.TheVariants.{Cash, Credit, Exchange}
-use Rattle.bsp_ret.specs.Records.{identifier, is_wide, is_printable, code_of, related_fits, amounts_fit, form_of, form_fits}
+use Rattle.bsp_records.specs.Columns.{identifier, is_wide, is_printable}
+use Rattle.bsp_ret.specs.Records.{code_of, sale_fits, related_fits, amounts_fit, form_of, form_fits}
 use Rattle.bsp_ret.proofs.Wide.{group_at}
 use Rattle.bsp_ret.proofs.BodyLemmas.{BodyFacts, body_facts}
 use Rattle.bsp_ret.specs.Ret.{File, Ret, Group, forms_of, IsRecord, IsForm, HasBody, IsGroup}
-use Rattle.bsp_ret.specs.Groups.{sale_alone, with_form, with_record, with_records, HasRecords, AreWide, IsFit, AreFit}
-use Rattle.bsp_ret.specs.declared.record_fields.GroupFields.{GroupFields}
-use Rattle.bsp_ret.specs.Fields.{AreFieldsOf, HasFields}
+use Rattle.bsp_ret.specs.Groups.{sale_alone, with_form, with_record, with_records, HasRecords, IsFit, AreFit}
 use Rattle.bsp_ret.specs.declared.transactions.Transaction.{Transaction}
 use Rattle.bsp_ret.specs.Content.{IsContent, HasContent}
+use Rattle.bsp_ret.specs.Sales.{IsSale, HasSale}
+use Rattle.bsp_ret.specs.declared.transactions.PaidSale.{PaidSale}
+use Rattle.bsp_ret.specs.Table.{total_paid}
+use Rattle.bsp_records.specs.Lines.{lines, BeginsOtherwise}
 
 -- ---- one record
 
@@ -103,14 +106,6 @@ nth_group lines file index groups group ret same below is =
     let there : index < length file.groups = rw (← same) below in
     subst IsThis (sym (is ∙ ap (λ xs. get_or xs index []) same)) (subst IsNumbered next (group_at file.groups 1 index ret.groups there))
 
-wide_if : (letter n : ℕ) (fits : List ℕ → Bool) (o : Option (List ℕ)) → IfSome o (IsRecord letter n fits) → IfSome o (λ line. length line ≡ 136)
-wide_if letter n fits None is = tt
-wide_if letter n fits (Some line) is = wide_length line is.wide
-
-wide_form : (n : ℕ) (form : FormOfPayment) (o : Option (List ℕ)) → IfSome o (IsForm n form) → IfSome o (λ line. length line ≡ 136)
-wide_form n form None is = tt
-wide_form n form (Some line) is = wide_length line is.stands.wide
-
 fit_if : (letter n : ℕ) (fits : List ℕ → Bool) (o : Option (List ℕ)) → IfSome o (IsRecord letter n fits) → IfSome o (IsFit fits)
 fit_if letter n fits None is = tt
 fit_if letter n fits (Some line) is = (wide_length line is.wide, is.fields)
@@ -133,26 +128,26 @@ group_fits n lines g has =
       exchange = fit_form n Exchange h.exchange b.exchange;
     })
 
--- the records of a group have their width
-pub group_widths : (n : ℕ) (lines : List (List ℕ)) (g : Group) → HasRecords n lines g → AreWide g
-group_widths n lines g has =
-    let h = has.is.group in
-    let b = behind n h (code_of h.sale) has.is.body in
-    subst AreWide has.group_is (record {
-      sale = wide_length h.sale has.is.sale.wide;
-      related = wide_if 51 n related_fits h.related b.related;
-      amounts = wide_if 53 n amounts_fit h.amounts b.amounts;
-      cash = wide_form n Cash h.cash b.cash;
-      credit = wide_form n Credit h.credit b.credit;
-      exchange = wide_form n Exchange h.exchange b.exchange;
-    })
-
-pub has_fields : (n : ℕ) (lines : List (List ℕ)) (g : Group) (f : GroupFields) → HasRecords n lines g → AreFieldsOf g f → HasFields n lines f
-has_fields n lines g f has fields =
-    let Fields : Group → Type 0 = λ h. AreFieldsOf h f in
-    record { is = has.is; fields = subst Fields (sym has.group_is) fields }
-
 pub has_content : (n : ℕ) (lines : List (List ℕ)) (g : Group) (t : Transaction) → HasRecords n lines g → IsContent g t → HasContent n lines t
 has_content n lines g t has content =
     let Values : Group → Type 0 = λ h. IsContent h t in
     record { is = has.is; content = subst Values (sym has.group_is) content }
+
+-- ---- the record 2 of a group
+
+first_of : (first sale : List ℕ) (more others : List (List ℕ)) → first ∷ more ≡ sale ∷ others → first ≡ sale
+first_of first sale more others same = cc same
+
+pub sale_fit : (n : ℕ) (lines : List (List ℕ)) → IsGroup n lines → (first : List ℕ) (more : List (List ℕ)) → lines ≡ first ∷ more → IsFit sale_fits first
+sale_fit n lines is first more split =
+    let same : is.group.sale ≡ first = sym (first_of first is.group.sale more _ (sym split ∙ is.lines_are)) in
+    subst (IsFit sale_fits) same (wide_length is.group.sale is.sale.wide, is.sale.fields)
+
+pub has_sale : (n : ℕ) (lines : List (List ℕ)) (p : PaidSale) → IsGroup n lines → ((first : List ℕ) (more : List (List ℕ)) → lines ≡ first ∷ more → IsSale first p.sale) → p.paid ≡ total_paid lines → HasSale n lines p
+has_sale n lines p is sale paid = record { is = is; sale = sale is.group.sale _ is.lines_are; paid = paid }
+
+-- the first record of lines that all have their width
+pub no_other : (text : List ℕ) → BeginsOtherwise text → list_all is_wide (lines text) ≡ true → ⊥
+no_other text other all =
+    let wide : is_wide other.line ≡ true = (and_parts (is_wide other.line) (list_all is_wide (lines other.rest)) (rw other.first.cut at all)).0 in
+    absurd (cc (wide, other.narrow))

@@ -1,11 +1,12 @@
 -- Lemmas of this crate.
-pub mod CutLemmas
 pub mod BuildingLemmas
+pub mod SaidLemmas
 pub mod Rows
 pub mod Steps
 pub mod Forms
 pub mod Drafts
 pub mod Sound
+pub mod FewForms
 pub mod Complete
 pub mod LawLemmas
 pub mod Wide
@@ -13,11 +14,8 @@ pub mod LoopLemmas
 pub mod AnswerLemmas
 pub mod PieceLemmas
 pub mod FeedLemmas
-pub mod JudgedTaxes
+pub mod AmountTests
 pub mod GroupLemmas
-pub mod FieldLemmas
-pub mod CharacterLemmas
-pub mod TextLemmas
 pub mod FormLemmas
 pub mod DocumentLemmas
 pub mod SaleLemmas
@@ -28,7 +26,6 @@ pub mod WrittenGroup
 pub mod ReadLemmas
 pub mod ContentMakes
 pub mod TaxTests
-pub mod DigitLemmas
 pub mod ValueLemmas
 pub mod WritingLemmas
 pub mod SameGroup

@@ -5,14 +5,15 @@ use Rattle.std.proofs.lemmas.List.{append-nil, take-append-drop}
 use Rattle.bsp_ret.specs.declared.model.FaultCode.{FaultCode}
 use Rattle.bsp_ret.specs.declared.model.FaultCode.TheVariants.{F08, F09}
 use Rattle.bsp_ret.specs.declared.model.Standing.{Standing}
-use Rattle.bsp_ret.specs.Lines.{lines, has_end, before_rest, IsWholeLines, BeginsWithLine}
+use Rattle.bsp_records.specs.Lines.{lines, has_end, before_rest, IsWholeLines, BeginsWithLine}
 use Rattle.bsp_ret.specs.Table.{standing, has_ended, row_fault}
 use Rattle.bsp_ret.specs.Standings.{standing_behind, fault_behind}
 use Rattle.bsp_ret.specs.Pieces.{Leaves, Fails}
-use Rattle.bsp_ret.proofs.CutLemmas.{lines_nil, lines_last, some_lines}
-use Rattle.bsp_ret.proofs.BuildingLemmas.{rest_itself, before_itself, rest_of_rest, before_joined, whole_nothing, whole_joined, whole_cut, cut_alone}
+use Rattle.bsp_records.proofs.CutLemmas.{lines_nil, lines_last, some_lines}
+use Rattle.bsp_records.proofs.RestLemmas.{rest_itself, before_itself, rest_of_rest, before_joined, whole_nothing, whole_joined, whole_cut, cut_alone}
 use Rattle.bsp_ret.proofs.Steps.{standing_snoc}
 use Rattle.bsp_ret.proofs.LawLemmas.{behind_nil, behind_cons}
+use Rattle.bsp_ret.proofs.SaidLemmas.{ended_row}
 
 -- nothing is judged yet
 pub leaves_all : (at : Standing) (bytes : List ℕ) → Leaves at bytes at bytes
@@ -59,10 +60,6 @@ fails_at_line at now bytes rest line after code left begins fault more =
     let cut : lines (rest ++ more) ≡ line ∷ lines (after ++ more) =
     ap (λ xs. lines (xs ++ more)) (sym whole) ∙ ap lines (append_assoc front after more) ∙ begins.cut (after ++ more) in
     goes_on at now bytes rest left more ∙ ap (fault_behind now) cut ∙ behind_cons now line (lines (after ++ more)) ∙ rw fault refl
-
-ended_row : (at : Standing) (line : List ℕ) → has_ended at.last ≡ true → row_fault at line ≡ Err F09
-unfolding row_fault
-ended_row at line ended = rw ended refl
 
 -- a line that begins behind a trailer
 pub fails_behind : (at now : Standing) (bytes rest : List ℕ) → Leaves at bytes now rest → has_ended now.last ≡ true → (length rest == 0) ≡ false → Fails at bytes (record { code = F09; at = now.records + 1 })

@@ -15,9 +15,12 @@ use Rattle.bsp_fields.proofs.DecimalLemmas.{number_of-lt}
 use Rattle.bsp_fields.proofs.FirstFaultLemmas.{row_passed}
 use Rattle.bsp_ret.specs.declared.transactions.ReportedDocument.{ReportedDocument}
 use Rattle.bsp_ret.specs.declared.transactions.Tax.{Tax}
-use Rattle.bsp_ret.specs.Records.{columns, code_of, sale_fits, related_fits, is_record_day, is_letter_or_digit, is_space, is_wide, is_printable, is_amount, tax_code, tax_fits, taxes_fit}
+use Rattle.bsp_records.specs.Columns.{columns, is_letter_or_digit, is_space, is_wide, is_printable}
+use Rattle.bsp_ret.specs.Records.{code_of, sale_fits, related_fits}
+use Rattle.bsp_records.specs.Fields.{is_record_day, is_amount}
+use Rattle.bsp_records.specs.Taxes.{tax_code, tax_fits, taxes_fit}
 use Rattle.bsp_ret.specs.Content.{IsDocument, IsTax, AreTaxes, is_document, are_taxes}
-use Rattle.bsp_ret.proofs.CharacterLemmas.{digits_are, list_all-take, list_all-drop}
+use Rattle.bsp_records.proofs.CharacterLemmas.{digits_are, list_all-take, list_all-drop}
 
 -- ---- columns of columns
 

@@ -1,5 +1,5 @@
 -- What no row of the fault table applies to, by the record.
-use Rattle.std.proofs.Common.{◌≡◌, ℕ, ℤ, ◌+◌, ◌==◌, Bool, true, false, ◌&&◌, not, List, [], ◌∷◌, Option, Result, Ok, Err, refl, inl, inr, eqb-true, if◌then◌else◌}
+use Rattle.std.proofs.Common.{◌≡◌, ℕ, ℤ, ◌+◌, ◌==◌, Bool, true, false, ◌&&◌, not, List, [], ◌∷◌, Option, Result, Ok, Err, refl, inl, inr, eqb-true}
 use Rattle.std.proofs.lemmas.Bool.{cases_Bool, and_parts, not-false}
 use Rattle.std.proofs.lemmas.Bool.Decides.{Decides-int_eq}
 use Rattle.bsp_fields.specs.FirstFault.{first_fault_or}
@@ -13,8 +13,10 @@ use Rattle.bsp_ret.specs.declared.model.LastRecord.TheVariants as last
 use Rattle.bsp_ret.specs.declared.model.Standing.{Standing}
 use Rattle.bsp_ret.specs.declared.model.FaultCode.{FaultCode}
 use Rattle.bsp_ret.specs.declared.model.FaultCode.TheVariants.{F01, F02, F03, F04, F05, F06, F07, F09}
-use Rattle.bsp_ret.specs.Records.{columns, identifier, spells, is_wide, is_header, is_production, header_fits, sale_fits, related_fits, amounts_fit, form_of, form_fits, trailer_fits}
-use Rattle.bsp_ret.specs.Table.{is_trailer, has_ended, is_start, is_complete, takes_related, takes_amounts, takes_form, is_allowed, fields_fit, has_value, has_counts, has_sum, header_table, later_table, row_fault}
+use Rattle.bsp_records.specs.Columns.{columns, identifier, is_wide}
+use Rattle.bsp_records.specs.Fields.{spells}
+use Rattle.bsp_ret.specs.Records.{is_header, is_production, header_fits, sale_fits, related_fits, amounts_fit, form_of, form_fits, trailer_fits}
+use Rattle.bsp_ret.specs.Table.{has_ended, is_start, is_complete, takes_related, takes_amounts, takes_form, has_value, has_counts, has_sum, header_table, trailer_table, later_table, record_table, row_fault}
 use Rattle.bsp_ret.specs.Ret.{IsHeader, IsRecord, IsTrailer}
 
 -- a record without fault behind lines that stand so
@@ -102,35 +104,45 @@ by_header_table at line p wide e =
     let c = kept (header_fits line) F05 [] b.1 in
     clean_header p (record { wide = wide; begins = a.0; production = b.0; fields = c.0 })
 
-by_trailer : (at : Standing) (line : List ℕ) → is_complete at.last at.code at.related ≡ true → is_wide line ≡ true → identifier line ≡ 90 → trailer_fits line ≡ true
-    → has_counts at line ≡ true → has_sum at line ≡ true → Clean at line
-by_trailer at line p wide name fits counts sum =
-    let a = and_parts (spells (at.records + 1) (columns 2 8 line)) (spells at.transactions (columns 9 15 line)) counts in
-    let b = value_of at.sum (zoned_reading 15 (columns 16 30 line)) sum in
-    clean_trailer p (record { wide = wide; name = name; fields = fits; records_are = a.0; transactions_are = a.1; sum_is = b })
+by_trailer : (at : Standing) (line : List ℕ) → is_wide line ≡ true → Pass (trailer_table at line) → Clean at line
+by_trailer at line wide e =
+    let rows = (not (has_counts at line), F06) ∷ (not (has_sum at line), F07) ∷ [] in
+    let a = kept ((identifier line == 90) && is_complete at.last at.code at.related) F03 ((not (trailer_fits line), F05) ∷ rows) e in
+    let b = kept (trailer_fits line) F05 rows a.1 in
+    let c = kept (has_counts at line) F06 ((not (has_sum at line), F07) ∷ []) b.1 in
+    let d = kept (has_sum at line) F07 [] c.1 in
+    let name = and_parts (identifier line == 90) (is_complete at.last at.code at.related) a.0 in
+    let counts = and_parts (spells (at.records + 1) (columns 2 8 line)) (spells at.transactions (columns 9 15 line)) c.0 in
+    let sum = value_of at.sum (zoned_reading 15 (columns 16 30 line)) d.0 in
+    clean_trailer name.1 (record { wide = wide; name = eqb-true _ _ name.0; fields = b.0; records_are = counts.0; transactions_are = counts.1; sum_is = sum })
 
-by_later_table : (at : Standing) (line : List ℕ) → is_wide line ≡ true → is_allowed at line ≡ true → fields_fit line ≡ true
-    → ((is_trailer line && not (has_counts at line)) ≡ false) → ((is_trailer line && not (has_sum at line)) ≡ false) → Clean at line
-by_later_table at line wide allowed fits counts sum =
+-- a record whose place and number are allowed, and whose fields fit
+passed : (place number fits : Bool) → Pass ((not (place && number), F03) ∷ (not fits, F05) ∷ []) → (place ≡ true) × (number ≡ true) × (fits ≡ true)
+passed place number fits e =
+    let a = kept (place && number) F03 ((not fits, F05) ∷ []) e in
+    let b = kept fits F05 [] a.1 in
+    let c = and_parts place number a.0 in
+    (c.0, c.1, b.0)
+
+by_later_table : (at : Standing) (line : List ℕ) → is_wide line ≡ true → Pass (later_table at line) → Clean at line
+by_later_table at line wide e =
     elim (cases_Bool (identifier line == 50)) [
       | inl k ↦
-          let a = and_parts (is_complete at.last at.code at.related) (spells (at.transactions + 1) (columns 2 7 line)) (rw k at allowed) in
-          clean_sale a.0 (record { wide = wide; name = eqb-true _ _ k; number = a.1; fields = rw k at fits })
+          let a = passed (is_complete at.last at.code at.related) (spells (at.transactions + 1) (columns 2 7 line)) (sale_fits line) (rw k at e) in
+          clean_sale a.0 (record { wide = wide; name = eqb-true _ _ k; number = a.1; fields = a.2 })
       | inr k ↦ elim (cases_Bool (identifier line == 51)) [
         | inl r ↦
-            let a = and_parts (takes_related at.last at.code) (spells at.transactions (columns 2 7 line)) (rw (k, r) at allowed) in
-            clean_related a.0 (record { wide = wide; name = eqb-true _ _ r; number = a.1; fields = rw (k, r) at fits })
+            let a = passed (takes_related at.last at.code) (spells at.transactions (columns 2 7 line)) (related_fits line) (rw (k, r) at e) in
+            clean_related a.0 (record { wide = wide; name = eqb-true _ _ r; number = a.1; fields = a.2 })
         | inr r ↦ elim (cases_Bool (identifier line == 53)) [
           | inl m ↦
-              let a = and_parts (takes_amounts at.last at.code) (spells at.transactions (columns 2 7 line)) (rw (k, r, m) at allowed) in
-              clean_amounts a.0 (record { wide = wide; name = eqb-true _ _ m; number = a.1; fields = rw (k, r, m) at fits })
+              let a = passed (takes_amounts at.last at.code) (spells at.transactions (columns 2 7 line)) (amounts_fit line) (rw (k, r, m) at e) in
+              clean_amounts a.0 (record { wide = wide; name = eqb-true _ _ m; number = a.1; fields = a.2 })
           | inr m ↦ elim (cases_Bool (identifier line == 56)) [
             | inl n ↦
-                let a = and_parts (takes_form at.last at.code at.related (form_of line)) (spells at.transactions (columns 2 7 line)) (rw (k, r, m, n) at allowed) in
-                clean_form a.0 (record { wide = wide; name = eqb-true _ _ n; number = a.1; fields = rw (k, r, m, n) at fits })
-            | inr n ↦
-                let a = and_parts (identifier line == 90) (is_complete at.last at.code at.related) (rw (k, r, m, n) at allowed) in
-                by_trailer at line a.1 wide (eqb-true _ _ a.0) (rw (k, r, m, n) at fits) (not-false _ (rw a.0 at counts)) (not-false _ (rw a.0 at sum))
+                let a = passed (takes_form at.last at.code at.related (form_of line)) (spells at.transactions (columns 2 7 line)) (form_fits line) (rw (k, r, m, n) at e) in
+                clean_form a.0 (record { wide = wide; name = eqb-true _ _ n; number = a.1; fields = a.2 })
+            | inr n ↦ by_trailer at line wide (rw (k, r, m, n) at e)
           ]
         ]
       ]
@@ -139,16 +151,9 @@ by_later_table at line wide allowed fits counts sum =
 pub clean : (at : Standing) (line : List ℕ) → row_fault at line ≡ Ok tt → Clean at line
 unfolding row_fault
 clean at line e =
-    let rows = if is_start at.last then header_table line else later_table at line in
-    let a = row_passed (has_ended at.last) F09 ((not (is_wide line), F01) ∷ rows) tt tt e in
-    let b = kept (is_wide line) F01 rows a.1 in
+    let a = row_passed (has_ended at.last) F09 ((not (is_wide line), F01) ∷ record_table at line) tt tt e in
+    let b = kept (is_wide line) F01 (record_table at line) a.1 in
     elim (cases_Bool (is_start at.last)) [
       | inl p ↦ by_header_table at line p b.0 (rw p at b.1)
-      | inr p ↦
-          let trailer_rows = (is_trailer line && not (has_counts at line), F06) ∷ (is_trailer line && not (has_sum at line), F07) ∷ [] in
-          let c = kept (is_allowed at line) F03 ((not (fields_fit line), F05) ∷ trailer_rows) (rw p at b.1) in
-          let d = kept (fields_fit line) F05 trailer_rows c.1 in
-          let f = row_passed (is_trailer line && not (has_counts at line)) F06 ((is_trailer line && not (has_sum at line), F07) ∷ []) tt tt d.1 in
-          let g = row_passed (is_trailer line && not (has_sum at line)) F07 [] tt tt f.1 in
-          by_later_table at line b.0 c.0 d.0 f.0 g.0
+      | inr p ↦ by_later_table at line b.0 (rw p at b.1)
     ]

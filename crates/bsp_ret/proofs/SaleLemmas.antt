@@ -11,14 +11,16 @@ use Rattle.bsp_fields.proofs.DayTextLemmas.{record_reading-text}
 use Rattle.bsp_ret.specs.declared.model.TransactionCode.{TransactionCode}
 use Rattle.bsp_ret.specs.declared.model.TransactionCode.TheVariants.{Tktt, Rfnd, Canx}
 use Rattle.bsp_ret.specs.declared.transactions.Transaction.{Transaction}
-use Rattle.bsp_ret.specs.Records.{columns, identifier, is_wide, is_printable, is_space, is_record_day, code_of, sale_fits}
+use Rattle.bsp_records.specs.Columns.{columns, identifier, is_wide, is_printable, is_space}
+use Rattle.bsp_records.specs.Fields.{is_record_day}
+use Rattle.bsp_ret.specs.Records.{code_of, sale_fits}
 use Rattle.bsp_ret.specs.Ret.{IsRecord}
 use Rattle.bsp_ret.specs.Content.{IsDocument, is_document}
 use Rattle.bsp_ret.specs.Texts.{code_text}
 use Rattle.bsp_ret.specs.Writing.{sale_line, spaces}
-use Rattle.bsp_ret.proofs.FieldLemmas.{field_at, fields_at, wide_fields}
-use Rattle.bsp_ret.proofs.CharacterLemmas.{printable-digits, list_all-replicate, digits-concat}
-use Rattle.bsp_ret.proofs.TextLemmas.{spells-digits}
+use Rattle.bsp_records.proofs.FieldLemmas.{field_at, fields_at, wide_fields}
+use Rattle.bsp_records.proofs.CharacterLemmas.{printable-digits, list_all-replicate, digits-concat}
+use Rattle.bsp_records.proofs.TextLemmas.{spells-digits}
 use Rattle.bsp_ret.proofs.DocumentLemmas.{document_columns, document_facts}
 use Rattle.bsp_ret.specs.Stored.{IsStored}
 

@@ -7,7 +7,7 @@ use Rattle.bsp_ret.specs.declared.transactions.Tax.{Tax}
 use Rattle.bsp_ret.specs.declared.transactions.Amounts.{Amounts}
 use Rattle.bsp_ret.specs.declared.transactions.CardPayment.{CardPayment}
 use Rattle.bsp_ret.specs.declared.transactions.Transaction.{Transaction}
-use Rattle.bsp_ret.specs.Records.{tax_places}
+use Rattle.bsp_records.specs.Taxes.{tax_places}
 use Rattle.bsp_ret.specs.Ret.{Group, HasBody}
 use Rattle.bsp_ret.specs.Content.{InBoth, IsDocument, HasRelatedValues, IsTax, AreTaxes, AreAmounts, IsPayment, IsCardPayment, IsContent, HasContent}
 use Rattle.bsp_ret.proofs.ReadLemmas.{no_tax}

@@ -8,7 +8,7 @@ use Rattle.bsp_ret.specs.declared.model.FormOfPayment.{FormOfPayment}
 use Rattle.bsp_ret.specs.declared.model.FormOfPayment.TheVariants.{Cash, Credit, Exchange}
 use Rattle.bsp_ret.specs.declared.model.LastRecord.{LastRecord}
 use Rattle.bsp_ret.specs.declared.model.LastRecord.TheVariants.{Related, Amounts, Form}
-use Rattle.bsp_ret.specs.Records.{related_fits, amounts_fit}
+use Rattle.bsp_ret.specs.Records.{record_in, related_fits, amounts_fit}
 use Rattle.bsp_ret.specs.Table.{kind_of}
 use Rattle.bsp_ret.specs.Ret.{Group, IsRecord, IsForm, lines_of}
 use Rattle.bsp_ret.proofs.BodyLemmas.{BodyFacts}
@@ -26,15 +26,15 @@ abbrev place : List ℕ → ℕ
 place line = place_of (kind_of line)
 
 related_place : (n : ℕ) (line : List ℕ) → IsRecord 51 n related_fits line → place line ≡ 1
-unfolding kind_of
+unfolding record_in
 related_place n line is = rw is.name refl
 
 amounts_place : (n : ℕ) (line : List ℕ) → IsRecord 53 n amounts_fit line → place line ≡ 2
-unfolding kind_of
+unfolding record_in
 amounts_place n line is = rw is.name refl
 
 form_place : (n : ℕ) (kind : FormOfPayment) (line : List ℕ) → IsForm n kind line → place line ≡ place_of (Form kind)
-unfolding kind_of
+unfolding record_in
 form_place n kind line is = rw (is.stands.name, is.form) refl
 
 -- an optional line, if it is there, has this place

@@ -10,7 +10,8 @@ use Rattle.bsp_ret.specs.declared.model.LastRecord.TheVariants as last
 use Rattle.bsp_ret.specs.declared.model.FaultCode.{FaultCode}
 use Rattle.bsp_ret.specs.declared.model.RetFault.{RetFault}
 use Rattle.bsp_ret.specs.declared.model.Standing.{Standing}
-use Rattle.bsp_ret.specs.Records.{columns, vendor_fits, identifier, code_of, sale_fits, related_fits, amounts_fit, form_of, form_fits}
+use Rattle.bsp_records.specs.Columns.{columns, identifier}
+use Rattle.bsp_ret.specs.Records.{vendor_fits, code_of, sale_fits, related_fits, amounts_fit, form_of, form_fits}
 use Rattle.bsp_ret.specs.Table.{total_paid, standing, has_ended, takes_form, has_form, row_fault}
 use Rattle.bsp_ret.specs.Standings.{standing_behind}
 use Rattle.bsp_ret.specs.Ret.{File, flatten, IsHeader, IsRecord, IsForm, IsTrailer, Ret}
@@ -35,7 +36,7 @@ vendor_known : (form : Option FormOfPayment) (text : List ℕ) → vendor_fits f
 vendor_known None text h = absurd cc
 vendor_known (Some kind) text h = (kind, refl)
 
-form_known : (line : List ℕ) → form_fits line ≡ true → (kind : FormOfPayment) × (form_of line ≡ Some kind)
+pub form_known : (line : List ℕ) → form_fits line ≡ true → (kind : FormOfPayment) × (form_of line ≡ Some kind)
 unfolding form_fits
 form_known line h = vendor_known (form_of line) (columns 21 22 line) (and_parts _ _ (and_parts _ _ h).0).0
 
@@ -211,16 +212,16 @@ step before d line r (clean_sale p h) =
 step before d line r (clean_related p h) =
     let at = standing before in
     let sold = sold_alone at.last at.code at.related at.transactions before d p r in
-    arrive (before ++ line ∷ []) _ _ _ _ _ _ _ (after_related at line _ _ _ _ (here at) h.name) (add_more d line 51 h.name refl refl refl) (with_related before at.transactions d line at.code at.related sold.0 sold.1 sold.2 h)
+    arrive (before ++ line ∷ []) _ _ _ _ _ _ _ (after_related at line _ _ _ _ (here at) h.name) (add_more d line 51 h.name refl) (with_related before at.transactions d line at.code at.related sold.0 sold.1 sold.2 h)
 step before d line r (clean_amounts p h) =
     let at = standing before in
     let sold = awaiting at.last at.code at.related at.transactions before d p r in
-    arrive (before ++ line ∷ []) _ _ _ _ _ _ _ (after_amounts at line _ _ _ _ (here at) h.name) (add_more d line 53 h.name refl refl refl) (with_amounts before at.transactions d line at.code at.related sold.2 sold.0 sold.3 sold.1 h)
+    arrive (before ++ line ∷ []) _ _ _ _ _ _ _ (after_amounts at line _ _ _ _ (here at) h.name) (add_more d line 53 h.name refl) (with_amounts before at.transactions d line at.code at.related sold.2 sold.0 sold.3 sold.1 h)
 step before d line r (clean_form p h) =
     let at = standing before in
     let form = form_known line h.fields in
     let pays = paying at.last at.code at.related at.transactions before d (form_of line) p r in
-    arrive (before ++ line ∷ []) _ _ _ _ _ _ _ (after_form at line _ _ _ _ form.0 (here at) h.name form.1) (add_more d line 56 h.name refl refl refl)
+    arrive (before ++ line ∷ []) _ _ _ _ _ _ _ (after_form at line _ _ _ _ form.0 (here at) h.name form.1) (add_more d line 56 h.name refl)
     (with_form before at.transactions d line at.last at.code at.related form.0 pays.0 pays.1 (rw form.1 at p) (record { stands = h; form = form.1 }))
 step before d line r (clean_trailer p h) =
     let at = standing before in

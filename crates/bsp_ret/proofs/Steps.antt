@@ -14,7 +14,8 @@ use Rattle.bsp_ret.specs.declared.model.LastRecord.{LastRecord}
 use Rattle.bsp_ret.specs.declared.model.LastRecord.TheVariants as last
 use Rattle.bsp_ret.specs.declared.model.FaultCode.TheVariants.{F08}
 use Rattle.bsp_ret.specs.declared.model.Standing.{Standing}
-use Rattle.bsp_ret.specs.Records.{identifier, is_header, code_of, form_of}
+use Rattle.bsp_records.specs.Columns.{identifier}
+use Rattle.bsp_ret.specs.Records.{is_header, code_of, form_of, record_in}
 use Rattle.bsp_ret.specs.Table.{is_sale, is_related, paid, total_paid, code_or, last_code, behind_sale, kind_of, standing, has_ended, row_fault}
 use Rattle.bsp_ret.specs.Standings.{standing_behind}
 use Rattle.bsp_ret.specs.Reading.{Draft, with_group, add, or_read, read_from}
@@ -29,7 +30,7 @@ last_or_snoc o (y ∷ xs) x = last_or_snoc (Some y) xs x
 count_by_snoc : {A : Type 0} (p : A → Bool) (xs : List A) (x : A) → count_by p (xs ++ x ∷ []) ≡ count_by p xs + cond (p x) 1 0
 count_by_snoc p xs x = sum_by-append (λ y. cond (p y) 1 0) xs (x ∷ []) ∙ omega arith
 
-total_paid_snoc : (before : List (List ℕ)) (line : List ℕ) → total_paid (before ++ line ∷ []) ≡ total_paid before +ℤ paid line
+pub total_paid_snoc : (before : List (List ℕ)) (line : List ℕ) → total_paid (before ++ line ∷ []) ≡ total_paid before +ℤ paid line
 total_paid_snoc [] line = +ℤ_idr (paid line) ∙ sym (+ℤ_idl (paid line))
 total_paid_snoc (first ∷ before) line = ap (λ (x : ℤ). paid first +ℤ x) (total_paid_snoc before line) ∙ sym (+ℤ_assoc (paid first) (total_paid before) (paid line))
 
@@ -65,11 +66,39 @@ related_snoc before line =
       | inr k ↦ rw (k, behind_sale_more before line k, list_any-append is_related (behind_sale before) (line ∷ []), or-false (is_related line)) refl
     ]
 
+-- how records stand with one more, part by part
+stands_with : (at : Standing) (line : List ℕ) → standing_behind at line ≡ record {
+  records = at.records + 1;
+  transactions = at.transactions + cond (is_sale line) 1 0;
+  sum = at.sum +ℤ paid line;
+  code = cond (is_sale line) (code_or Tktt (Some line)) at.code;
+  related = cond (is_sale line) false (at.related || is_related line);
+  last = kind_of line;
+}
+unfolding record_in
+stands_with at line =
+    elim (cases_Bool (identifier line == 50)) [
+      | inl k ↦ let name = eqb-true _ _ k in rw (name, +ℤ_idr at.sum) refl
+      | inr k ↦ elim (cases_Bool (identifier line == 51)) [
+        | inl r ↦ let name = eqb-true _ _ r in rw (name, +ℤ_idr at.sum, add-zero at.transactions, or-true at.related) refl
+        | inr r ↦ elim (cases_Bool (identifier line == 53)) [
+          | inl m ↦ let name = eqb-true _ _ m in rw (name, +ℤ_idr at.sum, add-zero at.transactions, or-false at.related) refl
+          | inr m ↦ elim (cases_Bool (identifier line == 56)) [
+            | inl n ↦ let name = eqb-true _ _ n in rw (name, add-zero at.transactions, or-false at.related) refl
+            | inr n ↦ elim (cases_Bool (identifier line == 90)) [
+              | inl z ↦ let name = eqb-true _ _ z in rw (name, +ℤ_idr at.sum, add-zero at.transactions, or-false at.related) refl
+              | inr z ↦ rw (k, r, m, n, z, +ℤ_idr at.sum, add-zero at.transactions, or-false at.related) refl
+            ]
+          ]
+        ]
+      ]
+    ]
+
 -- how lines stand with one more depends on how they stand and the line
 pub standing_snoc : (before : List (List ℕ)) (line : List ℕ) → standing (before ++ line ∷ []) ≡ standing_behind (standing before) line
 standing_snoc before line =
     let count : length (before ++ line ∷ []) ≡ length before + 1 = length-append before (line ∷ []) in
-    rw (count, count_by_snoc is_sale before line, total_paid_snoc before line, last_code_snoc before line, related_snoc before line, last_or_snoc None before line) refl
+    rw (count, count_by_snoc is_sale before line, total_paid_snoc before line, last_code_snoc before line, related_snoc before line, last_or_snoc None before line) (sym (stands_with (standing before) line))
 
 -- ---- what stands behind each kind of record
 
@@ -86,17 +115,17 @@ unfolding is_header
 begins_49 line h = eqb-true _ _ (and_parts (identifier line == 49) _ h).0
 
 pub after_header : (at : Standing) (line : List ℕ) (n : ℕ) (code : TransactionCode) (b : Bool) (l : LastRecord) → Stands at n code b l → identifier line ≡ 49 → Stands (standing_behind at line) n code b last.Header
-unfolding kind_of
+unfolding record_in
 after_header at line n code b l s k = record {
-  transactions_are = rw k (add-zero at.transactions ∙ s.transactions_are);
+  transactions_are = rw k s.transactions_are;
   code_is = rw k s.code_is;
-  related_is = rw k (or-false at.related ∙ s.related_is);
+  related_is = rw k s.related_is;
   last_is = rw k refl;
 }
 
 pub after_sale : (at : Standing) (line : List ℕ) (n : ℕ) (before code : TransactionCode) (b : Bool) (l : LastRecord) → Stands at n before b l → identifier line ≡ 50 → code_of line ≡ Some code
     → Stands (standing_behind at line) (n + 1) code false last.Sale
-unfolding kind_of
+unfolding record_in
 after_sale at line n before code b l s k e = record {
   transactions_are = rw k (ap (λ (x : ℕ). x + 1) s.transactions_are);
   code_is = rw (k, e) refl;
@@ -105,35 +134,35 @@ after_sale at line n before code b l s k e = record {
 }
 
 pub after_related : (at : Standing) (line : List ℕ) (n : ℕ) (code : TransactionCode) (b : Bool) (l : LastRecord) → Stands at n code b l → identifier line ≡ 51 → Stands (standing_behind at line) n code true last.Related
-unfolding kind_of
+unfolding record_in
 after_related at line n code b l s k = record {
-  transactions_are = rw k (add-zero at.transactions ∙ s.transactions_are);
+  transactions_are = rw k s.transactions_are;
   code_is = rw k s.code_is;
-  related_is = rw k (or-true at.related);
+  related_is = rw k refl;
   last_is = rw k refl;
 }
 
 pub after_amounts : (at : Standing) (line : List ℕ) (n : ℕ) (code : TransactionCode) (b : Bool) (l : LastRecord) → Stands at n code b l → identifier line ≡ 53 → Stands (standing_behind at line) n code b last.Amounts
-unfolding kind_of
+unfolding record_in
 after_amounts at line n code b l s k = record {
-  transactions_are = rw k (add-zero at.transactions ∙ s.transactions_are);
+  transactions_are = rw k s.transactions_are;
   code_is = rw k s.code_is;
-  related_is = rw k (or-false at.related ∙ s.related_is);
+  related_is = rw k s.related_is;
   last_is = rw k refl;
 }
 
 pub after_form : (at : Standing) (line : List ℕ) (n : ℕ) (code : TransactionCode) (b : Bool) (l : LastRecord) (kind : FormOfPayment) → Stands at n code b l → identifier line ≡ 56 → form_of line ≡ Some kind
     → Stands (standing_behind at line) n code b (last.Form kind)
-unfolding kind_of
+unfolding record_in
 after_form at line n code b l kind s k e = record {
-  transactions_are = rw k (add-zero at.transactions ∙ s.transactions_are);
+  transactions_are = rw k s.transactions_are;
   code_is = rw k s.code_is;
-  related_is = rw k (or-false at.related ∙ s.related_is);
+  related_is = rw k s.related_is;
   last_is = rw (k, e) refl;
 }
 
 pub after_trailer : (at : Standing) (line : List ℕ) → identifier line ≡ 90 → (standing_behind at line).last ≡ last.Trailer
-unfolding kind_of
+unfolding record_in
 after_trailer at line k = rw k refl
 
 -- ---- what is read
@@ -155,15 +184,28 @@ abbrev pub draft : List ℕ → List (List (List ℕ)) → List (List ℕ) → L
 draft header closed latest trailer = record { header = header; closed = closed; latest = latest; trailer = trailer }
 
 pub add_header : (d : Draft) (line : List ℕ) → identifier line ≡ 49 → add d line ≡ draft line d.closed [] d.trailer
+unfolding record_in
 add_header d line k = rw k refl
 
 pub add_sale : (d : Draft) (line : List ℕ) → identifier line ≡ 50 → add d line ≡ draft d.header (with_group d.closed d.latest) (line ∷ []) d.trailer
+unfolding record_in
 add_sale d line k = rw k refl
 
 pub add_trailer : (d : Draft) (line : List ℕ) → identifier line ≡ 90 → add d line ≡ draft d.header (with_group d.closed d.latest) [] line
+unfolding record_in
 add_trailer d line k = rw k refl
 
 -- a further record of a group: 3, 5 or 8
-pub add_more : (d : Draft) (line : List ℕ) (letter : ℕ) → identifier line ≡ letter → (letter == 49) ≡ false → (letter == 50) ≡ false → (letter == 90) ≡ false
-    → add d line ≡ draft d.header d.closed (d.latest ++ line ∷ []) d.trailer
-add_more d line letter k header sale trailer = rw (k, header, sale, trailer) refl
+abbrev pub is_further : ℕ → Bool
+is_further letter = (letter == 51) || ((letter == 53) || (letter == 56))
+
+pub add_more : (d : Draft) (line : List ℕ) (letter : ℕ) → identifier line ≡ letter → is_further letter ≡ true → add d line ≡ draft d.header d.closed (d.latest ++ line ∷ []) d.trailer
+unfolding record_in
+add_more d line letter k further =
+    elim (cases_Bool (letter == 51)) [
+      | inl a ↦ let name = k ∙ eqb-true _ _ a in rw name refl
+      | inr a ↦ elim (cases_Bool (letter == 53)) [
+        | inl b ↦ let name = k ∙ eqb-true _ _ b in rw name refl
+        | inr b ↦ let name = k ∙ eqb-true _ _ (rw (a, b) at further) in rw name refl
+      ]
+    ]

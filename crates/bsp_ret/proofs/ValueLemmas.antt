@@ -7,7 +7,10 @@ use Rattle.std.proofs.lemmas.Bool.{and_parts, cases_Bool, or_right, leb-true}
 use Rattle.bsp_fields.specs.Decimal.{number_of}
 use Rattle.bsp_fields.specs.Codes.{code_reading}
 use Rattle.bsp_ret.specs.declared.transactions.ReportedDocument.{ReportedDocument}
-use Rattle.bsp_ret.specs.Records.{columns, is_space, is_amount, spells_at_most, tax_places, tax_code, tax_fits, taxes_fit, vendor_fits, form_of, form_fits, amounts_fit}
+use Rattle.bsp_records.specs.Columns.{columns, is_space}
+use Rattle.bsp_records.specs.Fields.{is_amount, spells_at_most}
+use Rattle.bsp_records.specs.Taxes.{tax_places, tax_code, tax_fits, taxes_fit}
+use Rattle.bsp_ret.specs.Records.{vendor_fits, form_of, form_fits, amounts_fit}
 use Rattle.bsp_ret.specs.Content.{IsDocument}
 use Rattle.bsp_ret.proofs.ReadLemmas.{inner_columns, blank_rest, used_rest}
 

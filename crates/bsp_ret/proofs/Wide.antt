@@ -7,7 +7,8 @@ use Rattle.std.proofs.lemmas.Option.{IfSome_then}
 use Rattle.bsp_ret.specs.declared.model.FormOfPayment.{FormOfPayment}
 use Rattle.bsp_ret.specs.declared.model.TransactionCode.{TransactionCode}
 use Rattle.bsp_ret.specs.declared.model.TransactionCode.TheVariants.{Tktt, Rfnd, Canx}
-use Rattle.bsp_ret.specs.Records.{is_wide, code_of, related_fits, amounts_fit}
+use Rattle.bsp_records.specs.Columns.{is_wide}
+use Rattle.bsp_ret.specs.Records.{code_of, related_fits, amounts_fit}
 use Rattle.bsp_ret.specs.Ret.{Group, File, flatten, forms_of, IsRecord, IsForm, IsPaid, HasRelated, HasBody, IsGroup, AreGroups, Ret}
 
 abbrev AllWide : List (List ℕ) → Type 0

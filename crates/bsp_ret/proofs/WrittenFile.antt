@@ -13,8 +13,10 @@ use Rattle.bsp_fields.specs.Decimal.{number_of}
 use Rattle.bsp_fields.proofs.DecimalLemmas.{number_of-lt}
 use Rattle.bsp_ret.specs.declared.transactions.Transaction.{Transaction}
 use Rattle.bsp_ret.specs.declared.transactions.CardPayment.{CardPayment}
-use Rattle.bsp_ret.specs.Lines.{lines, has_end, without_cr}
-use Rattle.bsp_ret.specs.Records.{columns, identifier, is_wide, is_printable, is_space, is_total, spells, sale_fits, related_fits, amounts_fit, trailer_fits, form_amount}
+use Rattle.bsp_records.specs.Lines.{lines, has_end, without_cr}
+use Rattle.bsp_records.specs.Columns.{columns, identifier, is_wide, is_printable, is_space}
+use Rattle.bsp_records.specs.Fields.{is_total, spells}
+use Rattle.bsp_ret.specs.Records.{sale_fits, related_fits, amounts_fit, trailer_fits, form_amount}
 use Rattle.bsp_ret.specs.Table.{paid, total_paid}
 use Rattle.bsp_ret.specs.Ret.{File, flatten, forms_of, IsRecord, IsForm, HasBody, AreGroups, IsTrailer, Ret}
 use Rattle.bsp_ret.specs.Stored.{IsStored}
@@ -23,15 +25,15 @@ use Rattle.bsp_ret.specs.declared.model.TransactionCode.{TransactionCode}
 use Rattle.bsp_ret.specs.declared.model.FormOfPayment.{FormOfPayment}
 use Rattle.bsp_ret.specs.declared.model.FormOfPayment.TheVariants.{Cash, Credit, Exchange}
 use Rattle.bsp_ret.specs.Writing.{spaces, group_lines, written_groups, trailer_line, text_of, file_lines, written_file, HaveContents, AreWritten, IsWritten, IsWrittenTrailer}
-use Rattle.bsp_ret.proofs.CutLemmas.{lines_nil, lines_cut}
+use Rattle.bsp_records.proofs.CutLemmas.{lines_nil, lines_cut}
 use Rattle.bsp_ret.proofs.WritingLemmas.{text_of-append}
 use Rattle.bsp_ret.proofs.ContentMakes.{content_makes, first_of_places}
 use Rattle.bsp_ret.proofs.BodyLemmas.{body_facts}
 use Rattle.bsp_ret.proofs.GroupLemmas.{wide_length}
 use Rattle.bsp_ret.proofs.Wide.{wide_all}
 use Rattle.bsp_ret.proofs.ReadLemmas.{digits_inside}
-use Rattle.bsp_ret.proofs.FieldLemmas.{field_at, fields_at, wide_fields}
-use Rattle.bsp_ret.proofs.CharacterLemmas.{printable-digits, printable-spelling, length-spelling, list_all-replicate, digits-concat}
+use Rattle.bsp_records.proofs.FieldLemmas.{field_at, fields_at, wide_fields}
+use Rattle.bsp_records.proofs.CharacterLemmas.{printable-digits, printable-spelling, length-spelling, list_all-replicate, digits-concat}
 use Rattle.bsp_ret.proofs.WrittenGroup.{written_group}
 
 -- ---- one more group

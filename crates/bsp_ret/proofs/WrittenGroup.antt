@@ -12,7 +12,8 @@ use Rattle.bsp_ret.specs.declared.transactions.ReportedDocument.{ReportedDocumen
 use Rattle.bsp_ret.specs.declared.transactions.Amounts.{Amounts}
 use Rattle.bsp_ret.specs.declared.transactions.CardPayment.{CardPayment}
 use Rattle.bsp_ret.specs.declared.transactions.Transaction.{Transaction}
-use Rattle.bsp_ret.specs.Records.{is_printable, related_fits, amounts_fit}
+use Rattle.bsp_records.specs.Columns.{is_printable}
+use Rattle.bsp_ret.specs.Records.{related_fits, amounts_fit}
 use Rattle.bsp_ret.specs.Ret.{IsRecord, IsForm, IsPaid, HasRelated, HasBody}
 use Rattle.bsp_ret.specs.Content.{InBoth, IsDocument, HasRelatedValues, AreAmounts, IsPayment, IsCardPayment, HasContent, none_or, is_document, are_related, are_amounts, is_card, has_parts, related_of, is_group_values}
 use Rattle.bsp_ret.specs.Writing.{related_line, amounts_line, cash_line, credit_line, exchange_line, group_of, group_lines}

@@ -1,7 +1,10 @@
 -- What the reader holds of a file that it has read to a place.
-use Rattle.std.specs.Prelude.{◌<◌, ℕ, List, length}
+use Rattle.std.specs.Prelude.{◌≡◌, ◌<◌, ℕ, ℤ, pos, ◌+ℤ◌, List, length}
+use Rattle.bsp_ret.specs.declared.model.Record.{Record}
+use Rattle.bsp_ret.specs.declared.model.Record.TheVariants as said
+use Rattle.bsp_ret.specs.Table.{total_paid}
 use Rattle.bsp_ret.specs.declared.building.Building as code
-use Rattle.bsp_ret.specs.Lines.{lines, IsRest, before_rest, IsWholeLines}
+use Rattle.bsp_records.specs.Lines.{lines, IsRest, before_rest, IsWholeLines}
 use Rattle.bsp_ret.specs.Ret.{File}
 use Rattle.bsp_ret.specs.Reading.{Draft}
 
@@ -22,3 +25,16 @@ pub record IsReadTo (latest rest : List ℕ) : Type 0 where
 -- the file, where all is read
 abbrev pub file_of : code.Building → File
 file_of b = record { header = b.header.now; groups = b.closed.items; trailer = b.trailer.now }
+
+-- ---- what the last group pays
+
+-- the sum of its forms, with one more record
+abbrev pub paid_with : ℤ → Record → ℤ
+paid_with sum said.Related = sum
+paid_with sum said.Amounts = sum
+paid_with sum (said.Form form amount) = sum +ℤ amount
+paid_with sum begins = pos 0
+
+-- the sum is that of the text from the last group on, up to the rest
+abbrev pub HasPaidTo : ℤ → List ℕ → List ℕ → Type 0
+HasPaidTo sum latest rest = sum ≡ total_paid (lines (before_rest latest rest))

@@ -13,7 +13,9 @@ use Rattle.bsp_ret.specs.declared.transactions.Tax.{Tax}
 use Rattle.bsp_ret.specs.declared.transactions.Amounts.{Amounts}
 use Rattle.bsp_ret.specs.declared.transactions.CardPayment.{CardPayment}
 use Rattle.bsp_ret.specs.declared.transactions.Transaction.{Transaction}
-use Rattle.bsp_ret.specs.Records.{columns, is_letter_or_digit, is_printable, is_space, code_of, tax_places, tax_code}
+use Rattle.bsp_records.specs.Columns.{columns, is_letter_or_digit, is_printable, is_space}
+use Rattle.bsp_ret.specs.Records.{code_of}
+use Rattle.bsp_records.specs.Taxes.{tax_places, tax_code}
 use Rattle.bsp_ret.specs.Ret.{Group, IsGroup}
 
 -- ---- the values of a group's records

@@ -4,7 +4,8 @@ use Rattle.std.specs.Option.{option_copied}
 use Rattle.bsp_ret.specs.declared.model.FormOfPayment.{FormOfPayment}
 use Rattle.bsp_ret.specs.declared.model.FormOfPayment.TheVariants.{Cash, Credit, Exchange}
 use Rattle.bsp_ret.specs.declared.records.Records.{Records}
-use Rattle.bsp_ret.specs.Records.{identifier, sale_fits, related_fits, amounts_fit, form_of, form_fits}
+use Rattle.bsp_records.specs.Columns.{identifier}
+use Rattle.bsp_ret.specs.Records.{sale_fits, related_fits, amounts_fit, form_of, form_fits}
 use Rattle.bsp_ret.specs.Ret.{Group, IsGroup}
 
 -- what slices point to
@@ -42,15 +43,6 @@ with_records g (line ∷ lines) = with_records (with_record g line) lines
 pub record HasRecords (n : ℕ) (lines : List (List ℕ)) (g : Group) : Type 0 where
   pub is : IsGroup n lines
   pub group_is : is.group ≡ g
-
--- each record has its width
-pub record AreWide (g : Group) : Type 0 where
-  pub sale : length g.sale ≡ 136
-  pub related : IfSome g.related (λ line. length line ≡ 136)
-  pub amounts : IfSome g.amounts (λ line. length line ≡ 136)
-  pub cash : IfSome g.cash (λ line. length line ≡ 136)
-  pub credit : IfSome g.credit (λ line. length line ≡ 136)
-  pub exchange : IfSome g.exchange (λ line. length line ≡ 136)
 
 -- a record of its width, whose fields fit
 abbrev pub IsFit : (List ℕ → Bool) → List ℕ → Type 0

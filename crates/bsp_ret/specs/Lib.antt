@@ -1,5 +1,4 @@
 -- What the contracts of RET files cite.
-pub mod Lines
 pub mod Records
 pub mod Table
 pub mod Standings
@@ -10,7 +9,7 @@ pub mod Building
 pub mod Pieces
 pub mod Groups
 pub mod Content
-pub mod Fields
+pub mod Sales
 pub mod Stored
 pub mod Texts
 pub mod Writing

@@ -1,11 +1,11 @@
 -- A text that comes in pieces.
 use Rattle.std.specs.Prelude.{◌≡◌, ℕ, ◌+◌, true, false, List, [], ◌++◌, length, Some, None}
-use Rattle.bsp_ret.specs.declared.model.FaultCode.TheVariants.{F09}
+use Rattle.bsp_ret.specs.declared.model.FaultCode.TheVariants.{F08, F09}
 use Rattle.bsp_ret.specs.declared.model.RetFault.{RetFault}
 use Rattle.bsp_ret.specs.declared.model.Standing.{Standing}
 use Rattle.bsp_ret.specs.declared.model.Progress.{Progress}
 use Rattle.bsp_ret.specs.declared.model.Progress.TheVariants.{Reading, Ended, Failed}
-use Rattle.bsp_ret.specs.Lines.{lines, has_end, IsRest, before_rest, IsWholeLines}
+use Rattle.bsp_records.specs.Lines.{lines, has_end, IsRest, before_rest, IsWholeLines}
 use Rattle.bsp_ret.specs.Table.{standing, has_ended, first_fault}
 use Rattle.bsp_ret.specs.Standings.{fault_behind}
 
@@ -13,12 +13,6 @@ use Rattle.bsp_ret.specs.Standings.{fault_behind}
 pub record Fed : Type 0 where
   pub bytes : List ℕ
   pub progress : Progress
-
--- no fault was answered
-abbrev pub IsOpen : Progress → Type 0
-IsOpen Reading = Unit {0}
-IsOpen Ended = Unit {0}
-IsOpen (Failed fault) = ⊥
 
 -- however the text goes on, this is its first fault
 abbrev pub IsFinal : List ℕ → RetFault → Type 0
@@ -40,6 +34,10 @@ pub record IsClearSoFar (bytes : List ℕ) : Type 0 where
 -- the fault of a byte behind a file
 abbrev pub behind_file : List ℕ → RetFault
 behind_file bytes = record { code = F09; at = length (lines bytes) + 1 }
+
+-- the fault of a file that is asked for before the text has ended
+abbrev pub unended : List ℕ → RetFault
+unended bytes = record { code = F08; at = length (lines bytes) + 1 }
 
 -- ---- a part of a text, behind lines that stand so
 

@@ -1,10 +1,12 @@
 -- What a reader makes of lines, one after the other: the file, or the first fault that it meets.
-use Rattle.std.specs.Prelude.{ℕ, ◌+◌, ◌==◌, List, [], ◌∷◌, ◌++◌, Result, Ok, Err, if◌then◌else◌}
+use Rattle.std.specs.Prelude.{ℕ, ◌+◌, List, [], ◌∷◌, ◌++◌, Result, Ok, Err, if◌then◌else◌}
 use Rattle.bsp_ret.specs.declared.model.FaultCode.{FaultCode}
 use Rattle.bsp_ret.specs.declared.model.FaultCode.TheVariants.{F08, F10}
 use Rattle.bsp_ret.specs.declared.model.RetFault.{RetFault}
 use Rattle.bsp_ret.specs.declared.model.Standing.{Standing}
-use Rattle.bsp_ret.specs.Records.{identifier}
+use Rattle.bsp_ret.specs.Records.{record_in}
+use Rattle.bsp_ret.specs.declared.model.Record.{Record}
+use Rattle.bsp_ret.specs.declared.model.Record.TheVariants as said
 use Rattle.bsp_ret.specs.Table.{has_ended, row_fault, standing}
 use Rattle.bsp_ret.specs.Standings.{standing_behind}
 use Rattle.bsp_ret.specs.Ret.{File}
@@ -28,12 +30,14 @@ abbrev pub nothing : Draft
 nothing = record { header = []; closed = []; latest = []; trailer = [] }
 
 -- one more line: a header, a record 2 that begins a group, a trailer, or a further record of the last group
+abbrev pub added : Draft → List ℕ → Record → Draft
+added d line said.Header = record { header = line; closed = d.closed; latest = []; trailer = d.trailer }
+added d line (said.Sale code) = record { header = d.header; closed = groups_of d; latest = line ∷ []; trailer = d.trailer }
+added d line said.Trailer = record { header = d.header; closed = groups_of d; latest = []; trailer = line }
+added d line more = record { header = d.header; closed = d.closed; latest = d.latest ++ line ∷ []; trailer = d.trailer }
+
 abbrev pub add : Draft → List ℕ → Draft
-add d line =
-    if identifier line == 49 then record { header = line; closed = d.closed; latest = []; trailer = d.trailer }
-    else (if identifier line == 50 then record { header = d.header; closed = groups_of d; latest = line ∷ []; trailer = d.trailer }
-    else (if identifier line == 90 then record { header = d.header; closed = groups_of d; latest = []; trailer = line }
-    else record { header = d.header; closed = d.closed; latest = d.latest ++ line ∷ []; trailer = d.trailer }))
+add d line = added d line (record_in line)
 
 abbrev pub or_read : {A : Type 0} → Result (Unit {0}) FaultCode → ℕ → Result A RetFault → Result A RetFault
 or_read (Ok none) at read = read

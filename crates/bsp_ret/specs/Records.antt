@@ -1,60 +1,18 @@
--- The fields of each record, by its columns. Columns are counted from 1, both ends included.
-use Rattle.std.specs.Prelude.{ℕ, ℤ, pos, ◌+◌, ◌-◌, ◌*◌, ◌==◌, nat_le, nat_lt, Bool, true, false, ◌&&◌, ◌||◌, List, [], ◌∷◌, length, Option, Some, None, is_some, is_ok, slice_index, slice_range, if◌then◌else◌, codes}
+-- The fields of each record, by its columns.
+use Rattle.std.specs.Prelude.{ℕ, ℤ, pos, ◌==◌, Bool, false, ◌&&◌, List, Option, Some, None, is_some, unwrap_or, if◌then◌else◌, codes}
 use Rattle.std.specs.Result.{result_unwrap_or}
 use Rattle.std.specs.List.{list_all}
-use Rattle.std.specs.Char.{is_ascii_digit}
 use Rattle.std.specs.Str.{all_ascii_digits, bytes_eq}
-use Rattle.bsp_fields.specs.Decimal.{number_of}
 use Rattle.bsp_fields.specs.Zoned.{zoned_reading}
-use Rattle.bsp_fields.specs.Days.{record_reading}
+use Rattle.bsp_records.specs.Columns.{columns, identifier, is_letter, is_letter_or_digit, is_space}
+use Rattle.bsp_records.specs.Fields.{spells_at_most, is_amount, is_total, is_record_day}
+use Rattle.bsp_records.specs.Taxes.{tax_places, taxes_fit}
 use Rattle.bsp_ret.specs.declared.model.TransactionCode.{TransactionCode}
 use Rattle.bsp_ret.specs.declared.model.TransactionCode.TheVariants.{Tktt, Rfnd, Canx}
 use Rattle.bsp_ret.specs.declared.model.FormOfPayment.{FormOfPayment}
 use Rattle.bsp_ret.specs.declared.model.FormOfPayment.TheVariants.{Cash, Credit, Exchange}
-
-abbrev pub columns : ℕ → ℕ → List ℕ → List ℕ
-columns from to line = slice_range line (from - 1) to
-
--- column 1
-abbrev pub identifier : List ℕ → ℕ
-identifier line = slice_index line 0
-
--- ---- kinds of characters
-
-abbrev pub is_letter : ℕ → Bool
-is_letter b = nat_le 65 b && nat_le b 90
-
-abbrev pub is_letter_or_digit : ℕ → Bool
-is_letter_or_digit b = is_ascii_digit b || is_letter b
-
-abbrev pub is_space : ℕ → Bool
-is_space b = b == 32
-
-abbrev pub is_printable : ℕ → Bool
-is_printable b = nat_le 32 b && nat_le b 126
-
--- a record's width and characters
-unfoldable pub is_wide : List ℕ → Bool
-is_wide line = (length line == 136) && list_all is_printable line
-
--- ---- kinds of fields
-
--- the digits write n
-abbrev pub spells : ℕ → List ℕ → Bool
-spells n text = all_ascii_digits text && (number_of text == n)
-
--- the digits write n or less
-abbrev pub spells_at_most : ℕ → List ℕ → Bool
-spells_at_most n text = all_ascii_digits text && nat_le (number_of text) n
-
-abbrev pub is_amount : List ℕ → Bool
-is_amount text = is_ok (zoned_reading 11 text)
-
-abbrev pub is_total : List ℕ → Bool
-is_total text = is_ok (zoned_reading 15 text)
-
-abbrev pub is_record_day : List ℕ → Bool
-is_record_day text = is_ok (record_reading text)
+use Rattle.bsp_ret.specs.declared.model.Record.{Record}
+use Rattle.bsp_ret.specs.declared.model.Record.TheVariants as said
 
 -- ---- record 1, the header
 
@@ -91,26 +49,6 @@ related_fits line = all_ascii_digits (columns 8 21 line) && list_all is_space (c
 
 -- ---- record 5, amounts
 
--- the six places of a tax code and its amount
-abbrev pub tax_places : List ℕ → List (List ℕ)
-tax_places line =
-    columns 19 31 line ∷ columns 32 44 line ∷ columns 45 57 line ∷ columns 58 70 line ∷ columns 71 83 line
-    ∷ columns 84 96 line ∷ []
-
--- the two characters of a tax code as a number, which orders codes by their bytes
-abbrev pub tax_code : List ℕ → ℕ
-tax_code place = 256 * slice_index place 0 + slice_index place 1
-
-abbrev pub tax_fits : List ℕ → Bool
-tax_fits place = list_all is_letter_or_digit (columns 1 2 place) && is_amount (columns 3 13 place)
-
--- used places come first, with codes that rise; unused places are spaces
-abbrev pub taxes_fit : ℕ → List (List ℕ) → Bool
-taxes_fit before [] = true
-taxes_fit before (place ∷ places) =
-    if list_all is_space place then list_all (list_all is_space) places
-    else tax_fits place && nat_lt before (tax_code place) && taxes_fit (tax_code place) places
-
 unfoldable pub amounts_fit : List ℕ → Bool
 amounts_fit line =
     is_amount (columns 8 18 line) && taxes_fit 0 (tax_places line) && spells_at_most 10000 (columns 97 101 line)
@@ -145,3 +83,13 @@ form_amount line = result_unwrap_or (zoned_reading 11 (columns 10 20 line)) (pos
 unfoldable pub trailer_fits : List ℕ → Bool
 trailer_fits line =
     all_ascii_digits (columns 2 15 line) && is_total (columns 16 30 line) && list_all is_space (columns 31 136 line)
+
+-- ---- what a record says, by its identifier
+
+unfoldable pub record_in : List ℕ → Record
+record_in line =
+    if identifier line == 50 then said.Sale (unwrap_or (code_of line) Tktt)
+    else (if identifier line == 51 then said.Related
+    else (if identifier line == 53 then said.Amounts
+    else (if identifier line == 56 then said.Form (unwrap_or (form_of line) Cash) (form_amount line)
+    else (if identifier line == 90 then said.Trailer else said.Header))))

@@ -7,7 +7,9 @@ use Rattle.bsp_ret.specs.declared.model.TransactionCode.{TransactionCode}
 use Rattle.bsp_ret.specs.declared.model.TransactionCode.TheVariants.{Tktt, Rfnd, Canx}
 use Rattle.bsp_ret.specs.declared.model.FormOfPayment.{FormOfPayment}
 use Rattle.bsp_ret.specs.declared.model.FormOfPayment.TheVariants.{Cash, Credit, Exchange}
-use Rattle.bsp_ret.specs.Records.{columns, identifier, spells, is_wide, is_header, is_production, header_fits, code_of, sale_fits, related_fits, amounts_fit, form_of, form_fits, trailer_fits}
+use Rattle.bsp_records.specs.Columns.{columns, identifier, is_wide}
+use Rattle.bsp_records.specs.Fields.{spells}
+use Rattle.bsp_ret.specs.Records.{is_header, is_production, header_fits, code_of, sale_fits, related_fits, amounts_fit, form_of, form_fits, trailer_fits}
 use Rattle.bsp_ret.specs.Table.{total_paid}
 
 -- a transaction's records; of the forms each stands once at most

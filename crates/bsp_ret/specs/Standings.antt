@@ -1,21 +1,27 @@
 -- How the lines stand with one more, and what is at fault behind lines that stand so.
-use Rattle.std.specs.Prelude.{◌≤◌, ℕ, ◌+◌, ◌*◌, ◌^◌, ◌+ℤ◌, unsigned_abs, false, ◌||◌, List, [], ◌∷◌, Option, Some, None, unwrap_or, if◌then◌else◌}
-use Rattle.bsp_ret.specs.declared.model.TransactionCode.TheVariants.{Tktt}
+use Rattle.std.specs.Prelude.{◌≤◌, ℕ, ◌+◌, ◌*◌, ◌^◌, ◌+ℤ◌, unsigned_abs, true, false, List, [], ◌∷◌, Option, Some, None, if◌then◌else◌}
+use Rattle.bsp_ret.specs.declared.model.Record.{Record}
+use Rattle.bsp_ret.specs.declared.model.Record.TheVariants as said
+use Rattle.bsp_ret.specs.declared.model.LastRecord.{LastRecord}
+use Rattle.bsp_ret.specs.declared.model.LastRecord.TheVariants as last
+use Rattle.bsp_ret.specs.declared.model.FormOfPayment.TheVariants.{Cash, Credit, Exchange}
 use Rattle.bsp_ret.specs.declared.model.Standing.{Standing}
 use Rattle.bsp_ret.specs.declared.model.FaultCode.TheVariants.{F08}
 use Rattle.bsp_ret.specs.declared.model.RetFault.{RetFault}
-use Rattle.bsp_ret.specs.Records.{code_of}
-use Rattle.bsp_ret.specs.Table.{is_sale, is_related, paid, kind_of, has_ended, row_fault, or_later}
+use Rattle.bsp_ret.specs.Records.{record_in}
+use Rattle.bsp_ret.specs.Table.{has_ended, row_fault, or_later}
+
+abbrev pub standing_with : Standing → Record → Standing
+standing_with at said.Header = record at { records = at.records + 1; last = last.Header }
+standing_with at (said.Sale code) =
+    record at { records = at.records + 1; transactions = at.transactions + 1; code = code; related = false; last = last.Sale }
+standing_with at said.Related = record at { records = at.records + 1; related = true; last = last.Related }
+standing_with at said.Amounts = record at { records = at.records + 1; last = last.Amounts }
+standing_with at (said.Form form amount) = record at { records = at.records + 1; sum = at.sum +ℤ amount; last = last.Form form }
+standing_with at said.Trailer = record at { records = at.records + 1; last = last.Trailer }
 
 abbrev pub standing_behind : Standing → List ℕ → Standing
-standing_behind at line = record {
-  records = at.records + 1;
-  transactions = at.transactions + (if is_sale line then 1 else 0);
-  sum = at.sum +ℤ paid line;
-  code = if is_sale line then unwrap_or (code_of line) Tktt else at.code;
-  related = if is_sale line then false else at.related || is_related line;
-  last = kind_of line;
-}
+standing_behind at line = standing_with at (record_in line)
 
 -- the first fault of lines behind others that stand so
 unfoldable pub fault_behind : Standing → List (List ℕ) → Option RetFault
@@ -28,3 +34,10 @@ pub record FitsIn (at : Standing) (most : ℕ) : Type 0 where
   pub counted : at.transactions ≤ at.records
   pub small : unsigned_abs at.sum ≤ at.records * 10 ^ 11
   pub few : at.records ≤ most
+
+-- the most forms that a group has up to this record
+abbrev pub forms_up_to : LastRecord → ℕ
+forms_up_to (last.Form Cash) = 1
+forms_up_to (last.Form Credit) = 2
+forms_up_to (last.Form Exchange) = 3
+forms_up_to _ = 0

@@ -9,13 +9,17 @@ use Rattle.bsp_ret.specs.declared.model.TransactionCode.{TransactionCode}
 use Rattle.bsp_ret.specs.declared.model.TransactionCode.TheVariants.{Tktt, Rfnd, Canx}
 use Rattle.bsp_ret.specs.declared.model.FormOfPayment.{FormOfPayment}
 use Rattle.bsp_ret.specs.declared.model.FormOfPayment.TheVariants.{Cash, Credit, Exchange}
+use Rattle.bsp_ret.specs.declared.model.Record.{Record}
+use Rattle.bsp_ret.specs.declared.model.Record.TheVariants as said
 use Rattle.bsp_ret.specs.declared.model.LastRecord.{LastRecord}
 use Rattle.bsp_ret.specs.declared.model.LastRecord.TheVariants as last
 use Rattle.bsp_ret.specs.declared.model.Standing.{Standing}
 use Rattle.bsp_ret.specs.declared.model.FaultCode.{FaultCode}
 use Rattle.bsp_ret.specs.declared.model.FaultCode.TheVariants.{F01, F02, F03, F04, F05, F06, F07, F08, F09}
 use Rattle.bsp_ret.specs.declared.model.RetFault.{RetFault}
-use Rattle.bsp_ret.specs.Records.{columns, identifier, spells, is_wide, is_header, is_production, header_fits, code_of, sale_fits, related_fits, amounts_fit, form_of, form_fits, form_amount, trailer_fits}
+use Rattle.bsp_records.specs.Columns.{columns, identifier, is_wide}
+use Rattle.bsp_records.specs.Fields.{spells}
+use Rattle.bsp_ret.specs.Records.{is_header, is_production, header_fits, code_of, sale_fits, related_fits, amounts_fit, form_of, form_fits, form_amount, trailer_fits, record_in}
 
 -- ---- kinds of records
 
@@ -24,9 +28,6 @@ is_sale line = identifier line == 50
 
 abbrev pub is_related : List ℕ → Bool
 is_related line = identifier line == 51
-
-abbrev pub is_trailer : List ℕ → Bool
-is_trailer line = identifier line == 90
 
 -- ---- what stands before a record
 
@@ -53,13 +54,16 @@ behind_sale (line ∷ lines) =
     if list_any is_sale lines then behind_sale lines else (if is_sale line then lines else line ∷ lines)
 
 -- the kind of a record
-unfoldable pub kind_of : List ℕ → LastRecord
-kind_of line =
-    if identifier line == 50 then last.Sale
-    else (if identifier line == 51 then last.Related
-    else (if identifier line == 53 then last.Amounts
-    else (if identifier line == 56 then last.Form (unwrap_or (form_of line) Cash)
-    else (if identifier line == 90 then last.Trailer else last.Header))))
+abbrev pub kind : Record → LastRecord
+kind said.Header = last.Header
+kind (said.Sale code) = last.Sale
+kind said.Related = last.Related
+kind said.Amounts = last.Amounts
+kind (said.Form form amount) = last.Form form
+kind said.Trailer = last.Trailer
+
+abbrev pub kind_of : List ℕ → LastRecord
+kind_of line = kind (record_in line)
 
 abbrev pub kind_or_start : Option (List ℕ) → LastRecord
 kind_or_start None = last.Start
@@ -129,23 +133,6 @@ takes_form (last.Form Cash) code related None = true
 takes_form (last.Form Credit) code related None = has_form code related Exchange
 takes_form _ code related form = false
 
--- identifier, transaction number and form
-abbrev pub is_allowed : Standing → List ℕ → Bool
-is_allowed at line =
-    if identifier line == 50 then is_complete at.last at.code at.related && spells (at.transactions + 1) (columns 2 7 line)
-    else (if identifier line == 51 then takes_related at.last at.code && spells at.transactions (columns 2 7 line)
-    else (if identifier line == 53 then takes_amounts at.last at.code && spells at.transactions (columns 2 7 line)
-    else (if identifier line == 56 then takes_form at.last at.code at.related (form_of line) && spells at.transactions (columns 2 7 line)
-    else (identifier line == 90) && is_complete at.last at.code at.related)))
-
--- the other fields of a later record
-abbrev pub fields_fit : List ℕ → Bool
-fields_fit line =
-    if identifier line == 50 then sale_fits line
-    else (if identifier line == 51 then related_fits line
-    else (if identifier line == 53 then amounts_fit line
-    else (if identifier line == 56 then form_fits line else trailer_fits line)))
-
 -- the text is a total, of that value
 abbrev pub has_value : ℤ → Result ℤ FieldFault → Bool
 has_value v (Ok w) = int_eq w v
@@ -157,24 +144,48 @@ has_counts at line = spells (at.records + 1) (columns 2 8 line) && spells at.tra
 abbrev pub has_sum : Standing → List ℕ → Bool
 has_sum at line = has_value at.sum (zoned_reading 15 (columns 16 30 line))
 
--- ---- the table
+-- ---- the tables of the records, each behind lines that stand so
 
--- of the header and of a later record
 abbrev pub header_table : List ℕ → List (Bool × FaultCode)
 header_table line = (not (is_header line), F02) ∷ (not (is_production line), F04) ∷ (not (header_fits line), F05) ∷ []
 
+abbrev pub sale_table : Standing → List ℕ → List (Bool × FaultCode)
+sale_table at line =
+    (not (is_complete at.last at.code at.related && spells (at.transactions + 1) (columns 2 7 line)), F03)
+    ∷ (not (sale_fits line), F05) ∷ []
+
+abbrev pub related_table : Standing → List ℕ → List (Bool × FaultCode)
+related_table at line =
+    (not (takes_related at.last at.code && spells at.transactions (columns 2 7 line)), F03) ∷ (not (related_fits line), F05) ∷ []
+
+abbrev pub amounts_table : Standing → List ℕ → List (Bool × FaultCode)
+amounts_table at line =
+    (not (takes_amounts at.last at.code && spells at.transactions (columns 2 7 line)), F03) ∷ (not (amounts_fit line), F05) ∷ []
+
+abbrev pub form_table : Standing → List ℕ → List (Bool × FaultCode)
+form_table at line =
+    (not (takes_form at.last at.code at.related (form_of line) && spells at.transactions (columns 2 7 line)), F03)
+    ∷ (not (form_fits line), F05) ∷ []
+
+-- of a trailer, and of a record that is none of these
+abbrev pub trailer_table : Standing → List ℕ → List (Bool × FaultCode)
+trailer_table at line =
+    (not ((identifier line == 90) && is_complete at.last at.code at.related), F03) ∷ (not (trailer_fits line), F05)
+    ∷ (not (has_counts at line), F06) ∷ (not (has_sum at line), F07) ∷ []
+
 abbrev pub later_table : Standing → List ℕ → List (Bool × FaultCode)
 later_table at line =
-    (not (is_allowed at line), F03) ∷ (not (fields_fit line), F05)
-    ∷ (is_trailer line && not (has_counts at line), F06) ∷ (is_trailer line && not (has_sum at line), F07) ∷ []
+    if identifier line == 50 then sale_table at line
+    else (if identifier line == 51 then related_table at line
+    else (if identifier line == 53 then amounts_table at line
+    else (if identifier line == 56 then form_table at line else trailer_table at line)))
+
+abbrev pub record_table : Standing → List ℕ → List (Bool × FaultCode)
+record_table at line = if is_start at.last then header_table line else later_table at line
 
 -- the first row that applies to a line behind the lines that stand so
 unfoldable pub row_fault : Standing → List ℕ → Result (Unit {0}) FaultCode
-row_fault at line =
-    first_fault_or
-    ((has_ended at.last, F09) ∷ (not (is_wide line), F01)
-    ∷ (if is_start at.last then header_table line else later_table at line))
-    tt
+row_fault at line = first_fault_or ((has_ended at.last, F09) ∷ (not (is_wide line), F01) ∷ record_table at line) tt
 
 -- ---- the first record at fault
 

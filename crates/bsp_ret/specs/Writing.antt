@@ -11,8 +11,8 @@ use Rattle.bsp_ret.specs.declared.transactions.Tax.{Tax}
 use Rattle.bsp_ret.specs.declared.transactions.Amounts.{Amounts}
 use Rattle.bsp_ret.specs.declared.transactions.CardPayment.{CardPayment}
 use Rattle.bsp_ret.specs.declared.transactions.Transaction.{Transaction}
-use Rattle.bsp_ret.specs.Lines.{lines}
-use Rattle.bsp_ret.specs.Records.{columns}
+use Rattle.bsp_records.specs.Lines.{lines}
+use Rattle.bsp_records.specs.Columns.{columns}
 use Rattle.bsp_ret.specs.Ret.{Group, File, lines_of, flatten, Ret}
 use Rattle.bsp_ret.specs.Content.{related_of, HasContent}
 

@@ -4,12 +4,12 @@ ghost use Rattle.std.specs.Prelude.{◌≡◌, ◌↔◌, IsTrue};
 ghost use Rattle.bsp_ret.specs.Stored.{InEach, IsStored, IsStoredTax};
 ghost use Rattle.bsp_ret.specs.Content.{is_document, are_related, are_taxes, are_amounts, is_group_values, MakesGroup};
 
-use crate::characters::{all_digits, all_letters_or_digits, all_printable};
 use crate::model::TransactionCode;
 use crate::transactions::{Amounts, ReportedDocument, Tax, Transaction};
+use bsp_records::{all_digits, all_letters_or_digits, all_printable};
 
 /// The digits of a document are digits, and its check digit is one.
-#[tactic(auto, using(crate::proofs::CharacterLemmas::digits_are), unfolding(crate::specs::Content::is_document))]
+#[tactic(auto, using(bsp_records::proofs::CharacterLemmas::digits_are), unfolding(crate::specs::Content::is_document))]
 fn fits_document(document: &ReportedDocument) -> bool
     ensures { result ≡ is_document document.now }
 {
@@ -58,7 +58,7 @@ fn fits_amounts(amounts: &Amounts) -> bool
 }
 
 /// The test of the values.
-#[tactic(auto, using(crate::proofs::CharacterLemmas::digits_are), unfolding(crate::specs::Content::is_group_values, crate::specs::Content::is_card, crate::specs::Content::has_parts))]
+#[tactic(auto, using(bsp_records::proofs::CharacterLemmas::digits_are), unfolding(crate::specs::Content::is_group_values, crate::specs::Content::is_card, crate::specs::Content::has_parts))]
 fn fits_group(transaction: &Transaction) -> bool
     ensures { result ≡ is_group_values transaction.now }
 {

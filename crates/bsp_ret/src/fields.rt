@@ -1,43 +1,14 @@
 //! The fields of each record, by its columns.
 
-ghost use Rattle.std.specs.Prelude.{◌≡◌, ◌≤◌, length, true, unsigned_abs};
-ghost use Rattle.bsp_ret.specs.Records.{is_wide, is_amount, is_total, is_record_day, is_header, is_production, header_fits, code_of, sale_fits, related_fits, tax_code, tax_fits, taxes_fit, tax_places, amounts_fit, form_of, vendor_fits, form_fits, form_amount, trailer_fits};
+ghost use Rattle.std.specs.Prelude.{◌≡◌, length, true, false, Some, IfSome, IfNone};
+ghost use Rattle.bsp_ret.specs.Records.{is_header, is_production, header_fits, code_of, sale_fits, related_fits, amounts_fit, form_of, vendor_fits, form_fits, form_amount, trailer_fits};
 
-use crate::characters::{
-    all_digits, all_letters, all_letters_or_digits, all_printable, all_spaces, spells_at_most,
-};
 use crate::model::{FormOfPayment, TransactionCode};
-use bsp_fields::{Day, read_amount, read_total};
-
-/// Whether a record has 136 characters, all from 0x20 to 0x7E.
-#[tactic(auto, unfolding(crate::specs::Records::is_wide))]
-pub fn is_wide(line: &[u8]) -> bool
-    ensures value { result ≡ is_wide line.now }
-    ensures long { result ≡ true → length line.now ≡ 136 }
-{
-    line.len() == 136 && all_printable(line)
-}
-
-/// Whether a text is an amount, in any spelling.
-pub fn is_amount(text: &[u8]) -> bool
-    ensures { result ≡ is_amount text.now }
-{
-    read_amount(text).is_ok()
-}
-
-/// Whether a text is a total, in any spelling.
-pub fn is_total(text: &[u8]) -> bool
-    ensures { result ≡ is_total text.now }
-{
-    read_total(text).is_ok()
-}
-
-/// Whether a text is a day as YYMMDD.
-pub fn is_record_day(text: &[u8]) -> bool
-    ensures { result ≡ is_record_day text.now }
-{
-    Day::read_record(text).is_ok()
-}
+use bsp_fields::{Amount, read_amount};
+use bsp_records::{
+    all_digits, all_letters, all_letters_or_digits, all_spaces, is_amount, is_record_day, is_total,
+    spells_at_most, taxes_fit,
+};
 
 /// Whether a record is a header of this profile.
 #[tactic(auto, unfolding(crate::specs::Records::is_header))]
@@ -85,15 +56,18 @@ pub(crate) fn code_of(line: &[u8]) -> Option<TransactionCode>
     }
 }
 
+/// The code of a record 2 whose other fields fit.
 #[tactic(auto, unfolding(crate::specs::Records::sale_fits))]
-pub(crate) fn sale_fits(line: &[u8]) -> bool
+pub(crate) fn sale_code(line: &[u8]) -> Option<TransactionCode>
     requires { length line.now ≡ 136 }
-    ensures { result ≡ sale_fits line.now }
+    ensures some { IfSome result (λ code. (sale_fits line.now ≡ true) × (code_of line.now ≡ Some code)) }
+    ensures none { IfNone result (sale_fits line.now ≡ false) }
 {
-    code_of(line).is_some()
-        && all_digits(&line[11..33])
+    let code = code_of(line)?;
+    let fits = all_digits(&line[11..33])
         && is_record_day(&line[33..39])
-        && all_spaces(&line[88..136])
+        && all_spaces(&line[88..136]);
+    if fits { Some(code) } else { None }
 }
 
 #[tactic(auto, unfolding(crate::specs::Records::related_fits))]
@@ -102,42 +76,6 @@ pub(crate) fn related_fits(line: &[u8]) -> bool
     ensures { result ≡ related_fits line.now }
 {
     all_digits(&line[7..21]) && all_spaces(&line[21..136])
-}
-
-/// The characters of a tax code as a number, which orders codes by their bytes.
-fn tax_code(place: &[u8]) -> u16
-    requires { length place.now ≡ 13 }
-    ensures { result ≡ tax_code place.now }
-{
-    u16::from_be_bytes([place[0], place[1]])
-}
-
-fn tax_fits(place: &[u8]) -> bool
-    requires { length place.now ≡ 13 }
-    ensures { result ≡ tax_fits place.now }
-{
-    all_letters_or_digits(&place[..2]) && is_amount(&place[2..13])
-}
-
-/// Whether the six places of taxes in columns 19 to 96 have the used ones first, with codes that
-/// rise, and spaces behind them.
-pub fn taxes_fit(line: &[u8]) -> bool
-    requires { 96 ≤ length line.now }
-    ensures { result ≡ taxes_fit 0 (tax_places line.now) }
-{
-    let mut before = 0;
-    for index in 0..6 {
-        let place = &line[18 + 13 * index..31 + 13 * index];
-        if all_spaces(place) {
-            return all_spaces(&line[31 + 13 * index..96]);
-        }
-        let code = tax_code(place);
-        if !tax_fits(place) || code <= before {
-            return false;
-        }
-        before = code;
-    }
-    true
 }
 
 #[tactic(auto, unfolding(crate::specs::Records::amounts_fit))]
@@ -166,36 +104,32 @@ pub(crate) fn form_of(line: &[u8]) -> Option<FormOfPayment>
     }
 }
 
-fn vendor_fits(form: Option<FormOfPayment>, text: &[u8]) -> bool
-    ensures { result ≡ vendor_fits form text.now }
+fn vendor_fits(form: FormOfPayment, text: &[u8]) -> bool
+    ensures { result ≡ vendor_fits (Some form) text.now }
 {
     match form {
-        Some(FormOfPayment::Cash | FormOfPayment::Exchange) => all_spaces(text),
-        Some(FormOfPayment::Credit) => all_letters_or_digits(text),
-        None => false,
+        FormOfPayment::Cash | FormOfPayment::Exchange => all_spaces(text),
+        FormOfPayment::Credit => all_letters_or_digits(text),
     }
 }
 
-#[tactic(auto, unfolding(crate::specs::Records::form_fits))]
-pub(crate) fn form_fits(line: &[u8]) -> bool
-    requires { length line.now ≡ 136 }
-    ensures { result ≡ form_fits line.now }
+/// The amount of a record 8 with that form, whose other fields fit.
+#[tactic(auto, using(crate::proofs::SaidLemmas::other_vendor, crate::proofs::SaidLemmas::no_spaces), unfolding(crate::specs::Records::form_fits, crate::specs::Records::form_amount))]
+pub(crate) fn payment(line: &[u8], form: FormOfPayment) -> Option<Amount>
+    requires wide { length line.now ≡ 136 }
+    requires form { form_of line.now ≡ Some form }
+    ensures some { IfSome result (λ amount. (form_fits line.now ≡ true) × (amount ≡ form_amount line.now)) }
+    ensures none { IfNone result (form_fits line.now ≡ false) }
 {
-    vendor_fits(form_of(line), &line[20..22])
-        && is_amount(&line[9..20])
-        && all_spaces(&line[22..136])
-}
-
-/// The amount of a record 8, 0 where there is none.
-#[tactic(auto, unfolding(crate::specs::Records::form_amount))]
-pub(crate) fn form_amount(line: &[u8]) -> i64
-    requires { length line.now ≡ 136 }
-    ensures value { result ≡ form_amount line.now }
-    ensures bound { unsigned_abs result ≤ 99_999_999_999 }
-{
+    if !vendor_fits(form, &line[20..22]) {
+        return None;
+    }
+    if !all_spaces(&line[22..136]) {
+        return None;
+    }
     match read_amount(&line[9..20]) {
-        Ok(amount) => amount.get(),
-        Err(_) => 0,
+        Ok(amount) => Some(amount),
+        Err(_) => None,
     }
 }
 

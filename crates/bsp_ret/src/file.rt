@@ -2,30 +2,40 @@
 
 ghost use Rattle.std.specs.Prelude.{◌≡◌, ◌+◌, ◌<◌, ◌≤◌, List, ℕ, [], ◌∷◌, true, length, MatchOption, slice_index_or};
 ghost use Rattle.std.specs.List.{list_all};
-ghost use Rattle.bsp_ret.specs.Lines.{lines};
-ghost use Rattle.bsp_ret.specs.Records.{is_wide, trailer_fits};
+ghost use Rattle.bsp_records.specs.Lines.{lines};
+ghost use Rattle.bsp_records.specs.Columns.{is_wide};
+ghost use Rattle.bsp_ret.specs.Records.{sale_fits, trailer_fits};
+ghost use Rattle.bsp_ret.specs.Table.{total_paid};
+ghost use Rattle.bsp_ret.specs.Sales.{IsSale, HasSale};
 ghost use Rattle.bsp_ret.specs.Groups.{records_of, sale_alone, with_records, HasRecords, IsFit};
 
 use crate::building::Building;
-use crate::record_fields::{GroupFields, HeaderFields, TrailerFields};
 use crate::records::Records;
-use crate::values::{trailer_records, trailer_sum};
+use crate::transactions::PaidSale;
+use crate::values::{sale_values, trailer_records, trailer_sum};
 use bsp_fields::Total;
+use bsp_records::first_record;
 use std::marker::Model;
 
-/// The lines of a transaction, as they stand in the text. A contract sees the list of its lines.
+/// The lines of a transaction, as they are in the text, and the sum of its forms in minor units. A
+/// contract sees the list of its lines.
 #[derive(Drop)]
 pub struct Group<'a> {
     text: &'a [u8],
+    paid: i64,
 }
 
 impl<'a> Model for Group<'a> {
     ghost use Rattle.std.specs.Prelude.{List, ℕ};
-    ghost use Rattle.bsp_ret.specs.Lines.{lines};
+    ghost use Rattle.std.specs.Prelude.{◌≡◌};
+    ghost use Rattle.bsp_records.specs.Lines.{lines};
+    ghost use Rattle.bsp_ret.specs.Table.{total_paid};
 
     ghost Value = { List (List ℕ) };
 
     ghost view = { λ group. lines group.text.now };
+
+    ghost invariant = { λ group. group.paid ≡ total_paid (lines group.text.now) };
 }
 
 /// A RET file: its header, the groups of its transactions and its trailer, as slices of the text.
@@ -47,11 +57,29 @@ impl<'a> Model for RetFile<'a> {
 }
 
 impl<'a> Group<'a> {
-    /// The group of these lines.
-    pub(crate) fn of(text: &'a [u8]) -> Group<'a>
+    /// The group of these lines, whose forms have that sum.
+    pub(crate) fn of(text: &'a [u8], paid: i64) -> Group<'a>
+        requires { paid ≡ total_paid (lines text.now) }
         ensures { result ≡ lines text.now }
     {
-        Group { text }
+        Group { text, paid }
+    }
+
+    /// The record 2 of the group, and the sum of its forms.
+    fn sale(&self) -> PaidSale
+        requires some { 0 < length self.now }
+        requires wide { list_all is_wide self.now ≡ true }
+        requires fits { (first : List ℕ) (more : List (List ℕ)) → self.now ≡ first ∷ more → IsFit sale_fits first }
+        ensures sale { (first : List ℕ) (more : List (List ℕ)) → self.now ≡ first ∷ more → IsSale first result.sale }
+        ensures paid { result.paid ≡ total_paid self.now }
+    {
+        let Some((line, _)) = first_record(self.text) else {
+            unreachable!()
+        };
+        PaidSale {
+            sale: sale_values(line),
+            paid: self.paid,
+        }
     }
 
     /// The records of the group.
@@ -67,7 +95,6 @@ impl<'a> Group<'a> {
 impl<'a> RetFile<'a> {
     ghost use Rattle.bsp_ret.specs.Building.{file_of};
     ghost use Rattle.bsp_ret.specs.Ret.{HasLines, flatten};
-    ghost use Rattle.bsp_ret.specs.Fields.{IsHeaderOf, IsTrailerOf, HasFields};
     ghost use Rattle.bsp_ret.specs.Table.{total_paid};
     ghost use Rattle.bsp_ret.specs.Writing.{file_lines};
 
@@ -110,28 +137,14 @@ impl<'a> RetFile<'a> {
         }
     }
 
-    /// The fields of the header.
-    pub fn header(&self) -> HeaderFields<'a>
-        ensures { IsHeaderOf self.now.header result }
+    /// The record 2 of a transaction, counted from 0, and what it pays; none past the last.
+    pub fn sale(&self, index: usize) -> Option<PaidSale>
+        ensures { MatchOption result (length self.now.groups ≤ index) (λ sale. HasSale (index + 1) (slice_index_or self.now.groups index []) sale) }
     {
-        HeaderFields::of(self.header)
-    }
-
-    /// The fields of a transaction's records, counted from 0; none past the last.
-    pub fn fields(&self, index: usize) -> Option<GroupFields<'a>>
-        ensures { MatchOption result (length self.now.groups ≤ index) (λ fields. HasFields (index + 1) (slice_index_or self.now.groups index []) fields) }
-    {
-        match self.records(index) {
-            Some(records) => Some(records.fields()),
+        match self.groups.get(index) {
+            Some(group) => Some(group.sale()),
             None => None,
         }
-    }
-
-    /// The fields of the trailer.
-    pub fn trailer(&self) -> TrailerFields<'a>
-        ensures { IsTrailerOf self.now.trailer result }
-    {
-        TrailerFields::of(self.trailer)
     }
 
     /// The number of transactions.

@@ -1,51 +1,18 @@
-//! The fault table over one record and how the records before it stand, and how they stand with it.
+//! The fault table over one record, behind records that stand so, and what the record says.
 
-ghost use Rattle.std.specs.Prelude.{◌≡◌, ◌*◌, ◌^◌, ◌<◌, ◌≤◌, length, unsigned_abs, OnOk};
+ghost use Rattle.std.specs.Prelude.{◌≡◌, ◌^◌, ◌<◌, ◌≤◌, length, true, false, Ok, Err, IfOk, IfErr};
 ghost use Rattle.bsp_fields.specs.FirstFault.{first_fault_or};
-ghost use Rattle.bsp_ret.specs.Table.{is_allowed, fields_fit, has_counts, has_sum, header_table, later_table, row_fault};
-ghost use Rattle.bsp_ret.specs.Standings.{standing_behind};
+ghost use Rattle.bsp_records.specs.Columns.{identifier, is_wide};
+ghost use Rattle.bsp_ret.specs.Records.{record_in};
+ghost use Rattle.bsp_ret.specs.Table.{has_ended, has_counts, has_sum, header_table, sale_table, related_table, amounts_table, form_table, trailer_table, later_table, record_table, row_fault};
 
-use crate::characters::spells;
 use crate::fields::{
-    amounts_fit, code_of, form_amount, form_fits, form_of, header_fits, is_header, is_production,
-    is_wide, related_fits, sale_fits, trailer_fits,
+    amounts_fit, form_of, header_fits, is_header, is_production, payment, related_fits, sale_code,
+    trailer_fits,
 };
-use crate::model::{FaultCode, FormOfPayment, LastRecord, Standing, TransactionCode};
+use crate::model::{FaultCode, Record, Standing};
 use bsp_fields::read_total;
-
-/// Whether the identifier, the transaction number and the form may stand here.
-fn is_allowed(at: Standing, line: &[u8]) -> bool
-    requires wide { length line.now ≡ 136 }
-    requires room { at.records < 2 ^ 63 }
-    requires counted { at.transactions ≤ at.records }
-    ensures { result ≡ is_allowed at line.now }
-{
-    let number = &line[1..7];
-    match line[0] {
-        b'2' => at.last.is_complete(at.code, at.related) && spells(at.transactions + 1, number),
-        b'3' => at.last.takes_related(at.code) && spells(at.transactions, number),
-        b'5' => at.last.takes_amounts(at.code) && spells(at.transactions, number),
-        b'8' => {
-            at.last.takes_form(at.code, at.related, form_of(line))
-                && spells(at.transactions, number)
-        }
-        identifier => identifier == b'Z' && at.last.is_complete(at.code, at.related),
-    }
-}
-
-/// Whether the other fields of a later record fit.
-fn fields_fit(line: &[u8]) -> bool
-    requires { length line.now ≡ 136 }
-    ensures { result ≡ fields_fit line.now }
-{
-    match line[0] {
-        b'2' => sale_fits(line),
-        b'3' => related_fits(line),
-        b'5' => amounts_fit(line),
-        b'8' => form_fits(line),
-        _ => trailer_fits(line),
-    }
-}
+use bsp_records::{is_wide, spells};
 
 /// Whether a trailer has the numbers of the records and the transactions.
 fn has_counts(at: Standing, line: &[u8]) -> bool
@@ -67,9 +34,9 @@ fn has_sum(at: Standing, line: &[u8]) -> bool
     }
 }
 
-fn header_fault(line: &[u8]) -> Result<(), FaultCode>
+fn header_record(line: &[u8]) -> Result<Record, FaultCode>
     requires { length line.now ≡ 136 }
-    ensures { result ≡ first_fault_or (header_table line.now) tt }
+    ensures { result ≡ first_fault_or (header_table line.now) Record.Header }
 {
     if !is_header(line) {
         Err(FaultCode::F02)
@@ -78,96 +45,144 @@ fn header_fault(line: &[u8]) -> Result<(), FaultCode>
     } else if !header_fits(line) {
         Err(FaultCode::F05)
     } else {
-        Ok(())
+        Ok(Record::Header)
     }
 }
 
-fn later_fault(at: Standing, line: &[u8]) -> Result<(), FaultCode>
+#[tactic(auto, unfolding(crate::specs::Records::record_in))]
+fn sale_record(at: Standing, line: &[u8]) -> Result<Record, FaultCode>
+    requires wide { length line.now ≡ 136 }
+    requires kind { identifier line.now ≡ 50 }
+    requires room { at.records < 2 ^ 63 }
+    requires counted { at.transactions ≤ at.records }
+    ensures { result ≡ first_fault_or (sale_table at line.now) (record_in line.now) }
+{
+    if !at.last.is_complete(at.code, at.related) || !spells(at.transactions + 1, &line[1..7]) {
+        return Err(FaultCode::F03);
+    }
+    match sale_code(line) {
+        Some(code) => Ok(Record::Sale(code)),
+        None => Err(FaultCode::F05),
+    }
+}
+
+#[tactic(auto, unfolding(crate::specs::Records::record_in))]
+fn related_record(at: Standing, line: &[u8]) -> Result<Record, FaultCode>
+    requires wide { length line.now ≡ 136 }
+    requires kind { identifier line.now ≡ 51 }
+    ensures { result ≡ first_fault_or (related_table at line.now) (record_in line.now) }
+{
+    if !at.last.takes_related(at.code) || !spells(at.transactions, &line[1..7]) {
+        Err(FaultCode::F03)
+    } else if !related_fits(line) {
+        Err(FaultCode::F05)
+    } else {
+        Ok(Record::Related)
+    }
+}
+
+#[tactic(auto, unfolding(crate::specs::Records::record_in))]
+fn amounts_record(at: Standing, line: &[u8]) -> Result<Record, FaultCode>
+    requires wide { length line.now ≡ 136 }
+    requires kind { identifier line.now ≡ 53 }
+    ensures { result ≡ first_fault_or (amounts_table at line.now) (record_in line.now) }
+{
+    if !at.last.takes_amounts(at.code) || !spells(at.transactions, &line[1..7]) {
+        Err(FaultCode::F03)
+    } else if !amounts_fit(line) {
+        Err(FaultCode::F05)
+    } else {
+        Ok(Record::Amounts)
+    }
+}
+
+#[tactic(auto, using(crate::proofs::SaidLemmas::no_form), unfolding(crate::specs::Records::record_in))]
+fn form_record(at: Standing, line: &[u8]) -> Result<Record, FaultCode>
+    requires wide { length line.now ≡ 136 }
+    requires kind { identifier line.now ≡ 56 }
+    ensures { result ≡ first_fault_or (form_table at line.now) (record_in line.now) }
+{
+    let form = form_of(line);
+    if !at.last.takes_form(at.code, at.related, form) || !spells(at.transactions, &line[1..7]) {
+        return Err(FaultCode::F03);
+    }
+    let Some(form) = form else {
+        return Err(FaultCode::F05);
+    };
+    match payment(line, form) {
+        Some(amount) => Ok(Record::Form(form, amount)),
+        None => Err(FaultCode::F05),
+    }
+}
+
+/// A trailer, or a record of no kind.
+fn trailer_record(at: Standing, line: &[u8]) -> Result<Record, FaultCode>
+    requires wide { length line.now ≡ 136 }
+    requires room { at.records < 2 ^ 63 }
+    ensures { result ≡ first_fault_or (trailer_table at line.now) Record.Trailer }
+{
+    if line[0] != b'Z' || !at.last.is_complete(at.code, at.related) {
+        Err(FaultCode::F03)
+    } else if !trailer_fits(line) {
+        Err(FaultCode::F05)
+    } else if !has_counts(at, line) {
+        Err(FaultCode::F06)
+    } else if !has_sum(at, line) {
+        Err(FaultCode::F07)
+    } else {
+        Ok(Record::Trailer)
+    }
+}
+
+fn later_record(at: Standing, line: &[u8]) -> Result<Record, FaultCode>
     requires wide { length line.now ≡ 136 }
     requires room { at.records < 2 ^ 63 }
     requires counted { at.transactions ≤ at.records }
-    ensures { result ≡ first_fault_or (later_table at line.now) tt }
+    ensures { result ≡ first_fault_or (later_table at line.now) (record_in line.now) }
 {
-    let is_trailer = line[0] == b'Z';
-    if !is_allowed(at, line) {
-        Err(FaultCode::F03)
-    } else if !fields_fit(line) {
-        Err(FaultCode::F05)
-    } else if is_trailer && !has_counts(at, line) {
-        Err(FaultCode::F06)
-    } else if is_trailer && !has_sum(at, line) {
-        Err(FaultCode::F07)
-    } else {
-        Ok(())
+    match line[0] {
+        b'2' => sale_record(at, line),
+        b'3' => related_record(at, line),
+        b'5' => amounts_record(at, line),
+        b'8' => form_record(at, line),
+        _ => trailer_record(at, line),
     }
 }
 
-/// The first row of the fault table that applies to a line behind records that stand so.
-#[tactic(auto, unfolding(crate::specs::Table::row_fault))]
-pub(crate) fn row_fault(at: Standing, line: &[u8]) -> Result<(), FaultCode>
+/// What a record says that is no fault behind records that stand so and have not ended, or the
+/// first row of the fault table that applies to it.
+pub(crate) fn judge_record(at: Standing, line: &[u8]) -> Result<Record, FaultCode>
+    requires wide { is_wide line.now ≡ true }
+    requires long { length line.now ≡ 136 }
+    requires goes_on { has_ended at.last ≡ false }
     requires room { at.records < 2 ^ 63 }
     requires counted { at.transactions ≤ at.records }
-    ensures row { result ≡ row_fault at line.now }
-    ensures wide { OnOk result (length line.now ≡ 136) }
+    ensures row { IfOk result (λ said. row_fault at line.now ≡ Ok tt) }
+    ensures says { IfOk result (λ said. said ≡ record_in line.now) }
+    ensures fault { IfErr result (λ code. row_fault at line.now ≡ Err code) }
+{
+    if at.last.is_start() {
+        header_record(line)
+    } else {
+        later_record(at, line)
+    }
+}
+
+/// What a line says that is a record without fault behind records that stand so, or the first row
+/// of the fault table that applies to it.
+#[tactic(auto, using(crate::proofs::SaidLemmas::ended_row, crate::proofs::SaidLemmas::narrow_row))]
+pub(crate) fn judge_line(at: Standing, line: &[u8]) -> Result<Record, FaultCode>
+    requires room { at.records < 2 ^ 63 }
+    requires counted { at.transactions ≤ at.records }
+    ensures row { IfOk result (λ said. row_fault at line.now ≡ Ok tt) }
+    ensures says { IfOk result (λ said. said ≡ record_in line.now) }
+    ensures fault { IfErr result (λ code. row_fault at line.now ≡ Err code) }
 {
     if at.last.has_ended() {
         Err(FaultCode::F09)
     } else if !is_wide(line) {
         Err(FaultCode::F01)
-    } else if at.last.is_start() {
-        header_fault(line)
     } else {
-        later_fault(at, line)
-    }
-}
-
-/// How records stand with one more.
-#[tactic(auto, unfolding(crate::specs::Table::kind_of))]
-pub(crate) fn standing_behind(at: Standing, line: &[u8]) -> Standing
-    requires wide { length line.now ≡ 136 }
-    requires room { at.records < 2 ^ 63 }
-    requires counted { at.transactions ≤ at.records }
-    requires small { unsigned_abs at.sum ≤ at.records * 10 ^ 11 }
-    ensures standing { result ≡ standing_behind at line.now }
-    ensures counted { result.transactions ≤ result.records }
-    ensures small { unsigned_abs result.sum ≤ result.records * 10 ^ 11 }
-{
-    let records = at.records + 1;
-    match line[0] {
-        b'2' => Standing {
-            records,
-            transactions: at.transactions + 1,
-            code: code_of(line).unwrap_or(TransactionCode::Tktt),
-            related: false,
-            last: LastRecord::Sale,
-            ..at
-        },
-        b'3' => Standing {
-            records,
-            related: true,
-            last: LastRecord::Related,
-            ..at
-        },
-        b'5' => Standing {
-            records,
-            last: LastRecord::Amounts,
-            ..at
-        },
-        b'8' => Standing {
-            records,
-            sum: at.sum + form_amount(line) as i128,
-            last: LastRecord::Form(form_of(line).unwrap_or(FormOfPayment::Cash)),
-            ..at
-        },
-        b'Z' => Standing {
-            records,
-            last: LastRecord::Trailer,
-            ..at
-        },
-        _ => Standing {
-            records,
-            last: LastRecord::Header,
-            ..at
-        },
+        judge_record(at, line)
     }
 }

@@ -2,18 +2,15 @@
 #![tactic(auto)]
 
 mod building;
-mod characters;
 mod content;
 mod fields;
 mod file;
 mod file_text;
 mod judge;
-mod lines;
 mod model;
 mod pieces;
 mod reader;
 mod reading;
-mod record_fields;
 mod records;
 mod standing;
 #[cfg(test)]
@@ -22,22 +19,12 @@ mod transactions;
 mod values;
 mod writing;
 
-pub use characters::{
-    all_digits, all_letters, all_letters_or_digits, all_spaces, read_number, spells, spells_at_most,
-};
 pub use content::is_group;
-pub use fields::{is_amount, is_record_day, is_total, is_wide, taxes_fit};
-pub use file::{Group, RetFile};
+pub use file::RetFile;
 pub use file_text::write_ret;
-pub use lines::first_line;
-pub use model::{
-    FaultCode, FormOfPayment, LastRecord, Progress, RetFault, Standing, TransactionCode,
-};
+pub use model::{FaultCode, FormOfPayment, Progress, RetFault, TransactionCode};
 pub use reader::RetReader;
 pub use reading::{fault_or_file, read_ret};
-pub use record_fields::{
-    AmountsFields, FormFields, GroupFields, HeaderFields, RelatedFields, SaleFields, TrailerFields,
-};
-pub use transactions::{Amounts, CardPayment, ReportedDocument, Tax, Transaction};
+pub use transactions::{Amounts, CardPayment, PaidSale, ReportedDocument, Sale, Tax, Transaction};
 pub use values::{one_content, transaction};
 pub use writing::write_tax;

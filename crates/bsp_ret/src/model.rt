@@ -3,6 +3,7 @@
 ghost use Rattle.std.specs.Prelude.{◌≡◌};
 ghost use Rattle.bsp_ret.specs.Texts.{code_text, fault_text};
 
+use bsp_fields::Amount;
 use thiserror::Error;
 
 /// A row of the fault table of RET files.
@@ -61,6 +62,24 @@ pub enum FormOfPayment {
     Credit,
     /// EX, the value of a document taken in exchange.
     Exchange,
+}
+
+/// What a record says of the transactions: its kind, the code of a record 2, and the form and the
+/// amount of a record 8.
+#[derive(Clone, Copy, Debug, PartialEq, Eq)]
+pub enum Record {
+    /// Record 1.
+    Header,
+    /// Record 2.
+    Sale(TransactionCode),
+    /// Record 3.
+    Related,
+    /// Record 5.
+    Amounts,
+    /// Record 8.
+    Form(FormOfPayment, Amount),
+    /// Record Z.
+    Trailer,
 }
 
 /// The kind of the last record.

@@ -1,14 +1,14 @@
 //! Lines that are judged as their bytes come.
 
 ghost use Rattle.std.specs.Prelude.{◌≡◌, ◌+◌, ◌-◌, ◌^◌, [], true, false, Some, None, length, IfOk, IfErr};
-ghost use Rattle.bsp_ret.specs.Lines.{lines, has_end};
+ghost use Rattle.bsp_records.specs.Lines.{lines, has_end};
 ghost use Rattle.bsp_ret.specs.Table.{has_ended};
 ghost use Rattle.bsp_ret.specs.Standings.{FitsIn, fault_behind};
 ghost use Rattle.bsp_ret.specs.Pieces.{Leaves, Fails};
 
-use crate::judge::{row_fault, standing_behind};
-use crate::lines::ended_line;
+use crate::judge::judge_line;
 use crate::model::{FaultCode, RetFault, Standing};
+use bsp_records::ended_line;
 
 /// Judges the lines that have an end, and whether a line begins behind a trailer. Answers how the
 /// records stand then, and the bytes that are left.
@@ -23,10 +23,10 @@ pub(crate) fn judge_lines(at: Standing, bytes: &[u8]) -> Result<(Standing, &[u8]
     let mut now = at;
     let mut rest = bytes;
     while let Some((line, after)) = ended_line(rest) {
-        if let Err(code) = row_fault(now, line) {
-            return Err(now.fault(code));
+        match judge_line(now, line) {
+            Ok(next) => now = now.with(&next),
+            Err(code) => return Err(now.fault(code)),
         }
-        now = standing_behind(now, line);
         rest = after;
     }
     if now.last.has_ended() && !rest.is_empty() {
@@ -47,8 +47,8 @@ fn judge_last(at: Standing, rest: &[u8]) -> Result<Standing, RetFault>
     if rest.is_empty() {
         return Ok(at);
     }
-    match row_fault(at, rest) {
-        Ok(()) => Ok(standing_behind(at, rest)),
+    match judge_line(at, rest) {
+        Ok(next) => Ok(at.with(&next)),
         Err(code) => Err(at.fault(code)),
     }
 }

@@ -1,11 +1,11 @@
 //! A reader of a file that comes in pieces.
 
 ghost use Rattle.std.specs.Prelude.{◌≡◌, ◌⊎◌, [], ◌++◌, Ok, Err, None, Some, MatchResult, OnOk, IfOk, IfErr, length, ◌<◌};
-ghost use Rattle.bsp_ret.specs.Lines.{lines};
+ghost use Rattle.bsp_records.specs.Lines.{lines};
 ghost use Rattle.bsp_ret.specs.Table.{first_fault};
 ghost use Rattle.bsp_ret.specs.Ret.{File, Ret};
 ghost use Rattle.bsp_ret.specs.Reading.{no_memory};
-ghost use Rattle.bsp_ret.specs.Pieces.{Fed, IsFinal, IsOpen, IsClearSoFar, behind_file};
+ghost use Rattle.bsp_ret.specs.Pieces.{Fed, IsFinal, IsClearSoFar, behind_file, unended};
 
 use crate::file::RetFile;
 use crate::model::{FaultCode, Progress, RetFault, Standing};
@@ -55,8 +55,8 @@ impl RetReader {
     ///
     /// # Errors
     ///
-    /// The first fault of all bytes fed, however they go on; it is answered for good. After an
-    /// `end` or a `finish` that found no fault, F09 for any byte. F10 where an allocation was
+    /// The first fault of all bytes fed, however they go on; every later call answers it again.
+    /// After a `finish` without fault, F09 for any byte. F10 where an allocation was
     /// refused, and the reader is as it was.
     pub fn feed(&mut self, piece: &[u8]) -> Result<(), RetFault>
         ensures failed { (fault : RetFault) → self.old.progress ≡ Progress.Failed fault → (result ≡ Err fault) × (self.new ≡ self.old) }
@@ -108,8 +108,8 @@ impl RetReader {
     ///
     /// # Errors
     ///
-    /// The first fault of all bytes fed; it is answered for good.
-    pub fn end(&mut self) -> Result<(), RetFault>
+    /// The first fault of all bytes fed; every later call answers it again.
+    pub fn finish(&mut self) -> Result<(), RetFault>
         ensures failed { (fault : RetFault) → self.old.progress ≡ Progress.Failed fault → (result ≡ Err fault) × (self.new ≡ self.old) }
         ensures ended { self.old.progress ≡ Progress.Ended → (result ≡ Ok tt) × (self.new ≡ self.old) }
         ensures reading { self.old.progress ≡ Progress.Reading → MatchResult result
@@ -122,52 +122,51 @@ impl RetReader {
             Progress::Reading => {}
         }
         let (_, rest) = self.bytes.split_at(self.judged);
-        match judge_rest(self.at, rest) {
-            Ok(at) => {
-                self.at = at;
-                self.judged = self.bytes.len();
-                self.progress = Progress::Ended;
-                Ok(())
-            }
+        let at = match judge_rest(self.at, rest) {
+            Ok(at) => at,
             Err(fault) => {
                 self.progress = Progress::Failed(fault);
-                Err(fault)
+                return Err(fault);
             }
-        }
+        };
+        self.at = at;
+        self.judged = self.bytes.len();
+        self.progress = Progress::Ended;
+        Ok(())
     }
 
-    /// Ends the text and gives its file, the one that `read_ret` gives of all bytes fed. Another
-    /// call gives it again.
+    /// The file, the one that `read_ret` gives of all bytes fed. Another call gives it again.
     ///
     /// # Errors
     ///
-    /// As `end`, and F10 where an allocation was refused: then the reader is as it was.
-    pub fn finish(&mut self) -> Result<RetFile<'_>, RetFault>
-        ensures failed { (fault : RetFault) → self.old.progress ≡ Progress.Failed fault → result ≡ Err fault }
-        ensures found { IfOk result (λ file. Ret (lines self.old.bytes) file) }
-        ensures only { IsOpen self.old.progress → (file : File) → Ret (lines self.old.bytes) file → (result ≡ Ok file) ⊎ (result ≡ Err no_memory) }
-        ensures fault { IsOpen self.old.progress → IfErr result (λ fault. (fault ≡ no_memory) ⊎ (first_fault (lines self.old.bytes) ≡ Some fault)) }
+    /// The fault that was answered; F08 before a `finish` without fault; F10 where an allocation
+    /// was refused.
+    pub fn file(&self) -> Result<RetFile<'_>, RetFault>
+        ensures failed { (fault : RetFault) → self.now.progress ≡ Progress.Failed fault → result ≡ Err fault }
+        ensures reading { self.now.progress ≡ Progress.Reading → result ≡ Err (unended self.now.bytes) }
+        ensures found { IfOk result (λ file. Ret (lines self.now.bytes) file) }
+        ensures only { self.now.progress ≡ Progress.Ended → (file : File) → Ret (lines self.now.bytes) file → (result ≡ Ok file) ⊎ (result ≡ Err no_memory) }
+        ensures fault { self.now.progress ≡ Progress.Ended → IfErr result (λ fault. fault ≡ no_memory) }
     {
         match self.progress {
-            Progress::Failed(fault) => return Err(fault),
-            Progress::Ended => return read_ret(self.alloc, &self.bytes),
-            Progress::Reading => {}
+            Progress::Failed(fault) => Err(fault),
+            Progress::Reading => Err(self.unended()),
+            Progress::Ended => read_ret(self.alloc, &self.bytes),
         }
+    }
+
+    /// The fault of a text that has not ended: its trailer lacks.
+    fn unended(&self) -> RetFault
+        requires { self.now.progress ≡ Progress.Reading }
+        ensures { result ≡ unended self.now.bytes }
+    {
         let (_, rest) = self.bytes.split_at(self.judged);
-        match judge_rest(self.at, rest) {
-            Ok(at) => match read_ret(self.alloc, &self.bytes) {
-                Ok(file) => {
-                    self.at = at;
-                    self.judged = self.bytes.len();
-                    self.progress = Progress::Ended;
-                    Ok(file)
-                }
-                Err(fault) => Err(fault),
-            },
-            Err(fault) => {
-                self.progress = Progress::Failed(fault);
-                Err(fault)
-            }
+        if rest.is_empty() {
+            return self.at.fault(FaultCode::F08);
+        }
+        RetFault {
+            code: FaultCode::F08,
+            at: self.at.records + 2,
         }
     }
 }

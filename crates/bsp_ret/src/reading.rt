@@ -1,7 +1,7 @@
 //! A file from its text.
 
 ghost use Rattle.std.specs.Prelude.{◌≡◌, ◌⊎◌, List, ℕ, IfOk, IfErr, Ok, Err, Some};
-ghost use Rattle.bsp_ret.specs.Lines.{lines};
+ghost use Rattle.bsp_records.specs.Lines.{lines};
 ghost use Rattle.bsp_ret.specs.Table.{first_fault};
 ghost use Rattle.bsp_ret.specs.Ret.{File, Ret};
 ghost use Rattle.bsp_ret.specs.Reading.{read_all, no_memory};
@@ -10,9 +10,9 @@ ghost use Rattle.bsp_ret.specs.Building.{file_of};
 
 use crate::building::Building;
 use crate::file::RetFile;
-use crate::judge::{row_fault, standing_behind};
-use crate::lines::first_line;
+use crate::judge::judge_record;
 use crate::model::{FaultCode, RetFault, Standing};
+use bsp_records::first_record;
 use std::alloc::Global;
 
 /// Reads line by line, to the end or the first fault.
@@ -24,12 +24,18 @@ fn read(alloc: Global, bytes: &[u8]) -> Result<Building<'_>, RetFault>
     let mut building = Building::new(alloc, bytes);
     let mut rest = bytes;
     while !rest.is_empty() {
-        let (line, after) = first_line(rest);
-        if let Err(code) = row_fault(at, line) {
-            return Err(at.fault(code));
+        if at.last.has_ended() {
+            return Err(at.fault(FaultCode::F09));
         }
-        building.add(line, rest, after)?;
-        at = standing_behind(at, line);
+        let Some((line, after)) = first_record(rest) else {
+            return Err(at.fault(FaultCode::F01));
+        };
+        let next = match judge_record(at, line) {
+            Ok(next) => next,
+            Err(code) => return Err(at.fault(code)),
+        };
+        building.add(&next, line, rest, after)?;
+        at = at.with(&next);
         rest = after;
     }
     if !at.last.has_ended() {

@@ -2,13 +2,12 @@
 
 ghost use Rattle.std.specs.Prelude.{◌≡◌, ◌<◌, ◌∷◌, List, ℕ, true, length};
 ghost use Rattle.std.specs.List.{list_all};
-ghost use Rattle.bsp_ret.specs.Lines.{lines};
-ghost use Rattle.bsp_ret.specs.Records.{is_wide};
+ghost use Rattle.bsp_records.specs.Lines.{lines};
+ghost use Rattle.bsp_records.specs.Columns.{is_wide};
 
 use crate::fields::form_of;
-use crate::lines::first_line;
 use crate::model::FormOfPayment;
-use crate::record_fields::{AmountsFields, FormFields, GroupFields, RelatedFields, SaleFields};
+use bsp_records::first_line;
 
 /// The records of a transaction, as slices of the text, without their line ends.
 #[derive(Clone, Copy)]
@@ -28,8 +27,7 @@ pub(crate) struct Records<'a> {
 }
 
 impl<'a> Records<'a> {
-    ghost use Rattle.bsp_ret.specs.Fields.{AreFieldsOf};
-    ghost use Rattle.bsp_ret.specs.Groups.{records_of, sale_alone, with_record, with_records, AreWide};
+    ghost use Rattle.bsp_ret.specs.Groups.{records_of, sale_alone, with_record, with_records};
 
     /// The records of these lines.
     pub(crate) fn of(text: &'a [u8]) -> Records<'a>
@@ -52,21 +50,6 @@ impl<'a> Records<'a> {
             rest = after;
         }
         records
-    }
-
-    /// The fields of the records.
-    pub(crate) fn fields(&self) -> GroupFields<'a>
-        requires { AreWide (records_of self.now) }
-        ensures { AreFieldsOf (records_of self.now) result }
-    {
-        GroupFields {
-            sale: SaleFields::of(self.sale),
-            related: self.related.map(RelatedFields::of),
-            amounts: self.amounts.map(AmountsFields::of),
-            cash: self.cash.map(FormFields::of),
-            credit: self.credit.map(FormFields::of),
-            exchange: self.exchange.map(FormFields::of),
-        }
     }
 
     /// Puts a further record in its place.

@@ -1,9 +1,12 @@
 //! What may stand behind a record of each kind.
 
-ghost use Rattle.std.specs.Prelude.{◌≡◌, ◌+◌, ◌<◌, []};
-ghost use Rattle.bsp_ret.specs.Table.{standing, has_ended, is_start, is_complete, takes_related, takes_amounts, has_form, is_later, takes_form};
+ghost use Rattle.std.specs.Prelude.{◌≡◌, ◌+◌, ◌*◌, ◌^◌, ◌<◌, ◌≤◌, [], unsigned_abs};
+ghost use Rattle.bsp_ret.specs.Standings.{standing_with};
+ghost use Rattle.bsp_ret.specs.Table.{kind, standing, has_ended, is_start, is_complete, takes_related, takes_amounts, has_form, is_later, takes_form};
 
-use crate::model::{FaultCode, FormOfPayment, LastRecord, RetFault, Standing, TransactionCode};
+use crate::model::{
+    FaultCode, FormOfPayment, LastRecord, Record, RetFault, Standing, TransactionCode,
+};
 
 /// Whether the form may stand in a group with the code, which has a record 3 or none.
 fn has_form(code: TransactionCode, related: bool, form: FormOfPayment) -> bool
@@ -38,6 +41,40 @@ impl Standing {
         }
     }
 
+    /// How they stand with one more record, which says this.
+    pub(crate) fn with(self, next: &Record) -> Standing
+        requires room { self.records < 2 ^ 63 }
+        requires counted { self.transactions ≤ self.records }
+        requires small { unsigned_abs self.sum ≤ self.records * 10 ^ 11 }
+        ensures standing { result ≡ standing_with self next.now }
+        ensures records { result.records ≡ self.records + 1 }
+        ensures counted { result.transactions ≤ result.records }
+        ensures small { unsigned_abs result.sum ≤ result.records * 10 ^ 11 }
+    {
+        let at = Standing {
+            records: self.records + 1,
+            last: next.kind(),
+            ..self
+        };
+        match next {
+            Record::Sale(code) => Standing {
+                transactions: self.transactions + 1,
+                code: *code,
+                related: false,
+                ..at
+            },
+            Record::Related => Standing {
+                related: true,
+                ..at
+            },
+            Record::Form(_, amount) => Standing {
+                sum: self.sum + amount.get() as i128,
+                ..at
+            },
+            Record::Header | Record::Amounts | Record::Trailer => at,
+        }
+    }
+
     /// A fault of the next record.
     pub(crate) fn fault(self, code: FaultCode) -> RetFault
         requires { self.records < usize.MAX }
@@ -46,6 +83,21 @@ impl Standing {
         RetFault {
             code,
             at: self.records + 1,
+        }
+    }
+}
+
+impl Record {
+    fn kind(&self) -> LastRecord
+        ensures { result ≡ kind self.now }
+    {
+        match self {
+            Record::Header => LastRecord::Header,
+            Record::Sale(_) => LastRecord::Sale,
+            Record::Related => LastRecord::Related,
+            Record::Amounts => LastRecord::Amounts,
+            Record::Form(form, _) => LastRecord::Form(*form),
+            Record::Trailer => LastRecord::Trailer,
         }
     }
 }

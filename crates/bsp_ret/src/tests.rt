@@ -115,62 +115,36 @@ fn fault(code: FaultCode, at: usize) -> Option<RetFault> {
     Some(RetFault { code, at })
 }
 
-/// The fault of a text, where memory was refused read once more.
 fn told(rt: &HostRuntime, bytes: &[u8]) -> Option<RetFault> {
-    let first = read_ret(rt.alloc(), bytes).err();
-    if first != fault(FaultCode::F10, 0) {
-        return first;
-    }
     read_ret(rt.alloc(), bytes).err()
-}
-
-/// Feeds a piece, and where memory was refused the same piece once more.
-fn feed(reader: &mut RetReader, piece: &[u8]) -> Option<RetFault> {
-    let first = reader.feed(piece).err();
-    if first != fault(FaultCode::F10, 0) {
-        return first;
-    }
-    reader.feed(piece).err()
-}
-
-/// Ends the text, and where memory was refused once more.
-fn finish(reader: &mut RetReader) -> Option<RetFault> {
-    let first = reader.finish().err();
-    if first != fault(FaultCode::F10, 0) {
-        return first;
-    }
-    reader.finish().err()
 }
 
 /// Feeds a piece and ends the text.
 fn feed_last(reader: &mut RetReader, piece: &[u8]) -> Option<RetFault> {
-    let first = feed(reader, piece);
-    if first.is_some() {
-        return first;
+    match reader.feed(piece) {
+        Ok(()) => reader.finish().err(),
+        Err(fault) => Some(fault),
     }
-    finish(reader)
-}
-
-/// The text of a file, where memory was refused written once more.
-fn written(rt: &HostRuntime, file: &RetFile) -> Result<Vec<u8>, RetFault> {
-    let first = write_ret(rt.alloc(), file);
-    if first.is_ok() {
-        return first;
-    }
-    write_ret(rt.alloc(), file)
 }
 
 /// What is written of a text in two pieces, or its fault.
 fn written_in_pieces(rt: &HostRuntime, front: &[u8], back: &[u8]) -> Result<Vec<u8>, RetFault> {
     let mut reader = RetReader::new(rt.alloc());
-    if let Some(fault) = feed(&mut reader, front) {
-        return Err(fault);
-    }
-    if let Some(fault) = feed_last(&mut reader, back) {
-        return Err(fault);
-    }
-    let file = reader.finish()?;
-    written(rt, &file)
+    reader.feed(front)?;
+    reader.feed(back)?;
+    reader.finish()?;
+    write_ret(rt.alloc(), &reader.file()?)
+}
+
+/// What a reader answers at the end of a text, and when it is asked again.
+fn told_again(rt: &HostRuntime, bytes: &[u8]) -> [Option<RetFault>; 4] {
+    let mut reader = RetReader::new(rt.alloc());
+    [
+        feed_last(&mut reader, bytes),
+        reader.finish().err(),
+        reader.feed(b"").err(),
+        reader.file().err(),
+    ]
 }
 
 /// The values of the first transaction of REFUND.
@@ -298,10 +272,10 @@ fn pieces_are_read_as_one_text(rt: HostRuntime) -> Result<(), Fail> {
     }
     let mut reader = RetReader::new(rt.alloc());
     for byte in &v1 {
-        assert_eq!(rt; feed(&mut reader, &[*byte]), None);
+        assert_eq!(rt; reader.feed(&[*byte]).err(), None);
     }
-    let file = reader.finish()?;
-    assert_eq!(rt; written(&rt, &file)?, v1);
+    assert_eq!(rt; reader.finish().err(), None);
+    assert_eq!(rt; write_ret(rt.alloc(), &reader.file()?)?, v1);
     Ok(())
 }
 
@@ -314,19 +288,34 @@ fn a_byte_behind_a_file_is_told(rt: HostRuntime) -> Result<(), Fail> {
     assert_eq!(rt; feed_last(&mut reader, b""), None);
     assert_eq!(rt; feed_last(&mut reader, b" "), behind);
     assert_eq!(rt; feed_last(&mut reader, b""), behind);
-    assert_eq!(rt; finish(&mut reader), behind);
     Ok(())
 }
 
-/// Each call is made again where memory was refused, and then gives what it gives otherwise.
 #[test]
-fn want_of_memory_changes_nothing(rt: HostRuntime) -> Result<(), Fail> {
-    let v1 = text(&rt, &V1, b"\n")?;
-    let (front, back) = v1.split_at(v1.len() / 2);
-    assert_eq!(rt; written_in_pieces(&rt, front, back)?, v1);
-    assert_eq!(rt; told(&rt, &v1), None);
-    let file = read_ret(rt.alloc(), &v1)?;
-    assert_eq!(rt; written(&rt, &file)?, v1);
+fn a_fault_at_the_end_is_told_again(rt: HostRuntime) -> Result<(), Fail> {
+    let cases: [(&[u8], usize, FaultCode); 5] = [
+        (NO_SALES, 135, FaultCode::F01),
+        (b"Z0000002000000000000000000000{X", 136, FaultCode::F05),
+        (b"Z0000003000000000000000000000{", 136, FaultCode::F06),
+        (b"Z0000002000000000000000000001{", 136, FaultCode::F07),
+        (NO_SALES, 0, FaultCode::F08),
+    ];
+    for (last, length, code) in cases {
+        let bytes = text(&rt, &[HEADER, last], b"\n")?;
+        assert_eq!(rt;
+            told_again(&rt, front(&bytes, 137 + length)),
+            [fault(code, 2); 4]
+        );
+    }
+    Ok(())
+}
+
+#[test]
+fn a_file_is_given_after_its_end(rt: HostRuntime) -> Result<(), Fail> {
+    let v0 = text(&rt, &[HEADER, NO_SALES], b"\n")?;
+    let mut reader = RetReader::new(rt.alloc());
+    reader.feed(front(&v0, 200))?;
+    assert_eq!(rt; reader.file().err(), fault(FaultCode::F08, 3));
     Ok(())
 }
 
@@ -356,11 +345,33 @@ fn values_of_a_refund_are_told(rt: HostRuntime) -> Result<(), Fail> {
     let expected = refund()?;
     assert_eq!(rt; transaction(&file, 0), Some(expected));
     assert!(rt; transaction(&file, 2).is_none());
+    assert!(rt; file.sale(2).is_none());
     assert!(rt; is_group(&expected));
     let exchanged = Transaction {
         exchange: expected.cash,
         ..expected
     };
     assert!(rt; !is_group(&exchanged));
+    Ok(())
+}
+
+#[test]
+fn a_sale_is_told_with_its_sum(rt: HostRuntime) -> Result<(), Fail> {
+    let bytes = text(&rt, &EXCHANGE, b"\n")?;
+    let file = read_ret(rt.alloc(), &bytes)?;
+    let expected = PaidSale {
+        sale: Sale {
+            code: TransactionCode::Tktt,
+            agent: *b"12345675",
+            document: ReportedDocument {
+                airline: AirlineCode::read(b"125")?,
+                number: *b"1300000003",
+                check_digit: 1,
+            },
+            issued: Day::read_text(b"2024-01-05")?,
+        },
+        paid: 28_500,
+    };
+    assert_eq!(rt; file.sale(0), Some(expected));
     Ok(())
 }

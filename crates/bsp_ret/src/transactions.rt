@@ -46,6 +46,28 @@ pub struct CardPayment {
     pub vendor: [u8; 2],
 }
 
+/// The values of a record 2, but for the passenger.
+#[derive(Clone, Copy, Debug, PartialEq, Eq)]
+pub struct Sale {
+    /// Columns 8 to 11.
+    pub code: TransactionCode,
+    /// Columns 12 to 19, the agent's eight characters `0` to `9`, not judged further.
+    pub agent: [u8; 8],
+    /// Columns 20 to 33.
+    pub document: ReportedDocument,
+    /// Columns 34 to 39, the day of issue.
+    pub issued: Day,
+}
+
+/// A record 2, and what its transaction pays.
+#[derive(Clone, Copy, Debug, PartialEq, Eq)]
+pub struct PaidSale {
+    /// The record 2.
+    pub sale: Sale,
+    /// The sum of the forms of payment, in minor units.
+    pub paid: i64,
+}
+
 /// The values of a transaction: of its record 2, and of its records 3, 5 and 8 where it has them.
 #[derive(Clone, Copy, Debug, PartialEq, Eq)]
 pub struct Transaction {

@@ -6,18 +6,21 @@ ghost use Rattle.std.specs.Str.{all_ascii_digits};
 ghost use Rattle.bsp_fields.specs.Decimal.{number_of};
 ghost use Rattle.bsp_fields.specs.Zoned.{zoned_reading};
 ghost use Rattle.bsp_fields.specs.Days.{record_reading};
-ghost use Rattle.bsp_ret.specs.Records.{columns, is_space, is_amount, is_total, is_record_day, tax_fits, code_of, related_fits, amounts_fit, form_fits, trailer_fits};
+ghost use Rattle.bsp_records.specs.Columns.{columns, is_space};
+ghost use Rattle.bsp_records.specs.Fields.{is_amount, is_total, is_record_day};
+ghost use Rattle.bsp_records.specs.Taxes.{tax_fits};
+ghost use Rattle.bsp_ret.specs.Records.{code_of, related_fits, amounts_fit, sale_fits, form_fits, trailer_fits};
 ghost use Rattle.bsp_ret.specs.Content.{IsDocument, IsTax, AreAmounts, IsPayment, IsCardPayment, IsContent, HasContent};
 ghost use Rattle.bsp_ret.specs.Groups.{records_of, IsFit, AreFit};
+ghost use Rattle.bsp_ret.specs.Sales.{IsSale};
 ghost use Rattle.bsp_ret.specs.Law.{HasOneContent};
 
-use crate::characters::number_of;
 use crate::fields::code_of;
 use crate::file::RetFile;
-use crate::model::TransactionCode;
 use crate::records::Records;
-use crate::transactions::{Amounts, CardPayment, ReportedDocument, Tax, Transaction};
+use crate::transactions::{Amounts, CardPayment, ReportedDocument, Sale, Tax, Transaction};
 use bsp_fields::{AirlineCode, Amount, Day, Total, read_amount, read_total};
+use bsp_records::number_of;
 
 /// The characters of a text of that width.
 fn array_of<const N: usize>(text: &[u8]) -> [u8; N]
@@ -155,21 +158,39 @@ fn card_values(line: &[u8]) -> CardPayment
     }
 }
 
+/// The values of a record 2.
+pub(crate) fn sale_values(line: &[u8]) -> Sale
+    requires { IsFit sale_fits line.now }
+    ensures { IsSale line.now result }
+{
+    let Some(code) = code_of(line) else {
+        unreachable!()
+    };
+    Sale {
+        code,
+        agent: array_of::<8>(&line[11..19]),
+        document: document_of(&line[19..33]),
+        issued: day_of(&line[33..39]),
+    }
+}
+
 /// The values of a group's records.
 fn values_of(records: Records<'_>) -> Transaction
     requires { AreFit (records_of records) }
     ensures { IsContent (records_of records.entry) result }
 {
-    let sale = records.sale;
-    let Some(code) = code_of(sale) else {
-        unreachable!()
-    };
+    let Sale {
+        code,
+        agent,
+        document,
+        issued,
+    } = sale_values(records.sale);
     Transaction {
         code,
-        agent: array_of::<8>(&sale[11..19]),
-        document: document_of(&sale[19..33]),
-        issued: day_of(&sale[33..39]),
-        passenger: array_of::<49>(&sale[39..88]),
+        agent,
+        document,
+        issued,
+        passenger: array_of::<49>(&records.sale[39..88]),
         related: [records.related.map(related_values), None],
         amounts: records.amounts.map(amounts_values),
         cash: records.cash.map(payment_value),

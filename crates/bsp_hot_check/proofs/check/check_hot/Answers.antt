@@ -1,5 +1,5 @@
 use Rattle.std.proofs.Common.{sym}
-use Rattle.bsp_ret.specs.Lines.{lines}
+use Rattle.bsp_records.specs.Lines.{lines}
 use Rattle.bsp_hot_check.proofs.LawLemmas.{found, only_totals, faulty, no_file}
 use Rattle.bsp_hot_check.proofs.check.check_hot.Goals as goal
 

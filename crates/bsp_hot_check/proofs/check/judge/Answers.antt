@@ -1,30 +1,35 @@
-use Rattle.std.proofs.Common.{◌≡◌, ◌∙◌, Some, None, sym, ap, refl, arith}
-use Rattle.bsp_ret.specs.Lines.{lines}
-use Rattle.bsp_ret.proofs.BuildingLemmas.{lines_empty}
+use Rattle.std.proofs.Common.{◌≡◌, ◌∙◌, Some, sym, ap, refl, arith}
+use Rattle.bsp_records.specs.Lines.{lines}
+use Rattle.bsp_records.proofs.RestLemmas.{lines_empty}
 use Rattle.bsp_hot_check.specs.Reading.{step_line, judge_from}
-use Rattle.bsp_hot_check.proofs.Judging.{judge_nil, judge_cons}
+use Rattle.bsp_hot_check.proofs.Judging.{judge_nil, judge_cons, narrow_stops}
 use Rattle.bsp_hot_check.proofs.check.judge.Goals as goal
 
 pub returns-in_default-clause-judged : goal.returns-in_default-clause-judged
 returns-in_default-clause-judged c =
     let l = c.loop-rest in
-    let line = c.first_line.result.0.now in
-    let after = c.first_line.result.1.now in
-    let none : step_line l.standing line ≡ None = sym c.with_line.ensures.step ∙ c.in_default.is in
-    sym (sym l.invariant.judged ∙ ap (judge_from l.standing) c.first_line.ensures.cut ∙ judge_cons l.standing line (lines after) ∙ rw none refl)
+    sym (sym l.invariant.judged ∙ narrow_stops l.standing l.rest.now c.in_default.ensures.none)
+
+pub returns-then-not-take_line-clause-judged : goal.returns-then-not-take_line-clause-judged
+returns-then-not-take_line-clause-judged c =
+    let l = c.loop-rest in
+    let line = c.in-Some.line.now in
+    let none = c.take_line.ensures.refused c.if-not-take_line.true in
+    sym (sym l.invariant.judged ∙ ap (judge_from l.standing) c.in-Some.ensures.first.cut ∙ judge_cons l.standing line (lines c.in-Some.after.now) ∙ rw none refl)
 
 pub loop-rest-preserved : goal.loop-rest-preserved
 loop-rest-preserved c =
     let l = c.loop-rest in
-    let line = c.first_line.result.0.now in
-    let after = c.first_line.result.1.now in
-    let some : step_line l.standing line ≡ Some c.in-Some.next = sym c.with_line.ensures.step ∙ c.in-Some.is in
-    let passed : judge_from l.standing (lines l.rest.now) ≡ judge_from c.in-Some.next (lines after) =
-    ap (judge_from l.standing) c.first_line.ensures.cut ∙ judge_cons l.standing line (lines after) ∙ rw some refl in
+    let line = c.in-Some.line.now in
+    let after = c.in-Some.after.now in
+    let next = c.take_line.new.self in
+    let some : step_line l.standing line ≡ Some next = c.take_line.ensures.taken c.if-not-take_line.false in
+    let small = c.take_line.ensures.small c.if-not-take_line.false in
+    let passed : judge_from l.standing (lines l.rest.now) ≡ judge_from next (lines after) = ap (judge_from l.standing) c.in-Some.ensures.first.cut ∙ judge_cons l.standing line (lines after) ∙ rw some refl in
     record {
       judged = sym passed ∙ l.invariant.judged;
-      small = c.in-Some.ensures.small.small;
-      room = omega (arith, c.in-Some.ensures.small.records, c.first_line.ensures.shorter, l.invariant.room);
+      small = small.small;
+      room = omega (arith, small.records, c.in-Some.ensures.first.shorter, l.invariant.room);
     }
 
 pub returns-then-is_ended-clause-judged : goal.returns-then-is_ended-clause-judged

@@ -1,5 +1,5 @@
 use Rattle.std.proofs.Common.{◌≡◌, ◌≤◌, ◌+◌, length}
-use Rattle.bsp_ret.specs.Lines.{lines}
+use Rattle.bsp_records.specs.Lines.{lines}
 use Rattle.bsp_hot_check.specs.Standings.{start, IsSmall}
 use Rattle.bsp_hot_check.specs.Reading.{judge_from}
 use Rattle.bsp_hot_check.proofs.check.judge.Given as goal

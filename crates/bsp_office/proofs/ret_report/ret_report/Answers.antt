@@ -4,4 +4,4 @@ use Rattle.bsp_office.proofs.ret_report.ret_report.Goals as goal
 pub returns-in_ok-file_report-in-Ok : goal.returns-in_ok-file_report-in-Ok
 returns-in_ok-file_report-in-Ok c =
     let told = c.in_ok-file_report-in-Ok.ensures in
-    inl (refl, record { file = c.in-Ok.file; stands = c.in-Ok.ensures.found; transactions = told.0; contents = told.1; text_is = told.2 })
+    inl (refl, record { file = c.in-Ok.file; stands = c.in-Ok.ensures.found; sales = told.0; have = told.1; text_is = told.2 })

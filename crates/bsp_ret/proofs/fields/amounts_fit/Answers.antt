@@ -1,7 +1,10 @@
 use Rattle.std.proofs.Common.{◌≡◌, ◌&&◌, refl, sym, ◌∙◌}
 use Rattle.std.specs.List.{list_all}
-use Rattle.bsp_ret.specs.Records.{columns, is_amount, is_space, spells_at_most, amounts_fit}
-use Rattle.bsp_ret.proofs.JudgedTaxes.{rest_fits, rest_fits-first, asked, spared, amounts_fit-parts}
+use Rattle.bsp_records.specs.Columns.{columns, is_space}
+use Rattle.bsp_records.specs.Fields.{is_amount, spells_at_most}
+use Rattle.bsp_ret.specs.Records.{amounts_fit}
+use Rattle.bsp_records.proofs.TaxPlaces.{rest_fits, rest_fits-first}
+use Rattle.bsp_ret.proofs.AmountTests.{asked, spared, amounts_fit-parts}
 use Rattle.bsp_ret.proofs.fields.amounts_fit.Goals as goal
 use Rattle.bsp_ret.proofs.fields.amounts_fit.Goals.{Joined-spells_at_most, then-is_amount, else-is_amount, then-taxes_fit, else-taxes_fit, then-spells_at_most, else-spells_at_most}
 

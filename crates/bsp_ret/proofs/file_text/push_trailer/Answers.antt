@@ -1,7 +1,7 @@
 use Rattle.std.proofs.Common.{[], ◌∷◌, refl, sym, ap, ◌∙◌}
 use Rattle.bsp_fields.specs.Zoned.{zoned_reading}
 use Rattle.std.specs.List.{concat}
-use Rattle.bsp_ret.specs.Records.{columns}
+use Rattle.bsp_records.specs.Columns.{columns}
 use Rattle.bsp_ret.specs.Writing.{spaces, trailer_line}
 use Rattle.bsp_ret.proofs.WrittenFile.{trailer_pushed}
 use Rattle.bsp_ret.proofs.file_text.push_trailer.Goals as goal

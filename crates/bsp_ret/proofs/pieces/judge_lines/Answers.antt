@@ -1,6 +1,5 @@
-use Rattle.std.proofs.Common.{◌≡◌, ◌+◌, ◌∙◌, Ok, sym, ap, arith}
-use Rattle.bsp_ret.specs.declared.model.Standing.{Standing}
-use Rattle.bsp_ret.specs.Table.{row_fault}
+use Rattle.std.proofs.Common.{◌∙◌, sym, ap, arith}
+use Rattle.bsp_ret.specs.Standings.{standing_with}
 use Rattle.bsp_ret.proofs.PieceLemmas.{leaves_all, leaves_more, fails_at_line, fails_behind}
 use Rattle.bsp_ret.proofs.pieces.judge_lines.Goals as goal
 
@@ -13,21 +12,22 @@ loop-line-init c = record {
 pub returns-in-Err-clause-fault : goal.returns-in-Err-clause-fault
 returns-in-Err-clause-fault c =
     let l = c.loop-line in
-    rw c.fault.ensures (fails_at_line c.args.at l.now c.args.bytes.now l.rest.now c.in-Some.line.now c.in-Some.after.now c.in-Err.code l.invariant.left c.in-Some.ensures.some (sym c.row_fault.ensures.row ∙ c.in-Err.is))
+    rw c.fault.ensures (fails_at_line c.args.at l.now c.args.bytes.now l.rest.now c.in-Some.line.now c.in-Some.after.now c.in-Err.code l.invariant.left c.in-Some.ensures.some c.in-Err.ensures.fault)
 
 pub loop-line-preserved : goal.loop-line-preserved
 loop-line-preserved c =
     let l = c.loop-line in
     let line = c.in-Some.line.now in
     let after = c.in-Some.after.now in
-    let none : row_fault l.now line ≡ Ok tt = sym c.row_fault.ensures.row ∙ c.in_default-row_fault.is in
-    let one_more : c.standing_behind-now.result.records ≡ l.now.records + 1 = ap (λ (x : Standing). x.records) c.standing_behind-now.ensures.standing in
+    let then = c.with-now.result in
+    let stands = c.with-now.ensures.standing ∙ ap (standing_with l.now) c.in-Ok.ensures.says in
+    let one_more = c.with-now.ensures.records in
     let begins = c.in-Some.ensures.some in
     record {
-      left = leaves_more c.args.at l.now c.standing_behind-now.result c.args.bytes.now l.rest.now line after l.invariant.left begins none c.standing_behind-now.ensures.standing;
+      left = leaves_more c.args.at l.now then c.args.bytes.now l.rest.now line after l.invariant.left begins c.in-Ok.ensures.row stands;
       fits = record {
-        counted = c.standing_behind-now.ensures.counted;
-        small = c.standing_behind-now.ensures.small;
+        counted = c.with-now.ensures.counted;
+        small = c.with-now.ensures.small;
         few = omega (arith, one_more, begins.shorter, l.invariant.fits.few, l.invariant.left.rest_is.short);
       };
     }

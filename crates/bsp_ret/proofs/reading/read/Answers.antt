@@ -1,43 +1,66 @@
-use Rattle.std.proofs.Common.{◌≡◌, ◌+◌, ◌∙◌, Ok, sym, ap, inr, arith}
+use Rattle.std.proofs.Common.{◌≡◌, ◌*◌, ◌^◌, ◌≤◌, ◌∙◌, sym, ap, inr, arith}
+use Rattle.std.specs.Prelude.{unsigned_abs}
 use Rattle.bsp_ret.specs.declared.model.Standing.{Standing}
-use Rattle.bsp_ret.specs.Lines.{lines}
-use Rattle.bsp_ret.specs.Table.{row_fault}
+use Rattle.bsp_records.specs.Lines.{lines}
+use Rattle.bsp_records.proofs.RestLemmas.{lines_empty}
+use Rattle.bsp_ret.specs.Standings.{standing_with, forms_up_to}
+use Rattle.bsp_ret.specs.Table.{kind}
 use Rattle.bsp_ret.specs.Reading.{read_all}
 use Rattle.bsp_ret.specs.Building.{draft_of}
-use Rattle.bsp_ret.proofs.BuildingLemmas.{lines_empty}
-use Rattle.bsp_ret.proofs.LoopLemmas.{goes_on, fails, ends, lacks}
+use Rattle.bsp_ret.proofs.Rows.{clean}
+use Rattle.bsp_ret.proofs.FewForms.{few_forms, three_forms, kind_with}
+use Rattle.bsp_ret.proofs.LoopLemmas.{goes_on, fails, ends, lacks, fails_ended, fails_narrow}
 use Rattle.bsp_ret.proofs.reading.read.Goals as goal
+
+pub returns-then-has_ended-clause-err : goal.returns-then-has_ended-clause-err
+returns-then-has_ended-clause-err c =
+    let l = c.loop-rest in
+    inr (rw c.fault.ensures (fails_ended l.at (draft_of l.building l.rest.now) l.rest.now (read_all (lines c.args.bytes.now)) (sym c.is_empty.ensures ∙ c.loop-rest-test.true) (sym c.has_ended.ensures ∙ c.if-has_ended.true) l.invariant.read))
+
+pub returns-in_default-clause-err : goal.returns-in_default-clause-err
+returns-in_default-clause-err c =
+    let l = c.loop-rest in
+    inr (rw c.fault-in_default.ensures (fails_narrow l.at (draft_of l.building l.rest.now) l.rest.now (read_all (lines c.args.bytes.now)) c.in_default.ensures.none (sym c.has_ended.ensures ∙ c.if-has_ended.false) l.invariant.read))
 
 pub returns-in-Err-clause-err : goal.returns-in-Err-clause-err
 returns-in-Err-clause-err c =
     let l = c.loop-rest in
-    let line = c.first_line.result.0.now in
-    let after = c.first_line.result.1.now in
-    inr (rw c.fault.ensures (fails l.at (draft_of l.building l.rest.now) (lines l.rest.now) (lines after) line (read_all (lines c.args.bytes.now)) c.in-Err.code c.first_line.ensures.cut (sym c.row_fault.ensures.row ∙ c.in-Err.is) l.invariant.read))
+    let after = c.in-Some.after.now in
+    inr (rw c.fault-in-Err.ensures (fails l.at (draft_of l.building l.rest.now) (lines l.rest.now) (lines after) c.in-Some.line.now (read_all (lines c.args.bytes.now)) c.in-Err.code c.in-Some.ensures.first.cut c.in-Err.ensures.fault l.invariant.read))
+
+pub add-requires-clause-small : goal.add-requires-clause-small
+add-requires-clause-small c =
+    let l = c.loop-rest in
+    let most = three_forms l.at.last in
+    omega (arith, most, l.invariant.few)
 
 pub loop-rest-preserved : goal.loop-rest-preserved
 loop-rest-preserved c =
     let l = c.loop-rest in
-    let line = c.first_line.result.0.now in
-    let after = c.first_line.result.1.now in
-    let none : row_fault l.at line ≡ Ok tt = sym c.row_fault.ensures.row ∙ c.in_default.is in
-    let one_more : c.standing_behind-at.result.records ≡ l.at.records + 1 = ap (λ (x : Standing). x.records) c.standing_behind-at.ensures.standing in
+    let line = c.in-Some.line.now in
+    let after = c.in-Some.after.now in
+    let next = c.in-Ok.next in
+    let stands = c.with-at.ensures.standing ∙ ap (standing_with l.at) c.in-Ok.ensures.says in
+    let kinds : forms_up_to c.with-at.result.last ≡ forms_up_to (kind next) = ap (λ (x : Standing). forms_up_to x.last) c.with-at.ensures.standing ∙ kind_with l.at next in
+    let few : unsigned_abs c.add.new.self.paid ≤ forms_up_to (kind next) * 10 ^ 11 = few_forms l.at line l.building.paid c.add.new.self.paid next (clean l.at line c.in-Ok.ensures.row) c.in-Ok.ensures.says c.in_ok-add.ensures.sum c.in_ok-add.ensures.bound l.invariant.few in
     record {
-      read = goes_on l.at c.standing_behind-at.result (draft_of l.building l.rest.now) (draft_of c.add.new.self after) (lines l.rest.now) (lines after) line (read_all (lines c.args.bytes.now)) c.first_line.ensures.cut none c.standing_behind-at.ensures.standing c.in_ok-add.ensures.ok l.invariant.read;
+      read = goes_on l.at c.with-at.result (draft_of l.building l.rest.now) (draft_of c.add.new.self after) (lines l.rest.now) (lines after) line (read_all (lines c.args.bytes.now)) c.in-Some.ensures.first.cut c.in-Ok.ensures.row stands c.in_ok-add.ensures.ok l.invariant.read;
       read_to = c.in_ok-add.ensures.read_on;
-      counted = c.standing_behind-at.ensures.counted;
-      small = c.standing_behind-at.ensures.small;
-      room = omega (arith, one_more, c.first_line.ensures.shorter, l.invariant.room);
+      paid = c.in_ok-add.ensures.paid;
+      few = omega (arith, few, kinds);
+      counted = c.with-at.ensures.counted;
+      small = c.with-at.ensures.small;
+      room = omega (arith, c.with-at.ensures.records, c.in-Some.ensures.first.shorter, l.invariant.room);
     }
 
 pub returns-then-not-has_ended-clause-err : goal.returns-then-not-has_ended-clause-err
 returns-then-not-has_ended-clause-err c =
     let l = c.loop-rest in
     let none = lines_empty l.rest.now (sym c.is_empty.ensures ∙ c.loop-rest-test.false) in
-    inr (rw c.fault-then-not-has_ended.ensures (lacks l.at (draft_of l.building l.rest.now) (lines l.rest.now) (read_all (lines c.args.bytes.now)) none (sym c.has_ended.ensures ∙ c.if-not-has_ended.true) l.invariant.read))
+    inr (rw c.fault-then-not-has_ended.ensures (lacks l.at (draft_of l.building l.rest.now) (lines l.rest.now) (read_all (lines c.args.bytes.now)) none (sym c.has_ended-2.ensures ∙ c.if-not-has_ended.true) l.invariant.read))
 
 pub returns-clause-ok : goal.returns-clause-ok
 returns-clause-ok c =
     let l = c.loop-rest in
     let none = lines_empty l.rest.now (sym c.is_empty.ensures ∙ c.loop-rest-test.false) in
-    ends l.at (draft_of l.building l.rest.now) (lines l.rest.now) (read_all (lines c.args.bytes.now)) none (sym c.has_ended.ensures ∙ c.if-not-has_ended.false) l.invariant.read
+    ends l.at (draft_of l.building l.rest.now) (lines l.rest.now) (read_all (lines c.args.bytes.now)) none (sym c.has_ended-2.ensures ∙ c.if-not-has_ended.false) l.invariant.read

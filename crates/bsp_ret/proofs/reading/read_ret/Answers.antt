@@ -1,5 +1,5 @@
 use Rattle.std.proofs.Common.{◌∙◌, Ok, Err, ap, inl, inr}
-use Rattle.bsp_ret.specs.Lines.{lines}
+use Rattle.bsp_records.specs.Lines.{lines}
 use Rattle.bsp_ret.specs.Building.{file_of}
 use Rattle.bsp_ret.proofs.LawLemmas.{is_file}
 use Rattle.bsp_ret.proofs.AnswerLemmas.{only_file, only_memory, told_fault}

@@ -1,5 +1,5 @@
 use Rattle.std.proofs.Common.{arith}
-use Rattle.bsp_ret.specs.Records.{tax_places}
+use Rattle.bsp_records.specs.Taxes.{tax_places}
 use Rattle.bsp_ret.proofs.ValueLemmas.{amounts_fields, place_at}
 use Rattle.bsp_ret.proofs.values.amounts_values.Goals as goal
 

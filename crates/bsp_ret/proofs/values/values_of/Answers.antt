@@ -1,28 +1,13 @@
-use Rattle.std.proofs.Common.{◌≡◌, false, is_some, arith, rules, sym, ap, ◌∙◌}
-use Rattle.bsp_ret.specs.Records.{code_of}
-use Rattle.bsp_ret.proofs.ReadLemmas.{sale_fields, digits_inside}
-use Rattle.bsp_ret.proofs.ValueLemmas.{document_in_sale}
+use Rattle.std.proofs.Common.{rules}
 use Rattle.bsp_ret.proofs.values.values_of.Goals as goal
-
-pub unreachable-requires : goal.unreachable-requires
-unreachable-requires c =
-    let none : is_some (code_of c.args.records.sale.now) ≡ false = ap is_some (sym c.code_of.ensures ∙ c.in_default.is) in
-    absurd (cc (none, (sale_fields c.args.records.sale.now c.requires.sale.1).code))
-
-pub document_of-requires-clause-digits : goal.document_of-requires-clause-digits
-document_of-requires-clause-digits c =
-    digits_inside c.args.records.sale.now 11 22 8 14 (omega arith) ((sale_fields c.args.records.sale.now c.requires.sale.1).digits)
-
-pub day_of-requires : goal.day_of-requires
-day_of-requires c = (sale_fields c.args.records.sale.now c.requires.sale.1).day
 
 pub returns : goal.returns
 returns c = record {
-  code = sym c.code_of.ensures ∙ c.in-Some.is;
-  agent = c.array_of.ensures;
-  document = document_in_sale c.args.records.sale.now c.document_of.result c.document_of.ensures;
-  issued = c.day_of.ensures;
-  passenger = c.array_of-2.ensures;
+  code = c.sale_values-code.ensures.code;
+  agent = c.sale_values-code.ensures.agent;
+  document = c.sale_values-code.ensures.document;
+  issued = c.sale_values-code.ensures.issued;
+  passenger = c.array_of.ensures;
   related = search rules;
   amounts = search rules;
   cash = search rules;

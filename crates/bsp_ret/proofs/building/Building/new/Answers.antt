@@ -1,5 +1,6 @@
 use Rattle.std.proofs.Common.{refl}
-use Rattle.bsp_ret.proofs.BuildingLemmas.{no_lines, read_nothing}
+use Rattle.bsp_records.proofs.RestLemmas.{no_lines}
+use Rattle.bsp_ret.proofs.BuildingLemmas.{read_nothing, paid_nothing}
 use Rattle.bsp_ret.proofs.building.Building.new.Goals as goal
 
 pub returns-clause-nothing : goal.returns-clause-nothing
@@ -7,3 +8,6 @@ returns-clause-nothing c = rw (c.new.ensures.items, no_lines c.args.bytes.now) r
 
 pub returns-clause-read : goal.returns-clause-read
 returns-clause-read c = read_nothing c.args.bytes.now
+
+pub returns-clause-paid : goal.returns-clause-paid
+returns-clause-paid c = paid_nothing c.args.bytes.now

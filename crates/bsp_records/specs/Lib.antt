@@ -1,0 +1,5 @@
+-- What contracts on records cite.
+pub mod Lines
+pub mod Columns
+pub mod Fields
+pub mod Taxes

@@ -1,0 +1,45 @@
+//! Numbers that digits write.
+
+ghost use Rattle.std.specs.Prelude.{◌≡◌, ◌≤◌, length, true};
+ghost use Rattle.std.specs.Str.{all_ascii_digits};
+ghost use Rattle.bsp_fields.specs.Decimal.{number_of};
+ghost use Rattle.bsp_records.specs.Fields.{spells, spells_at_most};
+
+use bsp_fields::read_digits;
+
+/// Whether at most 19 characters are digits that write the number.
+#[inline]
+pub fn spells(number: usize, text: &[u8]) -> bool
+    requires { length text.now ≤ 19 }
+    ensures { result ≡ spells number text.now }
+{
+    match read_digits(text) {
+        Ok(read) => read as usize == number,
+        Err(_) => false,
+    }
+}
+
+/// Whether at most 19 characters are digits that write the number or less.
+#[inline]
+pub fn spells_at_most(most: u64, text: &[u8]) -> bool
+    requires { length text.now ≤ 19 }
+    ensures { result ≡ spells_at_most most text.now }
+{
+    match read_digits(text) {
+        Ok(read) => read <= most,
+        Err(_) => false,
+    }
+}
+
+/// The number that at most 19 digits write.
+#[inline]
+pub fn number_of(text: &[u8]) -> u64
+    requires few { length text.now ≤ 19 }
+    requires digits { all_ascii_digits text.now ≡ true }
+    ensures { result ≡ number_of text.now }
+{
+    let Ok(number) = read_digits(text) else {
+        unreachable!()
+    };
+    number
+}
