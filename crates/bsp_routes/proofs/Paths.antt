@@ -10,7 +10,7 @@ use Rattle.matchit.specs.Seek.{first}
 use Rattle.matchit.specs.Level.{IsText}
 use Rattle.matchit.specs.Router.{RouteOf}
 use Rattle.bsp_routes.specs.declared.resource.Resource.{Resource}
-use Rattle.bsp_routes.specs.declared.routes.Found.{Found}
+use Rattle.bsp_routes.specs.declared.found.Found.{Found}
 use Rattle.bsp_routes.specs.Rows.{ResourceRows, routes}
 use Rattle.bsp_routes.specs.Resources.{form, Form, Fits, IsPathOf}
 use Rattle.bsp_routes.specs.Resources.Form.{Fixed, After, Between, Two}

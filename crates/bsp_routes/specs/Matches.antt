@@ -5,7 +5,7 @@ use Rattle.matchit.specs.Seek.{first}
 use Rattle.matchit.specs.Router.{RouteOf}
 use Rattle.matchit.specs.Params.{walk}
 use Rattle.bsp_routes.specs.declared.resource.Resource.{Resource}
-use Rattle.bsp_routes.specs.declared.routes.Found.{Found}
+use Rattle.bsp_routes.specs.declared.found.Found.{Found}
 use Rattle.bsp_routes.specs.Resources.{IsPathOf}
 use Rattle.bsp_routes.specs.Rows.{ResourceRows}
 

@@ -8,9 +8,12 @@
 mod asking;
 mod body;
 mod call;
+mod found;
 mod methods;
+mod patterns;
 mod resource;
 mod routes;
+mod target;
 #[cfg(test)]
 mod tests;
 mod values;

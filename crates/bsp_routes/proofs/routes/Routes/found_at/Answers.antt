@@ -1,5 +1,5 @@
 use Rattle.std.proofs.Common.{refl, Option, subst, List, ℕ}
-use Rattle.bsp_routes.specs.declared.routes.Found.{Found}
+use Rattle.bsp_routes.specs.declared.found.Found.{Found}
 use Rattle.bsp_routes.specs.Rows.{ResourceRows, routes}
 use Rattle.bsp_routes.specs.Matches.{IsMatch}
 use Rattle.bsp_routes.proofs.Paths.{all_found, not_missed, utf8_of_clean}

@@ -1,6 +1,6 @@
 use Rattle.std.proofs.Common.{ℕ, List, refl, subst}
 use Rattle.bsp_routes.specs.Matches.{values_in, AreFirstTwo}
-use Rattle.bsp_routes.proofs.routes.matched.Goals as goal
+use Rattle.bsp_routes.proofs.found.matched.Goals as goal
 
 pub returns-in-Ok : goal.returns-in-Ok
 returns-in-Ok c =
