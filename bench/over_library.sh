@@ -12,7 +12,7 @@ workspace() {
   shift
   mkdir -p "$work/space/crates/$program/src"
   for crate in "$@"; do
-    cp -r "$top/crates/$crate" "$work/space/crates/"
+    cp -a "$top/crates/$crate" "$work/space/crates/"
     grep "^$crate:" "$top/crates.txt" >>"$work/space/crates.txt"
   done
   echo "$program: $*" >>"$work/space/crates.txt"

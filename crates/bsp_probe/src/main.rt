@@ -19,6 +19,7 @@ mod plan_text;
 mod postings;
 mod reports;
 mod ret;
+mod routes;
 
 use book::sample_book;
 use calls::{Mistake, made};
@@ -31,6 +32,7 @@ fn make_calls(alloc: Global) -> Result<(), Mistake> {
     ret::make_calls(alloc)?;
     money::make_calls(alloc)?;
     plan_text::make_calls(alloc)?;
+    routes::make_calls(alloc)?;
     let book = made!("the book", sample_book(alloc))?;
     postings::make_calls(alloc, &book)?;
     reports::make_calls(alloc, &book)?;

@@ -1,0 +1,12 @@
+-- Why the bodies meet their contracts.
+mod Inserting
+mod Shapes
+mod Segments
+mod Readings
+mod Forms
+mod Leads
+mod Walks
+mod Computed
+mod Paths
+mod CallLemmas
+mod ValueLemmas

@@ -1,0 +1,25 @@
+//! Which call of the office's HTTP interface a method and a target ask for, and which body the call has.
+//!
+//! [`Routes::ask`] answers with the [`Call`] whose path the target is, with another method than those of the
+//! target's resource, or with no route. What a path value says is read elsewhere. Of the public calls only
+//! [`Routes::new`] takes memory. The routes are in `docs/ROUTES.md`.
+#![tactic(auto)]
+
+mod asking;
+mod body;
+mod call;
+mod found;
+mod methods;
+mod patterns;
+mod resource;
+mod routes;
+mod target;
+#[cfg(test)]
+mod tests;
+mod values;
+
+pub use asking::Asking;
+pub use body::BodyKind;
+pub use call::{AgentCall, AirlineCall, Call, OfficeCall};
+pub use methods::Methods;
+pub use routes::Routes;
