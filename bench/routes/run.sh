@@ -1,6 +1,6 @@
 #!/usr/bin/env bash
-# Measures `Routes::ask` on targets of 1 MB and of 10 MB, in one run: with a long value, with many words, and with
-# many slashes; the best of five of each, and the growth from the shorter target to the longer one.
+# Measures `Routes::ask` on targets of 100 KB and of 1 MB, in one run: with a long value, with many words, and with
+# many slashes; the best of twenty of each, and the growth from the shorter target to the longer one.
 #
 # usage: bench/routes/run.sh
 . "$(dirname "$0")/../over_library.sh"
@@ -46,11 +46,11 @@ fn main(rt: HostRuntime) -> io::Result<()> {
         ("slashes", "/agents/1", "/", "memos"),
         ("segments", "/agents", "/memos", "/agree"),
     ] {
-        for size in [1_000_000, 10_000_000] {
+        for size in [100_000, 1_000_000] {
             let Some(bytes) = target(rt.alloc(), start, word, end, size) else {
                 return Ok(());
             };
-            for _ in 0..5 {
+            for _ in 0..20 {
                 time(&rt, name, &routes, &bytes)?;
             }
         }
@@ -63,5 +63,5 @@ build asking
 "$program" | awk '
   { key = $1 " " $2; if (!(key in best) || $3 < best[key]) best[key] = $3; found[$1] = $4; sizes[$1] = sizes[$1] " " $2 }
   END { for (name in found) { split(sizes[name], size, " ")
-      short = best[name " " size[1]]; long = best[name " " size[6]]
-      printf "%s: %d bytes %d us, %d bytes %d us, growth %.1f, a call: %s\n", name, size[1], short, size[6], long, long / (short + (short == 0)), found[name] } }'
+      short = best[name " " size[1]]; long = best[name " " size[21]]
+      printf "%s: %d bytes %d us, %d bytes %d us, growth %.1f, a call: %s\n", name, size[1], short, size[21], long, long / (short + (short == 0)), found[name] } }'
