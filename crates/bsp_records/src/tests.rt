@@ -11,6 +11,9 @@ fn text(rt: &HostRuntime, end: &[u8]) -> Result<Vec<u8>, Fail> {
 
 /// How many bytes are left behind the record, where the text begins with one.
 fn left(bytes: &[u8]) -> Option<usize> {
+    if bytes.is_empty() {
+        return None;
+    }
     match first_record(bytes) {
         Some((_, rest)) => Some(rest.len()),
         None => None,
