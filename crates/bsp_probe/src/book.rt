@@ -6,8 +6,8 @@ use crate::plan::january_plan;
 use bsp_calendar::Plan;
 use bsp_fields::{AgentCode, DocNumber, PeriodCode};
 use bsp_memos::{Memo, MemoFields, MemoKind, MemoState, Reason};
-use bsp_ret::{Transaction, read_ret, transaction};
 use bsp_postings::Tally;
+use bsp_ret::{Transaction, read_ret, transaction};
 use bsp_rules::Item;
 use std::alloc::Global;
 

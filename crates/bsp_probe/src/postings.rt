@@ -24,10 +24,7 @@ fn answer_to(posted: Result<Vec<Posting>, AllocError>, count: usize) -> Answer {
 }
 
 fn post(alloc: Global, book: &Book) -> Answer {
-    answer_to(
-        postings_of(alloc, book.period, &book.items, &book.memos),
-        4,
-    )
+    answer_to(postings_of(alloc, book.period, &book.items, &book.memos), 4)
 }
 
 fn post_tallies(alloc: Global, book: &Book) -> Answer {
