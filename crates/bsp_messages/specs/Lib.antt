@@ -1,0 +1,4 @@
+-- What the contracts of messages cite.
+pub mod Values
+pub mod Members
+pub mod Bodies
