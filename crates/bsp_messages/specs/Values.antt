@@ -7,12 +7,11 @@ use Rattle.bsp_fields.specs.Days.{text_reading}
 use Rattle.bsp_fields.specs.declared.fault.FieldFault.{FieldFault}
 use Rattle.bsp_fields.specs.declared.fault.FieldFault.TheVariants.{Width, NotDigit, NotSign, CheckDigit, TooLarge, NotDay}
 use Rattle.bsp_messages.specs.declared.values.StatedAgent.{StatedAgent}
-use Rattle.bsp_messages.specs.declared.values.StatedAgent.TheVariants.{Code, WrongCheckDigit}
 
--- a code, or a code with a wrong check digit
+-- a code, or eight digits with a wrong check digit, which have none
 abbrev pub stated : Result ℕ FieldFault → Option StatedAgent
-stated (Ok agent) = Some (Code agent)
-stated (Err CheckDigit) = Some WrongCheckDigit
+stated (Ok agent) = Some (record { code = Some agent })
+stated (Err CheckDigit) = Some (record { code = None })
 stated (Err Width) = None
 stated (Err NotDigit) = None
 stated (Err NotSign) = None

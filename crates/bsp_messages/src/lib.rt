@@ -12,7 +12,8 @@ mod fault;
 mod members;
 mod memo_bodies;
 mod office_bodies;
-
+#[cfg(test)]
+mod tests;
 mod values;
 
 pub use airline_bodies::{MemoIssue, Reduction, read_issue, read_reduction};

@@ -3,13 +3,11 @@ ghost use Rattle.bsp_messages.specs.Values.{agent_in};
 
 use bsp_fields::{AgentCode, FieldFault};
 
-/// An agent's code of eight digits, as a path or a body states it.
+/// An agent's code of eight digits, as a body states it.
 #[derive(Clone, Copy, Debug, PartialEq, Eq, Hash)]
-pub enum StatedAgent {
-    /// A code with its right check digit.
-    Code(AgentCode),
-    /// Eight digits, the eighth of which is not the check digit: nobody has such a code.
-    WrongCheckDigit,
+pub struct StatedAgent {
+    /// The code, and none where the eighth digit is not its check digit: nobody has such a code.
+    pub code: Option<AgentCode>,
 }
 
 impl StatedAgent {
@@ -18,8 +16,8 @@ impl StatedAgent {
         ensures { result ≡ agent_in text.now }
     {
         match AgentCode::read(text) {
-            Ok(agent) => Some(StatedAgent::Code(agent)),
-            Err(FieldFault::CheckDigit) => Some(StatedAgent::WrongCheckDigit),
+            Ok(agent) => Some(StatedAgent { code: Some(agent) }),
+            Err(FieldFault::CheckDigit) => Some(StatedAgent { code: None }),
             Err(_) => None,
         }
     }
