@@ -2,3 +2,5 @@
 pub mod Values
 pub mod Members
 pub mod Bodies
+pub mod Statuses
+pub mod Refusals

@@ -12,6 +12,8 @@ mod fault;
 mod members;
 mod memo_bodies;
 mod office_bodies;
+mod refusal;
+mod status;
 #[cfg(test)]
 mod tests;
 mod values;
@@ -23,4 +25,6 @@ pub use office_bodies::{
     AgentRegistration, AirlineRegistration, StockChange, read_agent_registration,
     read_airline_registration, read_day, read_period, read_stock_change,
 };
+pub use refusal::{RequestRefusal, StockFault};
+pub use status::{Media, Status};
 pub use values::StatedAgent;
