@@ -4,3 +4,6 @@ pub mod Members
 pub mod Bodies
 pub mod Statuses
 pub mod Refusals
+pub mod Answers
+pub mod VerdictTexts
+pub mod Replies

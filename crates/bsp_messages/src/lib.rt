@@ -7,18 +7,24 @@
 #![tactic(auto)]
 
 mod airline_bodies;
+mod answer;
 mod body;
 mod fault;
+mod lists;
 mod members;
 mod memo_bodies;
+mod objects;
 mod office_bodies;
 mod refusal;
+mod reply;
 mod status;
 #[cfg(test)]
 mod tests;
 mod values;
+mod verdicts;
 
 pub use airline_bodies::{MemoIssue, Reduction, read_issue, read_reduction};
+pub use answer::{Answer, DocumentShown, DocumentState, PeriodShown, RangeShown};
 pub use fault::BodyFault;
 pub use memo_bodies::{NamedMemo, read_memo_document, read_named_memo};
 pub use office_bodies::{
@@ -26,5 +32,6 @@ pub use office_bodies::{
     read_airline_registration, read_day, read_period, read_stock_change,
 };
 pub use refusal::{RequestRefusal, StockFault};
+pub use reply::{Body, Reply, reply_of};
 pub use status::{Media, Status};
 pub use values::StatedAgent;
