@@ -7,3 +7,4 @@ pub mod DayLemmas
 pub mod DayOrderLemmas
 pub mod DayTextLemmas
 pub mod MoneyLemmas
+pub mod TokenLemmas

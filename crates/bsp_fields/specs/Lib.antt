@@ -7,3 +7,4 @@ pub mod Codes
 pub mod CivilDay
 pub mod Days
 pub mod Money
+pub mod Tokens

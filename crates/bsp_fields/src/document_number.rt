@@ -2,7 +2,7 @@ ghost use Rattle.std.specs.Prelude.{◌≡◌, ℕ, ◌^◌, ◌<◌, true, IfOk
 ghost use Rattle.std.specs.Str.{all_ascii_digits};
 ghost use Rattle.std.specs.Fmt.{padded};
 ghost use Rattle.bsp_fields.specs.Decimal.{number_of, fixed_digits};
-ghost use Rattle.bsp_fields.specs.Codes.{check_digit_of, document_reading};
+ghost use Rattle.bsp_fields.specs.Codes.{check_digit_of, code_reading, document_reading};
 
 use crate::digits::{display_digits, read_code, read_digits, write_digits};
 use crate::fault::FieldFault;
@@ -51,6 +51,19 @@ impl DocNumber {
         if check as u64 != number % 7 {
             return Err(FieldFault::CheckDigit);
         }
+        Ok(DocNumber { number })
+    }
+
+    /// Reads ten digits, with no check digit beside them.
+    ///
+    /// # Errors
+    ///
+    /// The first of `Width` and `NotDigit` that applies.
+    pub fn read_unchecked(text: &[u8]) -> Result<DocNumber, FieldFault>
+        ensures value { result ≡ code_reading 10 text.now }
+        ensures spelled { IfOk result (λ document. fixed_digits 10 document ≡ text.now) }
+    {
+        let number = read_code::<10>(text)?;
         Ok(DocNumber { number })
     }
 

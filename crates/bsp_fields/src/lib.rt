@@ -16,6 +16,7 @@ mod fault;
 mod money;
 #[cfg(test)]
 mod tests;
+mod token;
 mod total;
 mod zoned;
 
@@ -27,5 +28,6 @@ pub use digits::{read_digits, write_digits};
 pub use document_number::{DocNumber, check_digit};
 pub use fault::FieldFault;
 pub use money::{NoRoom, push_money, write_money};
+pub use token::Token;
 pub use total::{Total, read_total, write_total};
 pub use zoned::read_ending;

@@ -57,6 +57,59 @@ fn codes_have_their_digits(rt: HostRuntime) -> Result<(), Fail> {
     Ok(())
 }
 
+// The characters of the token that is read.
+fn token_text(text: &[u8]) -> bool {
+    match Token::read(text) {
+        Some(token) => token.as_bytes() == text,
+        None => false,
+    }
+}
+
+fn are_same_tokens(own: &[u8], other: &[u8]) -> bool {
+    match (Token::read(own), Token::read(other)) {
+        (Some(own), Some(other)) => own == other,
+        _ => false,
+    }
+}
+
+const LONG: &[u8; 64] = b"0123456789ABCDEFGHIJKLMNOPQRSTUVWXYZabcdefghijklmnopqrstuvwxyz01";
+
+#[test]
+fn tokens_are_read(rt: HostRuntime) -> Result<(), Fail> {
+    let cases: [(&[u8], bool); 8] = [
+        (b"officetoken00001", true),
+        (LONG, true),
+        (b"officetoken0001", false),
+        (
+            b"0123456789ABCDEFGHIJKLMNOPQRSTUVWXYZabcdefghijklmnopqrstuvwxyz012",
+            false,
+        ),
+        (b"officetoken 0001", false),
+        (b"officetoken-0001", false),
+        (b"officetoken\xc3\xa90001", false),
+        (b"", false),
+    ];
+    for (text, is_read) in cases {
+        assert_eq!(rt; token_text(text), is_read);
+    }
+    Ok(())
+}
+
+#[test]
+fn tokens_are_compared(rt: HostRuntime) -> Result<(), Fail> {
+    let cases: [(&[u8], &[u8], bool); 5] = [
+        (b"officetoken00001", b"officetoken00001", true),
+        (b"officetoken00001", b"officetoken00002", false),
+        (b"officetoken00001", b"Officetoken00001", false),
+        (b"officetoken00001", b"officetoken000010", false),
+        (LONG, LONG, true),
+    ];
+    for (own, other, is_same) in cases {
+        assert_eq!(rt; are_same_tokens(own, other), is_same);
+    }
+    Ok(())
+}
+
 #[test]
 fn days_are_read_and_written(rt: HostRuntime) -> Result<(), Fail> {
     let day = Day::read_record(b"240105")?;

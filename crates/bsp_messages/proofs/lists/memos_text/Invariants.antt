@@ -1,0 +1,7 @@
+use Rattle.std.proofs.Common.{◌≡◌, ◌++◌, codes, false, map, take}
+use Rattle.bsp_messages.specs.Answers.{memo_object}
+use Rattle.bsp_messages.proofs.TextLemmas.{items_so_far}
+use Rattle.bsp_messages.proofs.lists.memos_text.Given as goal
+
+abbrev pub invariant-loop-index : goal.invariant-loop-index
+invariant-loop-index l = l.text.items ≡ codes "{\"memos\":[" ++ items_so_far false (map memo_object (take l.index l.memos))

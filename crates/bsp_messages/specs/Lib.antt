@@ -1,0 +1,9 @@
+-- What the contracts of messages cite.
+pub mod Values
+pub mod Members
+pub mod Bodies
+pub mod Statuses
+pub mod Refusals
+pub mod Answers
+pub mod VerdictTexts
+pub mod Replies

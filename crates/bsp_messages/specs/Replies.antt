@@ -1,0 +1,31 @@
+-- Replies: an answer's status, media type and bytes.
+use Rattle.std.specs.Prelude.{◌≡◌, ℕ, Bool, true, false, List}
+use Rattle.bsp_messages.specs.declared.answer.Answer.{Answer}
+use Rattle.bsp_messages.specs.declared.answer.Answer.TheVariants.{Changed, Verdicts, Document, Period, Ranges, Memos, Report, Hot, FileFault, Refused}
+use Rattle.bsp_messages.specs.declared.reply.Body.{Body}
+use Rattle.bsp_messages.specs.declared.reply.Body.TheVariants.{Fixed, Written}
+use Rattle.bsp_messages.specs.declared.reply.Reply.{Reply}
+use Rattle.bsp_messages.specs.Answers.{status_of, media_of, text_of}
+
+abbrev pub body_bytes : Body → List ℕ
+body_bytes (Fixed text) = text.now
+body_bytes (Written text) = text.items
+
+-- the reply of an answer
+pub record IsReply (answer : Answer) (reply : Reply) : Type 0 where
+  pub status : reply.status ≡ status_of answer
+  pub media : reply.media ≡ media_of answer
+  pub body : body_bytes reply.body ≡ text_of answer
+
+-- whether a text has to be written; the others are fixed, or come with the answer
+abbrev pub takes_memory : Answer → Bool
+takes_memory (Changed change) = false
+takes_memory (Verdicts verdicts) = true
+takes_memory (Document document) = true
+takes_memory (Period period) = true
+takes_memory (Ranges ranges) = true
+takes_memory (Memos memos) = true
+takes_memory (Report text) = false
+takes_memory (Hot file) = false
+takes_memory (FileFault fault) = true
+takes_memory (Refused refusal) = false
