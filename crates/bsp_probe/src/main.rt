@@ -7,6 +7,7 @@
 //! A further call is a function that makes it and gives its `Answer`, and a line `answered!`.
 #![tactic(auto)]
 
+mod bodies;
 mod book;
 mod calendar;
 mod calls;
@@ -17,6 +18,7 @@ mod money;
 mod plan;
 mod plan_text;
 mod postings;
+mod replies;
 mod reports;
 mod ret;
 mod routes;
@@ -33,9 +35,11 @@ fn make_calls(alloc: Global) -> Result<(), Mistake> {
     money::make_calls(alloc)?;
     plan_text::make_calls(alloc)?;
     routes::make_calls(alloc)?;
+    bodies::make_calls(alloc)?;
     let book = made!("the book", sample_book(alloc))?;
     postings::make_calls(alloc, &book)?;
     reports::make_calls(alloc, &book)?;
+    replies::make_calls(alloc, &book)?;
     hot::make_calls(alloc, &book)
 }
 
