@@ -6,12 +6,26 @@ top=$(cd "$here/../.." && pwd)
 work=$(mktemp -d)
 trap 'rm -rf "$work"' EXIT
 
-# workspace PROGRAM CRATE...: these crates, and the folder of a program over them
+# below CRATE...: these crates and all of the repository below them, each once
+below() {
+  awk -F: -v wanted="$*" '
+    /^[a-z]/ { split($1, words, " "); stands_on[words[1]] = $2 }
+    function visit(crate, parts, count, i) {
+        if (!(crate in stands_on) || crate in seen) return
+        seen[crate] = 1
+        count = split(stands_on[crate], parts, " ")
+        for (i = 1; i <= count; i++) visit(parts[i])
+        print crate
+    }
+    END { count = split(wanted, names, " "); for (i = 1; i <= count; i++) visit(names[i]) }' "$top/crates.txt"
+}
+
+# workspace PROGRAM CRATE...: the crates that a program uses, those below them, and the folder of the program
 workspace() {
   local program=$1 crate
   shift
   mkdir -p "$work/space/crates/$program/src"
-  for crate in "$@"; do
+  for crate in $(below "$@"); do
     cp -a "$top/crates/$crate" "$work/space/crates/"
     grep "^$crate:" "$top/crates.txt" >>"$work/space/crates.txt"
   done

@@ -10,7 +10,7 @@ for entries in 10000 100000; do
   python3 "$here/make_plan.py" "$entries" >"$work/$entries.toml"
 done
 
-workspace publishing bsp_fields bsp_calendar
+workspace publishing bsp_calendar
 source_file publishing main.rt <<'PROGRAM'
 #![tactic(auto)]
 

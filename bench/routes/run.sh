@@ -5,7 +5,7 @@
 # usage: bench/routes/run.sh
 . "$(dirname "$0")/../over_library.sh"
 
-workspace asking bsp_fields bsp_routes
+workspace asking bsp_routes
 source_file asking main.rt <<'PROGRAM'
 #![tactic(auto)]
 
