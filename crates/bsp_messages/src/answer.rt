@@ -37,7 +37,7 @@ impl DocumentState {
 /// A document of an agent: the TKTT or RFND of its number, else its CANX.
 #[derive(Clone, Copy, Debug, PartialEq, Eq)]
 pub struct DocumentShown {
-    /// The transaction as it was accepted; an amount that it does not have is told as 0.
+    /// The transaction as it was accepted; an amount that it does not have is given as 0.
     pub item: Item,
     /// What became of it.
     pub state: DocumentState,

@@ -3,4 +3,3 @@ pub mod CommandLine
 pub mod Streams
 pub mod RetReport
 pub mod HotReport
-pub mod Report

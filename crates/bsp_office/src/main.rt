@@ -4,7 +4,9 @@
 #![tactic(auto)]
 
 mod checking;
+mod fault;
 mod hot_report;
+mod input;
 mod reading;
 mod report;
 mod ret_report;

@@ -1,18 +1,10 @@
 //! Reading the whole of an input that has a limit.
-ghost use Rattle.std.specs.Prelude.{◌≡◌, ◌≤◌, ◌<◌, ◌+◌, ◌++◌, ◌⊎◌, ℕ, List, length, false, IfOk, OnErr, Ok, Err};
+ghost use Rattle.std.specs.Prelude.{◌≡◌, ◌≢◌, ◌≤◌, ◌<◌, ◌+◌, ◌++◌, ◌⊎◌, ℕ, List, length, false, IfOk, OnErr, Ok, Err};
 ghost use Rattle.std.specs.Io.KnownBytes.{Consumes, IsAtEnd};
 
+use crate::fault::Fault;
 use std::alloc::{AllocError, Global};
 use std::io::{ErrorKind, Read};
-
-/// Why an input is not there as a whole: a read failed, the input is longer than its limit, or an
-/// allocation was refused.
-#[derive(Clone, Copy, Debug, PartialEq, Eq, Drop)]
-pub enum ReadFault {
-    Failed,
-    TooLong,
-    Memory,
-}
 
 const ROOM: usize = 65_536;
 
@@ -27,45 +19,42 @@ pub fn read_piece<R: Read>(
     reader: &mut R,
     room: &mut [u8],
     all: &mut Vec<u8>,
-) -> Result<bool, ReadFault>
+) -> Result<bool, Fault>
     ensures piece { IfOk result (λ more. (got : List ℕ) × Consumes (R.remaining reader.old) (R.remaining reader.new) got
         × (all.new.items ≡ all.old.items ++ got) × (length got ≤ length room.old)) }
     ensures end { result ≡ Ok false → 0 < length room.old → IsAtEnd (R.remaining reader.new) }
     ensures same { result ≡ Ok false → all.new.items ≡ all.old.items }
     ensures stopped { OnErr result ((got : List ℕ) × Consumes (R.remaining reader.old) (R.remaining reader.new) got × (length got ≤ length room.old)) }
-    ensures fault { OnErr result ((result ≡ Err ReadFault.Failed) ⊎ (result ≡ Err ReadFault.Memory)) }
+    ensures fault { OnErr result ((result ≡ Err Fault.Read) ⊎ (result ≡ Err Fault.Memory)) }
 {
     match reader.read(room) {
         Ok(0) => Ok(false),
         Ok(n) => match all.extend_from_slice(&room[..n]) {
             Ok(()) => Ok(true),
-            Err(_) => Err(ReadFault::Memory),
+            Err(_) => Err(Fault::Memory),
         },
         Err(e) if e.kind() == ErrorKind::Interrupted => Ok(true),
-        Err(_) => Err(ReadFault::Failed),
+        Err(_) => Err(Fault::Read),
     }
 }
 
 #[tactic(auto, using(crate::proofs::Pieces::taken_none, crate::proofs::Pieces::taken_more, crate::proofs::Pieces::piece_stops, crate::proofs::Pieces::stops_here, crate::proofs::Pieces::within_more))]
 /// Reads to the end of an input of at most `limit` bytes. Of a longer one it takes one byte more.
-pub fn read_whole<R: Read>(
-    alloc: Global,
-    reader: &mut R,
-    limit: usize,
-) -> Result<Vec<u8>, ReadFault>
+pub fn read_whole<R: Read>(alloc: Global, reader: &mut R, limit: usize) -> Result<Vec<u8>, Fault>
     requires { limit < usize.MAX }
     ensures whole { IfOk result (λ all. Consumes (R.remaining reader.old) (R.remaining reader.new) all.items × IsAtEnd (R.remaining reader.new)) }
     ensures limit { IfOk result (λ all. length all.items ≤ limit) }
     ensures stopped { OnErr result ((got : List ℕ) × Consumes (R.remaining reader.old) (R.remaining reader.new) got × (length got ≤ limit + 1)) }
-    ensures long { result ≡ Err ReadFault.TooLong → (got : List ℕ) × Consumes (R.remaining reader.old) (R.remaining reader.new) got × (length got ≡ limit + 1) }
+    ensures fault { result ≢ Err Fault.Write }
+    ensures long { result ≡ Err Fault.TooLong → (got : List ℕ) × Consumes (R.remaining reader.old) (R.remaining reader.new) got × (length got ≡ limit + 1) }
 {
     let mut all = Vec::new(alloc);
     let Ok(mut room) = new_room(alloc, ROOM) else {
-        return Err(ReadFault::Memory);
+        return Err(Fault::Memory);
     };
     for _ in 0..u64::MAX {
         if all.len() > limit {
-            return Err(ReadFault::TooLong);
+            return Err(Fault::TooLong);
         }
         let want = (limit + 1 - all.len()).min(ROOM);
         match read_piece(reader, &mut room[..want], &mut all) {
@@ -74,5 +63,5 @@ pub fn read_whole<R: Read>(
             Err(fault) => return Err(fault),
         }
     }
-    Err(ReadFault::Failed)
+    Err(Fault::Read)
 }

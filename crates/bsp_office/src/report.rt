@@ -1,21 +1,10 @@
-//! The report on an input, by its format.
+//! A report, and writing it.
 
-ghost use Rattle.std.specs.Prelude.{IfOk};
-ghost use Rattle.bsp_office.specs.Report.{IsReport};
+ghost use Rattle.bsp_office.specs.Streams.{IsSent};
 
-use crate::hot_report::hot_report;
-use crate::ret_report::ret_report;
-use bsp_fields::NoRoom;
-use std::alloc::Global;
-
-/// The format that an input is judged by.
-#[derive(Clone, Copy, Debug, PartialEq, Eq)]
-pub(crate) enum Format {
-    /// RET files.
-    Ret,
-    /// HOT files.
-    Hot,
-}
+use crate::fault::Fault;
+use crate::sending::send;
+use std::io::Write;
 
 /// A report and the exit status that goes with it.
 #[derive(Drop)]
@@ -24,12 +13,12 @@ pub(crate) struct Report {
     pub(crate) text: Vec<u8>,
 }
 
-/// The report on these bytes.
-pub(crate) fn report_on(alloc: Global, format: Format, bytes: &[u8]) -> Result<Report, NoRoom>
-    ensures { IfOk result (λ report. IsReport format bytes.now report.status report.text.items) }
+/// Writes a report and answers its status.
+pub(crate) fn write_report<W: Write>(writer: &mut W, report: &Report) -> Result<u8, Fault>
+    ensures { IsSent report.now.status report.now.text.items (W.contents writer.old) (W.contents writer.new) result }
 {
-    match format {
-        Format::Ret => ret_report(alloc, bytes),
-        Format::Hot => hot_report(alloc, bytes),
+    if send(writer, &report.text).is_err() || writer.flush().is_err() {
+        return Err(Fault::Write);
     }
+    Ok(report.status)
 }

@@ -1,12 +1,10 @@
 //! Runs the work that the command line asks for.
 
 use crate::checking::{check, hotcheck};
-use crate::report::Format;
+use crate::input::Input;
 use crate::words::{WordsFault, Work, words};
 use clap::error::ErrorKind;
 use std::convert::AsStr;
-use std::fs::File;
-use std::io::Read;
 use std::{env, io};
 
 /// The program did what it was asked for.
@@ -16,30 +14,18 @@ const WRONG_WORDS: u8 = 2;
 /// A read or a write failed, or an allocation was refused.
 const FAILED: u8 = 3;
 
-/// Writes the report on an input to standard output.
-fn report_input<R: Read>(rt: &HostRuntime, format: Format, input: &mut R) -> u8 {
+/// Runs the work, and answers its exit status. It fails where the FILE cannot be opened.
+fn run_work(rt: &HostRuntime, work: &Work<'_>) -> io::Result<u8> {
     let mut output = io::writer(rt);
-    match format {
-        Format::Ret => check(rt.alloc(), input, &mut output),
-        Format::Hot => hotcheck(rt.alloc(), input, &mut output),
-    }
-}
-
-/// Writes the report on the FILE of that name, or on standard input.
-fn report_file(rt: &HostRuntime, format: Format, name: &str) -> u8 {
-    if name == "-" {
-        return report_input(rt, format, &mut rt.reader());
-    }
-    match File::open(rt, name) {
-        Ok(mut file) => report_input(rt, format, &mut file),
-        Err(_) => FAILED,
-    }
-}
-
-fn run_work(rt: &HostRuntime, work: &Work<'_>) -> u8 {
     match work {
-        Work::Check { file } => report_file(rt, Format::Ret, file),
-        Work::Hotcheck { file } => report_file(rt, Format::Hot, file),
+        Work::Check { file } => {
+            let mut input = Input::open(rt, file)?;
+            Ok(check(rt.alloc(), &mut input, &mut output))
+        }
+        Work::Hotcheck { file } => {
+            let mut input = Input::open(rt, file)?;
+            Ok(hotcheck(rt.alloc(), &mut input, &mut output))
+        }
     }
 }
 
@@ -66,7 +52,7 @@ fn refuse(rt: &HostRuntime, fault: &WordsFault) -> u8 {
 /// Runs the work that these words ask for, the first being the program's name.
 fn run_line<S: AsStr>(rt: &HostRuntime, line: &[S]) -> u8 {
     match words(rt.alloc(), line) {
-        Ok(work) => run_work(rt, &work),
+        Ok(work) => run_work(rt, &work).unwrap_or(FAILED),
         Err(fault) => refuse(rt, &fault),
     }
 }

@@ -63,7 +63,10 @@ pub enum AirlineCall<V> {
 /// in the path: whether one is well-formed is read elsewhere.
 #[derive(Clone, Copy, Debug, PartialEq, Eq)]
 pub enum Call<V> {
+    /// A call of the office.
     Office(OfficeCall<V>),
+    /// A call of the agent of this code.
     Agent(V, AgentCall<V>),
+    /// A call of the airline of this code.
     Airline(V, AirlineCall<V>),
 }

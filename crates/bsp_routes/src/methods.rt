@@ -4,8 +4,11 @@ ghost use Rattle.bsp_routes.specs.Calls.{lists, allow_text};
 /// The methods of the calls at one path.
 #[derive(Clone, Copy, Debug, PartialEq, Eq)]
 pub enum Methods {
+    /// GET alone.
     Get,
+    /// POST alone.
     Post,
+    /// GET and POST.
     GetAndPost,
 }
 

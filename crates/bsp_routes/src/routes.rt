@@ -35,7 +35,8 @@ impl Routes {
     ///
     /// # Errors
     ///
-    /// `NoRoom` where an allocation was refused, and for no other cause.
+    /// `NoRoom` where an allocation was refused. That the patterns do not conflict, so that there is no
+    /// other cause, is tested only.
     pub fn new(alloc: Global) -> Result<Routes, NoRoom> {
         Ok(Routes {
             router: all_patterns(alloc)?,

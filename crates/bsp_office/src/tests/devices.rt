@@ -2,9 +2,9 @@
 
 use super::files::{V1, front, text};
 use super::hot_files::{NO_DOCUMENTS, V3};
-use super::status_of;
-use crate::checking::{Fault, report_within};
-use crate::report::Format;
+use super::{Command, status_of};
+use crate::checking::{check_within, hotcheck_within};
+use crate::fault::Fault;
 use std::io;
 use std::io::{ErrorKind, Read, Write};
 use std::test::Fail;
@@ -81,12 +81,12 @@ impl Write for Output<'_> {
 /// The steps of a reader, and the status, the report and the number of unread bytes that are wanted.
 type ReadCase<'a> = (&'a [Step], u8, &'a [u8], usize);
 
-/// Whether the command for files of this format follows such a reader of these bytes.
-fn follows_reads(rt: &HostRuntime, format: Format, bytes: &[u8], case: ReadCase<'_>) -> bool {
+/// Whether the command follows such a reader of these bytes.
+fn follows_reads(rt: &HostRuntime, command: Command, bytes: &[u8], case: ReadCase<'_>) -> bool {
     let (steps, status, report, left) = case;
     let mut input = Input { bytes, steps };
     let mut written = Vec::new(rt.alloc());
-    let answer = status_of(rt, format, &mut input, &mut written);
+    let answer = status_of(rt, command, &mut input, &mut written);
     answer == status && written.as_slice() == report && input.bytes.len() == left
 }
 
@@ -114,7 +114,7 @@ fn reads_are_followed(rt: HostRuntime) -> Result<(), Fail> {
     ];
     let v1 = text(&rt, &V1, b"\n")?;
     for case in cases {
-        assert!(rt; follows_reads(&rt, Format::Ret, &v1, case));
+        assert!(rt; follows_reads(&rt, Command::Check, &v1, case));
     }
     Ok(())
 }
@@ -141,7 +141,7 @@ fn reads_of_hot_files_are_followed(rt: HostRuntime) -> Result<(), Fail> {
     ];
     let v3 = text(&rt, &V3, b"\n")?;
     for case in cases {
-        assert!(rt; follows_reads(&rt, Format::Hot, &v3, case));
+        assert!(rt; follows_reads(&rt, Command::Hotcheck, &v3, case));
     }
     Ok(())
 }
@@ -150,10 +150,10 @@ fn reads_of_hot_files_are_followed(rt: HostRuntime) -> Result<(), Fail> {
 /// bytes that are wanted.
 type WriteCase<'a> = (&'a [Step], bool, u8, usize);
 
-/// Whether the command for files of this format follows such a writer of this report on these bytes.
+/// Whether the command follows such a writer of this report on these bytes.
 fn follows_writes(
     rt: &HostRuntime,
-    format: Format,
+    command: Command,
     bytes: &[u8],
     report: &[u8],
     case: WriteCase<'_>,
@@ -165,7 +165,7 @@ fn follows_writes(
         steps,
         flush_fails,
     };
-    let answer = status_of(rt, format, &mut input, &mut output);
+    let answer = status_of(rt, command, &mut input, &mut output);
     let is_front = output.written.as_slice() == front(report, length);
     Ok(answer == status && is_front && input.is_empty())
 }
@@ -189,7 +189,7 @@ fn writes_are_followed(rt: HostRuntime) -> Result<(), Fail> {
     ];
     let v1 = text(&rt, &V1, b"\n")?;
     for case in cases {
-        assert!(rt; follows_writes(&rt, Format::Ret, &v1, SALE, case)?);
+        assert!(rt; follows_writes(&rt, Command::Check, &v1, SALE, case)?);
     }
     Ok(())
 }
@@ -206,22 +206,37 @@ fn writes_on_hot_files_are_followed(rt: HostRuntime) -> Result<(), Fail> {
     ];
     let v3 = text(&rt, &V3, b"\n")?;
     for case in cases {
-        assert!(rt; follows_writes(&rt, Format::Hot, &v3, NO_DOCUMENTS, case)?);
+        assert!(rt; follows_writes(&rt, Command::Hotcheck, &v3, NO_DOCUMENTS, case)?);
     }
     Ok(())
+}
+
+/// The status that the command answers within a limit.
+fn status_within(
+    rt: &HostRuntime,
+    command: Command,
+    input: &mut &[u8],
+    written: &mut Vec<u8>,
+    limit: u32,
+) -> Result<u8, Fault> {
+    let limit = limit as usize;
+    match command {
+        Command::Check => check_within(rt.alloc(), input, written, limit),
+        Command::Hotcheck => hotcheck_within(rt.alloc(), input, written, limit),
+    }
 }
 
 /// Whether a limit on these bytes leaves this answer, this report and so many unread bytes.
 fn follows_limit(
     rt: &HostRuntime,
-    format: Format,
+    command: Command,
     bytes: &[u8],
     limit: u32,
     wanted: Result<&[u8], usize>,
 ) -> bool {
     let mut input = bytes;
     let mut written = Vec::new(rt.alloc());
-    match report_within(rt.alloc(), format, &mut input, &mut written, limit as usize) {
+    match status_within(rt, command, &mut input, &mut written, limit) {
         Ok(status) => status == 0 && wanted == Ok(written.as_slice()) && input.is_empty(),
         Err(Fault::TooLong) => written.is_empty() && wanted == Err(input.len()),
         Err(_) => false,
@@ -242,7 +257,7 @@ fn long_files_are_refused(rt: HostRuntime) -> Result<(), Fail> {
     let v1 = text(&rt, &V1, b"\n")?;
     for (limit, wanted) in cases {
         assert!(rt;
-            follows_limit(&rt, Format::Ret, &v1, limit, wanted),
+            follows_limit(&rt, Command::Check, &v1, limit, wanted),
             "{limit}"
         );
     }
@@ -260,7 +275,7 @@ fn long_hot_files_are_refused(rt: HostRuntime) -> Result<(), Fail> {
     let v3 = text(&rt, &V3, b"\n")?;
     for (limit, wanted) in cases {
         assert!(rt;
-            follows_limit(&rt, Format::Hot, &v3, limit, wanted),
+            follows_limit(&rt, Command::Hotcheck, &v3, limit, wanted),
             "{limit}"
         );
     }

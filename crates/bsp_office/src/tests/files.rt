@@ -1,7 +1,6 @@
 //! Reports on RET files.
 
-use super::reports;
-use crate::report::Format;
+use super::{Command, reports};
 use std::test::Fail;
 
 const HEADER: &[u8] = b"1TSTA2401050930DE000001PROD001";
@@ -68,7 +67,7 @@ fn files_are_reported(rt: HostRuntime) -> Result<(), Fail> {
         (&refunded, 0, refund),
     ];
     for (bytes, status, report) in cases {
-        assert!(rt; reports(&rt, Format::Ret, bytes, status, report));
+        assert!(rt; reports(&rt, Command::Check, bytes, status, report));
     }
     Ok(())
 }

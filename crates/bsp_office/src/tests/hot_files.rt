@@ -1,8 +1,7 @@
 //! Reports on HOT files.
 
 use super::files::{front, text};
-use super::reports;
-use crate::report::Format;
+use super::{Command, reports};
 use std::test::Fail;
 
 const FILE: &[u8] = b"BFH000000010122024012240229EURPROD001";
@@ -54,7 +53,7 @@ fn hot_files_are_reported(rt: HostRuntime) -> Result<(), Fail> {
         (b"\x00\xff\n", 1, b"H04 record 1\n"),
     ];
     for (bytes, status, report) in cases {
-        assert!(rt; reports(&rt, Format::Hot, bytes, status, report));
+        assert!(rt; reports(&rt, Command::Hotcheck, bytes, status, report));
     }
     Ok(())
 }
