@@ -1,5 +1,7 @@
 -- Replies: an answer's status, media type and bytes.
 use Rattle.std.specs.Prelude.{◌≡◌, ℕ, Bool, true, false, List}
+use Rattle.bsp_ret.specs.declared.model.FaultCode.{FaultCode}
+use Rattle.bsp_ret.specs.declared.model.FaultCode.TheVariants.{F10}
 use Rattle.bsp_messages.specs.declared.answer.Answer.{Answer}
 use Rattle.bsp_messages.specs.declared.answer.Answer.TheVariants.{Changed, Verdicts, Document, Period, Ranges, Memos, Report, Hot, FileFault, Refused}
 use Rattle.bsp_messages.specs.declared.reply.Body.{Body}
@@ -17,6 +19,11 @@ pub record IsReply (answer : Answer) (reply : Reply) : Type 0 where
   pub media : reply.media ≡ media_of answer
   pub body : body_bytes reply.body ≡ text_of answer
 
+-- whether the text of a RET file's fault has to be written; that of want of memory is fixed
+abbrev pub fault_takes_memory : FaultCode → Bool
+fault_takes_memory F10 = false
+fault_takes_memory code = true
+
 -- whether a text has to be written; the others are fixed, or come with the answer
 abbrev pub takes_memory : Answer → Bool
 takes_memory (Changed change) = false
@@ -27,5 +34,5 @@ takes_memory (Ranges ranges) = true
 takes_memory (Memos memos) = true
 takes_memory (Report text) = false
 takes_memory (Hot file) = false
-takes_memory (FileFault fault) = true
+takes_memory (FileFault fault) = fault_takes_memory fault.code
 takes_memory (Refused refusal) = false

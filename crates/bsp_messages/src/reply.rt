@@ -1,7 +1,7 @@
 ghost use Rattle.std.specs.Prelude.{◌≡◌, false, IfOk, IsOk};
 ghost use Rattle.serde_json.specs.Written.{compact_text};
 ghost use Rattle.bsp_messages.specs.Answers.{result_object};
-ghost use Rattle.bsp_messages.specs.Replies.{IsReply, body_bytes, takes_memory};
+ghost use Rattle.bsp_messages.specs.Replies.{IsReply, body_bytes, fault_takes_memory, takes_memory};
 ghost use Rattle.bsp_messages.specs.declared.answer.Answer.TheVariants.{FileFault, Refused};
 
 use crate::answer::Answer;
@@ -80,7 +80,8 @@ impl RequestRefusal {
 
 /// The reply to a RET file with a fault.
 fn fault_reply(alloc: Global, fault: RetFault) -> Result<Reply, NoRoom>
-    ensures { IfOk result (λ reply. IsReply (FileFault fault) reply) }
+    ensures reply { IfOk result (λ reply. IsReply (FileFault fault) reply) }
+    ensures fixed { fault_takes_memory fault.code ≡ false → IsOk result }
 {
     if fault.code == FaultCode::F10 {
         return Ok(RequestRefusal::NoRoom.reply());
@@ -93,9 +94,9 @@ fn fault_reply(alloc: Global, fault: RetFault) -> Result<Reply, NoRoom>
     })
 }
 
-/// The reply of an answer: its status, its media type and its text. Results and refusals, but that of a
-/// RET file's fault, have fixed texts, and the texts of statements, settlements and HOT files are
-/// those of the answer: they take no memory.
+/// The reply of an answer: its status, its media type and its text. Results and refusals have fixed texts,
+/// but that of a RET file's fault other than want of memory, and the texts of statements, settlements and
+/// HOT files are those of the answer: they take no memory.
 ///
 /// # Errors
 ///

@@ -17,8 +17,14 @@ use std::io::{Read, Write};
 /// The most bytes that an input may have.
 const MOST: usize = 1_073_741_824;
 
-/// Reads a RET file of at most `limit` bytes, writes the report on it and answers its status.
-pub(crate) fn check_within<R: Read, W: Write>(
+/// Reads a RET file of at most `limit` bytes, writes the report on it and answers its status: 0 for a
+/// file, 1 for a fault.
+///
+/// # Errors
+///
+/// The [`Fault`] that kept a whole report from being written. Nothing was written but where it is
+/// `Write`: then a first part of the report on an input that was read to its end.
+pub fn check_within<R: Read, W: Write>(
     alloc: Global,
     reader: &mut R,
     writer: &mut W,
@@ -35,8 +41,13 @@ pub(crate) fn check_within<R: Read, W: Write>(
     write_report(writer, &report)
 }
 
-/// Reads a HOT file of at most `limit` bytes, writes the report on it and answers its status.
-pub(crate) fn hotcheck_within<R: Read, W: Write>(
+/// Reads a HOT file of at most `limit` bytes, writes the report on it and answers its status: 0 for a
+/// file, 1 for a fault.
+///
+/// # Errors
+///
+/// As of [`check_within`].
+pub fn hotcheck_within<R: Read, W: Write>(
     alloc: Global,
     reader: &mut R,
     writer: &mut W,

@@ -16,7 +16,8 @@ mod sending;
 mod tests;
 mod words;
 
-pub use checking::{check, hotcheck};
+pub use checking::{check, check_within, hotcheck, hotcheck_within};
+pub use fault::Fault;
 use std::process::ExitCode;
 pub use words::{WordsFault, Work, words};
 

@@ -3,8 +3,7 @@
 use super::files::{V1, front, text};
 use super::hot_files::{NO_DOCUMENTS, V3};
 use super::{Command, status_of};
-use crate::checking::{check_within, hotcheck_within};
-use crate::fault::Fault;
+use crate::{Fault, check_within, hotcheck_within};
 use std::io;
 use std::io::{ErrorKind, Read, Write};
 use std::test::Fail;
