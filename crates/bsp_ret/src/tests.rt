@@ -79,23 +79,6 @@ const CANCEL: [&[u8]; 6] = [
     b"Z0000006000000200000000002350{",
 ];
 
-/// A card sale with two taxes, amounts in other spellings than the one that is written.
-const SPELLINGS: [&[u8]; 5] = [
-    HEADER,
-    b"2000001TKTT1234567522013000000086240105DOE/JANE",
-    b"500000100000010000AB0000000001ARA00000000000                                                    0000000000000000",
-    b"8000001CC00000010011VI",
-    b"Z00000050000001000000000010011",
-];
-
-const ONE_SPELLING: [&[u8]; 5] = [
-    HEADER,
-    b"2000001TKTT1234567522013000000086240105DOE/JANE",
-    b"50000010000001000{AB0000000001ARA0000000000{                                                    000000000000000{",
-    b"8000001CC0000001001AVI",
-    b"Z0000005000000100000000001001A",
-];
-
 /// The lines, each filled with spaces to 136 characters and ended by `end`.
 fn text(rt: &HostRuntime, lines: &[&[u8]], end: &[u8]) -> Result<Vec<u8>, Fail> {
     let mut bytes = Vec::with_capacity(rt.alloc(), 2048)?;
@@ -127,13 +110,18 @@ fn feed_last(reader: &mut RetReader, piece: &[u8]) -> Option<RetFault> {
     }
 }
 
-/// What is written of a text in two pieces, or its fault.
-fn written_in_pieces(rt: &HostRuntime, front: &[u8], back: &[u8]) -> Result<Vec<u8>, RetFault> {
+/// The numbers of records and transactions, and the sum.
+fn counts(file: &RetFile<'_>) -> (usize, usize, i64) {
+    (file.record_count(), file.transactions(), file.sum().get())
+}
+
+/// The counts of a text in two pieces, or its fault.
+fn counts_in_pieces(rt: &HostRuntime, front: &[u8], back: &[u8]) -> Result<(usize, usize, i64), RetFault> {
     let mut reader = RetReader::new(rt.alloc());
     reader.feed(front)?;
     reader.feed(back)?;
     reader.finish()?;
-    write_ret(rt.alloc(), &reader.file()?)
+    Ok(counts(&reader.file()?))
 }
 
 /// What a reader answers at the end of a text, and when it is asked again.
@@ -258,7 +246,7 @@ fn a_file_cut_short_is_told(rt: HostRuntime) -> Result<(), Fail> {
         };
         let cut = front(&v1, length);
         assert_eq!(rt; told(&rt, cut), expected);
-        assert_eq!(rt; written_in_pieces(&rt, cut, b"").err(), expected);
+        assert_eq!(rt; counts_in_pieces(&rt, cut, b"").err(), expected);
     }
     Ok(())
 }
@@ -268,14 +256,14 @@ fn pieces_are_read_as_one_text(rt: HostRuntime) -> Result<(), Fail> {
     let v1 = text(&rt, &V1, b"\n")?;
     for cut in 0..=v1.len() {
         let (front, back) = v1.split_at(cut);
-        assert_eq!(rt; written_in_pieces(&rt, front, back)?, v1);
+        assert_eq!(rt; counts_in_pieces(&rt, front, back)?, (5, 1, 23_500));
     }
     let mut reader = RetReader::new(rt.alloc());
     for byte in &v1 {
         assert_eq!(rt; reader.feed(&[*byte]).err(), None);
     }
     assert_eq!(rt; reader.finish().err(), None);
-    assert_eq!(rt; write_ret(rt.alloc(), &reader.file()?)?, v1);
+    assert_eq!(rt; counts(&reader.file()?), (5, 1, 23_500));
     Ok(())
 }
 
@@ -320,25 +308,6 @@ fn a_file_is_given_after_its_end(rt: HostRuntime) -> Result<(), Fail> {
 }
 
 #[test]
-fn a_file_is_written_in_one_spelling(rt: HostRuntime) -> Result<(), Fail> {
-    let cases: [(&[&[u8]], &[&[u8]]); 5] = [
-        (&[HEADER, NO_SALES], &[HEADER, NO_SALES]),
-        (&V1, &V1),
-        (&EXCHANGE, &EXCHANGE),
-        (&CANCEL, &CANCEL),
-        (&SPELLINGS, &ONE_SPELLING),
-    ];
-    for (lines, written) in cases {
-        for end in [b"\n".as_slice(), b"\r\n"] {
-            let bytes = text(&rt, lines, end)?;
-            let file = read_ret(rt.alloc(), &bytes)?;
-            assert_eq!(rt; write_ret(rt.alloc(), &file)?, text(&rt, written, b"\n")?);
-        }
-    }
-    Ok(())
-}
-
-#[test]
 fn values_of_a_refund_are_told(rt: HostRuntime) -> Result<(), Fail> {
     let bytes = text(&rt, &REFUND, b"\n")?;
     let file = read_ret(rt.alloc(), &bytes)?;
@@ -346,12 +315,6 @@ fn values_of_a_refund_are_told(rt: HostRuntime) -> Result<(), Fail> {
     assert_eq!(rt; transaction(&file, 0), Some(expected));
     assert!(rt; transaction(&file, 2).is_none());
     assert!(rt; file.sale(2).is_none());
-    assert!(rt; is_group(&expected));
-    let exchanged = Transaction {
-        exchange: expected.cash,
-        ..expected
-    };
-    assert!(rt; !is_group(&exchanged));
     Ok(())
 }
 

@@ -2,7 +2,7 @@
 
 ghost use Rattle.std.specs.Prelude.{◌≡◌};
 ghost use Rattle.std.specs.List.{list_all};
-ghost use Rattle.bsp_ret.specs.Content.{none_or};
+ghost use Rattle.bsp_ret_records.specs.Values.{none_or};
 ghost use Rattle.bsp_rules.specs.Commission.{is_commission};
 ghost use Rattle.bsp_rules.specs.Amounts.{has_published_commission, has_sign, has_wrong_amounts, have_sign, is_balanced};
 
