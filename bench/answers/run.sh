@@ -7,7 +7,7 @@
 
 rustc -O -o "$work/plain" "$here/plain.rs" 2>/dev/null
 
-workspace answering bsp_fields bsp_calendar bsp_ret bsp_rules bsp_memos bsp_messages
+workspace answering bsp_fields bsp_records bsp_calendar bsp_ret_records bsp_ret bsp_rules bsp_memos bsp_messages
 source_file answering main.rt <<'PROGRAM'
 #![tactic(auto)]
 

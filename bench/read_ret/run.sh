@@ -10,7 +10,7 @@ python3 "$here/make_file.py" "$megabytes" "$work/whole.ret"
 python3 "$here/make_file.py" "$((megabytes / 10))" "$work/tenth.ret"
 rustc -O -o "$work/plain" "$here/plain.rs" 2>/dev/null
 
-workspace reading bsp_fields bsp_records bsp_ret
+workspace reading bsp_fields bsp_records bsp_ret_records bsp_ret
 source_file reading main.rt <<'PROGRAM'
 #![tactic(auto)]
 

@@ -8,6 +8,8 @@ mod header;
 mod payment;
 mod related;
 mod sale;
+#[cfg(test)]
+mod tests;
 mod trailer;
 mod transactions;
 

@@ -1,7 +1,9 @@
 use crate::*;
-use bsp_fields::Amount;
+use bsp_fields::{AirlineCode, Amount, Day};
 use bsp_ret::{read_ret, transaction};
-use bsp_ret_records::{Tax, Transaction};
+use bsp_ret_records::{
+    Amounts, PaidSale, ReportedDocument, Sale, Tax, Transaction, TransactionCode,
+};
 use std::test::Fail;
 
 const HEADER: &[u8] = b"1TSTA2401050930DE000001PROD001";
@@ -82,9 +84,10 @@ fn text(rt: &HostRuntime, lines: &[&[u8]], end: &[u8]) -> Result<Vec<u8>, Fail> 
 
 #[test]
 fn a_file_is_written_in_one_spelling(rt: HostRuntime) -> Result<(), Fail> {
-    let cases: [(&[&[u8]], &[&[u8]]); 5] = [
+    let cases: [(&[&[u8]], &[&[u8]]); 6] = [
         (&[HEADER, NO_SALES], &[HEADER, NO_SALES]),
         (&V1, &V1),
+        (&REFUND, &REFUND),
         (&EXCHANGE, &EXCHANGE),
         (&CANCEL, &CANCEL),
         (&SPELLINGS, &ONE_SPELLING),
@@ -106,6 +109,51 @@ fn first(rt: &HostRuntime, lines: &[&[u8]]) -> Result<Option<Transaction>, Fail>
     Ok(transaction(&file, 0))
 }
 
+/// The values of the first transaction of REFUND.
+fn refund() -> Result<Transaction, Fail> {
+    let mut passenger = [b' '; 49];
+    passenger[..8].copy_from_slice(b"DOE/JANE");
+    let airline = AirlineCode::read(b"125")?;
+    Ok(Transaction {
+        code: TransactionCode::Rfnd,
+        agent: *b"12345675",
+        document: ReportedDocument {
+            airline,
+            number: *b"1300000002",
+            check_digit: 0,
+        },
+        issued: Day::read_text(b"2024-01-05")?,
+        passenger,
+        related: [
+            Some(ReportedDocument {
+                airline,
+                number: *b"1300000001",
+                check_digit: 6,
+            }),
+            None,
+        ],
+        amounts: Some(Amounts {
+            fare: Amount::new(-20_000)?,
+            taxes: [
+                Some(Tax {
+                    code: *b"RA",
+                    amount: Amount::new(-3500)?,
+                }),
+                None,
+                None,
+                None,
+                None,
+                None,
+            ],
+            rate: 500,
+            commission: Amount::new(-1000)?,
+        }),
+        cash: Some(Amount::new(-23_500)?),
+        credit: None,
+        exchange: None,
+    })
+}
+
 /// Whether a transaction is a group, and whether it is one with its cash as an exchange, too.
 fn is_group_twice(found: Option<Transaction>) -> Option<(bool, bool)> {
     let found = found?;
@@ -114,6 +162,13 @@ fn is_group_twice(found: Option<Transaction>) -> Option<(bool, bool)> {
         ..found
     };
     Some((is_group(&found), is_group(&exchanged)))
+}
+
+#[test]
+fn values_of_a_refund_are_told(rt: HostRuntime) -> Result<(), Fail> {
+    let found = first(&rt, &REFUND)?;
+    assert_eq!(rt; found, Some(refund()?));
+    Ok(())
 }
 
 #[test]
@@ -130,5 +185,30 @@ fn a_tax_is_written_in_its_place(rt: HostRuntime) -> Result<(), Fail> {
         amount: Amount::new(-3500)?,
     };
     assert_eq!(rt; write_tax(Some(tax)), *b"RA0000000350}");
+    Ok(())
+}
+
+/// The record 2 of the transaction of EXCHANGE, and the sum of its forms.
+fn exchange() -> Result<PaidSale, Fail> {
+    Ok(PaidSale {
+        sale: Sale {
+            code: TransactionCode::Tktt,
+            agent: *b"12345675",
+            document: ReportedDocument {
+                airline: AirlineCode::read(b"125")?,
+                number: *b"1300000003",
+                check_digit: 1,
+            },
+            issued: Day::read_text(b"2024-01-05")?,
+        },
+        paid: 28_500,
+    })
+}
+
+#[test]
+fn a_sale_is_told_with_its_sum(rt: HostRuntime) -> Result<(), Fail> {
+    let bytes = text(&rt, &EXCHANGE, b"\n")?;
+    let file = read_ret(rt.alloc(), &bytes)?;
+    assert_eq!(rt; file.sale(0), Some(exchange()?));
     Ok(())
 }

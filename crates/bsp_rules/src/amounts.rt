@@ -9,7 +9,7 @@ ghost use Rattle.bsp_rules.specs.Amounts.{has_published_commission, has_sign, ha
 use crate::rounding::rounded;
 use crate::sums::{gross, paid};
 use bsp_fields::Amount;
-use bsp_ret::{Amounts, CardPayment, Tax, Transaction, TransactionCode};
+use bsp_ret_records::{Amounts, CardPayment, Tax, Transaction, TransactionCode};
 
 fn has_sign(code: TransactionCode, amount: Amount) -> bool
     ensures { result ≡ has_sign code amount }

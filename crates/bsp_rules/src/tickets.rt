@@ -10,7 +10,7 @@ use crate::amounts::has_commission;
 use crate::facts::RelatedDocument;
 use crate::rows::Item;
 use crate::sums::{amount_or_zero, gross};
-use bsp_ret::{Amounts, Tax, Transaction, TransactionCode};
+use bsp_ret_records::{Amounts, Tax, Transaction, TransactionCode};
 
 fn amounts_of(ticket: &Option<Item>) -> Option<Amounts>
     ensures { result ≡ amounts_of ticket.now }
