@@ -7,7 +7,7 @@ market_module() {
 
 use bsp_calendar::{Currency, Period, Plan, PlanText, Terms};
 use bsp_fields::{AgentCode, AirlineCode, Amount, Day, PeriodCode, write_digits};
-use bsp_ret::{Amounts, ReportedDocument, Tax, Transaction, TransactionCode};
+use bsp_ret_records::{Amounts, ReportedDocument, Tax, Transaction, TransactionCode};
 use bsp_rules::Item;
 use std::alloc::Global;
 use std::io;

@@ -9,7 +9,7 @@
 
 rustc -O -o "$work/plain" "$here/plain.rs" 2>/dev/null
 
-workspace writing bsp_fields bsp_calendar bsp_ret bsp_rules bsp_hot
+workspace writing bsp_fields bsp_calendar bsp_ret_records bsp_rules bsp_hot
 market_module | source_file writing market.rt
 source_file writing main.rt <<'PROGRAM'
 #![tactic(auto)]

@@ -6,7 +6,7 @@
 . "$(dirname "$0")/../over_library.sh"
 . "$top/bench/market.sh"
 
-workspace reporting bsp_fields bsp_calendar bsp_ret bsp_rules bsp_statement
+workspace reporting bsp_fields bsp_calendar bsp_ret_records bsp_rules bsp_statement
 market_module | source_file reporting market.rt
 source_file reporting main.rt <<'PROGRAM'
 #![tactic(auto)]

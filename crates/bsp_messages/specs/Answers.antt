@@ -9,6 +9,7 @@ use Rattle.bsp_fields.specs.Decimal.{fixed_digits}
 use Rattle.bsp_fields.specs.Money.{money_text}
 use Rattle.bsp_fields.specs.declared.change.Change.{Change}
 use Rattle.bsp_fields.specs.declared.change.Change.TheVariants as change
+use Rattle.bsp_ret_records.specs.Texts as ret_records
 use Rattle.bsp_ret.specs.Texts as ret
 use Rattle.bsp_ret.specs.declared.model.FaultCode.{FaultCode}
 use Rattle.bsp_ret.specs.declared.model.FaultCode.TheVariants.{F10}
@@ -75,7 +76,7 @@ document_object d =
     object
     (member (codes "airline") (string (fixed_digits 3 d.item.transaction.document.airline))
     (member (codes "cash") (number (of_integer (amount_or_zero d.item.transaction.cash)))
-    (member (codes "code") (string (ret.code_text d.item.transaction.code))
+    (member (codes "code") (string (ret_records.code_text d.item.transaction.code))
     (member (codes "commission") (number (of_integer (commission_amount d.item.transaction.amounts)))
     (member (codes "credit") (number (of_integer (card_amount d.item.transaction.credit)))
     (member (codes "issued") (string (day_text d.item.transaction.issued))

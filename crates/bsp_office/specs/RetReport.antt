@@ -5,16 +5,16 @@ use Rattle.std.specs.Fmt.{decimal}
 use Rattle.bsp_fields.specs.Decimal.{fixed_digits}
 use Rattle.bsp_fields.specs.Days.{day_text}
 use Rattle.bsp_fields.specs.Money.{money_text}
-use Rattle.bsp_ret.specs.declared.transactions.ReportedDocument.{ReportedDocument}
-use Rattle.bsp_ret.specs.declared.transactions.Sale.{Sale}
-use Rattle.bsp_ret.specs.declared.transactions.PaidSale.{PaidSale}
+use Rattle.bsp_ret_records.specs.declared.transactions.ReportedDocument.{ReportedDocument}
+use Rattle.bsp_ret_records.specs.declared.transactions.Sale.{Sale}
+use Rattle.bsp_ret_records.specs.declared.transactions.PaidSale.{PaidSale}
 use Rattle.bsp_ret.specs.Sales.{HasSale}
 use Rattle.bsp_ret.specs.declared.model.RetFault.{RetFault}
-use Rattle.bsp_ret.specs.Texts.{code_text, fault_text}
+use Rattle.bsp_ret_records.specs.Texts.{code_text}
+use Rattle.bsp_ret.specs.Texts.{fault_text}
 use Rattle.bsp_records.specs.Lines.{lines}
 use Rattle.bsp_ret.specs.Table.{total_paid, first_fault}
-use Rattle.bsp_ret.specs.Ret.{File, Ret, flatten}
-use Rattle.bsp_ret.specs.Writing.{file_lines}
+use Rattle.bsp_ret.specs.Ret.{File, Ret, flatten, file_lines}
 
 unfoldable pub document_text : ReportedDocument → List ℕ
 document_text d = concat (fixed_digits 3 d.airline ∷ codes "-" ∷ d.number ∷ codes "-" ∷ fixed_digits 1 d.check_digit ∷ [])

@@ -2,9 +2,8 @@
 
 ghost use Rattle.std.specs.Prelude.{◌≡◌, ◌++◌, List, IfOk, OnOk, length, string_bytes};
 ghost use Rattle.bsp_ret.specs.Table.{total_paid};
-ghost use Rattle.bsp_ret.specs.Ret.{flatten};
-ghost use Rattle.bsp_ret.specs.Writing.{file_lines};
-ghost use Rattle.bsp_ret.specs.declared.transactions.PaidSale.{PaidSale as Paid};
+ghost use Rattle.bsp_ret.specs.Ret.{flatten, file_lines};
+ghost use Rattle.bsp_ret_records.specs.declared.transactions.PaidSale.{PaidSale as Paid};
 ghost use Rattle.bsp_office.specs.RetReport.{document_text, sale_text, transaction_text, total_text, file_report, fault_report, HaveSales, AreReported, IsRetReport};
 
 use crate::report::Report;

@@ -6,7 +6,7 @@ ghost use Rattle.bsp_postings.specs.Postings.{is_counted, item_posting, item_pos
 use crate::posting::Posting;
 use bsp_fields::PeriodCode;
 use bsp_memos::{Memo, MemoFields};
-use bsp_ret::TransactionCode;
+use bsp_ret_records::TransactionCode;
 use bsp_rules::{Item, amount_or_zero, card_amount, commission_amount};
 use std::alloc::{AllocError, Global};
 

@@ -7,7 +7,7 @@ use crate::posting::Posting;
 use crate::rows::is_counted;
 use bsp_fields::{AgentCode, AirlineCode, PeriodCode};
 use bsp_memos::MemoFields;
-use bsp_ret::TransactionCode;
+use bsp_ret_records::TransactionCode;
 use bsp_rules::Item;
 use std::alloc::{AllocError, Global};
 

@@ -1,7 +1,7 @@
 use crate::*;
 use bsp_fields::{AgentCode, AirlineCode, Amount, Day, DocNumber, PeriodCode};
 use bsp_memos::{Memo, MemoFields, MemoKind, MemoState, Reason};
-use bsp_ret::{Amounts, ReportedDocument, Transaction, TransactionCode};
+use bsp_ret_records::{Amounts, ReportedDocument, Transaction, TransactionCode};
 use bsp_rules::Item;
 use std::alloc::Global;
 use std::test::Fail;

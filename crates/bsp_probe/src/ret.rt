@@ -1,10 +1,11 @@
-//! The calls of `bsp_ret`, on V1.
+//! The calls of `bsp_ret` and `bsp_ret_writer`, on V1.
 
 ghost use Rattle.std.specs.Prelude.{◌<◌};
 
 use crate::calls::{Answer, Mistake, answered, made};
 use crate::lines::{V1, text};
-use bsp_ret::{FaultCode, RetFault, RetFile, RetReader, read_ret, write_ret};
+use bsp_ret::{FaultCode, RetFault, RetFile, RetReader, read_ret};
+use bsp_ret_writer::write_ret;
 use std::alloc::Global;
 
 fn answer_to(fault: RetFault) -> Answer {

@@ -2,15 +2,15 @@
 use Rattle.std.proofs.Common.{◌≡◌, ℕ, suc, ◌+◌, Bool, true, false, List, [], ◌∷◌, ◌++◌, length, Option, Some, None, IfSome, IsSomeAnd, is_some, option_to_list, Ok, refl, sym, ap, subst, ◌∙◌, arith, append_assoc, add-one, append-nil, length-append}
 use Rattle.std.proofs.Math.IntN.{+ℤ_idl}
 use Rattle.std.proofs.lemmas.Option.{IfSome_then}
-use Rattle.bsp_ret.specs.declared.model.FormOfPayment.{FormOfPayment}
-use Rattle.bsp_ret.specs.declared.model.FormOfPayment.TheVariants.{Cash, Credit, Exchange}
-use Rattle.bsp_ret.specs.declared.model.TransactionCode.{TransactionCode}
-use Rattle.bsp_ret.specs.declared.model.TransactionCode.TheVariants.{Tktt, Rfnd, Canx}
+use Rattle.bsp_ret_records.specs.declared.codes.FormOfPayment.{FormOfPayment}
+use Rattle.bsp_ret_records.specs.declared.codes.FormOfPayment.TheVariants.{Cash, Credit, Exchange}
+use Rattle.bsp_ret_records.specs.declared.codes.TransactionCode.{TransactionCode}
+use Rattle.bsp_ret_records.specs.declared.codes.TransactionCode.TheVariants.{Tktt, Rfnd, Canx}
 use Rattle.bsp_ret.specs.declared.model.LastRecord.{LastRecord}
 use Rattle.bsp_ret.specs.declared.model.LastRecord.TheVariants as last
 use Rattle.bsp_ret.specs.declared.model.Standing.{Standing}
 use Rattle.bsp_records.specs.Columns.{identifier}
-use Rattle.bsp_ret.specs.Records.{code_of, sale_fits, related_fits, amounts_fit, form_of}
+use Rattle.bsp_ret_records.specs.Records.{code_of, sale_fits, related_fits, amounts_fit, form_of}
 use Rattle.bsp_ret.specs.Table.{paid, total_paid, standing, is_complete, takes_related, takes_amounts, takes_form, has_form}
 use Rattle.bsp_ret.specs.Standings.{standing_behind}
 use Rattle.bsp_ret.specs.Ret.{Group, File, flatten, lines_of, forms_of, IsRecord, IsForm, IsPaid, HasRelated, HasBody, IsGroup, AreGroups, IsTrailer, Ret}

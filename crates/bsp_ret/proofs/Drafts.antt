@@ -1,13 +1,13 @@
 -- What was read so far, by the last record.
 use Rattle.std.proofs.Common.{◌≡◌, ℕ, suc, ◌+◌, Bool, true, List, [], ◌∷◌, ◌++◌, length, Option, Some, None, IfSome, IsSomeAnd, is_some, option_to_list, refl, sym, ap, subst, ◌∙◌, arith, append-nil, length-append}
 use Rattle.std.proofs.lemmas.Grind.{flat_map-append}
-use Rattle.bsp_ret.specs.declared.model.FormOfPayment.{FormOfPayment}
-use Rattle.bsp_ret.specs.declared.model.FormOfPayment.TheVariants.{Cash, Credit, Exchange}
-use Rattle.bsp_ret.specs.declared.model.TransactionCode.{TransactionCode}
-use Rattle.bsp_ret.specs.declared.model.TransactionCode.TheVariants.{Tktt, Rfnd, Canx}
+use Rattle.bsp_ret_records.specs.declared.codes.FormOfPayment.{FormOfPayment}
+use Rattle.bsp_ret_records.specs.declared.codes.FormOfPayment.TheVariants.{Cash, Credit, Exchange}
+use Rattle.bsp_ret_records.specs.declared.codes.TransactionCode.{TransactionCode}
+use Rattle.bsp_ret_records.specs.declared.codes.TransactionCode.TheVariants.{Tktt, Rfnd, Canx}
 use Rattle.bsp_ret.specs.declared.model.LastRecord.{LastRecord}
 use Rattle.bsp_ret.specs.declared.model.LastRecord.TheVariants as last
-use Rattle.bsp_ret.specs.Records.{code_of, sale_fits, related_fits, amounts_fit}
+use Rattle.bsp_ret_records.specs.Records.{code_of, sale_fits, related_fits, amounts_fit}
 use Rattle.bsp_ret.specs.Table.{has_ended, is_start, is_complete, takes_related, takes_amounts, takes_form, has_form}
 use Rattle.bsp_ret.specs.Ret.{File, flatten, IsHeader, IsRecord, IsForm, IsPaid, HasRelated, IsGroup, AreGroups, Ret}
 use Rattle.bsp_ret.specs.Reading.{Draft, with_group, nothing}

@@ -1,8 +1,8 @@
 -- The forms of payment of a group, as options, against the last record.
 use Rattle.std.proofs.Common.{◌≡◌, ℕ, Bool, true, false, List, ◌++◌, Option, Some, None, IsSome, is_some, option_to_list, refl, inl, inr, ◌⊎◌}
-use Rattle.bsp_ret.specs.declared.model.FormOfPayment.TheVariants.{Cash, Credit, Exchange}
-use Rattle.bsp_ret.specs.declared.model.TransactionCode.{TransactionCode}
-use Rattle.bsp_ret.specs.declared.model.TransactionCode.TheVariants.{Tktt, Rfnd, Canx}
+use Rattle.bsp_ret_records.specs.declared.codes.FormOfPayment.TheVariants.{Cash, Credit, Exchange}
+use Rattle.bsp_ret_records.specs.declared.codes.TransactionCode.{TransactionCode}
+use Rattle.bsp_ret_records.specs.declared.codes.TransactionCode.TheVariants.{Tktt, Rfnd, Canx}
 use Rattle.bsp_ret.specs.declared.model.LastRecord.{LastRecord}
 use Rattle.bsp_ret.specs.declared.model.LastRecord.TheVariants as last
 use Rattle.bsp_ret.specs.Table.{is_complete, has_form, takes_form}

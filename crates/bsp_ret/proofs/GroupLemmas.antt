@@ -4,19 +4,20 @@ use Rattle.std.specs.Prelude.{IfSome, ◌==◌}
 use Rattle.std.specs.Option.{option_to_list}
 use Rattle.std.specs.List.{list_all}
 use Rattle.std.proofs.lemmas.Bool.{and_parts, eqb-true}
-use Rattle.bsp_ret.specs.declared.model.TransactionCode.{TransactionCode}
-use Rattle.bsp_ret.specs.declared.model.FormOfPayment.{FormOfPayment}
-use Rattle.bsp_ret.specs.declared.model.FormOfPayment.TheVariants.{Cash, Credit, Exchange}
+use Rattle.bsp_ret_records.specs.declared.codes.TransactionCode.{TransactionCode}
+use Rattle.bsp_ret_records.specs.declared.codes.FormOfPayment.{FormOfPayment}
+use Rattle.bsp_ret_records.specs.declared.codes.FormOfPayment.TheVariants.{Cash, Credit, Exchange}
 use Rattle.bsp_records.specs.Columns.{identifier, is_wide, is_printable}
-use Rattle.bsp_ret.specs.Records.{code_of, sale_fits, related_fits, amounts_fit, form_of, form_fits}
+use Rattle.bsp_ret_records.specs.Records.{code_of, sale_fits, related_fits, amounts_fit, form_of, form_fits, IsFit}
 use Rattle.bsp_ret.proofs.Wide.{group_at}
 use Rattle.bsp_ret.proofs.BodyLemmas.{BodyFacts, body_facts}
 use Rattle.bsp_ret.specs.Ret.{File, Ret, Group, forms_of, IsRecord, IsForm, HasBody, IsGroup}
-use Rattle.bsp_ret.specs.Groups.{sale_alone, with_form, with_record, with_records, HasRecords, IsFit, AreFit}
-use Rattle.bsp_ret.specs.declared.transactions.Transaction.{Transaction}
+use Rattle.bsp_ret.specs.Groups.{sale_alone, with_form, with_record, with_records, HasRecords, AreFit}
+use Rattle.bsp_ret_records.specs.declared.transactions.Transaction.{Transaction}
 use Rattle.bsp_ret.specs.Content.{IsContent, HasContent}
-use Rattle.bsp_ret.specs.Sales.{IsSale, HasSale}
-use Rattle.bsp_ret.specs.declared.transactions.PaidSale.{PaidSale}
+use Rattle.bsp_ret_records.specs.Values.{IsSale}
+use Rattle.bsp_ret.specs.Sales.{HasSale}
+use Rattle.bsp_ret_records.specs.declared.transactions.PaidSale.{PaidSale}
 use Rattle.bsp_ret.specs.Table.{total_paid}
 use Rattle.bsp_records.specs.Lines.{lines, BeginsOtherwise}
 

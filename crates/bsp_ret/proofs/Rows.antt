@@ -6,16 +6,16 @@ use Rattle.bsp_fields.specs.FirstFault.{first_fault_or}
 use Rattle.bsp_fields.specs.Zoned.{zoned_reading}
 use Rattle.bsp_fields.specs.declared.fault.FieldFault.{FieldFault}
 use Rattle.bsp_fields.proofs.FirstFaultLemmas.{row_passed}
-use Rattle.bsp_ret.specs.declared.model.FormOfPayment.{FormOfPayment}
-use Rattle.bsp_ret.specs.declared.model.TransactionCode.{TransactionCode}
+use Rattle.bsp_ret_records.specs.declared.codes.FormOfPayment.{FormOfPayment}
+use Rattle.bsp_ret_records.specs.declared.codes.TransactionCode.{TransactionCode}
 use Rattle.bsp_ret.specs.declared.model.LastRecord.{LastRecord}
 use Rattle.bsp_ret.specs.declared.model.LastRecord.TheVariants as last
 use Rattle.bsp_ret.specs.declared.model.Standing.{Standing}
 use Rattle.bsp_ret.specs.declared.model.FaultCode.{FaultCode}
 use Rattle.bsp_ret.specs.declared.model.FaultCode.TheVariants.{F01, F02, F03, F04, F05, F06, F07, F09}
-use Rattle.bsp_records.specs.Columns.{columns, identifier, is_wide}
+use Rattle.bsp_records.specs.Columns.{identifier, is_wide}
 use Rattle.bsp_records.specs.Fields.{spells}
-use Rattle.bsp_ret.specs.Records.{is_header, is_production, header_fits, sale_fits, related_fits, amounts_fit, form_of, form_fits, trailer_fits}
+use Rattle.bsp_ret_records.specs.Records.{transaction_number, record_count, transaction_count, total, is_header, is_production, header_fits, sale_fits, related_fits, amounts_fit, form_of, form_fits, trailer_fits}
 use Rattle.bsp_ret.specs.Table.{has_ended, is_start, is_complete, takes_related, takes_amounts, takes_form, has_value, has_counts, has_sum, header_table, trailer_table, later_table, record_table, row_fault}
 use Rattle.bsp_ret.specs.Ret.{IsHeader, IsRecord, IsTrailer}
 
@@ -84,7 +84,7 @@ no_row at line (clean_form p h) =
     rw (q.0, h.wide, q.1, h.name, p, h.number, h.fields) refl
 no_row at line (clean_trailer p h) =
     let q = complete_later at.last at.code at.related p in
-    let s = has_value_of at.sum (zoned_reading 15 (columns 16 30 line)) h.sum_is in
+    let s = has_value_of at.sum (zoned_reading 15 (total line)) h.sum_is in
     rw (q.0, h.wide, q.1, h.name, p, h.fields, h.records_are, h.transactions_are, s) refl
 
 -- ---- and where no row applies
@@ -112,8 +112,8 @@ by_trailer at line wide e =
     let c = kept (has_counts at line) F06 ((not (has_sum at line), F07) ∷ []) b.1 in
     let d = kept (has_sum at line) F07 [] c.1 in
     let name = and_parts (identifier line == 90) (is_complete at.last at.code at.related) a.0 in
-    let counts = and_parts (spells (at.records + 1) (columns 2 8 line)) (spells at.transactions (columns 9 15 line)) c.0 in
-    let sum = value_of at.sum (zoned_reading 15 (columns 16 30 line)) d.0 in
+    let counts = and_parts (spells (at.records + 1) (record_count line)) (spells at.transactions (transaction_count line)) c.0 in
+    let sum = value_of at.sum (zoned_reading 15 (total line)) d.0 in
     clean_trailer name.1 (record { wide = wide; name = eqb-true _ _ name.0; fields = b.0; records_are = counts.0; transactions_are = counts.1; sum_is = sum })
 
 -- a record whose place and number are allowed, and whose fields fit
@@ -128,19 +128,19 @@ by_later_table : (at : Standing) (line : List ℕ) → is_wide line ≡ true →
 by_later_table at line wide e =
     elim (cases_Bool (identifier line == 50)) [
       | inl k ↦
-          let a = passed (is_complete at.last at.code at.related) (spells (at.transactions + 1) (columns 2 7 line)) (sale_fits line) (rw k at e) in
+          let a = passed (is_complete at.last at.code at.related) (spells (at.transactions + 1) (transaction_number line)) (sale_fits line) (rw k at e) in
           clean_sale a.0 (record { wide = wide; name = eqb-true _ _ k; number = a.1; fields = a.2 })
       | inr k ↦ elim (cases_Bool (identifier line == 51)) [
         | inl r ↦
-            let a = passed (takes_related at.last at.code) (spells at.transactions (columns 2 7 line)) (related_fits line) (rw (k, r) at e) in
+            let a = passed (takes_related at.last at.code) (spells at.transactions (transaction_number line)) (related_fits line) (rw (k, r) at e) in
             clean_related a.0 (record { wide = wide; name = eqb-true _ _ r; number = a.1; fields = a.2 })
         | inr r ↦ elim (cases_Bool (identifier line == 53)) [
           | inl m ↦
-              let a = passed (takes_amounts at.last at.code) (spells at.transactions (columns 2 7 line)) (amounts_fit line) (rw (k, r, m) at e) in
+              let a = passed (takes_amounts at.last at.code) (spells at.transactions (transaction_number line)) (amounts_fit line) (rw (k, r, m) at e) in
               clean_amounts a.0 (record { wide = wide; name = eqb-true _ _ m; number = a.1; fields = a.2 })
           | inr m ↦ elim (cases_Bool (identifier line == 56)) [
             | inl n ↦
-                let a = passed (takes_form at.last at.code at.related (form_of line)) (spells at.transactions (columns 2 7 line)) (form_fits line) (rw (k, r, m, n) at e) in
+                let a = passed (takes_form at.last at.code at.related (form_of line)) (spells at.transactions (transaction_number line)) (form_fits line) (rw (k, r, m, n) at e) in
                 clean_form a.0 (record { wide = wide; name = eqb-true _ _ n; number = a.1; fields = a.2 })
             | inr n ↦ by_trailer at line wide (rw (k, r, m, n) at e)
           ]

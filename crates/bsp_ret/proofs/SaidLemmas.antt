@@ -10,27 +10,13 @@ use Rattle.bsp_records.specs.Columns.{columns, identifier, is_space, is_wide}
 use Rattle.bsp_records.specs.Fields.{is_amount}
 use Rattle.bsp_ret.specs.declared.model.FaultCode.{FaultCode}
 use Rattle.bsp_ret.specs.declared.model.FaultCode.TheVariants.{F01, F02, F04, F05, F09}
-use Rattle.bsp_ret.specs.declared.model.FormOfPayment.{FormOfPayment}
+use Rattle.bsp_ret_records.specs.declared.codes.FormOfPayment.{FormOfPayment}
 use Rattle.bsp_ret.specs.declared.model.Record.{Record}
 use Rattle.bsp_ret.specs.declared.model.Record.TheVariants as said
 use Rattle.bsp_ret.specs.declared.model.Standing.{Standing}
-use Rattle.bsp_ret.specs.Records.{is_header, is_production, header_fits, form_of, vendor_fits, form_fits, record_in}
+use Rattle.bsp_ret_records.specs.Records.{is_header, is_production, header_fits, form_of, vendor_fits, form_fits}
+use Rattle.bsp_ret.specs.Said.{record_in}
 use Rattle.bsp_ret.specs.Table.{paid, has_ended, header_table, trailer_table, later_table, record_table, row_fault}
-
--- a record 8 of no known form does not fit
-pub no_form : (line : List ℕ) → form_of line ≡ None → form_fits line ≡ false
-unfolding form_fits
-no_form line none = rw none refl
-
--- a record 8 with another vendor, or with a character behind its fields
-pub other_vendor : (line : List ℕ) (form : FormOfPayment) → form_of line ≡ Some form → vendor_fits (Some form) (columns 21 22 line) ≡ false → form_fits line ≡ false
-unfolding form_fits
-other_vendor line form is other = rw (is, other) refl
-
-pub no_spaces : (line : List ℕ) → list_all is_space (columns 23 136 line) ≡ false → form_fits line ≡ false
-unfolding form_fits
-no_spaces line other =
-    and_right (vendor_fits (form_of line) (columns 21 22 line) && is_amount (columns 10 20 line)) (list_all is_space (columns 23 136 line)) other
 
 -- what a record adds to the sum of the forms, from what it says
 abbrev pub paid_by : Record → ℤ

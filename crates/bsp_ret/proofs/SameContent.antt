@@ -1,16 +1,18 @@
 -- Lines have one content.
 use Rattle.std.proofs.Common.{◌≡◌, ℕ, List, [], ◌∷◌, refl, sym, ap, ◌∙◌, subst, Option, None, Some, Ok, ℤ, Result}
 use Rattle.bsp_fields.specs.CivilDay.{CivilDay}
-use Rattle.bsp_ret.specs.declared.model.TransactionCode.{TransactionCode}
-use Rattle.bsp_ret.specs.declared.transactions.ReportedDocument.{ReportedDocument}
-use Rattle.bsp_ret.specs.declared.transactions.Tax.{Tax}
-use Rattle.bsp_ret.specs.declared.transactions.Amounts.{Amounts}
-use Rattle.bsp_ret.specs.declared.transactions.CardPayment.{CardPayment}
-use Rattle.bsp_ret.specs.declared.transactions.Transaction.{Transaction}
+use Rattle.bsp_ret_records.specs.declared.codes.TransactionCode.{TransactionCode}
+use Rattle.bsp_ret_records.specs.declared.transactions.ReportedDocument.{ReportedDocument}
+use Rattle.bsp_ret_records.specs.declared.transactions.Tax.{Tax}
+use Rattle.bsp_ret_records.specs.declared.transactions.Amounts.{Amounts}
+use Rattle.bsp_ret_records.specs.declared.transactions.CardPayment.{CardPayment}
+use Rattle.bsp_ret_records.specs.declared.transactions.Transaction.{Transaction}
 use Rattle.bsp_records.specs.Taxes.{tax_places}
+use Rattle.bsp_ret_records.specs.Records.{document, related_document}
 use Rattle.bsp_ret.specs.Ret.{Group, HasBody}
-use Rattle.bsp_ret.specs.Content.{InBoth, IsDocument, HasRelatedValues, IsTax, AreTaxes, AreAmounts, IsPayment, IsCardPayment, IsContent, HasContent}
-use Rattle.bsp_ret.proofs.ReadLemmas.{no_tax}
+use Rattle.bsp_ret.specs.Content.{InBoth, HasRelatedValues, IsContent, HasContent}
+use Rattle.bsp_ret_records.specs.Values.{IsDocument, IsRelated, IsTax, AreTaxes, AreAmounts, IsPayment, IsCardPayment}
+use Rattle.bsp_ret_records.proofs.ReadLemmas.{no_tax}
 use Rattle.bsp_ret.proofs.BodyLemmas.{BodyFacts, body_facts}
 use Rattle.bsp_ret.proofs.SameGroup.{same_group}
 
@@ -38,8 +40,8 @@ document_is : (d : ReportedDocument) → d ≡ document_from d.airline d.number 
 unfolding document_from
 document_is d = refl
 
-same_document : (from : ℕ) (line : List ℕ) (d e : ReportedDocument) → IsDocument from line d → IsDocument from line e → d ≡ e
-same_document from line d e first second =
+same_document : (text : List ℕ) (d e : ReportedDocument) → IsDocument text d → IsDocument text e → d ≡ e
+same_document text d e first second =
     let airline : d.airline ≡ e.airline = same_value _ d.airline e.airline first.airline second.airline in
     let number : d.number ≡ e.number = first.number ∙ sym second.number in
     let check : d.check_digit ≡ e.check_digit = sym first.check_digit ∙ second.check_digit in
@@ -50,7 +52,7 @@ same_related : (line : Option (List ℕ)) (places others : List (Option Reported
 same_related line [] others first second = absurd first
 same_related line (d ∷ ds) [] first second = absurd second
 same_related line (d ∷ ds) (e ∷ es) first second =
-    rw (in_both (IsDocument 8) (same_document 8) line d e first.0 second.0, first.1, second.1) refl
+    rw (in_both IsRelated (λ line. same_document (related_document line)) line d e first.0 second.0, first.1, second.1) refl
 
 -- ---- taxes and amounts
 
@@ -139,7 +141,7 @@ same_content : (g : Group) (t u : Transaction) → IsContent g t → IsContent g
 same_content g t u first second =
     let code : t.code ≡ u.code = same_some _ t.code u.code first.code second.code in
     let agent : t.agent ≡ u.agent = first.agent ∙ sym second.agent in
-    let document : t.document ≡ u.document = same_document 20 g.sale t.document u.document first.document second.document in
+    let document_is : t.document ≡ u.document = same_document (document g.sale) t.document u.document first.document second.document in
     let issued : t.issued ≡ u.issued = same_value _ t.issued u.issued first.issued second.issued in
     let passenger : t.passenger ≡ u.passenger = first.passenger ∙ sym second.passenger in
     let related : t.related ≡ u.related = same_related g.related t.related u.related first.related second.related in
@@ -147,7 +149,7 @@ same_content g t u first second =
     let cash : t.cash ≡ u.cash = in_both IsPayment same_payment g.cash t.cash u.cash first.cash second.cash in
     let credit : t.credit ≡ u.credit = in_both IsCardPayment same_card g.credit t.credit u.credit first.credit second.credit in
     let exchange : t.exchange ≡ u.exchange = in_both IsPayment same_payment g.exchange t.exchange u.exchange first.exchange second.exchange in
-    let parts : values_from t.code t.agent t.document t.issued t.passenger t.related t.amounts t.cash t.credit t.exchange ≡ values_from u.code u.agent u.document u.issued u.passenger u.related u.amounts u.cash u.credit u.exchange = rw (code, agent, document, issued, passenger, related, amounts, cash, credit, exchange) refl in
+    let parts : values_from t.code t.agent t.document t.issued t.passenger t.related t.amounts t.cash t.credit t.exchange ≡ values_from u.code u.agent u.document u.issued u.passenger u.related u.amounts u.cash u.credit u.exchange = rw (code, agent, document_is, issued, passenger, related, amounts, cash, credit, exchange) refl in
     values_are t ∙ parts ∙ sym (values_are u)
 
 pub has_body_facts : (n : ℕ) (lines : List (List ℕ)) (t : Transaction) (has : HasContent n lines t) → BodyFacts n has.is.group

@@ -4,11 +4,12 @@ use Rattle.std.specs.Prelude.{◌==◌, IfSome}
 use Rattle.std.specs.Option.{option_to_list}
 use Rattle.std.specs.List.{find}
 use Rattle.std.proofs.lemmas.List.{append-nil}
-use Rattle.bsp_ret.specs.declared.model.FormOfPayment.{FormOfPayment}
-use Rattle.bsp_ret.specs.declared.model.FormOfPayment.TheVariants.{Cash, Credit, Exchange}
+use Rattle.bsp_ret_records.specs.declared.codes.FormOfPayment.{FormOfPayment}
+use Rattle.bsp_ret_records.specs.declared.codes.FormOfPayment.TheVariants.{Cash, Credit, Exchange}
 use Rattle.bsp_ret.specs.declared.model.LastRecord.{LastRecord}
 use Rattle.bsp_ret.specs.declared.model.LastRecord.TheVariants.{Related, Amounts, Form}
-use Rattle.bsp_ret.specs.Records.{record_in, related_fits, amounts_fit}
+use Rattle.bsp_ret.specs.Said.{record_in}
+use Rattle.bsp_ret_records.specs.Records.{related_fits, amounts_fit}
 use Rattle.bsp_ret.specs.Table.{kind_of}
 use Rattle.bsp_ret.specs.Ret.{Group, IsRecord, IsForm, lines_of}
 use Rattle.bsp_ret.proofs.BodyLemmas.{BodyFacts}

@@ -2,16 +2,17 @@
 use Rattle.std.proofs.Common.{◌≡◌, ℕ, ◌+◌, Bool, true, false, cond, List, [], ◌∷◌, ◌++◌, length, Option, Some, None, IfSome, is_some, option_to_list, Result, Ok, Err, refl, sym, ap, subst, ◌∙◌, arith, append_assoc, append-nil, length-append}
 use Rattle.std.proofs.Math.IntN.{+ℤ_idl}
 use Rattle.std.proofs.lemmas.Bool.{and_parts}
-use Rattle.bsp_ret.specs.declared.model.FormOfPayment.{FormOfPayment}
-use Rattle.bsp_ret.specs.declared.model.FormOfPayment.TheVariants.{Cash, Credit, Exchange}
-use Rattle.bsp_ret.specs.declared.model.TransactionCode.{TransactionCode}
+use Rattle.bsp_ret_records.specs.declared.codes.FormOfPayment.{FormOfPayment}
+use Rattle.bsp_ret_records.specs.declared.codes.FormOfPayment.TheVariants.{Cash, Credit, Exchange}
+use Rattle.bsp_ret_records.specs.declared.codes.TransactionCode.{TransactionCode}
 use Rattle.bsp_ret.specs.declared.model.LastRecord.{LastRecord}
 use Rattle.bsp_ret.specs.declared.model.LastRecord.TheVariants as last
 use Rattle.bsp_ret.specs.declared.model.FaultCode.{FaultCode}
 use Rattle.bsp_ret.specs.declared.model.RetFault.{RetFault}
 use Rattle.bsp_ret.specs.declared.model.Standing.{Standing}
 use Rattle.bsp_records.specs.Columns.{columns, identifier}
-use Rattle.bsp_ret.specs.Records.{vendor_fits, code_of, sale_fits, related_fits, amounts_fit, form_of, form_fits}
+use Rattle.bsp_ret_records.specs.Records.{vendor, vendor_fits, code_of, sale_fits, related_fits, amounts_fit, form_of, form_fits}
+use Rattle.bsp_ret_records.proofs.ReadLemmas.{sale_fields}
 use Rattle.bsp_ret.specs.Table.{total_paid, standing, has_ended, takes_form, has_form, row_fault}
 use Rattle.bsp_ret.specs.Standings.{standing_behind}
 use Rattle.bsp_ret.specs.Ret.{File, flatten, IsHeader, IsRecord, IsForm, IsTrailer, Ret}
@@ -29,8 +30,7 @@ known None h = absurd cc
 known (Some x) h = (x, refl)
 
 sale_known : (line : List ℕ) → sale_fits line ≡ true → (code : TransactionCode) × (code_of line ≡ Some code)
-unfolding sale_fits
-sale_known line h = known (code_of line) (and_parts (is_some (code_of line)) _ (and_parts _ _ (and_parts _ _ h).0).0).0
+sale_known line h = known (code_of line) (sale_fields line h).code
 
 vendor_known : (form : Option FormOfPayment) (text : List ℕ) → vendor_fits form text ≡ true → (kind : FormOfPayment) × (form ≡ Some kind)
 vendor_known None text h = absurd cc
@@ -38,7 +38,7 @@ vendor_known (Some kind) text h = (kind, refl)
 
 pub form_known : (line : List ℕ) → form_fits line ≡ true → (kind : FormOfPayment) × (form_of line ≡ Some kind)
 unfolding form_fits
-form_known line h = vendor_known (form_of line) (columns 21 22 line) (and_parts _ _ (and_parts _ _ h).0).0
+form_known line h = vendor_known (form_of line) (vendor line) (and_parts _ _ (and_parts _ _ h).0).0
 
 -- a record 2 closes the last group and begins one
 base_sale : (before : List (List ℕ)) (n : ℕ) (d : Draft) (line : List ℕ) → Whole n before d → Base (before ++ line ∷ []) (n + 1) d.header (with_group d.closed d.latest) (line ∷ [])

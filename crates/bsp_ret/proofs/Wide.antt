@@ -4,11 +4,11 @@ use Rattle.std.specs.List.{list_all}
 use Rattle.std.proofs.lemmas.Bool.{and_from}
 use Rattle.std.proofs.lemmas.List.Folds.{list_all-append}
 use Rattle.std.proofs.lemmas.Option.{IfSome_then}
-use Rattle.bsp_ret.specs.declared.model.FormOfPayment.{FormOfPayment}
-use Rattle.bsp_ret.specs.declared.model.TransactionCode.{TransactionCode}
-use Rattle.bsp_ret.specs.declared.model.TransactionCode.TheVariants.{Tktt, Rfnd, Canx}
+use Rattle.bsp_ret_records.specs.declared.codes.FormOfPayment.{FormOfPayment}
+use Rattle.bsp_ret_records.specs.declared.codes.TransactionCode.{TransactionCode}
+use Rattle.bsp_ret_records.specs.declared.codes.TransactionCode.TheVariants.{Tktt, Rfnd, Canx}
 use Rattle.bsp_records.specs.Columns.{is_wide}
-use Rattle.bsp_ret.specs.Records.{code_of, related_fits, amounts_fit}
+use Rattle.bsp_ret_records.specs.Records.{code_of, related_fits, amounts_fit}
 use Rattle.bsp_ret.specs.Ret.{Group, File, flatten, forms_of, IsRecord, IsForm, IsPaid, HasRelated, HasBody, IsGroup, AreGroups, Ret}
 
 abbrev AllWide : List (List ℕ) → Type 0

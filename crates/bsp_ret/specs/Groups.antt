@@ -1,11 +1,11 @@
 -- The records of a group, from its lines.
-use Rattle.std.specs.Prelude.{◌≡◌, ◌==◌, ℕ, Bool, true, List, [], ◌∷◌, length, Option, Some, None, IfSome, if◌then◌else◌}
+use Rattle.std.specs.Prelude.{◌≡◌, ◌==◌, ℕ, List, [], ◌∷◌, Option, Some, None, IfSome, if◌then◌else◌}
 use Rattle.std.specs.Option.{option_copied}
-use Rattle.bsp_ret.specs.declared.model.FormOfPayment.{FormOfPayment}
-use Rattle.bsp_ret.specs.declared.model.FormOfPayment.TheVariants.{Cash, Credit, Exchange}
+use Rattle.bsp_ret_records.specs.declared.codes.FormOfPayment.{FormOfPayment}
+use Rattle.bsp_ret_records.specs.declared.codes.FormOfPayment.TheVariants.{Cash, Credit, Exchange}
 use Rattle.bsp_ret.specs.declared.records.Records.{Records}
 use Rattle.bsp_records.specs.Columns.{identifier}
-use Rattle.bsp_ret.specs.Records.{sale_fits, related_fits, amounts_fit, form_of, form_fits}
+use Rattle.bsp_ret_records.specs.Records.{IsFit, sale_fits, related_fits, amounts_fit, form_of, form_fits}
 use Rattle.bsp_ret.specs.Ret.{Group, IsGroup}
 
 -- what slices point to
@@ -44,10 +44,7 @@ pub record HasRecords (n : ℕ) (lines : List (List ℕ)) (g : Group) : Type 0 w
   pub is : IsGroup n lines
   pub group_is : is.group ≡ g
 
--- a record of its width, whose fields fit
-abbrev pub IsFit : (List ℕ → Bool) → List ℕ → Type 0
-IsFit fits line = (length line ≡ 136) × (fits line ≡ true)
-
+-- the fields of each record fit
 pub record AreFit (g : Group) : Type 0 where
   pub sale : IsFit sale_fits g.sale
   pub related : IfSome g.related (IsFit related_fits)

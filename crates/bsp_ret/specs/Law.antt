@@ -1,7 +1,7 @@
 -- What the fault table has to do with the files, and groups with values.
 use Rattle.std.specs.Prelude.{◌≡◌, ℕ, List, None}
 use Rattle.bsp_ret.specs.Table.{first_fault}
-use Rattle.bsp_ret.specs.declared.transactions.Transaction.{Transaction}
+use Rattle.bsp_ret_records.specs.declared.transactions.Transaction.{Transaction}
 use Rattle.bsp_ret.specs.Ret.{File, Ret}
 use Rattle.bsp_ret.specs.Content.{HasContent}
 

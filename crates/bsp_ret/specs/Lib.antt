@@ -1,5 +1,5 @@
 -- What the contracts of RET files cite.
-pub mod Records
+pub mod Said
 pub mod Table
 pub mod Standings
 pub mod Ret
@@ -10,6 +10,4 @@ pub mod Pieces
 pub mod Groups
 pub mod Content
 pub mod Sales
-pub mod Stored
 pub mod Texts
-pub mod Writing

@@ -3,13 +3,13 @@ use Rattle.std.specs.Prelude.{◌≡◌, ℕ, ℤ, suc, Bool, true, List, [], �
 use Rattle.std.specs.Option.{option_to_list, IsSomeAnd}
 use Rattle.std.specs.List.{flat_map}
 use Rattle.bsp_fields.specs.Zoned.{zoned_reading}
-use Rattle.bsp_ret.specs.declared.model.TransactionCode.{TransactionCode}
-use Rattle.bsp_ret.specs.declared.model.TransactionCode.TheVariants.{Tktt, Rfnd, Canx}
-use Rattle.bsp_ret.specs.declared.model.FormOfPayment.{FormOfPayment}
-use Rattle.bsp_ret.specs.declared.model.FormOfPayment.TheVariants.{Cash, Credit, Exchange}
-use Rattle.bsp_records.specs.Columns.{columns, identifier, is_wide}
+use Rattle.bsp_ret_records.specs.declared.codes.TransactionCode.{TransactionCode}
+use Rattle.bsp_ret_records.specs.declared.codes.TransactionCode.TheVariants.{Tktt, Rfnd, Canx}
+use Rattle.bsp_ret_records.specs.declared.codes.FormOfPayment.{FormOfPayment}
+use Rattle.bsp_ret_records.specs.declared.codes.FormOfPayment.TheVariants.{Cash, Credit, Exchange}
+use Rattle.bsp_records.specs.Columns.{identifier, is_wide}
 use Rattle.bsp_records.specs.Fields.{spells}
-use Rattle.bsp_ret.specs.Records.{is_header, is_production, header_fits, code_of, sale_fits, related_fits, amounts_fit, form_of, form_fits, trailer_fits}
+use Rattle.bsp_ret_records.specs.Records.{transaction_number, record_count, transaction_count, total, is_header, is_production, header_fits, code_of, sale_fits, related_fits, amounts_fit, form_of, form_fits, trailer_fits}
 use Rattle.bsp_ret.specs.Table.{total_paid}
 
 -- a transaction's records; of the forms each stands once at most
@@ -37,6 +37,10 @@ lines_of g = g.sale ∷ (option_to_list g.related ++ (option_to_list g.amounts +
 abbrev pub flatten : List (List (List ℕ)) → List (List ℕ)
 flatten groups = flat_map (λ group. group) groups
 
+-- the lines of a file, in their order
+abbrev pub file_lines : File → List (List ℕ)
+file_lines file = file.header ∷ (flatten file.groups ++ file.trailer ∷ [])
+
 pub record IsHeader (line : List ℕ) : Type 0 where
   pub wide : is_wide line ≡ true
   pub begins : is_header line ≡ true
@@ -47,7 +51,7 @@ pub record IsHeader (line : List ℕ) : Type 0 where
 pub record IsRecord (letter n : ℕ) (fits : List ℕ → Bool) (line : List ℕ) : Type 0 where
   pub wide : is_wide line ≡ true
   pub name : identifier line ≡ letter
-  pub number : spells n (columns 2 7 line) ≡ true
+  pub number : spells n (transaction_number line) ≡ true
   pub fields : fits line ≡ true
 
 pub record IsForm (n : ℕ) (kind : FormOfPayment) (line : List ℕ) : Type 0 where
@@ -93,13 +97,13 @@ pub record IsTrailer (records transactions : ℕ) (sum : ℤ) (line : List ℕ) 
   pub wide : is_wide line ≡ true
   pub name : identifier line ≡ 90
   pub fields : trailer_fits line ≡ true
-  pub records_are : spells records (columns 2 8 line) ≡ true
-  pub transactions_are : spells transactions (columns 9 15 line) ≡ true
-  pub sum_is : zoned_reading 15 (columns 16 30 line) ≡ Ok sum
+  pub records_are : spells records (record_count line) ≡ true
+  pub transactions_are : spells transactions (transaction_count line) ≡ true
+  pub sum_is : zoned_reading 15 (total line) ≡ Ok sum
 
 -- the lines are a header, for each transaction in order the lines of its group, and a trailer with the counts and the sum of all forms
 pub record Ret (lines : List (List ℕ)) (file : File) : Type 0 where
-  pub lines_are : lines ≡ file.header ∷ (flatten file.groups ++ file.trailer ∷ [])
+  pub lines_are : lines ≡ file_lines file
   pub header : IsHeader file.header
   pub groups : AreGroups 1 file.groups
   pub trailer : IsTrailer (length lines) (length file.groups) (total_paid (flatten file.groups)) file.trailer

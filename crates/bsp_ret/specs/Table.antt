@@ -5,10 +5,10 @@ use Rattle.std.specs.Ordering.{int_eq}
 use Rattle.bsp_fields.specs.FirstFault.{first_fault_or}
 use Rattle.bsp_fields.specs.Zoned.{zoned_reading}
 use Rattle.bsp_fields.specs.declared.fault.FieldFault.{FieldFault}
-use Rattle.bsp_ret.specs.declared.model.TransactionCode.{TransactionCode}
-use Rattle.bsp_ret.specs.declared.model.TransactionCode.TheVariants.{Tktt, Rfnd, Canx}
-use Rattle.bsp_ret.specs.declared.model.FormOfPayment.{FormOfPayment}
-use Rattle.bsp_ret.specs.declared.model.FormOfPayment.TheVariants.{Cash, Credit, Exchange}
+use Rattle.bsp_ret_records.specs.declared.codes.TransactionCode.{TransactionCode}
+use Rattle.bsp_ret_records.specs.declared.codes.TransactionCode.TheVariants.{Tktt, Rfnd, Canx}
+use Rattle.bsp_ret_records.specs.declared.codes.FormOfPayment.{FormOfPayment}
+use Rattle.bsp_ret_records.specs.declared.codes.FormOfPayment.TheVariants.{Cash, Credit, Exchange}
 use Rattle.bsp_ret.specs.declared.model.Record.{Record}
 use Rattle.bsp_ret.specs.declared.model.Record.TheVariants as said
 use Rattle.bsp_ret.specs.declared.model.LastRecord.{LastRecord}
@@ -17,9 +17,10 @@ use Rattle.bsp_ret.specs.declared.model.Standing.{Standing}
 use Rattle.bsp_ret.specs.declared.model.FaultCode.{FaultCode}
 use Rattle.bsp_ret.specs.declared.model.FaultCode.TheVariants.{F01, F02, F03, F04, F05, F06, F07, F08, F09}
 use Rattle.bsp_ret.specs.declared.model.RetFault.{RetFault}
-use Rattle.bsp_records.specs.Columns.{columns, identifier, is_wide}
+use Rattle.bsp_records.specs.Columns.{identifier, is_wide}
 use Rattle.bsp_records.specs.Fields.{spells}
-use Rattle.bsp_ret.specs.Records.{is_header, is_production, header_fits, code_of, sale_fits, related_fits, amounts_fit, form_of, form_fits, form_amount, trailer_fits, record_in}
+use Rattle.bsp_ret_records.specs.Records.{transaction_number, record_count, transaction_count, total, is_header, is_production, header_fits, code_of, sale_fits, related_fits, amounts_fit, form_of, form_fits, form_amount, trailer_fits}
+use Rattle.bsp_ret.specs.Said.{record_in}
 
 -- ---- kinds of records
 
@@ -139,10 +140,10 @@ has_value v (Ok w) = int_eq w v
 has_value v (Err fault) = false
 
 abbrev pub has_counts : Standing → List ℕ → Bool
-has_counts at line = spells (at.records + 1) (columns 2 8 line) && spells at.transactions (columns 9 15 line)
+has_counts at line = spells (at.records + 1) (record_count line) && spells at.transactions (transaction_count line)
 
 abbrev pub has_sum : Standing → List ℕ → Bool
-has_sum at line = has_value at.sum (zoned_reading 15 (columns 16 30 line))
+has_sum at line = has_value at.sum (zoned_reading 15 (total line))
 
 -- ---- the tables of the records, each behind lines that stand so
 
@@ -151,20 +152,20 @@ header_table line = (not (is_header line), F02) ∷ (not (is_production line), F
 
 abbrev pub sale_table : Standing → List ℕ → List (Bool × FaultCode)
 sale_table at line =
-    (not (is_complete at.last at.code at.related && spells (at.transactions + 1) (columns 2 7 line)), F03)
+    (not (is_complete at.last at.code at.related && spells (at.transactions + 1) (transaction_number line)), F03)
     ∷ (not (sale_fits line), F05) ∷ []
 
 abbrev pub related_table : Standing → List ℕ → List (Bool × FaultCode)
 related_table at line =
-    (not (takes_related at.last at.code && spells at.transactions (columns 2 7 line)), F03) ∷ (not (related_fits line), F05) ∷ []
+    (not (takes_related at.last at.code && spells at.transactions (transaction_number line)), F03) ∷ (not (related_fits line), F05) ∷ []
 
 abbrev pub amounts_table : Standing → List ℕ → List (Bool × FaultCode)
 amounts_table at line =
-    (not (takes_amounts at.last at.code && spells at.transactions (columns 2 7 line)), F03) ∷ (not (amounts_fit line), F05) ∷ []
+    (not (takes_amounts at.last at.code && spells at.transactions (transaction_number line)), F03) ∷ (not (amounts_fit line), F05) ∷ []
 
 abbrev pub form_table : Standing → List ℕ → List (Bool × FaultCode)
 form_table at line =
-    (not (takes_form at.last at.code at.related (form_of line) && spells at.transactions (columns 2 7 line)), F03)
+    (not (takes_form at.last at.code at.related (form_of line) && spells at.transactions (transaction_number line)), F03)
     ∷ (not (form_fits line), F05) ∷ []
 
 -- of a trailer, and of a record that is none of these

@@ -1,14 +1,7 @@
--- Codes as text.
+-- Fault codes as text.
 use Rattle.std.specs.Prelude.{ℕ, List, codes}
-use Rattle.bsp_ret.specs.declared.model.TransactionCode.{TransactionCode}
-use Rattle.bsp_ret.specs.declared.model.TransactionCode.TheVariants.{Tktt, Rfnd, Canx}
 use Rattle.bsp_ret.specs.declared.model.FaultCode.{FaultCode}
 use Rattle.bsp_ret.specs.declared.model.FaultCode.TheVariants.{F01, F02, F03, F04, F05, F06, F07, F08, F09, F10}
-
-abbrev pub code_text : TransactionCode → List ℕ
-code_text Tktt = codes "TKTT"
-code_text Rfnd = codes "RFND"
-code_text Canx = codes "CANX"
 
 abbrev pub fault_text : FaultCode → List ℕ
 fault_text F01 = codes "F01"

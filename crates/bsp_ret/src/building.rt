@@ -2,7 +2,7 @@
 
 ghost use Rattle.std.specs.Prelude.{◌≡◌, ◌≤◌, ◌+◌, ◌*◌, ◌^◌, pos, unsigned_abs, OnOk, OnErr, Err};
 ghost use Rattle.bsp_records.specs.Lines.{lines, before_rest, HasFirstLine};
-ghost use Rattle.bsp_ret.specs.Records.{record_in};
+ghost use Rattle.bsp_ret.specs.Said.{record_in};
 ghost use Rattle.bsp_ret.specs.Table.{total_paid};
 ghost use Rattle.bsp_ret.specs.Reading.{no_memory, nothing, add, with_group};
 

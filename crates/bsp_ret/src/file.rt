@@ -4,17 +4,17 @@ ghost use Rattle.std.specs.Prelude.{◌≡◌, ◌+◌, ◌<◌, ◌≤◌, List
 ghost use Rattle.std.specs.List.{list_all};
 ghost use Rattle.bsp_records.specs.Lines.{lines};
 ghost use Rattle.bsp_records.specs.Columns.{is_wide};
-ghost use Rattle.bsp_ret.specs.Records.{sale_fits, trailer_fits};
+ghost use Rattle.bsp_ret_records.specs.Records.{sale_fits, trailer_fits, IsFit};
 ghost use Rattle.bsp_ret.specs.Table.{total_paid};
-ghost use Rattle.bsp_ret.specs.Sales.{IsSale, HasSale};
-ghost use Rattle.bsp_ret.specs.Groups.{records_of, sale_alone, with_records, HasRecords, IsFit};
+ghost use Rattle.bsp_ret_records.specs.Values.{IsSale};
+ghost use Rattle.bsp_ret.specs.Sales.{HasSale};
+ghost use Rattle.bsp_ret.specs.Groups.{records_of, sale_alone, with_records, HasRecords};
 
 use crate::building::Building;
 use crate::records::Records;
-use crate::transactions::PaidSale;
-use crate::values::{sale_values, trailer_records, trailer_sum};
 use bsp_fields::Total;
 use bsp_records::first_record;
+use bsp_ret_records::{PaidSale, sale_values, told_records, told_sum};
 use std::marker::Model;
 
 /// The lines of a transaction, as they are in the text, and the sum of its forms in minor units. A
@@ -94,9 +94,8 @@ impl<'a> Group<'a> {
 
 impl<'a> RetFile<'a> {
     ghost use Rattle.bsp_ret.specs.Building.{file_of};
-    ghost use Rattle.bsp_ret.specs.Ret.{HasLines, flatten};
+    ghost use Rattle.bsp_ret.specs.Ret.{HasLines, flatten, file_lines};
     ghost use Rattle.bsp_ret.specs.Table.{total_paid};
-    ghost use Rattle.bsp_ret.specs.Writing.{file_lines};
 
     /// The file of what was read to the end.
     pub(crate) fn of(building: Building<'a>) -> RetFile<'a>
@@ -111,7 +110,7 @@ impl<'a> RetFile<'a> {
     }
 
     /// Record 1.
-    pub(crate) fn header_line(&self) -> &'a [u8]
+    pub fn header_line(&self) -> &'a [u8]
         ensures value { result.now ≡ self.now.header }
         ensures stands { HasLines self.now }
     {
@@ -119,7 +118,7 @@ impl<'a> RetFile<'a> {
     }
 
     /// Record Z.
-    pub(crate) fn trailer_line(&self) -> &'a [u8]
+    pub fn trailer_line(&self) -> &'a [u8]
         ensures value { result.now ≡ self.now.trailer }
         ensures fits { IsFit trailer_fits result.now }
         ensures stands { HasLines self.now }
@@ -158,13 +157,13 @@ impl<'a> RetFile<'a> {
     pub fn record_count(&self) -> usize
         ensures { result ≡ length (file_lines self.now) }
     {
-        trailer_records(self.trailer_line())
+        told_records(self.trailer_line())
     }
 
     /// The sum of all forms of payment, in minor units.
     pub fn sum(&self) -> Total
         ensures { result ≡ total_paid (flatten self.now.groups) }
     {
-        trailer_sum(self.trailer_line())
+        told_sum(self.trailer_line())
     }
 }

@@ -3,16 +3,16 @@
 ghost use Rattle.std.specs.Prelude.{◌≡◌, ◌^◌, ◌<◌, ◌≤◌, length, true, false, Ok, Err, IfOk, IfErr};
 ghost use Rattle.bsp_fields.specs.FirstFault.{first_fault_or};
 ghost use Rattle.bsp_records.specs.Columns.{identifier, is_wide};
-ghost use Rattle.bsp_ret.specs.Records.{record_in};
+ghost use Rattle.bsp_ret_records.specs.Records.{IsFit, trailer_fits};
+ghost use Rattle.bsp_ret.specs.Said.{record_in};
 ghost use Rattle.bsp_ret.specs.Table.{has_ended, has_counts, has_sum, header_table, sale_table, related_table, amounts_table, form_table, trailer_table, later_table, record_table, row_fault};
 
-use crate::fields::{
-    amounts_fit, form_of, header_fits, is_header, is_production, payment, related_fits, sale_code,
-    trailer_fits,
-};
 use crate::model::{FaultCode, Record, Standing};
-use bsp_fields::read_total;
 use bsp_records::{is_wide, spells};
+use bsp_ret_records::{
+    amounts_fit, form_of, header_fits, is_header, is_production, paid_amount, record_count,
+    related_fits, sale_code, told_sum, trailer_fits, transaction_count, transaction_number,
+};
 
 /// Whether a trailer has the numbers of the records and the transactions.
 fn has_counts(at: Standing, line: &[u8]) -> bool
@@ -20,18 +20,15 @@ fn has_counts(at: Standing, line: &[u8]) -> bool
     requires room { at.records < 2 ^ 63 }
     ensures { result ≡ has_counts at line.now }
 {
-    spells(at.records + 1, &line[1..8]) && spells(at.transactions, &line[8..15])
+    spells(at.records + 1, record_count(line)) && spells(at.transactions, transaction_count(line))
 }
 
-/// Whether a trailer has the sum of the forms.
+/// Whether a trailer whose fields fit has the sum of the forms.
 fn has_sum(at: Standing, line: &[u8]) -> bool
-    requires { length line.now ≡ 136 }
+    requires { IsFit trailer_fits line.now }
     ensures { result ≡ has_sum at line.now }
 {
-    match read_total(&line[15..30]) {
-        Ok(total) => total.get() == at.sum,
-        Err(_) => false,
-    }
+    told_sum(line).get() == at.sum
 }
 
 fn header_record(line: &[u8]) -> Result<Record, FaultCode>
@@ -49,7 +46,7 @@ fn header_record(line: &[u8]) -> Result<Record, FaultCode>
     }
 }
 
-#[tactic(auto, unfolding(crate::specs::Records::record_in))]
+#[tactic(auto, unfolding(crate::specs::Said::record_in))]
 fn sale_record(at: Standing, line: &[u8]) -> Result<Record, FaultCode>
     requires wide { length line.now ≡ 136 }
     requires kind { identifier line.now ≡ 50 }
@@ -57,7 +54,9 @@ fn sale_record(at: Standing, line: &[u8]) -> Result<Record, FaultCode>
     requires counted { at.transactions ≤ at.records }
     ensures { result ≡ first_fault_or (sale_table at line.now) (record_in line.now) }
 {
-    if !at.last.is_complete(at.code, at.related) || !spells(at.transactions + 1, &line[1..7]) {
+    if !at.last.is_complete(at.code, at.related)
+        || !spells(at.transactions + 1, transaction_number(line))
+    {
         return Err(FaultCode::F03);
     }
     match sale_code(line) {
@@ -66,13 +65,13 @@ fn sale_record(at: Standing, line: &[u8]) -> Result<Record, FaultCode>
     }
 }
 
-#[tactic(auto, unfolding(crate::specs::Records::record_in))]
+#[tactic(auto, unfolding(crate::specs::Said::record_in))]
 fn related_record(at: Standing, line: &[u8]) -> Result<Record, FaultCode>
     requires wide { length line.now ≡ 136 }
     requires kind { identifier line.now ≡ 51 }
     ensures { result ≡ first_fault_or (related_table at line.now) (record_in line.now) }
 {
-    if !at.last.takes_related(at.code) || !spells(at.transactions, &line[1..7]) {
+    if !at.last.takes_related(at.code) || !spells(at.transactions, transaction_number(line)) {
         Err(FaultCode::F03)
     } else if !related_fits(line) {
         Err(FaultCode::F05)
@@ -81,13 +80,13 @@ fn related_record(at: Standing, line: &[u8]) -> Result<Record, FaultCode>
     }
 }
 
-#[tactic(auto, unfolding(crate::specs::Records::record_in))]
+#[tactic(auto, unfolding(crate::specs::Said::record_in))]
 fn amounts_record(at: Standing, line: &[u8]) -> Result<Record, FaultCode>
     requires wide { length line.now ≡ 136 }
     requires kind { identifier line.now ≡ 53 }
     ensures { result ≡ first_fault_or (amounts_table at line.now) (record_in line.now) }
 {
-    if !at.last.takes_amounts(at.code) || !spells(at.transactions, &line[1..7]) {
+    if !at.last.takes_amounts(at.code) || !spells(at.transactions, transaction_number(line)) {
         Err(FaultCode::F03)
     } else if !amounts_fit(line) {
         Err(FaultCode::F05)
@@ -96,20 +95,22 @@ fn amounts_record(at: Standing, line: &[u8]) -> Result<Record, FaultCode>
     }
 }
 
-#[tactic(auto, using(crate::proofs::SaidLemmas::no_form), unfolding(crate::specs::Records::record_in))]
+#[tactic(auto, using(bsp_ret_records::proofs::FormTests::no_form), unfolding(crate::specs::Said::record_in))]
 fn form_record(at: Standing, line: &[u8]) -> Result<Record, FaultCode>
     requires wide { length line.now ≡ 136 }
     requires kind { identifier line.now ≡ 56 }
     ensures { result ≡ first_fault_or (form_table at line.now) (record_in line.now) }
 {
     let form = form_of(line);
-    if !at.last.takes_form(at.code, at.related, form) || !spells(at.transactions, &line[1..7]) {
+    if !at.last.takes_form(at.code, at.related, form)
+        || !spells(at.transactions, transaction_number(line))
+    {
         return Err(FaultCode::F03);
     }
     let Some(form) = form else {
         return Err(FaultCode::F05);
     };
-    match payment(line, form) {
+    match paid_amount(line, form) {
         Some(amount) => Ok(Record::Form(form, amount)),
         None => Err(FaultCode::F05),
     }

@@ -2,10 +2,7 @@
 #![tactic(auto)]
 
 mod building;
-mod content;
-mod fields;
 mod file;
-mod file_text;
 mod judge;
 mod model;
 mod pieces;
@@ -15,16 +12,14 @@ mod records;
 mod standing;
 #[cfg(test)]
 mod tests;
-mod transactions;
 mod values;
-mod writing;
 
-pub use content::is_group;
+pub use bsp_ret_records::{
+    Amounts, CardPayment, FormOfPayment, PaidSale, ReportedDocument, Sale, Tax, Transaction,
+    TransactionCode,
+};
 pub use file::RetFile;
-pub use file_text::write_ret;
-pub use model::{FaultCode, FormOfPayment, Progress, RetFault, TransactionCode};
+pub use model::{FaultCode, Progress, RetFault};
 pub use reader::RetReader;
 pub use reading::{fault_or_file, read_ret};
-pub use transactions::{Amounts, CardPayment, PaidSale, ReportedDocument, Sale, Tax, Transaction};
 pub use values::{one_content, transaction};
-pub use writing::write_tax;

@@ -1,9 +1,10 @@
 //! What a RET file holds, and what may be wrong with one.
 
 ghost use Rattle.std.specs.Prelude.{◌≡◌};
-ghost use Rattle.bsp_ret.specs.Texts.{code_text, fault_text};
+ghost use Rattle.bsp_ret.specs.Texts.{fault_text};
 
 use bsp_fields::Amount;
+use bsp_ret_records::{FormOfPayment, TransactionCode};
 use thiserror::Error;
 
 /// A row of the fault table of RET files.
@@ -40,28 +41,6 @@ pub struct RetFault {
     pub code: FaultCode,
     /// The number of the record.
     pub at: usize,
-}
-
-/// A transaction code of record 2.
-#[derive(Clone, Copy, Debug, PartialEq, Eq, Hash)]
-pub enum TransactionCode {
-    /// A sale.
-    Tktt,
-    /// A refund.
-    Rfnd,
-    /// A cancelled document.
-    Canx,
-}
-
-/// A form of payment of record 8.
-#[derive(Clone, Copy, Debug, PartialEq, Eq, Hash)]
-pub enum FormOfPayment {
-    /// CA.
-    Cash,
-    /// CC.
-    Credit,
-    /// EX, the value of a document taken in exchange.
-    Exchange,
 }
 
 /// What a record says of the transactions: its kind, the code of a record 2, and the form and the
@@ -145,19 +124,6 @@ impl FaultCode {
             FaultCode::F08 => *b"F08",
             FaultCode::F09 => *b"F09",
             FaultCode::F10 => *b"F10",
-        }
-    }
-}
-
-impl TransactionCode {
-    /// The code as it stands in columns 8 to 11 of record 2.
-    pub fn text(self) -> [u8; 4]
-        ensures { result ≡ code_text self }
-    {
-        match self {
-            TransactionCode::Tktt => *b"TKTT",
-            TransactionCode::Rfnd => *b"RFND",
-            TransactionCode::Canx => *b"CANX",
         }
     }
 }

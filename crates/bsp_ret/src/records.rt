@@ -5,9 +5,8 @@ ghost use Rattle.std.specs.List.{list_all};
 ghost use Rattle.bsp_records.specs.Lines.{lines};
 ghost use Rattle.bsp_records.specs.Columns.{is_wide};
 
-use crate::fields::form_of;
-use crate::model::FormOfPayment;
 use bsp_records::first_line;
+use bsp_ret_records::{FormOfPayment, form_of};
 
 /// The records of a transaction, as slices of the text, without their line ends.
 #[derive(Clone, Copy)]

@@ -4,9 +4,8 @@ ghost use Rattle.std.specs.Prelude.{◌≡◌, ◌+◌, ◌*◌, ◌^◌, ◌<�
 ghost use Rattle.bsp_ret.specs.Standings.{standing_with};
 ghost use Rattle.bsp_ret.specs.Table.{kind, standing, has_ended, is_start, is_complete, takes_related, takes_amounts, has_form, is_later, takes_form};
 
-use crate::model::{
-    FaultCode, FormOfPayment, LastRecord, Record, RetFault, Standing, TransactionCode,
-};
+use crate::model::{FaultCode, LastRecord, Record, RetFault, Standing};
+use bsp_ret_records::{FormOfPayment, TransactionCode};
 
 /// Whether the form may stand in a group with the code, which has a record 3 or none.
 fn has_form(code: TransactionCode, related: bool, form: FormOfPayment) -> bool

@@ -8,13 +8,13 @@ use Rattle.std.proofs.lemmas.List.Elements.{All-cons, All-nil, Contains-append_l
 use Rattle.std.proofs.lemmas.Slice.Eq.{bytes_eq-Decides, slice_eq-Decides}
 use Rattle.bsp_fields.specs.CivilDay.{CivilDay}
 use Rattle.bsp_calendar.specs.DayOrder.{same_day}
-use Rattle.bsp_ret.specs.declared.model.TransactionCode.{TransactionCode}
-use Rattle.bsp_ret.specs.declared.model.TransactionCode.TheVariants.{Tktt, Rfnd, Canx}
-use Rattle.bsp_ret.specs.declared.transactions.ReportedDocument.{ReportedDocument}
-use Rattle.bsp_ret.specs.declared.transactions.Tax.{Tax}
-use Rattle.bsp_ret.specs.declared.transactions.Amounts.{Amounts}
-use Rattle.bsp_ret.specs.declared.transactions.CardPayment.{CardPayment}
-use Rattle.bsp_ret.specs.declared.transactions.Transaction.{Transaction}
+use Rattle.bsp_ret_records.specs.declared.codes.TransactionCode.{TransactionCode}
+use Rattle.bsp_ret_records.specs.declared.codes.TransactionCode.TheVariants.{Tktt, Rfnd, Canx}
+use Rattle.bsp_ret_records.specs.declared.transactions.ReportedDocument.{ReportedDocument}
+use Rattle.bsp_ret_records.specs.declared.transactions.Tax.{Tax}
+use Rattle.bsp_ret_records.specs.declared.transactions.Amounts.{Amounts}
+use Rattle.bsp_ret_records.specs.declared.transactions.CardPayment.{CardPayment}
+use Rattle.bsp_ret_records.specs.declared.transactions.Transaction.{Transaction}
 use Rattle.bsp_rules.specs.declared.rows.Item.{Item}
 use Rattle.bsp_rules.specs.Rows.{IsHeld, held_period}
 use Rattle.bsp_rules.specs.SameContent.{same_amounts, same_card, same_code, same_content, same_document, same_option, same_tax}

@@ -4,8 +4,8 @@ use Rattle.std.specs.List.{filter_map, list_any}
 use Rattle.std.specs.Str.{bytes_eq}
 use Rattle.std.proofs.lemmas.Bool.Decides.{Decides-like, same_from_decides}
 use Rattle.std.proofs.lemmas.Slice.Eq.{bytes_eq-Decides}
-use Rattle.bsp_ret.specs.declared.transactions.ReportedDocument.{ReportedDocument}
-use Rattle.bsp_ret.specs.declared.transactions.Transaction.{Transaction}
+use Rattle.bsp_ret_records.specs.declared.transactions.ReportedDocument.{ReportedDocument}
+use Rattle.bsp_ret_records.specs.declared.transactions.Transaction.{Transaction}
 use Rattle.bsp_rules.specs.declared.rows.Item.{Item}
 use Rattle.bsp_rules.specs.Rows.{names, names_number}
 use Rattle.bsp_rules.specs.Selected.{in_place, is_among, numbers_of, shares}

@@ -2,13 +2,13 @@
 use Rattle.std.specs.Prelude.{ℕ, ℤ, pos, ◌+ℤ◌, ◌-ℤ◌, nat_le, int_le, Bool, false, ◌&&◌, ◌||◌, not, List, map, fold, Option, Some, None, is_some}
 use Rattle.std.specs.List.{list_all}
 use Rattle.std.specs.Ordering.{int_eq}
-use Rattle.bsp_ret.specs.Content.{none_or}
-use Rattle.bsp_ret.specs.declared.model.TransactionCode.{TransactionCode}
-use Rattle.bsp_ret.specs.declared.model.TransactionCode.TheVariants.{Tktt, Rfnd, Canx}
-use Rattle.bsp_ret.specs.declared.transactions.Tax.{Tax}
-use Rattle.bsp_ret.specs.declared.transactions.Amounts.{Amounts}
-use Rattle.bsp_ret.specs.declared.transactions.CardPayment.{CardPayment}
-use Rattle.bsp_ret.specs.declared.transactions.Transaction.{Transaction}
+use Rattle.bsp_ret_records.specs.Values.{none_or}
+use Rattle.bsp_ret_records.specs.declared.codes.TransactionCode.{TransactionCode}
+use Rattle.bsp_ret_records.specs.declared.codes.TransactionCode.TheVariants.{Tktt, Rfnd, Canx}
+use Rattle.bsp_ret_records.specs.declared.transactions.Tax.{Tax}
+use Rattle.bsp_ret_records.specs.declared.transactions.Amounts.{Amounts}
+use Rattle.bsp_ret_records.specs.declared.transactions.CardPayment.{CardPayment}
+use Rattle.bsp_ret_records.specs.declared.transactions.Transaction.{Transaction}
 use Rattle.bsp_rules.specs.declared.rows.Item.{Item}
 use Rattle.bsp_rules.specs.Commission.{is_commission}
 use Rattle.bsp_rules.specs.SameContent.{same_code}

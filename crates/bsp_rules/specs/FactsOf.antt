@@ -1,8 +1,8 @@
 -- What of an agent's own rows bears on one transaction.
 use Rattle.std.specs.Prelude.{ℕ, ◌==◌, Bool, ◌&&◌, List, map, count_by, Option, Some, None, option_map}
 use Rattle.bsp_calendar.specs.Published.{Published, target_of}
-use Rattle.bsp_ret.specs.declared.transactions.ReportedDocument.{ReportedDocument}
-use Rattle.bsp_ret.specs.declared.transactions.Transaction.{Transaction}
+use Rattle.bsp_ret_records.specs.declared.transactions.ReportedDocument.{ReportedDocument}
+use Rattle.bsp_ret_records.specs.declared.transactions.Transaction.{Transaction}
 use Rattle.bsp_rules.specs.declared.facts.Facts.{Facts}
 use Rattle.bsp_rules.specs.declared.facts.OwnNumber.{OwnNumber}
 use Rattle.bsp_rules.specs.declared.facts.RelatedDocument.{RelatedDocument}

@@ -4,9 +4,9 @@ use Rattle.std.specs.List.{All, Contains, list_any, find}
 use Rattle.std.specs.Str.{all_ascii_digits, bytes_eq}
 use Rattle.bsp_fields.specs.Decimal.{number_of}
 use Rattle.bsp_calendar.specs.Published.{Published, is_closed, period_of}
-use Rattle.bsp_ret.specs.declared.model.TransactionCode.TheVariants.{Tktt, Canx}
-use Rattle.bsp_ret.specs.declared.transactions.ReportedDocument.{ReportedDocument}
-use Rattle.bsp_ret.specs.declared.transactions.Transaction.{Transaction}
+use Rattle.bsp_ret_records.specs.declared.codes.TransactionCode.TheVariants.{Tktt, Canx}
+use Rattle.bsp_ret_records.specs.declared.transactions.ReportedDocument.{ReportedDocument}
+use Rattle.bsp_ret_records.specs.declared.transactions.Transaction.{Transaction}
 use Rattle.bsp_rules.specs.declared.rows.Item.{Item}
 use Rattle.bsp_rules.specs.declared.rows.Range.{Range}
 use Rattle.bsp_rules.specs.SameContent.{same_code, same_content}

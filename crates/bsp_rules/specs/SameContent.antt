@@ -4,13 +4,13 @@ use Rattle.std.specs.Cmp.Lexicographic.{pointwise}
 use Rattle.std.specs.Ordering.{int_eq}
 use Rattle.std.specs.Str.{bytes_eq}
 use Rattle.bsp_calendar.specs.DayOrder.{same_day}
-use Rattle.bsp_ret.specs.declared.model.TransactionCode.{TransactionCode}
-use Rattle.bsp_ret.specs.declared.model.TransactionCode.TheVariants.{Tktt, Rfnd, Canx}
-use Rattle.bsp_ret.specs.declared.transactions.ReportedDocument.{ReportedDocument}
-use Rattle.bsp_ret.specs.declared.transactions.Tax.{Tax}
-use Rattle.bsp_ret.specs.declared.transactions.Amounts.{Amounts}
-use Rattle.bsp_ret.specs.declared.transactions.CardPayment.{CardPayment}
-use Rattle.bsp_ret.specs.declared.transactions.Transaction.{Transaction}
+use Rattle.bsp_ret_records.specs.declared.codes.TransactionCode.{TransactionCode}
+use Rattle.bsp_ret_records.specs.declared.codes.TransactionCode.TheVariants.{Tktt, Rfnd, Canx}
+use Rattle.bsp_ret_records.specs.declared.transactions.ReportedDocument.{ReportedDocument}
+use Rattle.bsp_ret_records.specs.declared.transactions.Tax.{Tax}
+use Rattle.bsp_ret_records.specs.declared.transactions.Amounts.{Amounts}
+use Rattle.bsp_ret_records.specs.declared.transactions.CardPayment.{CardPayment}
+use Rattle.bsp_ret_records.specs.declared.transactions.Transaction.{Transaction}
 
 abbrev pub same_code : TransactionCode → TransactionCode → Bool
 same_code Tktt Tktt = true

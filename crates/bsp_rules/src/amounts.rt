@@ -2,14 +2,14 @@
 
 ghost use Rattle.std.specs.Prelude.{◌≡◌};
 ghost use Rattle.std.specs.List.{list_all};
-ghost use Rattle.bsp_ret.specs.Content.{none_or};
+ghost use Rattle.bsp_ret_records.specs.Values.{none_or};
 ghost use Rattle.bsp_rules.specs.Commission.{is_commission};
 ghost use Rattle.bsp_rules.specs.Amounts.{has_published_commission, has_sign, has_wrong_amounts, have_sign, is_balanced};
 
 use crate::rounding::rounded;
 use crate::sums::{gross, paid};
 use bsp_fields::Amount;
-use bsp_ret::{Amounts, CardPayment, Tax, Transaction, TransactionCode};
+use bsp_ret_records::{Amounts, CardPayment, Tax, Transaction, TransactionCode};
 
 fn has_sign(code: TransactionCode, amount: Amount) -> bool
     ensures { result ≡ has_sign code amount }

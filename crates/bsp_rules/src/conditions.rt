@@ -8,7 +8,7 @@ use crate::facts::{Facts, OwnNumber, RelatedDocument};
 use crate::verdict::Reporter;
 use bsp_calendar::Plan;
 use bsp_fields::{AirlineCode, DocNumber};
-use bsp_ret::{ReportedDocument, Transaction, TransactionCode};
+use bsp_ret_records::{ReportedDocument, Transaction, TransactionCode};
 
 /// Whether the agent is not registered, or is not the one that reports.
 #[tactic(auto, unfolding(crate::specs::Verdicts::has_wrong_agent))]

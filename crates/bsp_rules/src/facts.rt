@@ -2,7 +2,7 @@
 
 use crate::rows::Item;
 use bsp_fields::PeriodCode;
-use bsp_ret::ReportedDocument;
+use bsp_ret_records::ReportedDocument;
 
 /// What of an agent's own rows bears on one transaction.
 #[derive(Clone, Copy, Debug, PartialEq, Eq)]

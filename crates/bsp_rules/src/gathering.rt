@@ -14,7 +14,7 @@ use crate::searching::{
 use crate::stock::is_in_stock;
 use bsp_calendar::Plan;
 use bsp_fields::{AirlineCode, PeriodCode};
-use bsp_ret::{ReportedDocument, Transaction};
+use bsp_ret_records::{ReportedDocument, Transaction};
 
 /// What stands under a transaction's own number.
 #[tactic(auto, unfolding(crate::specs::FactsOf::own_number))]

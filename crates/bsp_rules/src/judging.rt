@@ -15,7 +15,7 @@ use crate::tickets::disagrees_with_tickets;
 use crate::verdict::{Refusal, Reporter, Verdict};
 use bsp_calendar::Plan;
 use bsp_fields::PeriodCode;
-use bsp_ret::Transaction;
+use bsp_ret_records::Transaction;
 
 /// Refuses where a row applies.
 fn refuse_if(applies: bool, refusal: Refusal) -> Result<(), Verdict>

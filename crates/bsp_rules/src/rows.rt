@@ -4,7 +4,7 @@ ghost use Rattle.std.specs.Prelude.{◌≡◌};
 ghost use Rattle.bsp_rules.specs.Nets.{lives_in};
 
 use bsp_fields::{AgentCode, DocNumber, PeriodCode};
-use bsp_ret::Transaction;
+use bsp_ret_records::Transaction;
 
 /// A transaction as it was accepted.
 #[derive(Clone, Copy, Debug, PartialEq, Eq)]

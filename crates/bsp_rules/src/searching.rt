@@ -7,7 +7,7 @@ ghost use Rattle.bsp_rules.specs.Rows.{cancelled, held_item, held_period, is_liv
 use crate::rows::Item;
 use bsp_calendar::Plan;
 use bsp_fields::{AirlineCode, PeriodCode};
-use bsp_ret::{ReportedDocument, Transaction, TransactionCode};
+use bsp_ret_records::{ReportedDocument, Transaction, TransactionCode};
 
 /// The accepted transaction with the same content.
 fn held_item<'a>(transaction: &Transaction, items: &'a [Item]) -> Option<&'a Item>

@@ -6,7 +6,7 @@ ghost use Rattle.bsp_rules.specs.Selected.{in_place, is_among, numbers_of, share
 
 use crate::rows::Item;
 use crate::searching::names;
-use bsp_ret::Transaction;
+use bsp_ret_records::Transaction;
 
 /// Whether the number is the transaction's, or that of one of its related documents.
 fn bears(transaction: &Transaction, number: &[u8; 10]) -> bool

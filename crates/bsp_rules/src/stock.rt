@@ -9,7 +9,7 @@ ghost use Rattle.bsp_rules.specs.Rows.{contains, is_in_stock};
 
 use crate::rows::Range;
 use bsp_fields::{DocNumber, check_digit};
-use bsp_ret::ReportedDocument;
+use bsp_ret_records::ReportedDocument;
 
 fn is_digit(character: u8) -> bool
     ensures { result ≡ is_ascii_digit character }

@@ -5,7 +5,7 @@ ghost use Rattle.bsp_rules.specs.Amounts.{amount_or_zero, card_amount, commissio
 
 use crate::rows::Item;
 use bsp_fields::Amount;
-use bsp_ret::{Amounts, CardPayment, Tax, Transaction, TransactionCode};
+use bsp_ret_records::{Amounts, CardPayment, Tax, Transaction, TransactionCode};
 
 /// An amount in minor units, and 0 where there is none.
 pub fn amount_or_zero(amount: Option<Amount>) -> i64

@@ -1,7 +1,7 @@
 use crate::*;
 use bsp_calendar::{Currency, Period, Plan, PlanText, Rate, Terms};
 use bsp_fields::{AgentCode, AirlineCode, Amount, Day, DocNumber, PeriodCode};
-use bsp_ret::{Amounts, ReportedDocument, Tax, Transaction, TransactionCode};
+use bsp_ret_records::{Amounts, ReportedDocument, Tax, Transaction, TransactionCode};
 use std::alloc::Global;
 use std::test::Fail;
 

@@ -3,14 +3,14 @@
 ghost use Rattle.std.specs.Prelude.{◌≡◌, ◌≤◌, ◌-ℤ◌, map, pos, unsigned_abs};
 ghost use Rattle.std.specs.Int.{int_max};
 ghost use Rattle.std.specs.List.{list_all};
-ghost use Rattle.bsp_ret.specs.Content.{none_or};
+ghost use Rattle.bsp_ret_records.specs.Values.{none_or};
 ghost use Rattle.bsp_rules.specs.Tickets.{amounts_of, covers, covers_tax, disagrees_with_tickets, fare_or_zero, fits_exchange, fits_refund, gross_or_zero, ticket_amounts, tickets_fare, tickets_gross};
 
 use crate::amounts::has_commission;
 use crate::facts::RelatedDocument;
 use crate::rows::Item;
 use crate::sums::{amount_or_zero, gross};
-use bsp_ret::{Amounts, Tax, Transaction, TransactionCode};
+use bsp_ret_records::{Amounts, Tax, Transaction, TransactionCode};
 
 fn amounts_of(ticket: &Option<Item>) -> Option<Amounts>
     ensures { result ≡ amounts_of ticket.now }

@@ -1,6 +1,6 @@
 use Rattle.std.proofs.Common.{refl, sym, ◌∙◌}
 use Rattle.bsp_ret.specs.declared.model.Record.TheVariants as said
-use Rattle.bsp_ret.specs.Records.{record_in}
+use Rattle.bsp_ret.specs.Said.{record_in}
 use Rattle.bsp_ret.specs.Table.{header_table, later_table}
 use Rattle.bsp_ret.proofs.SaidLemmas.{row_ok, row_err, row_says, header_says}
 use Rattle.bsp_ret.proofs.judge.judge_record.Goals as goal

@@ -1,0 +1,4 @@
+-- What the contracts of the records cite.
+pub mod Texts
+pub mod Records
+pub mod Values

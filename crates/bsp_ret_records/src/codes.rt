@@ -1,0 +1,39 @@
+//! The codes of transactions and of forms of payment.
+
+ghost use Rattle.std.specs.Prelude.{◌≡◌};
+ghost use Rattle.bsp_ret_records.specs.Texts.{code_text};
+
+/// A transaction code of record 2.
+#[derive(Clone, Copy, Debug, PartialEq, Eq, Hash)]
+pub enum TransactionCode {
+    /// A sale.
+    Tktt,
+    /// A refund.
+    Rfnd,
+    /// A cancelled document.
+    Canx,
+}
+
+/// A form of payment of record 8.
+#[derive(Clone, Copy, Debug, PartialEq, Eq, Hash)]
+pub enum FormOfPayment {
+    /// CA.
+    Cash,
+    /// CC.
+    Credit,
+    /// EX, the value of a document taken in exchange.
+    Exchange,
+}
+
+impl TransactionCode {
+    /// The code as it stands in columns 8 to 11 of record 2.
+    pub fn text(self) -> [u8; 4]
+        ensures { result ≡ code_text self }
+    {
+        match self {
+            TransactionCode::Tktt => *b"TKTT",
+            TransactionCode::Rfnd => *b"RFND",
+            TransactionCode::Canx => *b"CANX",
+        }
+    }
+}
