@@ -95,7 +95,7 @@ is_code_refl Adma = refl
 is_code_refl Acma = refl
 
 -- the BOT93 of the code that is found comes next
-code_total : (r r2 : ℕ) (p : Place) (h : JudgedHeading) (o t t2 : ℕ) (f : Sums) (agent : ℕ) (w : OfficeSums) (items : List Item) (c : DocumentCode) → w ≡ office_of items → find (has_code items) (left_codes p) ≡ Some c → r + 1 ≡ r2 → t ≡ t2
+code_total : (r r2 : ℕ) (p : Place) (h : Option JudgedHeading) (o t t2 : ℕ) (f : Sums) (agent : ℕ) (w : OfficeSums) (items : List Item) (c : DocumentCode) → w ≡ office_of items → find (has_code items) (left_codes p) ≡ Some c → r + 1 ≡ r2 → t ≡ t2
     → code_totals_step (made r p h o t (add f w.all) (Some agent) w) (record { agent = agent; code = c; totals = with_net (code_sums c items) })
     ≡ Some (made r2 (Totalled c) h o t2 (add f (items_sums items)) (Some agent) (office_of items))
 unfolding code_totals_step

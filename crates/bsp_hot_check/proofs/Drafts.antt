@@ -95,7 +95,7 @@ office_with items d g = record {
 }
 
 -- a standing of these parts
-abbrev pub made : ℕ → Place → JudgedHeading → ℕ → ℕ → Sums → Option ℕ → OfficeSums → Standing
+abbrev pub made : ℕ → Place → Option JudgedHeading → ℕ → ℕ → Sums → Option ℕ → OfficeSums → Standing
 made records place heading offices transactions file agent office = record {
   records = records;
   place = place;
@@ -110,20 +110,20 @@ made records place heading offices transactions file agent office = record {
 -- behind the headers of a file and its offices
 abbrev pub behind_offices : File → ℕ → Place → Standing
 behind_offices f records place =
-    made records place (judged_heading f.heading) (length f.offices) (count_items f.offices) (file_sums f.offices)
+    made records place (Some (judged_heading f.heading)) (length f.offices) (count_items f.offices) (file_sums f.offices)
     (last_agent None f.offices) no_office
 
 -- and behind items of one more office
 abbrev pub in_office : File → ℕ → ℕ → Place → ℕ → OfficeSums → Standing
 in_office f agent records place transactions office =
-    made records place (judged_heading f.heading) (length f.offices) transactions (add (file_sums f.offices) office.all) (Some agent) office
+    made records place (Some (judged_heading f.heading)) (length f.offices) transactions (add (file_sums f.offices) office.all) (Some agent) office
 
 abbrev pub standing_of : Draft → Standing
 standing_of nothing = start
-standing_of (headed h) = made 1 Headed (judged_heading h) 0 0 no_sums None no_office
+standing_of (headed h) = made 1 Headed (Some (judged_heading h)) 0 0 no_sums None no_office
 standing_of (between f) = behind_offices f (length (front f)) Between
 standing_of (opened f agent) =
-    made (length (with_items f agent [])) Opened (judged_heading f.heading) (length f.offices) (count_items f.offices)
+    made (length (with_items f agent [])) Opened (Some (judged_heading f.heading)) (length f.offices) (count_items f.offices)
     (file_sums f.offices) (Some agent) no_office
 standing_of (begun f agent items) =
     in_office f agent (length (so_far (begun f agent items))) Begun (number f items) (office_of items)

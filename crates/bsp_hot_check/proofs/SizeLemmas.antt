@@ -7,6 +7,7 @@ use Rattle.bsp_hot_check.specs.declared.model.DocumentCode.{DocumentCode}
 use Rattle.bsp_hot_check.specs.declared.model.DocumentCode.TheVariants.{Tktt, Rfnd, Canx, Adma, Acma}
 use Rattle.bsp_hot_check.specs.declared.model.Sums.{Sums}
 use Rattle.bsp_hot_check.specs.declared.model.CodeSums.{CodeSums}
+use Rattle.bsp_hot_check.specs.declared.model.Heading.{Heading}
 use Rattle.bsp_hot_check.specs.declared.model.Part.{Part}
 use Rattle.bsp_hot_check.specs.declared.model.Part.TheVariants as part_is
 use Rattle.bsp_hot_check.specs.declared.model.PartOf.{PartOf}
@@ -17,7 +18,7 @@ use Rattle.bsp_hot_check.specs.declared.model.Place.{Place}
 use Rattle.bsp_hot_check.specs.declared.model.Place.TheVariants.{Headed, Between, Opened, Begun, InDocument, Totalled, Closed, Ended}
 use Rattle.bsp_hot_check.specs.declared.model.Standing.{Standing}
 use Rattle.bsp_hot_check.specs.Sums.{no_sums, one_document, add}
-use Rattle.bsp_hot_check.specs.Standings.{sums_at, add_at, moved, counted, allowed, judged_sums, progress_behind, heading_step, period_step, office_step, transaction_step, document_step, part_step_in, part_step, code_totals_step, office_totals_step, period_totals_step, file_totals_step, step, AreSmall, AreSmallSums, IsSmall, IsSmallPart, IsSmallRecord, IsSmallNext}
+use Rattle.bsp_hot_check.specs.Standings.{key_of, sums_at, add_at, moved, counted, allowed, judged_sums, progress_behind, heading_step, period_step, office_step, transaction_step, document_step, part_step_in, part_step, code_totals_step, office_totals_step, period_totals_step, file_totals_step, step, AreSmall, AreSmallSums, IsSmall, IsSmallPart, IsSmallRecord, IsSmallNext}
 
 -- the size of a sum
 pub abs_plus : (x y : ℤ) → unsigned_abs (x +ℤ y) ≤ unsigned_abs x + unsigned_abs y
@@ -117,10 +118,10 @@ by_allowed : (test : Bool) (at x next : Standing) → allowed test x ≡ Some ne
 by_allowed true at x next e g = let k : x ≡ next = cc in subst (IsSmallNext at) k g
 by_allowed false at x next e g = absurd cc
 
-small_next_part : (at next : Standing) (place : Place) (y : PartOf) → IsSmall at → IsSmallPart y.part → part_step_in at place y ≡ Some next → IsSmallNext at next
-small_next_part at next (InDocument x) y h one e =
+small_next_part : (at next : Standing) (place : Place) (heading : Option Heading) (y : PartOf) → IsSmall at → IsSmallPart y.part → part_step_in at place heading y ≡ Some next → IsSmallNext at next
+small_next_part at next (InDocument x) (Some heading) y h one e =
     by_allowed _ at (counted at (progress_behind x y.part) (judged_sums y.part)) next e (record { records = refl; small = small_counted at (progress_behind x y.part) (judged_sums y.part) h (small_part y.part one) })
-small_next_part at next _ y h one e = absurd cc
+small_next_part at next _ _ y h one e = absurd cc
 
 small_next : (at next : Standing) (r : Record) → IsSmall at → IsSmallRecord r → step at r ≡ Some next → IsSmallNext at next
 unfolding heading_step period_step office_step transaction_step document_step part_step code_totals_step office_totals_step period_totals_step file_totals_step
@@ -135,9 +136,9 @@ small_next at next (record_is.TransactionHeader t) h one e =
     let m = small_moved at Begun h in
     by_allowed _ at _ next e (record { records = refl; small = record { offices = m.offices; transactions = omega (arith, h.transactions); file = m.file; codes = m.codes; all = m.all } })
 small_next at next (record_is.Document d) h one e =
-    let known : IsSmall (record at { office = record at.office { latest = Some d.key } }) = record { offices = h.offices; transactions = h.transactions; file = h.file; codes = h.codes; all = h.all } in
+    let known : IsSmall (record at { office = record at.office { latest = Some (key_of d) } }) = record { offices = h.offices; transactions = h.transactions; file = h.file; codes = h.codes; all = h.all } in
     by_allowed _ at _ next e (record { records = refl; small = small_counted _ _ one_document known one_small })
-small_next at next (record_is.PartOf y) h one e = small_next_part at next at.place y h one e
+small_next at next (record_is.PartOf y) h one e = small_next_part at next at.place at.heading y h one e
 small_next at next (record_is.CodeTotals t) h one e = by_allowed _ at _ next e (record { records = refl; small = small_moved at (Totalled t.code) h })
 small_next at next (record_is.OfficeTotals t) h one e =
     let m = small_moved at Between h in

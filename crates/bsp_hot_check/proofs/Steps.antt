@@ -26,7 +26,7 @@ use Rattle.bsp_hot_check.proofs.Drafts.{nothing, headed, between, opened, begun,
 pub allowed_as : (test : Bool) (x y : Standing) → test ≡ true → x ≡ y → allowed test x ≡ Some y
 allowed_as test x y h e = rw (h, e) refl
 
-pub same : (r r2 : ℕ) (p p2 : Place) (h : JudgedHeading) (o o2 t t2 : ℕ) (f f2 : Sums) (a a2 : Option ℕ) (w w2 : OfficeSums) → r ≡ r2 → p ≡ p2 → o ≡ o2 → t ≡ t2 → f ≡ f2 → a ≡ a2 → w ≡ w2
+pub same : (r r2 : ℕ) (p p2 : Place) (h : Option JudgedHeading) (o o2 t t2 : ℕ) (f f2 : Sums) (a a2 : Option ℕ) (w w2 : OfficeSums) → r ≡ r2 → p ≡ p2 → o ≡ o2 → t ≡ t2 → f ≡ f2 → a ≡ a2 → w ≡ w2
     → made r p h o t f a w ≡ made r2 p2 h o2 t2 f2 a2 w2
 same r r2 p p2 h o o2 t t2 f f2 a a2 w w2 er ep eo et ef ea ew = rw (er, ep, eo, et, ef, ea, ew) refl
 

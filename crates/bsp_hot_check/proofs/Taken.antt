@@ -110,7 +110,7 @@ transaction_taken f agent items d g n airline at sound e =
     subst P (sym w.1) (λ s. behind_whole f agent items d w.0 n airline s (eqb-true _ _ b.1) (eqb-true _ _ a.1)) sound
 
 document_taken : (f : File) (agent : ℕ) (items : List Item) (n agent2 : ℕ) (c : DocumentCode) (d : Document) (at : Standing) → IsOpen f agent items
-    → document_step (standing_of (begun f agent items)) (record { transaction = n; agent = agent2; key = record { code = c; number = d.number } }) ≡ Some at
+    → document_step (standing_of (begun f agent items)) (record { transaction = n; agent = agent2; code = c; number = d.number }) ≡ Some at
     → Taken (begun f agent items) (document n agent2 c d)
 unfolding document_step
 document_taken f agent items n agent2 c d at sound e =

@@ -50,7 +50,7 @@ judged (file_header h) = record_is.FileHeader (judged_heading h)
 judged (period_header period days) = record_is.PeriodHeader period
 judged (office_header agent period currency) = record_is.OfficeHeader (record { agent = agent; period = period; currency = currency })
 judged (transaction_header n airline) = record_is.TransactionHeader (record { transaction = n; airline = airline })
-judged (document n agent c d) = record_is.Document (record { transaction = n; agent = agent; key = record { code = c; number = d.number } })
+judged (document n agent c d) = record_is.Document (record { transaction = n; agent = agent; code = c; number = d.number })
 judged (part n x) = record_is.PartOf (record { transaction = n; part = judged_part x })
 judged (code_totals agent c totals) = record_is.CodeTotals (record { agent = agent; code = c; totals = totals })
 judged (office_totals agent totals) = record_is.OfficeTotals (record { agent = agent; totals = totals })
@@ -219,6 +219,10 @@ abbrev pub is_next : Option DocumentCode → DocumentCode → Bool
 is_next None c = false
 is_next (Some d) c = is_code d c
 
+-- by what a document is in order
+abbrev pub key_of : JudgedDocument → DocumentKey
+key_of d = record { code = d.code; number = d.number }
+
 abbrev pub is_key_after : Option DocumentKey → DocumentKey → Bool
 is_key_after None k = true
 is_key_after (Some before) k = is_before before.code before.number k.code k.number
@@ -231,6 +235,19 @@ abbrev pub is_agent : Option ℕ → ℕ → Bool
 is_agent None agent = false
 is_agent (Some x) agent = agent == x
 
+-- what BFH01 says of the file
+abbrev pub is_airline : Option JudgedHeading → ℕ → Bool
+is_airline None airline = false
+is_airline (Some h) airline = airline == h.airline
+
+abbrev pub is_period : Option JudgedHeading → ℕ → Bool
+is_period None period = false
+is_period (Some h) period = period == h.period
+
+abbrev pub is_currency : Option JudgedHeading → List ℕ → Bool
+is_currency None currency = false
+is_currency (Some h) currency = bytes_eq currency h.currency
+
 -- ---- steps
 
 -- how no records stand
@@ -238,7 +255,7 @@ abbrev pub start : Standing
 start = record {
   records = 0;
   place = Start;
-  heading = record { airline = 0; period = 0; currency = 0 ∷ 0 ∷ 0 ∷ [] };
+  heading = None;
   offices = 0;
   transactions = 0;
   file = no_sums;
@@ -262,30 +279,30 @@ abbrev pub allowed : Bool → Standing → Option Standing
 allowed test at = if test then Some at else None
 
 unfoldable pub heading_step : Standing → JudgedHeading → Option Standing
-heading_step at h = allowed (is_start at.place) (record (moved at Headed) { heading = h })
+heading_step at h = allowed (is_start at.place) (record (moved at Headed) { heading = Some h })
 
 unfoldable pub period_step : Standing → ℕ → Option Standing
-period_step at period = allowed (is_headed at.place && (period == at.heading.period)) (moved at Between)
+period_step at period = allowed (is_headed at.place && is_period at.heading period) (moved at Between)
 
 unfoldable pub office_step : Standing → OfficeHeader → Option Standing
 office_step at o =
     allowed
-    (is_between at.place && is_agent_after at.agent o.agent && (o.period == at.heading.period) && bytes_eq o.currency at.heading.currency)
+    (is_between at.place && is_agent_after at.agent o.agent && is_period at.heading o.period && is_currency at.heading o.currency)
     (record (moved at Opened) { agent = Some o.agent })
 
 unfoldable pub transaction_step : Standing → TransactionHeader → Option Standing
 transaction_step at t =
     allowed
-    (takes_transaction at.place && (t.transaction == at.transactions + 1) && (t.airline == at.heading.airline))
+    (takes_transaction at.place && (t.transaction == at.transactions + 1) && is_airline at.heading t.airline)
     (record (moved at Begun) { transactions = at.transactions + 1 })
 
 unfoldable pub document_step : Standing → JudgedDocument → Option Standing
 document_step at d =
     allowed
-    (is_begun at.place && (d.transaction == at.transactions) && is_agent at.agent d.agent && is_key_after at.office.latest d.key)
+    (is_begun at.place && (d.transaction == at.transactions) && is_agent at.agent d.agent && is_key_after at.office.latest (key_of d))
     (counted
-    (record at { office = record at.office { latest = Some d.key } })
-    (record { code = d.key.code; stage = stage.Document; related = false }) one_document)
+    (record at { office = record at.office { latest = Some (key_of d) } })
+    (record { code = d.code; stage = stage.Document; related = false }) one_document)
 
 abbrev pub judged_sums : JudgedPart → Sums
 judged_sums (part_is.Amounts taxed) = no_sums
@@ -295,13 +312,13 @@ judged_sums (part_is.Cash amount) = record { documents = 0; cash = amount; credi
 judged_sums (part_is.Credit amount) = record { documents = 0; cash = pos 0; credit = amount; commission = pos 0 }
 judged_sums part_is.Exchange = no_sums
 
-abbrev pub part_step_in : Standing → Place → PartOf → Option Standing
-part_step_in at (InDocument x) y =
-    allowed (takes at.heading.airline x y.part && (y.transaction == at.transactions)) (counted at (progress_behind x y.part) (judged_sums y.part))
-part_step_in at _ y = None
+abbrev pub part_step_in : Standing → Place → Option JudgedHeading → PartOf → Option Standing
+part_step_in at (InDocument x) (Some h) y =
+    allowed (takes h.airline x y.part && (y.transaction == at.transactions)) (counted at (progress_behind x y.part) (judged_sums y.part))
+part_step_in at _ _ y = None
 
 unfoldable pub part_step : Standing → PartOf → Option Standing
-part_step at y = part_step_in at at.place y
+part_step at y = part_step_in at at.place at.heading y
 
 unfoldable pub code_totals_step : Standing → CodeTotals → Option Standing
 code_totals_step at t =
@@ -318,13 +335,13 @@ office_totals_step at t =
 unfoldable pub period_totals_step : Standing → PeriodTotals → Option Standing
 period_totals_step at t =
     allowed
-    (is_between at.place && (t.period == at.heading.period) && (t.offices == at.offices) && has_totals at.file t.totals)
+    (is_between at.place && is_period at.heading t.period && (t.offices == at.offices) && has_totals at.file t.totals)
     (moved at Closed)
 
 unfoldable pub file_totals_step : Standing → FileTotals → Option Standing
 file_totals_step at t =
     allowed
-    (is_closed at.place && (t.airline == at.heading.airline) && (t.records == at.records + 1) && has_totals at.file t.totals)
+    (is_closed at.place && is_airline at.heading t.airline && (t.records == at.records + 1) && has_totals at.file t.totals)
     (moved at Ended)
 
 abbrev pub step : Standing → JudgedRecord → Option Standing

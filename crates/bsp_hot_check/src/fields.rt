@@ -7,7 +7,7 @@ ghost use Rattle.bsp_hot_check.specs.Records.{code_of, form_fits, tax_places_fit
 ghost use Rattle.bsp_hot_check.specs.Standings.{IsSmallAmount};
 
 use crate::model::{DocumentCode, Sums, Totals};
-use bsp_fields::{read_amount, read_digits, read_total};
+use bsp_fields::{AirlineCode, DocNumber, PeriodCode, read_amount, read_digits, read_total};
 use bsp_records::{all_letters_or_digits, all_spaces, taxes_fit};
 
 /// The code of a document, from its four letters.
@@ -76,6 +76,42 @@ pub(crate) fn count_in(text: &[u8]) -> Option<usize>
         Some(number) => Some(number as usize),
         None => None,
     }
+}
+
+/// The airline that three digits write.
+#[tactic(auto, unfolding(crate::specs::Records::number_in))]
+#[inline]
+pub(crate) fn airline_in(text: &[u8]) -> Option<AirlineCode>
+    requires { length text.now ≡ 3 }
+    ensures fits { IfSome result (λ airline. all_ascii_digits text.now ≡ true) }
+    ensures value { IfSome result (λ airline. airline ≡ number_in text.now) }
+    ensures none { IfNone result (all_ascii_digits text.now ≡ false) }
+{
+    AirlineCode::read(text).ok()
+}
+
+/// The period that five digits write.
+#[tactic(auto, unfolding(crate::specs::Records::number_in))]
+#[inline]
+pub(crate) fn period_in(text: &[u8]) -> Option<PeriodCode>
+    requires { length text.now ≡ 5 }
+    ensures fits { IfSome result (λ period. all_ascii_digits text.now ≡ true) }
+    ensures value { IfSome result (λ period. period ≡ number_in text.now) }
+    ensures none { IfNone result (all_ascii_digits text.now ≡ false) }
+{
+    PeriodCode::read(text).ok()
+}
+
+/// The document number that ten digits write.
+#[tactic(auto, unfolding(crate::specs::Records::number_in))]
+#[inline]
+pub(crate) fn document_number_in(text: &[u8]) -> Option<DocNumber>
+    requires { length text.now ≡ 10 }
+    ensures fits { IfSome result (λ document. all_ascii_digits text.now ≡ true) }
+    ensures value { IfSome result (λ document. document ≡ number_in text.now) }
+    ensures none { IfNone result (all_ascii_digits text.now ≡ false) }
+{
+    DocNumber::read_unchecked(text).ok()
 }
 
 /// The value of an amount.

@@ -2,6 +2,7 @@
 //! by their definition, to their totals or to the first record at fault.
 #![tactic(auto)]
 
+mod agent;
 mod check;
 mod fields;
 mod judge;

@@ -1,5 +1,7 @@
 //! What the records of a HOT file say, and how the records before a place stand.
 
+use crate::agent::AgentDigits;
+use bsp_fields::{AirlineCode, DocNumber, PeriodCode};
 use thiserror::Error;
 
 /// The first record at fault of a text that is no HOT file.
@@ -57,20 +59,19 @@ pub struct Totals {
     pub net: i128,
 }
 
-/// What BFH01 says of the whole file. Codes are the numbers that their digits write, here and
-/// below.
+/// What BFH01 says of the whole file.
 #[derive(Clone, Copy)]
 pub struct Heading {
-    pub airline: u64,
-    pub period: u64,
+    pub airline: AirlineCode,
+    pub period: PeriodCode,
     pub currency: [u8; 3],
 }
 
 /// BOH03.
 #[derive(Clone, Copy)]
 pub struct OfficeHeader {
-    pub agent: u64,
-    pub period: u64,
+    pub agent: AgentDigits,
+    pub period: PeriodCode,
     pub currency: [u8; 3],
 }
 
@@ -78,22 +79,16 @@ pub struct OfficeHeader {
 #[derive(Clone, Copy)]
 pub struct TransactionHeader {
     pub transaction: usize,
-    pub airline: u64,
-}
-
-/// By what the documents of an office are in order: the code, then the number.
-#[derive(Clone, Copy)]
-pub struct DocumentKey {
-    pub code: DocumentCode,
-    pub number: u64,
+    pub airline: AirlineCode,
 }
 
 /// BKS24.
 #[derive(Clone, Copy)]
 pub struct Document {
     pub transaction: usize,
-    pub agent: u64,
-    pub key: DocumentKey,
+    pub agent: AgentDigits,
+    pub code: DocumentCode,
+    pub number: DocNumber,
 }
 
 /// A record behind BKS24.
@@ -104,7 +99,7 @@ pub enum Part {
     /// BKS39, with the commission.
     Commission(i64),
     /// BKS45, with its airline.
-    Related(u64),
+    Related(AirlineCode),
     /// BKP84 with the form `CA`, and its amount.
     Cash(i64),
     /// BKP84 with the form `CC`, and its amount.
@@ -123,7 +118,7 @@ pub struct PartOf {
 /// BOT93.
 #[derive(Clone, Copy)]
 pub struct CodeTotals {
-    pub agent: u64,
+    pub agent: AgentDigits,
     pub code: DocumentCode,
     pub totals: Totals,
 }
@@ -131,14 +126,14 @@ pub struct CodeTotals {
 /// BOT94.
 #[derive(Clone, Copy)]
 pub struct OfficeTotals {
-    pub agent: u64,
+    pub agent: AgentDigits,
     pub totals: Totals,
 }
 
 /// BCT95.
 #[derive(Clone, Copy)]
 pub struct PeriodTotals {
-    pub period: u64,
+    pub period: PeriodCode,
     pub offices: usize,
     pub totals: Totals,
 }
@@ -146,7 +141,7 @@ pub struct PeriodTotals {
 /// BFT99.
 #[derive(Clone, Copy)]
 pub struct FileTotals {
-    pub airline: u64,
+    pub airline: AirlineCode,
     pub records: usize,
     pub totals: Totals,
 }
@@ -155,7 +150,7 @@ pub struct FileTotals {
 #[derive(Clone, Copy)]
 pub enum Record {
     FileHeader(Heading),
-    PeriodHeader(u64),
+    PeriodHeader(PeriodCode),
     OfficeHeader(OfficeHeader),
     TransactionHeader(TransactionHeader),
     Document(Document),
@@ -224,6 +219,13 @@ pub struct CodeSums {
     pub acma: Sums,
 }
 
+/// By what the documents of an office are in order: the code, then the number.
+#[derive(Clone, Copy)]
+pub struct DocumentKey {
+    pub code: DocumentCode,
+    pub number: DocNumber,
+}
+
 /// What stands of the office so far: its sums by code and in all, and its last document.
 #[derive(Clone, Copy)]
 pub struct OfficeSums {
@@ -232,17 +234,17 @@ pub struct OfficeSums {
     pub latest: Option<DocumentKey>,
 }
 
-/// How the records before a place stand: how many they are, the place, the heading, the number of
-/// complete offices, of transactions, the sums of all documents, the last office's agent, and what
+/// How the records before a place stand: how many they are, the place, the heading where BFH01 is
+/// among them, the number of complete offices, of transactions, the sums of all documents, the last office's agent, and what
 /// stands of an office that is not complete.
 #[derive(Clone, Copy)]
 pub struct Standing {
     pub records: usize,
     pub place: Place,
-    pub heading: Heading,
+    pub heading: Option<Heading>,
     pub offices: usize,
     pub transactions: usize,
     pub file: Sums,
-    pub agent: Option<u64>,
+    pub agent: Option<AgentDigits>,
     pub office: OfficeSums,
 }

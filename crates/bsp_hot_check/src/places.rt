@@ -6,6 +6,7 @@ ghost use Rattle.std.specs.Option.{option_copied};
 ghost use Rattle.bsp_hot_check.specs.Standings.{is_ended, is_complete, is_complete_progress, takes_amounts, takes_commission, takes_related, takes_cash, takes_credit, takes_exchange, takes, stage_of, progress_behind, takes_transaction, stands_in, left_codes, next_code, judged_sums, IsSmallPart, AreSmall};
 
 use crate::model::{CodeSums, DocumentCode, Part, Place, Progress, Stage, Sums};
+use bsp_fields::AirlineCode;
 
 impl Progress {
     /// Whether the document has all its records.
@@ -81,7 +82,7 @@ impl Progress {
     }
 
     /// Whether the record may come next in a document of this airline.
-    pub(crate) fn takes(self, airline: u64, part: Part) -> bool
+    pub(crate) fn takes(self, airline: AirlineCode, part: Part) -> bool
         ensures { result ≡ takes airline self part }
     {
         match part {

@@ -4,12 +4,14 @@ ghost use Rattle.std.specs.Prelude.{◌≡◌, length, IfSome};
 ghost use Rattle.bsp_hot_check.specs.Standings.{IsSmallRecord};
 ghost use Rattle.bsp_hot_check.specs.Reading.{judged_if};
 
+use crate::agent::AgentDigits;
 use crate::fields::{
-    amount_in, code_of, count_in, currency_of, form_fits, number_in, tax_places_fit, totals_in,
+    airline_in, amount_in, code_of, count_in, currency_of, document_number_in, form_fits,
+    period_in, tax_places_fit, totals_in,
 };
 use crate::model::{
-    CodeTotals, Document, DocumentKey, FileTotals, Heading, OfficeHeader, OfficeTotals, Part,
-    PartOf, PeriodTotals, Record, TransactionHeader,
+    CodeTotals, Document, FileTotals, Heading, OfficeHeader, OfficeTotals, Part, PartOf,
+    PeriodTotals, Record, TransactionHeader,
 };
 use crate::name::RecordName;
 use bsp_records::{all_digits, all_letters, all_spaces, is_amount, is_record_day, spells_at_most};
@@ -20,8 +22,8 @@ fn file_header(line: &[u8]) -> Option<Record>
     ensures value { result ≡ judged_if RecordName.Bfh01 line.now }
     ensures small { IfSome result IsSmallRecord }
 {
-    let airline = number_in(&line[13..16])?;
-    let period = number_in(&line[16..21])?;
+    let airline = airline_in(&line[13..16])?;
+    let period = period_in(&line[16..21])?;
     let fits = is_record_day(&line[21..27])
         && all_letters(&line[27..30])
         && &line[30..37] == b"PROD001".as_slice()
@@ -42,7 +44,7 @@ fn period_header(line: &[u8]) -> Option<Record>
     ensures value { result ≡ judged_if RecordName.Bch02 line.now }
     ensures small { IfSome result IsSmallRecord }
 {
-    let period = number_in(&line[13..18])?;
+    let period = period_in(&line[13..18])?;
     let fits = is_record_day(&line[18..24])
         && is_record_day(&line[24..30])
         && is_record_day(&line[30..36])
@@ -59,8 +61,8 @@ fn office_header(line: &[u8]) -> Option<Record>
     ensures value { result ≡ judged_if RecordName.Boh03 line.now }
     ensures small { IfSome result IsSmallRecord }
 {
-    let agent = number_in(&line[13..21])?;
-    let period = number_in(&line[21..26])?;
+    let agent = AgentDigits::read(&line[13..21])?;
+    let period = period_in(&line[21..26])?;
     if !(all_letters(&line[26..29]) && all_spaces(&line[29..136])) {
         return None;
     }
@@ -79,7 +81,7 @@ fn transaction_header(line: &[u8]) -> Option<Record>
     ensures small { IfSome result IsSmallRecord }
 {
     let transaction = count_in(&line[13..21])?;
-    let airline = number_in(&line[21..24])?;
+    let airline = airline_in(&line[21..24])?;
     if !all_spaces(&line[24..136]) {
         return None;
     }
@@ -100,19 +102,20 @@ fn document(line: &[u8]) -> Option<Record>
     if !is_record_day(&line[21..27]) {
         return None;
     }
-    let number = number_in(&line[27..37])?;
+    let number = document_number_in(&line[27..37])?;
     if !all_digits(&line[37..38]) {
         return None;
     }
     let code = code_of(&line[38..42])?;
-    let agent = number_in(&line[42..50])?;
+    let agent = AgentDigits::read(&line[42..50])?;
     if !all_spaces(&line[99..136]) {
         return None;
     }
     Some(Record::Document(Document {
         transaction,
         agent,
-        key: DocumentKey { code, number },
+        code,
+        number,
     }))
 }
 
@@ -163,7 +166,7 @@ fn related(line: &[u8]) -> Option<Record>
     ensures small { IfSome result IsSmallRecord }
 {
     let transaction = count_in(&line[13..21])?;
-    let airline = number_in(&line[21..24])?;
+    let airline = airline_in(&line[21..24])?;
     let fits = all_digits(&line[24..34]) && all_digits(&line[34..35]) && all_spaces(&line[35..136]);
     if !fits {
         return None;
@@ -203,7 +206,7 @@ fn code_totals(line: &[u8]) -> Option<Record>
     ensures value { result ≡ judged_if RecordName.Bot93 line.now }
     ensures small { IfSome result IsSmallRecord }
 {
-    let agent = number_in(&line[13..21])?;
+    let agent = AgentDigits::read(&line[13..21])?;
     let code = code_of(&line[21..25])?;
     let totals = totals_in(&line[25..93])?;
     if !all_spaces(&line[93..136]) {
@@ -222,7 +225,7 @@ fn office_totals(line: &[u8]) -> Option<Record>
     ensures value { result ≡ judged_if RecordName.Bot94 line.now }
     ensures small { IfSome result IsSmallRecord }
 {
-    let agent = number_in(&line[13..21])?;
+    let agent = AgentDigits::read(&line[13..21])?;
     let totals = totals_in(&line[21..89])?;
     if !all_spaces(&line[89..136]) {
         return None;
@@ -236,7 +239,7 @@ fn period_totals(line: &[u8]) -> Option<Record>
     ensures value { result ≡ judged_if RecordName.Bct95 line.now }
     ensures small { IfSome result IsSmallRecord }
 {
-    let period = number_in(&line[13..18])?;
+    let period = period_in(&line[13..18])?;
     let offices = count_in(&line[18..26])?;
     let totals = totals_in(&line[26..94])?;
     if !all_spaces(&line[94..136]) {
@@ -255,7 +258,7 @@ fn file_totals(line: &[u8]) -> Option<Record>
     ensures value { result ≡ judged_if RecordName.Bft99 line.now }
     ensures small { IfSome result IsSmallRecord }
 {
-    let airline = number_in(&line[13..16])?;
+    let airline = airline_in(&line[13..16])?;
     let records = count_in(&line[16..24])?;
     let totals = totals_in(&line[24..92])?;
     if !all_spaces(&line[92..136]) {

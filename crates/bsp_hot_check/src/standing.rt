@@ -3,7 +3,7 @@
 ghost use Rattle.std.specs.Prelude.{◌≡◌, ◌<◌, ◌^◌};
 ghost use Rattle.bsp_hot_check.specs.Standings.{start, moved, counted, totals_at, IsSmall, AreSmall};
 
-use crate::model::{Heading, HotTotals, OfficeSums, Place, Progress, Standing, Sums};
+use crate::model::{HotTotals, OfficeSums, Place, Progress, Standing, Sums};
 
 impl Standing {
     /// How no records stand.
@@ -13,11 +13,7 @@ impl Standing {
         Standing {
             records: 0,
             place: Place::Start,
-            heading: Heading {
-                airline: 0,
-                period: 0,
-                currency: [0; 3],
-            },
+            heading: None,
             offices: 0,
             transactions: 0,
             file: Sums::NONE,

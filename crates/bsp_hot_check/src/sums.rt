@@ -50,8 +50,8 @@ impl DocumentCode {
 
 impl DocumentKey {
     /// Whether the other comes behind it: by the code, then by the number.
-    pub(crate) fn is_before(self, other: DocumentKey) -> bool
-        ensures { result ≡ is_before self.code self.number other.code other.number }
+    pub(crate) fn is_before(self, other: &DocumentKey) -> bool
+        ensures { result ≡ is_before self.code self.number other.now.code other.now.number }
     {
         let (code, other_code) = (self.code.rank(), other.code.rank());
         code < other_code || code == other_code && self.number < other.number
