@@ -9,7 +9,7 @@
 
 rustc -O -o "$work/plain" "$here/plain.rs" 2>/dev/null
 
-workspace writing bsp_fields bsp_calendar bsp_ret bsp_rules bsp_memos bsp_postings bsp_hot_check bsp_hot
+workspace writing bsp_fields bsp_calendar bsp_ret bsp_rules bsp_memos bsp_postings bsp_hot_records bsp_hot_check bsp_hot
 market_module | source_file writing market.rt
 source_file writing main.rt <<'PROGRAM'
 #![tactic(auto)]

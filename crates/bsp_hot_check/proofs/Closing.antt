@@ -4,15 +4,15 @@ use Rattle.std.specs.List.{find}
 use Rattle.std.specs.Option.{is_none}
 use Rattle.std.proofs.lemmas.Bool.{and_from, cases_Bool, ltb-true}
 use Rattle.std.proofs.lemmas.List.{map-append}
-use Rattle.bsp_hot_check.specs.declared.model.DocumentCode.{DocumentCode}
-use Rattle.bsp_hot_check.specs.declared.model.DocumentCode.TheVariants.{Tktt, Rfnd, Canx, Adma, Acma}
-use Rattle.bsp_hot_check.specs.declared.model.Sums.{Sums}
-use Rattle.bsp_hot_check.specs.declared.model.Heading.{Heading as JudgedHeading}
+use Rattle.bsp_hot_records.specs.declared.code.DocumentCode.{DocumentCode}
+use Rattle.bsp_hot_records.specs.declared.code.DocumentCode.TheVariants.{Tktt, Rfnd, Canx, Adma, Acma}
+use Rattle.bsp_hot_records.specs.declared.totals.Sums.{Sums}
+use Rattle.bsp_hot_records.specs.declared.model.Heading.{Heading as JudgedHeading}
 use Rattle.bsp_hot_check.specs.declared.model.Place.{Place}
 use Rattle.bsp_hot_check.specs.declared.model.Place.TheVariants.{InDocument, Totalled}
 use Rattle.bsp_hot_check.specs.declared.model.OfficeSums.{OfficeSums}
-use Rattle.bsp_hot_check.specs.Records.{Heading, Document, Record, office_header, code_totals, office_totals, period_totals, file_totals}
-use Rattle.bsp_hot_check.specs.Sums.{add, with_net, has_totals, is_code, all_codes}
+use Rattle.bsp_hot_records.specs.Records.{Heading, Document, Record, office_header, code_totals, office_totals, period_totals, file_totals}
+use Rattle.bsp_hot_records.specs.Sums.{add, with_net, has_totals, is_code, all_codes}
 use Rattle.bsp_hot_check.specs.Hot.{Body, Item, Office, File, AreItems, IsBehind, AreOffices, IsFile, items_sums, code_sums, file_sums, items_records, has_code, office_records, offices_records, headers, all_but_last}
 use Rattle.bsp_hot_check.specs.Standings.{later_codes, left_codes, sums_at, stands_in, next_code, is_next, is_agent_after, code_totals_step, office_totals_step, period_totals_step, file_totals_step}
 use Rattle.bsp_hot_check.proofs.SumLemmas.{file_sums_snoc, codes_of}

@@ -1,18 +1,19 @@
 -- A file as far as its records stand, and what the standing of the records is.
 use Rattle.std.proofs.Common.{◌≡◌, ◌<◌, ℕ, ◌+◌, true, List, [], ◌∷◌, ◌++◌, length, map, filter, Option, Some, None}
 use Rattle.std.specs.List.{last_or}
-use Rattle.bsp_hot_check.specs.declared.model.DocumentCode.{DocumentCode}
-use Rattle.bsp_hot_check.specs.declared.model.Sums.{Sums}
+use Rattle.bsp_hot_records.specs.declared.code.DocumentCode.{DocumentCode}
+use Rattle.bsp_hot_records.specs.declared.totals.Sums.{Sums}
 use Rattle.bsp_hot_check.specs.declared.model.DocumentKey.{DocumentKey}
-use Rattle.bsp_hot_check.specs.declared.model.Heading.{Heading as JudgedHeading}
+use Rattle.bsp_hot_records.specs.declared.model.Heading.{Heading as JudgedHeading}
 use Rattle.bsp_hot_check.specs.declared.model.Place.{Place}
 use Rattle.bsp_hot_check.specs.declared.model.Place.TheVariants.{Headed, Between, Opened, Begun, InDocument, Totalled, Closed, Ended}
 use Rattle.bsp_hot_check.specs.declared.model.OfficeSums.{OfficeSums}
 use Rattle.bsp_hot_check.specs.declared.model.Standing.{Standing}
-use Rattle.bsp_hot_check.specs.Records.{Heading, Document, Record, file_header, office_header, transaction_header, document, part, code_totals}
-use Rattle.bsp_hot_check.specs.Sums.{no_sums, add, with_net, all_codes}
+use Rattle.bsp_hot_records.specs.Records.{Heading, Document, Record, file_header, office_header, transaction_header, document, part, code_totals}
+use Rattle.bsp_hot_records.specs.Sums.{no_sums, add, with_net, all_codes}
 use Rattle.bsp_hot_check.specs.Hot.{Item, Office, File, document_sums, items_sums, code_sums, file_sums, items_records, has_code, headers, offices_records, all_but_last, records_of, AreItems, IsFile}
-use Rattle.bsp_hot_check.specs.Standings.{judged, judged_heading, later_codes, no_office, is_key_after, is_agent_after, add_at, start, step}
+use Rattle.bsp_hot_records.specs.Judged.{judged, judged_heading}
+use Rattle.bsp_hot_check.specs.Standings.{later_codes, no_office, is_key_after, is_agent_after, add_at, start, step}
 use Rattle.bsp_hot_check.proofs.SumLemmas.{codes_of}
 use Rattle.bsp_hot_check.proofs.PartialItems.{PartialItem, code_of, parts_so_far, progress_of, IsSound}
 

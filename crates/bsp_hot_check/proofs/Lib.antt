@@ -1,5 +1,4 @@
 -- Lemmas of this crate.
-pub mod NumberLemmas
 pub mod SizeLemmas
 pub mod SumLemmas
 pub mod PartialItems

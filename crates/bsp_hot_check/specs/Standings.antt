@@ -1,25 +1,25 @@
 -- How records stand with one more, where those before allow it.
-use Rattle.std.specs.Prelude.{◌≡◌, ◌≤◌, ℕ, ℤ, pos, ◌+◌, ◌*◌, ◌^◌, ◌==◌, ◌-ℤ◌, nat_lt, unsigned_abs, Bool, true, false, not, ◌&&◌, ◌||◌, List, [], ◌∷◌, Option, Some, None, is_none, if◌then◌else◌}
+use Rattle.std.specs.Prelude.{◌≡◌, ◌≤◌, ℕ, pos, ◌+◌, ◌==◌, ◌-ℤ◌, nat_lt, Bool, true, false, not, ◌&&◌, ◌||◌, List, [], ◌∷◌, Option, Some, None, is_none, if◌then◌else◌}
 use Rattle.std.specs.List.{find}
 use Rattle.std.specs.Str.{bytes_eq}
-use Rattle.bsp_hot_check.specs.declared.model.DocumentCode.{DocumentCode}
-use Rattle.bsp_hot_check.specs.declared.model.DocumentCode.TheVariants.{Tktt, Rfnd, Canx, Adma, Acma}
-use Rattle.bsp_hot_check.specs.declared.model.Sums.{Sums}
+use Rattle.bsp_hot_records.specs.declared.code.DocumentCode.{DocumentCode}
+use Rattle.bsp_hot_records.specs.declared.code.DocumentCode.TheVariants.{Tktt, Rfnd, Canx, Adma, Acma}
+use Rattle.bsp_hot_records.specs.declared.totals.Sums.{Sums}
 use Rattle.bsp_hot_check.specs.declared.model.HotTotals.{HotTotals}
-use Rattle.bsp_hot_check.specs.declared.model.Heading.{Heading as JudgedHeading}
-use Rattle.bsp_hot_check.specs.declared.model.OfficeHeader.{OfficeHeader}
-use Rattle.bsp_hot_check.specs.declared.model.TransactionHeader.{TransactionHeader}
+use Rattle.bsp_hot_records.specs.declared.model.Heading.{Heading as JudgedHeading}
+use Rattle.bsp_hot_records.specs.declared.model.OfficeHeader.{OfficeHeader}
+use Rattle.bsp_hot_records.specs.declared.model.TransactionHeader.{TransactionHeader}
 use Rattle.bsp_hot_check.specs.declared.model.DocumentKey.{DocumentKey}
-use Rattle.bsp_hot_check.specs.declared.model.Document.{Document as JudgedDocument}
-use Rattle.bsp_hot_check.specs.declared.model.Part.{Part as JudgedPart}
-use Rattle.bsp_hot_check.specs.declared.model.Part.TheVariants as part_is
-use Rattle.bsp_hot_check.specs.declared.model.PartOf.{PartOf}
-use Rattle.bsp_hot_check.specs.declared.model.CodeTotals.{CodeTotals}
-use Rattle.bsp_hot_check.specs.declared.model.OfficeTotals.{OfficeTotals}
-use Rattle.bsp_hot_check.specs.declared.model.PeriodTotals.{PeriodTotals}
-use Rattle.bsp_hot_check.specs.declared.model.FileTotals.{FileTotals}
-use Rattle.bsp_hot_check.specs.declared.model.Record.{Record as JudgedRecord}
-use Rattle.bsp_hot_check.specs.declared.model.Record.TheVariants as record_is
+use Rattle.bsp_hot_records.specs.declared.model.Document.{Document as JudgedDocument}
+use Rattle.bsp_hot_records.specs.declared.model.Part.{Part as JudgedPart}
+use Rattle.bsp_hot_records.specs.declared.model.Part.TheVariants as part_is
+use Rattle.bsp_hot_records.specs.declared.model.PartOf.{PartOf}
+use Rattle.bsp_hot_records.specs.declared.model.CodeTotals.{CodeTotals}
+use Rattle.bsp_hot_records.specs.declared.model.OfficeTotals.{OfficeTotals}
+use Rattle.bsp_hot_records.specs.declared.model.PeriodTotals.{PeriodTotals}
+use Rattle.bsp_hot_records.specs.declared.model.FileTotals.{FileTotals}
+use Rattle.bsp_hot_records.specs.declared.model.Record.{Record as JudgedRecord}
+use Rattle.bsp_hot_records.specs.declared.model.Record.TheVariants as record_is
 use Rattle.bsp_hot_check.specs.declared.model.Stage.{Stage}
 use Rattle.bsp_hot_check.specs.declared.model.Stage.TheVariants as stage
 use Rattle.bsp_hot_check.specs.declared.model.Progress.{Progress}
@@ -28,34 +28,8 @@ use Rattle.bsp_hot_check.specs.declared.model.Place.TheVariants.{Start, Headed, 
 use Rattle.bsp_hot_check.specs.declared.model.CodeSums.{CodeSums}
 use Rattle.bsp_hot_check.specs.declared.model.OfficeSums.{OfficeSums}
 use Rattle.bsp_hot_check.specs.declared.model.Standing.{Standing}
-use Rattle.bsp_hot_check.specs.Records.{Heading, Part, amounts, commission, related, cash, credit, exchange, Record, file_header, period_header, office_header, transaction_header, document, part, code_totals, office_totals, period_totals, file_totals, is_blank}
-use Rattle.bsp_hot_check.specs.Sums.{no_sums, one_document, add, has_totals, is_code, all_codes}
+use Rattle.bsp_hot_records.specs.Sums.{no_sums, one_document, add, has_totals, AreSmall, is_code, all_codes}
 use Rattle.bsp_hot_check.specs.Hot.{is_before}
-
--- ---- what is judged of a record
-
-abbrev pub judged_part : Part → JudgedPart
-judged_part (amounts a) = part_is.Amounts (not (is_blank a.taxes))
-judged_part (commission c) = part_is.Commission c.amount
-judged_part (related x) = part_is.Related x.airline
-judged_part (cash paid) = part_is.Cash paid
-judged_part (credit card) = part_is.Credit card.amount
-judged_part (exchange ex) = part_is.Exchange
-
-abbrev pub judged_heading : Heading → JudgedHeading
-judged_heading h = record { airline = h.airline; period = h.period; currency = h.currency }
-
-abbrev pub judged : Record → JudgedRecord
-judged (file_header h) = record_is.FileHeader (judged_heading h)
-judged (period_header period days) = record_is.PeriodHeader period
-judged (office_header agent period currency) = record_is.OfficeHeader (record { agent = agent; period = period; currency = currency })
-judged (transaction_header n airline) = record_is.TransactionHeader (record { transaction = n; airline = airline })
-judged (document n agent c d) = record_is.Document (record { transaction = n; agent = agent; code = c; number = d.number })
-judged (part n x) = record_is.PartOf (record { transaction = n; part = judged_part x })
-judged (code_totals agent c totals) = record_is.CodeTotals (record { agent = agent; code = c; totals = totals })
-judged (office_totals agent totals) = record_is.OfficeTotals (record { agent = agent; totals = totals })
-judged (period_totals period offices totals) = record_is.PeriodTotals (record { period = period; offices = offices; totals = totals })
-judged (file_totals airline records totals) = record_is.FileTotals (record { airline = airline; records = records; totals = totals })
 
 -- ---- what may stand behind what
 
@@ -362,13 +336,6 @@ totals_at at = record { records = at.records; documents = at.file.documents; net
 
 -- ---- sizes
 
--- sums of this many records, each of which adds one document or an amount of eleven digits at most
-pub record AreSmall (n : ℕ) (s : Sums) : Type 0 where
-  pub documents : s.documents ≤ n
-  pub cash : unsigned_abs s.cash ≤ n * 10 ^ 11
-  pub credit : unsigned_abs s.credit ≤ n * 10 ^ 11
-  pub commission : unsigned_abs s.commission ≤ n * 10 ^ 11
-
 pub record AreSmallSums (n : ℕ) (sums : CodeSums) : Type 0 where
   pub tktt : AreSmall n sums.tktt
   pub rfnd : AreSmall n sums.rfnd
@@ -383,20 +350,6 @@ pub record IsSmall (at : Standing) : Type 0 where
   pub file : AreSmall at.records at.file
   pub codes : AreSmallSums at.records at.office.codes
   pub all : AreSmall at.records at.office.all
-
--- an amount of eleven digits at most
-abbrev pub IsSmallAmount : ℤ → Type 0
-IsSmallAmount amount = unsigned_abs amount ≤ 99_999_999_999
-
-abbrev pub IsSmallPart : JudgedPart → Type 0
-IsSmallPart (part_is.Commission amount) = IsSmallAmount amount
-IsSmallPart (part_is.Cash amount) = IsSmallAmount amount
-IsSmallPart (part_is.Credit amount) = IsSmallAmount amount
-IsSmallPart _ = Unit {0}
-
-abbrev pub IsSmallRecord : JudgedRecord → Type 0
-IsSmallRecord (record_is.PartOf y) = IsSmallPart y.part
-IsSmallRecord _ = Unit {0}
 
 -- with one record more it fits, too
 pub record IsSmallNext (at next : Standing) : Type 0 where

@@ -2,17 +2,17 @@
 
 ghost use Rattle.std.specs.Prelude.{◌≡◌, ◌<◌, ◌^◌, length, true, false, Some, None};
 ghost use Rattle.bsp_records.specs.Columns.{is_wide};
-ghost use Rattle.bsp_hot_check.specs.Standings.{heading_step, period_step, office_step, transaction_step, document_step, part_step, code_totals_step, office_totals_step, period_totals_step, file_totals_step, step, is_airline, is_period, is_currency, is_agent, is_agent_after, is_key_after, is_next, IsSmall, IsSmallPart, IsSmallRecord, IsSmallNext};
-ghost use Rattle.bsp_hot_check.specs.Reading.{step_line};
+ghost use Rattle.bsp_hot_records.specs.Judged.{IsSmallPart, IsSmallRecord};
+ghost use Rattle.bsp_hot_check.specs.Standings.{heading_step, period_step, office_step, transaction_step, document_step, part_step, code_totals_step, office_totals_step, period_totals_step, file_totals_step, step, is_airline, is_period, is_currency, is_agent, is_agent_after, is_key_after, is_next, IsSmall, IsSmallNext};
+ghost use Rattle.bsp_hot_check.specs.Judging.{step_line};
 
-use crate::agent::AgentDigits;
-use crate::model::{
-    CodeTotals, Document, DocumentCode, DocumentKey, FileTotals, Heading, OfficeHeader, OfficeSums,
-    OfficeTotals, PartOf, PeriodTotals, Place, Progress, Record, Stage, Standing, Sums,
-    TransactionHeader,
-};
-use crate::reading::read_record;
+use crate::model::{DocumentKey, OfficeSums, Place, Progress, Stage, Standing};
+use crate::places::sums_of;
 use bsp_fields::{AirlineCode, PeriodCode};
+use bsp_hot_records::{
+    AgentDigits, CodeTotals, Document, DocumentCode, FileTotals, Heading, OfficeHeader,
+    OfficeTotals, PartOf, PeriodTotals, Record, Sums, TransactionHeader, read_record,
+};
 
 /// Whether the airline is the file's.
 fn is_airline(heading: Option<Heading>, airline: AirlineCode) -> bool
@@ -200,7 +200,7 @@ impl Standing {
         if !allowed {
             return false;
         }
-        self.count(progress.behind(next.part), next.part.sums());
+        self.count(progress.behind(next.part), sums_of(next.part));
         true
     }
 
