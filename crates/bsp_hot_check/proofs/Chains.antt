@@ -2,12 +2,12 @@
 use Rattle.std.proofs.Common.{◌≡◌, ◌<◌, ℕ, ◌+◌, pos, Bool, true, false, List, [], ◌∷◌, ◌++◌, length, map, filter, Option, Some, None, refl, sym, ap, subst, ◌∙◌, arith, inl, inr, append_assoc, append-nil, add-zero}
 use Rattle.std.specs.List.{find}
 use Rattle.std.proofs.lemmas.Bool.{cases_Bool, lt-ltb}
-use Rattle.bsp_hot_check.specs.declared.model.DocumentCode.{DocumentCode}
-use Rattle.bsp_hot_check.specs.declared.model.DocumentCode.TheVariants.{Tktt, Rfnd, Canx, Adma, Acma}
+use Rattle.bsp_hot_records.specs.declared.code.DocumentCode.{DocumentCode}
+use Rattle.bsp_hot_records.specs.declared.code.DocumentCode.TheVariants.{Tktt, Rfnd, Canx, Adma, Acma}
 use Rattle.bsp_hot_check.specs.declared.model.DocumentKey.{DocumentKey}
-use Rattle.bsp_hot_check.specs.declared.model.Sums.{Sums}
-use Rattle.bsp_hot_check.specs.Records.{Days, Heading, Document, Amounts, Commission, Related, Part, Record, period_header, transaction_header, document, part, office_totals, period_totals, file_totals}
-use Rattle.bsp_hot_check.specs.Sums.{add, with_net, all_codes}
+use Rattle.bsp_hot_records.specs.declared.totals.Sums.{Sums}
+use Rattle.bsp_hot_records.specs.Records.{Days, Heading, Document, Amounts, Commission, Related, Part, Record, period_header, transaction_header, document, part, office_totals, period_totals, file_totals}
+use Rattle.bsp_hot_records.specs.Sums.{add, with_net, all_codes}
 use Rattle.bsp_hot_check.specs.Hot.{cash_only, credit_only, cash_and_credit, Body, sale, exchanged, refund, cancellation, debit_memo, credit_memo, Item, Office, File, code_of_body, parts_of, is_before, IsAfter, AreItems, IsBody, IsBehind, AreOffices, IsFile, document_sums, items_sums, code_sums, file_sums, item_records, items_records, has_code, closing_records, office_records, offices_records, headers, all_but_last, records_of}
 use Rattle.bsp_hot_check.specs.Standings.{later_codes, is_key_after, is_agent_after}
 use Rattle.bsp_hot_check.proofs.SumLemmas.{code_sums_more}

@@ -4,15 +4,15 @@ use Rattle.std.specs.List.{find}
 use Rattle.std.specs.Option.{is_none}
 use Rattle.std.proofs.lemmas.Bool.{and_from, cases_Bool, ltb-true}
 use Rattle.std.proofs.lemmas.List.{map-append}
-use Rattle.bsp_hot_check.specs.declared.model.DocumentCode.{DocumentCode}
-use Rattle.bsp_hot_check.specs.declared.model.DocumentCode.TheVariants.{Tktt, Rfnd, Canx, Adma, Acma}
-use Rattle.bsp_hot_check.specs.declared.model.Sums.{Sums}
-use Rattle.bsp_hot_check.specs.declared.model.Heading.{Heading as JudgedHeading}
+use Rattle.bsp_hot_records.specs.declared.code.DocumentCode.{DocumentCode}
+use Rattle.bsp_hot_records.specs.declared.code.DocumentCode.TheVariants.{Tktt, Rfnd, Canx, Adma, Acma}
+use Rattle.bsp_hot_records.specs.declared.totals.Sums.{Sums}
+use Rattle.bsp_hot_records.specs.declared.model.Heading.{Heading as JudgedHeading}
 use Rattle.bsp_hot_check.specs.declared.model.Place.{Place}
 use Rattle.bsp_hot_check.specs.declared.model.Place.TheVariants.{InDocument, Totalled}
 use Rattle.bsp_hot_check.specs.declared.model.OfficeSums.{OfficeSums}
-use Rattle.bsp_hot_check.specs.Records.{Heading, Document, Record, office_header, code_totals, office_totals, period_totals, file_totals}
-use Rattle.bsp_hot_check.specs.Sums.{add, with_net, has_totals, is_code, all_codes}
+use Rattle.bsp_hot_records.specs.Records.{Heading, Document, Record, office_header, code_totals, office_totals, period_totals, file_totals}
+use Rattle.bsp_hot_records.specs.Sums.{add, with_net, has_totals, is_code, all_codes}
 use Rattle.bsp_hot_check.specs.Hot.{Body, Item, Office, File, AreItems, IsBehind, AreOffices, IsFile, items_sums, code_sums, file_sums, items_records, has_code, office_records, offices_records, headers, all_but_last}
 use Rattle.bsp_hot_check.specs.Standings.{later_codes, left_codes, sums_at, stands_in, next_code, is_next, is_agent_after, code_totals_step, office_totals_step, period_totals_step, file_totals_step}
 use Rattle.bsp_hot_check.proofs.SumLemmas.{file_sums_snoc, codes_of}
@@ -95,7 +95,7 @@ is_code_refl Adma = refl
 is_code_refl Acma = refl
 
 -- the BOT93 of the code that is found comes next
-code_total : (r r2 : ℕ) (p : Place) (h : JudgedHeading) (o t t2 : ℕ) (f : Sums) (agent : ℕ) (w : OfficeSums) (items : List Item) (c : DocumentCode) → w ≡ office_of items → find (has_code items) (left_codes p) ≡ Some c → r + 1 ≡ r2 → t ≡ t2
+code_total : (r r2 : ℕ) (p : Place) (h : Option JudgedHeading) (o t t2 : ℕ) (f : Sums) (agent : ℕ) (w : OfficeSums) (items : List Item) (c : DocumentCode) → w ≡ office_of items → find (has_code items) (left_codes p) ≡ Some c → r + 1 ≡ r2 → t ≡ t2
     → code_totals_step (made r p h o t (add f w.all) (Some agent) w) (record { agent = agent; code = c; totals = with_net (code_sums c items) })
     ≡ Some (made r2 (Totalled c) h o t2 (add f (items_sums items)) (Some agent) (office_of items))
 unfolding code_totals_step

@@ -1,18 +1,19 @@
 -- A file as far as its records stand, and what the standing of the records is.
 use Rattle.std.proofs.Common.{◌≡◌, ◌<◌, ℕ, ◌+◌, true, List, [], ◌∷◌, ◌++◌, length, map, filter, Option, Some, None}
 use Rattle.std.specs.List.{last_or}
-use Rattle.bsp_hot_check.specs.declared.model.DocumentCode.{DocumentCode}
-use Rattle.bsp_hot_check.specs.declared.model.Sums.{Sums}
+use Rattle.bsp_hot_records.specs.declared.code.DocumentCode.{DocumentCode}
+use Rattle.bsp_hot_records.specs.declared.totals.Sums.{Sums}
 use Rattle.bsp_hot_check.specs.declared.model.DocumentKey.{DocumentKey}
-use Rattle.bsp_hot_check.specs.declared.model.Heading.{Heading as JudgedHeading}
+use Rattle.bsp_hot_records.specs.declared.model.Heading.{Heading as JudgedHeading}
 use Rattle.bsp_hot_check.specs.declared.model.Place.{Place}
 use Rattle.bsp_hot_check.specs.declared.model.Place.TheVariants.{Headed, Between, Opened, Begun, InDocument, Totalled, Closed, Ended}
 use Rattle.bsp_hot_check.specs.declared.model.OfficeSums.{OfficeSums}
 use Rattle.bsp_hot_check.specs.declared.model.Standing.{Standing}
-use Rattle.bsp_hot_check.specs.Records.{Heading, Document, Record, file_header, office_header, transaction_header, document, part, code_totals}
-use Rattle.bsp_hot_check.specs.Sums.{no_sums, add, with_net, all_codes}
+use Rattle.bsp_hot_records.specs.Records.{Heading, Document, Record, file_header, office_header, transaction_header, document, part, code_totals}
+use Rattle.bsp_hot_records.specs.Sums.{no_sums, add, with_net, all_codes}
 use Rattle.bsp_hot_check.specs.Hot.{Item, Office, File, document_sums, items_sums, code_sums, file_sums, items_records, has_code, headers, offices_records, all_but_last, records_of, AreItems, IsFile}
-use Rattle.bsp_hot_check.specs.Standings.{judged, judged_heading, later_codes, no_office, is_key_after, is_agent_after, add_at, start, step}
+use Rattle.bsp_hot_records.specs.Judged.{judged, judged_heading}
+use Rattle.bsp_hot_check.specs.Standings.{later_codes, no_office, is_key_after, is_agent_after, add_at, start, step}
 use Rattle.bsp_hot_check.proofs.SumLemmas.{codes_of}
 use Rattle.bsp_hot_check.proofs.PartialItems.{PartialItem, code_of, parts_so_far, progress_of, IsSound}
 
@@ -95,7 +96,7 @@ office_with items d g = record {
 }
 
 -- a standing of these parts
-abbrev pub made : ℕ → Place → JudgedHeading → ℕ → ℕ → Sums → Option ℕ → OfficeSums → Standing
+abbrev pub made : ℕ → Place → Option JudgedHeading → ℕ → ℕ → Sums → Option ℕ → OfficeSums → Standing
 made records place heading offices transactions file agent office = record {
   records = records;
   place = place;
@@ -110,20 +111,20 @@ made records place heading offices transactions file agent office = record {
 -- behind the headers of a file and its offices
 abbrev pub behind_offices : File → ℕ → Place → Standing
 behind_offices f records place =
-    made records place (judged_heading f.heading) (length f.offices) (count_items f.offices) (file_sums f.offices)
+    made records place (Some (judged_heading f.heading)) (length f.offices) (count_items f.offices) (file_sums f.offices)
     (last_agent None f.offices) no_office
 
 -- and behind items of one more office
 abbrev pub in_office : File → ℕ → ℕ → Place → ℕ → OfficeSums → Standing
 in_office f agent records place transactions office =
-    made records place (judged_heading f.heading) (length f.offices) transactions (add (file_sums f.offices) office.all) (Some agent) office
+    made records place (Some (judged_heading f.heading)) (length f.offices) transactions (add (file_sums f.offices) office.all) (Some agent) office
 
 abbrev pub standing_of : Draft → Standing
 standing_of nothing = start
-standing_of (headed h) = made 1 Headed (judged_heading h) 0 0 no_sums None no_office
+standing_of (headed h) = made 1 Headed (Some (judged_heading h)) 0 0 no_sums None no_office
 standing_of (between f) = behind_offices f (length (front f)) Between
 standing_of (opened f agent) =
-    made (length (with_items f agent [])) Opened (judged_heading f.heading) (length f.offices) (count_items f.offices)
+    made (length (with_items f agent [])) Opened (Some (judged_heading f.heading)) (length f.offices) (count_items f.offices)
     (file_sums f.offices) (Some agent) no_office
 standing_of (begun f agent items) =
     in_office f agent (length (so_far (begun f agent items))) Begun (number f items) (office_of items)

@@ -7,12 +7,14 @@ use Rattle.std.proofs.Math.Seq.{take-append_seam, take-append-add}
 use Rattle.bsp_records.specs.Lines.{lines, BeginsOtherwise}
 use Rattle.bsp_records.specs.Columns.{columns, is_wide}
 use Rattle.bsp_records.specs.Fields.{spells}
-use Rattle.bsp_hot_check.specs.declared.name.RecordName.{RecordName}
+use Rattle.bsp_hot_records.specs.declared.name.RecordName.{RecordName}
 use Rattle.bsp_hot_check.specs.declared.model.Standing.{Standing}
-use Rattle.bsp_hot_check.specs.Records.{Record, letters, name_of, fields_fit, record_of, IsRecord, AreRecords}
+use Rattle.bsp_hot_records.specs.Records.{Record, letters, name_of, fields_fit, record_of, IsRecord, AreRecords}
 use Rattle.bsp_hot_check.specs.Hot.{File, records_of, Hot, BeginFile, IsFirstFault}
-use Rattle.bsp_hot_check.specs.Standings.{judged, step, start, is_ended}
-use Rattle.bsp_hot_check.specs.Reading.{named_record, record_at, judged_or, judged_at, judged_if, step_or, step_line, or_fault, judge_from}
+use Rattle.bsp_hot_records.specs.Judged.{judged}
+use Rattle.bsp_hot_check.specs.Standings.{step, start, is_ended}
+use Rattle.bsp_hot_records.specs.Reading.{named_record, record_at, judged_or}
+use Rattle.bsp_hot_check.specs.Judging.{step_or, step_line, or_fault, judge_from}
 use Rattle.bsp_hot_check.proofs.Drafts.{Draft, nothing, headed, between, opened, begun, in_item, totalled, closed, ended, so_far, standing_of, IsSoundDraft, Next}
 use Rattle.bsp_hot_check.proofs.Taken.{taken}
 use Rattle.bsp_hot_check.proofs.Chains.{Chain, file_chain, reaches}
@@ -22,15 +24,6 @@ use Rattle.bsp_hot_check.proofs.Chains.{Chain, file_chain, reaches}
 read_as : (n : ℕ) (line : List ℕ) (r : Record) → IsRecord n line r → record_at n line ≡ Some r
 unfolding record_at
 read_as n line r is = rw (is.has.wide, is.has.sequence, is.has.digits, is.has.letters_are, is.has.fields, is.says) refl
-
--- what is judged of a line with the name
-pub read_as_named : (n : ℕ) (line : List ℕ) (name : RecordName) → is_wide line ≡ true → spells n (columns 4 11 line) ≡ true → name_of (columns 12 13 line) ≡ Some name → bytes_eq (columns 1 3 line) (letters name) ≡ true → judged_if name line ≡ judged_at n line
-unfolding record_at
-read_as_named n line name wide sequence digits letters_are =
-    elim (cases_Bool (fields_fit name line)) [
-      | inl k ↦ rw (wide, sequence, digits, letters_are, k) refl
-      | inr k ↦ rw (wide, sequence, digits, letters_are, k) refl
-    ]
 
 by_name : (n : ℕ) (line : List ℕ) (r : Record) (name : Option RecordName) → name_of (columns 12 13 line) ≡ name → is_wide line ≡ true → spells n (columns 4 11 line) ≡ true → named_record name line ≡ Some r → IsRecord n line r
 by_name n line r None e wide sequence h = absurd (cc h)

@@ -5,11 +5,11 @@ use Rattle.std.proofs.lemmas.List.{take-append-drop, take-take}
 use Rattle.bsp_hot_check.specs.declared.model.Standing.{Standing}
 use Rattle.bsp_hot_check.specs.declared.model.HotTotals.{HotTotals}
 use Rattle.bsp_hot_check.specs.declared.model.RecordFault.{RecordFault}
-use Rattle.bsp_hot_check.specs.Records.{Record, AreRecords}
+use Rattle.bsp_hot_records.specs.Records.{Record, AreRecords}
 use Rattle.bsp_hot_check.specs.Checked.{HasTotals}
 use Rattle.bsp_hot_check.specs.Hot.{File, records_of, Hot, totals_of_file, BeginFile, IsFirstFault, HotOrFault}
 use Rattle.bsp_hot_check.specs.Standings.{start, totals_at}
-use Rattle.bsp_hot_check.specs.Reading.{judge_from}
+use Rattle.bsp_hot_check.specs.Judging.{judge_from}
 use Rattle.bsp_hot_check.proofs.Drafts.{ended, standing_of}
 use Rattle.bsp_hot_check.proofs.Judging.{IsJudged, judged_all, hot_judged}
 

@@ -1,14 +1,15 @@
 -- An item as far as its records stand.
 use Rattle.std.proofs.Common.{◌≡◌, ℕ, ℤ, Bool, true, false, not, List, [], ◌∷◌, ◌++◌, Some, None, refl, eqb-true}
 use Rattle.std.proofs.lemmas.Bool.{eq-eqb}
-use Rattle.bsp_hot_check.specs.declared.model.DocumentCode.{DocumentCode}
-use Rattle.bsp_hot_check.specs.declared.model.DocumentCode.TheVariants.{Tktt, Rfnd, Canx, Adma, Acma}
+use Rattle.bsp_hot_records.specs.declared.code.DocumentCode.{DocumentCode}
+use Rattle.bsp_hot_records.specs.declared.code.DocumentCode.TheVariants.{Tktt, Rfnd, Canx, Adma, Acma}
 use Rattle.bsp_hot_check.specs.declared.model.Stage.{Stage}
 use Rattle.bsp_hot_check.specs.declared.model.Stage.TheVariants as stage
 use Rattle.bsp_hot_check.specs.declared.model.Progress.{Progress}
-use Rattle.bsp_hot_check.specs.Records.{Document, Amounts, Commission, Related, CardPayment, Part, amounts, commission, related, cash, credit, exchange, is_blank}
+use Rattle.bsp_hot_records.specs.Records.{Document, Amounts, Commission, Related, CardPayment, Part, amounts, commission, related, cash, credit, exchange, is_blank}
 use Rattle.bsp_hot_check.specs.Hot.{Forms, cash_only, credit_only, cash_and_credit, Body, sale, exchanged, refund, cancellation, debit_memo, credit_memo, Item, code_of_body, forms_parts, parts_of, IsBody, IsItem}
-use Rattle.bsp_hot_check.specs.Standings.{judged_part, is_complete, is_complete_progress, takes, progress_behind}
+use Rattle.bsp_hot_records.specs.Judged.{judged_part}
+use Rattle.bsp_hot_check.specs.Standings.{is_complete, is_complete_progress, takes, progress_behind}
 
 -- an item that is whole, or what stands of one
 pub data PartialItem : Type 0 where

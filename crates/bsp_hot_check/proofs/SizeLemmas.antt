@@ -1,38 +1,23 @@
 -- Sums fit the program's numbers.
-use Rattle.std.proofs.Common.{◌≡◌, ◌<◌, ◌≤◌, ℕ, ◌+◌, ◌-◌, ◌*◌, ◌^◌, ℤ, ◌+ℤ◌, Bool, true, false, Option, Some, None, IfSome, refl, subst, arith, to_z, of_z}
-use Rattle.std.specs.Int.{w128}
-use Rattle.std.specs.Int.RustNames.{unsigned_abs}
-use Rattle.std.proofs.lemmas.Int.{ints, to_z-of_z, fits_signed_from_abs}
-use Rattle.bsp_hot_check.specs.declared.model.DocumentCode.{DocumentCode}
-use Rattle.bsp_hot_check.specs.declared.model.DocumentCode.TheVariants.{Tktt, Rfnd, Canx, Adma, Acma}
-use Rattle.bsp_hot_check.specs.declared.model.Sums.{Sums}
+use Rattle.std.proofs.Common.{◌≡◌, ℕ, ◌+◌, Bool, true, false, Option, Some, None, IfSome, refl, subst, arith}
+use Rattle.bsp_hot_records.specs.declared.code.DocumentCode.{DocumentCode}
+use Rattle.bsp_hot_records.specs.declared.code.DocumentCode.TheVariants.{Tktt, Rfnd, Canx, Adma, Acma}
+use Rattle.bsp_hot_records.specs.declared.totals.Sums.{Sums}
 use Rattle.bsp_hot_check.specs.declared.model.CodeSums.{CodeSums}
-use Rattle.bsp_hot_check.specs.declared.model.Part.{Part}
-use Rattle.bsp_hot_check.specs.declared.model.Part.TheVariants as part_is
-use Rattle.bsp_hot_check.specs.declared.model.PartOf.{PartOf}
-use Rattle.bsp_hot_check.specs.declared.model.Record.{Record}
-use Rattle.bsp_hot_check.specs.declared.model.Record.TheVariants as record_is
+use Rattle.bsp_hot_records.specs.declared.model.Heading.{Heading}
+use Rattle.bsp_hot_records.specs.declared.model.Part.{Part}
+use Rattle.bsp_hot_records.specs.declared.model.Part.TheVariants as part_is
+use Rattle.bsp_hot_records.specs.declared.model.PartOf.{PartOf}
+use Rattle.bsp_hot_records.specs.declared.model.Record.{Record}
+use Rattle.bsp_hot_records.specs.declared.model.Record.TheVariants as record_is
 use Rattle.bsp_hot_check.specs.declared.model.Progress.{Progress}
 use Rattle.bsp_hot_check.specs.declared.model.Place.{Place}
 use Rattle.bsp_hot_check.specs.declared.model.Place.TheVariants.{Headed, Between, Opened, Begun, InDocument, Totalled, Closed, Ended}
 use Rattle.bsp_hot_check.specs.declared.model.Standing.{Standing}
-use Rattle.bsp_hot_check.specs.Sums.{no_sums, one_document, add}
-use Rattle.bsp_hot_check.specs.Standings.{sums_at, add_at, moved, counted, allowed, judged_sums, progress_behind, heading_step, period_step, office_step, transaction_step, document_step, part_step_in, part_step, code_totals_step, office_totals_step, period_totals_step, file_totals_step, step, AreSmall, AreSmallSums, IsSmall, IsSmallPart, IsSmallRecord, IsSmallNext}
-
--- the size of a sum
-pub abs_plus : (x y : ℤ) → unsigned_abs (x +ℤ y) ≤ unsigned_abs x + unsigned_abs y
-abs_plus x y = omega (arith, ints)
-
--- a number in the places of an `i128`
-pub stored : (z : ℤ) → unsigned_abs z < 2 ^ 127 → to_z w128 (of_z w128 z) ≡ z
-stored z h = to_z-of_z w128 z (fits_signed_from_abs w128 z h)
-
-pub added : (x y : ℤ) → unsigned_abs x ≤ 2 ^ 63 * 10 ^ 11 → unsigned_abs y ≤ (2 ^ 63 - 1) * 10 ^ 11 → to_z w128 (of_z w128 (to_z w128 (of_z w128 x) +ℤ to_z w128 (of_z w128 y))) ≡ x +ℤ y
-added x y p q =
-    let a = stored x (omega arith) in
-    let b = stored y (omega arith) in
-    let c = stored (x +ℤ y) (omega (arith, abs_plus x y)) in
-    rw (a, b) c
+use Rattle.bsp_hot_records.specs.Sums.{no_sums, one_document, AreSmall}
+use Rattle.bsp_hot_records.proofs.SizeLemmas.{no_small, one_small, small_add, one_longer}
+use Rattle.bsp_hot_records.specs.Judged.{IsSmallPart, IsSmallRecord}
+use Rattle.bsp_hot_check.specs.Standings.{key_of, sums_at, add_at, moved, counted, allowed, judged_sums, progress_behind, heading_step, period_step, office_step, transaction_step, document_step, part_step_in, part_step, code_totals_step, office_totals_step, period_totals_step, file_totals_step, step, AreSmallSums, IsSmall, IsSmallNext}
 
 -- the sums of one code are small where those of all are
 pub small_at : (n : ℕ) (sums : CodeSums) (c : DocumentCode) → AreSmallSums n sums → AreSmall n (sums_at sums c)
@@ -42,34 +27,7 @@ small_at n sums Canx h = h.canx
 small_at n sums Adma h = h.adma
 small_at n sums Acma h = h.acma
 
-pub small_more : (n m : ℕ) (s : Sums) → n ≤ m → AreSmall n s → AreSmall m s
-small_more n m s more h = record {
-  documents = omega arith;
-  cash = omega arith;
-  credit = omega arith;
-  commission = omega arith;
-}
-
-pub no_small : (n : ℕ) → AreSmall n no_sums
-no_small n = record { documents = omega arith; cash = omega arith; credit = omega arith; commission = omega arith }
-
-pub one_small : AreSmall 1 one_document
-one_small = record { documents = omega arith; cash = omega arith; credit = omega arith; commission = omega arith }
-
--- both together
-pub small_add : (n m : ℕ) (s t : Sums) → AreSmall n s → AreSmall m t → AreSmall (n + m) (add s t)
-unfolding add
-small_add n m s t h also = record {
-  documents = omega arith;
-  cash = omega (arith, abs_plus s.cash t.cash);
-  credit = omega (arith, abs_plus s.credit t.credit);
-  commission = omega (arith, abs_plus s.commission t.commission);
-}
-
 -- ---- with one more record
-
-one_longer : (n : ℕ) (s : Sums) → AreSmall n s → AreSmall (n + 1) s
-one_longer n s h = small_more n (n + 1) s (omega arith) h
 
 longer : (n : ℕ) (sums : CodeSums) → AreSmallSums n sums → AreSmallSums (n + 1) sums
 longer n sums h = record {
@@ -117,10 +75,10 @@ by_allowed : (test : Bool) (at x next : Standing) → allowed test x ≡ Some ne
 by_allowed true at x next e g = let k : x ≡ next = cc in subst (IsSmallNext at) k g
 by_allowed false at x next e g = absurd cc
 
-small_next_part : (at next : Standing) (place : Place) (y : PartOf) → IsSmall at → IsSmallPart y.part → part_step_in at place y ≡ Some next → IsSmallNext at next
-small_next_part at next (InDocument x) y h one e =
+small_next_part : (at next : Standing) (place : Place) (heading : Option Heading) (y : PartOf) → IsSmall at → IsSmallPart y.part → part_step_in at place heading y ≡ Some next → IsSmallNext at next
+small_next_part at next (InDocument x) (Some heading) y h one e =
     by_allowed _ at (counted at (progress_behind x y.part) (judged_sums y.part)) next e (record { records = refl; small = small_counted at (progress_behind x y.part) (judged_sums y.part) h (small_part y.part one) })
-small_next_part at next _ y h one e = absurd cc
+small_next_part at next _ _ y h one e = absurd cc
 
 small_next : (at next : Standing) (r : Record) → IsSmall at → IsSmallRecord r → step at r ≡ Some next → IsSmallNext at next
 unfolding heading_step period_step office_step transaction_step document_step part_step code_totals_step office_totals_step period_totals_step file_totals_step
@@ -135,9 +93,9 @@ small_next at next (record_is.TransactionHeader t) h one e =
     let m = small_moved at Begun h in
     by_allowed _ at _ next e (record { records = refl; small = record { offices = m.offices; transactions = omega (arith, h.transactions); file = m.file; codes = m.codes; all = m.all } })
 small_next at next (record_is.Document d) h one e =
-    let known : IsSmall (record at { office = record at.office { latest = Some d.key } }) = record { offices = h.offices; transactions = h.transactions; file = h.file; codes = h.codes; all = h.all } in
+    let known : IsSmall (record at { office = record at.office { latest = Some (key_of d) } }) = record { offices = h.offices; transactions = h.transactions; file = h.file; codes = h.codes; all = h.all } in
     by_allowed _ at _ next e (record { records = refl; small = small_counted _ _ one_document known one_small })
-small_next at next (record_is.PartOf y) h one e = small_next_part at next at.place y h one e
+small_next at next (record_is.PartOf y) h one e = small_next_part at next at.place at.heading y h one e
 small_next at next (record_is.CodeTotals t) h one e = by_allowed _ at _ next e (record { records = refl; small = small_moved at (Totalled t.code) h })
 small_next at next (record_is.OfficeTotals t) h one e =
     let m = small_moved at Between h in

@@ -6,18 +6,20 @@ use Rattle.std.proofs.lemmas.Bool.{and_from, eq-eqb}
 use Rattle.std.proofs.lemmas.Bool.Decides.{Decides-int_eq}
 use Rattle.std.proofs.lemmas.Slice.Eq.{bytes_eq-Decides}
 use Rattle.std.proofs.lemmas.List.{map-append}
-use Rattle.bsp_hot_check.specs.declared.model.DocumentCode.{DocumentCode}
-use Rattle.bsp_hot_check.specs.declared.model.Sums.{Sums}
-use Rattle.bsp_hot_check.specs.declared.model.Heading.{Heading as JudgedHeading}
+use Rattle.bsp_hot_records.specs.declared.code.DocumentCode.{DocumentCode}
+use Rattle.bsp_hot_records.specs.declared.totals.Sums.{Sums}
+use Rattle.bsp_hot_records.specs.declared.model.Heading.{Heading as JudgedHeading}
 use Rattle.bsp_hot_check.specs.declared.model.Place.{Place}
 use Rattle.bsp_hot_check.specs.declared.model.Place.TheVariants.{InDocument}
 use Rattle.bsp_hot_check.specs.declared.model.OfficeSums.{OfficeSums}
 use Rattle.bsp_hot_check.specs.declared.model.Standing.{Standing}
-use Rattle.bsp_hot_check.specs.Records.{Days, Heading, Document, Part, amounts, commission, related, cash, credit, exchange, Record, file_header, period_header, office_header, transaction_header, document, part}
-use Rattle.bsp_hot_check.specs.Sums.{one_document, add, with_net, is_same, has_totals}
+use Rattle.bsp_hot_records.specs.Records.{Days, Heading, Document, Part, amounts, commission, related, cash, credit, exchange, Record, file_header, period_header, office_header, transaction_header, document, part}
+use Rattle.bsp_hot_records.specs.Sums.{one_document, add, with_net, is_same, has_totals}
 use Rattle.bsp_hot_check.specs.Hot.{Body, Item, File, IsAfter, AreItems, IsItem, IsFile, part_sums, document_sums, items_sums, file_sums, item_records, items_records}
-use Rattle.bsp_hot_check.specs.Standings.{judged_part, judged_sums, is_key_after, is_agent_after, add_at, allowed, heading_step, period_step, office_step, transaction_step, document_step, part_step}
-use Rattle.bsp_hot_check.proofs.SumLemmas.{plus_assoc, none_right, document_sums_none, document_sums_snoc, items_sums_snoc, codes_of, codes_snoc, add_at_more}
+use Rattle.bsp_hot_records.specs.Judged.{judged_part}
+use Rattle.bsp_hot_check.specs.Standings.{judged_sums, is_key_after, is_agent_after, add_at, allowed, heading_step, period_step, office_step, transaction_step, document_step, part_step}
+use Rattle.bsp_hot_records.proofs.SumLemmas.{plus_assoc, none_right}
+use Rattle.bsp_hot_check.proofs.SumLemmas.{document_sums_none, document_sums_snoc, items_sums_snoc, codes_of, codes_snoc, add_at_more}
 use Rattle.bsp_hot_check.proofs.PartialItems.{PartialItem, whole, first, code_of, parts_so_far, IsNextPart, item_with, is_item, is_whole, first_code, first_parts, first_progress, first_sound}
 use Rattle.bsp_hot_check.proofs.Drafts.{nothing, headed, between, opened, begun, in_item, count_items, number, front, with_items, partial_records, so_far, key_of, key_or, latest_key, last_agent, office_of, office_with, made, IsOpen, IsInItem, Next}
 
@@ -26,7 +28,7 @@ use Rattle.bsp_hot_check.proofs.Drafts.{nothing, headed, between, opened, begun,
 pub allowed_as : (test : Bool) (x y : Standing) → test ≡ true → x ≡ y → allowed test x ≡ Some y
 allowed_as test x y h e = rw (h, e) refl
 
-pub same : (r r2 : ℕ) (p p2 : Place) (h : JudgedHeading) (o o2 t t2 : ℕ) (f f2 : Sums) (a a2 : Option ℕ) (w w2 : OfficeSums) → r ≡ r2 → p ≡ p2 → o ≡ o2 → t ≡ t2 → f ≡ f2 → a ≡ a2 → w ≡ w2
+pub same : (r r2 : ℕ) (p p2 : Place) (h : Option JudgedHeading) (o o2 t t2 : ℕ) (f f2 : Sums) (a a2 : Option ℕ) (w w2 : OfficeSums) → r ≡ r2 → p ≡ p2 → o ≡ o2 → t ≡ t2 → f ≡ f2 → a ≡ a2 → w ≡ w2
     → made r p h o t f a w ≡ made r2 p2 h o2 t2 f2 a2 w2
 same r r2 p p2 h o o2 t t2 f f2 a a2 w w2 er ep eo et ef ea ew = rw (er, ep, eo, et, ef, ea, ew) refl
 

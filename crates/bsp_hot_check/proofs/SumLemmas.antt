@@ -1,33 +1,16 @@
 -- Sums with one more part, item or office.
-use Rattle.std.proofs.Common.{◌≡◌, true, false, List, [], ◌∷◌, ◌++◌, map, filter, refl, sym, ap, ◌∙◌, add_assoc, zero-add, add-zero, append-nil}
-use Rattle.std.proofs.Math.IntN.{+ℤ_assoc, +ℤ_idl, +ℤ_idr}
+use Rattle.std.proofs.Common.{◌≡◌, true, false, List, [], ◌∷◌, ◌++◌, map, filter, refl, sym, ap, ◌∙◌, append-nil}
 use Rattle.std.proofs.lemmas.List.{map-append}
 use Rattle.std.proofs.lemmas.List.Elements.{filter-append}
-use Rattle.bsp_hot_check.specs.declared.model.DocumentCode.{DocumentCode}
-use Rattle.bsp_hot_check.specs.declared.model.DocumentCode.TheVariants.{Tktt, Rfnd, Canx, Adma, Acma}
-use Rattle.bsp_hot_check.specs.declared.model.Sums.{Sums}
+use Rattle.bsp_hot_records.specs.declared.code.DocumentCode.{DocumentCode}
+use Rattle.bsp_hot_records.specs.declared.code.DocumentCode.TheVariants.{Tktt, Rfnd, Canx, Adma, Acma}
+use Rattle.bsp_hot_records.specs.declared.totals.Sums.{Sums}
 use Rattle.bsp_hot_check.specs.declared.model.CodeSums.{CodeSums}
-use Rattle.bsp_hot_check.specs.Records.{Part}
-use Rattle.bsp_hot_check.specs.Sums.{no_sums, one_document, add, sum_of, is_code}
+use Rattle.bsp_hot_records.specs.Records.{Part}
+use Rattle.bsp_hot_records.specs.Sums.{one_document, add, sum_of, is_code}
+use Rattle.bsp_hot_records.proofs.SumLemmas.{plus_assoc, none_right, sum_of_snoc}
 use Rattle.bsp_hot_check.specs.Hot.{Item, Office, part_sums, document_sums, item_sums, items_sums, code_sums, file_sums}
 use Rattle.bsp_hot_check.specs.Standings.{add_at}
-
-pub plus_assoc : (x y z : Sums) → add (add x y) z ≡ add x (add y z)
-unfolding add
-plus_assoc x y z =
-    rw (add_assoc x.documents y.documents z.documents, +ℤ_assoc x.cash y.cash z.cash, +ℤ_assoc x.credit y.credit z.credit, +ℤ_assoc x.commission y.commission z.commission) refl
-
-pub none_left : (x : Sums) → add no_sums x ≡ x
-unfolding add
-none_left x = rw (zero-add x.documents, +ℤ_idl x.cash, +ℤ_idl x.credit, +ℤ_idl x.commission) refl
-
-pub none_right : (x : Sums) → add x no_sums ≡ x
-unfolding add
-none_right x = rw (add-zero x.documents, +ℤ_idr x.cash, +ℤ_idr x.credit, +ℤ_idr x.commission) refl
-
-pub sum_of_snoc : (xs : List Sums) (x : Sums) → sum_of (xs ++ x ∷ []) ≡ add (sum_of xs) x
-sum_of_snoc [] x = none_right x ∙ sym (none_left x)
-sum_of_snoc (y ∷ xs) x = ap (add y) (sum_of_snoc xs x) ∙ sym (plus_assoc y (sum_of xs) x)
 
 map_snoc : {A : Type 0} (f : A → Sums) (xs : List A) (x : A) → sum_of (map f (xs ++ x ∷ [])) ≡ add (sum_of (map f xs)) (f x)
 map_snoc f xs x = ap sum_of (map-append f xs (x ∷ [])) ∙ sum_of_snoc (map f xs) (f x)

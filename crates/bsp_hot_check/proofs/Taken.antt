@@ -5,17 +5,18 @@ use Rattle.std.specs.Option.{is_none}
 use Rattle.std.proofs.lemmas.Bool.{and_parts}
 use Rattle.std.proofs.lemmas.Bool.Decides.{Decides-int_eq}
 use Rattle.std.proofs.lemmas.Slice.Eq.{bytes_eq-Decides}
-use Rattle.bsp_hot_check.specs.declared.model.DocumentCode.{DocumentCode}
-use Rattle.bsp_hot_check.specs.declared.model.DocumentCode.TheVariants.{Tktt, Rfnd, Canx, Adma, Acma}
-use Rattle.bsp_hot_check.specs.declared.model.Sums.{Sums}
-use Rattle.bsp_hot_check.specs.declared.model.Totals.{Totals}
+use Rattle.bsp_hot_records.specs.declared.code.DocumentCode.{DocumentCode}
+use Rattle.bsp_hot_records.specs.declared.code.DocumentCode.TheVariants.{Tktt, Rfnd, Canx, Adma, Acma}
+use Rattle.bsp_hot_records.specs.declared.totals.Sums.{Sums}
+use Rattle.bsp_hot_records.specs.declared.totals.Totals.{Totals}
 use Rattle.bsp_hot_check.specs.declared.model.OfficeSums.{OfficeSums}
 use Rattle.bsp_hot_check.specs.declared.model.Place.TheVariants.{InDocument}
 use Rattle.bsp_hot_check.specs.declared.model.Standing.{Standing}
-use Rattle.bsp_hot_check.specs.Records.{Days, Heading, Document, Part, Record, file_header, period_header, office_header, transaction_header, document, part, code_totals, office_totals, period_totals, file_totals}
-use Rattle.bsp_hot_check.specs.Sums.{with_net, is_same, has_totals, is_code, all_codes}
+use Rattle.bsp_hot_records.specs.Records.{Days, Heading, Document, Part, Record, file_header, period_header, office_header, transaction_header, document, part, code_totals, office_totals, period_totals, file_totals}
+use Rattle.bsp_hot_records.specs.Sums.{with_net, is_same, has_totals, is_code, all_codes}
 use Rattle.bsp_hot_check.specs.Hot.{Body, Item, File, items_sums, code_sums, file_sums, has_code, all_but_last}
-use Rattle.bsp_hot_check.specs.Standings.{judged, is_complete_progress, later_codes, sums_at, next_code, is_next, allowed, heading_step, period_step, office_step, transaction_step, document_step, part_step, code_totals_step, office_totals_step, period_totals_step, file_totals_step, step, judged_part}
+use Rattle.bsp_hot_records.specs.Judged.{judged, judged_part}
+use Rattle.bsp_hot_check.specs.Standings.{is_complete_progress, later_codes, sums_at, next_code, is_next, allowed, heading_step, period_step, office_step, transaction_step, document_step, part_step, code_totals_step, office_totals_step, period_totals_step, file_totals_step, step}
 use Rattle.bsp_hot_check.proofs.SumLemmas.{codes_of}
 use Rattle.bsp_hot_check.proofs.PartialItems.{PartialItem, whole, progress_of, next_part, item_with, is_whole, whole_body}
 use Rattle.bsp_hot_check.proofs.Drafts.{Draft, nothing, headed, between, opened, begun, in_item, totalled, closed, ended, number, office_with, standing_of, IsOpen, IsInItem, IsTotalling, IsSoundDraft, Next}
@@ -110,7 +111,7 @@ transaction_taken f agent items d g n airline at sound e =
     subst P (sym w.1) (λ s. behind_whole f agent items d w.0 n airline s (eqb-true _ _ b.1) (eqb-true _ _ a.1)) sound
 
 document_taken : (f : File) (agent : ℕ) (items : List Item) (n agent2 : ℕ) (c : DocumentCode) (d : Document) (at : Standing) → IsOpen f agent items
-    → document_step (standing_of (begun f agent items)) (record { transaction = n; agent = agent2; key = record { code = c; number = d.number } }) ≡ Some at
+    → document_step (standing_of (begun f agent items)) (record { transaction = n; agent = agent2; code = c; number = d.number }) ≡ Some at
     → Taken (begun f agent items) (document n agent2 c d)
 unfolding document_step
 document_taken f agent items n agent2 c d at sound e =

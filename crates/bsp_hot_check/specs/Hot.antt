@@ -1,11 +1,11 @@
 -- HOT files: two headers, for each agent its office, and the totals.
 use Rattle.std.specs.Prelude.{◌≡◌, ◌<◌, ◌≤◌, ℕ, ℤ, pos, ◌+◌, ◌-◌, ◌==◌, nat_lt, Bool, true, ◌&&◌, ◌||◌, List, [], ◌∷◌, ◌++◌, length, take, map, filter, Option, Some, None, ◌⊎◌}
-use Rattle.bsp_hot_check.specs.declared.model.DocumentCode.{DocumentCode}
-use Rattle.bsp_hot_check.specs.declared.model.DocumentCode.TheVariants.{Tktt, Rfnd, Canx, Adma, Acma}
-use Rattle.bsp_hot_check.specs.declared.model.Sums.{Sums}
+use Rattle.bsp_hot_records.specs.declared.code.DocumentCode.{DocumentCode}
+use Rattle.bsp_hot_records.specs.declared.code.DocumentCode.TheVariants.{Tktt, Rfnd, Canx, Adma, Acma}
+use Rattle.bsp_hot_records.specs.declared.totals.Sums.{Sums}
 use Rattle.bsp_hot_check.specs.declared.model.HotTotals.{HotTotals}
-use Rattle.bsp_hot_check.specs.Records.{Days, Heading, Document, Amounts, Commission, Related, CardPayment, Part, amounts, commission, related, cash, credit, exchange, Record, file_header, period_header, office_header, transaction_header, document, part, code_totals, office_totals, period_totals, file_totals, is_blank, AreRecords}
-use Rattle.bsp_hot_check.specs.Sums.{no_sums, one_document, add, sum_of, with_net, rank, is_code, all_codes}
+use Rattle.bsp_hot_records.specs.Records.{Days, Heading, Document, Amounts, Commission, Related, CardPayment, Part, amounts, commission, related, cash, credit, exchange, Record, file_header, period_header, office_header, transaction_header, document, part, code_totals, office_totals, period_totals, file_totals, is_blank, AreRecords}
+use Rattle.bsp_hot_records.specs.Sums.{no_sums, one_document, add, sum_of, with_net, rank, is_code, all_codes}
 
 -- ---- items
 

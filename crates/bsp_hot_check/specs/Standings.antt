@@ -1,25 +1,25 @@
 -- How records stand with one more, where those before allow it.
-use Rattle.std.specs.Prelude.{◌≡◌, ◌≤◌, ℕ, ℤ, pos, ◌+◌, ◌*◌, ◌^◌, ◌==◌, ◌-ℤ◌, nat_lt, unsigned_abs, Bool, true, false, not, ◌&&◌, ◌||◌, List, [], ◌∷◌, Option, Some, None, is_none, if◌then◌else◌}
+use Rattle.std.specs.Prelude.{◌≡◌, ◌≤◌, ℕ, pos, ◌+◌, ◌==◌, ◌-ℤ◌, nat_lt, Bool, true, false, not, ◌&&◌, ◌||◌, List, [], ◌∷◌, Option, Some, None, is_none, if◌then◌else◌}
 use Rattle.std.specs.List.{find}
 use Rattle.std.specs.Str.{bytes_eq}
-use Rattle.bsp_hot_check.specs.declared.model.DocumentCode.{DocumentCode}
-use Rattle.bsp_hot_check.specs.declared.model.DocumentCode.TheVariants.{Tktt, Rfnd, Canx, Adma, Acma}
-use Rattle.bsp_hot_check.specs.declared.model.Sums.{Sums}
+use Rattle.bsp_hot_records.specs.declared.code.DocumentCode.{DocumentCode}
+use Rattle.bsp_hot_records.specs.declared.code.DocumentCode.TheVariants.{Tktt, Rfnd, Canx, Adma, Acma}
+use Rattle.bsp_hot_records.specs.declared.totals.Sums.{Sums}
 use Rattle.bsp_hot_check.specs.declared.model.HotTotals.{HotTotals}
-use Rattle.bsp_hot_check.specs.declared.model.Heading.{Heading as JudgedHeading}
-use Rattle.bsp_hot_check.specs.declared.model.OfficeHeader.{OfficeHeader}
-use Rattle.bsp_hot_check.specs.declared.model.TransactionHeader.{TransactionHeader}
+use Rattle.bsp_hot_records.specs.declared.model.Heading.{Heading as JudgedHeading}
+use Rattle.bsp_hot_records.specs.declared.model.OfficeHeader.{OfficeHeader}
+use Rattle.bsp_hot_records.specs.declared.model.TransactionHeader.{TransactionHeader}
 use Rattle.bsp_hot_check.specs.declared.model.DocumentKey.{DocumentKey}
-use Rattle.bsp_hot_check.specs.declared.model.Document.{Document as JudgedDocument}
-use Rattle.bsp_hot_check.specs.declared.model.Part.{Part as JudgedPart}
-use Rattle.bsp_hot_check.specs.declared.model.Part.TheVariants as part_is
-use Rattle.bsp_hot_check.specs.declared.model.PartOf.{PartOf}
-use Rattle.bsp_hot_check.specs.declared.model.CodeTotals.{CodeTotals}
-use Rattle.bsp_hot_check.specs.declared.model.OfficeTotals.{OfficeTotals}
-use Rattle.bsp_hot_check.specs.declared.model.PeriodTotals.{PeriodTotals}
-use Rattle.bsp_hot_check.specs.declared.model.FileTotals.{FileTotals}
-use Rattle.bsp_hot_check.specs.declared.model.Record.{Record as JudgedRecord}
-use Rattle.bsp_hot_check.specs.declared.model.Record.TheVariants as record_is
+use Rattle.bsp_hot_records.specs.declared.model.Document.{Document as JudgedDocument}
+use Rattle.bsp_hot_records.specs.declared.model.Part.{Part as JudgedPart}
+use Rattle.bsp_hot_records.specs.declared.model.Part.TheVariants as part_is
+use Rattle.bsp_hot_records.specs.declared.model.PartOf.{PartOf}
+use Rattle.bsp_hot_records.specs.declared.model.CodeTotals.{CodeTotals}
+use Rattle.bsp_hot_records.specs.declared.model.OfficeTotals.{OfficeTotals}
+use Rattle.bsp_hot_records.specs.declared.model.PeriodTotals.{PeriodTotals}
+use Rattle.bsp_hot_records.specs.declared.model.FileTotals.{FileTotals}
+use Rattle.bsp_hot_records.specs.declared.model.Record.{Record as JudgedRecord}
+use Rattle.bsp_hot_records.specs.declared.model.Record.TheVariants as record_is
 use Rattle.bsp_hot_check.specs.declared.model.Stage.{Stage}
 use Rattle.bsp_hot_check.specs.declared.model.Stage.TheVariants as stage
 use Rattle.bsp_hot_check.specs.declared.model.Progress.{Progress}
@@ -28,34 +28,8 @@ use Rattle.bsp_hot_check.specs.declared.model.Place.TheVariants.{Start, Headed, 
 use Rattle.bsp_hot_check.specs.declared.model.CodeSums.{CodeSums}
 use Rattle.bsp_hot_check.specs.declared.model.OfficeSums.{OfficeSums}
 use Rattle.bsp_hot_check.specs.declared.model.Standing.{Standing}
-use Rattle.bsp_hot_check.specs.Records.{Heading, Part, amounts, commission, related, cash, credit, exchange, Record, file_header, period_header, office_header, transaction_header, document, part, code_totals, office_totals, period_totals, file_totals, is_blank}
-use Rattle.bsp_hot_check.specs.Sums.{no_sums, one_document, add, has_totals, is_code, all_codes}
+use Rattle.bsp_hot_records.specs.Sums.{no_sums, one_document, add, has_totals, AreSmall, is_code, all_codes}
 use Rattle.bsp_hot_check.specs.Hot.{is_before}
-
--- ---- what is judged of a record
-
-abbrev pub judged_part : Part → JudgedPart
-judged_part (amounts a) = part_is.Amounts (not (is_blank a.taxes))
-judged_part (commission c) = part_is.Commission c.amount
-judged_part (related x) = part_is.Related x.airline
-judged_part (cash paid) = part_is.Cash paid
-judged_part (credit card) = part_is.Credit card.amount
-judged_part (exchange ex) = part_is.Exchange
-
-abbrev pub judged_heading : Heading → JudgedHeading
-judged_heading h = record { airline = h.airline; period = h.period; currency = h.currency }
-
-abbrev pub judged : Record → JudgedRecord
-judged (file_header h) = record_is.FileHeader (judged_heading h)
-judged (period_header period days) = record_is.PeriodHeader period
-judged (office_header agent period currency) = record_is.OfficeHeader (record { agent = agent; period = period; currency = currency })
-judged (transaction_header n airline) = record_is.TransactionHeader (record { transaction = n; airline = airline })
-judged (document n agent c d) = record_is.Document (record { transaction = n; agent = agent; key = record { code = c; number = d.number } })
-judged (part n x) = record_is.PartOf (record { transaction = n; part = judged_part x })
-judged (code_totals agent c totals) = record_is.CodeTotals (record { agent = agent; code = c; totals = totals })
-judged (office_totals agent totals) = record_is.OfficeTotals (record { agent = agent; totals = totals })
-judged (period_totals period offices totals) = record_is.PeriodTotals (record { period = period; offices = offices; totals = totals })
-judged (file_totals airline records totals) = record_is.FileTotals (record { airline = airline; records = records; totals = totals })
 
 -- ---- what may stand behind what
 
@@ -219,6 +193,10 @@ abbrev pub is_next : Option DocumentCode → DocumentCode → Bool
 is_next None c = false
 is_next (Some d) c = is_code d c
 
+-- by what a document is in order
+abbrev pub key_of : JudgedDocument → DocumentKey
+key_of d = record { code = d.code; number = d.number }
+
 abbrev pub is_key_after : Option DocumentKey → DocumentKey → Bool
 is_key_after None k = true
 is_key_after (Some before) k = is_before before.code before.number k.code k.number
@@ -231,6 +209,19 @@ abbrev pub is_agent : Option ℕ → ℕ → Bool
 is_agent None agent = false
 is_agent (Some x) agent = agent == x
 
+-- what BFH01 says of the file
+abbrev pub is_airline : Option JudgedHeading → ℕ → Bool
+is_airline None airline = false
+is_airline (Some h) airline = airline == h.airline
+
+abbrev pub is_period : Option JudgedHeading → ℕ → Bool
+is_period None period = false
+is_period (Some h) period = period == h.period
+
+abbrev pub is_currency : Option JudgedHeading → List ℕ → Bool
+is_currency None currency = false
+is_currency (Some h) currency = bytes_eq currency h.currency
+
 -- ---- steps
 
 -- how no records stand
@@ -238,7 +229,7 @@ abbrev pub start : Standing
 start = record {
   records = 0;
   place = Start;
-  heading = record { airline = 0; period = 0; currency = 0 ∷ 0 ∷ 0 ∷ [] };
+  heading = None;
   offices = 0;
   transactions = 0;
   file = no_sums;
@@ -262,30 +253,30 @@ abbrev pub allowed : Bool → Standing → Option Standing
 allowed test at = if test then Some at else None
 
 unfoldable pub heading_step : Standing → JudgedHeading → Option Standing
-heading_step at h = allowed (is_start at.place) (record (moved at Headed) { heading = h })
+heading_step at h = allowed (is_start at.place) (record (moved at Headed) { heading = Some h })
 
 unfoldable pub period_step : Standing → ℕ → Option Standing
-period_step at period = allowed (is_headed at.place && (period == at.heading.period)) (moved at Between)
+period_step at period = allowed (is_headed at.place && is_period at.heading period) (moved at Between)
 
 unfoldable pub office_step : Standing → OfficeHeader → Option Standing
 office_step at o =
     allowed
-    (is_between at.place && is_agent_after at.agent o.agent && (o.period == at.heading.period) && bytes_eq o.currency at.heading.currency)
+    (is_between at.place && is_agent_after at.agent o.agent && is_period at.heading o.period && is_currency at.heading o.currency)
     (record (moved at Opened) { agent = Some o.agent })
 
 unfoldable pub transaction_step : Standing → TransactionHeader → Option Standing
 transaction_step at t =
     allowed
-    (takes_transaction at.place && (t.transaction == at.transactions + 1) && (t.airline == at.heading.airline))
+    (takes_transaction at.place && (t.transaction == at.transactions + 1) && is_airline at.heading t.airline)
     (record (moved at Begun) { transactions = at.transactions + 1 })
 
 unfoldable pub document_step : Standing → JudgedDocument → Option Standing
 document_step at d =
     allowed
-    (is_begun at.place && (d.transaction == at.transactions) && is_agent at.agent d.agent && is_key_after at.office.latest d.key)
+    (is_begun at.place && (d.transaction == at.transactions) && is_agent at.agent d.agent && is_key_after at.office.latest (key_of d))
     (counted
-    (record at { office = record at.office { latest = Some d.key } })
-    (record { code = d.key.code; stage = stage.Document; related = false }) one_document)
+    (record at { office = record at.office { latest = Some (key_of d) } })
+    (record { code = d.code; stage = stage.Document; related = false }) one_document)
 
 abbrev pub judged_sums : JudgedPart → Sums
 judged_sums (part_is.Amounts taxed) = no_sums
@@ -295,13 +286,13 @@ judged_sums (part_is.Cash amount) = record { documents = 0; cash = amount; credi
 judged_sums (part_is.Credit amount) = record { documents = 0; cash = pos 0; credit = amount; commission = pos 0 }
 judged_sums part_is.Exchange = no_sums
 
-abbrev pub part_step_in : Standing → Place → PartOf → Option Standing
-part_step_in at (InDocument x) y =
-    allowed (takes at.heading.airline x y.part && (y.transaction == at.transactions)) (counted at (progress_behind x y.part) (judged_sums y.part))
-part_step_in at _ y = None
+abbrev pub part_step_in : Standing → Place → Option JudgedHeading → PartOf → Option Standing
+part_step_in at (InDocument x) (Some h) y =
+    allowed (takes h.airline x y.part && (y.transaction == at.transactions)) (counted at (progress_behind x y.part) (judged_sums y.part))
+part_step_in at _ _ y = None
 
 unfoldable pub part_step : Standing → PartOf → Option Standing
-part_step at y = part_step_in at at.place y
+part_step at y = part_step_in at at.place at.heading y
 
 unfoldable pub code_totals_step : Standing → CodeTotals → Option Standing
 code_totals_step at t =
@@ -318,13 +309,13 @@ office_totals_step at t =
 unfoldable pub period_totals_step : Standing → PeriodTotals → Option Standing
 period_totals_step at t =
     allowed
-    (is_between at.place && (t.period == at.heading.period) && (t.offices == at.offices) && has_totals at.file t.totals)
+    (is_between at.place && is_period at.heading t.period && (t.offices == at.offices) && has_totals at.file t.totals)
     (moved at Closed)
 
 unfoldable pub file_totals_step : Standing → FileTotals → Option Standing
 file_totals_step at t =
     allowed
-    (is_closed at.place && (t.airline == at.heading.airline) && (t.records == at.records + 1) && has_totals at.file t.totals)
+    (is_closed at.place && is_airline at.heading t.airline && (t.records == at.records + 1) && has_totals at.file t.totals)
     (moved at Ended)
 
 abbrev pub step : Standing → JudgedRecord → Option Standing
@@ -345,13 +336,6 @@ totals_at at = record { records = at.records; documents = at.file.documents; net
 
 -- ---- sizes
 
--- sums of this many records, each of which adds one document or an amount of eleven digits at most
-pub record AreSmall (n : ℕ) (s : Sums) : Type 0 where
-  pub documents : s.documents ≤ n
-  pub cash : unsigned_abs s.cash ≤ n * 10 ^ 11
-  pub credit : unsigned_abs s.credit ≤ n * 10 ^ 11
-  pub commission : unsigned_abs s.commission ≤ n * 10 ^ 11
-
 pub record AreSmallSums (n : ℕ) (sums : CodeSums) : Type 0 where
   pub tktt : AreSmall n sums.tktt
   pub rfnd : AreSmall n sums.rfnd
@@ -366,20 +350,6 @@ pub record IsSmall (at : Standing) : Type 0 where
   pub file : AreSmall at.records at.file
   pub codes : AreSmallSums at.records at.office.codes
   pub all : AreSmall at.records at.office.all
-
--- an amount of eleven digits at most
-abbrev pub IsSmallAmount : ℤ → Type 0
-IsSmallAmount amount = unsigned_abs amount ≤ 99_999_999_999
-
-abbrev pub IsSmallPart : JudgedPart → Type 0
-IsSmallPart (part_is.Commission amount) = IsSmallAmount amount
-IsSmallPart (part_is.Cash amount) = IsSmallAmount amount
-IsSmallPart (part_is.Credit amount) = IsSmallAmount amount
-IsSmallPart _ = Unit {0}
-
-abbrev pub IsSmallRecord : JudgedRecord → Type 0
-IsSmallRecord (record_is.PartOf y) = IsSmallPart y.part
-IsSmallRecord _ = Unit {0}
 
 -- with one record more it fits, too
 pub record IsSmallNext (at next : Standing) : Type 0 where

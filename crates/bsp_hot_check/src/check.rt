@@ -4,7 +4,7 @@ ghost use Rattle.std.specs.Prelude.{◌≡◌, ◌≤◌, ℕ, List, length, Ok,
 ghost use Rattle.bsp_records.specs.Lines.{lines};
 ghost use Rattle.bsp_hot_check.specs.Hot.{File, Hot, HotOrFault, totals_of_file};
 ghost use Rattle.bsp_hot_check.specs.Standings.{start, IsSmall};
-ghost use Rattle.bsp_hot_check.specs.Reading.{judge_from};
+ghost use Rattle.bsp_hot_check.specs.Judging.{judge_from};
 ghost use Rattle.bsp_hot_check.specs.Checked.{HasTotals, IsFaultOf};
 
 use crate::model::{HotTotals, RecordFault, Standing};

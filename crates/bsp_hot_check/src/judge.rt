@@ -2,18 +2,50 @@
 
 ghost use Rattle.std.specs.Prelude.{◌≡◌, ◌<◌, ◌^◌, length, true, false, Some, None};
 ghost use Rattle.bsp_records.specs.Columns.{is_wide};
-ghost use Rattle.bsp_hot_check.specs.Standings.{heading_step, period_step, office_step, transaction_step, document_step, part_step, code_totals_step, office_totals_step, period_totals_step, file_totals_step, step, is_agent, is_agent_after, is_key_after, is_next, IsSmall, IsSmallPart, IsSmallRecord, IsSmallNext};
-ghost use Rattle.bsp_hot_check.specs.Reading.{step_line};
+ghost use Rattle.bsp_hot_records.specs.Judged.{IsSmallPart, IsSmallRecord};
+ghost use Rattle.bsp_hot_check.specs.Standings.{heading_step, period_step, office_step, transaction_step, document_step, part_step, code_totals_step, office_totals_step, period_totals_step, file_totals_step, step, is_airline, is_period, is_currency, is_agent, is_agent_after, is_key_after, is_next, IsSmall, IsSmallNext};
+ghost use Rattle.bsp_hot_check.specs.Judging.{step_line};
 
-use crate::model::{
-    CodeTotals, Document, DocumentCode, DocumentKey, FileTotals, Heading, OfficeHeader, OfficeSums,
-    OfficeTotals, PartOf, PeriodTotals, Place, Progress, Record, Stage, Standing, Sums,
-    TransactionHeader,
+use crate::model::{DocumentKey, OfficeSums, Place, Progress, Stage, Standing};
+use crate::places::sums_of;
+use bsp_fields::{AirlineCode, PeriodCode};
+use bsp_hot_records::{
+    AgentDigits, CodeTotals, Document, DocumentCode, FileTotals, Heading, OfficeHeader,
+    OfficeTotals, PartOf, PeriodTotals, Record, Sums, TransactionHeader, read_record,
 };
-use crate::reading::read_record;
+
+/// Whether the airline is the file's.
+fn is_airline(heading: Option<Heading>, airline: AirlineCode) -> bool
+    ensures { result ≡ is_airline heading airline }
+{
+    match heading {
+        Some(heading) => airline == heading.airline,
+        None => false,
+    }
+}
+
+/// Whether the period is the file's.
+fn is_period(heading: Option<Heading>, period: PeriodCode) -> bool
+    ensures { result ≡ is_period heading period }
+{
+    match heading {
+        Some(heading) => period == heading.period,
+        None => false,
+    }
+}
+
+/// Whether the currency is the file's.
+fn is_currency(heading: Option<Heading>, currency: [u8; 3]) -> bool
+    ensures { result ≡ is_currency heading currency }
+{
+    match heading {
+        Some(heading) => currency.as_slice() == heading.currency.as_slice(),
+        None => false,
+    }
+}
 
 /// Whether the agent comes behind the last office's.
-fn is_agent_after(before: Option<u64>, agent: u64) -> bool
+fn is_agent_after(before: Option<AgentDigits>, agent: AgentDigits) -> bool
     ensures { result ≡ is_agent_after before agent }
 {
     match before {
@@ -23,7 +55,7 @@ fn is_agent_after(before: Option<u64>, agent: u64) -> bool
 }
 
 /// Whether the agent is the office's.
-fn is_agent(office: Option<u64>, agent: u64) -> bool
+fn is_agent(office: Option<AgentDigits>, agent: AgentDigits) -> bool
     ensures { result ≡ is_agent office agent }
 {
     match office {
@@ -33,8 +65,8 @@ fn is_agent(office: Option<u64>, agent: u64) -> bool
 }
 
 /// Whether the document comes behind the office's last one.
-fn is_key_after(before: Option<DocumentKey>, key: DocumentKey) -> bool
-    ensures { result ≡ is_key_after before key }
+fn is_key_after(before: Option<DocumentKey>, key: &DocumentKey) -> bool
+    ensures { result ≡ is_key_after before key.now }
 {
     match before {
         Some(before) => before.is_before(key),
@@ -63,19 +95,19 @@ impl Standing {
         if !matches!(self.place, Place::Start) {
             return false;
         }
-        self.heading = heading;
+        self.heading = Some(heading);
         self.move_to(Place::Headed);
         true
     }
 
     /// BCH02 is the second, of the same period.
     #[tactic(auto, unfolding(crate::specs::Standings::period_step))]
-    fn take_period(&mut self, period: u64) -> bool
+    fn take_period(&mut self, period: PeriodCode) -> bool
         requires { self.old.records < 2 ^ 63 }
         ensures taken { result ≡ true → period_step self.old period ≡ Some self.new }
         ensures refused { result ≡ false → period_step self.old period ≡ None }
     {
-        if !matches!(self.place, Place::Headed) || period != self.heading.period {
+        if !(matches!(self.place, Place::Headed) && is_period(self.heading, period)) {
             return false;
         }
         self.move_to(Place::Between);
@@ -91,8 +123,8 @@ impl Standing {
     {
         let allowed = matches!(self.place, Place::Between)
             && is_agent_after(self.agent, office.agent)
-            && office.period == self.heading.period
-            && office.currency.as_slice() == self.heading.currency.as_slice();
+            && is_period(self.heading, office.period)
+            && is_currency(self.heading, office.currency);
         if !allowed {
             return false;
         }
@@ -112,7 +144,7 @@ impl Standing {
         let transactions = self.transactions + 1;
         let allowed = self.place.takes_transaction()
             && header.transaction == transactions
-            && header.airline == self.heading.airline;
+            && is_airline(self.heading, header.airline);
         if !allowed {
             return false;
         }
@@ -129,17 +161,21 @@ impl Standing {
         ensures taken { result ≡ true → document_step self.old document ≡ Some self.new }
         ensures refused { result ≡ false → document_step self.old document ≡ None }
     {
-        let key = document.key;
+        let key = DocumentKey {
+            code: document.code,
+            number: document.number,
+        };
+        let is_later = is_key_after(self.office.latest, &key);
         let allowed = matches!(self.place, Place::Begun)
             && document.transaction == self.transactions
             && is_agent(self.agent, document.agent)
-            && is_key_after(self.office.latest, key);
+            && is_later;
         if !allowed {
             return false;
         }
         self.office.latest = Some(key);
         let progress = Progress {
-            code: key.code,
+            code: document.code,
             stage: Stage::Document,
             related: false,
         };
@@ -156,15 +192,15 @@ impl Standing {
         ensures taken { result ≡ true → part_step self.old next ≡ Some self.new }
         ensures refused { result ≡ false → part_step self.old next ≡ None }
     {
-        let Place::InDocument(progress) = self.place else {
+        let (Place::InDocument(progress), Some(heading)) = (self.place, self.heading) else {
             return false;
         };
-        let allowed = progress.takes(self.heading.airline, next.part)
+        let allowed = progress.takes(heading.airline, next.part)
             && next.transaction == self.transactions;
         if !allowed {
             return false;
         }
-        self.count(progress.behind(next.part), next.part.sums());
+        self.count(progress.behind(next.part), sums_of(next.part));
         true
     }
 
@@ -216,7 +252,7 @@ impl Standing {
         ensures refused { result ≡ false → period_totals_step self.old next.now ≡ None }
     {
         let allowed = matches!(self.place, Place::Between)
-            && next.period == self.heading.period
+            && is_period(self.heading, next.period)
             && next.offices == self.offices
             && self.file.has(next.totals);
         if !allowed {
@@ -235,7 +271,7 @@ impl Standing {
         ensures refused { result ≡ false → file_totals_step self.old next.now ≡ None }
     {
         let allowed = matches!(self.place, Place::Closed)
-            && next.airline == self.heading.airline
+            && is_airline(self.heading, next.airline)
             && next.records == self.records + 1
             && self.file.has(next.totals);
         if !allowed {

@@ -3,18 +3,14 @@
 #![tactic(auto)]
 
 mod check;
-mod fields;
 mod judge;
 mod model;
-mod name;
 mod places;
-mod reading;
-mod records;
 mod standing;
 mod sums;
 #[cfg(test)]
 mod tests;
 
+pub use bsp_hot_records::{DocumentCode, RecordName, Sums};
 pub use check::{check_hot, hot_or_fault};
-pub use model::{CodeSums, DocumentCode, HotTotals, RecordFault, Sums};
-pub use name::RecordName;
+pub use model::{CodeSums, HotTotals, RecordFault};

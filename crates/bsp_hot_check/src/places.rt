@@ -3,9 +3,13 @@
 ghost use Rattle.std.specs.Prelude.{◌≡◌};
 ghost use Rattle.std.specs.List.{find};
 ghost use Rattle.std.specs.Option.{option_copied};
-ghost use Rattle.bsp_hot_check.specs.Standings.{is_ended, is_complete, is_complete_progress, takes_amounts, takes_commission, takes_related, takes_cash, takes_credit, takes_exchange, takes, stage_of, progress_behind, takes_transaction, stands_in, left_codes, next_code, judged_sums, IsSmallPart, AreSmall};
+ghost use Rattle.bsp_hot_records.specs.Judged.{IsSmallPart};
+ghost use Rattle.bsp_hot_records.specs.Sums.{AreSmall};
+ghost use Rattle.bsp_hot_check.specs.Standings.{is_ended, is_complete, is_complete_progress, takes_amounts, takes_commission, takes_related, takes_cash, takes_credit, takes_exchange, takes, stage_of, progress_behind, takes_transaction, stands_in, left_codes, next_code, judged_sums};
 
-use crate::model::{CodeSums, DocumentCode, Part, Place, Progress, Stage, Sums};
+use crate::model::{CodeSums, Place, Progress, Stage};
+use bsp_fields::AirlineCode;
+use bsp_hot_records::{DocumentCode, Part, Sums};
 
 impl Progress {
     /// Whether the document has all its records.
@@ -81,7 +85,7 @@ impl Progress {
     }
 
     /// Whether the record may come next in a document of this airline.
-    pub(crate) fn takes(self, airline: u64, part: Part) -> bool
+    pub(crate) fn takes(self, airline: AirlineCode, part: Part) -> bool
         ensures { result ≡ takes airline self part }
     {
         match part {
@@ -100,17 +104,18 @@ impl Progress {
     {
         Progress {
             code: self.code,
-            stage: part.stage(),
+            stage: Stage::of(part),
             related: self.related || matches!(part, Part::Related(_)),
         }
     }
 }
 
-impl Part {
-    fn stage(self) -> Stage
-        ensures { result ≡ stage_of self }
+impl Stage {
+    /// That of a document whose last record is this one.
+    fn of(part: Part) -> Stage
+        ensures { result ≡ stage_of part }
     {
-        match self {
+        match part {
             Part::Amounts(_) => Stage::Amounts,
             Part::Commission(_) => Stage::Commission,
             Part::Related(_) => Stage::Related,
@@ -119,28 +124,28 @@ impl Part {
             Part::Exchange => Stage::Exchange,
         }
     }
+}
 
-    /// What the record adds. EX is in no total.
-    pub(crate) fn sums(self) -> Sums
-        requires { IsSmallPart self }
-        ensures value { result ≡ judged_sums self }
-        ensures one { AreSmall 1 result }
-    {
-        match self {
-            Part::Commission(amount) => Sums {
-                commission: amount as i128,
-                ..Sums::NONE
-            },
-            Part::Cash(amount) => Sums {
-                cash: amount as i128,
-                ..Sums::NONE
-            },
-            Part::Credit(amount) => Sums {
-                credit: amount as i128,
-                ..Sums::NONE
-            },
-            _ => Sums::NONE,
-        }
+/// What a record of a document adds. EX is in no total.
+pub(crate) fn sums_of(part: Part) -> Sums
+    requires { IsSmallPart part }
+    ensures value { result ≡ judged_sums part }
+    ensures one { AreSmall 1 result }
+{
+    match part {
+        Part::Commission(amount) => Sums {
+            commission: amount as i128,
+            ..Sums::NONE
+        },
+        Part::Cash(amount) => Sums {
+            cash: amount as i128,
+            ..Sums::NONE
+        },
+        Part::Credit(amount) => Sums {
+            credit: amount as i128,
+            ..Sums::NONE
+        },
+        _ => Sums::NONE,
     }
 }
 

@@ -1,9 +1,11 @@
 //! How the records before a place stand, and how they stand with one more.
 
 ghost use Rattle.std.specs.Prelude.{◌≡◌, ◌<◌, ◌^◌};
-ghost use Rattle.bsp_hot_check.specs.Standings.{start, moved, counted, totals_at, IsSmall, AreSmall};
+ghost use Rattle.bsp_hot_records.specs.Sums.{AreSmall};
+ghost use Rattle.bsp_hot_check.specs.Standings.{start, moved, counted, totals_at, IsSmall};
 
-use crate::model::{Heading, HotTotals, OfficeSums, Place, Progress, Standing, Sums};
+use crate::model::{HotTotals, OfficeSums, Place, Progress, Standing};
+use bsp_hot_records::Sums;
 
 impl Standing {
     /// How no records stand.
@@ -13,11 +15,7 @@ impl Standing {
         Standing {
             records: 0,
             place: Place::Start,
-            heading: Heading {
-                airline: 0,
-                period: 0,
-                currency: [0; 3],
-            },
+            heading: None,
             offices: 0,
             transactions: 0,
             file: Sums::NONE,

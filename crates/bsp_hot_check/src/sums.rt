@@ -1,123 +1,20 @@
-//! What documents add up to.
+//! What documents add up to by code, and their order.
 
-ghost use Rattle.std.specs.Prelude.{◌≡◌, ◌-◌, ◌^◌, ◌-ℤ◌, Some};
-ghost use Rattle.bsp_hot_check.specs.Records.{code_of, code_text};
-ghost use Rattle.bsp_hot_check.specs.Sums.{add, is_same, has_totals, rank};
+ghost use Rattle.std.specs.Prelude.{◌≡◌, ◌-◌, ◌^◌};
+ghost use Rattle.bsp_hot_records.specs.Sums.{AreSmall};
 ghost use Rattle.bsp_hot_check.specs.Hot.{is_before};
-ghost use Rattle.bsp_hot_check.specs.Standings.{sums_at, add_at, AreSmall, AreSmallSums};
+ghost use Rattle.bsp_hot_check.specs.Standings.{sums_at, add_at, AreSmallSums};
 
-use crate::model::{CodeSums, DocumentCode, DocumentKey, OfficeSums, Sums, Totals};
-
-impl DocumentCode {
-    /// The codes in their order.
-    pub const ALL: [DocumentCode; 5] = [
-        DocumentCode::Tktt,
-        DocumentCode::Rfnd,
-        DocumentCode::Canx,
-        DocumentCode::Adma,
-        DocumentCode::Acma,
-    ];
-
-    /// The place of the code in their order, from 0.
-    pub fn rank(self) -> u8
-        ensures { result ≡ rank self }
-    {
-        match self {
-            DocumentCode::Tktt => 0,
-            DocumentCode::Rfnd => 1,
-            DocumentCode::Canx => 2,
-            DocumentCode::Adma => 3,
-            DocumentCode::Acma => 4,
-        }
-    }
-
-    /// The four letters of the code, as `TKTT`.
-    #[tactic(auto, unfolding(crate::specs::Records::code_of))]
-    pub fn text(self) -> [u8; 4]
-        ensures text { result ≡ code_text self }
-        // The letters are of this code alone.
-        ensures read { code_of (code_text self) ≡ Some self }
-    {
-        match self {
-            DocumentCode::Tktt => *b"TKTT",
-            DocumentCode::Rfnd => *b"RFND",
-            DocumentCode::Canx => *b"CANX",
-            DocumentCode::Adma => *b"ADMA",
-            DocumentCode::Acma => *b"ACMA",
-        }
-    }
-}
+use crate::model::{CodeSums, DocumentKey, OfficeSums};
+use bsp_hot_records::{DocumentCode, Sums};
 
 impl DocumentKey {
     /// Whether the other comes behind it: by the code, then by the number.
-    pub(crate) fn is_before(self, other: DocumentKey) -> bool
-        ensures { result ≡ is_before self.code self.number other.code other.number }
+    pub(crate) fn is_before(self, other: &DocumentKey) -> bool
+        ensures { result ≡ is_before self.code self.number other.now.code other.now.number }
     {
         let (code, other_code) = (self.code.rank(), other.code.rank());
         code < other_code || code == other_code && self.number < other.number
-    }
-}
-
-impl Sums {
-    /// Of nothing.
-    pub const NONE: Sums = Sums {
-        documents: 0,
-        cash: 0,
-        credit: 0,
-        commission: 0,
-    };
-
-    /// Of a document alone.
-    pub const DOCUMENT: Sums = Sums {
-        documents: 1,
-        cash: 0,
-        credit: 0,
-        commission: 0,
-    };
-
-    /// Both together.
-    #[inline]
-    #[tactic(auto, unfolding(crate::specs::Sums::add))]
-    pub fn plus(self, other: Sums) -> Sums
-        requires small { AreSmall (2 ^ 63) self }
-        // One less, so that the documents add up to less than 2 ^ 64.
-        requires also_small { AreSmall (2 ^ 63 - 1) other }
-        ensures { result ≡ add self other }
-    {
-        Sums {
-            documents: self.documents + other.documents,
-            cash: self.cash + other.cash,
-            credit: self.credit + other.credit,
-            commission: self.commission + other.commission,
-        }
-    }
-
-    /// The net: cash less commission.
-    pub fn net(self) -> i128
-        requires { AreSmall (2 ^ 63) self }
-        ensures { result ≡ self.cash -ℤ self.commission }
-    {
-        self.cash - self.commission
-    }
-
-    /// Whether the sums are the same.
-    #[tactic(auto, unfolding(crate::specs::Sums::is_same))]
-    fn is_same(self, other: Sums) -> bool
-        ensures { result ≡ is_same self other }
-    {
-        self.documents == other.documents
-            && self.cash == other.cash
-            && self.credit == other.credit
-            && self.commission == other.commission
-    }
-
-    /// Whether the totals are of these sums, and their net is cash less commission.
-    #[tactic(auto, unfolding(crate::specs::Sums::has_totals))]
-    pub(crate) fn has(self, totals: Totals) -> bool
-        requires { AreSmall (2 ^ 63) self }
-        ensures { result ≡ has_totals self totals }
-    {
-        totals.sums.is_same(self) && totals.net == self.net()
     }
 }
 

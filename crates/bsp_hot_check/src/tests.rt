@@ -1,4 +1,4 @@
-use crate::{CodeSums, DocumentCode, HotTotals, RecordFault, RecordName, Sums, check_hot};
+use crate::{CodeSums, DocumentCode, HotTotals, RecordFault, Sums, check_hot};
 use bsp_fields::write_digits;
 use std::test::Fail;
 
@@ -418,58 +418,9 @@ fn a_fault_is_told_as_text(rt: HostRuntime) -> Result<(), Fail> {
 }
 
 #[test]
-fn names_and_codes_are_texts(rt: HostRuntime) -> Result<(), Fail> {
-    let names = [
-        (RecordName::Bfh01, b"BFH01"),
-        (RecordName::Bch02, b"BCH02"),
-        (RecordName::Boh03, b"BOH03"),
-        (RecordName::Bkt06, b"BKT06"),
-        (RecordName::Bks24, b"BKS24"),
-        (RecordName::Bks30, b"BKS30"),
-        (RecordName::Bks39, b"BKS39"),
-        (RecordName::Bks45, b"BKS45"),
-        (RecordName::Bkp84, b"BKP84"),
-        (RecordName::Bot93, b"BOT93"),
-        (RecordName::Bot94, b"BOT94"),
-        (RecordName::Bct95, b"BCT95"),
-        (RecordName::Bft99, b"BFT99"),
-    ];
-    for (name, text) in names {
-        assert_eq!(rt; name.letters().as_slice(), &text[..3]);
-        assert_eq!(rt; name.digits().as_slice(), &text[3..]);
-    }
-    let codes = [
-        (DocumentCode::Tktt, b"TKTT"),
-        (DocumentCode::Rfnd, b"RFND"),
-        (DocumentCode::Canx, b"CANX"),
-        (DocumentCode::Adma, b"ADMA"),
-        (DocumentCode::Acma, b"ACMA"),
-    ];
-    for (place, (code, text)) in codes.iter().enumerate() {
-        assert_eq!(rt; code.text().as_slice(), text.as_slice());
-        assert_eq!(rt; usize::from(code.rank()), place);
-    }
-    Ok(())
-}
-
-#[test]
 fn sums_are_kept_by_code(rt: HostRuntime) -> Result<(), Fail> {
-    let paid = Sums {
-        documents: 0,
-        cash: 23_500,
-        credit: 0,
-        commission: 1_000,
-    };
-    let sale = Sums {
-        documents: 1,
-        cash: 23_500,
-        credit: 0,
-        commission: 1_000,
-    };
-    assert_eq!(rt; Sums::DOCUMENT.plus(paid), sale);
-    assert_eq!(rt; sale.net(), 22_500);
-    let sums = CodeSums::NONE.plus(DocumentCode::Adma, sale);
-    assert_eq!(rt; sums.of(DocumentCode::Adma), sale);
+    let sums = CodeSums::NONE.plus(DocumentCode::Adma, Sums::DOCUMENT);
+    assert_eq!(rt; sums.of(DocumentCode::Adma), Sums::DOCUMENT);
     assert_eq!(rt; sums.of(DocumentCode::Acma), Sums::NONE);
     Ok(())
 }

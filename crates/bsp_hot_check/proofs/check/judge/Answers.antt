@@ -1,7 +1,7 @@
 use Rattle.std.proofs.Common.{◌≡◌, ◌∙◌, Some, sym, ap, refl, arith}
 use Rattle.bsp_records.specs.Lines.{lines}
 use Rattle.bsp_records.proofs.RestLemmas.{lines_empty}
-use Rattle.bsp_hot_check.specs.Reading.{step_line, judge_from}
+use Rattle.bsp_hot_check.specs.Judging.{step_line, judge_from}
 use Rattle.bsp_hot_check.proofs.Judging.{judge_nil, judge_cons, narrow_stops}
 use Rattle.bsp_hot_check.proofs.check.judge.Goals as goal
 

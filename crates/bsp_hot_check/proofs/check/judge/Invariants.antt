@@ -1,7 +1,7 @@
 use Rattle.std.proofs.Common.{◌≡◌, ◌≤◌, ◌+◌, length}
 use Rattle.bsp_records.specs.Lines.{lines}
 use Rattle.bsp_hot_check.specs.Standings.{start, IsSmall}
-use Rattle.bsp_hot_check.specs.Reading.{judge_from}
+use Rattle.bsp_hot_check.specs.Judging.{judge_from}
 use Rattle.bsp_hot_check.proofs.check.judge.Given as goal
 
 abbrev pub invariant-loop-rest : goal.invariant-loop-rest

@@ -1,5 +1,6 @@
 use Rattle.std.proofs.Common.{◌^◌, arith}
-use Rattle.bsp_hot_check.proofs.SizeLemmas.{small_at, small_more}
+use Rattle.bsp_hot_records.proofs.SizeLemmas.{small_more}
+use Rattle.bsp_hot_check.proofs.SizeLemmas.{small_at}
 use Rattle.bsp_hot_check.proofs.model.Standing.take_code_totals.Goals as goal
 
 pub has-allowed-requires : goal.has-allowed-requires

@@ -1,0 +1,181 @@
+//! The values of fields that are in their form.
+
+ghost use Rattle.std.specs.Prelude.{◌≡◌, ◌≤◌, length, true, false, IfSome, IfNone};
+ghost use Rattle.std.specs.Str.{all_ascii_digits};
+ghost use Rattle.bsp_records.specs.Fields.{is_amount, is_total};
+ghost use Rattle.bsp_hot_records.specs.Records.{code_of, form_fits, tax_places_fit, totals_fit, number_in, amount_of, total_of, totals_of};
+ghost use Rattle.bsp_hot_records.specs.Judged.{IsSmallAmount};
+
+use crate::code::DocumentCode;
+use crate::totals::{Sums, Totals};
+use bsp_fields::{AirlineCode, DocNumber, PeriodCode, read_amount, read_digits, read_total};
+use bsp_records::{all_letters_or_digits, all_spaces, taxes_fit};
+
+/// The code of a document, from its four letters.
+#[tactic(auto, unfolding(crate::specs::Records::code_of))]
+#[inline]
+pub(crate) fn code_of(text: &[u8]) -> Option<DocumentCode>
+    ensures { result ≡ code_of text.now }
+{
+    match text {
+        b"TKTT" => Some(DocumentCode::Tktt),
+        b"RFND" => Some(DocumentCode::Rfnd),
+        b"CANX" => Some(DocumentCode::Canx),
+        b"ADMA" => Some(DocumentCode::Adma),
+        b"ACMA" => Some(DocumentCode::Acma),
+        _ => None,
+    }
+}
+
+/// A form of payment, and a card's vendor with CC only.
+#[tactic(auto, unfolding(crate::specs::Records::form_fits))]
+#[inline]
+pub(crate) fn form_fits(form: &[u8], vendor: &[u8]) -> bool
+    ensures { result ≡ form_fits form.now vendor.now }
+{
+    match form {
+        b"CC" => all_letters_or_digits(vendor),
+        b"CA" | b"EX" => all_spaces(vendor),
+        _ => false,
+    }
+}
+
+/// The six tax places, which stand as in record 5 of a RET file, 14 columns further on.
+#[tactic(auto, unfolding(crate::specs::Records::tax_places_fit))]
+#[inline]
+pub(crate) fn tax_places_fit(line: &[u8]) -> bool
+    requires { length line.now ≡ 136 }
+    ensures { result ≡ tax_places_fit line.now }
+{
+    taxes_fit(&line[14..136])
+}
+
+/// The number that digits write.
+#[tactic(auto, unfolding(crate::specs::Records::number_in))]
+#[inline]
+pub(crate) fn number_in(text: &[u8]) -> Option<u64>
+    requires { length text.now ≤ 15 }
+    ensures fits { IfSome result (λ number. all_ascii_digits text.now ≡ true) }
+    ensures value { IfSome result (λ number. number ≡ number_in text.now) }
+    ensures none { IfNone result (all_ascii_digits text.now ≡ false) }
+{
+    match read_digits(text) {
+        Ok(number) => Some(number),
+        Err(_) => None,
+    }
+}
+
+/// The same, as a count.
+#[inline]
+pub(crate) fn count_in(text: &[u8]) -> Option<usize>
+    requires { length text.now ≤ 15 }
+    ensures fits { IfSome result (λ number. all_ascii_digits text.now ≡ true) }
+    ensures value { IfSome result (λ number. number ≡ number_in text.now) }
+    ensures none { IfNone result (all_ascii_digits text.now ≡ false) }
+{
+    match number_in(text) {
+        Some(number) => Some(number as usize),
+        None => None,
+    }
+}
+
+/// The airline that three digits write.
+#[tactic(auto, unfolding(crate::specs::Records::number_in))]
+#[inline]
+pub(crate) fn airline_in(text: &[u8]) -> Option<AirlineCode>
+    requires { length text.now ≡ 3 }
+    ensures fits { IfSome result (λ airline. all_ascii_digits text.now ≡ true) }
+    ensures value { IfSome result (λ airline. airline ≡ number_in text.now) }
+    ensures none { IfNone result (all_ascii_digits text.now ≡ false) }
+{
+    AirlineCode::read(text).ok()
+}
+
+/// The period that five digits write.
+#[tactic(auto, unfolding(crate::specs::Records::number_in))]
+#[inline]
+pub(crate) fn period_in(text: &[u8]) -> Option<PeriodCode>
+    requires { length text.now ≡ 5 }
+    ensures fits { IfSome result (λ period. all_ascii_digits text.now ≡ true) }
+    ensures value { IfSome result (λ period. period ≡ number_in text.now) }
+    ensures none { IfNone result (all_ascii_digits text.now ≡ false) }
+{
+    PeriodCode::read(text).ok()
+}
+
+/// The document number that ten digits write.
+#[tactic(auto, unfolding(crate::specs::Records::number_in))]
+#[inline]
+pub(crate) fn document_number_in(text: &[u8]) -> Option<DocNumber>
+    requires { length text.now ≡ 10 }
+    ensures fits { IfSome result (λ document. all_ascii_digits text.now ≡ true) }
+    ensures value { IfSome result (λ document. document ≡ number_in text.now) }
+    ensures none { IfNone result (all_ascii_digits text.now ≡ false) }
+{
+    DocNumber::read_unchecked(text).ok()
+}
+
+/// The value of an amount.
+#[tactic(auto, unfolding(crate::specs::Records::amount_of))]
+#[inline]
+pub(crate) fn amount_in(text: &[u8]) -> Option<i64>
+    ensures fits { IfSome result (λ amount. is_amount text.now ≡ true) }
+    ensures value { IfSome result (λ amount. amount ≡ amount_of text.now) }
+    ensures small { IfSome result IsSmallAmount }
+    ensures none { IfNone result (is_amount text.now ≡ false) }
+{
+    match read_amount(text) {
+        Ok(amount) => Some(amount.get()),
+        Err(_) => None,
+    }
+}
+
+/// The value of a total.
+#[tactic(auto, unfolding(crate::specs::Records::total_of))]
+#[inline]
+fn total_in(text: &[u8]) -> Option<i128>
+    ensures fits { IfSome result (λ total. is_total text.now ≡ true) }
+    ensures value { IfSome result (λ total. total ≡ total_of text.now) }
+    ensures none { IfNone result (is_total text.now ≡ false) }
+{
+    match read_total(text) {
+        Ok(total) => Some(total.get()),
+        Err(_) => None,
+    }
+}
+
+/// Eight digits of documents, and the totals of cash, credit, commission and net.
+#[tactic(auto, unfolding(crate::specs::Records::totals_fit))]
+pub(crate) fn totals_in(text: &[u8]) -> Option<Totals>
+    requires { length text.now ≡ 68 }
+    ensures fits { IfSome result (λ totals. totals_fit text.now ≡ true) }
+    ensures value { IfSome result (λ totals. totals ≡ totals_of text.now) }
+    ensures none { IfNone result (totals_fit text.now ≡ false) }
+{
+    let documents = count_in(&text[..8])?;
+    let cash = total_in(&text[8..23])?;
+    let credit = total_in(&text[23..38])?;
+    let commission = total_in(&text[38..53])?;
+    let net = total_in(&text[53..68])?;
+    Some(Totals {
+        sums: Sums {
+            documents,
+            cash,
+            credit,
+            commission,
+        },
+        net,
+    })
+}
+
+/// The three letters of a currency.
+#[inline]
+pub(crate) fn currency_of(text: &[u8]) -> [u8; 3]
+    requires { length text.now ≡ 3 }
+    ensures { result ≡ text.now }
+{
+    let Ok(currency) = <[u8; 3]>::try_from(text) else {
+        unreachable!()
+    };
+    currency
+}

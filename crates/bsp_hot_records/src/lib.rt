@@ -1,0 +1,24 @@
+//! The records of a HOT file, by which the office reports an airline's documents of one period to
+//! it: their names and codes, and what each says, by its columns.
+#![tactic(auto)]
+
+mod agent;
+mod code;
+mod fields;
+mod model;
+mod name;
+mod reading;
+mod records;
+#[cfg(test)]
+mod tests;
+mod totals;
+
+pub use agent::AgentDigits;
+pub use code::DocumentCode;
+pub use model::{
+    CodeTotals, Document, FileTotals, Heading, OfficeHeader, OfficeTotals, Part, PartOf,
+    PeriodTotals, Record, TransactionHeader,
+};
+pub use name::RecordName;
+pub use reading::read_record;
+pub use totals::{Sums, Totals};

@@ -1,0 +1,296 @@
+//! What each record says that is judged, where its fields are in their form, by its columns.
+
+ghost use Rattle.std.specs.Prelude.{◌≡◌, length, IfSome};
+ghost use Rattle.bsp_hot_records.specs.Judged.{IsSmallRecord};
+ghost use Rattle.bsp_hot_records.specs.Reading.{judged_if};
+
+use crate::agent::AgentDigits;
+use crate::fields::{
+    airline_in, amount_in, code_of, count_in, currency_of, document_number_in, form_fits,
+    period_in, tax_places_fit, totals_in,
+};
+use crate::model::{
+    CodeTotals, Document, FileTotals, Heading, OfficeHeader, OfficeTotals, Part, PartOf,
+    PeriodTotals, Record, TransactionHeader,
+};
+use crate::name::RecordName;
+use bsp_records::{all_digits, all_letters, all_spaces, is_amount, is_record_day, spells_at_most};
+
+#[tactic(auto, unfolding(crate::specs::Records::record_of, crate::specs::Records::file_header_fits))]
+fn file_header(line: &[u8]) -> Option<Record>
+    requires { length line.now ≡ 136 }
+    ensures value { result ≡ judged_if RecordName.Bfh01 line.now }
+    ensures small { IfSome result IsSmallRecord }
+{
+    let airline = airline_in(&line[13..16])?;
+    let period = period_in(&line[16..21])?;
+    let fits = is_record_day(&line[21..27])
+        && all_letters(&line[27..30])
+        && &line[30..37] == b"PROD001".as_slice()
+        && all_spaces(&line[37..136]);
+    if !fits {
+        return None;
+    }
+    Some(Record::FileHeader(Heading {
+        airline,
+        period,
+        currency: currency_of(&line[27..30]),
+    }))
+}
+
+#[tactic(auto, unfolding(crate::specs::Records::record_of, crate::specs::Records::period_header_fits))]
+fn period_header(line: &[u8]) -> Option<Record>
+    requires { length line.now ≡ 136 }
+    ensures value { result ≡ judged_if RecordName.Bch02 line.now }
+    ensures small { IfSome result IsSmallRecord }
+{
+    let period = period_in(&line[13..18])?;
+    let fits = is_record_day(&line[18..24])
+        && is_record_day(&line[24..30])
+        && is_record_day(&line[30..36])
+        && all_spaces(&line[36..136]);
+    if !fits {
+        return None;
+    }
+    Some(Record::PeriodHeader(period))
+}
+
+#[tactic(auto, unfolding(crate::specs::Records::record_of, crate::specs::Records::office_header_fits))]
+fn office_header(line: &[u8]) -> Option<Record>
+    requires { length line.now ≡ 136 }
+    ensures value { result ≡ judged_if RecordName.Boh03 line.now }
+    ensures small { IfSome result IsSmallRecord }
+{
+    let agent = AgentDigits::read(&line[13..21])?;
+    let period = period_in(&line[21..26])?;
+    if !(all_letters(&line[26..29]) && all_spaces(&line[29..136])) {
+        return None;
+    }
+    Some(Record::OfficeHeader(OfficeHeader {
+        agent,
+        period,
+        currency: currency_of(&line[26..29]),
+    }))
+}
+
+#[tactic(auto, unfolding(crate::specs::Records::record_of, crate::specs::Records::transaction_header_fits))]
+#[inline]
+fn transaction_header(line: &[u8]) -> Option<Record>
+    requires { length line.now ≡ 136 }
+    ensures value { result ≡ judged_if RecordName.Bkt06 line.now }
+    ensures small { IfSome result IsSmallRecord }
+{
+    let transaction = count_in(&line[13..21])?;
+    let airline = airline_in(&line[21..24])?;
+    if !all_spaces(&line[24..136]) {
+        return None;
+    }
+    Some(Record::TransactionHeader(TransactionHeader {
+        transaction,
+        airline,
+    }))
+}
+
+#[tactic(auto, unfolding(crate::specs::Records::record_of, crate::specs::Records::document_fits))]
+#[inline]
+fn document(line: &[u8]) -> Option<Record>
+    requires { length line.now ≡ 136 }
+    ensures value { result ≡ judged_if RecordName.Bks24 line.now }
+    ensures small { IfSome result IsSmallRecord }
+{
+    let transaction = count_in(&line[13..21])?;
+    if !is_record_day(&line[21..27]) {
+        return None;
+    }
+    let number = document_number_in(&line[27..37])?;
+    if !all_digits(&line[37..38]) {
+        return None;
+    }
+    let code = code_of(&line[38..42])?;
+    let agent = AgentDigits::read(&line[42..50])?;
+    if !all_spaces(&line[99..136]) {
+        return None;
+    }
+    Some(Record::Document(Document {
+        transaction,
+        agent,
+        code,
+        number,
+    }))
+}
+
+#[tactic(auto, unfolding(crate::specs::Records::record_of, crate::specs::Records::amounts_fit))]
+#[inline]
+fn amounts(line: &[u8]) -> Option<Record>
+    requires { length line.now ≡ 136 }
+    ensures value { result ≡ judged_if RecordName.Bks30 line.now }
+    ensures small { IfSome result IsSmallRecord }
+{
+    let transaction = count_in(&line[13..21])?;
+    let fits = is_amount(&line[21..32]) && tax_places_fit(line) && all_spaces(&line[110..136]);
+    if !fits {
+        return None;
+    }
+    Some(Record::PartOf(PartOf {
+        transaction,
+        part: Part::Amounts(!all_spaces(&line[32..110])),
+    }))
+}
+
+#[tactic(auto, unfolding(crate::specs::Records::record_of, crate::specs::Records::commission_fits))]
+#[inline]
+fn commission(line: &[u8]) -> Option<Record>
+    requires { length line.now ≡ 136 }
+    ensures value { result ≡ judged_if RecordName.Bks39 line.now }
+    ensures small { IfSome result IsSmallRecord }
+{
+    let transaction = count_in(&line[13..21])?;
+    if !spells_at_most(10_000, &line[21..26]) {
+        return None;
+    }
+    let amount = amount_in(&line[26..37])?;
+    if !all_spaces(&line[37..136]) {
+        return None;
+    }
+    Some(Record::PartOf(PartOf {
+        transaction,
+        part: Part::Commission(amount),
+    }))
+}
+
+#[tactic(auto, unfolding(crate::specs::Records::record_of, crate::specs::Records::related_fits))]
+#[inline]
+fn related(line: &[u8]) -> Option<Record>
+    requires { length line.now ≡ 136 }
+    ensures value { result ≡ judged_if RecordName.Bks45 line.now }
+    ensures small { IfSome result IsSmallRecord }
+{
+    let transaction = count_in(&line[13..21])?;
+    let airline = airline_in(&line[21..24])?;
+    let fits = all_digits(&line[24..34]) && all_digits(&line[34..35]) && all_spaces(&line[35..136]);
+    if !fits {
+        return None;
+    }
+    Some(Record::PartOf(PartOf {
+        transaction,
+        part: Part::Related(airline),
+    }))
+}
+
+#[tactic(auto, unfolding(crate::specs::Records::record_of, crate::specs::Records::payment_fits))]
+#[inline]
+fn payment(line: &[u8]) -> Option<Record>
+    requires { length line.now ≡ 136 }
+    ensures value { result ≡ judged_if RecordName.Bkp84 line.now }
+    ensures small { IfSome result IsSmallRecord }
+{
+    let transaction = count_in(&line[13..21])?;
+    if !form_fits(&line[21..23], &line[34..36]) {
+        return None;
+    }
+    let amount = amount_in(&line[23..34])?;
+    if !all_spaces(&line[36..136]) {
+        return None;
+    }
+    let part = match &line[21..23] {
+        b"CA" => Part::Cash(amount),
+        b"CC" => Part::Credit(amount),
+        _ => Part::Exchange,
+    };
+    Some(Record::PartOf(PartOf { transaction, part }))
+}
+
+#[tactic(auto, unfolding(crate::specs::Records::record_of, crate::specs::Records::code_totals_fit))]
+fn code_totals(line: &[u8]) -> Option<Record>
+    requires { length line.now ≡ 136 }
+    ensures value { result ≡ judged_if RecordName.Bot93 line.now }
+    ensures small { IfSome result IsSmallRecord }
+{
+    let agent = AgentDigits::read(&line[13..21])?;
+    let code = code_of(&line[21..25])?;
+    let totals = totals_in(&line[25..93])?;
+    if !all_spaces(&line[93..136]) {
+        return None;
+    }
+    Some(Record::CodeTotals(CodeTotals {
+        agent,
+        code,
+        totals,
+    }))
+}
+
+#[tactic(auto, unfolding(crate::specs::Records::record_of, crate::specs::Records::office_totals_fit))]
+fn office_totals(line: &[u8]) -> Option<Record>
+    requires { length line.now ≡ 136 }
+    ensures value { result ≡ judged_if RecordName.Bot94 line.now }
+    ensures small { IfSome result IsSmallRecord }
+{
+    let agent = AgentDigits::read(&line[13..21])?;
+    let totals = totals_in(&line[21..89])?;
+    if !all_spaces(&line[89..136]) {
+        return None;
+    }
+    Some(Record::OfficeTotals(OfficeTotals { agent, totals }))
+}
+
+#[tactic(auto, unfolding(crate::specs::Records::record_of, crate::specs::Records::period_totals_fit))]
+fn period_totals(line: &[u8]) -> Option<Record>
+    requires { length line.now ≡ 136 }
+    ensures value { result ≡ judged_if RecordName.Bct95 line.now }
+    ensures small { IfSome result IsSmallRecord }
+{
+    let period = period_in(&line[13..18])?;
+    let offices = count_in(&line[18..26])?;
+    let totals = totals_in(&line[26..94])?;
+    if !all_spaces(&line[94..136]) {
+        return None;
+    }
+    Some(Record::PeriodTotals(PeriodTotals {
+        period,
+        offices,
+        totals,
+    }))
+}
+
+#[tactic(auto, unfolding(crate::specs::Records::record_of, crate::specs::Records::file_totals_fit))]
+fn file_totals(line: &[u8]) -> Option<Record>
+    requires { length line.now ≡ 136 }
+    ensures value { result ≡ judged_if RecordName.Bft99 line.now }
+    ensures small { IfSome result IsSmallRecord }
+{
+    let airline = airline_in(&line[13..16])?;
+    let records = count_in(&line[16..24])?;
+    let totals = totals_in(&line[24..92])?;
+    if !all_spaces(&line[92..136]) {
+        return None;
+    }
+    Some(Record::FileTotals(FileTotals {
+        airline,
+        records,
+        totals,
+    }))
+}
+
+/// What a record with the name says that is judged, where its fields are in their form.
+#[inline]
+pub(crate) fn record_of(name: RecordName, line: &[u8]) -> Option<Record>
+    requires { length line.now ≡ 136 }
+    ensures value { result ≡ judged_if name line.now }
+    ensures small { IfSome result IsSmallRecord }
+{
+    match name {
+        RecordName::Bfh01 => file_header(line),
+        RecordName::Bch02 => period_header(line),
+        RecordName::Boh03 => office_header(line),
+        RecordName::Bkt06 => transaction_header(line),
+        RecordName::Bks24 => document(line),
+        RecordName::Bks30 => amounts(line),
+        RecordName::Bks39 => commission(line),
+        RecordName::Bks45 => related(line),
+        RecordName::Bkp84 => payment(line),
+        RecordName::Bot93 => code_totals(line),
+        RecordName::Bot94 => office_totals(line),
+        RecordName::Bct95 => period_totals(line),
+        RecordName::Bft99 => file_totals(line),
+    }
+}
