@@ -1,4 +1,4 @@
-use Rattle.std.proofs.Common.{◌≡◌, ◌++◌, ◌∙◌, ◌≤◌, List, [], ◌∷◌, ℕ, ap, sym, codes, map, take, length, false, arith}
+use Rattle.std.proofs.Common.{◌++◌, ◌∙◌, List, [], ◌∷◌, ℕ, ap, sym, codes, map, take, false, arith}
 use Rattle.std.proofs.lemmas.List.{length-map, length-take-le, take_all}
 use Rattle.serde_json.specs.Data.{Data}
 use Rattle.bsp_memos.specs.declared.fields.MemoFields.{MemoFields}

@@ -1,4 +1,3 @@
-use Rattle.std.proofs.Common.{◌≡◌, ◌++◌, ◌∙◌, ap, sym, List, ℕ, append_assoc}
 use Rattle.bsp_messages.proofs.TextLemmas.{appended}
 use Rattle.bsp_messages.proofs.verdicts.push_parts.Goals as goal
 

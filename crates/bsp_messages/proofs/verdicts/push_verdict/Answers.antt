@@ -1,4 +1,4 @@
-use Rattle.std.proofs.Common.{◌≡◌, ◌++◌, ◌∙◌, List, ℕ, ap, sym, codes}
+use Rattle.std.proofs.Common.{◌++◌, ◌∙◌, List, ℕ, ap, sym, codes}
 use Rattle.bsp_messages.specs.VerdictTexts.{outcome_text}
 use Rattle.bsp_messages.proofs.TextLemmas.{appended, verdict_text}
 use Rattle.bsp_messages.proofs.verdicts.push_verdict.Goals as goal

@@ -1,4 +1,4 @@
-use Rattle.std.proofs.Common.{◌≡◌, ◌++◌, ◌∙◌, ◌+◌, ◌≤◌, List, [], ◌∷◌, ℕ, ap, sym, codes, take, length, false, arith}
+use Rattle.std.proofs.Common.{◌++◌, ◌∙◌, ◌+◌, List, [], ◌∷◌, ℕ, ap, sym, codes, take, false, arith}
 use Rattle.std.proofs.lemmas.List.{length-take-le, take_all}
 use Rattle.serde_json.specs.Data.{Data}
 use Rattle.bsp_rules.specs.declared.verdict.Verdict.{Verdict}
