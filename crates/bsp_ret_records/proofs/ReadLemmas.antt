@@ -16,7 +16,7 @@ use Rattle.bsp_fields.proofs.FirstFaultLemmas.{row_passed}
 use Rattle.bsp_ret_records.specs.declared.transactions.ReportedDocument.{ReportedDocument}
 use Rattle.bsp_ret_records.specs.declared.transactions.Tax.{Tax}
 use Rattle.bsp_records.specs.Columns.{columns, is_letter_or_digit, is_space, is_wide, is_printable}
-use Rattle.bsp_ret_records.specs.Records.{code_of, agent, document, issued, sale_blank, sale_fits, related_document, related_blank, related_fits}
+use Rattle.bsp_ret_records.specs.Records.{code_of, agent_and_document, agent, document, issued, sale_blank, sale_fits, related_document, related_blank, related_fits}
 use Rattle.bsp_records.specs.Fields.{is_record_day, is_amount}
 use Rattle.bsp_records.specs.Taxes.{tax_code, tax_fits, taxes_fit}
 use Rattle.bsp_ret_records.specs.Values.{IsTax}
@@ -36,18 +36,25 @@ pub record SaleFields (line : List ℕ) : Type 0 where
   pub document : all_ascii_digits (document line) ≡ true
   pub day : is_record_day (issued line) ≡ true
 
+digits_inside : (text : List ℕ) (skipped inner : ℕ) → all_ascii_digits text ≡ true → all_ascii_digits (take inner (drop skipped text)) ≡ true
+digits_inside text skipped inner all =
+    digits_are (take inner (drop skipped text)) ∙ list_all-take is_ascii_digit inner (drop skipped text) (list_all-drop is_ascii_digit skipped text (sym (digits_are text) ∙ all))
+
 pub sale_fields : (line : List ℕ) → sale_fits line ≡ true → SaleFields line
 unfolding sale_fits
 sale_fields line fits =
     let code_is = is_some (code_of line) in
-    let agent_is = all_ascii_digits (agent line) in
-    let document_is = all_ascii_digits (document line) in
+    let digits_are = all_ascii_digits (agent_and_document line) in
     let day_is = is_record_day (issued line) in
-    let fourth = and_parts (code_is && agent_is && document_is && day_is) (list_all is_space (sale_blank line)) fits in
-    let third = and_parts (code_is && agent_is && document_is) day_is fourth.0 in
-    let second = and_parts (code_is && agent_is) document_is third.0 in
-    let first = and_parts code_is agent_is second.0 in
-    record { code = first.0; agent = first.1; document = second.1; day = third.1 }
+    let third = and_parts (code_is && digits_are && day_is) (list_all is_space (sale_blank line)) fits in
+    let second = and_parts (code_is && digits_are) day_is third.0 in
+    let first = and_parts code_is digits_are second.0 in
+    record {
+      code = first.0;
+      agent = digits_inside (agent_and_document line) 0 8 first.1;
+      document = digits_inside (agent_and_document line) 8 14 first.1;
+      day = second.1;
+    }
 
 pub related_digits : (line : List ℕ) → related_fits line ≡ true → all_ascii_digits (related_document line) ≡ true
 unfolding related_fits

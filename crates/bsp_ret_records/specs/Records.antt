@@ -38,11 +38,15 @@ header_fits line =
 
 -- ---- record 2, basic sale data
 
+-- the agent's eight digits and the document's fourteen
+abbrev pub agent_and_document : List ℕ → List ℕ
+agent_and_document line = columns 12 33 line
+
 abbrev pub agent : List ℕ → List ℕ
-agent line = columns 12 19 line
+agent line = columns 1 8 (agent_and_document line)
 
 abbrev pub document : List ℕ → List ℕ
-document line = columns 20 33 line
+document line = columns 9 22 (agent_and_document line)
 
 abbrev pub issued : List ℕ → List ℕ
 issued line = columns 34 39 line
@@ -61,8 +65,8 @@ code_of line =
 
 unfoldable pub sale_fits : List ℕ → Bool
 sale_fits line =
-    is_some (code_of line) && all_ascii_digits (agent line) && all_ascii_digits (document line)
-    && is_record_day (issued line) && list_all is_space (sale_blank line)
+    is_some (code_of line) && all_ascii_digits (agent_and_document line) && is_record_day (issued line)
+    && list_all is_space (sale_blank line)
 
 -- ---- record 3, related document
 

@@ -1,7 +1,7 @@
 //! Record 2, basic sale data.
 
 ghost use Rattle.std.specs.Prelude.{◌≡◌, length, true, false, Some, IfSome, IfNone};
-ghost use Rattle.bsp_ret_records.specs.Records.{IsFit, agent, document, issued, passenger, code_of, sale_fits};
+ghost use Rattle.bsp_ret_records.specs.Records.{IsFit, agent_and_document, agent, document, issued, passenger, code_of, sale_fits};
 ghost use Rattle.bsp_ret_records.specs.Values.{IsSale};
 
 use crate::codes::TransactionCode;
@@ -9,12 +9,22 @@ use crate::columns::{array_of, day_of, document_of};
 use crate::transactions::Sale;
 use bsp_records::{all_digits, all_spaces, is_record_day};
 
+/// The agent's eight digits and the document's fourteen.
+#[inline]
+fn agent_and_document(line: &[u8]) -> &[u8]
+    requires { length line.now ≡ 136 }
+    ensures columns { result.now ≡ agent_and_document line.now }
+    ensures wide { length result.now ≡ 22 }
+{
+    &line[11..33]
+}
+
 #[inline]
 fn agent(line: &[u8]) -> &[u8]
     requires { length line.now ≡ 136 }
     ensures { result.now ≡ agent line.now }
 {
-    &line[11..19]
+    &agent_and_document(line)[..8]
 }
 
 #[inline]
@@ -23,7 +33,7 @@ fn document(line: &[u8]) -> &[u8]
     ensures columns { result.now ≡ document line.now }
     ensures wide { length result.now ≡ 14 }
 {
-    &line[19..33]
+    &agent_and_document(line)[8..22]
 }
 
 #[inline]
@@ -56,8 +66,7 @@ pub fn sale_code(line: &[u8]) -> Option<TransactionCode>
     ensures none { IfNone result (sale_fits line.now ≡ false) }
 {
     let code = code_of(line)?;
-    let fits = all_digits(agent(line))
-        && all_digits(document(line))
+    let fits = all_digits(agent_and_document(line))
         && is_record_day(issued(line))
         && all_spaces(&line[88..136]);
     if fits { Some(code) } else { None }

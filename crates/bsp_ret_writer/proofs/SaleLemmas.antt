@@ -1,5 +1,5 @@
 -- Lemmas on records 2 that are written.
-use Rattle.std.proofs.Common.{◌≡◌, ℕ, ◌<◌, ◌^◌, true, List, [], ◌∷◌, length, map, refl, sym, subst, Ok, Some}
+use Rattle.std.proofs.Common.{◌≡◌, ℕ, ◌<◌, ◌^◌, true, List, [], ◌∷◌, length, map, take, drop, refl, sym, ap, ◌∙◌, subst, Ok, Some}
 use Rattle.std.specs.Prelude.{codes}
 use Rattle.std.specs.List.{concat, list_all}
 use Rattle.std.specs.Str.{all_ascii_digits}
@@ -13,7 +13,7 @@ use Rattle.bsp_ret_records.specs.declared.codes.TransactionCode.TheVariants.{Tkt
 use Rattle.bsp_ret_records.specs.declared.transactions.Transaction.{Transaction}
 use Rattle.bsp_records.specs.Columns.{columns, identifier, is_wide, is_printable, is_space}
 use Rattle.bsp_records.specs.Fields.{is_record_day}
-use Rattle.bsp_ret_records.specs.Records.{transaction_number, agent as agent_of, document as document_of, issued as issued_of, passenger as passenger_of, sale_blank, code_of, sale_fits}
+use Rattle.bsp_ret_records.specs.Records.{transaction_number, agent_and_document, agent as agent_of, document as document_of, issued as issued_of, passenger as passenger_of, sale_blank, code_of, sale_fits}
 use Rattle.bsp_ret.specs.Ret.{IsRecord}
 use Rattle.bsp_ret_records.specs.Values.{IsDocument}
 use Rattle.bsp_ret_writer.specs.GroupValues.{is_document}
@@ -31,6 +31,7 @@ pub record SaleColumns (line number code agent airline digits check day passenge
   pub name : identifier line ≡ 50
   pub number_at : transaction_number line ≡ number
   pub code_at : columns 8 11 line ≡ code
+  pub digits_at : agent_and_document line ≡ concat (agent ∷ airline ∷ digits ∷ check ∷ [])
   pub agent_at : agent_of line ≡ agent
   pub document_at : document_of line ≡ concat (airline ∷ digits ∷ check ∷ [])
   pub day_at : issued_of line ≡ day
@@ -72,13 +73,18 @@ sale_columns : (number code agent airline digits check day passenger rest : List
 sale_columns number code agent airline digits check day passenger rest wide are =
     let widths : List ℕ = 1 ∷ 6 ∷ 4 ∷ 8 ∷ 3 ∷ 10 ∷ 1 ∷ 6 ∷ 49 ∷ 48 ∷ [] in
     let fields : List (List ℕ) = codes "2" ∷ number ∷ code ∷ agent ∷ airline ∷ digits ∷ check ∷ day ∷ passenger ∷ rest ∷ [] in
+    let four : List (List ℕ) = agent ∷ airline ∷ digits ∷ check ∷ [] in
+    let four_widths : List ℕ = 8 ∷ 3 ∷ 10 ∷ 1 ∷ [] in
+    let four_wide : map length four ≡ four_widths = ap (λ (ws : List ℕ). take 4 (drop 3 ws)) wide in
+    let digits_at : columns 12 33 (concat fields) ≡ concat four = fields_at 3 4 widths fields wide in
     record {
       wide = wide_fields widths fields wide refl (printable_are number code agent airline digits check day passenger rest are);
       name = refl;
       number_at = field_at 1 widths fields wide;
       code_at = field_at 2 widths fields wide;
-      agent_at = field_at 3 widths fields wide;
-      document_at = fields_at 4 3 widths fields wide;
+      digits_at = digits_at;
+      agent_at = ap (columns 1 8) digits_at ∙ field_at 0 four_widths four four_wide;
+      document_at = ap (columns 9 22) digits_at ∙ fields_at 1 3 four_widths four four_wide;
       day_at = field_at 7 widths fields wide;
       passenger_at = field_at 8 widths fields wide;
       rest_at = field_at 9 widths fields wide;
@@ -111,9 +117,9 @@ digits-record_text d =
 sale_fits-columns : (line number code agent airline digits check day passenger rest : List ℕ) (kind : TransactionCode) (d : CivilDay) → SaleColumns line number code agent airline digits check day passenger rest → SaleCharacters number code agent airline digits check day passenger rest → code_of line ≡ Some kind → record_reading day ≡ Ok d → sale_fits line ≡ true
 unfolding sale_fits
 sale_fits-columns line number code agent airline digits check day passenger rest kind d c are is reads =
-    let all : list_all all_ascii_digits (airline ∷ digits ∷ check ∷ []) ≡ true = rw (are.airline_is, are.digits_are, are.check_is) refl in
+    let all : list_all all_ascii_digits (agent ∷ airline ∷ digits ∷ check ∷ []) ≡ true = rw (are.agent_is, are.airline_is, are.digits_are, are.check_is) refl in
     let read : is_record_day (issued_of line) ≡ true = rw (c.day_at, reads) refl in
-    rw (is, c.agent_at, are.agent_is, c.document_at, digits-concat (airline ∷ digits ∷ check ∷ []) all, read, c.rest_at, are.rest_is) refl
+    rw (is, c.digits_at, digits-concat (agent ∷ airline ∷ digits ∷ check ∷ []) all, read, c.rest_at, are.rest_is) refl
 
 -- what makes a record 2 of a transaction's values
 pub record SaleFits (t : Transaction) : Type 0 where

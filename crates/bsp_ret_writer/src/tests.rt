@@ -155,13 +155,12 @@ fn refund() -> Result<Transaction, Fail> {
 }
 
 /// Whether a transaction is a group, and whether it is one with its cash as an exchange, too.
-fn is_group_twice(found: Option<Transaction>) -> Option<(bool, bool)> {
-    let found = found?;
+fn is_group_twice(transaction: &Transaction) -> [bool; 2] {
     let exchanged = Transaction {
-        exchange: found.cash,
-        ..found
+        exchange: transaction.cash,
+        ..*transaction
     };
-    Some((is_group(&found), is_group(&exchanged)))
+    [is_group(transaction), is_group(&exchanged)]
 }
 
 #[test]
@@ -173,8 +172,7 @@ fn values_of_a_refund_are_told(rt: HostRuntime) -> Result<(), Fail> {
 
 #[test]
 fn a_refund_is_a_group_without_exchange(rt: HostRuntime) -> Result<(), Fail> {
-    let found = first(&rt, &REFUND)?;
-    assert_eq!(rt; is_group_twice(found), Some((true, false)));
+    assert_eq!(rt; is_group_twice(&refund()?), [true, false]);
     Ok(())
 }
 
