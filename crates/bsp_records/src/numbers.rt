@@ -5,6 +5,7 @@ ghost use Rattle.std.specs.Str.{all_ascii_digits};
 ghost use Rattle.bsp_fields.specs.Decimal.{number_of};
 ghost use Rattle.bsp_records.specs.Fields.{spells, spells_at_most};
 
+use crate::characters::all_digits;
 use bsp_fields::read_digits;
 
 /// Whether at most 19 characters are digits that write the number.
@@ -13,10 +14,7 @@ pub fn spells(number: usize, text: &[u8]) -> bool
     requires { length text.now ≤ 19 }
     ensures { result ≡ spells number text.now }
 {
-    match read_digits(text) {
-        Ok(read) => read as usize == number,
-        Err(_) => false,
-    }
+    all_digits(text) && number_of(text) as usize == number
 }
 
 /// Whether at most 19 characters are digits that write the number or less.
@@ -25,10 +23,7 @@ pub fn spells_at_most(most: u64, text: &[u8]) -> bool
     requires { length text.now ≤ 19 }
     ensures { result ≡ spells_at_most most text.now }
 {
-    match read_digits(text) {
-        Ok(read) => read <= most,
-        Err(_) => false,
-    }
+    all_digits(text) && number_of(text) <= most
 }
 
 /// The number that at most 19 digits write.
