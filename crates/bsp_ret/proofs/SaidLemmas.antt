@@ -1,20 +1,17 @@
 -- What a record says, by its identifier, and what the fault table says of it.
-use Rattle.std.proofs.Common.{◌≡◌, ℕ, ℤ, pos, Bool, true, false, List, [], ◌∷◌, Some, None, Result, Ok, Err, refl, sym, ap, ◌∙◌, inl, inr, eqb-true}
-use Rattle.std.specs.Prelude.{◌==◌, ◌&&◌, not, IfOk, IfErr, codes}
-use Rattle.std.specs.List.{list_all}
+use Rattle.std.proofs.Common.{◌≡◌, ℕ, ℤ, pos, Bool, true, false, List, [], ◌∷◌, Result, Ok, Err, refl, sym, ap, ◌∙◌, inl, inr, eqb-true}
+use Rattle.std.specs.Prelude.{◌==◌, not, IfOk, IfErr, codes}
 use Rattle.std.specs.Str.{bytes_eq}
-use Rattle.std.proofs.lemmas.Bool.{cases_Bool, and_right, and_parts, not-false}
+use Rattle.std.proofs.lemmas.Bool.{cases_Bool, and_parts, not-false}
 use Rattle.bsp_fields.proofs.FirstFaultLemmas.{row_passed}
 use Rattle.bsp_fields.specs.FirstFault.{first_fault_or}
-use Rattle.bsp_records.specs.Columns.{columns, identifier, is_space, is_wide}
-use Rattle.bsp_records.specs.Fields.{is_amount}
+use Rattle.bsp_records.specs.Columns.{columns, identifier, is_wide}
 use Rattle.bsp_ret.specs.declared.model.FaultCode.{FaultCode}
 use Rattle.bsp_ret.specs.declared.model.FaultCode.TheVariants.{F01, F02, F04, F05, F09}
-use Rattle.bsp_ret_records.specs.declared.codes.FormOfPayment.{FormOfPayment}
 use Rattle.bsp_ret.specs.declared.model.Record.{Record}
 use Rattle.bsp_ret.specs.declared.model.Record.TheVariants as said
 use Rattle.bsp_ret.specs.declared.model.Standing.{Standing}
-use Rattle.bsp_ret_records.specs.Records.{is_header, is_production, header_fits, form_of, vendor_fits, form_fits}
+use Rattle.bsp_ret_records.specs.Records.{is_header, is_production, header_fits}
 use Rattle.bsp_ret.specs.Said.{record_in}
 use Rattle.bsp_ret.specs.Table.{paid, has_ended, header_table, trailer_table, later_table, record_table, row_fault}
 

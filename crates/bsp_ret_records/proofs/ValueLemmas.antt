@@ -1,11 +1,11 @@
 -- What the tests of records 5, 8 and Z say of their fields.
-use Rattle.std.proofs.Common.{◌≡◌, ℕ, zero, suc, ◌<◌, ◌≤◌, ◌&&◌, ◌||◌, Bool, true, List, [], ◌∷◌, length, get_or, refl, sym, ap, ◌∙◌, arith, inl, inr}
+use Rattle.std.proofs.Common.{◌≡◌, ℕ, zero, suc, ◌<◌, ◌≤◌, ◌&&◌, ◌||◌, Bool, true, List, [], ◌∷◌, length, get_or, refl, arith, inl, inr}
 use Rattle.std.specs.Prelude.{nat_lt, nat_le}
 use Rattle.std.specs.List.{list_all}
 use Rattle.std.specs.Str.{all_ascii_digits}
 use Rattle.std.proofs.lemmas.Bool.{and_parts, cases_Bool, or_right, leb-true}
 use Rattle.bsp_fields.specs.Decimal.{number_of}
-use Rattle.bsp_records.specs.Columns.{columns, is_space}
+use Rattle.bsp_records.specs.Columns.{is_space}
 use Rattle.bsp_records.specs.Fields.{is_amount, is_total, spells_at_most}
 use Rattle.bsp_records.specs.Taxes.{tax_places, tax_code, tax_fits, taxes_fit}
 use Rattle.bsp_ret_records.specs.Records.{fare, rate, commission, amounts_blank, amounts_fit, payment_amount, vendor, payment_blank, vendor_fits, form_of, form_fits, record_count, transaction_count, total, trailer_blank, trailer_fits}

@@ -20,5 +20,5 @@ pub use header::{header_fits, is_header, is_production};
 pub use payment::{card_values, form_of, paid_amount, payment_value};
 pub use related::{related_fits, related_values};
 pub use sale::{sale_code, sale_passenger, sale_values};
-pub use trailer::{record_count, told_records, told_sum, total, trailer_fits, transaction_count};
+pub use trailer::{record_count, told_records, told_sum, trailer_fits, transaction_count};
 pub use transactions::{Amounts, CardPayment, PaidSale, ReportedDocument, Sale, Tax, Transaction};

@@ -30,7 +30,7 @@ pub fn transaction_count(line: &[u8]) -> &[u8]
 
 /// The sum that a trailer tells, in fifteen characters.
 #[inline]
-pub fn total(line: &[u8]) -> &[u8]
+fn total(line: &[u8]) -> &[u8]
     requires { length line.now ≡ 136 }
     ensures { result.now ≡ total line.now }
 {

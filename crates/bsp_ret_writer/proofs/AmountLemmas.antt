@@ -9,7 +9,7 @@ use Rattle.bsp_fields.specs.Decimal.{fixed_digits}
 use Rattle.bsp_fields.specs.Zoned.{spelling}
 use Rattle.bsp_fields.proofs.DecimalLemmas.{length-fixed_digits, digits-fixed_digits, number_of-fixed_digits}
 use Rattle.bsp_ret_records.specs.declared.transactions.Amounts.{Amounts}
-use Rattle.bsp_records.specs.Columns.{columns, identifier, is_wide, is_printable, is_space}
+use Rattle.bsp_records.specs.Columns.{identifier, is_wide, is_printable, is_space}
 use Rattle.bsp_records.specs.Fields.{is_amount, spells_at_most}
 use Rattle.bsp_records.specs.Taxes.{tax_places, taxes_fit}
 use Rattle.bsp_ret_records.specs.Records.{transaction_number, fare as fare_of, rate as rate_of, commission as commission_of, amounts_blank, amounts_fit}

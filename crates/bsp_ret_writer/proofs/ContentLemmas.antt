@@ -1,25 +1,19 @@
 -- What the tests of records say of the values that their columns have.
-use Rattle.std.proofs.Common.{◌≡◌, ℕ, ◌<◌, ◌≤◌, ◌^◌, ◌+◌, ◌-◌, ◌&&◌, ◌||◌, not, Bool, true, false, List, [], ◌∷◌, length, take, drop, get_or, refl, sym, ap, ◌∙◌, subst, arith, Option, None, Some, is_none, is_some, Ok, ℤ, length-take}
-use Rattle.std.specs.Prelude.{◌==◌, nat_lt}
+use Rattle.std.proofs.Common.{◌≡◌, ℕ, ◌<◌, ◌≤◌, ◌^◌, ◌&&◌, true, false, List, [], ◌∷◌, length, drop, refl, sym, ap, ◌∙◌, subst, arith, Option, None, Some, is_none, length-take}
+use Rattle.std.specs.Prelude.{nat_lt}
 use Rattle.std.specs.List.{list_all}
 use Rattle.std.specs.Char.{is_ascii_digit}
 use Rattle.std.specs.Str.{all_ascii_digits}
-use Rattle.std.proofs.lemmas.Grind.{common_steps}
-use Rattle.std.proofs.lemmas.Bool.{and_parts, false_from_ne_true, eqb-true, le-leb, not-false}
-use Rattle.std.proofs.lemmas.List.{drop-take, drop-drop, take-take, get_or-take}
+use Rattle.std.proofs.lemmas.Bool.{and_parts, false_from_ne_true, le-leb}
+use Rattle.std.proofs.lemmas.List.{get_or-take}
 use Rattle.bsp_fields.specs.Decimal.{number_of}
-use Rattle.bsp_fields.specs.Zoned.{zoned_reading, zoned_value, all_but_last, last_character, is_plus, is_minus}
-use Rattle.bsp_fields.specs.declared.fault.FieldFault.{FieldFault}
-use Rattle.bsp_fields.specs.declared.fault.FieldFault.TheVariants.{Width, NotDigit, NotSign}
 use Rattle.bsp_fields.proofs.DecimalLemmas.{number_of-lt}
-use Rattle.bsp_fields.proofs.FirstFaultLemmas.{row_passed}
 use Rattle.bsp_ret_records.specs.declared.transactions.ReportedDocument.{ReportedDocument}
 use Rattle.bsp_ret_records.specs.declared.transactions.Tax.{Tax}
-use Rattle.bsp_records.specs.Columns.{columns, is_letter_or_digit, is_space, is_wide, is_printable}
-use Rattle.bsp_ret_records.specs.Records.{code_of, sale_fits, related_fits}
-use Rattle.bsp_records.specs.Fields.{is_record_day, is_amount}
+use Rattle.bsp_records.specs.Columns.{columns, is_letter_or_digit, is_space}
+use Rattle.bsp_records.specs.Fields.{is_amount}
 use Rattle.bsp_records.specs.Taxes.{tax_code, tax_fits, taxes_fit}
-use Rattle.bsp_ret_records.specs.Values.{IsDocument, IsTax, AreTaxes}
+use Rattle.bsp_ret_records.specs.Values.{IsDocument, AreTaxes}
 use Rattle.bsp_ret_writer.specs.GroupValues.{is_document, are_taxes}
 use Rattle.bsp_ret_records.proofs.ReadLemmas.{no_tax, blank_rest, used_rest}
 use Rattle.bsp_records.proofs.CharacterLemmas.{digits_are, list_all-take, list_all-drop}

@@ -12,7 +12,7 @@ use Rattle.bsp_ret_records.specs.declared.transactions.ReportedDocument.{Reporte
 use Rattle.bsp_ret_records.specs.declared.transactions.Amounts.{Amounts}
 use Rattle.bsp_ret_records.specs.declared.transactions.CardPayment.{CardPayment}
 use Rattle.bsp_ret_records.specs.declared.transactions.Transaction.{Transaction}
-use Rattle.bsp_records.specs.Columns.{columns, is_space, is_letter_or_digit, is_printable}
+use Rattle.bsp_records.specs.Columns.{is_space, is_letter_or_digit, is_printable}
 use Rattle.bsp_records.specs.Fields.{is_amount}
 use Rattle.bsp_records.specs.Taxes.{tax_places}
 use Rattle.bsp_ret_records.specs.Records.{document, related_document, payment_amount, vendor, payment_blank, vendor_fits, form_of, form_fits, related_fits, amounts_fit}

@@ -1,5 +1,5 @@
 -- A file that is written stands in Ret, with the same values.
-use Rattle.std.proofs.Common.{◌≡◌, ℕ, suc, ◌+◌, ◌<◌, ◌^◌, ℤ, pos, ◌+ℤ◌, Bool, true, false, ◌&&◌, List, [], ◌∷◌, ◌++◌, length, take, get_or, Option, Some, None, IfSome, refl, sym, ap, subst, ◌∙◌, arith, append_assoc, length-append, length-take, length-drop, drop, map}
+use Rattle.std.proofs.Common.{◌≡◌, ℕ, suc, ◌+◌, ◌<◌, ◌^◌, ℤ, pos, ◌+ℤ◌, Bool, true, false, List, [], ◌∷◌, ◌++◌, length, take, get_or, Option, Some, None, IfSome, refl, sym, ap, subst, ◌∙◌, arith, append_assoc, length-append, length-take, length-drop, drop, map}
 use Rattle.std.proofs.Math.IntN.{+ℤ_assoc, +ℤ_idl}
 use Rattle.std.specs.Prelude.{codes, ◌==◌, OnOk, Result, Ok, Err}
 use Rattle.std.specs.Str.{all_ascii_digits}
@@ -8,7 +8,7 @@ use Rattle.std.specs.List.{concat, list_all}
 use Rattle.std.specs.Option.{option_to_list}
 use Rattle.std.proofs.lemmas.List.{take_more, append-nil}
 use Rattle.std.proofs.lemmas.Bool.{and_parts, eqb-true}
-use Rattle.bsp_fields.specs.Zoned.{zoned_reading, spelling}
+use Rattle.bsp_fields.specs.Zoned.{spelling}
 use Rattle.bsp_fields.specs.Decimal.{number_of}
 use Rattle.bsp_fields.proofs.DecimalLemmas.{number_of-lt}
 use Rattle.bsp_ret_records.specs.declared.transactions.Transaction.{Transaction}

@@ -109,8 +109,8 @@ fn first(rt: &HostRuntime, lines: &[&[u8]]) -> Result<Option<Transaction>, Fail>
     Ok(transaction(&file, 0))
 }
 
-/// The values of the first transaction of REFUND.
-fn refund() -> Result<Transaction, Fail> {
+/// The values of the first transaction of REFUND, with such an exchange.
+fn refund(exchange: Option<Amount>) -> Result<Transaction, Fail> {
     let mut passenger = [b' '; 49];
     passenger[..8].copy_from_slice(b"DOE/JANE");
     let airline = AirlineCode::read(b"125")?;
@@ -150,29 +150,34 @@ fn refund() -> Result<Transaction, Fail> {
         }),
         cash: Some(Amount::new(-23_500)?),
         credit: None,
-        exchange: None,
+        exchange,
     })
 }
 
-/// Whether a transaction is a group, and whether it is one with its cash as an exchange, too.
-fn is_group_twice(transaction: &Transaction) -> [bool; 2] {
-    let exchanged = Transaction {
-        exchange: transaction.cash,
-        ..*transaction
-    };
-    [is_group(transaction), is_group(&exchanged)]
+fn are_groups(transactions: &[Transaction]) -> bool {
+    let mut all = true;
+    for transaction in transactions {
+        all &= is_group(transaction);
+    }
+    all
 }
 
 #[test]
 fn values_of_a_refund_are_told(rt: HostRuntime) -> Result<(), Fail> {
     let found = first(&rt, &REFUND)?;
-    assert_eq!(rt; found, Some(refund()?));
+    assert_eq!(rt; found, Some(refund(None)?));
     Ok(())
 }
 
 #[test]
-fn a_refund_is_a_group_without_exchange(rt: HostRuntime) -> Result<(), Fail> {
-    assert_eq!(rt; is_group_twice(&refund()?), [true, false]);
+fn a_refund_is_a_group(rt: HostRuntime) -> Result<(), Fail> {
+    assert!(rt; are_groups(&[refund(None)?]));
+    Ok(())
+}
+
+#[test]
+fn a_refund_with_an_exchange_is_no_group(rt: HostRuntime) -> Result<(), Fail> {
+    assert!(rt; !are_groups(&[refund(Some(Amount::new(-23_500)?))?]));
     Ok(())
 }
 

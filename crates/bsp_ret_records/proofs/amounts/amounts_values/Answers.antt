@@ -1,4 +1,4 @@
-use Rattle.std.proofs.Common.{◌≡◌, ◌≤◌, arith, ap, true, ◌∙◌}
+use Rattle.std.proofs.Common.{arith, ap, ◌∙◌}
 use Rattle.std.specs.Str.{all_ascii_digits}
 use Rattle.bsp_fields.specs.Decimal.{number_of}
 use Rattle.bsp_records.specs.Fields.{is_amount}
