@@ -3,3 +3,5 @@ pub mod Rows
 pub mod Writes
 pub mod Part
 pub mod Tallies
+pub mod Sound
+pub mod Changes
