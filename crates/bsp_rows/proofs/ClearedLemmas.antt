@@ -165,11 +165,14 @@ unfolding facts_in own_number
 free_of registered ranges items t p i h in' same = by_code t.code refl where
   has : has_number t.document.number i ≡ true
   has = bytes_same i.transaction.document.number t.document.number same
+
   sold : used t.document.number items ≡ false → (same_code t.code Canx ≡ true) × (is_canx i ≡ false)
   sold none = absurd (both_ways _ (any_false (has_number t.document.number) items i none in') has)
+
   rest : (a b : Bool) → a ≡ true → (a && b) ≡ false → b ≡ false
   rest true b e g = g
   rest false b e g = absurd (cc e)
+
   by_code : (code : TransactionCode) → t.code ≡ code → (same_code t.code Canx ≡ true) × (is_canx i ≡ false)
   by_code Tktt is = sold (rw is at h)
   by_code Rfnd is = sold (rw is at h)
@@ -183,9 +186,9 @@ elsewhere_is registered ranges items t p i h in' same =
     let test : Item → Bool = λ j. has_number t.document.number j && not (j.transaction.document.airline == t.document.airline) in
     let no = any_false test items i h in' in
     eqb-true _ _ (not-false _ (rest (has_number t.document.number i) (not (i.transaction.document.airline == t.document.airline)) (bytes_same _ _ same) no)) where
-  rest : (a b : Bool) → a ≡ true → (a && b) ≡ false → b ≡ false
-  rest true b e g = g
-  rest false b e g = absurd (cc e)
+      rest : (a b : Bool) → a ≡ true → (a && b) ≡ false → b ≡ false
+      rest true b e g = g
+      rest false b e g = absurd (cc e)
 
 unrelated_is : (registered : Bool) (ranges : List Range) (items : List Item) (t : Transaction) (p : Published) (i : Item) → (facts_in registered ranges items t p).own.is_related_to ≡ false → Contains items i → is_living_relation t.document.number i ≡ false
 unfolding facts_in own_number
@@ -205,7 +208,7 @@ limit_is rows agent registered t period n target below =
     subst (λ (m : ℕ). m < n) is below
 
 module _ (reporter : Reporter) (rows : Rows) (item : Item) (sound : AreSoundItems rows.published rows.agents rows.ranges rows.items) (group : is_group_values item.transaction ≡ true)
-  (h : IsPassed reporter item.transaction (facts_in (is_some (get rows.agents item.agent)) (ranges_of item.agent rows) (agent_items item.agent rows) item.transaction rows.published) rows.published item.period) where
+    (h : IsPassed reporter item.transaction (facts_in (is_some (get rows.agents item.agent)) (ranges_of item.agent rows) (agent_items item.agent rows) item.transaction rows.published) rows.published item.period) where
   abbrev facts : Facts
   facts = facts_in (is_some (get rows.agents item.agent)) (ranges_of item.agent rows) (agent_items item.agent rows) item.transaction rows.published
 

@@ -1,21 +1,14 @@
 -- What a group's values and the rows of a verdict say of the places of related documents.
-use Rattle.std.proofs.Common.{◌≡◌, ℕ, ◌==◌, Bool, true, false, not, ◌&&◌, ◌||◌, List, [], ◌∷◌, Option, Some, None, is_some, is_none, Ok, Err, Result, refl, sym, ap, ◌∙◌, length, slice_index_or}
-use Rattle.std.specs.Prelude.{is_err}
+use Rattle.std.proofs.Common.{◌≡◌, Bool, true, false, not, ◌&&◌, ◌||◌, List, [], ◌∷◌, Option, Some, None, is_some, is_none, Ok, refl, slice_index_or}
 use Rattle.std.specs.List.{list_any, list_all}
-use Rattle.std.specs.Str.{all_ascii_digits}
-use Rattle.std.proofs.lemmas.Bool.{and_parts, or_parts, not-false, not-true, eqb-true, false≢true}
-use Rattle.bsp_fields.specs.Codes.{document_reading, check_digit_of}
-use Rattle.bsp_fields.specs.Decimal.{number_of, fixed_digits}
-use Rattle.bsp_fields.specs.declared.fault.FieldFault.{FieldFault}
-use Rattle.bsp_fields.specs.declared.fault.FieldFault.TheVariants.{Width, NotDigit, CheckDigit}
-use Rattle.bsp_fields.proofs.FirstFaultLemmas.{row_passed, value_told}
-use Rattle.bsp_fields.proofs.DecimalLemmas.{fixed_digits-number_of}
+use Rattle.std.proofs.lemmas.Bool.{and_parts, or_parts, not-true}
+use Rattle.bsp_fields.specs.Codes.{document_reading}
+use Rattle.bsp_fields.specs.Decimal.{number_of}
 use Rattle.bsp_ret.specs.Content.{is_group_values, is_document, are_related, are_amounts, is_card, has_parts, related_of, none_or}
 use Rattle.bsp_ret.specs.declared.model.TransactionCode.{TransactionCode}
 use Rattle.bsp_ret.specs.declared.model.TransactionCode.TheVariants.{Tktt, Rfnd, Canx}
 use Rattle.bsp_ret.specs.declared.transactions.ReportedDocument.{ReportedDocument}
 use Rattle.bsp_ret.specs.declared.transactions.Transaction.{Transaction}
-use Rattle.bsp_rules.specs.declared.facts.Facts.{Facts}
 use Rattle.bsp_rules.specs.Meanings.{ends_tickets}
 use Rattle.bsp_rules.specs.Verdicts.{is_wrong, is_wrong_place, has_wrong_check_digit}
 use Rattle.bsp_rows.proofs.NumberLemmas.{reads_without_fault}

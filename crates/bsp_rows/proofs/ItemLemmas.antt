@@ -1,5 +1,5 @@
 -- An accepted transaction keeps the items sound.
-use Rattle.std.proofs.Common.{◌≡◌, ℕ, ◌+◌, ◌≤◌, ◌==◌, Bool, true, false, not, ◌&&◌, ◌||◌, cond, List, count_by, Option, Some, None, is_some, option_map, Ok, refl, sym, ap, subst, ◌∙◌, inl, inr, arith}
+use Rattle.std.proofs.Common.{◌≡◌, ℕ, ◌+◌, ◌≤◌, ◌==◌, Bool, true, false, not, ◌&&◌, ◌||◌, cond, List, count_by, Option, Some, None, is_some, Ok, refl, sym, ap, subst, ◌∙◌, inl, inr, arith}
 use Rattle.std.specs.List.{Contains}
 use Rattle.std.specs.FinMap.{FinMap, get, entries}
 use Rattle.std.proofs.lemmas.Bool.{and_parts, eqb-true, both_ways, false_from_ne_true}
@@ -72,7 +72,7 @@ canx_unrelated i number true c h = absurd (both_ways _ (no_canx i.lives (names n
 canx_unrelated i number false c h = refl
 
 module _ (rows : Rows) (item : Item) (sound : AreSoundItems rows.published rows.agents rows.ranges rows.items) (apart : AreApart rows.published.periods) (c : IsCleared rows item)
-  (group : is_group_values item.transaction ≡ true) (bears : agent_reading item.transaction.agent ≡ Ok item.agent) (lives : item.lives ≡ true) where
+    (group : is_group_values item.transaction ≡ true) (bears : agent_reading item.transaction.agent ≡ Ok item.agent) (lives : item.lives ≡ true) where
   abbrev new : FinMap item_cmp Item
   new = (after_accepted item rows).items
 

@@ -9,3 +9,6 @@ pub mod TakenLemmas
 pub mod ItemLemmas
 pub mod MemoLemmas
 pub mod StockLemmas
+pub mod PartLemmas
+pub mod CountLemmas
+pub mod KeptLemmas

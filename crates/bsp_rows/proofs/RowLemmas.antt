@@ -1,6 +1,6 @@
 -- What is looked up in lists, by keys.
-use Rattle.std.proofs.Common.{◌≡◌, ℕ, ◌==◌, Bool, true, false, List, [], ◌∷◌, map, Some, refl, ap, subst, ◌∙◌, inl, inr, cond}
-use Rattle.std.specs.List.{Contains, filter, find, list_any}
+use Rattle.std.proofs.Common.{◌≡◌, ℕ, ◌==◌, Bool, false, List, [], ◌∷◌, map, Some, ap, ◌∙◌, inl, inr}
+use Rattle.std.specs.List.{Contains, filter, list_any}
 use Rattle.std.specs.FinMap.{get, entries}
 use Rattle.std.proofs.lemmas.Bool.{eqb-true, eq-eqb}
 use Rattle.std.proofs.lemmas.Map.Made.{Contains-values_of}
@@ -12,7 +12,7 @@ use Rattle.bsp_rows.specs.declared.keys.RangeKey.{RangeKey}
 use Rattle.bsp_rows.specs.declared.keys.ItemKey.{ItemKey}
 use Rattle.bsp_rows.specs.Rows.{Rows, agent_items, ranges_of, range_of}
 use Rattle.bsp_rows.proofs.KeyOrders.{item_total, item_exact, range_total, range_exact}
-use Rattle.bsp_rows.proofs.MapLemmas.{get_entry, entry_get, same_Some}
+use Rattle.bsp_rows.proofs.MapLemmas.{get_entry, entry_get}
 
 pub contains_map : {A B : Type 0} (f : A → B) (xs : List A) (y : B) → Contains (map f xs) y → (x : A) × Contains xs x × (f x ≡ y)
 contains_map f [] y h = contains_none y h

@@ -96,14 +96,14 @@ module _ (rows : Rows) (agent : ℕ) (range : Range) (s : AreSoundRanges rows.ag
 
   had : (k : RangeKey) (number : ℕ) → HasNumber grown k number → ((k ≡ own) × (range.first ≤ number) × (number ≤ range.last)) ⊎ HasNumber rows.ranges k number
   had k number h = elim (found k h.last h.there) [
-      | inl is ↦ (
-          let first : k.first ≡ range.first = ap (λ (x : RangeKey). x.first) is.0 in
-          let from = h.from in
-          let to = h.to in
-          let last = is.1 in
-          inl (is.0, omega (arith, first, from), omega (arith, last, to)))
-      | inr old ↦ inr (record { last = h.last; there = old; from = h.from; to = h.to })
-    ]
+    | inl is ↦ (
+        let first : k.first ≡ range.first = ap (λ (x : RangeKey). x.first) is.0 in
+        let from = h.from in
+        let to = h.to in
+        let last = is.1 in
+        inl (is.0, omega (arith, first, from), omega (arith, last, to)))
+    | inr old ↦ inr (record { last = h.last; there = old; from = h.from; to = h.to })
+  ]
 
   pub ranges_added : AreSoundRanges rows.agents grown
   ranges_added = record {

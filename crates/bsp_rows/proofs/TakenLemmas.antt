@@ -74,17 +74,23 @@ pub taken : (rows : Rows) (item : Item) → get rows.items (key_of item) ≡ Non
 taken rows item new = record { is = is; there = get_written item_total item_exact mid key item; kept = kept; made = λ k j h. made k j h (eq_by_cmp item_cmp k key) refl } where
   key : ItemKey
   key = key_of item
+
   mid : FinMap item_cmp Item
   mid = (ended_by item rows).items
+
   at : (q : ItemKey) → get mid q ≡ option_map (fate item q) (get rows.items q)
   at q = mid_at rows (sale_key item) q (is_canx item)
+
   is : (q : ItemKey) → get (insert mid key item) q ≡ cond (eq_by_cmp item_cmp q key) (Some item) (option_map (fate item q) (get rows.items q))
   is q = get-insert item_total mid key item q ∙ ap (cond (eq_by_cmp item_cmp q key) (Some item)) (at q)
+
   by : (k : ItemKey) (i : Item) → get rows.items k ≡ Some i → (b : Bool) → eq_by_cmp item_cmp k key ≡ b → get (insert mid key item) k ≡ Some (fate item k i)
   by k i h true same = none_some i (get rows.items k) (ap (get rows.items) (same_key item_exact k key same) ∙ new) h
   by k i h false same = is k ∙ (ap (λ b. cond b (Some item) (option_map (fate item k) (get rows.items k))) same ∙ ap (option_map (fate item k)) h)
+
   kept : (k : ItemKey) (i : Item) → get rows.items k ≡ Some i → get (insert mid key item) k ≡ Some (fate item k i)
   kept k i h = by k i h (eq_by_cmp item_cmp k key) refl
+
   made : (k : ItemKey) (j : Item) → get (insert mid key item) k ≡ Some j → (b : Bool) → eq_by_cmp item_cmp k key ≡ b → ((k ≡ key) × (j ≡ item)) ⊎ ((i : Item) × (get rows.items k ≡ Some i) × (j ≡ fate item k i))
   made k j h true same = inl (same_key item_exact k key same, sym (same_Some item j (sym (is k ∙ ap (λ b. cond b (Some item) (option_map (fate item k) (get rows.items k))) same) ∙ h)))
   made k j h false same = inr (found_in (fate item k) (get rows.items k) j (sym (is k ∙ ap (λ b. cond b (Some item) (option_map (fate item k) (get rows.items k))) same) ∙ h))
@@ -148,8 +154,8 @@ lives_on old new item taken k i h false c =
     let end : Bool = ends (is_canx item) (sale_key item) k in
     let was : i.lives ≡ not (is_some (get old (canx_of k))) = h ∙ ap (λ b. b || not (is_some (get old (canx_of k)))) c in
     let now : is_some (get new (canx_of k)) ≡ cond end true (is_some (get old (canx_of k))) =
-        ap is_some (taken.is (canx_of k))
-        ∙ (some_cond (eq_by_cmp item_cmp (canx_of k) (key_of item)) item (option_map (fate item (canx_of k)) (get old (canx_of k)))
-        ∙ (ap (cond (eq_by_cmp item_cmp (canx_of k) (key_of item)) true) (mapped_some (fate item (canx_of k)) (get old (canx_of k)))
-        ∙ ap (λ b. cond b true (is_some (get old (canx_of k)))) (canx_is k (key_of item) (is_canx item) c refl))) in
+    ap is_some (taken.is (canx_of k))
+    ∙ (some_cond (eq_by_cmp item_cmp (canx_of k) (key_of item)) item (option_map (fate item (canx_of k)) (get old (canx_of k)))
+    ∙ (ap (cond (eq_by_cmp item_cmp (canx_of k) (key_of item)) true) (mapped_some (fate item (canx_of k)) (get old (canx_of k)))
+    ∙ ap (λ b. cond b true (is_some (get old (canx_of k)))) (canx_is k (key_of item) (is_canx item) c refl))) in
     still i.lives (is_some (get old (canx_of k))) end was ∙ (ap not (sym now) ∙ sym (ap (λ b. b || not (is_some (get new (canx_of k)))) c))

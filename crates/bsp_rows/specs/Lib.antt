@@ -5,3 +5,4 @@ pub mod Part
 pub mod Tallies
 pub mod Sound
 pub mod Changes
+pub mod Laws
