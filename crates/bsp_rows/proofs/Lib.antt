@@ -12,3 +12,4 @@ pub mod StockLemmas
 pub mod PartLemmas
 pub mod CountLemmas
 pub mod KeptLemmas
+pub mod DemandLemmas

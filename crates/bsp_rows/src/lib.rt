@@ -2,6 +2,7 @@
 //! rules that sound rows meet.
 #![tactic(auto)]
 
+mod demands;
 mod keys;
 mod laws;
 mod questions;
