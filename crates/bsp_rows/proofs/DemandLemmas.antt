@@ -13,7 +13,7 @@ use Rattle.bsp_maps.proofs.OrderLemmas.{in_order}
 use Rattle.bsp_rows.specs.Audit.{as_map}
 use Rattle.bsp_rows.proofs.MapLemmas.{entry_get, get_entry}
 
-at_each : {A : Type 0} (P : A → Type 0) (xs : List A) → AllByRecursion P xs → (x : A) → Contains xs x → P x
+pub at_each : {A : Type 0} (P : A → Type 0) (xs : List A) → AllByRecursion P xs → (x : A) → Contains xs x → P x
 at_each P [] all x in' = contains_none x in'
 at_each P (y ∷ ys) all x in' =
     elim (contains_cases y ys x in') [
@@ -21,7 +21,7 @@ at_each P (y ∷ ys) all x in' =
       | inr there ↦ at_each P ys all.1 x there
     ]
 
-for_all : {A : Type 0} (P : A → Type 0) (xs : List A) → ((x : A) → Contains xs x → P x) → AllByRecursion P xs
+pub for_all : {A : Type 0} (P : A → Type 0) (xs : List A) → ((x : A) → Contains xs x → P x) → AllByRecursion P xs
 for_all P [] each = tt
 for_all P (x ∷ xs) each = (each x (contains_head x xs), for_all P xs (λ y in'. each y (contains_tail x xs y in')))
 

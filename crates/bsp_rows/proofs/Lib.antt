@@ -13,3 +13,4 @@ pub mod PartLemmas
 pub mod CountLemmas
 pub mod KeptLemmas
 pub mod DemandLemmas
+pub mod ItemRuleLemmas

@@ -52,7 +52,7 @@ pub struct TallyKey {
 }
 
 /// Whether an item is a CANX.
-fn is_canx(item: &Item) -> bool
+pub(crate) fn is_canx(item: &Item) -> bool
     ensures { result ≡ is_canx item.now }
 {
     item.transaction.code == TransactionCode::Canx

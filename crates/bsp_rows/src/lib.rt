@@ -3,6 +3,7 @@
 #![tactic(auto)]
 
 mod demands;
+mod item_rules;
 mod keys;
 mod laws;
 mod questions;
