@@ -1,5 +1,5 @@
 -- Why the audit's tests of an item answer what they are asked.
-use Rattle.std.proofs.Common.{◌≡◌, ℕ, ◌+◌, ◌<◌, ◌≤◌, ◌==◌, Bool, true, false, not, ◌&&◌, ◌||◌, List, [], ◌∷◌, ◌++◌, length, Option, Some, None, IsSome, is_some, Ok, Result, Ordering, Less, Equal, Greater, refl, sym, ap, subst, ◌∙◌, get_or, drop, inl, inr}
+use Rattle.std.proofs.Common.{◌≡◌, ℕ, ◌+◌, ◌<◌, ◌≤◌, ◌==◌, Bool, true, false, not, ◌&&◌, ◌||◌, List, [], ◌∷◌, ◌++◌, length, Option, Some, None, is_some, Ok, Ordering, Less, Equal, Greater, refl, sym, ap, subst, ◌∙◌, get_or, drop}
 use Rattle.std.specs.Bool.{Decides}
 use Rattle.std.specs.List.{AllByRecursion, Contains}
 use Rattle.std.specs.Str.{all_ascii_digits}
@@ -7,16 +7,15 @@ use Rattle.std.specs.Ordering.{is_gt, is_lt, ordering_reverse}
 use Rattle.std.specs.Cmp.{IsTotalOrder}
 use Rattle.std.specs.BTreeMap.{BTreeMap}
 use Rattle.std.specs.BTreeMap as tree
-use Rattle.std.specs.BTreeMap.Range.{IsLeBy, IsRangeOf}
+use Rattle.std.specs.BTreeMap.Range.{IsRangeOf}
 use Rattle.std.specs.declared.ops.Bound.TheVariants.{Included, Unbounded}
 use Rattle.std.specs.FinMap.{FinMap, get}
-use Rattle.std.proofs.lemmas.Bool.{and_parts, and_from, eqb-true, eq-eqb, or_right}
+use Rattle.std.proofs.lemmas.Bool.{and_parts, and_from, eqb-true, eq-eqb}
 use Rattle.bsp_fields.specs.Codes.{code_reading}
 use Rattle.bsp_fields.specs.Decimal.{number_of}
 use Rattle.bsp_fields.specs.declared.fault.FieldFault.{FieldFault}
 use Rattle.bsp_fields.specs.declared.fault.FieldFault.TheVariants.{Width, NotDigit}
 use Rattle.bsp_fields.proofs.FirstFaultLemmas.{row_passed, value_told}
-use Rattle.bsp_calendar.proofs.ListLemmas.{contains_head, contains_tail, contains_cases, contains_none}
 use Rattle.bsp_maps.proofs.UndoLemmas.{found}
 use Rattle.bsp_ret.specs.declared.transactions.ReportedDocument.{ReportedDocument}
 use Rattle.bsp_rules.specs.Rows.{is_ticket}
@@ -68,18 +67,19 @@ module _ (items : FinMap item_cmp Item) (agent airline : ℕ) (lives : Bool) (d 
   pub ticket_found : (ticket : Item) (b : Bool) → get items key ≡ Some ticket → b ≡ ((d.airline == airline) && (is_ticket d ticket && (not lives || ticket.lives))) → Decides b (IsTicketFound items agent airline lives d)
   ticket_found ticket b there is = (
     (λ h.
-    let outer = and_parts (d.airline == airline) (is_ticket d ticket && (not lives || ticket.lives)) (sym is ∙ h) in
-    let inner = and_parts (is_ticket d ticket) (not lives || ticket.lives) outer.1 in
-    record {
-      digits = reads ∙ ap (λ (x : ℕ). Ok x) (sym (read_code d.number n reads));
-      found = record { own = eqb-true d.airline airline outer.0; ticket = ticket; there = ap (get items) same_key ∙ there; is = inner.0 };
-      unended = live lives ticket.lives inner.1;
-    }),
+        let outer = and_parts (d.airline == airline) (is_ticket d ticket && (not lives || ticket.lives)) (sym is ∙ h) in
+        let inner = and_parts (is_ticket d ticket) (not lives || ticket.lives) outer.1 in
+        record {
+          digits = reads ∙ ap (λ (x : ℕ). Ok x) (sym (read_code d.number n reads));
+          found = record { own = eqb-true d.airline airline outer.0; ticket = ticket; there = ap (get items) same_key ∙ there; is = inner.0 };
+          unended = live lives ticket.lives inner.1;
+        }),
     (λ f.
-    let same : f.found.ticket ≡ ticket = same_Some f.found.ticket ticket (sym f.found.there ∙ (ap (get items) same_key ∙ there)) in
-    is ∙ and_from (d.airline == airline) (is_ticket d ticket && (not lives || ticket.lives)) (eq-eqb d.airline airline f.found.own)
-    (and_from (is_ticket d ticket) (not lives || ticket.lives) (subst (λ (x : Item). is_ticket d x ≡ true) same f.found.is)
-    (lives_if lives ticket.lives (subst (λ (x : Item). lives ≡ true → x.lives ≡ true) same f.unended)))))
+        let same : f.found.ticket ≡ ticket = same_Some f.found.ticket ticket (sym f.found.there ∙ (ap (get items) same_key ∙ there)) in
+        is ∙ and_from (d.airline == airline) (is_ticket d ticket && (not lives || ticket.lives)) (eq-eqb d.airline airline f.found.own)
+        (and_from (is_ticket d ticket) (not lives || ticket.lives) (subst (λ (x : Item). is_ticket d x ≡ true) same f.found.is)
+        (lives_if lives ticket.lives (subst (λ (x : Item). lives ≡ true → x.lives ≡ true) same f.unended)))),
+  )
 
   pub no_ticket : get items key ≡ None → Decides false (IsTicketFound items agent airline lives d)
   no_ticket none = ((λ h. absurd (cc h)), (λ f. absurd (cc (sym (sym (ap (get items) same_key) ∙ f.found.there) ∙ none))))
@@ -100,7 +100,7 @@ module _ {A : Type 0} (P : A → Type 0) (xs : List (Option A)) where
   pub one_more : (i : ℕ) (x : Option A) → i < length xs → x ≡ get_or xs i x → Met x → SameAll Met (drop i xs) xs → SameAll Met (drop (i + 1) xs) xs
   one_more i x within is met s = (
     (λ rest. s.0 (subst (AllByRecursion Met) (sym (split i x within is)) (met, rest))),
-    (λ all. (subst (AllByRecursion Met) (split i x within is) (s.1 all)).1)
+    (λ all. (subst (AllByRecursion Met) (split i x within is) (s.1 all)).1),
   )
 
   each_met : ((d : A) → Contains xs (Some d) → P d) → AllByRecursion Met xs
@@ -109,13 +109,13 @@ module _ {A : Type 0} (P : A → Type 0) (xs : List (Option A)) where
   pub one_unmet : (i : ℕ) (x : Option A) (b : Bool) → i < length xs → x ≡ get_or xs i x → SameAll Met (drop i xs) xs → b ≡ false → Decides b (Met x) → Decides false ((d : A) → Contains xs (Some d) → P d)
   one_unmet i x b within is s no' d = (
     (λ t. absurd (cc t)),
-    (λ each. sym no' ∙ d.1 (subst (AllByRecursion Met) (split i x within is) (s.1 (each_met each))).0)
+    (λ each. sym no' ∙ d.1 (subst (AllByRecursion Met) (split i x within is) (s.1 (each_met each))).0),
   )
 
   pub all_met : (i : ℕ) → length xs ≤ i → SameAll Met (drop i xs) xs → Decides true ((d : A) → Contains xs (Some d) → P d)
   all_met i past s = (
     (λ t d in'. at_each Met xs (s.0 (subst (AllByRecursion Met) (sym (at_drop_all (λ (l : List (Option A)). l) xs i past)) tt)) (Some d) in' d refl),
-    (λ each. refl)
+    (λ each. refl),
   )
 
 -- ---- the last entry up to a key

@@ -1,4 +1,3 @@
-use Rattle.std.proofs.Common.{◌≡◌}
 use Rattle.bsp_ret.specs.declared.transactions.ReportedDocument.{ReportedDocument}
 use Rattle.bsp_rows.specs.Audit.{IsTicketFound, as_map, is_living_sale}
 use Rattle.bsp_rows.specs.Rows.{item_cmp}
