@@ -20,3 +20,5 @@ pub mod CountTies
 pub mod RangeTies
 pub mod ItemTies
 pub mod MemoTies
+pub mod PartLaws
+pub mod TallyLaws
