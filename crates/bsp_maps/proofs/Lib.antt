@@ -1,0 +1,9 @@
+pub mod UndoLemmas
+pub mod OrderLemmas
+pub mod WindowLemmas
+pub mod PickLemmas
+pub mod PresentLemmas
+pub mod RuleLemmas
+pub mod CountLemmas
+pub mod SpanLemmas
+pub mod ContentLemmas

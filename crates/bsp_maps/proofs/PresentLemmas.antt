@@ -1,0 +1,67 @@
+-- What a map that may have no value at a key has at it.
+use Rattle.std.proofs.Common.{◌≡◌, Bool, true, false, cond, ◌&&◌, List, [], ◌∷◌, refl, sym, ap, ◌∙◌, Ordering, Less, Equal, Greater, Option, Some, None}
+use Rattle.std.specs.Prelude.{T}
+use Rattle.std.specs.List.{filter_map}
+use Rattle.std.specs.Ordering.{is_eq, is_lt, eq_by_cmp}
+use Rattle.std.specs.Cmp.{IsTotalOrder}
+use Rattle.std.specs.FinMap.{FinMap, IsAntisymmetric, get, insert, remove, empty, entries, entries_sorted, get-insert, get-remove, get-empty, get-from_entries, get-entries, same_map, find}
+use Rattle.std.specs.FinMap.Entries.{is_sorted, below_all}
+use Rattle.bsp_maps.specs.Present.{present, present_entry, flat}
+
+first : (a b : Bool) → T (a && b) → T a
+first true b p = tt
+first false b p = p
+
+second : (a b : Bool) → T (a && b) → T b
+second true b p = p
+second false b p = absurd p
+
+less : (r : Ordering) → T (is_lt r) → r ≡ Less
+less Less p = refl
+less Equal p = absurd p
+less Greater p = absurd p
+
+equal : (r : Ordering) (b : Bool) → is_eq r ≡ b → b ≡ true → r ≡ Equal
+equal Less b e h = absurd (cc)
+equal Equal b e h = refl
+equal Greater b e h = absurd (cc)
+
+module _ {K V : Type 0} (R : K → K → Ordering) (o : IsTotalOrder R) where
+  -- behind a key that ties none does
+  none_behind : (q x : K) (es : List (K × Option V)) → R q x ≡ Equal → T (below_all R x es) → find R q es ≡ None
+  none_behind q x [] tie up = refl
+  none_behind q x (e ∷ es) tie up =
+      let l : R q e.0 ≡ Less = o.congr q x e.0 tie ∙ less (R x e.0) (first (is_lt (R x e.0)) (below_all R x es) up) in
+      ap (λ r. cond (is_eq r) (Some e.1) (find R q es)) l ∙ none_behind q x es tie (second (is_lt (R x e.0)) (below_all R x es) up)
+
+  step : (q k : K) (w : Option V) (es : List (K × Option V)) (b : Bool) → eq_by_cmp R q k ≡ b → T (below_all R k es) → find R q (filter_map present_entry es) ≡ flat (find R q es)
+      → find R q (filter_map present_entry ((k, w) ∷ es)) ≡ flat (cond b (Some w) (find R q es))
+  step q k None es true tie up h = h ∙ ap flat (none_behind q k es (equal (R q k) true tie refl) up)
+  step q k None es false tie up h = h
+  step q k (Some v) es true tie up h = ap (λ b. cond b (Some v) (find R q (filter_map present_entry es))) tie
+  step q k (Some v) es false tie up h = ap (λ b. cond b (Some v) (find R q (filter_map present_entry es))) tie ∙ h
+
+  find_present : (q : K) (es : List (K × Option V)) → T (is_sorted R es) → find R q (filter_map present_entry es) ≡ flat (find R q es)
+  find_present q [] up = refl
+  find_present q (e ∷ es) up = step q e.0 e.1 es (eq_by_cmp R q e.0) refl (first (below_all R e.0 es) (is_sorted R es) up) (find_present q es (second (below_all R e.0 es) (is_sorted R es) up))
+
+module _ {K V : Type 0} {R : K → K → Ordering} (o : IsTotalOrder R) where
+  pub get-present : (m : FinMap R (Option V)) (q : K) → get (present m) q ≡ flat (get m q)
+  get-present m q = get-from_entries o (filter_map present_entry (entries m)) q ∙ find_present R o q (entries m) (entries_sorted m) ∙ ap flat (sym (get-entries m q))
+
+  apart : (b : Bool) (w : Option V) (found : Option (Option V)) → flat (cond b (Some w) found) ≡ cond b w (flat found)
+  apart true w found = refl
+  apart false w found = refl
+
+  at : (m : FinMap R (Option V)) (k q : K) (w : Option V) → get (present (insert m k w)) q ≡ cond (eq_by_cmp R q k) w (get (present m) q)
+  at m k q w = get-present (insert m k w) q ∙ ap flat (get-insert o m k w q) ∙ apart (eq_by_cmp R q k) w (get m q) ∙ ap (cond (eq_by_cmp R q k) w) (sym (get-present m q))
+
+  -- a value that is written, and one that is taken back
+  pub present-insert : IsAntisymmetric R → (m : FinMap R (Option V)) (k : K) (v : V) → present (insert m k (Some v)) ≡ insert (present m) k v
+  present-insert exact m k v = same_map o exact _ _ (λ q. at m k q (Some v) ∙ sym (get-insert o (present m) k v q))
+
+  pub present-remove : IsAntisymmetric R → (m : FinMap R (Option V)) (k : K) → present (insert m k None) ≡ remove (present m) k
+  present-remove exact m k = same_map o exact _ _ (λ q. at m k q None ∙ sym (get-remove o (present m) k q))
+
+pub no_present : {K V : Type 0} (R : K → K → Ordering) → IsTotalOrder R → IsAntisymmetric R → present (empty {X = Option V} {R = R}) ≡ empty
+no_present R o exact = same_map o exact _ _ (λ q. get-present o empty q ∙ ap flat (get-empty R q) ∙ sym (get-empty R q))

@@ -1,0 +1,24 @@
+use Rattle.std.proofs.Common.{◌≡◌, Bool, cond, List, [], ◌∷◌, ◌++◌, map, sym, ap, ◌∙◌}
+use Rattle.std.specs.List.{filter}
+use Rattle.std.specs.Map.Iter.{deref_pair}
+use Rattle.std.proofs.lemmas.List.{append-nil}
+use Rattle.std.proofs.lemmas.Map.Iter.{rest_more, rest_all}
+use Rattle.bsp_maps.specs.Windows.{front, entries_in}
+use Rattle.bsp_maps.proofs.WindowLemmas.{from_low}
+use Rattle.bsp_maps.proofs.windows.chosen.Goals.{in-None, in-Some+then-not-has}
+use Rattle.bsp_maps.proofs.windows.chosen.Goals as goal
+
+finish : {K V : Type 0} (passes : V → Bool) (found : List V) (rest all es : List (K × V)) → rest ≡ [] → found ++ filter passes (map (λ e. e.1) rest) ≡ filter passes (map (λ e. e.1) all) → all ≡ es → found ≡ filter passes (map (λ e. e.1) es)
+finish passes found rest all es none so_far is = sym (append-nil found) ∙ ap (λ r. found ++ filter passes (map (λ e. e.1) r)) (sym none) ∙ so_far ∙ ap (λ r. filter passes (map (λ e. e.1) r)) is
+
+pub returns-clause-found : goal.returns-clause-found
+returns-clause-found g c =
+    let has = g.W.Window.has c.args.window.now in
+    let none : front has c.loop-key.key-iterator ≡ [] = elim c.match-next.branch [
+      | in-None w ↦ ap (front has) (rest_all deref_pair c.loop-key.key-iterator c.next.new.self c.next.result w.in-None.is c.next.ensures.steps)
+      | in-Some+then-not-has w ↦
+          ap (front has) (rest_more deref_pair c.loop-key.key-iterator c.next.new.self c.next.result (w.in-Some.key, w.in-Some.value) w.in-Some.is c.next.ensures.steps)
+          ∙ ap (λ b. cond b ((w.in-Some.key.now, w.in-Some.value.now) ∷ front has c.next.new.self) []) (sym w.has.ensures ∙ w.if-not-has.true)
+    ] in
+    finish (g.T.Test.passes c.args.test.now) c.loop-key.found.items (front has c.loop-key.key-iterator) _ (entries_in has c.args.entries.now.entries) none c.loop-key.invariant
+    (from_low g.K.Ord.cmp has (g.W.Window.low c.args.window.now) (g.met.W.Window.lowest c.args.window.now) (g.met.W.Window.together c.args.window.now) c.args.entries.now.entries c.range-key-items.ensures.ordered)

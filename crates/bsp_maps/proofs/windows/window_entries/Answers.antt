@@ -1,0 +1,20 @@
+use Rattle.std.proofs.Common.{◌≡◌, cond, [], ◌∷◌, ◌++◌, sym, ap, ◌∙◌}
+use Rattle.std.specs.Map.Iter.{deref_pair}
+use Rattle.std.proofs.lemmas.List.{append-nil}
+use Rattle.std.proofs.lemmas.Map.Iter.{rest_more, rest_all}
+use Rattle.bsp_maps.specs.Windows.{front}
+use Rattle.bsp_maps.proofs.WindowLemmas.{from_low}
+use Rattle.bsp_maps.proofs.windows.window_entries.Goals.{in-None, in-Some+then-not-has}
+use Rattle.bsp_maps.proofs.windows.window_entries.Goals as goal
+
+pub returns-clause-found : goal.returns-clause-found
+returns-clause-found g c =
+    let has = g.W.Window.has c.args.window.now in
+    let none : front has c.loop-key.key-iterator ≡ [] = elim c.match-next.branch [
+      | in-None w ↦ ap (front has) (rest_all deref_pair c.loop-key.key-iterator c.next.new.self c.next.result w.in-None.is c.next.ensures.steps)
+      | in-Some+then-not-has w ↦
+          ap (front has) (rest_more deref_pair c.loop-key.key-iterator c.next.new.self c.next.result (w.in-Some.key, w.in-Some.value) w.in-Some.is c.next.ensures.steps)
+          ∙ ap (λ b. cond b ((w.in-Some.key.now, w.in-Some.value.now) ∷ front has c.next.new.self) []) (sym w.has.ensures ∙ w.if-not-has.true)
+    ] in
+    sym (append-nil c.loop-key.found.items) ∙ ap (λ r. c.loop-key.found.items ++ r) (sym none) ∙ c.loop-key.invariant
+    ∙ from_low g.K.Ord.cmp has (g.W.Window.low c.args.window.now) (g.met.W.Window.lowest c.args.window.now) (g.met.W.Window.together c.args.window.now) c.args.entries.now.entries c.range-key-items.ensures.ordered

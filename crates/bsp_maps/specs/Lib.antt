@@ -1,0 +1,5 @@
+pub mod Undo
+pub mod Windows
+pub mod Picks
+pub mod Present
+pub mod Spans

@@ -1,0 +1,29 @@
+-- A map that remembers what was at the keys that it wrote.
+use Rattle.std.specs.Prelude.{Option, Some, None, List, [], ◌∷◌, if◌then◌else◌}
+use Rattle.std.specs.declared.cmp.Ordering.{Ordering}
+use Rattle.std.specs.FinMap.{FinMap, from_entries, contains_key, insert, remove}
+use Rattle.bsp_maps.specs.declared.logged.Old.{Old}
+use Rattle.bsp_maps.specs.declared.logged.Logged.{Logged}
+
+-- what was at a key is put back
+abbrev pub value_restored : {K V : Type 0} {R : K → K → Ordering} → K → Option V → FinMap R V → FinMap R V
+value_restored k None m = remove m k
+value_restored k (Some v) m = if contains_key m k then insert m k v else m
+
+module _ {K V : Type 0} {R : K → K → Ordering} where
+  abbrev pub restored : Old K V → FinMap R V → FinMap R V
+  restored old m = value_restored old.key old.value m
+
+  -- the last is put back first
+  abbrev pub undone : List (Old K V) → FinMap R V → FinMap R V
+  undone [] m = m
+  undone (old ∷ olds) m = restored old (undone olds m)
+
+module _ {K V : Type 0} (R : K → K → Ordering) where
+  -- the entries
+  abbrev pub content : Logged K V → FinMap R V
+  content t = from_entries t.map.entries
+
+  -- the entries at the last commit
+  abbrev pub before : Logged K V → FinMap R V
+  before t = undone t.undo.items (content t)

@@ -1,0 +1,24 @@
+//! Maps in memory whose changes can be taken back, look-ups in them, and tests over maps and ranges.
+//!
+//! A [`Logged`] map remembers what was at each key that it wrote: [`Logged::commit`] forgets that, and
+//! [`Logged::roll_back`] puts it back without memory. Of a map, [`chosen`] gives the values of a group of keys,
+//! [`passing`] those that pass a test, [`picked`] those at some keys. [`all_hold`], [`are_within`] and
+//! [`are_disjoint`] are tests that an audit of maps needs.
+#![tactic(auto)]
+
+mod counts;
+mod logged;
+mod lookups;
+mod picks;
+mod rules;
+mod spans;
+#[cfg(test)]
+mod tests;
+mod windows;
+
+pub use counts::are_within;
+pub use logged::Logged;
+pub use picks::{passing, picked};
+pub use rules::{Every, Rule, Test, all_hold};
+pub use spans::{Span, are_disjoint};
+pub use windows::{Window, chosen, has_any, window_entries};

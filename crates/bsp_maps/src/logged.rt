@@ -1,0 +1,100 @@
+ghost use Rattle.std.specs.Prelude.{◌≡◌, OnOk};
+ghost use Rattle.std.specs.FinMap.{IsAntisymmetric, empty, insert, get};
+ghost use Rattle.bsp_maps.specs.Undo.{content, before, restored};
+
+use std::alloc::{AllocError, Global};
+use std::collections::BTreeMap;
+
+/// A key that was written, and the value that was there.
+#[derive(Clone, Copy, Drop)]
+pub struct Old<K: Copy + Drop, V: Copy + Drop> {
+    key: K,
+    value: Option<V>,
+}
+
+/// Entries by their keys, and what was at each key that was written since the last commit.
+#[derive(Drop)]
+pub struct Logged<K: Ord + Copy + Drop, V: Copy + Drop> {
+    map: BTreeMap<K, V>,
+    undo: Vec<Old<K, V>>,
+}
+
+impl<K: Ord + Copy + Drop, V: Copy + Drop> Logged<K, V> {
+    /// No entries.
+    pub fn new(alloc: Global) -> Self
+        ensures content { content K.cmp result ≡ empty }
+        ensures before { before K.cmp result ≡ empty }
+    {
+        Logged {
+            map: BTreeMap::new(alloc),
+            undo: Vec::new(alloc),
+        }
+    }
+
+    /// The entries.
+    pub fn map(&self) -> &BTreeMap<K, V>
+        ensures { result.now ≡ self.now.map }
+    {
+        &self.map
+    }
+
+    /// The value at a key, if there is one.
+    pub fn get(&self, key: K) -> Option<V>
+        ensures { result ≡ get (content K.cmp self.now) key }
+    {
+        self.map.get(&key).copied()
+    }
+
+    /// Writes a value at a key. It reads and writes a logarithm of the entries.
+    ///
+    /// # Errors
+    ///
+    /// Where an allocation was refused. The entries of the last commit are remembered all the same.
+    pub fn put(&mut self, key: K, value: V) -> Result<(), AllocError>
+        requires { IsAntisymmetric K.cmp }
+        ensures ok { OnOk result (content K.cmp self.new ≡ insert (content K.cmp self.old) key value) }
+        ensures before { before K.cmp self.new ≡ before K.cmp self.old }
+    {
+        let old = self.get(key);
+        self.undo.push(Old { key, value: old })?;
+        self.map.insert(key, value)?;
+        Ok(())
+    }
+
+    /// Forgets what was before: the changes so far are kept.
+    pub fn commit(&mut self)
+        ensures content { content K.cmp self.new ≡ content K.cmp self.old }
+        ensures before { before K.cmp self.new ≡ content K.cmp self.old }
+    {
+        self.undo.clear();
+    }
+
+    /// Puts back what was at a key.
+    fn restore(&mut self, old: Old<K, V>)
+        requires { IsAntisymmetric K.cmp }
+        ensures content { content K.cmp self.new ≡ restored old (content K.cmp self.old) }
+        ensures undo { self.new.undo ≡ self.old.undo }
+    {
+        match old.value {
+            None => {
+                let _ = self.map.remove(&old.key);
+            }
+            Some(value) => {
+                if self.map.contains_key(&old.key) {
+                    let _ = self.map.insert(old.key, value);
+                }
+            }
+        }
+    }
+
+    /// Puts back the entries of the last commit. It takes no memory.
+    pub fn roll_back(&mut self)
+        requires { IsAntisymmetric K.cmp }
+        ensures content { content K.cmp self.new ≡ before K.cmp self.old }
+        ensures before { before K.cmp self.new ≡ before K.cmp self.old }
+    {
+        while let Some(old) = self.undo.pop() {
+            self.restore(old);
+        }
+    }
+}

@@ -1,0 +1,103 @@
+use crate::*;
+use std::alloc::Global;
+use std::test::Fail;
+
+/// Even numbers.
+struct IsEven;
+
+impl Test<u32> for IsEven {
+    ghost use Rattle.std.specs.Prelude.{◌%◌, nat_eq};
+
+    ghost passes = { λ test value. nat_eq (value % 2) 0 };
+
+    fn passes(&self, value: &u32) -> bool {
+        *value % 2 == 0
+    }
+}
+
+/// Entries whose value is not below their key.
+struct Rises;
+
+impl Rule<u32, u32> for Rises {
+    ghost use Rattle.std.specs.Prelude.{nat_le};
+
+    ghost holds = { λ rule key value. nat_le key value };
+
+    fn holds(&self, key: &u32, value: &u32) -> bool {
+        *key <= *value
+    }
+}
+
+/// 10 at 1 and 21 at 2, kept.
+fn kept(alloc: Global) -> Result<Logged<u32, u32>, Fail> {
+    let mut map = Logged::new(alloc);
+    map.put(1, 10)?;
+    map.put(2, 21)?;
+    map.commit();
+    Ok(map)
+}
+
+/// The entries after 1 was written twice and 3 once, and all was taken back.
+fn taken_back(alloc: Global) -> Result<[Option<u32>; 3], Fail> {
+    let mut map = kept(alloc)?;
+    map.put(1, 5)?;
+    map.put(3, 30)?;
+    map.put(1, 6)?;
+    map.roll_back();
+    Ok([map.get(1), map.get(2), map.get(3)])
+}
+
+#[test]
+fn a_roll_back_puts_back_each_entry(rt: HostRuntime) -> Result<(), Fail> {
+    assert_eq!(rt; taken_back(rt.alloc())?, [Some(10), Some(21), None]);
+    Ok(())
+}
+
+/// The keys, the even values, and the values at 2, 1, 2 and 4 that are not below their key.
+fn found(alloc: Global) -> Result<[Vec<u32>; 3], Fail> {
+    let map = kept(alloc)?;
+    let keys = map.keys(alloc)?;
+    let even = map.passing(alloc, &IsEven)?;
+    let picked = map.picked(alloc, &[2, 1, 2, 4], &Rises)?;
+    Ok([keys, even, picked])
+}
+
+fn are_found(alloc: Global) -> Result<bool, Fail> {
+    let [keys, even, picked] = found(alloc)?;
+    Ok(keys[..] == [1, 2] && even[..] == [10] && picked[..] == [10, 21])
+}
+
+#[test]
+fn look_ups_give_the_values_in_the_order_of_keys(rt: HostRuntime) -> Result<(), Fail> {
+    assert!(rt; are_found(rt.alloc())?);
+    Ok(())
+}
+
+fn audit(alloc: Global) -> Result<[bool; 3], Fail> {
+    let map = kept(alloc)?;
+    let twice = are_within(alloc, &[7, 8, 7], 2)?;
+    let once = are_within(alloc, &[7, 8, 7], 1)?;
+    Ok([all_hold(map.map(), &Rises), twice, once])
+}
+
+#[test]
+fn rules_and_counts_are_tested(rt: HostRuntime) -> Result<(), Fail> {
+    assert_eq!(rt; audit(rt.alloc())?, [true, true, false]);
+    Ok(())
+}
+
+fn disjoint(second: u64) -> bool {
+    let mut spans = [
+        Span {
+            first: second,
+            last: 30,
+        },
+        Span { first: 1, last: 10 },
+    ];
+    are_disjoint(&mut spans)
+}
+
+#[test]
+fn ranges_that_share_a_number_are_not_disjoint(rt: HostRuntime) {
+    assert_eq!(rt; [disjoint(11), disjoint(10)], [true, false]);
+}

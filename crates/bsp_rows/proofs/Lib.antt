@@ -1,0 +1,24 @@
+-- Lemmas of this crate.
+pub mod NumberLemmas
+pub mod KeyOrders
+pub mod MapLemmas
+pub mod RowLemmas
+pub mod GroupLemmas
+pub mod ClearedLemmas
+pub mod TakenLemmas
+pub mod ItemLemmas
+pub mod MemoLemmas
+pub mod StockLemmas
+pub mod PartLemmas
+pub mod CountLemmas
+pub mod KeptLemmas
+pub mod DemandLemmas
+pub mod ItemRuleLemmas
+pub mod PlanRuleLemmas
+pub mod AuditSteps
+pub mod CountTies
+pub mod RangeTies
+pub mod ItemTies
+pub mod MemoTies
+pub mod PartLaws
+pub mod TallyLaws
