@@ -22,3 +22,4 @@ pub mod ItemTies
 pub mod MemoTies
 pub mod PartLaws
 pub mod TallyLaws
+pub mod AskedTallies

@@ -1,6 +1,6 @@
 //! What keeps the rows sound.
 
-ghost use Rattle.bsp_rows.specs.Laws.{AcceptedIsFree, AcceptedIsSound, ActionIsSound, AgentIsSound, AgentPartIsEnough, AirlineIsSound, AirlinePartIsEnough, BillingIsSound, CloseHasTerms, CloseIsSound, FactsAreByKey, FactsAreWithoutTarget, IssueIsSound, ItemsAreDistinct, OneTally, RangeIsSound, RequestIsSound, TalliesAreSums, WithdrawalIsSound};
+ghost use Rattle.bsp_rows.specs.Laws.{AcceptedIsFree, AcceptedIsSound, ActionIsSound, AgentIsSound, AgentPartIsEnough, AirlineIsSound, AirlinePartIsEnough, AskedAreTallies, BillingIsSound, CloseHasTerms, CloseIsSound, FactsAreByKey, FactsAreWithoutTarget, IssueIsSound, ItemsAreDistinct, OneTally, RangeIsSound, RequestIsSound, TalliesAreSums, WithdrawalIsSound};
 ghost use Rattle.bsp_rows.specs.Rows.{no_rows};
 ghost use Rattle.bsp_rows.specs.Sound.{Sound};
 
@@ -39,8 +39,10 @@ pub fn parts_are_enough()
     ensures airline { AirlinePartIsEnough }
 {}
 
-/// The tally of a key is the counts and the sums of all rows under it, and no other tally of the key is.
+/// The tally of a key is the counts and the sums of all rows under it, and no other tally of the key is. The
+/// tallies that a question asks for are those of the rows under the keys that it asks for.
 pub fn tallies_are_sums()
     ensures sums { TalliesAreSums }
     ensures one { OneTally }
+    ensures asked { AskedAreTallies }
 {}
