@@ -1,0 +1,7 @@
+-- Requests, their answers, and the rows after them.
+pub mod Requests
+pub mod Answers
+pub mod Ledger
+pub mod AirlineLedger
+pub mod Step
+pub mod View
