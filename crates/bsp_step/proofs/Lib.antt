@@ -3,3 +3,6 @@ pub mod SeenLemmas
 pub mod Seen
 pub mod Isolated
 pub mod Unchanged
+pub mod SoundLemmas
+pub mod IssueLemmas
+pub mod SoundKept
