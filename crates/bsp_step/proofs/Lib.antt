@@ -6,3 +6,4 @@ pub mod Unchanged
 pub mod SoundLemmas
 pub mod IssueLemmas
 pub mod SoundKept
+pub mod Runs

@@ -5,3 +5,4 @@ pub mod Ledger
 pub mod AirlineLedger
 pub mod Step
 pub mod View
+pub mod Laws

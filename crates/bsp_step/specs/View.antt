@@ -27,7 +27,7 @@ use Rattle.bsp_step.specs.Requests.{AgentRequest, AirlineRequest, Asked, FileRea
 use Rattle.bsp_step.specs.Requests.AirlineRequest.{IssueMemo, UpholdMemo, WithdrawMemo, ReduceMemo}
 use Rattle.bsp_step.specs.Requests.Asked.{NoRoute, OtherMethod, ByOffice, ByAgent, ByAirline}
 use Rattle.bsp_step.specs.Requests.OfficeRequest.{PublishPlan, SetBusinessDay, RegisterAgent, RegisterAirline, AllotRange, WithdrawRange, OfficeFile, ClosePeriod, AskSettlement}
-use Rattle.bsp_step.specs.Step.{is_token, answer_of, rows_after}
+use Rattle.bsp_step.specs.Step.{Fits, answer_of, is_token, rows_after}
 
 pub data Sight : Type 0 where
   -- its own request
@@ -147,16 +147,19 @@ answered_sights agent l token (ByAirline code call) answer = if is_done answer t
 abbrev pub sights : ℕ → Ledger → Request → Answer → List Sight
 sights agent l request answer = answered_sights agent l request.token request.asked answer
 
--- ---- a transcript: requests with their answers, none for a 503
+-- ---- requests with their answers, none for a 503
 
-abbrev pub reply_sights : ℕ → Ledger → Request × Option Answer → List Sight
+abbrev pub Exchange : Type 0
+Exchange = Request × Option Answer
+
+abbrev pub reply_sights : ℕ → Ledger → Exchange → List Sight
 reply_sights agent l p = by p.1 where
   by : Option Answer → List Sight
   by None = []
   by (Some answer) = sights agent l p.0 answer
 
 -- its view
-abbrev pub view : ℕ → Ledger → List (Request × Option Answer) → List Sight
+abbrev pub view : ℕ → Ledger → List Exchange → List Sight
 view agent l [] = []
 view agent l (p ∷ ps) = reply_sights agent l p ++ view agent (ledger_all agent l (reply_sights agent l p)) ps
 
@@ -173,14 +176,14 @@ abbrev pub told_one : ℕ → Ledger → Option (List ℕ) → Asked → Answer 
 told_one agent l token (ByAgent code call) answer = if is_own agent l token code then answer ∷ [] else []
 told_one agent l token _ answer = []
 
-abbrev pub told_reply : ℕ → Ledger → Request × Option Answer → List Answer
+abbrev pub told_reply : ℕ → Ledger → Exchange → List Answer
 told_reply agent l p = by p.1 where
   by : Option Answer → List Answer
   by None = []
   by (Some answer) = told_one agent l p.0.token p.0.asked answer
 
 -- the answers that it was given to them
-abbrev pub told : ℕ → Ledger → List (Request × Option Answer) → List Answer
+abbrev pub told : ℕ → Ledger → List Exchange → List Answer
 told agent l [] = []
 told agent l (p ∷ ps) = told_reply agent l p ++ told agent (ledger_all agent l (reply_sights agent l p)) ps
 
@@ -190,13 +193,18 @@ abbrev pub IsAnswered : List ℕ → Rows → Request → Option Answer → Type
 IsAnswered office rows request None = Unit {0}
 IsAnswered office rows request (Some answer) = answer ≡ answer_of office rows request
 
-abbrev pub rows_replied : Rows → Request × Option Answer → Rows
+abbrev pub rows_replied : Rows → Exchange → Rows
 rows_replied rows p = by p.1 where
   by : Option Answer → Rows
   by None = rows
   by (Some answer) = rows_after rows p.0 answer
 
 -- each is answered so on the rows that those before it left, or by a 503
-abbrev pub Run : List ℕ → Rows → List (Request × Option Answer) → Rows → Type 0
+abbrev pub Run : List ℕ → Rows → List Exchange → Rows → Type 0
 Run office rows [] new = new ≡ rows
 Run office rows (p ∷ ps) new = IsAnswered office rows p.0 p.1 × Run office (rows_replied rows p) ps new
+
+-- each transaction of each file is a group
+abbrev pub AllFit : List Exchange → Type 0
+AllFit [] = Unit {0}
+AllFit (p ∷ ps) = Fits p.0.asked × AllFit ps

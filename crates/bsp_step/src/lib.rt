@@ -1,5 +1,9 @@
-//! What each request is answered and what it makes of the rows, for all callers and for one agent alone.
+//! What each request is answered and what it makes of the rows: of all callers, and of one agent alone.
+//!
+//! `specs/` has the definitions: requests with their bodies read, the answer to each, and the rows after it.
+//! The functions are laws: the contract of each is the statement, and its body has nothing to do.
 #![tactic(auto)]
 
-/// A stand-in.
-pub fn nothing() {}
+mod laws;
+
+pub use laws::{agent_isolation, steps_are_sound};

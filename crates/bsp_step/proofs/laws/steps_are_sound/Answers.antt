@@ -1,0 +1,13 @@
+use Rattle.bsp_step.proofs.Runs.{run_sound}
+use Rattle.bsp_step.proofs.SoundKept.{sound_kept}
+use Rattle.bsp_step.proofs.Unchanged.{unchanged}
+use Rattle.bsp_step.proofs.laws.steps_are_sound.Goals as goal
+
+pub returns-clause-sound : goal.returns-clause-sound
+returns-clause-sound c = sound_kept
+
+pub returns-clause-refusals : goal.returns-clause-refusals
+returns-clause-refusals c = unchanged
+
+pub returns-clause-runs : goal.returns-clause-runs
+returns-clause-runs c = run_sound
