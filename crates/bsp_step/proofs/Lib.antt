@@ -7,3 +7,4 @@ pub mod SoundLemmas
 pub mod IssueLemmas
 pub mod SoundKept
 pub mod Runs
+pub mod TextLemmas

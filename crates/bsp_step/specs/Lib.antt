@@ -5,4 +5,5 @@ pub mod Ledger
 pub mod AirlineLedger
 pub mod Step
 pub mod View
+pub mod Texts
 pub mod Laws
