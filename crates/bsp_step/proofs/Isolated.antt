@@ -1,7 +1,6 @@
 -- The answers to an agent, over a whole run, are those of its ledger.
-use Rattle.std.proofs.Common.{◌≡◌, ℕ, ◌==◌, ◌&&◌, Bool, true, false, cond, List, [], ◌∷◌, ◌++◌, Option, Some, None, is_some, Result, Ok, Err, refl, sym, ap, subst, ◌∙◌}
+use Rattle.std.proofs.Common.{◌≡◌, ℕ, ◌==◌, ◌&&◌, Bool, true, false, cond, List, [], ◌∷◌, ◌++◌, Option, Some, None, is_some, Ok, Err, refl, sym, ap, subst, ◌∙◌}
 use Rattle.std.proofs.lemmas.Bool.{eqb-true, and_parts}
-use Rattle.bsp_fields.specs.Codes.{agent_reading, code_reading}
 use Rattle.bsp_ret.specs.declared.transactions.Transaction.{Transaction}
 use Rattle.bsp_rules.specs.declared.verdict.Verdict.{Verdict}
 use Rattle.bsp_rules.specs.declared.verdict.Verdict.TheVariants as verdict
@@ -13,23 +12,15 @@ use Rattle.bsp_step.specs.View.{Sight, ledger_after, ledger_all, sights, answere
 use Rattle.bsp_step.specs.View.Sight.{Own, Reported, Registered, Allotted, Withdrew, Issued, Acted}
 use Rattle.bsp_step.proofs.SeenLemmas.{all_append}
 use Rattle.bsp_step.proofs.Seen.{seen}
-use Rattle.bsp_messages.specs.Values.{airline_in, document_in, period_in}
-use Rattle.bsp_messages.specs.declared.airline_bodies.MemoIssue.{MemoIssue}
+use Rattle.bsp_messages.specs.Values.{airline_in}
 use Rattle.bsp_messages.specs.declared.refusal.RequestRefusal.TheVariants.{Forbidden}
-use Rattle.bsp_messages.specs.declared.refusal.RequestRefusal.TheVariants as refusal
-use Rattle.bsp_messages.specs.declared.refusal.StockFault.TheVariants.{FirstAfterLast, NotRegistered, MeetsRange, NoSuchRange, RangeUsed}
-use Rattle.bsp_fields.specs.declared.change.Change.TheVariants.{Done, Held}
-use Rattle.bsp_rows.specs.Changes.{after_close, each, with_value}
-use Rattle.bsp_rows.specs.Writes.{plan_left}
-use Rattle.bsp_calendar.specs.Requests.{closing}
 use Rattle.bsp_step.specs.Answers.{Answer, is_done, verdicts_in}
-use Rattle.bsp_step.specs.Answers.Answer.{Changed, Verdicts, Refused}
-use Rattle.bsp_step.specs.AirlineLedger.{AirlineLedger, airline_answer, airline_ledger_of, count_to, is_known, issue_beside, issue_key, issuing, new_memo}
+use Rattle.bsp_step.specs.Answers.Answer.{Refused}
+use Rattle.bsp_step.specs.AirlineLedger.{issue_key}
 use Rattle.bsp_step.specs.Ledger.{agent_of}
-use Rattle.bsp_step.specs.Requests.{FileRead, Request, Asked, OfficeRequest, AgentRequest, AirlineRequest}
+use Rattle.bsp_step.specs.Requests.{Request, Asked, OfficeRequest, AgentRequest, AirlineRequest}
 use Rattle.bsp_step.specs.Requests.Asked.{NoRoute, OtherMethod, ByOffice, ByAgent, ByAirline}
 use Rattle.bsp_step.specs.Requests.OfficeRequest.{PublishPlan, SetBusinessDay, RegisterAgent, RegisterAirline, AllotRange, WithdrawRange, OfficeFile, ClosePeriod, AskSettlement}
-use Rattle.bsp_step.specs.Requests.AgentRequest.{AgentFile, AskDocument, AskPeriod, AskStock, AskMemos, DisputeMemo, AgreeMemo, AskStatement}
 use Rattle.bsp_step.specs.Requests.AirlineRequest.{AskIssuedMemos, IssueMemo, UpholdMemo, WithdrawMemo, ReduceMemo, AskHot}
 
 -- ---- its own request is answered by its ledger

@@ -1,11 +1,8 @@
 -- A done issue and a done close keep the rows sound.
-use Rattle.std.proofs.Common.{◌≡◌, ℕ, ◌<◌, ◌==◌, not, nat_le, Bool, true, false, cond, map, count_by, Option, Some, None, IsSome, Result, Ok, Err, refl, sym, ap, subst, ◌∙◌}
-use Rattle.std.specs.List.{list_any}
-use Rattle.std.specs.Ordering.{nat_cmp, eq_by_cmp}
+use Rattle.std.proofs.Common.{◌≡◌, ℕ, ◌<◌, ◌==◌, not, nat_le, Bool, true, false, cond, map, count_by, Option, Some, None, IsSome, Result, Ok, Err, refl, ap, subst, ◌∙◌}
 use Rattle.std.specs.FinMap.{get, contains_key-keys}
 use Rattle.std.proofs.lemmas.Bool.{leb-false}
-use Rattle.bsp_fields.specs.Changes.{change_of}
-use Rattle.bsp_fields.specs.declared.change.Change.TheVariants.{Done, Held}
+use Rattle.bsp_fields.specs.declared.change.Change.TheVariants.{Done}
 use Rattle.bsp_calendar.specs.Published.{Published, is_closed}
 use Rattle.bsp_calendar.specs.Requests.{closing}
 use Rattle.bsp_calendar.specs.declared.entries.Terms.{Terms}
@@ -18,10 +15,9 @@ use Rattle.bsp_messages.specs.declared.airline_bodies.MemoIssue.{MemoIssue}
 use Rattle.bsp_messages.specs.declared.refusal.RequestRefusal.TheVariants as refusal
 use Rattle.bsp_rows.specs.Changes.{after_close}
 use Rattle.bsp_rows.specs.Laws.{issued_count}
-use Rattle.bsp_rows.specs.Rows.{Rows, registered}
+use Rattle.bsp_rows.specs.Rows.{Rows}
 use Rattle.bsp_rows.specs.Sound.{Sound}
 use Rattle.bsp_rows.specs.Writes.{plan_left, change_or_fault}
-use Rattle.bsp_rows.specs.declared.keys.MemoKey.{MemoKey}
 use Rattle.bsp_rows.proofs.KeptLemmas.{issue_sound_rows, close_sound, close_terms}
 use Rattle.bsp_rows.proofs.KeyOrders.{memo_total, memo_exact}
 use Rattle.bsp_rows.proofs.PartLemmas.{kept_entries}

@@ -6,12 +6,8 @@ use Rattle.std.specs.declared.cmp.Ordering.{Ordering}
 use Rattle.std.specs.FinMap.{FinMap, IsAntisymmetric, get, insert, get-insert, same_map}
 use Rattle.std.specs.List.{list_any}
 use Rattle.std.proofs.lemmas.Bool.{eqb-true, eq-eqb}
-use Rattle.bsp_fields.specs.Codes.{agent_reading, code_reading}
 use Rattle.bsp_calendar.specs.Published.{Published}
 use Rattle.bsp_fields.specs.declared.change.Change.{Change}
-use Rattle.bsp_fields.specs.declared.change.Change.TheVariants as change
-use Rattle.bsp_ret.specs.declared.model.RetFault.{RetFault}
-use Rattle.bsp_ret.specs.declared.transactions.Transaction.{Transaction}
 use Rattle.bsp_rules.specs.declared.rows.Range.{Range}
 use Rattle.bsp_memos.specs.Lives.{after_action}
 use Rattle.bsp_memos.specs.Memos.{is_amount}
@@ -31,18 +27,14 @@ use Rattle.bsp_step.specs.View.{Sight, ledger_all, sights, answered_sights, offi
 use Rattle.bsp_step.specs.View.Sight.{Own, Registered, Allotted, Withdrew, Issued, Acted}
 use Rattle.bsp_rows.proofs.PartLemmas.{passing, kept_get, changed_some}
 use Rattle.bsp_step.proofs.SeenLemmas.{own_memo, registered_own, registered_other, allotted_own, allotted_other, withdrawn_own, withdrawn_other, closed_seen, acted_seen, acted_beside, issued_own, issued_other, filed_own, filed_other, filed_office, tables}
-use Rattle.bsp_messages.specs.Values.{airline_in, document_in, period_in}
+use Rattle.bsp_messages.specs.Values.{airline_in}
 use Rattle.bsp_messages.specs.declared.airline_bodies.MemoIssue.{MemoIssue}
 use Rattle.bsp_messages.specs.declared.refusal.RequestRefusal.TheVariants.{Forbidden}
 use Rattle.bsp_messages.specs.declared.refusal.RequestRefusal.TheVariants as refusal
-use Rattle.bsp_messages.specs.declared.refusal.StockFault.TheVariants.{FirstAfterLast, NotRegistered, MeetsRange, NoSuchRange, RangeUsed}
 use Rattle.bsp_fields.specs.declared.change.Change.TheVariants.{Done, Held}
-use Rattle.bsp_rows.specs.Changes.{after_close, each, with_value}
-use Rattle.bsp_rows.specs.Writes.{plan_left}
-use Rattle.bsp_calendar.specs.Requests.{closing}
-use Rattle.bsp_step.specs.Answers.{Answer, is_done, verdicts_in}
-use Rattle.bsp_step.specs.Answers.Answer.{Changed, Verdicts, Refused}
-use Rattle.bsp_step.specs.AirlineLedger.{AirlineLedger, airline_answer, airline_ledger_of, count_to, is_known, issue_beside, issue_key, issuing, new_memo}
+use Rattle.bsp_step.specs.Answers.{is_done, verdicts_in}
+use Rattle.bsp_step.specs.Answers.Answer.{Changed, Refused}
+use Rattle.bsp_step.specs.AirlineLedger.{AirlineLedger, airline_answer, airline_ledger_of, issue_beside, issue_key, issuing}
 use Rattle.bsp_step.specs.Ledger.{agent_of}
 use Rattle.bsp_step.specs.Requests.{FileRead, Request, Asked, OfficeRequest, AgentRequest, AirlineRequest}
 use Rattle.bsp_step.specs.Requests.Asked.{NoRoute, OtherMethod, ByOffice, ByAgent, ByAirline}

@@ -1,12 +1,11 @@
 -- What each write of the rows is to one agent's ledger.
-use Rattle.std.proofs.Common.{◌≡◌, ℕ, ◌==◌, Bool, true, false, cond, List, [], ◌∷◌, ◌++◌, Option, Some, None, Result, Ok, Err, refl, sym, ap, subst, ◌∙◌}
+use Rattle.std.proofs.Common.{◌≡◌, ℕ, ◌==◌, Bool, true, false, cond, List, [], ◌∷◌, ◌++◌, Option, Some, None, refl, sym, ap, subst, ◌∙◌}
 use Rattle.std.specs.Ordering.{nat_cmp, eq_by_cmp}
 use Rattle.std.specs.Cmp.{nat_cmp_total}
 use Rattle.std.specs.FinMap.{FinMap, get, insert, remove, nat_cmp-IsAntisymmetric}
 use Rattle.std.specs.Option.{unwrap_or}
 use Rattle.std.proofs.lemmas.Bool.{eqb-true, eq-eqb, both_ways}
 use Rattle.bsp_fields.specs.CivilDay.{CivilDay}
-use Rattle.bsp_fields.specs.Codes.{agent_reading}
 use Rattle.bsp_calendar.specs.Published.{Published, target_of}
 use Rattle.bsp_calendar.specs.History.Request.{Close}
 use Rattle.bsp_ret.specs.declared.transactions.Transaction.{Transaction}
@@ -38,23 +37,9 @@ use Rattle.bsp_step.specs.Step.{joined, bearer, reporter, rows_judged, rows_file
 use Rattle.bsp_step.specs.View.{Sight, ledger_after, ledger_all, ledger_planned, if_own, reported_one, reported_in}
 use Rattle.bsp_step.specs.View.Sight.{Reported, Registered, Allotted, Withdrew, Issued}
 use Rattle.bsp_rows.proofs.PartLemmas.{passing, kept_get, kept_insert, kept_beside, kept_remove, kept_remove_beside, kept_changed, kept_each, changed_none}
-use Rattle.bsp_messages.specs.Values.{airline_in, document_in, period_in}
 use Rattle.bsp_messages.specs.declared.airline_bodies.MemoIssue.{MemoIssue}
-use Rattle.bsp_messages.specs.declared.refusal.RequestRefusal.TheVariants.{Forbidden}
-use Rattle.bsp_messages.specs.declared.refusal.RequestRefusal.TheVariants as refusal
-use Rattle.bsp_messages.specs.declared.refusal.StockFault.TheVariants.{FirstAfterLast, NotRegistered, MeetsRange, NoSuchRange, RangeUsed}
-use Rattle.bsp_fields.specs.declared.change.Change.TheVariants.{Done, Held}
-use Rattle.bsp_rows.specs.Changes.{after_close, each, with_value}
-use Rattle.bsp_rows.specs.Writes.{plan_left}
-use Rattle.bsp_calendar.specs.Requests.{closing}
-use Rattle.bsp_step.specs.Answers.{Answer, is_done, verdicts_in}
-use Rattle.bsp_step.specs.Answers.Answer.{Changed, Verdicts, Refused}
-use Rattle.bsp_step.specs.AirlineLedger.{AirlineLedger, airline_answer, airline_ledger_of, count_to, is_known, issue_beside, issue_key, issuing, new_memo}
+use Rattle.bsp_step.specs.AirlineLedger.{new_memo}
 use Rattle.bsp_step.specs.Ledger.{agent_of}
-use Rattle.bsp_step.specs.Requests.{FileRead, Request, Asked, OfficeRequest, AgentRequest, AirlineRequest}
-use Rattle.bsp_step.specs.Requests.OfficeRequest.{PublishPlan, SetBusinessDay, RegisterAgent, RegisterAirline, AllotRange, WithdrawRange, OfficeFile, ClosePeriod, AskSettlement}
-use Rattle.bsp_step.specs.Requests.AgentRequest.{AgentFile, AskDocument, AskPeriod, AskStock, AskMemos, DisputeMemo, AgreeMemo, AskStatement}
-use Rattle.bsp_step.specs.Requests.AirlineRequest.{AskIssuedMemos, IssueMemo, UpholdMemo, WithdrawMemo, ReduceMemo, AskHot}
 
 -- ---- whose entry it is
 

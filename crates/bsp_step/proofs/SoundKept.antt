@@ -1,11 +1,11 @@
 -- Any request keeps the rows sound.
-use Rattle.std.proofs.Common.{◌≡◌, ℕ, ◌≤◌, ◌==◌, not, [], ◌∷◌, Bool, true, false, cond, List, length, Option, Some, None, Result, Ok, Err, refl, sym, ap, subst, ◌∙◌}
+use Rattle.std.proofs.Common.{◌≡◌, ℕ, ◌≤◌, ◌==◌, not, [], ◌∷◌, Bool, true, false, cond, List, length, Option, Some, None, Ok, Err, refl, sym, ap, subst, ◌∙◌}
 use Rattle.std.specs.Str.{all_ascii_digits}
 use Rattle.std.specs.Prelude.{nat_lt, ◌/◌, ◌%◌}
 use Rattle.std.proofs.lemmas.Bool.{eqb-true, ltb-false}
 use Rattle.bsp_fields.specs.FirstFault.{first_fault_or}
 use Rattle.bsp_fields.specs.Decimal.{number_of, fixed_digits}
-use Rattle.bsp_fields.specs.Codes.{agent_reading, code_reading, check_digit_of}
+use Rattle.bsp_fields.specs.Codes.{check_digit_of}
 use Rattle.bsp_fields.proofs.DecimalLemmas.{fixed_digits-number_of}
 use Rattle.bsp_calendar.specs.History.Request.{Publish, SetDay}
 use Rattle.bsp_memos.specs.Steps.Action.{Dispute, Agree, Uphold, Reduce, Withdraw}
@@ -23,20 +23,15 @@ use Rattle.bsp_step.specs.Step.{is_token, answer_of, asked_answer, office_answer
 use Rattle.bsp_step.proofs.Seen.{unfiled, agent_forbidden}
 use Rattle.bsp_step.proofs.SoundLemmas.{own_file_sound, office_file_sound, allotted_sound, withdrawn_sound, registered_sound, action_sound}
 use Rattle.bsp_step.proofs.IssueLemmas.{issued_sound, closed_sound}
-use Rattle.bsp_messages.specs.Values.{airline_in, document_in, period_in}
-use Rattle.bsp_messages.specs.declared.airline_bodies.MemoIssue.{MemoIssue}
+use Rattle.bsp_messages.specs.Values.{airline_in}
 use Rattle.bsp_messages.specs.declared.refusal.RequestRefusal.TheVariants.{Forbidden}
 use Rattle.bsp_messages.specs.declared.refusal.RequestRefusal.TheVariants as refusal
-use Rattle.bsp_messages.specs.declared.refusal.StockFault.TheVariants.{FirstAfterLast, NotRegistered, MeetsRange, NoSuchRange, RangeUsed}
-use Rattle.bsp_fields.specs.declared.change.Change.TheVariants.{Done, Held}
-use Rattle.bsp_rows.specs.Changes.{after_close, each, with_value}
-use Rattle.bsp_rows.specs.Writes.{plan_left}
-use Rattle.bsp_calendar.specs.Requests.{closing}
+use Rattle.bsp_messages.specs.declared.refusal.StockFault.TheVariants.{FirstAfterLast}
 use Rattle.bsp_step.specs.Answers.{Answer, is_done, verdicts_in}
-use Rattle.bsp_step.specs.Answers.Answer.{Changed, Verdicts, Refused}
-use Rattle.bsp_step.specs.AirlineLedger.{AirlineLedger, airline_answer, airline_ledger_of, count_to, is_known, issue_beside, issue_key, issuing, new_memo}
+use Rattle.bsp_step.specs.Answers.Answer.{Refused}
+use Rattle.bsp_step.specs.AirlineLedger.{airline_answer, airline_ledger_of, issue_key}
 use Rattle.bsp_step.specs.Ledger.{agent_of}
-use Rattle.bsp_step.specs.Requests.{FileRead, Request, Asked, OfficeRequest, AgentRequest, AirlineRequest}
+use Rattle.bsp_step.specs.Requests.{Request, Asked, OfficeRequest, AgentRequest, AirlineRequest}
 use Rattle.bsp_step.specs.Requests.Asked.{NoRoute, OtherMethod, ByOffice, ByAgent, ByAirline}
 use Rattle.bsp_step.specs.Requests.OfficeRequest.{PublishPlan, SetBusinessDay, RegisterAgent, RegisterAirline, AllotRange, WithdrawRange, OfficeFile, ClosePeriod, AskSettlement}
 use Rattle.bsp_step.specs.Requests.AgentRequest.{AgentFile, AskDocument, AskPeriod, AskStock, AskMemos, DisputeMemo, AgreeMemo, AskStatement}

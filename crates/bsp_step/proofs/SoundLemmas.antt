@@ -1,12 +1,9 @@
 -- Each done request keeps the rows sound.
-use Rattle.std.proofs.Common.{◌≡◌, ℕ, ◌≤◌, ◌&&◌, ◌||◌, not, Bool, true, false, cond, List, [], ◌∷◌, map, Option, Some, None, is_some, Result, Ok, Err, refl, sym, ap, subst, ◌∙◌}
-use Rattle.std.specs.Ordering.{int_eq, is_eq}
-use Rattle.std.specs.Cmp.{int_cmp_total, tied_itself}
+use Rattle.std.proofs.Common.{◌≡◌, ℕ, ◌≤◌, not, Bool, true, false, cond, List, [], ◌∷◌, map, Option, Some, None, is_some, Result, Ok, Err, refl, sym, ap, subst, ◌∙◌}
 use Rattle.std.specs.FinMap.{FinMap, get, insert, values}
 use Rattle.std.proofs.lemmas.Bool.{eqb-true}
 use Rattle.bsp_fields.specs.Decimal.{fixed_digits}
 use Rattle.bsp_fields.specs.Codes.{agent_reading}
-use Rattle.bsp_fields.specs.CivilDay.{CivilDay}
 use Rattle.bsp_ret.specs.Content.{is_group_values}
 use Rattle.bsp_ret.specs.declared.transactions.Transaction.{Transaction}
 use Rattle.bsp_rules.specs.FactsOf.{facts_in}
@@ -18,11 +15,7 @@ use Rattle.bsp_rules.specs.declared.verdict.Reporter.TheVariants.{Office, Agent}
 use Rattle.bsp_rules.specs.declared.verdict.Verdict.{Verdict}
 use Rattle.bsp_rules.specs.declared.verdict.Verdict.TheVariants as verdict
 use Rattle.bsp_memos.specs.Lives.{after_action}
-use Rattle.bsp_memos.specs.Memos.{is_memo, is_amount}
-use Rattle.bsp_memos.specs.States.{is_credit}
 use Rattle.bsp_memos.specs.Steps.{Action, answer_to}
-use Rattle.bsp_memos.specs.declared.kind.MemoKind.{MemoKind}
-use Rattle.bsp_memos.specs.declared.kind.MemoKind.TheVariants.{Debit, Credit}
 use Rattle.bsp_memos.specs.declared.fields.MemoFields.{MemoFields}
 use Rattle.bsp_memos.proofs.StepLemmas.{issue-left_by}
 use Rattle.bsp_rows.specs.declared.keys.ItemKey.{ItemKey}
@@ -43,23 +36,13 @@ use Rattle.bsp_step.specs.Ledger.{Ledger, ledger_of, own_verdict, own_verdicts, 
 use Rattle.bsp_step.specs.Step.{bearer, reporter, joined, rows_judged, rows_filed, office_verdict, office_verdict_for, office_verdicts, AreGroups, with_action, is_registered, is_last, has_range, allotment, withdrawal, allotted, withdrawn, registered_as}
 use Rattle.bsp_rows.proofs.PartLemmas.{kept_entries, changed_none, changed_some}
 use Rattle.bsp_step.proofs.SeenLemmas.{own_item, own_range, judged_own}
-use Rattle.bsp_messages.specs.Values.{airline_in, document_in, period_in}
-use Rattle.bsp_messages.specs.declared.airline_bodies.MemoIssue.{MemoIssue}
 use Rattle.bsp_messages.specs.declared.refusal.RequestRefusal.TheVariants.{Forbidden}
 use Rattle.bsp_messages.specs.declared.refusal.RequestRefusal.TheVariants as refusal
-use Rattle.bsp_messages.specs.declared.refusal.StockFault.TheVariants.{FirstAfterLast, NotRegistered, MeetsRange, NoSuchRange, RangeUsed}
+use Rattle.bsp_messages.specs.declared.refusal.StockFault.TheVariants.{NotRegistered, MeetsRange, NoSuchRange, RangeUsed}
 use Rattle.bsp_fields.specs.declared.change.Change.TheVariants.{Done, Held}
-use Rattle.bsp_rows.specs.Changes.{after_close, each, with_value}
-use Rattle.bsp_rows.specs.Writes.{plan_left}
-use Rattle.bsp_calendar.specs.Requests.{closing}
-use Rattle.bsp_step.specs.Answers.{Answer, is_done, verdicts_in}
-use Rattle.bsp_step.specs.Answers.Answer.{Changed, Verdicts, Refused}
-use Rattle.bsp_step.specs.AirlineLedger.{AirlineLedger, airline_answer, airline_ledger_of, count_to, is_known, issue_beside, issue_key, issuing, new_memo}
+use Rattle.bsp_step.specs.Answers.{is_done}
+use Rattle.bsp_step.specs.Answers.Answer.{Changed, Refused}
 use Rattle.bsp_step.specs.Ledger.{agent_of}
-use Rattle.bsp_step.specs.Requests.{FileRead, Request, Asked, OfficeRequest, AgentRequest, AirlineRequest}
-use Rattle.bsp_step.specs.Requests.OfficeRequest.{PublishPlan, SetBusinessDay, RegisterAgent, RegisterAirline, AllotRange, WithdrawRange, OfficeFile, ClosePeriod, AskSettlement}
-use Rattle.bsp_step.specs.Requests.AgentRequest.{AgentFile, AskDocument, AskPeriod, AskStock, AskMemos, DisputeMemo, AgreeMemo, AskStatement}
-use Rattle.bsp_step.specs.Requests.AirlineRequest.{AskIssuedMemos, IssueMemo, UpholdMemo, WithdrawMemo, ReduceMemo, AskHot}
 
 -- ---- a part's rows are what the book's look-ups by agent give
 

@@ -1,6 +1,5 @@
 -- An answer is sent in one way.
-use Rattle.std.proofs.Common.{◌≡◌, ℕ, List, Option, Some, refl, sym, ap, subst, ◌∙◌, inl, inr}
-use Rattle.std.specs.Global.{Vec}
+use Rattle.std.proofs.Common.{◌≡◌, ℕ, List, Option, Some, refl, sym, subst, ◌∙◌, inl, inr}
 use Rattle.std.specs.Prelude.{string_bytes}
 use Rattle.bsp_calendar.specs.declared.entries.Terms.{Terms}
 use Rattle.bsp_hot.proofs.OneFile.{fits_or_not, one_text}
@@ -10,9 +9,9 @@ use Rattle.bsp_messages.specs.declared.answer.Answer.TheVariants as message
 use Rattle.bsp_rows.proofs.MapLemmas.{same_Some}
 use Rattle.bsp_statement.proofs.OneReport.{one_settlement, one_statement}
 use Rattle.bsp_statement.specs.Reports.{IsSettlement, IsStatement, of_period}
-use Rattle.bsp_step.specs.Answers.{Answer, HotRows, Report}
+use Rattle.bsp_step.specs.Answers.{HotRows, Report}
 use Rattle.bsp_step.specs.Answers.Answer.{Changed, Verdicts, Document, InPeriod, Ranges, Memos, Statement, Settlement, Hot, FileFault, Refused}
-use Rattle.bsp_step.specs.Texts.{AnswersAreOneText, HasNoHotText, IsHotText, IsListed, IsSentAs, IsSettlementText, IsStatementText, Says, hot_entries}
+use Rattle.bsp_step.specs.Texts.{AnswersAreOneText, HasNoHotText, IsHotText, IsSentAs, IsSettlementText, IsStatementText, hot_entries}
 
 sent : (m other known same : Message) → m ≡ known → other ≡ same → IsSentAs known same → IsSentAs m other
 sent m other known same is also alike = subst (λ x. IsSentAs x other) (sym is) (subst (λ x. IsSentAs known x) (sym also) alike)

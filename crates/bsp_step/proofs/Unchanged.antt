@@ -2,7 +2,6 @@
 use Rattle.std.proofs.Common.{◌≡◌, ℕ, ◌==◌, Bool, true, false, cond, List, [], ◌∷◌, map, refl, ap, ◌∙◌}
 use Rattle.std.specs.List.{filter}
 use Rattle.std.specs.FinMap.{entries, values}
-use Rattle.bsp_fields.specs.Codes.{agent_reading, code_reading}
 use Rattle.bsp_rules.specs.declared.verdict.Verdict.{Verdict}
 use Rattle.bsp_rules.specs.declared.rows.Item.{Item}
 use Rattle.bsp_memos.specs.declared.fields.MemoFields.{MemoFields}
@@ -16,24 +15,13 @@ use Rattle.bsp_step.specs.Step.{rows_after, asked_after, office_done, filed_by_o
 use Rattle.bsp_rows.proofs.PartLemmas.{kept_entries}
 use Rattle.bsp_step.proofs.SeenLemmas.{own_memo}
 use Rattle.bsp_step.proofs.Seen.{unfiled, agent_forbidden}
-use Rattle.bsp_messages.specs.Values.{airline_in, document_in, period_in}
-use Rattle.bsp_messages.specs.declared.airline_bodies.MemoIssue.{MemoIssue}
-use Rattle.bsp_messages.specs.declared.refusal.RequestRefusal.TheVariants.{Forbidden}
-use Rattle.bsp_messages.specs.declared.refusal.RequestRefusal.TheVariants as refusal
-use Rattle.bsp_messages.specs.declared.refusal.StockFault.TheVariants.{FirstAfterLast, NotRegistered, MeetsRange, NoSuchRange, RangeUsed}
-use Rattle.bsp_fields.specs.declared.change.Change.TheVariants.{Done, Held}
-use Rattle.bsp_rows.specs.Changes.{after_close, each, with_value}
-use Rattle.bsp_rows.specs.Writes.{plan_left}
-use Rattle.bsp_calendar.specs.Requests.{closing}
+use Rattle.bsp_messages.specs.Values.{airline_in}
 use Rattle.bsp_step.specs.Answers.{Answer, is_done, verdicts_in}
-use Rattle.bsp_step.specs.Answers.Answer.{Changed, Verdicts, Refused}
-use Rattle.bsp_step.specs.AirlineLedger.{AirlineLedger, airline_answer, airline_ledger_of, count_to, is_known, issue_beside, issue_key, issuing, new_memo}
+use Rattle.bsp_step.specs.AirlineLedger.{airline_ledger_of}
 use Rattle.bsp_step.specs.Ledger.{agent_of}
-use Rattle.bsp_step.specs.Requests.{FileRead, Request, Asked, OfficeRequest, AgentRequest, AirlineRequest}
+use Rattle.bsp_step.specs.Requests.{Request, Asked, OfficeRequest}
 use Rattle.bsp_step.specs.Requests.Asked.{NoRoute, OtherMethod, ByOffice, ByAgent, ByAirline}
 use Rattle.bsp_step.specs.Requests.OfficeRequest.{PublishPlan, SetBusinessDay, RegisterAgent, RegisterAirline, AllotRange, WithdrawRange, OfficeFile, ClosePeriod, AskSettlement}
-use Rattle.bsp_step.specs.Requests.AgentRequest.{AgentFile, AskDocument, AskPeriod, AskStock, AskMemos, DisputeMemo, AgreeMemo, AskStatement}
-use Rattle.bsp_step.specs.Requests.AirlineRequest.{AskIssuedMemos, IssueMemo, UpholdMemo, WithdrawMemo, ReduceMemo, AskHot}
 
 unfiled_call : (call : OfficeRequest) (rows : Rows) → filed_by_office call [] rows ≡ rows
 unfiled_call (PublishPlan text) rows = refl

@@ -1,5 +1,5 @@
 -- What a request is answered, before it is a text.
-use Rattle.std.specs.Prelude.{ℕ, Bool, true, false, List, [], Option, Some, None, Result, Ok, Err}
+use Rattle.std.specs.Prelude.{ℕ, Bool, true, false, List, [], Option}
 use Rattle.bsp_fields.specs.declared.change.Change.{Change}
 use Rattle.bsp_fields.specs.declared.change.Change.TheVariants as change
 use Rattle.bsp_calendar.specs.declared.entries.Period.{Period}

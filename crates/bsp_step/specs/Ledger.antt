@@ -40,7 +40,6 @@ use Rattle.bsp_rows.specs.Changes.{sale_key}
 use Rattle.bsp_rows.specs.Part.{AgentPart, agent_part}
 use Rattle.bsp_rows.specs.Rows.{Rows, item_cmp, memo_cmp, key_of, range_of}
 use Rattle.bsp_rows.specs.Writes.{changed, ended}
-use Rattle.bsp_rows.specs.declared.keys.ItemKey.{ItemKey}
 use Rattle.bsp_rows.specs.declared.keys.MemoKey.{MemoKey}
 use Rattle.bsp_step.specs.Answers.{Answer}
 use Rattle.bsp_step.specs.Answers.Answer.{Changed, Verdicts, Document, InPeriod, Ranges, Memos, Statement, FileFault, Refused}
