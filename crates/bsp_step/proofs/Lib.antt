@@ -3,8 +3,9 @@ pub mod SeenLemmas
 pub mod Seen
 pub mod Isolated
 pub mod Unchanged
-pub mod SoundLemmas
+pub mod Invariant
+pub mod ChangeLemmas
 pub mod IssueLemmas
-pub mod SoundKept
+pub mod StepLemmas
 pub mod Runs
 pub mod TextLemmas

@@ -1,5 +1,4 @@
-use Rattle.bsp_step.proofs.Runs.{run_sound}
-use Rattle.bsp_step.proofs.SoundKept.{sound_kept}
+use Rattle.bsp_step.proofs.Runs.{run_sound, sound_kept}
 use Rattle.bsp_step.proofs.Unchanged.{unchanged}
 use Rattle.bsp_step.proofs.laws.steps_are_sound.Goals as goal
 
