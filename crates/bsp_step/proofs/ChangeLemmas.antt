@@ -64,7 +64,7 @@ read_ok (Ok n) b h = ap (λ (x : ℕ). Ok x) (same_Some n b h)
 read_ok (Err fault) b h = absurd (cc h)
 
 -- what an agent's file has accepted bears that agent
-reported_own : (b : ℕ) (t : Transaction) (rows : Rows) (period : ℕ) → own_verdict (Agent b) (ledger_of b rows) t ≡ verdict.Accepted period → agent_of (fixed_digits 8 b) ≡ Some b → agent_of t.agent ≡ Some b
+pub reported_own : (b : ℕ) (t : Transaction) (rows : Rows) (period : ℕ) → own_verdict (Agent b) (ledger_of b rows) t ≡ verdict.Accepted period → agent_of (fixed_digits 8 b) ≡ Some b → agent_of t.agent ≡ Some b
 reported_own b t rows period h reads =
     let passed = (accepted_is_passed (Agent b) t _ rows.published period).0 h in
     let own = ((agent_is_reporters (Agent b) t _).0 passed.agent).1 in
@@ -82,7 +82,7 @@ module _ (P : Rows → Type 0) (kept : IsKept P) where
     accepted = sym (part_verdict who b rows t) ∙ h;
   })
 
-  own_judged_keeps : (b : ℕ) (t : Transaction) (rows : Rows) → agent_of (fixed_digits 8 b) ≡ Some b → P rows → is_group_values t ≡ true → (v : Verdict) → own_verdict (Agent b) (ledger_of b rows) t ≡ v → P (rows_judged (reporter (Some b)) t v rows)
+  pub own_judged_keeps : (b : ℕ) (t : Transaction) (rows : Rows) → agent_of (fixed_digits 8 b) ≡ Some b → P rows → is_group_values t ≡ true → (v : Verdict) → own_verdict (Agent b) (ledger_of b rows) t ≡ v → P (rows_judged (reporter (Some b)) t v rows)
   own_judged_keeps b t rows reads s group (verdict.Held period) h = s
   own_judged_keeps b t rows reads s group (verdict.Accepted period) h = joins_keeps (Agent b) b t period rows s group (reported_own b t rows period h reads) h
   own_judged_keeps b t rows reads s group (verdict.Refused refusal) h = s
@@ -99,7 +99,7 @@ module _ (P : Rows → Type 0) (kept : IsKept P) where
   office_joined_keeps t period rows s group None is h = s
   office_joined_keeps t period rows s group (Some b) is h = joins_keeps Office b t period rows s group is h
 
-  office_judged_keeps : (t : Transaction) (rows : Rows) → P rows → is_group_values t ≡ true → (v : Verdict) → office_verdict rows t ≡ v → P (rows_judged bearer t v rows)
+  pub office_judged_keeps : (t : Transaction) (rows : Rows) → P rows → is_group_values t ≡ true → (v : Verdict) → office_verdict rows t ≡ v → P (rows_judged bearer t v rows)
   office_judged_keeps t rows s group (verdict.Held period) h = s
   office_judged_keeps t rows s group (verdict.Accepted period) h = office_joined_keeps t period rows s group (agent_of t.agent) refl h
   office_judged_keeps t rows s group (verdict.Refused refusal) h = s

@@ -9,3 +9,5 @@ pub mod IssueLemmas
 pub mod StepLemmas
 pub mod Runs
 pub mod TextLemmas
+pub mod Held
+pub mod FitLemmas

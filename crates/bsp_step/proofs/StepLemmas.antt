@@ -44,11 +44,14 @@ reads_by true true false n b h = absurd (cc h)
 reads_by true false c n b h = absurd (cc h)
 reads_by false d c n b h = absurd (cc h)
 
-reads_back : (text : List ℕ) (b : ℕ) → agent_of text ≡ Some b → agent_of (fixed_digits 8 b) ≡ Some b
-reads_back text b h =
+-- the eight digits of the code are the text
+pub same_digits : (text : List ℕ) (b : ℕ) → agent_of text ≡ Some b → fixed_digits 8 b ≡ text
+same_digits text b h =
     let parts = reads_by (length text == 8) (all_ascii_digits text) (number_of text % 10 == check_digit_of (number_of text / 10)) (number_of text) b h in
-    let same : fixed_digits 8 b ≡ text = ap (fixed_digits 8) (sym parts.2) ∙ fixed_digits-number_of 8 text (eqb-true (length text) 8 parts.0) parts.1 in
-    ap agent_of same ∙ h
+    ap (fixed_digits 8) (sym parts.2) ∙ fixed_digits-number_of 8 text (eqb-true (length text) 8 parts.0) parts.1
+
+pub reads_back : (text : List ℕ) (b : ℕ) → agent_of text ≡ Some b → agent_of (fixed_digits 8 b) ≡ Some b
+reads_back text b h = ap agent_of (same_digits text b h) ∙ h
 
 module _ (P : Rows → Type 0) (kept : IsKept P) where
   -- ---- done or not

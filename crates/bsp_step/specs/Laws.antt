@@ -1,19 +1,29 @@
 -- What holds of every request, of every run, and of what one agent is answered.
-use Rattle.std.specs.Prelude.{◌≡◌, ℕ, true, false, List, [], Option, Some}
+use Rattle.std.specs.Prelude.{◌≡◌, ◌⊎◌, ℕ, true, false, List, [], ◌∷◌, Option, Some}
+use Rattle.bsp_routes.specs.declared.asking.Asking.{Asking}
 use Rattle.bsp_messages.specs.declared.refusal.RequestRefusal.TheVariants.{Forbidden}
-use Rattle.bsp_rows.specs.Rows.{Rows}
+use Rattle.bsp_ret.specs.declared.transactions.Transaction.{Transaction}
+use Rattle.bsp_rules.specs.declared.rows.Item.{Item}
+use Rattle.bsp_rules.specs.declared.verdict.Verdict.{Verdict}
+use Rattle.bsp_rules.specs.declared.verdict.Verdict.TheVariants as verdict
+use Rattle.bsp_rows.specs.Rows.{Rows, item_at}
+use Rattle.bsp_rows.specs.declared.keys.ItemKey.{ItemKey}
 use Rattle.bsp_rows.specs.Sound.{Sound}
 use Rattle.bsp_step.specs.Answers.{Answer, is_done, verdicts_in}
 use Rattle.bsp_step.specs.Answers.Answer.{Refused}
-use Rattle.bsp_step.specs.Ledger.{agent_of, ledger_answer, ledger_of}
-use Rattle.bsp_step.specs.Requests.{AgentRequest, Request}
+use Rattle.bsp_step.specs.Ledger.{agent_of, ledger_answer, ledger_of, own_verdicts}
+use Rattle.bsp_step.specs.Requests.{AgentRequest, Asked, IsAsked, Request}
 use Rattle.bsp_step.specs.Requests.Asked.{ByAgent}
-use Rattle.bsp_step.specs.Step.{Fits, answer_of, is_token, rows_after}
+use Rattle.bsp_step.specs.Step.{AreGroups, Fits, answer_of, bearer, is_token, office_verdicts, reporter, rows_after, rows_filed}
 use Rattle.bsp_step.specs.View.{AllFit, Exchange, Run, is_own, ledger_all, ledger_answers, sights, told, view}
 
 -- ---- one request
 
--- sound rows stay sound, where each transaction of a file is a group of the RET format
+-- what a call and the bytes of its body are read as: each transaction of its file is a group of the RET format
+abbrev pub ReadRequestsFit : Type 0
+ReadRequestsFit = (asking : Asking (List ℕ)) (body : List ℕ) (asked : Asked) → IsAsked asking body asked → Fits asked
+
+-- sound rows stay sound
 abbrev pub StepIsSound : Type 0
 StepIsSound = (office : List ℕ) (rows : Rows) (request : Request) → Sound rows → Fits request.asked → Sound (rows_after rows request (answer_of office rows request))
 
@@ -63,3 +73,46 @@ AgentsAreAlike =
     Run office rows exchanges new → Run other rows' exchanges' new' →
     ledger_of agent rows ≡ ledger_of agent rows' → view agent (ledger_of agent rows) exchanges ≡ view agent (ledger_of agent rows') exchanges' →
     told agent (ledger_of agent rows) exchanges ≡ told agent (ledger_of agent rows') exchanges'
+
+-- ---- repeats
+
+-- the agent has an accepted transaction with these values, in this period
+pub record HasAccepted (rows : Rows) (agent : ℕ) (t : Transaction) (period : ℕ) : Type 0 where
+  pub key : ItemKey
+  pub own : key.agent ≡ agent
+  pub item : Item
+  pub there : item_at key rows ≡ Some item
+  pub content : item.transaction ≡ t
+  pub period_is : item.period ≡ period
+
+-- the transaction is accepted in this period at some place of a file
+abbrev pub IsAcceptedIn : Transaction → ℕ → List Transaction → List Verdict → Type 0
+IsAcceptedIn t period (u ∷ us) (v ∷ vs) = ((u ≡ t) × (v ≡ verdict.Accepted period)) ⊎ IsAcceptedIn t period us vs
+IsAcceptedIn t period _ _ = ⊥
+
+-- at each place of a file where the transaction is, it is held in this period
+abbrev pub IsHeldIn : Transaction → ℕ → List Transaction → List Verdict → Type 0
+IsHeldIn t period [] [] = Unit {0}
+IsHeldIn t period (u ∷ us) (v ∷ vs) = (u ≡ t → v ≡ verdict.Held period) × IsHeldIn t period us vs
+IsHeldIn t period _ _ = ⊥
+
+-- what an agent's file or the office's has accepted, the agent has accepted
+abbrev pub FilesAreTaken : Type 0
+FilesAreTaken =
+    (rows : Rows) (agent : ℕ) (t : Transaction) (period : ℕ) (ts : List Transaction) → Sound rows → AreGroups ts → agent_of t.agent ≡ Some agent →
+    (IsAcceptedIn t period ts (office_verdicts rows ts) → HasAccepted (rows_filed bearer ts (office_verdicts rows ts) rows) agent t period)
+    × (IsAcceptedIn t period ts (own_verdicts agent (ledger_of agent rows) ts) → HasAccepted (rows_filed (reporter (Some agent)) ts (own_verdicts agent (ledger_of agent rows) ts) rows) agent t period)
+
+-- it stays so over any run, after a CANX too, and whenever its agent or the office reports it again it is held in that period
+abbrev pub RepeatsAreHeld : Type 0
+RepeatsAreHeld =
+    (office : List ℕ) (rows : Rows) (exchanges : List Exchange) (new : Rows) (agent : ℕ) (t : Transaction) (period : ℕ) (ts : List Transaction) →
+    Run office rows exchanges new → AllFit exchanges → Sound rows → HasAccepted rows agent t period → AreGroups ts →
+    HasAccepted new agent t period × IsHeldIn t period ts (office_verdicts new ts) × IsHeldIn t period ts (own_verdicts agent (ledger_of agent new) ts)
+
+-- ---- one owner
+
+-- two accepted transactions of one document number are of one agent
+abbrev pub NumbersHaveOneOwner : Type 0
+NumbersHaveOneOwner =
+    (rows : Rows) (k l : ItemKey) (i j : Item) → Sound rows → item_at k rows ≡ Some i → item_at l rows ≡ Some j → k.number ≡ l.number → k.agent ≡ l.agent

@@ -1,11 +1,14 @@
 //! Laws of requests and their answers.
 
-ghost use Rattle.bsp_step.specs.Laws.{AgentIsIsolated, AgentsAreAlike, LedgerIsOfSights, OthersAreForbidden, OwnIsAnsweredByLedger, RefusalsChangeNothing, RunIsSound, StepIsSound};
+ghost use Rattle.bsp_step.specs.Laws.{AgentIsIsolated, AgentsAreAlike, FilesAreTaken, LedgerIsOfSights, NumbersHaveOneOwner, OthersAreForbidden, OwnIsAnsweredByLedger, ReadRequestsFit, RefusalsChangeNothing, RepeatsAreHeld, RunIsSound, StepIsSound};
+ghost use Rattle.bsp_step.specs.Texts.{AnswersAreOneText};
 
 /// Any request keeps sound rows sound, whatever it is answered, and so does any run of requests; and an
 /// answer that is neither a done change nor a list of verdicts leaves the rows as they are: so does every
-/// refusal, every change that is held, and whatever is shown.
+/// refusal, every change that is held, and whatever is shown. A request fits where each transaction of its
+/// file is a group of the RET format, as every request is that is read from bytes.
 pub fn steps_are_sound()
+    ensures fit { ReadRequestsFit }
     ensures sound { StepIsSound }
     ensures refusals { RefusalsChangeNothing }
     ensures runs { RunIsSound }
@@ -21,4 +24,21 @@ pub fn agent_isolation()
     ensures seen { LedgerIsOfSights }
     ensures isolated { AgentIsIsolated }
     ensures alike { AgentsAreAlike }
+{}
+
+/// An answer is sent in one way: two messages of it have one status, one media type and the same bytes.
+pub fn answers_are_one_text()
+    ensures { AnswersAreOneText }
+{}
+
+/// What a file has accepted stays accepted over any run of requests, after a CANX too, and whenever its
+/// agent or the office reports it again, at any place of a file, it is held in the period of its acceptance.
+pub fn repeats_are_held()
+    ensures taken { FilesAreTaken }
+    ensures held { RepeatsAreHeld }
+{}
+
+/// In sound rows the accepted transactions of a document number are of one agent.
+pub fn numbers_have_one_owner()
+    ensures { NumbersHaveOneOwner }
 {}

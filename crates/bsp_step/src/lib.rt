@@ -6,4 +6,6 @@
 
 mod laws;
 
-pub use laws::{agent_isolation, steps_are_sound};
+pub use laws::{
+    agent_isolation, answers_are_one_text, numbers_have_one_owner, repeats_are_held, steps_are_sound,
+};
