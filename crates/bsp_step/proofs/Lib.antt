@@ -11,3 +11,4 @@ pub mod Runs
 pub mod TextLemmas
 pub mod Held
 pub mod FitLemmas
+pub mod Closed

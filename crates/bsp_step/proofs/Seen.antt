@@ -128,7 +128,7 @@ insert_step : {K X : Type 0} {R : K → K → Ordering} (exact : IsAntisymmetric
 insert_step exact m k v h q true is = sym (ap (get m) (same_key exact q k is) ∙ h)
 insert_step exact m k v h q false is = refl
 
-insert_same : {K X : Type 0} {R : K → K → Ordering} (o : IsTotalOrder R) (exact : IsAntisymmetric R) (m : FinMap R X) (k : K) (v : X) → get m k ≡ Some v → insert m k v ≡ m
+pub insert_same : {K X : Type 0} {R : K → K → Ordering} (o : IsTotalOrder R) (exact : IsAntisymmetric R) (m : FinMap R X) (k : K) (v : X) → get m k ≡ Some v → insert m k v ≡ m
 insert_same {R = R} o exact m k v h = same_map o exact _ _ (λ q. get-insert o m k v q ∙ insert_step exact m k v h q (eq_by_cmp R q k) refl)
 
 left_alone_by : (action : Action) (memo : MemoFields) (r : Result Change MemoFault) → is_done (told_memo r) ≡ false → left_by r action memo ≡ memo

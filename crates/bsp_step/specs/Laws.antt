@@ -1,20 +1,27 @@
 -- What holds of every request, of every run, and of what one agent is answered.
-use Rattle.std.specs.Prelude.{◌≡◌, ◌⊎◌, ℕ, true, false, List, [], ◌∷◌, Option, Some}
+use Rattle.std.specs.Prelude.{◌≡◌, ◌⊎◌, ℕ, ◌==◌, true, false, List, [], ◌∷◌, Option, Some}
 use Rattle.bsp_routes.specs.declared.asking.Asking.{Asking}
 use Rattle.bsp_messages.specs.declared.refusal.RequestRefusal.TheVariants.{Forbidden}
 use Rattle.bsp_ret.specs.declared.transactions.Transaction.{Transaction}
 use Rattle.bsp_rules.specs.declared.rows.Item.{Item}
 use Rattle.bsp_rules.specs.declared.verdict.Verdict.{Verdict}
 use Rattle.bsp_rules.specs.declared.verdict.Verdict.TheVariants as verdict
-use Rattle.bsp_rows.specs.Rows.{Rows, item_at}
+use Rattle.std.specs.FinMap.{FinMap}
+use Rattle.bsp_calendar.specs.Published.{closed_period}
+use Rattle.bsp_calendar.specs.declared.entries.Period.{Period}
+use Rattle.bsp_memos.specs.Owed.{is_billed_in}
+use Rattle.bsp_memos.specs.declared.fields.MemoFields.{MemoFields}
+use Rattle.bsp_rows.specs.Part.{kept}
+use Rattle.bsp_rows.specs.Rows.{Rows, item_at, item_cmp, memo_cmp}
+use Rattle.bsp_step.specs.AirlineLedger.{airline_ledger_of, hot_answer}
 use Rattle.bsp_rows.specs.declared.keys.ItemKey.{ItemKey}
 use Rattle.bsp_rows.specs.Sound.{Sound}
 use Rattle.bsp_step.specs.Answers.{Answer, is_done, verdicts_in}
 use Rattle.bsp_step.specs.Answers.Answer.{Refused}
-use Rattle.bsp_step.specs.Ledger.{agent_of, ledger_answer, ledger_of, own_verdicts}
+use Rattle.bsp_step.specs.Ledger.{agent_of, ledger_answer, ledger_of, own_verdicts, statement_answer}
 use Rattle.bsp_step.specs.Requests.{AgentRequest, Asked, IsAsked, Request}
 use Rattle.bsp_step.specs.Requests.Asked.{ByAgent}
-use Rattle.bsp_step.specs.Step.{AreGroups, Fits, answer_of, bearer, is_token, office_verdicts, reporter, rows_after, rows_filed}
+use Rattle.bsp_step.specs.Step.{AreGroups, Fits, answer_of, bearer, is_token, office_verdicts, reporter, rows_after, rows_filed, settlement_answer}
 use Rattle.bsp_step.specs.View.{AllFit, Exchange, Run, is_own, ledger_all, ledger_answers, sights, told, view}
 
 -- ---- one request
@@ -116,3 +123,34 @@ RepeatsAreHeld =
 abbrev pub NumbersHaveOneOwner : Type 0
 NumbersHaveOneOwner =
     (rows : Rows) (k l : ItemKey) (i j : Item) → Sound rows → item_at k rows ≡ Some i → item_at l rows ≡ Some j → k.number ≡ l.number → k.agent ≡ l.agent
+
+-- ---- closed periods
+
+-- the items of a period, and the memos billed in it
+abbrev pub items_in : ℕ → Rows → FinMap item_cmp Item
+items_in code rows = kept (λ e. e.1.period == code) rows.items
+
+abbrev pub memos_in : ℕ → Rows → FinMap memo_cmp MemoFields
+memos_in code rows = kept (λ e. is_billed_in code e.1) rows.memos
+
+-- a period with all that is reported of it
+pub record IsPeriodKept (code : ℕ) (old new : Rows) : Type 0 where
+  pub period : closed_period new.published code ≡ closed_period old.published code
+  pub terms : new.published.terms ≡ old.published.terms
+  pub items : items_in code new ≡ items_in code old
+  pub memos : memos_in code new ≡ memos_in code old
+
+-- a closed period stays as it is over any run
+abbrev pub ClosedPeriodsStay : Type 0
+ClosedPeriodsStay =
+    (office : List ℕ) (rows : Rows) (exchanges : List Exchange) (new : Rows) (code : ℕ) (q : Period) → Run office rows exchanges new → AllFit exchanges → Sound rows →
+    closed_period rows.published code ≡ Some q → IsPeriodKept code rows new
+
+-- and so do the settlement, each agent's statement and each airline's HOT file of it
+abbrev pub ReportsStay : Type 0
+ReportsStay =
+    (office : List ℕ) (rows : Rows) (exchanges : List Exchange) (new : Rows) (code : ℕ) (q : Period) → Run office rows exchanges new → AllFit exchanges → Sound rows →
+    closed_period rows.published code ≡ Some q →
+    (settlement_answer (Some code) new ≡ settlement_answer (Some code) rows)
+    × ((agent : ℕ) → statement_answer agent (ledger_of agent new) (Some code) ≡ statement_answer agent (ledger_of agent rows) (Some code))
+    × ((airline : ℕ) → hot_answer airline (airline_ledger_of airline new) (Some code) ≡ hot_answer airline (airline_ledger_of airline rows) (Some code))
