@@ -58,7 +58,6 @@ part_verdict who a rows t =
 
 -- ---- files
 
-
 read_ok : (r : Result ℕ FieldFault) (b : ℕ) → result_ok r ≡ Some b → r ≡ Ok b
 read_ok (Ok n) b h = ap (λ (x : ℕ). Ok x) (same_Some n b h)
 read_ok (Err fault) b h = absurd (cc h)
@@ -69,7 +68,6 @@ reported_own b t rows period h reads =
     let passed = (accepted_is_passed (Agent b) t _ rows.published period).0 h in
     let own = ((agent_is_reporters (Agent b) t _).0 passed.agent).1 in
     ap agent_of own ∙ reads
-
 
 module _ (P : Rows → Type 0) (kept : IsKept P) where
   -- ---- accepted transactions

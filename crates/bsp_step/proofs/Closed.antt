@@ -1,22 +1,14 @@
 -- A closed period stays as it is.
-use Rattle.std.proofs.Common.{◌≡◌, ℕ, ◌==◌, ◌&&◌, not, Bool, true, false, cond, List, [], ◌∷◌, Option, Some, None, IfSome, is_some, option_map, Result, Ok, Err, refl, sym, ap, subst, ◌∙◌, Ordering}
+use Rattle.std.proofs.Common.{◌≡◌, ℕ, ◌==◌, ◌&&◌, not, Bool, true, false, cond, List, [], ◌∷◌, Option, Some, None, IfSome, is_some, option_map, refl, sym, ap, subst, ◌∙◌, Ordering}
 use Rattle.std.specs.Cmp.{IsTotalOrder}
 use Rattle.std.specs.FinMap.{FinMap, IsAntisymmetric, get, insert, get-insert, same_map}
-use Rattle.std.specs.List.{Contains, find}
+use Rattle.std.specs.List.{Contains}
 use Rattle.std.specs.Ordering.{eq_by_cmp}
-use Rattle.std.specs.Str.{bytes_eq}
 use Rattle.std.proofs.lemmas.Slice.Eq.{bytes_eq-Decides}
 use Rattle.std.proofs.lemmas.Bool.{and_from, and_parts, both_ways, eqb-true}
 use Rattle.bsp_fields.specs.CivilDay.{CivilDay}
-use Rattle.bsp_fields.specs.Decimal.{number_of}
-use Rattle.bsp_calendar.specs.History.{Request as PlanRequest, outcome}
-use Rattle.bsp_calendar.specs.History.Request.{Close}
-use Rattle.bsp_calendar.specs.Published.{IsTarget, Published, closed_period, is_closed, period_of, target_of}
-use Rattle.bsp_calendar.specs.SoundPlan.{Grows, IsSoundPlan}
+use Rattle.bsp_calendar.specs.Published.{IsTarget, Published, is_closed, period_of, target_of}
 use Rattle.bsp_calendar.specs.declared.entries.Period.{Period}
-use Rattle.bsp_calendar.specs.declared.entries.Terms.{Terms}
-use Rattle.bsp_calendar.specs.declared.fault.PlanFault.{PlanFault}
-use Rattle.bsp_calendar.proofs.GrowsLemmas.{grows_further, grows_itself, request_grows}
 use Rattle.bsp_calendar.proofs.ListedLemmas.{any_false}
 use Rattle.bsp_calendar.proofs.TargetLemmas.{in_target}
 use Rattle.bsp_ret.specs.declared.model.TransactionCode.{TransactionCode}
@@ -40,22 +32,19 @@ use Rattle.bsp_memos.proofs.KeptLemmas.{billed_unchanged}
 use Rattle.bsp_memos.proofs.StepLemmas.{billed-left_by, issue-left_by}
 use Rattle.bsp_rows.specs.declared.keys.ItemKey.{ItemKey}
 use Rattle.bsp_rows.specs.declared.keys.MemoKey.{MemoKey}
-use Rattle.bsp_rows.specs.Changes.{IsAcceptance, after_accepted, each, ended_where, facts_at, sale_key}
+use Rattle.bsp_rows.specs.Changes.{IsAcceptance, each, ended_where, facts_at, sale_key}
 use Rattle.bsp_rows.specs.Part.{kept}
-use Rattle.bsp_rows.specs.Rows.{Rows, agent_items, item_cmp, key_of, memo_cmp, memo_key}
+use Rattle.bsp_rows.specs.Rows.{Rows, agent_items, item_cmp, key_of, memo_key}
 use Rattle.bsp_rows.specs.Sound.{Sound}
-use Rattle.bsp_rows.specs.Writes.{changed, ended, plan_left}
+use Rattle.bsp_rows.specs.Writes.{changed, ended}
 use Rattle.bsp_rows.proofs.ClearedLemmas.{IsCleared, cleared}
 use Rattle.bsp_rows.proofs.KeptLemmas.{accepted_free}
-use Rattle.bsp_rows.proofs.KeyOrders.{item_exact, item_total, memo_exact, memo_total}
+use Rattle.bsp_rows.proofs.KeyOrders.{item_exact, item_total}
 use Rattle.bsp_rows.proofs.MapLemmas.{same_key}
 use Rattle.bsp_rows.proofs.NumberLemmas.{one_number}
 use Rattle.bsp_rows.proofs.PartLemmas.{changed_none, each_get, kept_changed, kept_get, passing}
 use Rattle.bsp_rows.proofs.RowLemmas.{among_items}
-use Rattle.bsp_step.specs.Laws.{items_in, memos_in}
 use Rattle.bsp_step.specs.Ledger.{ended_in, review_of, taken}
-use Rattle.bsp_step.proofs.Invariant.{IsKept, sound_is_kept}
-use Rattle.bsp_step.proofs.SeenLemmas.{taken_is}
 
 -- ---- maps
 
@@ -65,7 +54,7 @@ module _ {K X : Type 0} {R : K → K → Ordering} (o : IsTotalOrder R) (exact :
   same_step test m k v h q false is = refl
 
   -- what passes at a key is as it was
-  kept_same : (test : K × X → Bool) (m : FinMap R X) (k : K) (v : X) → passing test k (Some v) ≡ passing test k (get m k) → kept test (insert m k v) ≡ kept test m
+  pub kept_same : (test : K × X → Bool) (m : FinMap R X) (k : K) (v : X) → passing test k (Some v) ≡ passing test k (get m k) → kept test (insert m k v) ≡ kept test m
   kept_same test m k v h = same_map o exact _ _ (λ q.
       kept_get o exact test (insert m k v) q ∙ (ap (passing test q) (get-insert o m k v q) ∙ (same_step test m k v h q (eq_by_cmp R q k) refl ∙ sym (kept_get o exact test m q))))
 
@@ -74,13 +63,13 @@ module _ {K X : Type 0} {R : K → K → Ordering} (o : IsTotalOrder R) (exact :
   each_step test f h q (Some v) = h q v
 
   -- what passes is not changed
-  kept_each_same : (test : K × X → Bool) (f : X → X) (m : FinMap R X) → ((k : K) (v : X) → passing test k (Some (f v)) ≡ passing test k (Some v)) → kept test (each f m) ≡ kept test m
+  pub kept_each_same : (test : K × X → Bool) (f : X → X) (m : FinMap R X) → ((k : K) (v : X) → passing test k (Some (f v)) ≡ passing test k (Some v)) → kept test (each f m) ≡ kept test m
   kept_each_same test f m h = same_map o exact _ _ (λ q.
       kept_get o exact test (each f m) q ∙ (ap (passing test q) (each_get o exact f m q) ∙ (each_step test f h q (get m q) ∙ sym (kept_get o exact test m q))))
 
 -- ---- periods that differ
 
-other_period : (p : Published) (a b : ℕ) → is_closed p a ≡ false → is_closed p b ≡ true → (c : Bool) → (a == b) ≡ c → (a == b) ≡ false
+pub other_period : (p : Published) (a b : ℕ) → is_closed p a ≡ false → is_closed p b ≡ true → (c : Bool) → (a == b) ≡ c → (a == b) ≡ false
 other_period p a b unshut shut true is = absurd (both_ways (is_closed p b) (ap (is_closed p) (sym (eqb-true a b is)) ∙ unshut) shut)
 other_period p a b unshut shut false is = is
 
@@ -141,7 +130,7 @@ module _ (who : Reporter) (rows : Rows) (item : Item) (s : Sound rows) (a : IsAc
   items_are_by false = refl
 
   -- the items of the closed period are as they were
-  accepted_beside : kept in_code (taken item rows.items) ≡ kept in_code rows.items
+  pub accepted_beside : kept in_code (taken item rows.items) ≡ kept in_code rows.items
   accepted_beside =
       let free : get (ended_in item rows.items) (key_of item) ≡ None = ap (λ (m : FinMap item_cmp Item). get m (key_of item)) (sym (items_are_by (is_canx item))) ∙ accepted_free who rows item s a in
       kept_same item_total item_exact in_code (ended_in item rows.items) (key_of item) item
@@ -159,7 +148,7 @@ unbilled code None h = refl
 unbilled code (Some n) h = absurd (cc h)
 
 -- a close of another period changes no memo billed in this one
-close_beside : (code other review : ℕ) (day : CivilDay) → (other == code) ≡ false → (k : MemoKey) (m : MemoFields) → passing (λ e. is_billed_in code e.1) k (Some (after_event review (Closed other day) m)) ≡ passing (λ e. is_billed_in code e.1) k (Some m)
+pub close_beside : (code other review : ℕ) (day : CivilDay) → (other == code) ≡ false → (k : MemoKey) (m : MemoFields) → passing (λ e. is_billed_in code e.1) k (Some (after_event review (Closed other day) m)) ≡ passing (λ e. is_billed_in code e.1) k (Some m)
 close_beside code other review day apart k m = by (admits m day review) refl where
   by : (b : Bool) → admits m day review ≡ b → passing (λ e. is_billed_in code e.1) k (Some (cond b (billed_in other m) m)) ≡ passing (λ e. is_billed_in code e.1) k (Some m)
   by true h =
@@ -172,14 +161,17 @@ billed_some code None h = absurd (cc h)
 billed_some code (Some n) h = refl
 
 -- an action changes no billed memo
-action_beside : (rows : Rows) (memo : MemoFields) (action : Action) (code : ℕ) → Sound rows → get rows.memos (memo_key memo) ≡ Some memo → let f = after_action (review_of rows.published.terms) action rows.published.day in passing (λ e. is_billed_in code e.1) (memo_key memo) (Some (f memo)) ≡ passing (λ e. is_billed_in code e.1) (memo_key memo) (Some memo)
+pub action_beside : (rows : Rows) (memo : MemoFields) (action : Action) (code : ℕ) → Sound rows → get rows.memos (memo_key memo) ≡ Some memo → let f = after_action (review_of rows.published.terms) action rows.published.day in passing (λ e. is_billed_in code e.1) (memo_key memo) (Some (f memo)) ≡ passing (λ e. is_billed_in code e.1) (memo_key memo) (Some memo)
 action_beside rows memo action code s there = by (is_billed_in code memo) refl where
   review : ℕ
   review = review_of rows.published.terms
+
   day : CivilDay
   day = rows.published.day
+
   left : MemoFields
   left = after_action review action day memo
+
   by : (b : Bool) → is_billed_in code memo ≡ b → passing (λ e. is_billed_in code e.1) (memo_key memo) (Some left) ≡ passing (λ e. is_billed_in code e.1) (memo_key memo) (Some memo)
   by true h =
       let fit = (s.memos.each (memo_key memo) memo there).fit in
@@ -188,7 +180,7 @@ action_beside rows memo action code s there = by (is_billed_in code memo) refl w
       let same : is_billed_in code left ≡ is_billed_in code memo = ap (is_period code) (billed-left_by (answer_to memo action day review) action memo) in
       ap (λ b. cond b (Some left) None) (same ∙ h) ∙ sym (ap (λ b. cond b (Some memo) None) h)
 
-action_key : (review : ℕ) (action : Action) (day : CivilDay) (memo : MemoFields) → memo_key (after_action review action day memo) ≡ memo_key memo
+pub action_key : (review : ℕ) (action : Action) (day : CivilDay) (memo : MemoFields) → memo_key (after_action review action day memo) ≡ memo_key memo
 action_key review action day memo =
     let issue = issue-left_by (answer_to memo action day review) action memo in
     (λ i. record { airline = issue.airline i; document = issue.document i })

@@ -1,10 +1,8 @@
 -- What a call is read as fits: each transaction of its file is a group.
-use Rattle.std.proofs.Common.{◌≡◌, ℕ, List, [], ◌∷◌, suc, Result, Ok, Err, sym, subst}
+use Rattle.std.proofs.Common.{ℕ, List, [], ◌∷◌, suc, Ok, Err, sym, subst}
 use Rattle.bsp_ret.specs.Writing.{HaveContents}
-use Rattle.bsp_ret.specs.declared.model.RetFault.{RetFault}
 use Rattle.bsp_ret.specs.declared.transactions.Transaction.{Transaction}
 use Rattle.bsp_ret.proofs.ContentMakes.{content_makes}
-use Rattle.bsp_routes.specs.declared.asking.Asking.{Asking}
 use Rattle.bsp_routes.specs.declared.asking.Asking.TheVariants as asking
 use Rattle.bsp_routes.specs.declared.call.Call.TheVariants as call
 use Rattle.bsp_routes.specs.declared.call.OfficeCall.{OfficeCall}
@@ -12,7 +10,7 @@ use Rattle.bsp_routes.specs.declared.call.OfficeCall.TheVariants as office
 use Rattle.bsp_routes.specs.declared.call.AgentCall.{AgentCall}
 use Rattle.bsp_routes.specs.declared.call.AgentCall.TheVariants as agent
 use Rattle.bsp_step.specs.Laws.{ReadRequestsFit}
-use Rattle.bsp_step.specs.Requests.{Asked, AgentRequest, FileRead, IsAgentRequest, IsFileOf, IsOfficeRequest, OfficeRequest}
+use Rattle.bsp_step.specs.Requests.{AgentRequest, FileRead, IsAgentRequest, IsFileOf, IsOfficeRequest, OfficeRequest}
 use Rattle.bsp_step.specs.Requests.Asked.{ByAgent, ByOffice}
 use Rattle.bsp_step.specs.Step.{AreGroups, Fits, HasGroups}
 

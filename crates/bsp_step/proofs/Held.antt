@@ -1,17 +1,13 @@
 -- What is accepted stays, its repetition is held, and its number has one owner.
-use Rattle.std.proofs.Common.{◌≡◌, ℕ, ◌≢◌, Bool, true, false, cond, List, [], ◌∷◌, Option, Some, None, is_some, option_map, All, refl, sym, ap, subst, ◌∙◌, ◌⊎◌, inl, inr}
-use Rattle.std.specs.List.{Contains}
+use Rattle.std.proofs.Common.{◌≡◌, ℕ, ◌≢◌, true, List, [], ◌∷◌, Option, Some, None, is_some, option_map, refl, sym, ap, subst, ◌∙◌, inl, inr}
 use Rattle.std.specs.Result.{result_ok}
 use Rattle.std.specs.FinMap.{FinMap, get}
 use Rattle.std.proofs.lemmas.List.Elements.{All-contains}
 use Rattle.bsp_fields.specs.Decimal.{fixed_digits}
-use Rattle.bsp_fields.specs.Codes.{agent_reading}
 use Rattle.bsp_ret.specs.declared.transactions.Transaction.{Transaction}
 use Rattle.bsp_rules.specs.FactsOf.{facts_in}
 use Rattle.bsp_rules.specs.Rows.{IsHeld, held_period, is_canx}
-use Rattle.bsp_rules.specs.Verdicts.{verdict_on}
 use Rattle.bsp_rules.specs.Meanings.{IsReporterOf}
-use Rattle.bsp_rules.specs.declared.facts.Facts.{Facts}
 use Rattle.bsp_rules.specs.declared.rows.Item.{Item}
 use Rattle.bsp_rules.specs.declared.verdict.Reporter.{Reporter}
 use Rattle.bsp_rules.specs.declared.verdict.Reporter.TheVariants.{Office, Agent}
@@ -21,10 +17,10 @@ use Rattle.bsp_rules.proofs.MeaningLemmas.{agent_is_reporters, held_is_found}
 use Rattle.bsp_rules.proofs.SameContentLemmas.{held_is}
 use Rattle.bsp_rows.specs.declared.keys.ItemKey.{ItemKey}
 use Rattle.bsp_rows.specs.declared.keys.RangeKey.{RangeKey}
-use Rattle.bsp_rows.specs.Changes.{IsAcceptance, after_accepted, ended_where, facts_at, sale_key}
+use Rattle.bsp_rows.specs.Changes.{IsAcceptance, after_accepted, facts_at, sale_key}
 use Rattle.bsp_rows.specs.Rows.{Rows, agent_items, agent_token, item_cmp, key_of}
 use Rattle.bsp_rows.specs.Sound.{HasNumber, Sound}
-use Rattle.bsp_rows.proofs.KeptLemmas.{accepted_free, accepted_sound}
+use Rattle.bsp_rows.proofs.KeptLemmas.{accepted_free}
 use Rattle.bsp_rows.proofs.KeyOrders.{item_exact, item_total}
 use Rattle.bsp_rows.proofs.MapLemmas.{get_written, same_Some}
 use Rattle.bsp_rows.proofs.RowLemmas.{among_items, item_among}
@@ -32,7 +28,6 @@ use Rattle.bsp_rows.proofs.TakenLemmas.{ends, fate, left, mid_at, taken}
 use Rattle.bsp_step.specs.Laws.{FilesAreTaken, HasAccepted, IsAcceptedIn, IsHeldIn, NumbersHaveOneOwner, RepeatsAreHeld}
 use Rattle.bsp_step.specs.Ledger.{Ledger, agent_of, ledger_of, new_item, own_verdict, own_verdicts}
 use Rattle.bsp_step.specs.Step.{AreGroups, bearer, joined, office_verdict, office_verdict_for, office_verdicts, reporter, rows_filed, rows_judged}
-use Rattle.bsp_step.specs.View.{Exchange}
 use Rattle.bsp_step.proofs.ChangeLemmas.{office_file_keeps, office_judged_keeps, own_file_keeps, own_judged_keeps, part_verdict}
 use Rattle.bsp_step.proofs.Invariant.{IsKept, sound_is_kept}
 use Rattle.bsp_step.proofs.Runs.{run_keeps}
@@ -152,7 +147,7 @@ module _ (agent : ℕ) (t : Transaction) (period : ℕ) where
       let next : Rows = rows_judged (reporter (Some agent)) u v rows in (
         (λ same. ap (own_verdict (Agent agent) (ledger_of agent rows)) same ∙ own_held_one rows h),
         subst (λ (l : Ledger). IsHeldIn t period us (own_verdicts agent l us)) (judged_own agent u v rows)
-        (own_held us next (own_judged_keeps (Has agent t period) kept agent u rows (reads rows h) h groups.0 v refl) groups.1),
+            (own_held us next (own_judged_keeps (Has agent t period) kept agent u rows (reads rows h) h groups.0 v refl) groups.1),
       )
 
   -- ---- what a file has accepted

@@ -1,5 +1,5 @@
 -- What holds of rows and is kept by each change of a desk: a request keeps it, and so does a run.
-use Rattle.std.proofs.Common.{◌≡◌, ℕ, ◌<◌, ◌≤◌, Bool, false, true, ℤ, List, Some, IsSome, Ok}
+use Rattle.std.proofs.Common.{◌≡◌, ℕ, ◌<◌, ◌≤◌, false, true, ℤ, List, Some, IsSome, Ok}
 use Rattle.bsp_calendar.specs.History.{Request as PlanRequest}
 use Rattle.bsp_calendar.specs.Published.{Published, is_closed}
 use Rattle.bsp_calendar.specs.Requests.{closing}

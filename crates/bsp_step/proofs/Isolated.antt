@@ -7,7 +7,8 @@ use Rattle.bsp_rules.specs.declared.verdict.Verdict.TheVariants as verdict
 use Rattle.bsp_memos.specs.Steps.Action.{Uphold, Reduce, Withdraw}
 use Rattle.bsp_rows.specs.Rows.{Rows, agent_token}
 use Rattle.bsp_step.specs.Ledger.{Ledger, ledger_of, ledger_answer}
-use Rattle.bsp_step.specs.Step.{is_token, answer_of, to_agent, rows_after}
+use Rattle.bsp_step.specs.Laws.{AirlineIsAnsweredByLedger}
+use Rattle.bsp_step.specs.Step.{to_airline, is_token, answer_of, to_agent, rows_after}
 use Rattle.bsp_step.specs.View.{Sight, ledger_after, ledger_all, sights, answered_sights, office_sights, filed_sights, reported_in, reported_one, airline_sights, of_airline, is_agent, is_own, reply_sights, view, answer_to_sight, ledger_answers, told_one, told_reply, told, IsAnswered, rows_replied, Run}
 use Rattle.bsp_step.specs.View.Sight.{Own, Reported, Registered, Allotted, Withdrew, Issued, Acted}
 use Rattle.bsp_step.proofs.SeenLemmas.{all_append}
@@ -43,6 +44,11 @@ own_answer office a rows token code call h = own_read a token rows call (agent_o
 pub other_forbidden : (office : List ℕ) (a : ℕ) (rows : Rows) (token : Option (List ℕ)) (code : List ℕ) (call : AgentRequest) → agent_of code ≡ Some a → is_token (ledger_of a rows).own.token token ≡ false → answer_of office rows (record { token = token; asked = ByAgent code call }) ≡ (Refused Forbidden)
 other_forbidden office a rows token code call reads h =
     ap (λ r. to_agent r token call rows) reads ∙ ap (λ c. cond c (ledger_answer a (ledger_of a rows) call) (Refused Forbidden)) h
+
+-- ---- an airline's request is answered by its ledger
+
+pub airline_own : AirlineIsAnsweredByLedger
+airline_own office c rows token code call reads = ap (λ r. to_airline r token call rows) reads
 
 -- ---- what is answered to sights
 

@@ -12,3 +12,5 @@ pub mod TextLemmas
 pub mod Held
 pub mod FitLemmas
 pub mod Closed
+pub mod ClosedKept
+pub mod Reports

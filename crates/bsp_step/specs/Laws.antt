@@ -1,6 +1,7 @@
 -- What holds of every request, of every run, and of what one agent is answered.
-use Rattle.std.specs.Prelude.{◌≡◌, ◌⊎◌, ℕ, ◌==◌, true, false, List, [], ◌∷◌, Option, Some}
+use Rattle.std.specs.Prelude.{◌≡◌, ◌⊎◌, ℕ, ◌==◌, true, false, List, [], ◌∷◌, Option, Some, if◌then◌else◌}
 use Rattle.bsp_routes.specs.declared.asking.Asking.{Asking}
+use Rattle.bsp_messages.specs.Values.{airline_in}
 use Rattle.bsp_messages.specs.declared.refusal.RequestRefusal.TheVariants.{Forbidden}
 use Rattle.bsp_ret.specs.declared.transactions.Transaction.{Transaction}
 use Rattle.bsp_rules.specs.declared.rows.Item.{Item}
@@ -13,14 +14,14 @@ use Rattle.bsp_memos.specs.Owed.{is_billed_in}
 use Rattle.bsp_memos.specs.declared.fields.MemoFields.{MemoFields}
 use Rattle.bsp_rows.specs.Part.{kept}
 use Rattle.bsp_rows.specs.Rows.{Rows, item_at, item_cmp, memo_cmp}
-use Rattle.bsp_step.specs.AirlineLedger.{airline_ledger_of, hot_answer}
+use Rattle.bsp_step.specs.AirlineLedger.{airline_answer, airline_ledger_of, hot_answer}
 use Rattle.bsp_rows.specs.declared.keys.ItemKey.{ItemKey}
 use Rattle.bsp_rows.specs.Sound.{Sound}
 use Rattle.bsp_step.specs.Answers.{Answer, is_done, verdicts_in}
 use Rattle.bsp_step.specs.Answers.Answer.{Refused}
 use Rattle.bsp_step.specs.Ledger.{agent_of, ledger_answer, ledger_of, own_verdicts, statement_answer}
-use Rattle.bsp_step.specs.Requests.{AgentRequest, Asked, IsAsked, Request}
-use Rattle.bsp_step.specs.Requests.Asked.{ByAgent}
+use Rattle.bsp_step.specs.Requests.{AgentRequest, AirlineRequest, Asked, IsAsked, Request}
+use Rattle.bsp_step.specs.Requests.Asked.{ByAgent, ByAirline}
 use Rattle.bsp_step.specs.Step.{AreGroups, Fits, answer_of, bearer, is_token, office_verdicts, reporter, rows_after, rows_filed, settlement_answer}
 use Rattle.bsp_step.specs.View.{AllFit, Exchange, Run, is_own, ledger_all, ledger_answers, sights, told, view}
 
@@ -60,6 +61,14 @@ LedgerIsOfSights =
     (office : List ℕ) (agent : ℕ) (rows : Rows) (request : Request) →
     let answer = answer_of office rows request in
     ledger_of agent (rows_after rows request answer) ≡ ledger_all agent (ledger_of agent rows) (sights agent (ledger_of agent rows) request answer)
+
+-- ---- an airline: one request
+
+abbrev pub AirlineIsAnsweredByLedger : Type 0
+AirlineIsAnsweredByLedger =
+    (office : List ℕ) (airline : ℕ) (rows : Rows) (token : Option (List ℕ)) (code : List ℕ) (call : AirlineRequest) → airline_in code ≡ Some airline →
+    answer_of office rows (record { token = token; asked = ByAirline code call })
+    ≡ (if is_token (airline_ledger_of airline rows).own.token token then airline_answer airline (airline_ledger_of airline rows) call else Refused Forbidden)
 
 -- ---- whole runs
 

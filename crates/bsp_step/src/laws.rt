@@ -1,6 +1,6 @@
 //! Laws of requests and their answers.
 
-ghost use Rattle.bsp_step.specs.Laws.{AgentIsIsolated, AgentsAreAlike, FilesAreTaken, LedgerIsOfSights, NumbersHaveOneOwner, OthersAreForbidden, OwnIsAnsweredByLedger, ReadRequestsFit, RefusalsChangeNothing, RepeatsAreHeld, RunIsSound, StepIsSound};
+ghost use Rattle.bsp_step.specs.Laws.{AgentIsIsolated, AgentsAreAlike, AirlineIsAnsweredByLedger, ClosedPeriodsStay, FilesAreTaken, LedgerIsOfSights, NumbersHaveOneOwner, OthersAreForbidden, OwnIsAnsweredByLedger, ReadRequestsFit, RefusalsChangeNothing, RepeatsAreHeld, ReportsStay, RunIsSound, StepIsSound};
 ghost use Rattle.bsp_step.specs.Texts.{AnswersAreOneText};
 
 /// Any request keeps sound rows sound, whatever it is answered, and so does any run of requests; and an
@@ -41,4 +41,17 @@ pub fn repeats_are_held()
 /// In sound rows the accepted transactions of a document number are of one agent.
 pub fn numbers_have_one_owner()
     ensures { NumbersHaveOneOwner }
+{}
+
+/// An airline's requests are answered by its own rows, the codes of the registered agents and the plan; one
+/// with another token is forbidden.
+pub fn airline_answers()
+    ensures { AirlineIsAnsweredByLedger }
+{}
+
+/// A closed period stays as it is over any run of requests: its days, its items and the memos billed in it;
+/// and so do the settlement, each agent's statement and each airline's HOT file of it.
+pub fn closed_periods_stay()
+    ensures rows { ClosedPeriodsStay }
+    ensures reports { ReportsStay }
 {}

@@ -7,5 +7,6 @@
 mod laws;
 
 pub use laws::{
-    agent_isolation, answers_are_one_text, numbers_have_one_owner, repeats_are_held, steps_are_sound,
+    agent_isolation, airline_answers, answers_are_one_text, closed_periods_stay,
+    numbers_have_one_owner, repeats_are_held, steps_are_sound,
 };
