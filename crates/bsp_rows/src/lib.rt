@@ -2,10 +2,18 @@
 //! rules that sound rows meet.
 #![tactic(auto)]
 
+mod audit;
+mod demands;
+mod item_rules;
 mod keys;
 mod laws;
+mod limits;
 mod questions;
+mod rules;
+#[cfg(test)]
+mod tests;
 
+pub use audit::are_sound;
 pub use keys::{ItemKey, MemoKey, RangeKey, TallyKey};
-pub use laws::{facts_from_rows, sound_is_kept};
+pub use laws::{facts_from_rows, parts_are_enough, sound_is_kept, tallies_are_sums};
 pub use questions::{Items, Memos, Tallies};
