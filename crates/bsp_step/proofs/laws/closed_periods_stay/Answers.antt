@@ -1,0 +1,9 @@
+use Rattle.bsp_step.proofs.ClosedKept.{closed_stays}
+use Rattle.bsp_step.proofs.Reports.{reports_stay}
+use Rattle.bsp_step.proofs.laws.closed_periods_stay.Goals as goal
+
+pub returns-clause-rows : goal.returns-clause-rows
+returns-clause-rows c = closed_stays
+
+pub returns-clause-reports : goal.returns-clause-reports
+returns-clause-reports c = reports_stay

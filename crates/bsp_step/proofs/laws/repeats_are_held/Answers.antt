@@ -1,0 +1,8 @@
+use Rattle.bsp_step.proofs.Held.{files_are_taken, repeats_are_held}
+use Rattle.bsp_step.proofs.laws.repeats_are_held.Goals as goal
+
+pub returns-clause-taken : goal.returns-clause-taken
+returns-clause-taken c = files_are_taken
+
+pub returns-clause-held : goal.returns-clause-held
+returns-clause-held c = repeats_are_held

@@ -1,0 +1,165 @@
+-- What holds of every request, of every run, and of what one agent is answered.
+use Rattle.std.specs.Prelude.{◌≡◌, ◌⊎◌, ℕ, ◌==◌, true, false, List, [], ◌∷◌, Option, Some, if◌then◌else◌}
+use Rattle.bsp_routes.specs.declared.asking.Asking.{Asking}
+use Rattle.bsp_messages.specs.Values.{airline_in}
+use Rattle.bsp_messages.specs.declared.refusal.RequestRefusal.TheVariants.{Forbidden}
+use Rattle.bsp_ret_records.specs.declared.transactions.Transaction.{Transaction}
+use Rattle.bsp_rules.specs.declared.rows.Item.{Item}
+use Rattle.bsp_rules.specs.declared.verdict.Verdict.{Verdict}
+use Rattle.bsp_rules.specs.declared.verdict.Verdict.TheVariants as verdict
+use Rattle.std.specs.FinMap.{FinMap}
+use Rattle.bsp_calendar.specs.Published.{closed_period}
+use Rattle.bsp_calendar.specs.declared.entries.Period.{Period}
+use Rattle.bsp_memos.specs.Owed.{is_billed_in}
+use Rattle.bsp_memos.specs.declared.fields.MemoFields.{MemoFields}
+use Rattle.bsp_rows.specs.Part.{kept}
+use Rattle.bsp_rows.specs.Rows.{Rows, item_at, item_cmp, memo_cmp}
+use Rattle.bsp_step.specs.AirlineLedger.{airline_answer, airline_ledger_of, hot_answer}
+use Rattle.bsp_rows.specs.declared.keys.ItemKey.{ItemKey}
+use Rattle.bsp_rows.specs.Sound.{Sound}
+use Rattle.bsp_step.specs.Answers.{Answer, is_done, verdicts_in}
+use Rattle.bsp_step.specs.Answers.Answer.{Refused}
+use Rattle.bsp_step.specs.Ledger.{agent_of, ledger_answer, ledger_of, own_verdicts, statement_answer}
+use Rattle.bsp_step.specs.Requests.{AgentRequest, AirlineRequest, Asked, IsAsked, Request}
+use Rattle.bsp_step.specs.Requests.Asked.{ByAgent, ByAirline}
+use Rattle.bsp_step.specs.Step.{AreGroups, Fits, answer_of, bearer, is_token, office_verdicts, reporter, rows_after, rows_filed, settlement_answer}
+use Rattle.bsp_step.specs.View.{AllFit, Exchange, Run, is_own, ledger_all, ledger_answers, sights, told, view}
+
+-- ---- one request
+
+-- what a call and the bytes of its body are read as: each transaction of its file is a group of the RET format
+abbrev pub ReadRequestsFit : Type 0
+ReadRequestsFit = (asking : Asking (List ℕ)) (body : List ℕ) (asked : Asked) → IsAsked asking body asked → Fits asked
+
+-- sound rows stay sound
+abbrev pub StepIsSound : Type 0
+StepIsSound = (office : List ℕ) (rows : Rows) (request : Request) → Sound rows → Fits request.asked → Sound (rows_after rows request (answer_of office rows request))
+
+-- an answer that is neither a done change nor a list of verdicts leaves the rows as they are
+abbrev pub RefusalsChangeNothing : Type 0
+RefusalsChangeNothing = (rows : Rows) (request : Request) (answer : Answer) → is_done answer ≡ false → verdicts_in answer ≡ [] → rows_after rows request answer ≡ rows
+
+-- ---- an agent: one request
+
+-- its own request is answered by its ledger alone
+abbrev pub OwnIsAnsweredByLedger : Type 0
+OwnIsAnsweredByLedger =
+    (office : List ℕ) (agent : ℕ) (rows : Rows) (token : Option (List ℕ)) (code : List ℕ) (call : AgentRequest) →
+    is_own agent (ledger_of agent rows) token code ≡ true →
+    answer_of office rows (record { token = token; asked = ByAgent code call }) ≡ ledger_answer agent (ledger_of agent rows) call
+
+-- a request that names it with another token is forbidden
+abbrev pub OthersAreForbidden : Type 0
+OthersAreForbidden =
+    (office : List ℕ) (agent : ℕ) (rows : Rows) (token : Option (List ℕ)) (code : List ℕ) (call : AgentRequest) →
+    agent_of code ≡ Some agent → is_token (ledger_of agent rows).own.token token ≡ false →
+    answer_of office rows (record { token = token; asked = ByAgent code call }) ≡ Refused Forbidden
+
+-- what any request makes of its ledger is what it sees of the answer
+abbrev pub LedgerIsOfSights : Type 0
+LedgerIsOfSights =
+    (office : List ℕ) (agent : ℕ) (rows : Rows) (request : Request) →
+    let answer = answer_of office rows request in
+    ledger_of agent (rows_after rows request answer) ≡ ledger_all agent (ledger_of agent rows) (sights agent (ledger_of agent rows) request answer)
+
+-- ---- an airline: one request
+
+abbrev pub AirlineIsAnsweredByLedger : Type 0
+AirlineIsAnsweredByLedger =
+    (office : List ℕ) (airline : ℕ) (rows : Rows) (token : Option (List ℕ)) (code : List ℕ) (call : AirlineRequest) → airline_in code ≡ Some airline →
+    answer_of office rows (record { token = token; asked = ByAirline code call })
+    ≡ (if is_token (airline_ledger_of airline rows).own.token token then airline_answer airline (airline_ledger_of airline rows) call else Refused Forbidden)
+
+-- ---- whole runs
+
+abbrev pub RunIsSound : Type 0
+RunIsSound = (office : List ℕ) (rows : Rows) (exchanges : List Exchange) (new : Rows) → Run office rows exchanges new → AllFit exchanges → Sound rows → Sound new
+
+-- the answers to an agent are those of its ledger over its view, and so is its part of the rows in the end
+abbrev pub AgentIsIsolated : Type 0
+AgentIsIsolated =
+    (office : List ℕ) (agent : ℕ) (rows : Rows) (exchanges : List Exchange) (new : Rows) → Run office rows exchanges new →
+    let start = ledger_of agent rows in
+    (told agent start exchanges ≡ ledger_answers agent start (view agent start exchanges)) × (ledger_of agent new ≡ ledger_all agent start (view agent start exchanges))
+
+-- of two runs in which its part at the start and its view are equal, the answers to it are equal
+abbrev pub AgentsAreAlike : Type 0
+AgentsAreAlike =
+    (office other : List ℕ) (agent : ℕ) (rows rows' : Rows) (exchanges exchanges' : List Exchange) (new new' : Rows) →
+    Run office rows exchanges new → Run other rows' exchanges' new' →
+    ledger_of agent rows ≡ ledger_of agent rows' → view agent (ledger_of agent rows) exchanges ≡ view agent (ledger_of agent rows') exchanges' →
+    told agent (ledger_of agent rows) exchanges ≡ told agent (ledger_of agent rows') exchanges'
+
+-- ---- repeats
+
+-- the agent has an accepted transaction with these values, in this period
+pub record HasAccepted (rows : Rows) (agent : ℕ) (t : Transaction) (period : ℕ) : Type 0 where
+  pub key : ItemKey
+  pub own : key.agent ≡ agent
+  pub item : Item
+  pub there : item_at key rows ≡ Some item
+  pub content : item.transaction ≡ t
+  pub period_is : item.period ≡ period
+
+-- the transaction is accepted in this period at some place of a file
+abbrev pub IsAcceptedIn : Transaction → ℕ → List Transaction → List Verdict → Type 0
+IsAcceptedIn t period (u ∷ us) (v ∷ vs) = ((u ≡ t) × (v ≡ verdict.Accepted period)) ⊎ IsAcceptedIn t period us vs
+IsAcceptedIn t period _ _ = ⊥
+
+-- at each place of a file where the transaction is, it is held in this period
+abbrev pub IsHeldIn : Transaction → ℕ → List Transaction → List Verdict → Type 0
+IsHeldIn t period [] [] = Unit {0}
+IsHeldIn t period (u ∷ us) (v ∷ vs) = (u ≡ t → v ≡ verdict.Held period) × IsHeldIn t period us vs
+IsHeldIn t period _ _ = ⊥
+
+-- what an agent's file or the office's has accepted, the agent has accepted
+abbrev pub FilesAreTaken : Type 0
+FilesAreTaken =
+    (rows : Rows) (agent : ℕ) (t : Transaction) (period : ℕ) (ts : List Transaction) → Sound rows → AreGroups ts → agent_of t.agent ≡ Some agent →
+    (IsAcceptedIn t period ts (office_verdicts rows ts) → HasAccepted (rows_filed bearer ts (office_verdicts rows ts) rows) agent t period)
+    × (IsAcceptedIn t period ts (own_verdicts agent (ledger_of agent rows) ts) → HasAccepted (rows_filed (reporter (Some agent)) ts (own_verdicts agent (ledger_of agent rows) ts) rows) agent t period)
+
+-- it stays so over any run, after a CANX too, and whenever its agent or the office reports it again it is held in that period
+abbrev pub RepeatsAreHeld : Type 0
+RepeatsAreHeld =
+    (office : List ℕ) (rows : Rows) (exchanges : List Exchange) (new : Rows) (agent : ℕ) (t : Transaction) (period : ℕ) (ts : List Transaction) →
+    Run office rows exchanges new → AllFit exchanges → Sound rows → HasAccepted rows agent t period → AreGroups ts →
+    HasAccepted new agent t period × IsHeldIn t period ts (office_verdicts new ts) × IsHeldIn t period ts (own_verdicts agent (ledger_of agent new) ts)
+
+-- ---- one owner
+
+-- two accepted transactions of one document number are of one agent
+abbrev pub NumbersHaveOneOwner : Type 0
+NumbersHaveOneOwner =
+    (rows : Rows) (k l : ItemKey) (i j : Item) → Sound rows → item_at k rows ≡ Some i → item_at l rows ≡ Some j → k.number ≡ l.number → k.agent ≡ l.agent
+
+-- ---- closed periods
+
+-- the items of a period, and the memos billed in it
+abbrev pub items_in : ℕ → Rows → FinMap item_cmp Item
+items_in code rows = kept (λ e. e.1.period == code) rows.items
+
+abbrev pub memos_in : ℕ → Rows → FinMap memo_cmp MemoFields
+memos_in code rows = kept (λ e. is_billed_in code e.1) rows.memos
+
+-- a period with all that is reported of it
+pub record IsPeriodKept (code : ℕ) (old new : Rows) : Type 0 where
+  pub period : closed_period new.published code ≡ closed_period old.published code
+  pub terms : new.published.terms ≡ old.published.terms
+  pub items : items_in code new ≡ items_in code old
+  pub memos : memos_in code new ≡ memos_in code old
+
+-- a closed period stays as it is over any run
+abbrev pub ClosedPeriodsStay : Type 0
+ClosedPeriodsStay =
+    (office : List ℕ) (rows : Rows) (exchanges : List Exchange) (new : Rows) (code : ℕ) (q : Period) → Run office rows exchanges new → AllFit exchanges → Sound rows →
+    closed_period rows.published code ≡ Some q → IsPeriodKept code rows new
+
+-- and so do the settlement, each agent's statement and each airline's HOT file of it
+abbrev pub ReportsStay : Type 0
+ReportsStay =
+    (office : List ℕ) (rows : Rows) (exchanges : List Exchange) (new : Rows) (code : ℕ) (q : Period) → Run office rows exchanges new → AllFit exchanges → Sound rows →
+    closed_period rows.published code ≡ Some q →
+    (settlement_answer (Some code) new ≡ settlement_answer (Some code) rows)
+    × ((agent : ℕ) → statement_answer agent (ledger_of agent new) (Some code) ≡ statement_answer agent (ledger_of agent rows) (Some code))
+    × ((airline : ℕ) → hot_answer airline (airline_ledger_of airline new) (Some code) ≡ hot_answer airline (airline_ledger_of airline rows) (Some code))

@@ -1,0 +1,57 @@
+//! Laws of requests and their answers.
+
+ghost use Rattle.bsp_step.specs.Laws.{AgentIsIsolated, AgentsAreAlike, AirlineIsAnsweredByLedger, ClosedPeriodsStay, FilesAreTaken, LedgerIsOfSights, NumbersHaveOneOwner, OthersAreForbidden, OwnIsAnsweredByLedger, ReadRequestsFit, RefusalsChangeNothing, RepeatsAreHeld, ReportsStay, RunIsSound, StepIsSound};
+ghost use Rattle.bsp_step.specs.Texts.{AnswersAreOneText};
+
+/// Any request keeps sound rows sound, whatever it is answered, and so does any run of requests; and an
+/// answer that is neither a done change nor a list of verdicts leaves the rows as they are: so does every
+/// refusal, every change that is held, and whatever is shown. A request fits where each transaction of its
+/// file is a group of the RET format, as every request is that is read from bytes.
+pub fn steps_are_sound()
+    ensures fit { ReadRequestsFit }
+    ensures sound { StepIsSound }
+    ensures refusals { RefusalsChangeNothing }
+    ensures runs { RunIsSound }
+{}
+
+/// An agent's requests are answered by its ledger: its own rows and the plan. A request that names it with
+/// another token is forbidden. Over any run of requests of any callers its ledger is the fold of what it
+/// sees, and the answers to it are those of that ledger; so two runs in which it starts with the same and
+/// sees the same give it the same answers.
+pub fn agent_isolation()
+    ensures own { OwnIsAnsweredByLedger }
+    ensures others { OthersAreForbidden }
+    ensures seen { LedgerIsOfSights }
+    ensures isolated { AgentIsIsolated }
+    ensures alike { AgentsAreAlike }
+{}
+
+/// An answer is sent in one way: two messages of it have one status, one media type and the same bytes.
+pub fn answers_are_one_text()
+    ensures { AnswersAreOneText }
+{}
+
+/// What a file has accepted stays accepted over any run of requests, after a CANX too, and whenever its
+/// agent or the office reports it again, at any place of a file, it is held in the period of its acceptance.
+pub fn repeats_are_held()
+    ensures taken { FilesAreTaken }
+    ensures held { RepeatsAreHeld }
+{}
+
+/// In sound rows the accepted transactions of a document number are of one agent.
+pub fn numbers_have_one_owner()
+    ensures { NumbersHaveOneOwner }
+{}
+
+/// An airline's requests are answered by its own rows, the codes of the registered agents and the plan; one
+/// with another token is forbidden.
+pub fn airline_answers()
+    ensures { AirlineIsAnsweredByLedger }
+{}
+
+/// A closed period stays as it is over any run of requests: its days, its items and the memos billed in it;
+/// and so do the settlement, each agent's statement and each airline's HOT file of it.
+pub fn closed_periods_stay()
+    ensures rows { ClosedPeriodsStay }
+    ensures reports { ReportsStay }
+{}

@@ -1,0 +1,12 @@
+//! What each request is answered and what it makes of the rows: of all callers, and of one agent alone.
+//!
+//! `specs/` has the definitions: requests with their bodies read, the answer to each, and the rows after it.
+//! The functions are laws: the contract of each is the statement, and its body has nothing to do.
+#![tactic(auto)]
+
+mod laws;
+
+pub use laws::{
+    agent_isolation, airline_answers, answers_are_one_text, closed_periods_stay,
+    numbers_have_one_owner, repeats_are_held, steps_are_sound,
+};
