@@ -1,0 +1,5 @@
+-- The rows of all callers.
+pub mod Rows
+pub mod Writes
+pub mod Part
+pub mod Tallies
