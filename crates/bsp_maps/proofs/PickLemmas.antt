@@ -179,3 +179,7 @@ module _ {K V : Type 0} (R : K → K → Ordering) (o : IsTotalOrder R) (exact :
         found_among ks among q ∙ ap (wanted q) (get-entries m q)
         ∙ sym (get-from_sorted R (filter (λ e. holds e.0 e.1) (entries m)) q is_passing ∙ find_passing q (entries m) (entries_sorted m))))
         ∙ ap (map (λ e. e.1)) (entries-from_sorted R (filter (λ e. holds e.0 e.1) (entries m)) is_passing)
+
+pub all_pass : {A : Type 0} (xs : List A) → filter (λ x. true) xs ≡ xs
+all_pass [] = refl
+all_pass (x ∷ xs) = ap (λ ys. x ∷ ys) (all_pass xs)

@@ -1,0 +1,2 @@
+pub mod NumberOrder
+pub mod PlanLemmas

@@ -1,0 +1,9 @@
+//! The tables of a book in memory.
+#![tactic(auto)]
+
+mod keys;
+mod no_room;
+mod numbers;
+mod planned;
+
+pub use no_room::NoRoom;
