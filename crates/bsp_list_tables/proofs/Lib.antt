@@ -1,2 +1,5 @@
 pub mod NumberOrder
 pub mod PlanLemmas
+pub mod TallySteps
+pub mod ValueLemmas
+pub mod NumberLemmas

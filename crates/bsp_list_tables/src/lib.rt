@@ -5,5 +5,6 @@ mod keys;
 mod no_room;
 mod numbers;
 mod planned;
+mod tallies;
 
 pub use no_room::NoRoom;

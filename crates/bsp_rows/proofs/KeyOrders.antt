@@ -1,11 +1,6 @@
 -- The orders of the keys are total, and no two keys tie.
-<<<<<<< HEAD
-use Rattle.std.proofs.Common.{◌≡◌, ℕ, Bool, true, false, refl, sym, ap, ◌∙◌, Ordering, Less, Equal, Greater, nat_cmp}
-use Rattle.std.specs.Ordering.{bool_cmp, ordering_then, on, then_cmp}
-=======
 use Rattle.std.proofs.Common.{◌≡◌, Bool, true, false, refl, Ordering, Less, Equal, Greater, nat_cmp}
 use Rattle.std.specs.Ordering.{bool_cmp, ordering_then}
->>>>>>> rows
 use Rattle.std.specs.Cmp.{IsTotalOrder, nat_cmp_total, bool_cmp_total, on_total, then_total}
 use Rattle.std.specs.FinMap.{IsAntisymmetric, nat_cmp-IsAntisymmetric}
 use Rattle.bsp_rows.specs.declared.keys.RangeKey.{RangeKey}
