@@ -3,3 +3,4 @@ pub mod PlanLemmas
 pub mod TallySteps
 pub mod ValueLemmas
 pub mod NumberLemmas
+pub mod DerivedLemmas

@@ -2,3 +2,4 @@ pub mod Numbers
 pub mod Windows
 pub mod Plans
 pub mod Kept
+pub mod Tables
