@@ -4,3 +4,4 @@ pub mod TallySteps
 pub mod ValueLemmas
 pub mod NumberLemmas
 pub mod DerivedLemmas
+pub mod LookupLemmas

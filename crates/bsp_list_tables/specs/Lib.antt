@@ -3,3 +3,4 @@ pub mod Windows
 pub mod Plans
 pub mod Kept
 pub mod Tables
+pub mod Lookups

@@ -3,6 +3,7 @@
 #![tactic(auto)]
 
 mod keys;
+mod lookups;
 mod no_room;
 mod numbers;
 mod planned;
