@@ -5,3 +5,4 @@ pub mod ValueLemmas
 pub mod NumberLemmas
 pub mod DerivedLemmas
 pub mod LookupLemmas
+pub mod AskedLemmas

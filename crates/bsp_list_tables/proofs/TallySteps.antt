@@ -109,10 +109,10 @@ module _ (t : Tally) (items : List Item) (memos : List MemoFields) where
 same_number : (n : ℕ) → (n == n) ≡ true
 same_number n = grind arith
 
-own_key : (i : Item) → is_item_under (key_tally (item_tally_key i)) i ≡ true
+pub own_key : (i : Item) → is_item_under (key_tally (item_tally_key i)) i ≡ true
 own_key i = both_true (same_number i.agent) (both_true (same_number i.transaction.document.airline) (same_number i.period))
 
-key_is : (k : TallyKey) (i : Item) → is_item_under (key_tally k) i ≡ true → k ≡ item_tally_key i
+pub key_is : (k : TallyKey) (i : Item) → is_item_under (key_tally k) i ≡ true → k ≡ item_tally_key i
 key_is k i own =
     let parts = and_parts (i.agent == k.agent) _ own in
     let tail = and_parts (i.transaction.document.airline == k.airline) (i.period == k.period) parts.1 in
@@ -121,7 +121,7 @@ key_is k i own =
     let p : i.period ≡ k.period = eqb-true i.period k.period tail.1 in
     λ j. record { agent = sym a j; airline = sym c j; period = sym p j }
 
-ties : (k : TallyKey) → eq_by_cmp tally_cmp k k ≡ true
+pub ties : (k : TallyKey) → eq_by_cmp tally_cmp k k ≡ true
 ties k = ap is_eq (tied_itself tally_total k)
 
 not_own : (k : TallyKey) (i : Item) (b : Bool) → is_item_under (key_tally k) i ≡ b → eq_by_cmp tally_cmp k (item_tally_key i) ≡ false → b ≡ false
@@ -130,7 +130,7 @@ not_own k i true own apart =
     let is : eq_by_cmp tally_cmp k (item_tally_key i) ≡ true = ap (eq_by_cmp tally_cmp k) (sym (key_is k i own)) ∙ ties k in
     absurd (cc (is, apart))
 
-abbrev memo_key_of : ℕ → MemoFields → TallyKey
+abbrev pub memo_key_of : ℕ → MemoFields → TallyKey
 memo_key_of period m = record { agent = m.agent; airline = m.airline; period = period }
 
 module _ (m : MemoFields) where
@@ -141,10 +141,10 @@ module _ (m : MemoFields) where
       subst (λ (k : TallyKey). is_memo_under (key_tally k) m ≡ true) same
       (both_true (same_number m.agent) (both_true (same_number m.airline) (ap (is_period period) is ∙ same_number period)))
 
-  own_memo_key : (key : TallyKey) → memo_tally_key m ≡ Some key → is_memo_under (key_tally key) m ≡ true
+  pub own_memo_key : (key : TallyKey) → memo_tally_key m ≡ Some key → is_memo_under (key_tally key) m ≡ true
   own_memo_key key has = key_billed key m.billed refl has
 
-  billed_key : (k key : TallyKey) (billed : Option ℕ) → m.billed ≡ billed → option_map (λ period. memo_key_of period m) billed ≡ Some key → is_memo_under (key_tally k) m ≡ true → k ≡ key
+  pub billed_key : (k key : TallyKey) (billed : Option ℕ) → m.billed ≡ billed → option_map (λ period. memo_key_of period m) billed ≡ Some key → is_memo_under (key_tally k) m ≡ true → k ≡ key
   billed_key k key None is has own = let f : None ≡ Some key = has in absurd (cc)
   billed_key k key (Some period) is has own =
       let parts = and_parts (m.agent == k.agent) _ own in

@@ -1,14 +1,17 @@
 //! Look-ups in the tables.
 
-ghost use Rattle.std.specs.Prelude.{◌≡◌, IfOk};
+ghost use Rattle.std.specs.Prelude.{◌≡◌, ◌==◌, IfOk};
+ghost use Rattle.std.specs.FinMap.{entries};
+ghost use Rattle.bsp_maps.specs.Undo.{content};
+ghost use Rattle.bsp_maps.specs.Windows.{entries_in};
 ghost use Rattle.std.specs.List.{filter};
 ghost use Rattle.bsp_memos.specs.Owed.{is_billed_in};
 ghost use Rattle.bsp_rows.specs.Rows.{agent_items, agent_token, airline_memos, airline_token, has_meeting, is_in, is_of_airline, is_unbilled, is_used_in, items_bearing, items_of, memo_at, memos_of, ranges_of, registered};
-ghost use Rattle.bsp_rows.specs.Tallies.{tally_of};
-ghost use Rattle.bsp_list_tables.specs.Lookups.{is_meeting, present_ranges};
+ghost use Rattle.bsp_rows.specs.Tallies.{is_tally_asked, tallies_of, tally_cmp, tally_of};
+ghost use Rattle.bsp_list_tables.specs.Lookups.{asked_tallies, is_asked, is_meeting, present_ranges};
 ghost use Rattle.bsp_list_tables.specs.Tables.{IsDerived, rows_of};
 
-use crate::keys::{ItemsOf, ItemsWithin, MemosOf, RangesOf};
+use crate::keys::{ItemsOf, ItemsWithin, MemosOf, RangesOf, TalliesOf};
 use crate::numbers::{Bearing, keys_bearing};
 use crate::tables::Tables;
 use crate::tallies::tally_at;
@@ -17,7 +20,7 @@ use bsp_maps::{Every, Rule, Test};
 use bsp_memos::Memo;
 use bsp_postings::Tally;
 use bsp_ret::Transaction;
-use bsp_rows::{ItemKey, Items, MemoKey, Memos, RangeKey, TallyKey};
+use bsp_rows::{ItemKey, Items, MemoKey, Memos, RangeKey, Tallies, TallyKey};
 use bsp_rules::{Item, Range};
 use std::alloc::{AllocError, Global};
 
@@ -112,6 +115,48 @@ fn present_ranges(
     for (key, last) in entries {
         if let Some(last) = last {
             found.push(key.up_to(*last))?;
+        }
+    }
+    Ok(found)
+}
+
+/// Whether a key is asked for.
+fn is_tally_asked(which: &Tallies, key: &TallyKey) -> bool
+    ensures { result ≡ is_tally_asked which.now key.now }
+{
+    match *which {
+        Tallies::OfAgent(agent) => key.agent == agent,
+        Tallies::OfAgentIn(agent, period) => key.agent == agent && key.period == period,
+        Tallies::OfAirlineIn(airline, period) => key.airline == airline && key.period == period,
+        Tallies::In(period) => key.period == period,
+    }
+}
+
+/// Tallies that are asked for, and to which some row adds.
+#[derive(Clone, Copy)]
+struct AskedTallies(Tallies);
+
+impl Rule<TallyKey, Tally> for AskedTallies {
+    ghost holds = { λ rule key tally. is_asked rule.0 key tally };
+
+    fn holds(&self, key: &TallyKey, tally: &Tally) -> bool {
+        is_tally_asked(&self.0, key) && (tally.accepted > 0 || tally.memo_count > 0)
+    }
+}
+
+/// The tallies that are asked for, of these entries.
+fn asked_tallies(
+    alloc: Global,
+    entries: &[(TallyKey, Tally)],
+    which: &Tallies,
+) -> Result<Vec<Tally>, AllocError>
+    ensures { IfOk result (λ found. found.items ≡ asked_tallies which.now entries.now) }
+{
+    let rule = AskedTallies(*which);
+    let mut found = Vec::new(alloc);
+    for (key, tally) in entries {
+        if rule.holds(key, tally) {
+            found.push(*tally)?;
         }
     }
     Ok(found)
@@ -241,5 +286,38 @@ impl Tables {
         ensures { IsDerived self.now → result ≡ tally_of key.now (rows_of self.now) }
     {
         tally_at(&self.tallies, key)
+    }
+
+    /// The tallies that are asked for, of those of an agent. It reads that agent's alone.
+    fn agent_tallies(
+        &self,
+        alloc: Global,
+        agent: AgentCode,
+        which: &Tallies,
+    ) -> Result<Vec<Tally>, AllocError>
+        ensures { IfOk result (λ found. found.items ≡ asked_tallies which.now (entries_in (λ key. key.agent == agent) (entries (content tally_cmp self.now.tallies)))) }
+    {
+        let entries = self.tallies.entries_in(alloc, &TalliesOf(agent))?;
+        asked_tallies(alloc, &entries, which)
+    }
+
+    /// The tallies that are asked for. It reads all tallies.
+    fn all_tallies(&self, alloc: Global, which: &Tallies) -> Result<Vec<Tally>, AllocError>
+        ensures { IfOk result (λ found. found.items ≡ asked_tallies which.now (entries (content tally_cmp self.now.tallies))) }
+    {
+        self.tallies.holding(alloc, &AskedTallies(*which))
+    }
+
+    /// The tallies that are asked for and to which some row adds, in the order of their keys. It reads those of
+    /// the agent alone, or for an airline or a period all tallies.
+    pub fn tallies(&self, alloc: Global, which: &Tallies) -> Result<Vec<Tally>, AllocError>
+        ensures { IfOk result (λ found. IsDerived self.now → found.items ≡ tallies_of which.now (rows_of self.now)) }
+    {
+        match *which {
+            Tallies::OfAgent(agent) => self.agent_tallies(alloc, agent, which),
+            Tallies::OfAgentIn(agent, _) => self.agent_tallies(alloc, agent, which),
+            Tallies::OfAirlineIn(_, _) => self.all_tallies(alloc, which),
+            Tallies::In(_) => self.all_tallies(alloc, which),
+        }
     }
 }
