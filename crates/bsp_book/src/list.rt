@@ -116,7 +116,11 @@ impl Book for ListBook {
         Ok(self.tables.is_range_used(agent, &range))
     }
 
-    fn items_bearing(&mut self, agent: AgentCode, transaction: &Transaction) -> Result<Vec<Item>, BookFault> {
+    fn items_bearing(
+        &mut self,
+        agent: AgentCode,
+        transaction: &Transaction,
+    ) -> Result<Vec<Item>, BookFault> {
         match self.tables.items_bearing(self.alloc, agent, transaction) {
             Ok(found) => Ok(found),
             Err(_) => Err(self.undo()),
