@@ -1,5 +1,5 @@
 -- What an accepting verdict says of the rows, by their keys.
-use Rattle.std.proofs.Common.{◌≡◌, ℕ, ◌+◌, ◌<◌, ◌==◌, Bool, true, false, not, ◌&&◌, ◌||◌, cond, List, [], ◌∷◌, map, count_by, Option, Some, None, is_some, is_none, IsSome, option_map, Ok, refl, sym, ap, subst, ◌∙◌, arith, inl, inr, nat_le}
+use Rattle.std.proofs.Common.{◌≡◌, ℕ, ◌+◌, ◌<◌, ◌==◌, Bool, true, false, not, ◌&&◌, ◌||◌, cond, List, [], ◌∷◌, map, count_by, Option, Some, None, is_some, is_none, IsSome, option_map, Ok, refl, sym, ap, subst, ◌∙◌, arith, nat_le}
 use Rattle.std.specs.List.{Contains, filter, list_any}
 use Rattle.std.specs.Str.{all_ascii_digits, bytes_eq}
 use Rattle.std.specs.FinMap.{get, entries}
@@ -10,7 +10,6 @@ use Rattle.bsp_fields.specs.Codes.{document_reading}
 use Rattle.bsp_fields.specs.Decimal.{number_of}
 use Rattle.bsp_calendar.specs.DayOrder.{is_up_to}
 use Rattle.bsp_calendar.specs.Published.{Published, target_of}
-use Rattle.bsp_calendar.proofs.ListLemmas.{contains_head, contains_tail, contains_cases, contains_none}
 use Rattle.bsp_calendar.proofs.ListedLemmas.{contains_any, any_false}
 use Rattle.bsp_calendar.proofs.DayLemmas.{not_before, up_to_from}
 use Rattle.bsp_fields.specs.Days.{day_number}
@@ -34,7 +33,7 @@ use Rattle.bsp_rows.specs.Sound.{IsInStock, AreSoundItems, ticket_key, is_counte
 use Rattle.bsp_rules.specs.Meanings.{IsPassed, ends_tickets}
 use Rattle.bsp_rules.proofs.MeaningLemmas.{tickets_live, canx_free}
 use Rattle.bsp_calendar.proofs.ListLemmas.{find_contains}
-use Rattle.bsp_rows.proofs.RowLemmas.{among_items, item_among, range_among}
+use Rattle.bsp_rows.proofs.RowLemmas.{mapped, among_items, item_among, range_among}
 use Rattle.bsp_rows.proofs.NumberLemmas.{one_number}
 use Rattle.bsp_rows.proofs.GroupLemmas.{own_reads, unrelated}
 
@@ -45,14 +44,6 @@ same_bytes xs ys h = (bytes_eq-Decides xs ys).0 h
 
 bytes_same : (xs ys : List ℕ) → xs ≡ ys → bytes_eq xs ys ≡ true
 bytes_same xs ys h = (bytes_eq-Decides xs ys).1 h
-
-mapped : {A B : Type 0} (f : A → B) (xs : List A) (x : A) → Contains xs x → Contains (map f xs) (f x)
-mapped f [] x h = contains_none x h
-mapped f (y ∷ ys) x h =
-    elim (contains_cases y ys x h) [
-      | inl here ↦ subst (λ z. Contains (f y ∷ map f ys) (f z)) here (contains_head (f y) (map f ys))
-      | inr there ↦ contains_tail (f y) (map f ys) (f x) (mapped f ys x there)
-    ]
 
 canx_code : (code : TransactionCode) → same_code code Canx ≡ true → code ≡ Canx
 canx_code Tktt h = absurd (cc h)

@@ -45,7 +45,7 @@ facts_counted registered ranges items t p n is =
 one_step : (k : TallyKey) (e : ItemKey × Item) → e.0.agent ≡ e.1.agent → is_item_under (key_tally k) e.1 ≡ is_counted k.agent k.airline k.period e
 one_step k e same = ap (λ (a : ℕ). (a == k.agent) && counts k.airline k.period e.1) (sym same)
 
-count_under : (k : TallyKey) (es : List (ItemKey × Item)) → ((e : ItemKey × Item) → Contains es e → e.0.agent ≡ e.1.agent) → count_by (is_item_under (key_tally k)) (map (λ e. e.1) es) ≡ count_by (is_counted k.agent k.airline k.period) es
+pub count_under : (k : TallyKey) (es : List (ItemKey × Item)) → ((e : ItemKey × Item) → Contains es e → e.0.agent ≡ e.1.agent) → count_by (is_item_under (key_tally k)) (map (λ e. e.1) es) ≡ count_by (is_counted k.agent k.airline k.period) es
 count_under k [] own = refl
 count_under k (e ∷ es) own =
     sum_by-cons (λ (i : Item). cond (is_item_under (key_tally k) i) 1 0) e.1 (map (λ x. x.1) es)

@@ -37,7 +37,7 @@ fits true false amounts card parts h = absurd (cc h)
 fits false related amounts card parts h = absurd (cc h)
 
 -- its places of related documents, and its parts, are those of a group
-group_fits : (t : Transaction) → is_group_values t ≡ true → (are_related t.related ≡ true) × (has_parts t.code (is_some (related_of t)) (is_some t.amounts) (is_some t.cash) (is_some t.credit) (is_some t.exchange) ≡ true)
+pub group_fits : (t : Transaction) → is_group_values t ≡ true → (are_related t.related ≡ true) × (has_parts t.code (is_some (related_of t)) (is_some t.amounts) (is_some t.cash) (is_some t.credit) (is_some t.exchange) ≡ true)
 unfolding is_group_values
 group_fits t h = fits _ (are_related t.related) (none_or are_amounts t.amounts) (none_or is_card t.credit) _ h
 

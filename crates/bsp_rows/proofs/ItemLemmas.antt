@@ -44,7 +44,7 @@ named_place : (number : List ℕ) (place : Option ReportedDocument) → names_nu
 named_place number None h = absurd (cc h)
 named_place number (Some d) h = (d, refl, (bytes_eq-Decides d.number number).0 h)
 
-named : (number : List ℕ) (t : Transaction) → names number t ≡ true → (d : ReportedDocument) × Contains t.related (Some d) × (d.number ≡ number)
+pub named : (number : List ℕ) (t : Transaction) → names number t ≡ true → (d : ReportedDocument) × Contains t.related (Some d) × (d.number ≡ number)
 named number t h =
     let (place, in', is) = contains_any (names_number number) t.related h in
     let (d, e, same) = named_place number place is in

@@ -16,7 +16,7 @@ range_total = then_total (on_total (λ (k : RangeKey). k.agent) nat_cmp_total) (
 pub item_total : IsTotalOrder item_cmp
 item_total = then_total (on_total (λ (k : ItemKey). k.agent) nat_cmp_total) (then_total (on_total (λ (k : ItemKey). k.number) nat_cmp_total) (on_total (λ (k : ItemKey). k.is_canx) bool_cmp_total))
 
-then_equal : (a b : Ordering) → ordering_then a b ≡ Equal → (a ≡ Equal) × (b ≡ Equal)
+pub then_equal : (a b : Ordering) → ordering_then a b ≡ Equal → (a ≡ Equal) × (b ≡ Equal)
 then_equal Less b e = absurd (cc)
 then_equal Equal b e = (refl, e)
 then_equal Greater b e = absurd (cc)

@@ -12,3 +12,11 @@ pub mod StockLemmas
 pub mod PartLemmas
 pub mod CountLemmas
 pub mod KeptLemmas
+pub mod DemandLemmas
+pub mod ItemRuleLemmas
+pub mod PlanRuleLemmas
+pub mod AuditSteps
+pub mod CountTies
+pub mod RangeTies
+pub mod ItemTies
+pub mod MemoTies

@@ -1,5 +1,5 @@
 -- What is looked up in lists, by keys.
-use Rattle.std.proofs.Common.{◌≡◌, ℕ, ◌==◌, Bool, false, List, [], ◌∷◌, map, Some, ap, ◌∙◌, inl, inr}
+use Rattle.std.proofs.Common.{◌≡◌, ℕ, ◌==◌, Bool, false, List, [], ◌∷◌, map, Some, ap, subst, ◌∙◌, inl, inr}
 use Rattle.std.specs.List.{Contains, filter, list_any}
 use Rattle.std.specs.FinMap.{get, entries}
 use Rattle.std.proofs.lemmas.Bool.{eqb-true, eq-eqb}
@@ -13,6 +13,14 @@ use Rattle.bsp_rows.specs.declared.keys.ItemKey.{ItemKey}
 use Rattle.bsp_rows.specs.Rows.{Rows, agent_items, ranges_of, range_of}
 use Rattle.bsp_rows.proofs.KeyOrders.{item_total, item_exact, range_total, range_exact}
 use Rattle.bsp_rows.proofs.MapLemmas.{get_entry, entry_get}
+
+pub mapped : {A B : Type 0} (f : A → B) (xs : List A) (x : A) → Contains xs x → Contains (map f xs) (f x)
+mapped f [] x h = contains_none x h
+mapped f (y ∷ ys) x h =
+    elim (contains_cases y ys x h) [
+      | inl here ↦ subst (λ z. Contains (f y ∷ map f ys) (f z)) here (contains_head (f y) (map f ys))
+      | inr there ↦ contains_tail (f y) (map f ys) (f x) (mapped f ys x there)
+    ]
 
 pub contains_map : {A B : Type 0} (f : A → B) (xs : List A) (y : B) → Contains (map f xs) y → (x : A) × Contains xs x × (f x ≡ y)
 contains_map f [] y h = contains_none y h

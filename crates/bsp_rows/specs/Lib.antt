@@ -6,3 +6,4 @@ pub mod Tallies
 pub mod Sound
 pub mod Changes
 pub mod Laws
+pub mod Audit

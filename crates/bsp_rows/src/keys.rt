@@ -11,7 +11,7 @@ use bsp_ret::TransactionCode;
 use bsp_rules::{Item, Range};
 
 /// The key of a range: its agent and its first number.
-#[derive(Clone, Copy, Debug, PartialEq, Eq, PartialOrd, Ord)]
+#[derive(Clone, Copy, Debug, PartialEq, Eq, PartialOrd, Ord, Drop)]
 pub struct RangeKey {
     /// The agent whose stock it is.
     pub agent: AgentCode,
@@ -21,7 +21,7 @@ pub struct RangeKey {
 
 /// The key of an item: its agent, its number, and whether it is a CANX. So an agent has at most one TKTT
 /// or RFND and at most one CANX of a number, and the CANX comes second in order.
-#[derive(Clone, Copy, Debug, PartialEq, Eq, PartialOrd, Ord)]
+#[derive(Clone, Copy, Debug, PartialEq, Eq, PartialOrd, Ord, Drop)]
 pub struct ItemKey {
     /// The agent that it bears.
     pub agent: AgentCode,
@@ -32,7 +32,7 @@ pub struct ItemKey {
 }
 
 /// The key of a memo: its airline and its document number.
-#[derive(Clone, Copy, Debug, PartialEq, Eq, PartialOrd, Ord)]
+#[derive(Clone, Copy, Debug, PartialEq, Eq, PartialOrd, Ord, Drop)]
 pub struct MemoKey {
     /// The airline that issued it.
     pub airline: AirlineCode,
@@ -41,7 +41,7 @@ pub struct MemoKey {
 }
 
 /// The key of a tally: its agent, its airline and its period.
-#[derive(Clone, Copy, Debug, PartialEq, Eq, PartialOrd, Ord)]
+#[derive(Clone, Copy, Debug, PartialEq, Eq, PartialOrd, Ord, Drop)]
 pub struct TallyKey {
     /// The agent.
     pub agent: AgentCode,
@@ -52,7 +52,7 @@ pub struct TallyKey {
 }
 
 /// Whether an item is a CANX.
-fn is_canx(item: &Item) -> bool
+pub(crate) fn is_canx(item: &Item) -> bool
     ensures { result ≡ is_canx item.now }
 {
     item.transaction.code == TransactionCode::Canx

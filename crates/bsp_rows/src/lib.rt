@@ -2,10 +2,16 @@
 //! rules that sound rows meet.
 #![tactic(auto)]
 
+mod audit;
+mod demands;
+mod item_rules;
 mod keys;
 mod laws;
+mod limits;
 mod questions;
+mod rules;
 
+pub use audit::are_sound;
 pub use keys::{ItemKey, MemoKey, RangeKey, TallyKey};
 pub use laws::{facts_from_rows, sound_is_kept};
 pub use questions::{Items, Memos, Tallies};
