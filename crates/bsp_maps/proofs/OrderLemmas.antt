@@ -15,7 +15,7 @@ no_length : {A : Type 0} (es : List A) → length es ≡ 0 → es ≡ []
 no_length [] e = refl
 no_length (x ∷ es) e = absurd (omega arith)
 
-no_entries : {K X : Type 0} (R : K → K → Ordering) → entries (from_entries {X = X} {R = R} []) ≡ []
+pub no_entries : {K X : Type 0} (R : K → K → Ordering) → entries (from_entries {X = X} {R = R} []) ≡ []
 no_entries {K} {X} R = no_length _ (sym (len-entries (empty {X = X} {R = R})) ∙ len-empty R X)
 
 -- sorted entries are the map's

@@ -83,7 +83,7 @@ module _ {K V : Type 0} (R : K → K → Ordering) (o : IsTotalOrder R) where
         | false ↦ rest
       ]
 
-  sorted_filter : (p : K × V → Bool) (es : List (K × V)) → T (is_sorted R es) → T (is_sorted R (filter p es))
+  pub sorted_filter : (p : K × V → Bool) (es : List (K × V)) → T (is_sorted R es) → T (is_sorted R (filter p es))
   sorted_filter p [] h = tt
   sorted_filter p (e ∷ es) h =
       let rest = sorted_filter p es (second (below_all R e.0 es) (is_sorted R es) h) in
@@ -100,7 +100,7 @@ module _ {K V : Type 0} (R : K → K → Ordering) (o : IsTotalOrder R) where
       ap (λ r. cond (is_eq r) (Some e.1) (find R q es)) l ∙ none_behind q x es tie (second (is_lt (R x e.0)) (below_all R x es) up)
 
 module _ {K V : Type 0} (R : K → K → Ordering) (o : IsTotalOrder R) (exact : IsAntisymmetric R) (holds : K → V → Bool) where
-  abbrev wanted : K → Option V → Option V
+  abbrev pub wanted : K → Option V → Option V
   wanted k None = None
   wanted k (Some v) = cond (holds k v) (Some v) None
 
@@ -118,7 +118,7 @@ module _ {K V : Type 0} (R : K → K → Ordering) (o : IsTotalOrder R) (exact :
   step q e es false true b h up rest = ap (λ t. cond t (Some e.1) (find R q (filter (λ e. holds e.0 e.1) es))) b ∙ rest
   step q e es false false b h up rest = rest
 
-  find_passing : (q : K) (es : List (K × V)) → T (is_sorted R es) → find R q (filter (λ e. holds e.0 e.1) es) ≡ wanted q (find R q es)
+  pub find_passing : (q : K) (es : List (K × V)) → T (is_sorted R es) → find R q (filter (λ e. holds e.0 e.1) es) ≡ wanted q (find R q es)
   find_passing q [] up = refl
   find_passing q (e ∷ es) up = step q e es (eq_by_cmp R q e.0) (holds e.0 e.1) refl refl (first (below_all R e.0 es) (is_sorted R es) up) (find_passing q es (second (below_all R e.0 es) (is_sorted R es) up))
 
@@ -179,3 +179,7 @@ module _ {K V : Type 0} (R : K → K → Ordering) (o : IsTotalOrder R) (exact :
         found_among ks among q ∙ ap (wanted q) (get-entries m q)
         ∙ sym (get-from_sorted R (filter (λ e. holds e.0 e.1) (entries m)) q is_passing ∙ find_passing q (entries m) (entries_sorted m))))
         ∙ ap (map (λ e. e.1)) (entries-from_sorted R (filter (λ e. holds e.0 e.1) (entries m)) is_passing)
+
+pub all_pass : {A : Type 0} (xs : List A) → filter (λ x. true) xs ≡ xs
+all_pass [] = refl
+all_pass (x ∷ xs) = ap (λ ys. x ∷ ys) (all_pass xs)

@@ -1,11 +1,14 @@
 -- What a map that may have no value at a key has at it.
 use Rattle.std.proofs.Common.{◌≡◌, Bool, true, false, cond, ◌&&◌, List, [], ◌∷◌, refl, sym, ap, ◌∙◌, Ordering, Less, Equal, Greater, Option, Some, None}
 use Rattle.std.specs.Prelude.{T}
-use Rattle.std.specs.List.{filter_map}
+use Rattle.std.specs.List.{AllByRecursion, filter_map}
+use Rattle.std.specs.List.Sorted.{IsStrictlySortedBy}
+use Rattle.std.specs.Map.{keys_of}
 use Rattle.std.specs.Ordering.{is_eq, is_lt, eq_by_cmp}
 use Rattle.std.specs.Cmp.{IsTotalOrder}
 use Rattle.std.specs.FinMap.{FinMap, IsAntisymmetric, get, insert, remove, empty, entries, entries_sorted, get-insert, get-remove, get-empty, get-from_entries, get-entries, same_map, find}
 use Rattle.std.specs.FinMap.Entries.{is_sorted, below_all}
+use Rattle.bsp_maps.proofs.OrderLemmas.{in_order}
 use Rattle.bsp_maps.specs.Present.{present, present_entry, flat}
 
 first : (a b : Bool) → T (a && b) → T a
@@ -65,3 +68,32 @@ module _ {K V : Type 0} {R : K → K → Ordering} (o : IsTotalOrder R) where
 
 pub no_present : {K V : Type 0} (R : K → K → Ordering) → IsTotalOrder R → IsAntisymmetric R → present (empty {X = Option V} {R = R}) ≡ empty
 no_present R o exact = same_map o exact _ _ (λ q. get-present o empty q ∙ ap flat (get-empty R q) ∙ sym (get-empty R q))
+
+-- ---- the entries that have a value
+
+both : (a b : Bool) → T a → T b → T (a && b)
+both true b p q = q
+both false b p q = p
+
+module _ {K V : Type 0} (R : K → K → Ordering) where
+  below_present : (x : K) (es : List (K × Option V)) → T (below_all R x es) → T (below_all R x (filter_map present_entry es))
+  below_present x [] up = tt
+  below_present x ((k, None) ∷ es) up = below_present x es (second (is_lt (R x k)) (below_all R x es) up)
+  below_present x ((k, Some v) ∷ es) up = both (is_lt (R x k)) (below_all R x (filter_map present_entry es)) (first (is_lt (R x k)) (below_all R x es) up) (below_present x es (second (is_lt (R x k)) (below_all R x es) up))
+
+  sorted_present : (es : List (K × Option V)) → T (is_sorted R es) → T (is_sorted R (filter_map present_entry es))
+  sorted_present [] up = tt
+  sorted_present ((k, None) ∷ es) up = sorted_present es (second (below_all R k es) (is_sorted R es) up)
+  sorted_present ((k, Some v) ∷ es) up = both (below_all R k (filter_map present_entry es)) (is_sorted R (filter_map present_entry es)) (below_present k es (first (below_all R k es) (is_sorted R es) up)) (sorted_present es (second (below_all R k es) (is_sorted R es) up))
+
+  all_below : (x : K) (es : List (K × V)) → T (below_all R x es) → AllByRecursion (λ y. R x y ≡ Less) (keys_of es)
+  all_below x [] up = tt
+  all_below x (e ∷ es) up = (less (R x e.0) (first (is_lt (R x e.0)) (below_all R x es) up), all_below x es (second (is_lt (R x e.0)) (below_all R x es) up))
+
+  strictly : (es : List (K × V)) → T (is_sorted R es) → IsStrictlySortedBy R (keys_of es)
+  unfolding IsStrictlySortedBy
+  strictly [] up = tt
+  strictly (e ∷ es) up = (all_below e.0 es (first (below_all R e.0 es) (is_sorted R es) up), strictly es (second (below_all R e.0 es) (is_sorted R es) up))
+
+pub entries-present : {K V : Type 0} {R : K → K → Ordering} → IsTotalOrder R → (m : FinMap R (Option V)) → entries (present m) ≡ filter_map present_entry (entries m)
+entries-present {K} {V} {R} o m = in_order o (filter_map present_entry (entries m)) (strictly R (filter_map present_entry (entries m)) (sorted_present R (entries m) (entries_sorted m)))

@@ -1,6 +1,6 @@
 //! Look-ups in a logged map, as functions of its content.
 
-ghost use Rattle.std.specs.Prelude.{◌≡◌, IfOk};
+ghost use Rattle.std.specs.Prelude.{◌≡◌, IfOk, map};
 ghost use Rattle.std.specs.List.{filter, list_any};
 ghost use Rattle.std.specs.FinMap.{IsAntisymmetric, empty, entries, keys, values};
 ghost use Rattle.bsp_maps.specs.Undo.{content};
@@ -9,7 +9,7 @@ ghost use Rattle.bsp_maps.specs.Windows.{entries_in, values_in};
 
 use crate::logged::Logged;
 use crate::picks;
-use crate::rules::{Rule, Test};
+use crate::rules::{self, Rule, Test};
 use crate::windows::{self, Window};
 use std::alloc::{AllocError, Global};
 
@@ -73,5 +73,19 @@ impl<K: Ord + Copy + Drop, V: Copy + Drop> Logged<K, V> {
         ensures { result ≡ list_any (λ e. W.has window.now e.0) (entries (content K.cmp self.now)) }
     {
         windows::has_any(self.map(), window)
+    }
+
+    /// The values of the entries of which a rule holds, in the order of their keys. It reads all of them.
+    pub fn holding<T: Rule<K, V>>(&self, alloc: Global, rule: &T) -> Result<Vec<V>, AllocError>
+        ensures { IfOk result (λ found. found.items ≡ map (λ e. e.1) (filter (λ e. T.holds rule.now e.0 e.1) (entries (content K.cmp self.now)))) }
+    {
+        picks::holding(alloc, self.map(), rule)
+    }
+
+    /// Whether a rule holds of some entry. It reads the entries up to the first.
+    pub fn any_holds<T: Rule<K, V>>(&self, rule: &T) -> bool
+        ensures { result ≡ list_any (λ e. T.holds rule.now e.0 e.1) (entries (content K.cmp self.now)) }
+    {
+        rules::any_holds(self.map(), rule)
     }
 }

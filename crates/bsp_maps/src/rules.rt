@@ -2,7 +2,8 @@
 
 ghost use Rattle.std.specs.Prelude.{◌≡◌, true, Some};
 ghost use Rattle.std.specs.Bool.{Decides};
-ghost use Rattle.std.specs.BTreeMap.{get};
+ghost use Rattle.std.specs.BTreeMap.{IsOrdered, get};
+ghost use Rattle.std.specs.List.{list_any};
 ghost use Rattle.std.specs.FinMap.{IsAntisymmetric};
 
 use std::collections::BTreeMap;
@@ -39,6 +40,23 @@ impl<V> Test<V> for Every {
     fn passes(&self, _value: &V) -> bool {
         true
     }
+}
+
+/// Whether a rule holds of some entry. It reads the entries up to the first.
+pub fn any_holds<K: Ord + Copy + Drop, V: Copy + Drop, T: Rule<K, V>>(
+    entries: &BTreeMap<K, V>,
+    rule: &T,
+) -> bool
+    ensures ordered { IsOrdered K.cmp entries.now }
+    ensures found { result ≡ list_any (λ e. T.holds rule.now e.0 e.1) entries.now.entries }
+{
+    let _count = entries.len();
+    for (key, value) in entries {
+        if rule.holds(key, value) {
+            return true;
+        }
+    }
+    false
 }
 
 /// Whether a rule holds of each entry.

@@ -23,7 +23,7 @@ use Rattle.bsp_postings.proofs.Permutations.{IsPermutation-filter, postings_perm
 -- ---- one posting more
 
 -- the rows with one more, in some order
-abbrev IsMore : Posting → List Posting → List Posting → Type 0
+abbrev pub IsMore : Posting → List Posting → List Posting → Type 0
 IsMore p rows more = IsPermutation more (p ∷ rows)
 
 sums_more : (f : Posting → ℤ) (p : Posting) (rows more : List Posting) (z : ℤ) → IsMore p rows more → z ≡ sums f rows → z +ℤ f p ≡ sums f more
@@ -50,15 +50,15 @@ module _ (i : Item) (items : List Item) (memos : List MemoFields) (t : Tally) wh
   counted_postings : (b : Bool) → is_counted t.period i ≡ b → item_postings t.period (i ∷ items) ++ later ≡ map item_posting (cond b (i ∷ filter (is_counted t.period) items) (filter (is_counted t.period) items)) ++ later
   counted_postings b is = ap (λ (c : Bool). map item_posting (cond c (i ∷ filter (is_counted t.period) items) (filter (is_counted t.period) items)) ++ later) is
 
-  uncounted : is_counted t.period i ≡ false → under (i ∷ items) memos t ≡ under items memos t
+  pub uncounted : is_counted t.period i ≡ false → under (i ∷ items) memos t ≡ under items memos t
   uncounted is = ap (λ (rows : List Posting). filter (is_under t) rows) (counted_postings false is)
 
-  posted : (b : Bool) → is_counted t.period i ≡ true → is_under t (item_posting i) ≡ b → under (i ∷ items) memos t ≡ cond b (item_posting i ∷ under items memos t) (under items memos t)
+  pub posted : (b : Bool) → is_counted t.period i ≡ true → is_under t (item_posting i) ≡ b → under (i ∷ items) memos t ≡ cond b (item_posting i ∷ under items memos t) (under items memos t)
   posted b counted is =
       ap (λ (rows : List Posting). filter (is_under t) rows) (counted_postings true counted)
       ∙ ap (λ (c : Bool). cond c (item_posting i ∷ under items memos t) (under items memos t)) is
 
-  taken : (b : Bool) → is_item_under t i ≡ b → items_under (i ∷ items) t ≡ cond b (i ∷ items_under items t) (items_under items t)
+  pub taken : (b : Bool) → is_item_under t i ≡ b → items_under (i ∷ items) t ≡ cond b (i ∷ items_under items t) (items_under items t)
   taken b is = ap (λ (c : Bool). cond c (i ∷ items_under items t) (items_under items t)) is
 
   other_postings : is_item_under t i ≡ false → under (i ∷ items) memos t ≡ under items memos t
@@ -156,17 +156,17 @@ module _ (m : MemoFields) (items : List Item) (memos : List MemoFields) (t : Tal
   billed_postings : (b : Bool) → is_billed_in t.period m ≡ b → postings t.period items (m ∷ memos) ≡ first ++ map memo_posting (cond b (m ∷ filter (is_billed_in t.period) memos) (filter (is_billed_in t.period) memos))
   billed_postings b is = ap (λ (c : Bool). first ++ map memo_posting (cond c (m ∷ filter (is_billed_in t.period) memos) (filter (is_billed_in t.period) memos))) is
 
-  unbilled : is_billed_in t.period m ≡ false → under items (m ∷ memos) t ≡ under items memos t
+  pub unbilled : is_billed_in t.period m ≡ false → under items (m ∷ memos) t ≡ under items memos t
   unbilled is = ap (λ (rows : List Posting). filter (is_under t) rows) (billed_postings false is)
 
   -- the postings of the tally, the memo's in its place
-  billed : (b : Bool) → is_billed_in t.period m ≡ true → is_under t (memo_posting m) ≡ b → under items (m ∷ memos) t ≡ filter (is_under t) first ++ cond b (memo_posting m ∷ filter (is_under t) (memo_postings t.period memos)) (filter (is_under t) (memo_postings t.period memos))
+  pub billed : (b : Bool) → is_billed_in t.period m ≡ true → is_under t (memo_posting m) ≡ b → under items (m ∷ memos) t ≡ filter (is_under t) first ++ cond b (memo_posting m ∷ filter (is_under t) (memo_postings t.period memos)) (filter (is_under t) (memo_postings t.period memos))
   billed b in_period is =
       ap (λ (rows : List Posting). filter (is_under t) rows) (billed_postings true in_period)
       ∙ filter-append (is_under t) first (memo_posting m ∷ memo_postings t.period memos)
       ∙ ap (λ (c : Bool). filter (is_under t) first ++ cond c (memo_posting m ∷ filter (is_under t) (memo_postings t.period memos)) (filter (is_under t) (memo_postings t.period memos))) is
 
-  in_two : under items memos t ≡ filter (is_under t) first ++ filter (is_under t) (memo_postings t.period memos)
+  pub in_two : under items memos t ≡ filter (is_under t) first ++ filter (is_under t) (memo_postings t.period memos)
   in_two = filter-append (is_under t) first (memo_postings t.period memos)
 
   other_billed : is_memo_under t m ≡ false → under items (m ∷ memos) t ≡ under items memos t

@@ -6,12 +6,13 @@
 
 mod law;
 mod posting;
+mod removal;
 mod rows;
 mod tally;
 #[cfg(test)]
 mod tests;
 
-pub use law::{tallies_grow, two_sides};
+pub use law::{tallies_grow, tallies_shrink, two_sides};
 pub use posting::Posting;
 pub use rows::{is_counted, postings_of};
 pub use tally::{Tally, tally_postings};

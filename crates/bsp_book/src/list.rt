@@ -1,0 +1,242 @@
+//! A book in memory.
+
+ghost use Rattle.std.specs.Prelude.{◌≡◌, None};
+ghost use Rattle.bsp_rows.specs.Rows.{no_rows};
+ghost use Rattle.bsp_book.specs.Listed.{IsUndone, meaning};
+
+use crate::book::Book;
+use crate::fault::BookFault;
+use bsp_calendar::{Plan, PlanFault, PlanText};
+use bsp_fields::{AgentCode, AirlineCode, Change, Day, PeriodCode, Token};
+use bsp_list_tables::Tables;
+use bsp_memos::Memo;
+use bsp_postings::Tally;
+use bsp_ret_records::Transaction;
+use bsp_rows::{ItemKey, Items, MemoKey, Memos, Tallies, TallyKey};
+use bsp_rules::{Item, Range};
+use std::alloc::Global;
+
+/// A book in memory. It never answers `Failed`.
+///
+/// It keeps an index of the items by their numbers, and the tallies. `meets_range`, the items of an airline,
+/// the memos of an agent, the unbilled memos and the tallies of an airline or of a period are found by reading
+/// all ranges, items, memos or tallies.
+#[derive(Drop)]
+pub struct ListBook {
+    alloc: Global,
+    tables: Tables,
+    is_open: bool,
+}
+
+impl ListBook {
+    /// An empty book: no rows, and nothing is published. No transaction is open.
+    pub fn new(alloc: Global) -> Self
+        ensures { meaning.holds result no_rows None }
+    {
+        ListBook {
+            alloc,
+            tables: Tables::new(alloc),
+            is_open: false,
+        }
+    }
+
+    /// Undoes what the open transaction wrote, for want of room.
+    fn undo(&mut self) -> BookFault
+        ensures fault { result ≡ BookFault.NoRoom }
+        ensures undone { IsUndone self.old self.new }
+    {
+        self.tables.roll_back();
+        self.is_open = false;
+        BookFault::NoRoom
+    }
+}
+
+impl Book for ListBook {
+    ghost means = { meaning };
+
+    ghost settled = { λ book now begun is. tt };
+
+    ghost wider = { λ book a b is. tt };
+
+    fn has_failed(&self) -> bool {
+        false
+    }
+
+    fn is_open(&self) -> bool {
+        self.is_open
+    }
+
+    fn plan(&self) -> &Plan {
+        self.tables.plan()
+    }
+
+    fn begin(&mut self) -> Result<(), BookFault> {
+        self.is_open = true;
+        Ok(())
+    }
+
+    fn commit(&mut self) -> Result<(), BookFault> {
+        self.tables.commit();
+        self.is_open = false;
+        Ok(())
+    }
+
+    fn roll_back(&mut self) -> Result<(), BookFault> {
+        let _ = self.undo();
+        Ok(())
+    }
+
+    fn agent_token(&mut self, agent: AgentCode) -> Result<Option<Token>, BookFault> {
+        Ok(self.tables.agent_token(agent))
+    }
+
+    fn airline_token(&mut self, airline: AirlineCode) -> Result<Option<Token>, BookFault> {
+        Ok(self.tables.airline_token(airline))
+    }
+
+    fn agents(&mut self) -> Result<Vec<AgentCode>, BookFault> {
+        match self.tables.agents(self.alloc) {
+            Ok(found) => Ok(found),
+            Err(_) => Err(self.undo()),
+        }
+    }
+
+    fn ranges(&mut self, agent: AgentCode) -> Result<Vec<Range>, BookFault> {
+        match self.tables.ranges(self.alloc, agent) {
+            Ok(found) => Ok(found),
+            Err(_) => Err(self.undo()),
+        }
+    }
+
+    fn meets_range(&mut self, range: Range) -> Result<bool, BookFault> {
+        Ok(self.tables.meets_range(&range))
+    }
+
+    fn is_range_used(&mut self, agent: AgentCode, range: Range) -> Result<bool, BookFault> {
+        Ok(self.tables.is_range_used(agent, &range))
+    }
+
+    fn items_bearing(
+        &mut self,
+        agent: AgentCode,
+        transaction: &Transaction,
+    ) -> Result<Vec<Item>, BookFault> {
+        match self.tables.items_bearing(self.alloc, agent, transaction) {
+            Ok(found) => Ok(found),
+            Err(_) => Err(self.undo()),
+        }
+    }
+
+    fn items(&mut self, which: Items) -> Result<Vec<Item>, BookFault> {
+        match self.tables.items(self.alloc, &which) {
+            Ok(found) => Ok(found),
+            Err(_) => Err(self.undo()),
+        }
+    }
+
+    fn memo(&mut self, key: MemoKey) -> Result<Option<Memo>, BookFault> {
+        Ok(self.tables.memo(key))
+    }
+
+    fn memos(&mut self, which: Memos) -> Result<Vec<Memo>, BookFault> {
+        match self.tables.memos(self.alloc, &which) {
+            Ok(found) => Ok(found),
+            Err(_) => Err(self.undo()),
+        }
+    }
+
+    fn tally(&mut self, key: TallyKey) -> Result<Tally, BookFault> {
+        Ok(self.tables.tally(&key))
+    }
+
+    fn tallies(&mut self, which: Tallies) -> Result<Vec<Tally>, BookFault> {
+        match self.tables.tallies(self.alloc, &which) {
+            Ok(found) => Ok(found),
+            Err(_) => Err(self.undo()),
+        }
+    }
+
+    fn set_agent_token(&mut self, agent: AgentCode, token: Token) -> Result<(), BookFault> {
+        match self.tables.set_agent_token(agent, token) {
+            Ok(()) => Ok(()),
+            Err(_) => Err(self.undo()),
+        }
+    }
+
+    fn set_airline_token(&mut self, airline: AirlineCode, token: Token) -> Result<(), BookFault> {
+        match self.tables.set_airline_token(airline, token) {
+            Ok(()) => Ok(()),
+            Err(_) => Err(self.undo()),
+        }
+    }
+
+    fn add_range(&mut self, agent: AgentCode, range: Range) -> Result<(), BookFault> {
+        match self.tables.add_range(agent, &range) {
+            Ok(()) => Ok(()),
+            Err(_) => Err(self.undo()),
+        }
+    }
+
+    fn withdraw_range(&mut self, agent: AgentCode, range: Range) -> Result<(), BookFault> {
+        match self.tables.withdraw_range(agent, &range) {
+            Ok(()) => Ok(()),
+            Err(_) => Err(self.undo()),
+        }
+    }
+
+    fn add_item(&mut self, item: &Item) -> Result<(), BookFault> {
+        match self.tables.add_item(item) {
+            Ok(()) => Ok(()),
+            Err(_) => Err(self.undo()),
+        }
+    }
+
+    fn end_item(&mut self, key: ItemKey) -> Result<(), BookFault> {
+        match self.tables.end_item(key) {
+            Ok(()) => Ok(()),
+            Err(_) => Err(self.undo()),
+        }
+    }
+
+    fn add_memo(&mut self, memo: &Memo) -> Result<(), BookFault> {
+        match self.tables.put_memo(memo) {
+            Ok(()) => Ok(()),
+            Err(_) => Err(self.undo()),
+        }
+    }
+
+    fn set_memo(&mut self, memo: &Memo) -> Result<(), BookFault> {
+        match self.tables.put_memo(memo) {
+            Ok(()) => Ok(()),
+            Err(_) => Err(self.undo()),
+        }
+    }
+
+    fn bill(&mut self, key: MemoKey, period: PeriodCode) -> Result<(), BookFault> {
+        match self.tables.bill(key, period) {
+            Ok(()) => Ok(()),
+            Err(_) => Err(self.undo()),
+        }
+    }
+
+    fn publish(&mut self, text: &PlanText) -> Result<Result<Change, PlanFault>, BookFault> {
+        match self.tables.publish(text) {
+            Ok(answer) => Ok(answer),
+            Err(_) => Err(self.undo()),
+        }
+    }
+
+    fn set_day(&mut self, day: Day) -> Result<Result<Change, PlanFault>, BookFault> {
+        match self.tables.set_day(day) {
+            Ok(answer) => Ok(answer),
+            Err(_) => Err(self.undo()),
+        }
+    }
+
+    fn close(&mut self, code: PeriodCode) -> Result<Result<Change, PlanFault>, BookFault> {
+        match self.tables.close(code) {
+            Ok(answer) => Ok(answer),
+            Err(_) => Err(self.undo()),
+        }
+    }
+}

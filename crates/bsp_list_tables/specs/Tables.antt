@@ -1,0 +1,52 @@
+-- What the tables of a book in memory contain.
+use Rattle.std.specs.FinMap.{insert}
+use Rattle.std.specs.Ordering.{nat_cmp}
+use Rattle.bsp_rules.specs.declared.rows.Item.{Item}
+use Rattle.bsp_memos.specs.declared.fields.MemoFields.{MemoFields}
+use Rattle.bsp_maps.specs.Undo.{before, content}
+use Rattle.bsp_maps.specs.Present.{present}
+use Rattle.bsp_rows.specs.declared.keys.ItemKey.{ItemKey}
+use Rattle.bsp_rows.specs.declared.keys.MemoKey.{MemoKey}
+use Rattle.bsp_rows.specs.Rows.{Rows, item_cmp, memo_cmp, range_cmp}
+use Rattle.bsp_rows.specs.Tallies.{tally_cmp}
+use Rattle.bsp_list_tables.specs.Kept.{AreDerived}
+use Rattle.bsp_list_tables.specs.Numbers.{number_cmp}
+use Rattle.bsp_list_tables.specs.Plans.{saved_plan}
+use Rattle.bsp_list_tables.specs.declared.tables.Tables.{Tables}
+
+-- the rows
+abbrev pub rows_of : Tables → Rows
+rows_of t = record {
+  published = t.plan.plan;
+  agents = content nat_cmp t.agents;
+  airlines = content nat_cmp t.airlines;
+  ranges = present (content range_cmp t.ranges);
+  items = content item_cmp t.items;
+  memos = content memo_cmp t.memos;
+}
+
+-- the rows at the last commit
+abbrev pub committed_rows : Tables → Rows
+committed_rows t = record {
+  published = saved_plan t.plan;
+  agents = before nat_cmp t.agents;
+  airlines = before nat_cmp t.airlines;
+  ranges = present (before range_cmp t.ranges);
+  items = before item_cmp t.items;
+  memos = before memo_cmp t.memos;
+}
+
+-- the index and the tallies follow from the rows, and did at the last commit
+abbrev pub IsDerived : Tables → Type 0
+IsDerived t = AreDerived (content item_cmp t.items) (content memo_cmp t.memos) (content number_cmp t.numbers) (content tally_cmp t.tallies)
+
+abbrev pub WasDerived : Tables → Type 0
+WasDerived t = AreDerived (before item_cmp t.items) (before memo_cmp t.memos) (before number_cmp t.numbers) (before tally_cmp t.tallies)
+
+-- ---- rows with a value written at a key
+
+abbrev pub with_item_at : ItemKey → Item → Rows → Rows
+with_item_at key item rows = record rows { items = insert rows.items key item }
+
+abbrev pub with_memo_at : MemoKey → MemoFields → Rows → Rows
+with_memo_at key memo rows = record rows { memos = insert rows.memos key memo }

@@ -1,0 +1,323 @@
+//! Look-ups in the tables.
+
+ghost use Rattle.std.specs.Prelude.{◌≡◌, ◌==◌, IfOk};
+ghost use Rattle.std.specs.FinMap.{entries};
+ghost use Rattle.bsp_maps.specs.Undo.{content};
+ghost use Rattle.bsp_maps.specs.Windows.{entries_in};
+ghost use Rattle.std.specs.List.{filter};
+ghost use Rattle.bsp_memos.specs.Owed.{is_billed_in};
+ghost use Rattle.bsp_rows.specs.Rows.{agent_items, agent_token, airline_memos, airline_token, has_meeting, is_in, is_of_airline, is_unbilled, is_used_in, items_bearing, items_of, memo_at, memos_of, ranges_of, registered};
+ghost use Rattle.bsp_rows.specs.Tallies.{is_tally_asked, tallies_of, tally_cmp, tally_of};
+ghost use Rattle.bsp_list_tables.specs.Lookups.{asked_tallies, is_asked, is_meeting, present_ranges};
+ghost use Rattle.bsp_list_tables.specs.Tables.{IsDerived, rows_of};
+
+use crate::keys::{ItemsOf, ItemsWithin, MemosOf, RangesOf, TalliesOf};
+use crate::numbers::{Bearing, keys_bearing};
+use crate::tables::Tables;
+use crate::tallies::tally_at;
+use bsp_fields::{AgentCode, AirlineCode, DocNumber, PeriodCode, Token};
+use bsp_maps::{Every, Rule, Test};
+use bsp_memos::Memo;
+use bsp_postings::Tally;
+use bsp_ret_records::Transaction;
+use bsp_rows::{ItemKey, Items, MemoKey, Memos, RangeKey, Tallies, TallyKey};
+use bsp_rules::{Item, Range};
+use std::alloc::{AllocError, Global};
+
+/// Items that were accepted in a period.
+#[derive(Clone, Copy)]
+struct In(PeriodCode);
+
+impl Test<Item> for In {
+    ghost passes = { λ test i. is_in test.0 i };
+
+    fn passes(&self, item: &Item) -> bool {
+        item.period == self.0
+    }
+}
+
+/// Items of an airline that were accepted in a period.
+#[derive(Clone, Copy)]
+struct OfAirlineIn {
+    airline: AirlineCode,
+    period: PeriodCode,
+}
+
+impl Test<Item> for OfAirlineIn {
+    ghost passes = { λ test i. is_of_airline test.airline test.period i };
+
+    fn passes(&self, item: &Item) -> bool {
+        item.transaction.document.airline == self.airline && item.period == self.period
+    }
+}
+
+/// Memos to an agent.
+#[derive(Clone, Copy)]
+struct ToAgent(AgentCode);
+
+impl Test<Memo> for ToAgent {
+    ghost use Rattle.std.specs.Prelude.{◌==◌};
+
+    ghost passes = { λ test m. m.agent == test.0 };
+
+    fn passes(&self, memo: &Memo) -> bool {
+        memo.fields().agent == self.0
+    }
+}
+
+/// Memos that were billed in a period.
+#[derive(Clone, Copy)]
+struct BilledIn(PeriodCode);
+
+impl Test<Memo> for BilledIn {
+    ghost passes = { λ test m. is_billed_in test.0 m };
+
+    fn passes(&self, memo: &Memo) -> bool {
+        memo.fields().is_billed_in(self.0)
+    }
+}
+
+/// Memos that are not billed.
+#[derive(Clone, Copy)]
+struct IsUnbilled;
+
+impl Test<Memo> for IsUnbilled {
+    ghost passes = { λ test m. is_unbilled m };
+
+    fn passes(&self, memo: &Memo) -> bool {
+        memo.fields().billed.is_none()
+    }
+}
+
+/// Ranges that have a number of this one, and are not withdrawn.
+#[derive(Clone, Copy)]
+struct Meeting(Range);
+
+impl Rule<RangeKey, Option<DocNumber>> for Meeting {
+    ghost holds = { λ rule key last. is_meeting rule.0 key last };
+
+    fn holds(&self, key: &RangeKey, last: &Option<DocNumber>) -> bool {
+        match last {
+            None => false,
+            Some(last) => self.0.first <= *last && key.first <= self.0.last,
+        }
+    }
+}
+
+/// The ranges that are not withdrawn.
+fn present_ranges(
+    alloc: Global,
+    entries: &[(RangeKey, Option<DocNumber>)],
+) -> Result<Vec<Range>, AllocError>
+    ensures { IfOk result (λ found. found.items ≡ present_ranges entries.now) }
+{
+    let mut found = Vec::new(alloc);
+    for (key, last) in entries {
+        if let Some(last) = last {
+            found.push(key.up_to(*last))?;
+        }
+    }
+    Ok(found)
+}
+
+/// Whether a key is asked for.
+fn is_tally_asked(which: &Tallies, key: &TallyKey) -> bool
+    ensures { result ≡ is_tally_asked which.now key.now }
+{
+    match *which {
+        Tallies::OfAgent(agent) => key.agent == agent,
+        Tallies::OfAgentIn(agent, period) => key.agent == agent && key.period == period,
+        Tallies::OfAirlineIn(airline, period) => key.airline == airline && key.period == period,
+        Tallies::In(period) => key.period == period,
+    }
+}
+
+/// Tallies that are asked for, and to which some row adds.
+#[derive(Clone, Copy)]
+struct AskedTallies(Tallies);
+
+impl Rule<TallyKey, Tally> for AskedTallies {
+    ghost holds = { λ rule key tally. is_asked rule.0 key tally };
+
+    fn holds(&self, key: &TallyKey, tally: &Tally) -> bool {
+        is_tally_asked(&self.0, key) && (tally.accepted > 0 || tally.memo_count > 0)
+    }
+}
+
+/// The tallies that are asked for, of these entries.
+fn asked_tallies(
+    alloc: Global,
+    entries: &[(TallyKey, Tally)],
+    which: &Tallies,
+) -> Result<Vec<Tally>, AllocError>
+    ensures { IfOk result (λ found. found.items ≡ asked_tallies which.now entries.now) }
+{
+    let rule = AskedTallies(*which);
+    let mut found = Vec::new(alloc);
+    for (key, tally) in entries {
+        if rule.holds(key, tally) {
+            found.push(*tally)?;
+        }
+    }
+    Ok(found)
+}
+
+impl Tables {
+    /// The token of an agent, if it is registered.
+    pub fn agent_token(&self, agent: AgentCode) -> Option<Token>
+        ensures { result ≡ agent_token agent (rows_of self.now) }
+    {
+        self.agents.get(agent)
+    }
+
+    /// The token of an airline, if it is registered.
+    pub fn airline_token(&self, airline: AirlineCode) -> Option<Token>
+        ensures { result ≡ airline_token airline (rows_of self.now) }
+    {
+        self.airlines.get(airline)
+    }
+
+    /// The registered agents, rising.
+    pub fn agents(&self, alloc: Global) -> Result<Vec<AgentCode>, AllocError>
+        ensures { IfOk result (λ found. found.items ≡ registered (rows_of self.now)) }
+    {
+        self.agents.keys(alloc)
+    }
+
+    /// The ranges of an agent. It reads that agent's alone, withdrawn ones too.
+    pub fn ranges(&self, alloc: Global, agent: AgentCode) -> Result<Vec<Range>, AllocError>
+        ensures { IfOk result (λ found. found.items ≡ ranges_of agent (rows_of self.now)) }
+    {
+        let entries = self.ranges.entries_in(alloc, &RangesOf(agent))?;
+        present_ranges(alloc, &entries)
+    }
+
+    /// Whether a range of any agent has a number of this one. It reads all ranges.
+    pub fn meets_range(&self, range: &Range) -> bool
+        ensures { result ≡ has_meeting range.now (rows_of self.now) }
+    {
+        self.ranges.any_holds(&Meeting(*range))
+    }
+
+    /// Whether an item of the agent has a number of the range. It reads one key.
+    pub fn is_range_used(&self, agent: AgentCode, range: &Range) -> bool
+        ensures { result ≡ is_used_in agent range.now (rows_of self.now) }
+    {
+        let range = *range;
+        self.items.has_any(&ItemsWithin { agent, range })
+    }
+
+    /// The items of an agent that share a number with a transaction. It reads those alone.
+    pub fn items_bearing(
+        &self,
+        alloc: Global,
+        agent: AgentCode,
+        transaction: &Transaction,
+    ) -> Result<Vec<Item>, AllocError>
+        ensures { IfOk result (λ found. IsDerived self.now → found.items ≡ items_bearing agent transaction.now (rows_of self.now)) }
+    {
+        let keys = keys_bearing(alloc, &self.numbers, agent, transaction)?;
+        self.items
+            .picked(alloc, &keys, &Bearing { agent, transaction })
+    }
+
+    /// The items of an agent that pass a test, in the order of their keys. It reads that agent's alone.
+    fn agent_items<T: Test<Item>>(
+        &self,
+        alloc: Global,
+        agent: AgentCode,
+        test: &T,
+    ) -> Result<Vec<Item>, AllocError>
+        ensures { IfOk result (λ found. found.items ≡ filter (T.passes test.now) (agent_items agent (rows_of self.now))) }
+    {
+        self.items.chosen(alloc, &ItemsOf(agent), test)
+    }
+
+    /// The items that are asked for, in the order of their keys. It reads those of the agent alone, or for an
+    /// airline all items.
+    pub fn items(&self, alloc: Global, which: &Items) -> Result<Vec<Item>, AllocError>
+        ensures { IfOk result (λ found. found.items ≡ items_of which.now (rows_of self.now)) }
+    {
+        match *which {
+            Items::OfAgent(agent) => self.agent_items(alloc, agent, &Every),
+            Items::OfAgentIn(agent, period) => self.agent_items(alloc, agent, &In(period)),
+            Items::OfAirlineIn(airline, period) => {
+                self.items.passing(alloc, &OfAirlineIn { airline, period })
+            }
+        }
+    }
+
+    /// The memo of a key.
+    pub fn memo(&self, key: MemoKey) -> Option<Memo>
+        ensures { result ≡ memo_at key (rows_of self.now) }
+    {
+        self.memos.get(key)
+    }
+
+    /// The memos of an airline that pass a test, in the order of their keys. It reads that airline's alone.
+    fn airline_memos<T: Test<Memo>>(
+        &self,
+        alloc: Global,
+        airline: AirlineCode,
+        test: &T,
+    ) -> Result<Vec<Memo>, AllocError>
+        ensures { IfOk result (λ found. found.items ≡ filter (T.passes test.now) (airline_memos airline (rows_of self.now))) }
+    {
+        self.memos.chosen(alloc, &MemosOf(airline), test)
+    }
+
+    /// The memos that are asked for, in the order of their keys. It reads those of the airline alone, or for
+    /// an agent and for unbilled ones all memos.
+    pub fn memos(&self, alloc: Global, which: &Memos) -> Result<Vec<Memo>, AllocError>
+        ensures { IfOk result (λ found. found.items ≡ memos_of which.now (rows_of self.now)) }
+    {
+        match *which {
+            Memos::OfAgent(agent) => self.memos.passing(alloc, &ToAgent(agent)),
+            Memos::OfAirline(airline) => self.airline_memos(alloc, airline, &Every),
+            Memos::OfAirlineIn(airline, period) => {
+                self.airline_memos(alloc, airline, &BilledIn(period))
+            }
+            Memos::Unbilled => self.memos.passing(alloc, &IsUnbilled),
+        }
+    }
+
+    /// The tally of a key. It reads one entry.
+    pub fn tally(&self, key: &TallyKey) -> Tally
+        ensures { IsDerived self.now → result ≡ tally_of key.now (rows_of self.now) }
+    {
+        tally_at(&self.tallies, key)
+    }
+
+    /// The tallies that are asked for, of those of an agent. It reads that agent's alone.
+    fn agent_tallies(
+        &self,
+        alloc: Global,
+        agent: AgentCode,
+        which: &Tallies,
+    ) -> Result<Vec<Tally>, AllocError>
+        ensures { IfOk result (λ found. found.items ≡ asked_tallies which.now (entries_in (λ key. key.agent == agent) (entries (content tally_cmp self.now.tallies)))) }
+    {
+        let entries = self.tallies.entries_in(alloc, &TalliesOf(agent))?;
+        asked_tallies(alloc, &entries, which)
+    }
+
+    /// The tallies that are asked for. It reads all tallies.
+    fn all_tallies(&self, alloc: Global, which: &Tallies) -> Result<Vec<Tally>, AllocError>
+        ensures { IfOk result (λ found. found.items ≡ asked_tallies which.now (entries (content tally_cmp self.now.tallies))) }
+    {
+        self.tallies.holding(alloc, &AskedTallies(*which))
+    }
+
+    /// The tallies that are asked for and to which some row adds, in the order of their keys. It reads those of
+    /// the agent alone, or for an airline or a period all tallies.
+    pub fn tallies(&self, alloc: Global, which: &Tallies) -> Result<Vec<Tally>, AllocError>
+        ensures { IfOk result (λ found. IsDerived self.now → found.items ≡ tallies_of which.now (rows_of self.now)) }
+    {
+        match *which {
+            Tallies::OfAgent(agent) => self.agent_tallies(alloc, agent, which),
+            Tallies::OfAgentIn(agent, _) => self.agent_tallies(alloc, agent, which),
+            Tallies::OfAirlineIn(_, _) => self.all_tallies(alloc, which),
+            Tallies::In(_) => self.all_tallies(alloc, which),
+        }
+    }
+}

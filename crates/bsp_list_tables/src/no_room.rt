@@ -1,0 +1,11 @@
+use std::alloc::AllocError;
+
+/// An allocation was refused, or a count or a sum does not fit its type.
+#[derive(Clone, Copy, Debug, PartialEq, Eq)]
+pub struct NoRoom;
+
+impl From<AllocError> for NoRoom {
+    fn from(_: AllocError) -> NoRoom {
+        NoRoom
+    }
+}

@@ -1,0 +1,48 @@
+-- A tally with a row less.
+use Rattle.std.specs.Prelude.{◌≡◌, ◌≤◌, ◌-◌, ◌-ℤ◌, FitsSigned, true, if◌then◌else◌}
+use mir.Syntax.{w64}
+use Rattle.bsp_rules.specs.declared.rows.Item.{Item}
+use Rattle.bsp_rules.specs.Rows.{is_canx}
+use Rattle.bsp_memos.specs.declared.fields.MemoFields.{MemoFields}
+use Rattle.bsp_postings.specs.declared.posting.Posting.{Posting}
+use Rattle.bsp_postings.specs.declared.tally.Tally.{Tally}
+use Rattle.bsp_postings.specs.Postings.{is_counted, item_posting, memo_posting}
+
+-- with the documents and the forms of a posting less
+abbrev pub without_forms : Posting → Tally → Tally
+without_forms p t = record t { living = t.living - p.documents; cash = t.cash -ℤ p.cash; credit = t.credit -ℤ p.credit }
+
+-- with a posting less
+abbrev pub without_posting : Posting → Tally → Tally
+without_posting p t =
+    record (without_forms p t) { commission = t.commission -ℤ p.commission; memos = t.memos -ℤ p.memos }
+
+-- with an item less among the accepted ones, and among the CANX if it is one
+abbrev pub not_counting : Item → Tally → Tally
+not_counting i t = record t { accepted = t.accepted - 1; canx = t.canx - (if is_canx i then 1 else 0) }
+
+-- with an item less; a living TKTT or RFND takes away what it posts
+abbrev pub without_item : Item → Tally → Tally
+without_item i t =
+    if is_counted i.period i then without_posting (item_posting i) (not_counting i t) else not_counting i t
+
+abbrev pub without_memo : MemoFields → Tally → Tally
+without_memo m t = without_posting (memo_posting m) (record t { memo_count = t.memo_count - 1 })
+
+-- the counts have what is taken away, and the sums that are left have room
+
+abbrev pub HasForms : Posting → Tally → Type 0
+HasForms p t = (p.documents ≤ t.living) × FitsSigned w64 (t.cash -ℤ p.cash) × FitsSigned w64 (t.credit -ℤ p.credit)
+
+abbrev pub HasPosting : Posting → Tally → Type 0
+HasPosting p t =
+    HasForms p t × FitsSigned w64 (t.commission -ℤ p.commission) × FitsSigned w64 (t.memos -ℤ p.memos)
+
+abbrev pub HasCounted : Item → Tally → Type 0
+HasCounted i t = (1 ≤ t.accepted) × ((if is_canx i then 1 else 0) ≤ t.canx)
+
+abbrev pub HasItem : Item → Tally → Type 0
+HasItem i t = HasCounted i t × (is_counted i.period i ≡ true → HasPosting (item_posting i) t)
+
+abbrev pub HasMemo : MemoFields → Tally → Type 0
+HasMemo m t = (1 ≤ t.memo_count) × HasPosting (memo_posting m) t
