@@ -2,6 +2,7 @@
 //! bear, and the tallies, kept by each write. What was written since the last commit can be taken back.
 #![tactic(auto)]
 
+mod audit;
 mod keys;
 mod lookups;
 mod no_room;

@@ -9,7 +9,7 @@ use Rattle.std.specs.Cmp.{IsTotalOrder}
 use Rattle.std.specs.FinMap.{FinMap, IsAntisymmetric, get, insert, remove, empty, entries, entries_sorted, get-insert, get-remove, get-empty, get-from_entries, get-entries, same_map, find}
 use Rattle.std.specs.FinMap.Entries.{is_sorted, below_all}
 use Rattle.bsp_maps.proofs.OrderLemmas.{in_order}
-use Rattle.bsp_maps.specs.Present.{present, present_entry, flat}
+use Rattle.bsp_maps.specs.Present.{present, present_entry, flat, with_present, with_present_value}
 
 first : (a b : Bool) → T (a && b) → T a
 first true b p = tt
@@ -97,3 +97,36 @@ module _ {K V : Type 0} (R : K → K → Ordering) where
 
 pub entries-present : {K V : Type 0} {R : K → K → Ordering} → IsTotalOrder R → (m : FinMap R (Option V)) → entries (present m) ≡ filter_map present_entry (entries m)
 entries-present {K} {V} {R} o m = in_order o (filter_map present_entry (entries m)) (strictly R (filter_map present_entry (entries m)) (sorted_present R (entries m) (entries_sorted m)))
+
+-- ---- the map of the entries that have a value
+
+module _ {K V : Type 0} {R : K → K → Ordering} (o : IsTotalOrder R) where
+  abbrev or_there : Option V → Option V → Option V
+  or_there None y = y
+  or_there (Some v) y = Some v
+
+  present_step : (q k : K) (w : Option V) (es : List (K × Option V)) (m : FinMap R V) (b : Bool) → eq_by_cmp R q k ≡ b → T (below_all R k es)
+      → get (with_present es (with_present_value k w m)) q ≡ or_there (flat (find R q es)) (get (with_present_value k w m) q)
+      → get (with_present es (with_present_value k w m)) q ≡ or_there (flat (cond b (Some w) (find R q es))) (get m q)
+  present_step q k None es m true tie up h = h ∙ ap (λ f. or_there (flat f) (get m q)) (none_behind R o q k es (equal (R q k) true tie refl) up)
+  present_step q k None es m false tie up h = h
+  present_step q k (Some v) es m true tie up h =
+      h ∙ ap (λ f. or_there (flat f) (get (insert m k v) q)) (none_behind R o q k es (equal (R q k) true tie refl) up)
+      ∙ get-insert o m k v q ∙ ap (λ b. cond b (Some v) (get m q)) tie
+  present_step q k (Some v) es m false tie up h = h ∙ ap (or_there (flat (find R q es))) (get-insert o m k v q ∙ ap (λ b. cond b (Some v) (get m q)) tie)
+
+  get-with_present : (q : K) (es : List (K × Option V)) (m : FinMap R V) → T (is_sorted R es) → get (with_present es m) q ≡ or_there (flat (find R q es)) (get m q)
+  get-with_present q [] m up = refl
+  get-with_present q (e ∷ es) m up = present_step q e.0 e.1 es m (eq_by_cmp R q e.0) refl (first (below_all R e.0 es) (is_sorted R es) up) (get-with_present q es (with_present_value e.0 e.1 m) (second (below_all R e.0 es) (is_sorted R es) up))
+
+  alone : (w : Option V) → or_there w None ≡ w
+  alone None = refl
+  alone (Some v) = refl
+
+  pub with_present-empty : IsAntisymmetric R → (m : FinMap R (Option V)) → with_present (entries m) empty ≡ present m
+  with_present-empty exact m = same_map o exact (with_present (entries m) empty) (present m) (λ q.
+      get-with_present q (entries m) empty (entries_sorted m)
+      ∙ ap (or_there (flat (find R q (entries m)))) (get-empty R q)
+      ∙ alone (flat (find R q (entries m)))
+      ∙ ap flat (sym (get-entries m q))
+      ∙ sym (get-present o m q))

@@ -10,6 +10,7 @@ mod counts;
 mod logged;
 mod lookups;
 mod picks;
+mod present;
 mod rules;
 mod spans;
 #[cfg(test)]
@@ -19,6 +20,7 @@ mod windows;
 pub use counts::are_within;
 pub use logged::Logged;
 pub use picks::{holding, passing, picked};
+pub use present::present_entries;
 pub use rules::{Every, Rule, Test, all_hold, any_holds};
 pub use spans::{Span, are_disjoint};
 pub use windows::{Window, chosen, has_any, window_entries};
