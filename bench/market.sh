@@ -12,8 +12,7 @@ use bsp_rules::Item;
 use std::alloc::Global;
 use std::io;
 
-pub fn closed_plan(alloc: Global) -> Option<Plan> {
-    let code = PeriodCode::read(b"24011").ok()?;
+pub fn plan_text(alloc: Global) -> Option<PlanText> {
     let mut text = PlanText {
         terms: Terms {
             currency: Currency::read(b"EUR")?,
@@ -26,16 +25,20 @@ pub fn closed_plan(alloc: Global) -> Option<Plan> {
     };
     text.periods
         .push(Period {
-            code,
+            code: PeriodCode::read(b"24011").ok()?,
             first: Day::read_text(b"2024-01-01").ok()?,
             last: Day::read_text(b"2024-01-15").ok()?,
             remittance: Day::read_text(b"2024-02-15").ok()?,
         })
         .ok()?;
+    Some(text)
+}
+
+pub fn closed_plan(alloc: Global) -> Option<Plan> {
     let mut plan = Plan::empty(alloc);
-    plan.extend(&text).ok()?;
+    plan.extend(&plan_text(alloc)?).ok()?;
     plan.set_day(Day::read_text(b"2024-01-16").ok()?).ok()?;
-    plan.close_next(code).ok()?;
+    plan.close_next(PeriodCode::read(b"24011").ok()?).ok()?;
     Some(plan)
 }
 

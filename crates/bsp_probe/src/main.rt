@@ -14,6 +14,7 @@ mod calls;
 mod fields;
 mod hot;
 mod lines;
+mod list_book;
 mod money;
 mod plan;
 mod plan_text;
@@ -40,7 +41,8 @@ fn make_calls(alloc: Global) -> Result<(), Mistake> {
     postings::make_calls(alloc, &book)?;
     reports::make_calls(alloc, &book)?;
     replies::make_calls(alloc, &book)?;
-    hot::make_calls(alloc, &book)
+    hot::make_calls(alloc, &book)?;
+    list_book::make_calls(alloc, &book)
 }
 
 fn main(rt: HostRuntime) -> ExitCode {
