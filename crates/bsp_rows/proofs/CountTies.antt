@@ -90,7 +90,7 @@ one_passes p (x ∷ xs) few a b ia ib pa pb = one_by p x xs few a b ia ib pa pb 
 
 -- ---- entries in order
 
-not_itself : {K : Type 0} {R : K → K → Ordering} (o : IsTotalOrder R) (k : K) → R k k ≡ Less → ⊥
+pub not_itself : {K : Type 0} {R : K → K → Ordering} (o : IsTotalOrder R) (k : K) → R k k ≡ Less → ⊥
 not_itself o k h = absurd (cc (sym h ∙ tied_itself o k))
 
 pub key_decides : {K : Type 0} {R : K → K → Ordering} (o : IsTotalOrder R) (exact : IsAntisymmetric R) (k x : K) → Decides (eq_by_cmp R k x) (k ≡ x)

@@ -115,7 +115,7 @@ any_step p y ys x passes rest in' =
       | inr there ↦ or_right (p y) (list_any p ys) (rest there)
     ]
 
-any_true : {A : Type 0} (p : A → Bool) (xs : List A) (x : A) → Contains xs x → p x ≡ true → list_any p xs ≡ true
+pub any_true : {A : Type 0} (p : A → Bool) (xs : List A) (x : A) → Contains xs x → p x ≡ true → list_any p xs ≡ true
 any_true p [] x in' passes = contains_none x in'
 any_true p (y ∷ ys) x in' passes = any_step p y ys x passes (λ there. any_true p ys x there passes) in'
 
@@ -128,6 +128,21 @@ reads_code text check n h =
     let checked = row_passed (not (check == check_digit_of (number_of text))) CheckDigit [] (number_of text) n digits.1 in
     row_skipped (not (length text == 10)) Width ((not (all_ascii_digits text), NotDigit) ∷ []) (number_of text) wide.0
     ∙ (row_skipped (not (all_ascii_digits text)) NotDigit [] (number_of text) digits.0 ∙ checked.1)
+
+-- ---- the key of a tally
+
+pub tally_test : (k : TallyKey) (i : Item) → eq_by_cmp tally_cmp k (item_tally_key i) ≡ is_item_under (key_tally k) i
+tally_test k i = same_from_decides _ _ (key_decides tally_total tally_exact k (item_tally_key i)) (
+  (λ h.
+      let outer = and_parts (i.agent == k.agent) ((i.transaction.document.airline == k.airline) && (i.period == k.period)) h in
+      let inner = and_parts (i.transaction.document.airline == k.airline) (i.period == k.period) outer.1 in
+      let a = eqb-true i.agent k.agent outer.0 in
+      let l = eqb-true i.transaction.document.airline k.airline inner.0 in
+      let p = eqb-true i.period k.period inner.1 in
+      (λ n. record { agent = sym a n; airline = sym l n; period = sym p n })),
+  (λ e. and_from (i.agent == k.agent) ((i.transaction.document.airline == k.airline) && (i.period == k.period)) (eq-eqb i.agent k.agent (sym (ap (λ (x : TallyKey). x.agent) e)))
+      (and_from (i.transaction.document.airline == k.airline) (i.period == k.period) (eq-eqb i.transaction.document.airline k.airline (sym (ap (λ (x : TallyKey). x.airline) e))) (eq-eqb i.period k.period (sym (ap (λ (x : TallyKey). x.period) e))))),
+)
 
 -- ---- counts of keys
 
@@ -180,23 +195,10 @@ module _ (m : BTreeMap ItemKey Item) (ordered : IsOrdered item_cmp m) where
 
   -- ---- the documents limit
 
-  under : (k : TallyKey) (i : Item) → eq_by_cmp tally_cmp k (item_tally_key i) ≡ is_item_under (key_tally k) i
-  under k i = same_from_decides _ _ (key_decides tally_total tally_exact k (item_tally_key i)) (
-    (λ h.
-        let outer = and_parts (i.agent == k.agent) ((i.transaction.document.airline == k.airline) && (i.period == k.period)) h in
-        let inner = and_parts (i.transaction.document.airline == k.airline) (i.period == k.period) outer.1 in
-        let a = eqb-true i.agent k.agent outer.0 in
-        let l = eqb-true i.transaction.document.airline k.airline inner.0 in
-        let p = eqb-true i.period k.period inner.1 in
-        (λ n. record { agent = sym a n; airline = sym l n; period = sym p n })),
-    (λ e. and_from (i.agent == k.agent) ((i.transaction.document.airline == k.airline) && (i.period == k.period)) (eq-eqb i.agent k.agent (sym (ap (λ (x : TallyKey). x.agent) e)))
-        (and_from (i.transaction.document.airline == k.airline) (i.period == k.period) (eq-eqb i.transaction.document.airline k.airline (sym (ap (λ (x : TallyKey). x.airline) e))) (eq-eqb i.period k.period (sym (ap (λ (x : TallyKey). x.period) e))))),
-  )
-
   documents_counted : Rights → (k : TallyKey) → count_by (eq_by_cmp tally_cmp k) (map item_tally_key (values m)) ≡ count_by (is_counted k.agent k.airline k.period) (entries items)
   documents_counted rights k =
       count_mapped (eq_by_cmp tally_cmp k) item_tally_key (values m)
-      ∙ (count_alike (λ (i : Item). eq_by_cmp tally_cmp k (item_tally_key i)) (is_item_under (key_tally k)) (values m) (λ i in'. under k i)
+      ∙ (count_alike (λ (i : Item). eq_by_cmp tally_cmp k (item_tally_key i)) (is_item_under (key_tally k)) (values m) (λ i in'. tally_test k i)
       ∙ (count_under k m.entries (λ e in'. sym (ap (λ (x : ItemKey). x.agent) (rights e.0 e.1 (at_entry item_total item_exact m ordered e.0 e.1 in')).keyed))
       ∙ ap (count_by (is_counted k.agent k.airline k.period)) (sym (same_entries item_total item_exact m ordered))))
 

@@ -20,3 +20,6 @@ pub mod CountTies
 pub mod RangeTies
 pub mod ItemTies
 pub mod MemoTies
+pub mod PartLaws
+pub mod TallyLaws
+pub mod AskedTallies

@@ -1,5 +1,7 @@
 -- What the changes of a desk keep of sound rows.
-use Rattle.std.specs.Prelude.{◌≡◌, ℕ, ◌<◌, ◌≤◌, ◌==◌, Bool, false, true, ℤ, List, count_by, Some, None, IsSome, Ok}
+use Rattle.std.specs.FinMap.{values}
+use Rattle.std.specs.List.{filter}
+use Rattle.std.specs.Prelude.{◌≡◌, ℕ, ◌<◌, ◌≤◌, ◌==◌, Bool, false, true, ℤ, List, count_by, Some, None, IsSome, Ok, Option}
 use Rattle.bsp_fields.specs.CivilDay.{CivilDay}
 use Rattle.bsp_calendar.specs.History.{Request}
 use Rattle.bsp_calendar.specs.Published.{Published, is_closed, target_of}
@@ -18,11 +20,17 @@ use Rattle.bsp_memos.specs.Memos.{is_amount, issued_memo}
 use Rattle.bsp_memos.specs.Steps.{Action}
 use Rattle.bsp_memos.specs.declared.fields.MemoFields.{MemoFields}
 use Rattle.bsp_memos.specs.declared.kind.MemoKind.{MemoKind}
+use Rattle.bsp_postings.specs.Tallies.{AreTallies, IsTallyOf}
+use Rattle.bsp_postings.specs.declared.tally.Tally.{Tally}
 use Rattle.bsp_rows.specs.declared.keys.MemoKey.{MemoKey}
-use Rattle.bsp_rows.specs.declared.questions.Memos.TheVariants.{OfAirline}
-use Rattle.bsp_rows.specs.Rows.{Rows, agent_items, agent_token, has_meeting, is_used_in, item_at, items_bearing, key_of, memo_at, memo_key, memos_of, range_at, range_key, ranges_of}
+use Rattle.bsp_rows.specs.declared.keys.TallyKey.{TallyKey}
+use Rattle.bsp_rows.specs.declared.questions.Items.TheVariants as item
+use Rattle.bsp_rows.specs.declared.questions.Memos.TheVariants.{OfAgent, OfAirline, OfAirlineIn}
+use Rattle.bsp_rows.specs.Rows.{Rows, agent_items, agent_token, airline_token, has_meeting, is_used_in, item_at, items_bearing, items_of, key_of, memo_at, memo_key, memos_of, range_at, range_key, ranges_of}
 use Rattle.bsp_rows.specs.Writes.{IsFree, after_request, with_agent_token, with_airline_token, with_billing, with_memo, with_range, without_range}
-use Rattle.bsp_rows.specs.Tallies.{tally_of}
+use Rattle.bsp_rows.specs.Part.{agent_part, airline_part}
+use Rattle.bsp_rows.specs.Tallies.{is_tally_asked, item_tally_key, memo_tally_key, tallies_of, tally_of}
+use Rattle.bsp_rows.specs.declared.questions.Tallies.{Tallies}
 use Rattle.bsp_rows.specs.Sound.{Sound}
 use Rattle.bsp_rows.specs.Changes.{IsAcceptance, after_accepted, after_close, ended_by}
 
@@ -118,3 +126,56 @@ FactsAreWithoutTarget =
 -- no two items of an agent are of one number, but a CANX and another
 abbrev pub ItemsAreDistinct : Type 0
 ItemsAreDistinct = (rows : Rows) (agent : ℕ) → Sound rows → AreDistinct (agent_items agent rows)
+
+-- ---- parts of the rows
+
+-- what is looked up for an agent is the same
+pub record AreAlikeForAgent (agent : ℕ) (rows others : Rows) : Type 0 where
+  pub token : agent_token agent rows ≡ agent_token agent others
+  pub ranges : ranges_of agent rows ≡ ranges_of agent others
+  pub items : agent_items agent rows ≡ agent_items agent others
+  pub in_period : (period : ℕ) → items_of (item.OfAgentIn agent period) rows ≡ items_of (item.OfAgentIn agent period) others
+  pub bearing : (t : Transaction) → items_bearing agent t rows ≡ items_bearing agent t others
+  pub memos : memos_of (OfAgent agent) rows ≡ memos_of (OfAgent agent) others
+
+-- what is looked up for an airline is the same
+pub record AreAlikeForAirline (airline : ℕ) (rows others : Rows) : Type 0 where
+  pub token : airline_token airline rows ≡ airline_token airline others
+  pub items : (period : ℕ) → items_of (item.OfAirlineIn airline period) rows ≡ items_of (item.OfAirlineIn airline period) others
+  pub memos : memos_of (OfAirline airline) rows ≡ memos_of (OfAirline airline) others
+  pub billed : (period : ℕ) → memos_of (OfAirlineIn airline period) rows ≡ memos_of (OfAirlineIn airline period) others
+
+abbrev pub AgentPartIsEnough : Type 0
+AgentPartIsEnough = (agent : ℕ) (rows others : Rows) → agent_part agent rows ≡ agent_part agent others → AreAlikeForAgent agent rows others
+
+abbrev pub AirlinePartIsEnough : Type 0
+AirlinePartIsEnough = (airline : ℕ) (rows others : Rows) → airline_part airline rows ≡ airline_part airline others → AreAlikeForAirline airline rows others
+
+-- ---- tallies
+
+-- the tally of a key is the sums of the rows
+abbrev pub TalliesAreSums : Type 0
+TalliesAreSums = (k : TallyKey) (rows : Rows) → IsTallyOf (values rows.items) (values rows.memos) (tally_of k rows)
+
+-- and no other tally of the key is
+abbrev pub OneTally : Type 0
+OneTally =
+    (k : TallyKey) (rows : Rows) (t : Tally) → t.agent ≡ k.agent → t.airline ≡ k.airline → t.period ≡ k.period →
+    IsTallyOf (values rows.items) (values rows.memos) t → t ≡ tally_of k rows
+
+-- the items that add to a tally that is asked for; the memos that do
+abbrev pub is_item_asked : Tallies → Item → Bool
+is_item_asked which i = is_tally_asked which (item_tally_key i)
+
+abbrev pub is_key_asked : Tallies → Option TallyKey → Bool
+is_key_asked which None = false
+is_key_asked which (Some k) = is_tally_asked which k
+
+abbrev pub is_billing_asked : Tallies → MemoFields → Bool
+is_billing_asked which m = is_key_asked which (memo_tally_key m)
+
+-- the tallies that are asked for are those of these items and memos
+abbrev pub AskedAreTallies : Type 0
+AskedAreTallies =
+    (which : Tallies) (rows : Rows) →
+    AreTallies (filter (is_item_asked which) (values rows.items)) (filter (is_billing_asked which) (values rows.memos)) (tallies_of which rows)

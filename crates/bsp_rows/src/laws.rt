@@ -1,6 +1,6 @@
 //! What keeps the rows sound.
 
-ghost use Rattle.bsp_rows.specs.Laws.{AcceptedIsFree, AcceptedIsSound, ActionIsSound, AgentIsSound, AirlineIsSound, BillingIsSound, CloseHasTerms, CloseIsSound, FactsAreByKey, FactsAreWithoutTarget, IssueIsSound, ItemsAreDistinct, RangeIsSound, RequestIsSound, WithdrawalIsSound};
+ghost use Rattle.bsp_rows.specs.Laws.{AcceptedIsFree, AcceptedIsSound, ActionIsSound, AgentIsSound, AgentPartIsEnough, AirlineIsSound, AirlinePartIsEnough, AskedAreTallies, BillingIsSound, CloseHasTerms, CloseIsSound, FactsAreByKey, FactsAreWithoutTarget, IssueIsSound, ItemsAreDistinct, OneTally, RangeIsSound, RequestIsSound, TalliesAreSums, WithdrawalIsSound};
 ghost use Rattle.bsp_rows.specs.Rows.{no_rows};
 ghost use Rattle.bsp_rows.specs.Sound.{Sound};
 
@@ -30,4 +30,19 @@ pub fn facts_from_rows()
     ensures facts { FactsAreByKey }
     ensures no_target { FactsAreWithoutTarget }
     ensures distinct { ItemsAreDistinct }
+{}
+
+/// What is looked up for an agent depends on the agent's part of the rows alone, and what is looked up for an
+/// airline on the airline's part alone.
+pub fn parts_are_enough()
+    ensures agent { AgentPartIsEnough }
+    ensures airline { AirlinePartIsEnough }
+{}
+
+/// The tally of a key is the counts and the sums of all rows under it, and no other tally of the key is. The
+/// tallies that a question asks for are those of the rows under the keys that it asks for.
+pub fn tallies_are_sums()
+    ensures sums { TalliesAreSums }
+    ensures one { OneTally }
+    ensures asked { AskedAreTallies }
 {}

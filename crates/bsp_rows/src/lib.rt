@@ -10,8 +10,10 @@ mod laws;
 mod limits;
 mod questions;
 mod rules;
+#[cfg(test)]
+mod tests;
 
 pub use audit::are_sound;
 pub use keys::{ItemKey, MemoKey, RangeKey, TallyKey};
-pub use laws::{facts_from_rows, sound_is_kept};
+pub use laws::{facts_from_rows, parts_are_enough, sound_is_kept, tallies_are_sums};
 pub use questions::{Items, Memos, Tallies};
