@@ -1,7 +1,9 @@
 //! A book in memory.
 
-ghost use Rattle.std.specs.Prelude.{◌≡◌, None};
-ghost use Rattle.bsp_rows.specs.Rows.{no_rows};
+ghost use Rattle.std.specs.Prelude.{◌≡◌, IfOk, IsOkUnless, None, Option};
+ghost use Rattle.std.specs.Bool.{Decides};
+ghost use Rattle.bsp_rows.specs.Rows.{Rows, no_rows};
+ghost use Rattle.bsp_rows.specs.Sound.{Sound};
 ghost use Rattle.bsp_book.specs.Listed.{IsUndone, meaning};
 
 use crate::book::Book;
@@ -37,6 +39,21 @@ impl ListBook {
             alloc,
             tables: Tables::new(alloc),
             is_open: false,
+        }
+    }
+
+    /// Whether the rows are sound. It takes time and memory in proportion to the rows, and a logarithm.
+    ///
+    /// # Errors
+    ///
+    /// `NoRoom`, where an allocation was refused. The book is then as it was.
+    pub fn sound(&self) -> Result<bool, BookFault>
+        ensures sound { IfOk result (λ sound. (now : Rows) (begun : Option Rows) → meaning.holds self.now now begun → Decides sound (Sound now)) }
+        ensures fault { IsOkUnless result BookFault.NoRoom }
+    {
+        match self.tables.are_sound(self.alloc) {
+            Ok(sound) => Ok(sound),
+            Err(_) => Err(BookFault::NoRoom),
         }
     }
 
