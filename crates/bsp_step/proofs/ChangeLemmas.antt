@@ -23,7 +23,7 @@ use Rattle.bsp_rows.specs.declared.keys.MemoKey.{MemoKey}
 use Rattle.bsp_rows.specs.Rows.{Rows, agent_items, ranges_of, range_of, agent_token, memo_key, memo_cmp, range_key, range_at, has_meeting, is_used_in}
 use Rattle.bsp_rows.specs.Writes.{with_memo, with_range, without_range}
 use Rattle.bsp_rows.proofs.KeyOrders.{item_total, item_exact, range_total, range_exact, memo_exact}
-use Rattle.bsp_rows.specs.Changes.{after_accepted}
+use Rattle.bsp_rows.specs.Changes.{IsAcceptance, after_accepted}
 use Rattle.bsp_rows.proofs.KeyOrders.{memo_total}
 use Rattle.bsp_rules.proofs.MeaningLemmas.{accepted_is_passed, agent_is_reporters}
 use Rattle.bsp_fields.specs.declared.fault.FieldFault.{FieldFault}
@@ -69,16 +69,19 @@ reported_own b t rows period h reads =
     let own = ((agent_is_reporters (Agent b) t _).0 passed.agent).1 in
     ap agent_of own ∙ reads
 
+pub accepts : (who : Reporter) (b : ℕ) (t : Transaction) (period : ℕ) (rows : Rows) → is_group_values t ≡ true → agent_of t.agent ≡ Some b → own_verdict who (ledger_of b rows) t ≡ verdict.Accepted period → IsAcceptance who rows (new_item b t period)
+accepts who b t period rows group bears h = record {
+  group = group;
+  bears = read_ok (agent_reading t.agent) b bears;
+  lives = refl;
+  accepted = sym (part_verdict who b rows t) ∙ h;
+}
+
 module _ (P : Rows → Type 0) (kept : IsKept P) where
   -- ---- accepted transactions
 
   joins_keeps : (who : Reporter) (b : ℕ) (t : Transaction) (period : ℕ) (rows : Rows) → P rows → is_group_values t ≡ true → agent_of t.agent ≡ Some b → own_verdict who (ledger_of b rows) t ≡ verdict.Accepted period → P (after_accepted (new_item b t period) rows)
-  joins_keeps who b t period rows s group bears h = kept.accepted who rows (new_item b t period) s (record {
-    group = group;
-    bears = read_ok (agent_reading t.agent) b bears;
-    lives = refl;
-    accepted = sym (part_verdict who b rows t) ∙ h;
-  })
+  joins_keeps who b t period rows s group bears h = kept.accepted who rows (new_item b t period) s (accepts who b t period rows group bears h)
 
   pub own_judged_keeps : (b : ℕ) (t : Transaction) (rows : Rows) → agent_of (fixed_digits 8 b) ≡ Some b → P rows → is_group_values t ≡ true → (v : Verdict) → own_verdict (Agent b) (ledger_of b rows) t ≡ v → P (rows_judged (reporter (Some b)) t v rows)
   own_judged_keeps b t rows reads s group (verdict.Held period) h = s

@@ -1,6 +1,7 @@
 -- A done issue and a done close keep what each change keeps.
-use Rattle.std.proofs.Common.{◌≡◌, ℕ, ◌<◌, ◌==◌, not, nat_le, Bool, true, false, cond, map, count_by, Option, Some, None, IsSome, Result, Ok, Err, refl, ap, subst, ◌∙◌}
-use Rattle.std.specs.FinMap.{get, contains_key-keys}
+use Rattle.std.proofs.Common.{◌≡◌, ℕ, ◌<◌, ◌==◌, not, nat_le, Bool, true, false, cond, map, count_by, Option, Some, None, IsSome, is_some, option_map, Result, Ok, Err, refl, sym, ap, subst, ◌∙◌}
+use Rattle.std.specs.FinMap.{get, nat_cmp-IsAntisymmetric}
+use Rattle.std.specs.Cmp.{nat_cmp_total}
 use Rattle.std.proofs.lemmas.Bool.{leb-false}
 use Rattle.bsp_fields.specs.declared.change.Change.TheVariants.{Done}
 use Rattle.bsp_calendar.specs.Published.{Published, is_closed}
@@ -13,14 +14,14 @@ use Rattle.bsp_memos.specs.declared.fault.MemoFault.TheVariants.{AmountOutOfRang
 use Rattle.bsp_memos.specs.declared.fields.MemoFields.{MemoFields}
 use Rattle.bsp_messages.specs.declared.airline_bodies.MemoIssue.{MemoIssue}
 use Rattle.bsp_messages.specs.declared.refusal.RequestRefusal.TheVariants as refusal
-use Rattle.bsp_rows.specs.Changes.{after_close}
+use Rattle.bsp_rows.specs.Changes.{after_close, each}
 use Rattle.bsp_rows.specs.Laws.{issued_count}
 use Rattle.bsp_rows.specs.Rows.{Rows}
 use Rattle.bsp_rows.specs.Writes.{plan_left, change_or_fault}
 use Rattle.bsp_rows.proofs.KeptLemmas.{close_terms}
 use Rattle.bsp_rows.proofs.KeyOrders.{memo_total, memo_exact}
-use Rattle.bsp_rows.proofs.PartLemmas.{kept_entries}
-use Rattle.bsp_step.specs.AirlineLedger.{AirlineLedger, airline_ledger_of, count_to, is_known, issue_beside, issue_key, issuing}
+use Rattle.bsp_rows.proofs.PartLemmas.{each_get, kept_entries}
+use Rattle.bsp_step.specs.AirlineLedger.{AirlineLedger, airline_ledger_of, count_to, is_known, issue_beside, no_token, issue_key, issuing}
 use Rattle.bsp_step.specs.Answers.{is_done}
 use Rattle.bsp_step.specs.Answers.Answer.{Changed, Refused}
 use Rattle.bsp_step.specs.Ledger.{review_of}
@@ -29,6 +30,13 @@ use Rattle.bsp_step.proofs.Seen.{free_key, issue_free, of_its_airline}
 use Rattle.bsp_step.proofs.Invariant.{IsKept}
 
 -- ---- an issue
+
+mapped_some : {A B : Type 0} (f : A → B) (found : Option A) → is_some found ≡ is_some (option_map f found)
+mapped_some f None = refl
+mapped_some f (Some x) = refl
+
+known_too : (rows : Rows) (b : ℕ) → is_some (get rows.agents b) ≡ is_some (get (each no_token rows.agents) b)
+known_too rows b = mapped_some no_token (get rows.agents b) ∙ ap is_some (sym (each_get nat_cmp_total nat_cmp-IsAntisymmetric no_token rows.agents b))
 
 counted_to : (c b : ℕ) (rows : Rows) → count_to b (airline_ledger_of c rows) ≡ issued_count b c rows
 counted_to c b rows = ap (λ es. count_by (λ m. m.agent == b) (map (λ x. x.1) es)) (kept_entries memo_total memo_exact (of_its_airline c) rows.memos)
@@ -42,7 +50,7 @@ module _ (P : Rows → Type 0) (kept : IsKept P) where
   issued_at c b issue rows s free true true k r h =
       let l : AirlineLedger = airline_ledger_of c rows in
       let few : count_to b l < limit_of rows.published.terms = below (limit_of rows.published.terms) (count_to b l) _ refl h in
-      kept.issued rows c issue.document b issue.kind issue.amount issue.reason s r free (contains_key-keys rows.agents b ∙ k)
+      kept.issued rows c issue.document b issue.kind issue.amount issue.reason s r free (known_too rows b ∙ k)
       (subst (λ (n : ℕ). n < limit_of rows.published.terms) (counted_to c b rows) few)
   issued_at c b issue rows s free true false k r h = absurd (cc h)
   issued_at c b issue rows s free false right k r h = absurd (cc h)

@@ -14,3 +14,4 @@ pub mod FitLemmas
 pub mod Closed
 pub mod ClosedKept
 pub mod Reports
+pub mod AirlineLemmas

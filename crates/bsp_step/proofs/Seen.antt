@@ -34,7 +34,7 @@ use Rattle.bsp_messages.specs.declared.refusal.RequestRefusal.TheVariants as ref
 use Rattle.bsp_fields.specs.declared.change.Change.TheVariants.{Done, Held}
 use Rattle.bsp_step.specs.Answers.{is_done, verdicts_in}
 use Rattle.bsp_step.specs.Answers.Answer.{Changed, Refused}
-use Rattle.bsp_step.specs.AirlineLedger.{AirlineLedger, airline_answer, airline_ledger_of, issue_beside, issue_key, issuing}
+use Rattle.bsp_step.specs.AirlineLedger.{is_known, AirlineLedger, airline_answer, airline_ledger_of, issue_beside, issue_key, issuing}
 use Rattle.bsp_step.specs.Ledger.{agent_of}
 use Rattle.bsp_step.specs.Requests.{FileRead, Request, Asked, OfficeRequest, AgentRequest, AirlineRequest}
 use Rattle.bsp_step.specs.Requests.Asked.{NoRoute, OtherMethod, ByOffice, ByAgent, ByAirline}
@@ -265,7 +265,7 @@ issues a airline issue rows r false h = refl
 issues a airline issue rows None true h = refl
 issues a airline issue rows (Some b) true h =
     let l : AirlineLedger = airline_ledger_of airline rows in
-    issued_by a b airline issue rows (free_key airline issue.document rows (issue_free airline b issue l (get l.own.memos (issue_key airline issue.document)) (not (list_any (eq_by_cmp nat_cmp b) l.agents)) (not (is_amount issue.amount)) h)) (b == a) refl
+    issued_by a b airline issue rows (free_key airline issue.document rows (issue_free airline b issue l (get l.own.memos (issue_key airline issue.document)) (not (is_known b l)) (not (is_amount issue.amount)) h)) (b == a) refl
 
 action_by : (a : ℕ) (action : Action) (key : MemoKey) (rows : Rows) (found : Option MemoFields) → get (ledger_of a rows).own.memos key ≡ found → ledger_of a (with_action action key rows) ≡ ledger_all a (ledger_of a rows) (cond (is_some found) (Acted action key ∷ []) [])
 action_by a action key rows None h = acted_seen a action key rows ∙ acted_beside action key (ledger_of a rows) h

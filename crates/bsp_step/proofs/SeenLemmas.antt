@@ -62,7 +62,7 @@ tables token ranges items memos published = record { own = record { token = toke
 
 -- ---- registration
 
-other_key : (a b : ℕ) → (b == a) ≡ false → (c : Bool) → eq_by_cmp nat_cmp a b ≡ c → eq_by_cmp nat_cmp a b ≡ false
+pub other_key : (a b : ℕ) → (b == a) ≡ false → (c : Bool) → eq_by_cmp nat_cmp a b ≡ c → eq_by_cmp nat_cmp a b ≡ false
 other_key a b h true is = absurd (both_ways (b == a) h (eq-eqb b a (sym (same_key nat_cmp-IsAntisymmetric a b is))))
 other_key a b h false is = is
 

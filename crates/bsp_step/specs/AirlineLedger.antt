@@ -1,8 +1,8 @@
 -- What an airline is answered, by its own rows, the codes of registered agents and the plan alone.
-use Rattle.std.specs.Prelude.{ℕ, ◌==◌, not, nat_le, Bool, List, count_by, Option, Some, None, if◌then◌else◌}
-use Rattle.std.specs.List.{filter, list_any}
-use Rattle.std.specs.Ordering.{nat_cmp, eq_by_cmp}
-use Rattle.std.specs.FinMap.{get, values}
+use Rattle.std.specs.Prelude.{ℕ, ◌==◌, not, nat_le, Bool, List, [], count_by, Option, Some, None, is_some, if◌then◌else◌}
+use Rattle.std.specs.List.{filter}
+use Rattle.std.specs.Ordering.{nat_cmp}
+use Rattle.std.specs.FinMap.{FinMap, get, values}
 use Rattle.bsp_fields.specs.CivilDay.{CivilDay}
 use Rattle.bsp_fields.specs.declared.change.Change.TheVariants.{Done, Held}
 use Rattle.bsp_calendar.specs.Published.{Published, closed_period}
@@ -19,8 +19,9 @@ use Rattle.bsp_messages.specs.declared.airline_bodies.MemoIssue.{MemoIssue}
 use Rattle.bsp_messages.specs.declared.airline_bodies.Reduction.{Reduction}
 use Rattle.bsp_messages.specs.declared.refusal.RequestRefusal.TheVariants.{Malformed, NoHot}
 use Rattle.bsp_messages.specs.declared.refusal.RequestRefusal.TheVariants as refusal
+use Rattle.bsp_rows.specs.Changes.{each}
 use Rattle.bsp_rows.specs.Part.{AirlinePart, airline_part}
-use Rattle.bsp_rows.specs.Rows.{Rows, is_in, registered}
+use Rattle.bsp_rows.specs.Rows.{Rows, is_in}
 use Rattle.bsp_rows.specs.declared.keys.MemoKey.{MemoKey}
 use Rattle.bsp_step.specs.Answers.{Answer}
 use Rattle.bsp_step.specs.Answers.Answer.{Changed, Memos, Hot, Refused}
@@ -28,17 +29,20 @@ use Rattle.bsp_step.specs.Ledger.{memo_answer}
 use Rattle.bsp_step.specs.Requests.{AirlineRequest}
 use Rattle.bsp_step.specs.Requests.AirlineRequest.{AskIssuedMemos, IssueMemo, UpholdMemo, WithdrawMemo, ReduceMemo, AskHot}
 
--- an airline's own rows, the codes of registered agents, and the plan
+-- an airline's own rows, the registered agents without their tokens, and the plan
 pub record AirlineLedger : Type 0 where
   pub own : AirlinePart
-  pub agents : List ℕ
+  pub agents : FinMap nat_cmp (List ℕ)
   pub published : Published
 
+abbrev pub no_token : List ℕ → List ℕ
+no_token token = []
+
 abbrev pub airline_ledger_of : ℕ → Rows → AirlineLedger
-airline_ledger_of airline rows = record { own = airline_part airline rows; agents = registered rows; published = rows.published }
+airline_ledger_of airline rows = record { own = airline_part airline rows; agents = each no_token rows.agents; published = rows.published }
 
 abbrev pub is_known : ℕ → AirlineLedger → Bool
-is_known agent l = list_any (eq_by_cmp nat_cmp agent) l.agents
+is_known agent l = is_some (get l.agents agent)
 
 -- ---- an issue
 

@@ -5,5 +5,6 @@ pub mod Ledger
 pub mod AirlineLedger
 pub mod Step
 pub mod View
+pub mod AirlineView
 pub mod Texts
 pub mod Laws
