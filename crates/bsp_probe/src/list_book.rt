@@ -25,7 +25,7 @@ struct Samples {
     text: PlanText,
 }
 
-fn samples(alloc: Global, sample: &Sample) -> Option<Samples> {
+fn make_samples(alloc: Global, sample: &Sample) -> Option<Samples> {
     let text = january_text(alloc)?;
     Some(Samples {
         agent: sample.agents[0],
@@ -279,7 +279,7 @@ fn make_look_ups(list: &mut ListBook, with: &Samples, sample: &Sample) -> Result
 }
 
 pub fn make_calls(alloc: Global, sample: &Sample) -> Result<(), Mistake> {
-    let with = made!("the samples of a book", samples(alloc, sample))?;
+    let with = made!("the samples of a book", make_samples(alloc, sample))?;
     let mut list = ListBook::new(alloc);
     make_writes(&mut list, &with, sample)?;
     make_look_ups(&mut list, &with, sample)
