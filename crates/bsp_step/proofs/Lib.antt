@@ -15,3 +15,4 @@ pub mod Closed
 pub mod ClosedKept
 pub mod Reports
 pub mod AirlineLemmas
+pub mod AirlineSeen

@@ -147,3 +147,40 @@ airline_sights airline l token OtherMethod answer = []
 airline_sights airline l token (ByOffice call) answer = if is_done answer then office_shows airline call else office_files airline call (verdicts_in answer)
 airline_sights airline l token (ByAgent code call) answer = if is_done answer then agent_shows airline call else agent_files airline (agent_of code) call (verdicts_in answer)
 airline_sights airline l token (ByAirline code call) answer = if is_own_airline airline l token code then OwnAsked call ∷ [] else []
+
+-- ---- runs
+
+abbrev pub airline_reply_sights : ℕ → AirlineLedger → Exchange → List AirlineSight
+airline_reply_sights airline l p = by p.1 where
+  by : Option Answer → List AirlineSight
+  by None = []
+  by (Some answer) = airline_sights airline l p.0.token p.0.asked answer
+
+-- its view
+abbrev pub airline_view : ℕ → AirlineLedger → List Exchange → List AirlineSight
+airline_view airline l [] = []
+airline_view airline l (p ∷ ps) = airline_reply_sights airline l p ++ airline_view airline (airline_all airline l (airline_reply_sights airline l p)) ps
+
+abbrev pub airline_sight_answer : ℕ → AirlineLedger → AirlineSight → List Answer
+airline_sight_answer airline l (OwnAsked call) = airline_answer airline l call ∷ []
+airline_sight_answer airline l _ = []
+
+-- the answers to the airline's own requests, by its ledger
+abbrev pub airline_ledger_answers : ℕ → AirlineLedger → List AirlineSight → List Answer
+airline_ledger_answers airline l [] = []
+airline_ledger_answers airline l (s ∷ ss) = airline_sight_answer airline l s ++ airline_ledger_answers airline (airline_after airline l s) ss
+
+abbrev pub airline_told_one : ℕ → AirlineLedger → Option (List ℕ) → Asked → Answer → List Answer
+airline_told_one airline l token (ByAirline code call) answer = if is_own_airline airline l token code then answer ∷ [] else []
+airline_told_one airline l token _ answer = []
+
+abbrev pub airline_told_reply : ℕ → AirlineLedger → Exchange → List Answer
+airline_told_reply airline l p = by p.1 where
+  by : Option Answer → List Answer
+  by None = []
+  by (Some answer) = airline_told_one airline l p.0.token p.0.asked answer
+
+-- the answers that it was given to them
+abbrev pub airline_told : ℕ → AirlineLedger → List Exchange → List Answer
+airline_told airline l [] = []
+airline_told airline l (p ∷ ps) = airline_told_reply airline l p ++ airline_told airline (airline_all airline l (airline_reply_sights airline l p)) ps
