@@ -3,19 +3,17 @@ use Rattle.std.proofs.Common.{◌≡◌, ℕ, ◌==◌, ◌&&◌, Bool, true, fa
 use Rattle.std.proofs.lemmas.Bool.{eqb-true}
 use Rattle.bsp_memos.specs.Steps.{Action}
 use Rattle.bsp_memos.specs.Steps.Action.{Dispute, Agree, Uphold, Reduce, Withdraw}
-use Rattle.bsp_messages.specs.Values.{airline_in, period_in}
+use Rattle.bsp_messages.specs.Values.{airline_in}
 use Rattle.bsp_messages.specs.declared.airline_bodies.MemoIssue.{MemoIssue}
-use Rattle.bsp_messages.specs.declared.memo_bodies.NamedMemo.{NamedMemo}
 use Rattle.bsp_messages.specs.declared.refusal.RequestRefusal.TheVariants.{Forbidden}
 use Rattle.bsp_rules.specs.declared.rows.Range.{Range}
-use Rattle.bsp_rules.specs.declared.verdict.Verdict.{Verdict}
 use Rattle.bsp_rows.specs.Rows.{Rows, agent_token, airline_token}
 use Rattle.bsp_rows.specs.Sound.{Sound}
 use Rattle.bsp_rows.specs.declared.keys.MemoKey.{MemoKey}
-use Rattle.bsp_step.specs.AirlineLedger.{AirlineLedger, airline_answer, airline_ledger_of, issue_key}
-use Rattle.bsp_step.specs.AirlineView.{AirlineSight, agent_files, agent_shows, airline_acted, airline_after, airline_all, airline_done_by, airline_issued, airline_sights, if_same, is_own_airline, known_of, office_files, office_shows, taken_file}
+use Rattle.bsp_step.specs.AirlineLedger.{airline_answer, airline_ledger_of, issue_key}
+use Rattle.bsp_step.specs.AirlineView.{AirlineSight, agent_files, agent_shows, airline_after, airline_all, airline_done_by, airline_issued, airline_sights, if_same, known_of, office_files, office_shows, taken_file}
 use Rattle.bsp_step.specs.AirlineView.AirlineSight.{ActedOn, OwnAsked}
-use Rattle.bsp_step.specs.Answers.{Answer, is_done, verdicts_in}
+use Rattle.bsp_step.specs.Answers.{is_done, verdicts_in}
 use Rattle.bsp_step.specs.Answers.Answer.{Refused}
 use Rattle.bsp_step.specs.Laws.{AirlineLedgerIsOfSights}
 use Rattle.bsp_step.specs.Ledger.{agent_of, ledger_answer, ledger_of, memo_named}
@@ -27,7 +25,7 @@ use Rattle.bsp_step.specs.Requests.OfficeRequest.{PublishPlan, SetBusinessDay, R
 use Rattle.bsp_step.specs.Step.{Fits, Owner, agent_done, airline_done, allotted, asked_after, asked_answer, bearer, by_airline, filed_by_agent, filed_by_office, is_token, issued_to, office_answer, office_done, registered_as, reporter, to_agent, to_airline, with_action, withdrawn}
 use Rattle.bsp_step.specs.View.{is_agent}
 use Rattle.bsp_step.proofs.AirlineLemmas.{action_seen, action_unseen, agent_filed, close_seen, issue_seen, issue_unseen, known_seen, office_filed, renewed_by}
-use Rattle.bsp_step.proofs.Seen.{agent_forbidden, unfiled}
+use Rattle.bsp_step.proofs.Seen.{unfiled}
 use Rattle.bsp_step.proofs.StepLemmas.{reads_back}
 
 -- whether it is done or not

@@ -16,3 +16,4 @@ pub mod ClosedKept
 pub mod Reports
 pub mod AirlineLemmas
 pub mod AirlineSeen
+pub mod AirlineIsolated

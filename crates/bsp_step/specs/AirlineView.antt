@@ -1,5 +1,5 @@
 -- What one airline sees of each answered request, and what it makes of the airline's ledger.
-use Rattle.std.specs.Prelude.{◌≡◌, ℕ, ◌==◌, ◌&&◌, Bool, false, List, [], ◌∷◌, ◌++◌, Option, Some, None, unwrap_or, Ok, Err, if◌then◌else◌}
+use Rattle.std.specs.Prelude.{ℕ, ◌==◌, ◌&&◌, Bool, List, [], ◌∷◌, ◌++◌, Option, Some, None, unwrap_or, Ok, Err, if◌then◌else◌}
 use Rattle.std.specs.FinMap.{insert}
 use Rattle.bsp_calendar.specs.History.{Request as PlanRequest, outcome}
 use Rattle.bsp_calendar.specs.History.Request.{Publish, SetDay, Close}
@@ -16,7 +16,6 @@ use Rattle.bsp_memos.specs.declared.fields.MemoFields.{MemoFields}
 use Rattle.bsp_messages.specs.Values.{airline_in}
 use Rattle.bsp_messages.specs.declared.airline_bodies.MemoIssue.{MemoIssue}
 use Rattle.std.specs.FinMap.{FinMap}
-use Rattle.std.specs.Ordering.{nat_cmp}
 use Rattle.bsp_rows.specs.Changes.{each}
 use Rattle.bsp_rows.specs.Rows.{memo_cmp}
 use Rattle.bsp_rows.specs.Writes.{plan_left}
@@ -24,11 +23,11 @@ use Rattle.bsp_rows.specs.declared.keys.MemoKey.{MemoKey}
 use Rattle.bsp_step.specs.AirlineLedger.{AirlineLedger, airline_answer, issue_key, new_memo}
 use Rattle.bsp_step.specs.Answers.{Answer, is_done, verdicts_in}
 use Rattle.bsp_step.specs.Ledger.{acted, agent_of, memo_named, new_item, review_of, taken}
-use Rattle.bsp_step.specs.Requests.{AgentRequest, AirlineRequest, Asked, FileRead, OfficeRequest, Request}
+use Rattle.bsp_step.specs.Requests.{AgentRequest, AirlineRequest, Asked, FileRead, OfficeRequest}
 use Rattle.bsp_step.specs.Requests.AgentRequest.{AgentFile, DisputeMemo, AgreeMemo}
 use Rattle.bsp_step.specs.Requests.AirlineRequest.{IssueMemo, UpholdMemo, WithdrawMemo, ReduceMemo}
 use Rattle.bsp_step.specs.Requests.Asked.{NoRoute, OtherMethod, ByOffice, ByAgent, ByAirline}
-use Rattle.bsp_step.specs.Requests.OfficeRequest.{PublishPlan, SetBusinessDay, RegisterAgent, RegisterAirline, AllotRange, WithdrawRange, OfficeFile, ClosePeriod, AskSettlement}
+use Rattle.bsp_step.specs.Requests.OfficeRequest.{PublishPlan, SetBusinessDay, RegisterAgent, RegisterAirline, OfficeFile, ClosePeriod}
 use Rattle.bsp_step.specs.Step.{Owner, bearer, is_token, reporter}
 use Rattle.bsp_step.specs.View.{Exchange, is_agent}
 
