@@ -4,12 +4,12 @@ use Rattle.std.specs.Ordering.{nat_cmp, eq_by_cmp}
 use Rattle.std.specs.Cmp.{nat_cmp_total}
 use Rattle.std.specs.FinMap.{FinMap, get, insert, get-insert, nat_cmp-IsAntisymmetric, same_map}
 use Rattle.std.specs.Option.{unwrap_or}
-use Rattle.std.proofs.lemmas.Bool.{both_ways, eqb-true, eq-eqb}
+use Rattle.std.proofs.lemmas.Bool.{eqb-true, eq-eqb}
 use Rattle.bsp_fields.specs.Decimal.{fixed_digits}
 use Rattle.bsp_calendar.specs.History.Request.{Close}
-use Rattle.bsp_calendar.specs.Published.{Published as Plan, target_of}
-use Rattle.bsp_ret.specs.Content.{is_group_values}
-use Rattle.bsp_ret.specs.declared.transactions.Transaction.{Transaction}
+use Rattle.bsp_calendar.specs.Published.{Published as Plan}
+use Rattle.bsp_ret_writer.specs.GroupValues.{is_group_values}
+use Rattle.bsp_ret_records.specs.declared.transactions.Transaction.{Transaction}
 use Rattle.bsp_rules.specs.Rows.{is_canx}
 use Rattle.bsp_rules.specs.declared.rows.Item.{Item}
 use Rattle.bsp_rules.specs.declared.verdict.Reporter.{Reporter}
@@ -26,7 +26,7 @@ use Rattle.bsp_rows.specs.declared.keys.ItemKey.{ItemKey}
 use Rattle.bsp_rows.specs.declared.keys.MemoKey.{MemoKey}
 use Rattle.bsp_rows.specs.Changes.{IsAcceptance, after_accepted, each, ended_where, facts_at, sale_key}
 use Rattle.bsp_rows.specs.Part.{kept}
-use Rattle.bsp_rows.specs.Rows.{Rows, item_cmp, key_of, memo_cmp, memo_key}
+use Rattle.bsp_rows.specs.Rows.{Rows, item_cmp, key_of, memo_cmp}
 use Rattle.bsp_rows.specs.Sound.{Sound}
 use Rattle.bsp_rows.specs.Writes.{after_request, changed, ended, with_agent_token, with_airline_token, with_memo}
 use Rattle.bsp_rows.proofs.ClearedLemmas.{IsCleared, cleared}
@@ -37,7 +37,7 @@ use Rattle.bsp_rows.proofs.PartLemmas.{changed_none, each_get, kept_beside, kept
 use Rattle.bsp_step.specs.AirlineLedger.{AirlineLedger, airline_ledger_of, issue_key, new_memo, no_token}
 use Rattle.bsp_step.specs.AirlineView.{AirlineSight, airline_acted, airline_after, airline_all, airline_issued, airline_planned, taken_in, taken_of, taken_one, with_airline_items}
 use Rattle.bsp_step.specs.AirlineView.AirlineSight.{Known, Renewed, Taken}
-use Rattle.bsp_step.specs.Ledger.{Ledger, agent_of, ended_in, ledger_of, new_item, own_verdict, own_verdicts, review_of, taken}
+use Rattle.bsp_step.specs.Ledger.{Ledger, agent_of, ended_in, ledger_of, new_item, own_verdict, own_verdicts, review_of}
 use Rattle.bsp_step.specs.Step.{AreGroups, bearer, joined, office_verdict, office_verdict_for, office_verdicts, reporter, rows_filed, rows_judged, with_action, with_close}
 use Rattle.bsp_step.proofs.ChangeLemmas.{accepts, office_judged_keeps, own_judged_keeps, reported_own}
 use Rattle.bsp_step.proofs.Invariant.{sound_is_kept}

@@ -15,3 +15,5 @@ pub mod Closed
 pub mod ClosedKept
 pub mod Reports
 pub mod AirlineLemmas
+pub mod AirlineSeen
+pub mod AirlineIsolated

@@ -1,10 +1,10 @@
 -- What one airline sees of each answered request, and what it makes of the airline's ledger.
-use Rattle.std.specs.Prelude.{◌≡◌, ℕ, ◌==◌, ◌&&◌, Bool, false, List, [], ◌∷◌, ◌++◌, Option, Some, None, unwrap_or, Ok, Err, if◌then◌else◌}
+use Rattle.std.specs.Prelude.{ℕ, ◌==◌, ◌&&◌, Bool, List, [], ◌∷◌, ◌++◌, Option, Some, None, unwrap_or, Ok, Err, if◌then◌else◌}
 use Rattle.std.specs.FinMap.{insert}
 use Rattle.bsp_calendar.specs.History.{Request as PlanRequest, outcome}
 use Rattle.bsp_calendar.specs.History.Request.{Publish, SetDay, Close}
 use Rattle.bsp_calendar.specs.Published.{target_of}
-use Rattle.bsp_ret.specs.declared.transactions.Transaction.{Transaction}
+use Rattle.bsp_ret_records.specs.declared.transactions.Transaction.{Transaction}
 use Rattle.bsp_rules.specs.declared.verdict.Verdict.{Verdict}
 use Rattle.bsp_rules.specs.declared.verdict.Verdict.TheVariants as verdict
 use Rattle.bsp_rules.specs.declared.rows.Item.{Item}
@@ -16,7 +16,6 @@ use Rattle.bsp_memos.specs.declared.fields.MemoFields.{MemoFields}
 use Rattle.bsp_messages.specs.Values.{airline_in}
 use Rattle.bsp_messages.specs.declared.airline_bodies.MemoIssue.{MemoIssue}
 use Rattle.std.specs.FinMap.{FinMap}
-use Rattle.std.specs.Ordering.{nat_cmp}
 use Rattle.bsp_rows.specs.Changes.{each}
 use Rattle.bsp_rows.specs.Rows.{memo_cmp}
 use Rattle.bsp_rows.specs.Writes.{plan_left}
@@ -24,11 +23,11 @@ use Rattle.bsp_rows.specs.declared.keys.MemoKey.{MemoKey}
 use Rattle.bsp_step.specs.AirlineLedger.{AirlineLedger, airline_answer, issue_key, new_memo}
 use Rattle.bsp_step.specs.Answers.{Answer, is_done, verdicts_in}
 use Rattle.bsp_step.specs.Ledger.{acted, agent_of, memo_named, new_item, review_of, taken}
-use Rattle.bsp_step.specs.Requests.{AgentRequest, AirlineRequest, Asked, FileRead, OfficeRequest, Request}
+use Rattle.bsp_step.specs.Requests.{AgentRequest, AirlineRequest, Asked, FileRead, OfficeRequest}
 use Rattle.bsp_step.specs.Requests.AgentRequest.{AgentFile, DisputeMemo, AgreeMemo}
 use Rattle.bsp_step.specs.Requests.AirlineRequest.{IssueMemo, UpholdMemo, WithdrawMemo, ReduceMemo}
 use Rattle.bsp_step.specs.Requests.Asked.{NoRoute, OtherMethod, ByOffice, ByAgent, ByAirline}
-use Rattle.bsp_step.specs.Requests.OfficeRequest.{PublishPlan, SetBusinessDay, RegisterAgent, RegisterAirline, AllotRange, WithdrawRange, OfficeFile, ClosePeriod, AskSettlement}
+use Rattle.bsp_step.specs.Requests.OfficeRequest.{PublishPlan, SetBusinessDay, RegisterAgent, RegisterAirline, OfficeFile, ClosePeriod}
 use Rattle.bsp_step.specs.Step.{Owner, bearer, is_token, reporter}
 use Rattle.bsp_step.specs.View.{Exchange, is_agent}
 
@@ -147,3 +146,40 @@ airline_sights airline l token OtherMethod answer = []
 airline_sights airline l token (ByOffice call) answer = if is_done answer then office_shows airline call else office_files airline call (verdicts_in answer)
 airline_sights airline l token (ByAgent code call) answer = if is_done answer then agent_shows airline call else agent_files airline (agent_of code) call (verdicts_in answer)
 airline_sights airline l token (ByAirline code call) answer = if is_own_airline airline l token code then OwnAsked call ∷ [] else []
+
+-- ---- runs
+
+abbrev pub airline_reply_sights : ℕ → AirlineLedger → Exchange → List AirlineSight
+airline_reply_sights airline l p = by p.1 where
+  by : Option Answer → List AirlineSight
+  by None = []
+  by (Some answer) = airline_sights airline l p.0.token p.0.asked answer
+
+-- its view
+abbrev pub airline_view : ℕ → AirlineLedger → List Exchange → List AirlineSight
+airline_view airline l [] = []
+airline_view airline l (p ∷ ps) = airline_reply_sights airline l p ++ airline_view airline (airline_all airline l (airline_reply_sights airline l p)) ps
+
+abbrev pub airline_sight_answer : ℕ → AirlineLedger → AirlineSight → List Answer
+airline_sight_answer airline l (OwnAsked call) = airline_answer airline l call ∷ []
+airline_sight_answer airline l _ = []
+
+-- the answers to the airline's own requests, by its ledger
+abbrev pub airline_ledger_answers : ℕ → AirlineLedger → List AirlineSight → List Answer
+airline_ledger_answers airline l [] = []
+airline_ledger_answers airline l (s ∷ ss) = airline_sight_answer airline l s ++ airline_ledger_answers airline (airline_after airline l s) ss
+
+abbrev pub airline_told_one : ℕ → AirlineLedger → Option (List ℕ) → Asked → Answer → List Answer
+airline_told_one airline l token (ByAirline code call) answer = if is_own_airline airline l token code then answer ∷ [] else []
+airline_told_one airline l token _ answer = []
+
+abbrev pub airline_told_reply : ℕ → AirlineLedger → Exchange → List Answer
+airline_told_reply airline l p = by p.1 where
+  by : Option Answer → List Answer
+  by None = []
+  by (Some answer) = airline_told_one airline l p.0.token p.0.asked answer
+
+-- the answers that it was given to them
+abbrev pub airline_told : ℕ → AirlineLedger → List Exchange → List Answer
+airline_told airline l [] = []
+airline_told airline l (p ∷ ps) = airline_told_reply airline l p ++ airline_told airline (airline_all airline l (airline_reply_sights airline l p)) ps

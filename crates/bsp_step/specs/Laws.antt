@@ -17,6 +17,7 @@ use Rattle.bsp_rows.specs.Rows.{Rows, item_at, item_cmp, memo_cmp}
 use Rattle.bsp_step.specs.AirlineLedger.{airline_answer, airline_ledger_of, hot_answer}
 use Rattle.bsp_rows.specs.declared.keys.ItemKey.{ItemKey}
 use Rattle.bsp_rows.specs.Sound.{Sound}
+use Rattle.bsp_step.specs.AirlineView.{airline_all, airline_ledger_answers, airline_sights, airline_told, airline_view}
 use Rattle.bsp_step.specs.Answers.{Answer, is_done, verdicts_in}
 use Rattle.bsp_step.specs.Answers.Answer.{Refused}
 use Rattle.bsp_step.specs.Ledger.{agent_of, ledger_answer, ledger_of, own_verdicts, statement_answer}
@@ -70,6 +71,14 @@ AirlineIsAnsweredByLedger =
     answer_of office rows (record { token = token; asked = ByAirline code call })
     ≡ (if is_token (airline_ledger_of airline rows).own.token token then airline_answer airline (airline_ledger_of airline rows) call else Refused Forbidden)
 
+-- what any request makes of its ledger is what it sees of the answer
+abbrev pub AirlineLedgerIsOfSights : Type 0
+AirlineLedgerIsOfSights =
+    (office : List ℕ) (airline : ℕ) (rows : Rows) (request : Request) → Sound rows → Fits request.asked →
+    let answer = answer_of office rows request in
+    let l = airline_ledger_of airline rows in
+    airline_ledger_of airline (rows_after rows request answer) ≡ airline_all airline l (airline_sights airline l request.token request.asked answer)
+
 -- ---- whole runs
 
 abbrev pub RunIsSound : Type 0
@@ -89,6 +98,23 @@ AgentsAreAlike =
     Run office rows exchanges new → Run other rows' exchanges' new' →
     ledger_of agent rows ≡ ledger_of agent rows' → view agent (ledger_of agent rows) exchanges ≡ view agent (ledger_of agent rows') exchanges' →
     told agent (ledger_of agent rows) exchanges ≡ told agent (ledger_of agent rows') exchanges'
+
+-- the answers to an airline are those of its ledger over its view, and so is its part of the rows in the end
+abbrev pub AirlineIsIsolated : Type 0
+AirlineIsIsolated =
+    (office : List ℕ) (airline : ℕ) (rows : Rows) (exchanges : List Exchange) (new : Rows) → Run office rows exchanges new → AllFit exchanges → Sound rows →
+    let start = airline_ledger_of airline rows in
+    (airline_told airline start exchanges ≡ airline_ledger_answers airline start (airline_view airline start exchanges))
+    × (airline_ledger_of airline new ≡ airline_all airline start (airline_view airline start exchanges))
+
+-- of two runs in which its part at the start and its view are equal, the answers to it are equal
+abbrev pub AirlinesAreAlike : Type 0
+AirlinesAreAlike =
+    (office other : List ℕ) (airline : ℕ) (rows rows' : Rows) (exchanges exchanges' : List Exchange) (new new' : Rows) →
+    Run office rows exchanges new → Run other rows' exchanges' new' → AllFit exchanges → AllFit exchanges' → Sound rows → Sound rows' →
+    airline_ledger_of airline rows ≡ airline_ledger_of airline rows' →
+    airline_view airline (airline_ledger_of airline rows) exchanges ≡ airline_view airline (airline_ledger_of airline rows') exchanges' →
+    airline_told airline (airline_ledger_of airline rows) exchanges ≡ airline_told airline (airline_ledger_of airline rows') exchanges'
 
 -- ---- repeats
 

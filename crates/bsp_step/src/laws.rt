@@ -1,6 +1,6 @@
 //! Laws of requests and their answers.
 
-ghost use Rattle.bsp_step.specs.Laws.{AgentIsIsolated, AgentsAreAlike, AirlineIsAnsweredByLedger, ClosedPeriodsStay, FilesAreTaken, LedgerIsOfSights, NumbersHaveOneOwner, OthersAreForbidden, OwnIsAnsweredByLedger, ReadRequestsFit, RefusalsChangeNothing, RepeatsAreHeld, ReportsStay, RunIsSound, StepIsSound};
+ghost use Rattle.bsp_step.specs.Laws.{AgentIsIsolated, AgentsAreAlike, AirlineIsAnsweredByLedger, AirlineIsIsolated, AirlineLedgerIsOfSights, AirlinesAreAlike, ClosedPeriodsStay, FilesAreTaken, LedgerIsOfSights, NumbersHaveOneOwner, OthersAreForbidden, OwnIsAnsweredByLedger, ReadRequestsFit, RefusalsChangeNothing, RepeatsAreHeld, ReportsStay, RunIsSound, StepIsSound};
 ghost use Rattle.bsp_step.specs.Texts.{AnswersAreOneText};
 
 /// Any request keeps sound rows sound, whatever it is answered, and so does any run of requests; and an
@@ -43,10 +43,15 @@ pub fn numbers_have_one_owner()
     ensures { NumbersHaveOneOwner }
 {}
 
-/// An airline's requests are answered by its own rows, the codes of the registered agents and the plan; one
-/// with another token is forbidden.
-pub fn airline_answers()
-    ensures { AirlineIsAnsweredByLedger }
+/// An airline's requests are answered by its ledger: its own rows, the codes of the registered agents and the
+/// plan; one with another token is forbidden. Over any run of requests of any callers on sound rows its ledger
+/// is the fold of what it sees, and the answers to it, HOT files among them, are those of that ledger; so two
+/// runs in which it starts with the same and sees the same give it the same answers.
+pub fn airline_isolation()
+    ensures own { AirlineIsAnsweredByLedger }
+    ensures seen { AirlineLedgerIsOfSights }
+    ensures isolated { AirlineIsIsolated }
+    ensures alike { AirlinesAreAlike }
 {}
 
 /// A closed period stays as it is over any run of requests: its days, its items and the memos billed in it;

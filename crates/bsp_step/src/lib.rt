@@ -1,4 +1,5 @@
-//! What each request is answered and what it makes of the rows: of all callers, and of one agent alone.
+//! What each request is answered and what it makes of the rows: of all callers, of one agent alone, and of one
+//! airline alone.
 //!
 //! `specs/` has the definitions: requests with their bodies read, the answer to each, and the rows after it.
 //! The functions are laws: the contract of each is the statement, and its body has nothing to do.
@@ -7,6 +8,6 @@
 mod laws;
 
 pub use laws::{
-    agent_isolation, airline_answers, answers_are_one_text, closed_periods_stay,
+    agent_isolation, airline_isolation, answers_are_one_text, closed_periods_stay,
     numbers_have_one_owner, repeats_are_held, steps_are_sound,
 };
