@@ -57,7 +57,7 @@ ticket_code Canx h = absurd (cc h)
 
 -- ---- related documents
 
--- its TKTT stands at its key and lives, and nothing that lives relates to it
+-- its TKTT is at its key and lives, and nothing that lives relates to it
 pub record IsOpenTicket (rows : Rows) (agent airline : ℕ) (d : ReportedDocument) : Type 0 where
   pub own : d.airline ≡ airline
   pub ticket : Item

@@ -92,7 +92,7 @@ module _ (rows : Rows) (item : Item) (sound : AreSoundItems rows.published rows.
   has_ticket : (agent airline : ℕ) (d : ReportedDocument) → HasTicket rows.items agent airline d → HasTicket new agent airline d
   has_ticket agent airline d h = record { own = h.own; ticket = fate item (ticket_key agent d) h.ticket; there = all_taken.kept (ticket_key agent d) h.ticket h.there; is = h.is }
 
-  -- no item stands at the key of its CANX, but itself
+  -- no item is at the key of its CANX, but itself
   alone : (found : Option Item) → get new (canx_of key) ≡ found → (canx : Bool) → is_canx item ≡ canx → (canx || not (is_some found)) ≡ true
   alone found is true e = refl
   alone None is false e = refl
@@ -179,8 +179,8 @@ module _ (rows : Rows) (item : Item) (sound : AreSoundItems rows.published rows.
       let o = c.tickets d in' in
       let keyed : key_of j ≡ l = (sound.each l j there).right.keyed in
       let at : l ≡ canx_of (ticket_key item.agent d) = sym keyed ∙ (λ i. record { agent = (ap (λ (x : ItemKey). x.agent) keyed ∙ own) i; number = number_of (sym same i); is_canx = canx i }) in
-      let stands : get rows.items (canx_of (ticket_key item.agent d)) ≡ Some j = sym (ap (get rows.items) at) ∙ there in
-      let ended = (sound.each (ticket_key item.agent d) o.ticket o.there).tied.lives ∙ ap (λ (f : Option Item). not (is_some f)) stands in
+      let there_is : get rows.items (canx_of (ticket_key item.agent d)) ≡ Some j = sym (ap (get rows.items) at) ∙ there in
+      let ended = (sound.each (ticket_key item.agent d) o.ticket o.there).tied.lives ∙ ap (λ (f : Option Item). not (is_some f)) there_is in
       both_ways o.ticket.lives ended o.lives
 
   none_to : (k l : ItemKey) (i j : Item) → get new k ≡ Some i → get new l ≡ Some j → k.agent ≡ l.agent → is_canx j ≡ true → is_living_relation j.transaction.document.number i ≡ true → ⊥

@@ -58,7 +58,7 @@ none_below R x (e ∷ es) h =
 
 -- ---- what is looked up
 
--- what stands at a key, if it passes the test
+-- what is at a key, if it passes the test
 abbrev pub passing : {K X : Type 0} → (K × X → Bool) → K → Option X → Option X
 passing test k None = None
 passing test k (Some v) = cond (test (k, v)) (Some v) None
@@ -145,7 +145,7 @@ module _ {K X : Type 0} {R : K → K → Ordering} (o : IsTotalOrder R) (exact :
       kept_get test (remove m k) q ∙ (ap (passing test q) (get-remove o m k q) ∙ (out_step test m k None refl was q (eq_by_cmp R q k) refl
       ∙ sym (kept_get test m q))))
 
-  -- where nothing stands, a change changes nothing
+  -- where nothing is, a change changes nothing
   pub changed_none : (f : X → X) (k : K) (m : FinMap R X) → get m k ≡ None → changed f k m ≡ m
   changed_none f k m h = ap (λ (found : Option X). changed_to f k found m) h
 

@@ -111,7 +111,7 @@ count_taken test alike rows item new =
     count_added item_total item_exact test (ended_by item rows).items (key_of item) item none
     ∙ ap (λ (n : ℕ). cond (test (key_of item, item)) 1 0 + n) (count_ended test alike rows (sale_key item) (is_canx item))
 
--- ---- whether a CANX stands
+-- ---- whether a CANX is there
 
 apart : (a b : Ordering) → is_eq (ordering_then a (ordering_then b Greater)) ≡ false
 apart Less b = refl
