@@ -65,11 +65,7 @@ fn discount_item(tallies: &mut Kept, item: &Item) -> Result<(), NoRoom>
 }
 
 /// Counts an item in place of the one that was there.
-pub(crate) fn recount_item(
-    tallies: &mut Kept,
-    old: Option<Item>,
-    item: &Item,
-) -> Result<(), NoRoom>
+pub(crate) fn recount_item(tallies: &mut Kept, old: Option<Item>, item: &Item) -> Result<(), NoRoom>
     ensures ok { OnOk result ((items : List ItemValue) (memos : List MemoValue) → AreAddedUp (option_to_list old ++ items) memos (content tally_cmp tallies.old) → AreAddedUp (item.now ∷ items) memos (content tally_cmp tallies.new)) }
     ensures before { before tally_cmp tallies.new ≡ before tally_cmp tallies.old }
 {
@@ -111,11 +107,7 @@ fn discount_memo(tallies: &mut Kept, memo: &MemoFields) -> Result<(), NoRoom>
 }
 
 /// Counts a memo in place of the one that was there.
-pub(crate) fn recount_memo(
-    tallies: &mut Kept,
-    old: Option<Memo>,
-    memo: &Memo,
-) -> Result<(), NoRoom>
+pub(crate) fn recount_memo(tallies: &mut Kept, old: Option<Memo>, memo: &Memo) -> Result<(), NoRoom>
     ensures ok { OnOk result ((items : List ItemValue) (memos : List MemoValue) → AreAddedUp items (option_to_list old ++ memos) (content tally_cmp tallies.old) → AreAddedUp items (memo.now ∷ memos) (content tally_cmp tallies.new)) }
     ensures before { before tally_cmp tallies.new ≡ before tally_cmp tallies.old }
 {
