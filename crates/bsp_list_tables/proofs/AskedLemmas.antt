@@ -4,7 +4,7 @@ use Rattle.std.specs.Prelude.{nat_lt, option_map, unwrap_or}
 use Rattle.std.specs.List.{Contains, cons_option, filter, filter_map, list_any}
 use Rattle.std.specs.Ordering.{eq_by_cmp}
 use Rattle.std.specs.Cmp.{IsTotalOrder}
-use Rattle.std.specs.FinMap.{FinMap, IsAntisymmetric, entries, entries_sorted, entries-from_sorted, from_entries, from_sorted, get, get-entries, get-from_entries, get-from_sorted, keys, same_map, values}
+use Rattle.std.specs.FinMap.{FinMap, IsAntisymmetric, entries, entries_sorted, entries-from_sorted, from_entries, from_sorted, get, get-entries, get-from_entries, get-from_sorted, keys, same_map}
 use Rattle.std.specs.FinMap.Entries.{below_all, find, is_sorted}
 use Rattle.std.specs.Ordering.{is_lt}
 use Rattle.std.proofs.lemmas.List.Folds.{list_any-append}
@@ -21,7 +21,7 @@ use Rattle.bsp_rows.specs.declared.questions.Tallies.{Tallies}
 use Rattle.bsp_rows.specs.Tallies.{added_up, is_tally_asked, item_tally_key, key_tally, memo_tally_key, tally_cmp}
 use Rattle.bsp_rows.proofs.KeyOrders.{tally_exact, tally_total}
 use Rattle.bsp_rows.proofs.MapLemmas.{entry_get, same_key}
-use Rattle.bsp_list_tables.specs.Kept.{AreAddedUp, tally_at}
+use Rattle.bsp_list_tables.specs.Kept.{AreAddedUp}
 use Rattle.bsp_list_tables.specs.Lookups.{asked_tallies, has_rows, is_asked}
 use Rattle.bsp_list_tables.proofs.TallySteps.{billed_key, key_is, memo_key_of, own_key, own_memo_key, ties}
 

@@ -10,7 +10,6 @@ use Rattle.bsp_postings.specs.declared.tally.Tally.{Tally}
 use Rattle.bsp_rules.specs.Selected.{numbers_of}
 use Rattle.bsp_rows.specs.declared.keys.ItemKey.{ItemKey}
 use Rattle.bsp_rows.specs.declared.keys.MemoKey.{MemoKey}
-use Rattle.bsp_rows.specs.declared.keys.TallyKey.{TallyKey}
 use Rattle.bsp_rows.specs.Rows.{item_cmp, memo_cmp}
 use Rattle.bsp_rows.specs.Tallies.{added_up, key_tally, tally_cmp}
 use Rattle.bsp_maps.proofs.OrderLemmas.{no_entries}
@@ -19,7 +18,7 @@ use Rattle.bsp_list_tables.specs.Kept.{AreAddedUp, AreDerived, tally_at}
 use Rattle.bsp_list_tables.specs.Numbers.{number_cmp, with_numbers}
 use Rattle.bsp_list_tables.proofs.NumberLemmas.{indexed, nothing_indexed}
 use Rattle.bsp_list_tables.proofs.TallySteps.{moved}
-use Rattle.bsp_list_tables.proofs.ValueLemmas.{HasOthers, insert_others}
+use Rattle.bsp_list_tables.proofs.ValueLemmas.{insert_others}
 
 -- equal maps
 pub derived_moved : (items others : FinMap item_cmp Item) (memos other_memos : FinMap memo_cmp MemoFields) (numbers other_numbers : FinMap number_cmp ItemKey) (tallies other_tallies : FinMap tally_cmp Tally)

@@ -1,5 +1,5 @@
 -- What a row more or less makes of the tallies.
-use Rattle.std.proofs.Common.{◌≡◌, ℕ, ◌+◌, ◌==◌, ◌&&◌, Bool, true, false, cond, List, [], ◌∷◌, ◌++◌, length, refl, sym, ap, subst, ◌∙◌, arith, Option, Some, None, Result, Ok, Err, OnOk, IsPermutation}
+use Rattle.std.proofs.Common.{◌≡◌, ℕ, ◌+◌, ◌==◌, ◌&&◌, Bool, true, false, cond, List, ◌∷◌, length, refl, sym, ap, subst, ◌∙◌, arith, Option, Some, None, Result, Ok, Err, OnOk, IsPermutation}
 use Rattle.std.specs.Prelude.{unwrap_or, option_map, IsSome, IfSome, SomeIff}
 use Rattle.std.specs.List.{filter, sum_by}
 use Rattle.std.specs.Ordering.{eq_by_cmp, is_eq}

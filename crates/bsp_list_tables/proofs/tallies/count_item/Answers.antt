@@ -1,4 +1,4 @@
-use Rattle.std.proofs.Common.{◌≡◌, ◌∷◌, Result, Ok, Err, OnOk}
+use Rattle.std.proofs.Common.{◌∷◌}
 use Rattle.bsp_maps.specs.Undo.{content}
 use Rattle.bsp_postings.specs.Tallies.{with_item}
 use Rattle.bsp_rows.specs.Tallies.{added_up, item_tally_key, key_tally, tally_cmp}

@@ -1,4 +1,4 @@
-use Rattle.std.proofs.Common.{◌≡◌, ◌∷◌, refl, sym, ◌∙◌, Result, Ok, Err, OnOk}
+use Rattle.std.proofs.Common.{◌∷◌, refl, sym, ◌∙◌}
 use Rattle.bsp_maps.specs.Undo.{content}
 use Rattle.bsp_postings.specs.Tallies.{with_memo}
 use Rattle.bsp_rows.specs.Tallies.{added_up, key_tally, tally_cmp}

@@ -1,4 +1,4 @@
-use Rattle.std.proofs.Common.{◌≡◌, ◌∷◌, sym, Result, Ok, Err, OnOk}
+use Rattle.std.proofs.Common.{◌∷◌, sym}
 use Rattle.bsp_maps.specs.Undo.{content}
 use Rattle.bsp_postings.specs.Removal.{without_item}
 use Rattle.bsp_rows.specs.Tallies.{added_up, item_tally_key, key_tally, tally_cmp}

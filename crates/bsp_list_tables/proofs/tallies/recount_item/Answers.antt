@@ -1,4 +1,4 @@
-use Rattle.std.proofs.Common.{◌≡◌, List, ◌++◌, subst, Option, Result, Ok, Err, OnOk}
+use Rattle.std.proofs.Common.{◌++◌, subst, Option}
 use Rattle.std.specs.Option.{option_to_list}
 use Rattle.bsp_rules.specs.declared.rows.Item.{Item}
 use Rattle.bsp_maps.specs.Undo.{content}

@@ -1,4 +1,4 @@
-use Rattle.std.proofs.Common.{◌≡◌, List, ◌∷◌, ◌++◌, sym, subst, Option, Result, Ok, Err, OnOk}
+use Rattle.std.proofs.Common.{◌∷◌, ◌++◌, sym, subst, Option}
 use Rattle.std.specs.Option.{option_to_list}
 use Rattle.bsp_memos.specs.declared.fields.MemoFields.{MemoFields}
 use Rattle.bsp_maps.specs.Undo.{content}

@@ -1,4 +1,4 @@
-use Rattle.std.proofs.Common.{◌≡◌, sym, ap, ◌∙◌}
+use Rattle.std.proofs.Common.{sym, ap, ◌∙◌}
 use Rattle.std.specs.FinMap.{from_entries}
 use Rattle.bsp_maps.specs.Present.{with_present_value}
 use Rattle.bsp_maps.proofs.UndoLemmas.{written}

@@ -1,4 +1,4 @@
-use Rattle.std.proofs.Common.{◌≡◌, List, ◌++◌, refl, sym, subst, Option}
+use Rattle.std.proofs.Common.{◌++◌, refl, sym, subst, Option}
 use Rattle.std.specs.FinMap.{insert}
 use Rattle.std.specs.Option.{option_to_list}
 use Rattle.bsp_memos.specs.declared.fields.MemoFields.{MemoFields}

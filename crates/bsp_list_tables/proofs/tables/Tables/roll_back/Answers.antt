@@ -2,7 +2,6 @@ use Rattle.bsp_maps.specs.Undo.{before, content}
 use Rattle.bsp_maps.specs.Present.{present}
 use Rattle.bsp_rows.specs.Rows.{item_cmp, memo_cmp}
 use Rattle.bsp_rows.specs.Tallies.{tally_cmp}
-use Rattle.bsp_rows.proofs.KeyOrders.{item_exact, memo_exact, range_exact, tally_exact}
 use Rattle.bsp_list_tables.specs.Numbers.{number_cmp}
 use Rattle.bsp_list_tables.proofs.DerivedLemmas.{derived_moved}
 use Rattle.bsp_list_tables.proofs.NumberOrder.{number_exact}

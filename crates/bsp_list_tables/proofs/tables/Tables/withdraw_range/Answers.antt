@@ -1,4 +1,4 @@
-use Rattle.std.proofs.Common.{◌≡◌, ℕ, ap, ◌∙◌, None, Result, Ok, Err, OnOk}
+use Rattle.std.proofs.Common.{ℕ, ap, ◌∙◌, None}
 use Rattle.std.specs.FinMap.{FinMap, insert}
 use Rattle.bsp_maps.specs.Undo.{content}
 use Rattle.bsp_maps.specs.Present.{present}
