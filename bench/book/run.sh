@@ -18,7 +18,6 @@ mod market;
 use bsp_book::{Book, BookFault, ListBook};
 use bsp_calendar::PlanText;
 use bsp_fields::{AgentCode, Day, DocNumber, Token, write_digits};
-use bsp_ret_records::{ReportedDocument, Transaction};
 use bsp_rows::{ItemKey, TallyKey};
 use bsp_rules::{Item, Range};
 use market::{agents, plan_text, sale};
@@ -28,38 +27,18 @@ use std::time::Instant;
 /// How often a call is made for one figure.
 const CALLS: u64 = 5_000;
 
-/// The sale of that number by an agent.
-fn sale_of(sample: &Item, agent: AgentCode, number: u64) -> Item {
-    let sold = &sample.transaction;
-    let transaction = Transaction {
-        code: sold.code,
-        agent: agent.digits(),
-        document: ReportedDocument {
-            airline: sold.document.airline,
-            number: write_digits::<10>(number),
-            check_digit: (number % 7) as u8,
-        },
-        issued: sold.issued,
-        passenger: sold.passenger,
-        related: sold.related,
-        amounts: sold.amounts,
-        cash: sold.cash,
-        credit: sold.credit,
-        exchange: sold.exchange,
-    };
-    Item {
-        agent,
-        period: sample.period,
-        transaction,
-        lives: true,
+/// Makes each item the sale that is added as number n: agents take turns.
+fn set_nth(items: &mut [Item], agents: &[AgentCode], n: u64) {
+    let turn = n % 500;
+    let number = 1_000_000_000 + turn * 1_000_000 + n / 500;
+    if let Some(agent) = agents.get(turn as usize) {
+        for i in 0..items.len() {
+            items[i].agent = *agent;
+            items[i].transaction.agent = agent.digits();
+            items[i].transaction.document.number = write_digits::<10>(number);
+            items[i].transaction.document.check_digit = (number % 7) as u8;
+        }
     }
-}
-
-/// The sale that is added as number n: agents take turns.
-fn nth_sale(sample: &Item, agents: &[AgentCode], n: u64) -> Item {
-    let turn = (n % 500) as usize;
-    let agent = agents.get(turn).copied().unwrap_or(sample.agent);
-    sale_of(sample, agent, 1_000_000_000 + (n % 500) * 1_000_000 + n / 500)
 }
 
 fn number(value: u64) -> Option<DocNumber> {
@@ -99,12 +78,15 @@ fn add(book: &mut ListBook, item: &Item) -> Result<(), BookFault> {
 }
 
 /// Adds the sales from number `from` on, 100 in a transaction.
-fn fill(book: &mut ListBook, sample: &Item, agents: &[AgentCode], count: u64) -> Result<(), BookFault> {
+fn fill(book: &mut ListBook, items: &mut [Item], agents: &[AgentCode], count: u64) -> Result<(), BookFault> {
     for n in 0..count {
         if n % 100 == 0 {
             book.begin()?;
         }
-        add(book, &nth_sale(sample, agents, n))?;
+        set_nth(items, agents, n);
+        if let Some(item) = items.first() {
+            add(book, item)?;
+        }
         if n % 100 == 99 {
             book.commit()?;
         }
@@ -123,32 +105,39 @@ fn request(book: &mut ListBook, item: &Item) -> Result<(), BookFault> {
     book.commit()
 }
 
-fn requests(book: &mut ListBook, sample: &Item, agents: &[AgentCode], count: u64) -> Result<(), BookFault> {
+fn requests(book: &mut ListBook, items: &mut [Item], agents: &[AgentCode], count: u64) -> Result<(), BookFault> {
     for n in count..count.saturating_add(CALLS) {
-        request(book, &nth_sale(sample, agents, n))?;
+        set_nth(items, agents, n);
+        if let Some(item) = items.first() {
+            request(book, item)?;
+        }
     }
     Ok(())
 }
 
 /// Gives how many items were found.
-fn look_up(book: &mut ListBook, sample: &Item, agents: &[AgentCode]) -> Result<usize, BookFault> {
+fn look_up(book: &mut ListBook, items: &mut [Item], agents: &[AgentCode]) -> Result<usize, BookFault> {
     let mut found = 0_usize;
     book.begin()?;
     for n in 0..CALLS {
-        let item = nth_sale(sample, agents, n);
-        found = found.saturating_add(book.items_bearing(item.agent, &item.transaction)?.len());
+        set_nth(items, agents, n);
+        if let Some(item) = items.first() {
+            found = found.saturating_add(book.items_bearing(item.agent, &item.transaction)?.len());
+        }
     }
     book.commit()?;
     Ok(found)
 }
 
 /// Gives how many items the tallies count.
-fn tallies(book: &mut ListBook, sample: &Item, agents: &[AgentCode]) -> Result<u32, BookFault> {
+fn tallies(book: &mut ListBook, items: &mut [Item], agents: &[AgentCode]) -> Result<u32, BookFault> {
     let mut counted = 0_u32;
     book.begin()?;
     for n in 0..CALLS {
-        let item = nth_sale(sample, agents, n);
-        counted = counted.saturating_add(book.tally(TallyKey::of_item(&item))?.accepted);
+        set_nth(items, agents, n);
+        if let Some(item) = items.first() {
+            counted = counted.saturating_add(book.tally(TallyKey::of_item(item))?.accepted);
+        }
     }
     book.commit()?;
     Ok(counted)
@@ -167,30 +156,30 @@ fn opened(rt: &HostRuntime, agents: &[AgentCode]) -> Option<ListBook> {
     Some(book)
 }
 
-fn measure_fill(rt: &HostRuntime, book: &mut ListBook, sample: &Item, agents: &[AgentCode], count: u64) -> io::Result<()> {
+fn measure_fill(rt: &HostRuntime, book: &mut ListBook, items: &mut [Item], agents: &[AgentCode], count: u64) -> io::Result<()> {
     let begun = Instant::now(rt)?;
-    let is_done = fill(book, sample, agents, count).is_ok();
+    let is_done = fill(book, items, agents, count).is_ok();
     let took = begun.elapsed(rt)?.as_micros();
     println!(rt; "add {count} {took} {count} {is_done}")
 }
 
-fn measure_requests(rt: &HostRuntime, book: &mut ListBook, sample: &Item, agents: &[AgentCode], count: u64) -> io::Result<()> {
+fn measure_requests(rt: &HostRuntime, book: &mut ListBook, items: &mut [Item], agents: &[AgentCode], count: u64) -> io::Result<()> {
     let begun = Instant::now(rt)?;
-    let is_done = requests(book, sample, agents, count).is_ok();
+    let is_done = requests(book, items, agents, count).is_ok();
     let took = begun.elapsed(rt)?.as_micros();
     println!(rt; "request {count} {took} {CALLS} {is_done}")
 }
 
-fn measure_look_ups(rt: &HostRuntime, book: &mut ListBook, sample: &Item, agents: &[AgentCode], count: u64) -> io::Result<()> {
+fn measure_look_ups(rt: &HostRuntime, book: &mut ListBook, items: &mut [Item], agents: &[AgentCode], count: u64) -> io::Result<()> {
     let begun = Instant::now(rt)?;
-    let found = look_up(book, sample, agents).unwrap_or(0);
+    let found = look_up(book, items, agents).unwrap_or(0);
     let took = begun.elapsed(rt)?.as_micros();
     println!(rt; "items_bearing {count} {took} {CALLS} {found}")
 }
 
-fn measure_tallies(rt: &HostRuntime, book: &mut ListBook, sample: &Item, agents: &[AgentCode], count: u64) -> io::Result<()> {
+fn measure_tallies(rt: &HostRuntime, book: &mut ListBook, items: &mut [Item], agents: &[AgentCode], count: u64) -> io::Result<()> {
     let begun = Instant::now(rt)?;
-    let counted = tallies(book, sample, agents).unwrap_or(0);
+    let counted = tallies(book, items, agents).unwrap_or(0);
     let took = begun.elapsed(rt)?.as_micros();
     println!(rt; "tally {count} {took} {CALLS} {counted}")
 }
@@ -202,22 +191,23 @@ fn measure_audit(rt: &HostRuntime, book: &ListBook, count: u64) -> io::Result<()
     println!(rt; "audit {count} {took} 1 {is_sound}")
 }
 
-fn measure(rt: &HostRuntime, sample: &Item, agents: &[AgentCode], count: u64) -> io::Result<()> {
+fn measure(rt: &HostRuntime, items: &mut [Item], agents: &[AgentCode], count: u64) -> io::Result<()> {
     let Some(mut book) = opened(rt, agents) else {
         return Ok(());
     };
-    measure_fill(rt, &mut book, sample, agents, count)?;
+    measure_fill(rt, &mut book, items, agents, count)?;
     measure_audit(rt, &book, count)?;
-    measure_look_ups(rt, &mut book, sample, agents, count)?;
-    measure_tallies(rt, &mut book, sample, agents, count)?;
-    measure_requests(rt, &mut book, sample, agents, count)
+    measure_look_ups(rt, &mut book, items, agents, count)?;
+    measure_tallies(rt, &mut book, items, agents, count)?;
+    measure_requests(rt, &mut book, items, agents, count)
 }
 
 fn main(rt: HostRuntime) -> io::Result<()> {
     let agents = agents(rt.alloc())?;
     if let Some(sample) = sale() {
-        measure(&rt, &sample, &agents, 10_000)?;
-        measure(&rt, &sample, &agents, 100_000)?;
+        let mut items = vec![in rt.alloc(); sample; 1]?;
+        measure(&rt, &mut items, &agents, 10_000)?;
+        measure(&rt, &mut items, &agents, 100_000)?;
     }
     Ok(())
 }
