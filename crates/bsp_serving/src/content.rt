@@ -1,0 +1,27 @@
+ghost use Rattle.std.specs.Prelude.{◌≡◌};
+ghost use Rattle.bsp_serving.specs.Contents.{bytes_in};
+
+use bsp_ret::{RetFault, RetFile};
+
+/// The content of a request: the bytes of its body or, of a RET file, what its reader gave.
+#[derive(Clone, Copy)]
+pub enum Content<'r> {
+    /// The bytes of the body.
+    Bytes(&'r [u8]),
+    /// A RET file without fault.
+    File(&'r RetFile<'r>),
+    /// The first fault of a RET file, or want of memory, F10.
+    Fault(RetFault),
+}
+
+impl<'r> Content<'r> {
+    /// The bytes of the body. What a reader gave has none.
+    pub fn bytes(&self) -> &'r [u8]
+        ensures { result.now ≡ bytes_in self.now }
+    {
+        match self {
+            Content::Bytes(bytes) => bytes,
+            Content::File(_) | Content::Fault(_) => b"",
+        }
+    }
+}
