@@ -5,7 +5,8 @@ use Rattle.bsp_maps.proofs.PickLemmas.{if_ok}
 use Rattle.bsp_rows.specs.declared.keys.TallyKey.{TallyKey}
 use Rattle.bsp_rows.specs.declared.questions.Tallies.{Tallies}
 use Rattle.bsp_rows.specs.declared.questions.Tallies.TheVariants.{OfAgent, OfAgentIn}
-use Rattle.bsp_rows.specs.Rows.{item_cmp, memo_cmp}
+use Rattle.bsp_row_tables.specs.ItemTables.{item_rows}
+use Rattle.bsp_row_tables.specs.MemoTables.{memo_rows}
 use Rattle.bsp_rows.specs.Tallies.{is_tally_asked, tally_cmp}
 use Rattle.bsp_list_tables.proofs.AskedLemmas.{asked_are, of_window}
 use Rattle.bsp_list_tables.proofs.tables.Tables.tallies.Goals as goal
@@ -23,8 +24,8 @@ of_agent_in which agent period is k asked = and_first (k.agent == agent) (k.peri
 pub returns-in-OfAgent : goal.returns-in-OfAgent
 returns-in-OfAgent c =
     let agent = c.in-OfAgent.agent in
-    let items = values (content item_cmp c.args.self.now.items) in
-    let memos = values (content memo_cmp c.args.self.now.memos) in
+    let items = values (item_rows c.args.self.now.items) in
+    let memos = values (memo_rows c.args.self.now.memos) in
     let tallies = content tally_cmp c.args.self.now.tallies in
     if_ok c.agent_tallies.result (λ v e h. e
     ∙ of_window c.args.which.now (λ k. k.agent == agent) (of_agent c.args.which.now agent c.in-OfAgent.is) (entries tallies)
@@ -33,8 +34,8 @@ returns-in-OfAgent c =
 pub returns-in-OfAgentIn : goal.returns-in-OfAgentIn
 returns-in-OfAgentIn c =
     let agent = c.in-OfAgentIn.agent in
-    let items = values (content item_cmp c.args.self.now.items) in
-    let memos = values (content memo_cmp c.args.self.now.memos) in
+    let items = values (item_rows c.args.self.now.items) in
+    let memos = values (memo_rows c.args.self.now.memos) in
     let tallies = content tally_cmp c.args.self.now.tallies in
     if_ok c.agent_tallies-in-OfAgentIn.result (λ v e h. e
     ∙ of_window c.args.which.now (λ k. k.agent == agent) (of_agent_in c.args.which.now agent c.in-OfAgentIn.field-1 c.in-OfAgentIn.is) (entries tallies)
@@ -42,14 +43,14 @@ returns-in-OfAgentIn c =
 
 pub returns-in-OfAirlineIn : goal.returns-in-OfAirlineIn
 returns-in-OfAirlineIn c =
-    let items = values (content item_cmp c.args.self.now.items) in
-    let memos = values (content memo_cmp c.args.self.now.memos) in
+    let items = values (item_rows c.args.self.now.items) in
+    let memos = values (memo_rows c.args.self.now.memos) in
     let tallies = content tally_cmp c.args.self.now.tallies in
     if_ok c.all_tallies.result (λ v e h. e ∙ asked_are items memos tallies h.totals c.args.which.now) c.all_tallies.ensures
 
 pub returns-in-In : goal.returns-in-In
 returns-in-In c =
-    let items = values (content item_cmp c.args.self.now.items) in
-    let memos = values (content memo_cmp c.args.self.now.memos) in
+    let items = values (item_rows c.args.self.now.items) in
+    let memos = values (memo_rows c.args.self.now.memos) in
     let tallies = content tally_cmp c.args.self.now.tallies in
     if_ok c.all_tallies-in-In.result (λ v e h. e ∙ asked_are items memos tallies h.totals c.args.which.now) c.all_tallies-in-In.ensures

@@ -1,0 +1,5 @@
+pub mod Numbers
+pub mod Windows
+pub mod Places
+pub mod MemoTables
+pub mod ItemTables
