@@ -21,8 +21,8 @@ use std::alloc::Global;
 /// A book in memory. It never answers `Failed`.
 ///
 /// It keeps the tallies and indexes of the rows: items by their numbers, and by their airlines and periods;
-/// memos by their agents, and the unbilled ones. `meets_range` and the tallies of an airline or of a period are
-/// found by reading all ranges or tallies.
+/// memos by their agents, and the unbilled ones; tallies by their airlines and periods, and by their periods.
+/// `meets_range` reads all ranges.
 #[derive(Drop)]
 pub struct ListBook {
     alloc: Global,

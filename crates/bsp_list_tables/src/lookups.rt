@@ -2,11 +2,11 @@
 
 ghost use Rattle.std.specs.Prelude.{◌≡◌, ◌==◌, IfOk};
 ghost use Rattle.std.specs.FinMap.{entries};
-ghost use Rattle.bsp_maps.specs.Undo.{content};
+ghost use Rattle.bsp_row_tables.specs.TallyTables.{tally_rows};
 ghost use Rattle.bsp_maps.specs.Windows.{entries_in};
 ghost use Rattle.bsp_memos.specs.Owed.{is_billed_in};
 ghost use Rattle.bsp_rows.specs.Rows.{agent_token, airline_token, has_meeting, is_in, is_used_in, items_bearing, items_of, memo_at, memos_of, ranges_of, registered};
-ghost use Rattle.bsp_rows.specs.Tallies.{is_tally_asked, tallies_of, tally_cmp, tally_of};
+ghost use Rattle.bsp_rows.specs.Tallies.{is_tally_asked, tallies_of, tally_of};
 ghost use Rattle.bsp_list_tables.specs.Lookups.{asked_tallies, is_asked, is_meeting, present_ranges};
 ghost use Rattle.bsp_list_tables.specs.Tables.{IsDerived, rows_of};
 
@@ -17,7 +17,7 @@ use bsp_maps::{Every, Rule, Test};
 use bsp_memos::Memo;
 use bsp_postings::Tally;
 use bsp_ret_records::Transaction;
-use bsp_row_tables::{RangesOf, TalliesOf};
+use bsp_row_tables::RangesOf;
 use bsp_rows::{Items, MemoKey, Memos, RangeKey, Tallies, TallyKey};
 use bsp_rules::{Item, Range};
 use std::alloc::{AllocError, Global};
@@ -223,29 +223,25 @@ impl Tables {
         agent: AgentCode,
         which: &Tallies,
     ) -> Result<Vec<Tally>, AllocError>
-        ensures { IfOk result (λ found. found.items ≡ asked_tallies which.now (entries_in (λ key. key.agent == agent) (entries (content tally_cmp self.now.tallies)))) }
+        ensures { IfOk result (λ found. found.items ≡ asked_tallies which.now (entries_in (λ key. key.agent == agent) (entries (tally_rows self.now.tallies)))) }
     {
-        let entries = self.tallies.entries_in(alloc, &TalliesOf(agent))?;
+        let entries = self.tallies.of_agent(alloc, agent)?;
         asked_tallies(alloc, &entries, which)
     }
 
-    /// The tallies that are asked for. It reads all tallies.
-    fn all_tallies(&self, alloc: Global, which: &Tallies) -> Result<Vec<Tally>, AllocError>
-        ensures { IfOk result (λ found. found.items ≡ asked_tallies which.now (entries (content tally_cmp self.now.tallies))) }
-    {
-        self.tallies.holding(alloc, &AskedTallies(*which))
-    }
-
     /// The tallies that are asked for and to which some row adds, in the order of their keys. It reads those of
-    /// the agent alone, or for an airline or a period all tallies.
+    /// the agent, or of the airline and the period, or of the period, alone.
     pub fn tallies(&self, alloc: Global, which: &Tallies) -> Result<Vec<Tally>, AllocError>
         ensures { IfOk result (λ found. IsDerived self.now → found.items ≡ tallies_of which.now (rows_of self.now)) }
     {
         match *which {
             Tallies::OfAgent(agent) => self.agent_tallies(alloc, agent, which),
             Tallies::OfAgentIn(agent, _) => self.agent_tallies(alloc, agent, which),
-            Tallies::OfAirlineIn(_, _) => self.all_tallies(alloc, which),
-            Tallies::In(_) => self.all_tallies(alloc, which),
+            Tallies::OfAirlineIn(airline, period) => {
+                let rule = AskedTallies(*which);
+                self.tallies.of_airline(alloc, airline, period, &rule)
+            }
+            Tallies::In(period) => self.tallies.of_period(alloc, period, &AskedTallies(*which)),
         }
     }
 }

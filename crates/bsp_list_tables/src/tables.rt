@@ -10,12 +10,12 @@ ghost use Rattle.bsp_list_tables.specs.Tables.{IsDerived, WasDerived, committed_
 
 use crate::no_room::NoRoom;
 use crate::planned::Planned;
-use crate::tallies::{Kept, recount_item, recount_memo};
+use crate::tallies::{recount_item, recount_memo};
 use bsp_calendar::{Plan, PlanFault, PlanText};
 use bsp_fields::{AgentCode, AirlineCode, Change, Day, DocNumber, PeriodCode, Token};
 use bsp_maps::Logged;
 use bsp_memos::Memo;
-use bsp_row_tables::{ItemTable, MemoTable};
+use bsp_row_tables::{ItemTable, MemoTable, TallyTable};
 use bsp_rows::{ItemKey, MemoKey, RangeKey};
 use bsp_rules::{Item, Range};
 use std::alloc::Global;
@@ -31,7 +31,7 @@ pub struct Tables {
     pub(crate) ranges: Logged<RangeKey, Option<DocNumber>>,
     pub(crate) items: ItemTable,
     pub(crate) memos: MemoTable,
-    pub(crate) tallies: Kept,
+    pub(crate) tallies: TallyTable,
 }
 
 /// The key of an item whose number has its check digit.
@@ -81,7 +81,7 @@ impl Tables {
             ranges: Logged::new(alloc),
             items: ItemTable::new(alloc),
             memos: MemoTable::new(alloc),
-            tallies: Logged::new(alloc),
+            tallies: TallyTable::new(alloc),
         }
     }
 

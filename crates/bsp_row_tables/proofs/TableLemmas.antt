@@ -10,9 +10,12 @@ use Rattle.bsp_indexes.proofs.IndexLemmas as rows
 use Rattle.bsp_rows.specs.declared.keys.ItemKey.{ItemKey}
 use Rattle.bsp_rows.specs.Rows.{item_cmp, memo_cmp}
 use Rattle.bsp_row_tables.specs.Numbers.{IsIndexed, number_cmp}
-use Rattle.bsp_row_tables.specs.Places.{agent_place, airline_cmp, item_place, one_cmp, unbilled_place}
+use Rattle.bsp_row_tables.specs.Places.{agent_place, airline_cmp, item_place, one_cmp, tally_airline_place, tally_period_place, unbilled_place}
 use Rattle.bsp_row_tables.specs.MemoTables.{AreMemosIndexed}
 use Rattle.bsp_row_tables.specs.ItemTables.{AreItemsIndexed}
+use Rattle.bsp_row_tables.specs.TallyTables.{AreTalliesIndexed}
+use Rattle.bsp_postings.specs.declared.tally.Tally.{Tally}
+use Rattle.bsp_rows.specs.Tallies.{tally_cmp}
 use Rattle.bsp_row_tables.proofs.NumberLemmas.{nothing_indexed}
 
 -- ---- memos
@@ -41,3 +44,15 @@ items_same items others numbers other_numbers airlines other_airlines p q r h = 
 
 pub no_items : AreItemsIndexed empty empty empty
 no_items = record { by_number = nothing_indexed empty empty refl; by_airline = rows.nothing_indexed airline_cmp item_cmp item_place }
+
+-- ---- tallies
+
+pub tallies_same : (tallies others : FinMap tally_cmp Tally) (airlines other_airlines : FinMap (entry_cmp airline_cmp tally_cmp) (Unit {0})) (periods other_periods : FinMap (entry_cmp nat_cmp tally_cmp) (Unit {0}))
+    → others ≡ tallies → other_airlines ≡ airlines → other_periods ≡ periods → AreTalliesIndexed tallies airlines periods → AreTalliesIndexed others other_airlines other_periods
+tallies_same tallies others airlines other_airlines periods other_periods p q r h = record {
+  by_airline = index_same airline_cmp tally_cmp tally_airline_place tallies others airlines other_airlines p q h.by_airline;
+  by_period = index_same nat_cmp tally_cmp tally_period_place tallies others periods other_periods p r h.by_period;
+}
+
+pub no_tallies : AreTalliesIndexed empty empty empty
+no_tallies = record { by_airline = rows.nothing_indexed airline_cmp tally_cmp tally_airline_place; by_period = rows.nothing_indexed nat_cmp tally_cmp tally_period_place }

@@ -3,3 +3,4 @@ pub mod Windows
 pub mod Places
 pub mod MemoTables
 pub mod ItemTables
+pub mod TallyTables

@@ -5,8 +5,10 @@ use Rattle.std.specs.declared.cmp.Ordering.TheVariants.{Equal}
 use Rattle.std.specs.Ordering.{nat_cmp, on, then_cmp}
 use Rattle.bsp_rules.specs.declared.rows.Item.{Item}
 use Rattle.bsp_memos.specs.declared.fields.MemoFields.{MemoFields}
+use Rattle.bsp_postings.specs.declared.tally.Tally.{Tally}
 use Rattle.bsp_rows.specs.declared.keys.ItemKey.{ItemKey}
 use Rattle.bsp_rows.specs.declared.keys.MemoKey.{MemoKey}
+use Rattle.bsp_rows.specs.declared.keys.TallyKey.{TallyKey}
 use Rattle.bsp_row_tables.specs.declared.places.AirlinePeriod.{AirlinePeriod}
 
 -- by airline, and then by period
@@ -35,3 +37,10 @@ unbilled_at (Some period) = None
 
 abbrev pub unbilled_place : MemoKey → MemoFields → Option (Unit {0})
 unbilled_place k m = unbilled_at m.billed
+
+-- the airline of a tally's key, and its period
+abbrev pub tally_airline_place : TallyKey → Tally → Option AirlinePeriod
+tally_airline_place k t = Some (at_airline k.airline k.period)
+
+abbrev pub tally_period_place : TallyKey → Tally → Option ℕ
+tally_period_place k t = Some k.period

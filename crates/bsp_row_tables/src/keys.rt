@@ -86,6 +86,13 @@ pub fn least_memo() -> MemoKey
     MemosOf(least_airline()).low()
 }
 
+/// The least key of a tally.
+pub fn least_tally() -> TallyKey
+    ensures { result ≡ first_tally 0 }
+{
+    TalliesOf(least_agent()).low()
+}
+
 /// The items of an agent.
 #[derive(Clone, Copy, Debug)]
 pub struct ItemsOf(pub AgentCode);

@@ -4,10 +4,12 @@ ghost use Rattle.std.specs.Prelude.{◌≡◌};
 ghost use Rattle.bsp_rows.specs.declared.keys.ItemKey.{ItemKey as ItemKeyValue};
 ghost use Rattle.bsp_rows.specs.declared.keys.MemoKey.{MemoKey as MemoKeyValue};
 ghost use Rattle.bsp_indexes.specs.Indexes.{found_place};
-ghost use Rattle.bsp_row_tables.specs.Places.{agent_place, item_place, unbilled_place};
+ghost use Rattle.bsp_row_tables.specs.Places.{agent_place, item_place, tally_airline_place, tally_period_place, unbilled_place};
 
 use bsp_fields::{AgentCode, AirlineCode, PeriodCode};
 use bsp_memos::Memo;
+use bsp_postings::Tally;
+use bsp_rows::TallyKey;
 use bsp_rules::Item;
 
 /// An airline and a period.
@@ -52,5 +54,28 @@ pub(crate) fn unbilled_place(memo: &Option<Memo>) -> Option<()>
             None => Some(()),
             Some(_) => None,
         },
+    }
+}
+
+/// The airline of a key and its period, if a tally is kept for it.
+pub(crate) fn tally_airline_place(key: &TallyKey, tally: &Option<Tally>) -> Option<AirlinePeriod>
+    ensures { result ≡ found_place tally_airline_place key.now tally.now }
+{
+    match tally {
+        None => None,
+        Some(_) => Some(AirlinePeriod {
+            airline: key.airline,
+            period: key.period,
+        }),
+    }
+}
+
+/// The period of a key, if a tally is kept for it.
+pub(crate) fn tally_period_place(key: &TallyKey, tally: &Option<Tally>) -> Option<PeriodCode>
+    ensures { result ≡ found_place tally_period_place key.now tally.now }
+{
+    match tally {
+        None => None,
+        Some(_) => Some(key.period),
     }
 }

@@ -1,13 +1,12 @@
 use Rattle.std.proofs.Common.{ap, ◌∙◌}
 use Rattle.std.specs.FinMap.{empty}
-use Rattle.bsp_maps.specs.Undo.{before, content}
 use Rattle.bsp_maps.specs.Present.{present}
-use Rattle.bsp_rows.specs.Tallies.{tally_cmp}
 use Rattle.bsp_row_tables.specs.ItemTables.{item_rows, item_rows_before}
 use Rattle.bsp_row_tables.specs.MemoTables.{memo_rows, memo_rows_before}
 use Rattle.bsp_maps.proofs.PresentLemmas.{no_present}
 use Rattle.bsp_rows.specs.Rows.{range_cmp}
 use Rattle.bsp_rows.proofs.KeyOrders.{range_exact, range_total}
+use Rattle.bsp_row_tables.specs.TallyTables.{tally_rows, tally_rows_before}
 use Rattle.bsp_list_tables.proofs.DerivedLemmas.{no_totals, totals_same}
 use Rattle.bsp_list_tables.proofs.tables.Tables.new.Goals as goal
 
@@ -21,12 +20,14 @@ pub returns-clause-derived : goal.returns-clause-derived
 returns-clause-derived c = record {
   of_items = c.new-5.ensures.kept;
   of_memos = c.new-6.ensures.kept;
-  totals = totals_same empty (item_rows c.new-5.result) empty (memo_rows c.new-6.result) empty (content tally_cmp c.new-7.result) c.new-5.ensures.rows c.new-6.ensures.rows c.new-7.ensures.content no_totals;
+  of_tallies = c.new-7.ensures.kept;
+  totals = totals_same empty (item_rows c.new-5.result) empty (memo_rows c.new-6.result) empty (tally_rows c.new-7.result) c.new-5.ensures.rows c.new-6.ensures.rows c.new-7.ensures.rows no_totals;
 }
 
 pub returns-clause-was_derived : goal.returns-clause-was_derived
 returns-clause-was_derived c = record {
   of_items = c.new-5.ensures.was_kept;
   of_memos = c.new-6.ensures.was_kept;
-  totals = totals_same empty (item_rows_before c.new-5.result) empty (memo_rows_before c.new-6.result) empty (before tally_cmp c.new-7.result) c.new-5.ensures.before c.new-6.ensures.before c.new-7.ensures.before no_totals;
+  of_tallies = c.new-7.ensures.was_kept;
+  totals = totals_same empty (item_rows_before c.new-5.result) empty (memo_rows_before c.new-6.result) empty (tally_rows_before c.new-7.result) c.new-5.ensures.before c.new-6.ensures.before c.new-7.ensures.before no_totals;
 }

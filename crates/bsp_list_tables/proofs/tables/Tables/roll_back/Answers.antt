@@ -1,8 +1,7 @@
-use Rattle.bsp_maps.specs.Undo.{before, content}
 use Rattle.bsp_maps.specs.Present.{present}
-use Rattle.bsp_rows.specs.Tallies.{tally_cmp}
 use Rattle.bsp_row_tables.specs.ItemTables.{item_rows, item_rows_before}
 use Rattle.bsp_row_tables.specs.MemoTables.{memo_rows, memo_rows_before}
+use Rattle.bsp_row_tables.specs.TallyTables.{tally_rows, tally_rows_before}
 use Rattle.bsp_list_tables.proofs.DerivedLemmas.{totals_same}
 use Rattle.bsp_list_tables.proofs.tables.Tables.roll_back.Goals as goal
 
@@ -16,14 +15,16 @@ pub returns-clause-derived : goal.returns-clause-derived
 returns-clause-derived c = λ h. record {
   of_items = c.roll_back-5.ensures.kept h.of_items;
   of_memos = c.roll_back-6.ensures.kept h.of_memos;
-  totals = totals_same (item_rows_before c.args.self.now.items) (item_rows c.roll_back-5.new.self) (memo_rows_before c.args.self.now.memos) (memo_rows c.roll_back-6.new.self) (before tally_cmp c.args.self.now.tallies) (content tally_cmp c.roll_back-7.new.self)
-      c.roll_back-5.ensures.rows c.roll_back-6.ensures.rows c.roll_back-7.ensures.content h.totals;
+  of_tallies = c.roll_back-7.ensures.kept h.of_tallies;
+  totals = totals_same (item_rows_before c.args.self.now.items) (item_rows c.roll_back-5.new.self) (memo_rows_before c.args.self.now.memos) (memo_rows c.roll_back-6.new.self) (tally_rows_before c.args.self.now.tallies) (tally_rows c.roll_back-7.new.self)
+      c.roll_back-5.ensures.rows c.roll_back-6.ensures.rows c.roll_back-7.ensures.rows h.totals;
 }
 
 pub returns-clause-was_derived : goal.returns-clause-was_derived
 returns-clause-was_derived c = λ h. record {
   of_items = c.roll_back-5.ensures.was_kept h.of_items;
   of_memos = c.roll_back-6.ensures.was_kept h.of_memos;
-  totals = totals_same (item_rows_before c.args.self.now.items) (item_rows_before c.roll_back-5.new.self) (memo_rows_before c.args.self.now.memos) (memo_rows_before c.roll_back-6.new.self) (before tally_cmp c.args.self.now.tallies) (before tally_cmp c.roll_back-7.new.self)
+  of_tallies = c.roll_back-7.ensures.was_kept h.of_tallies;
+  totals = totals_same (item_rows_before c.args.self.now.items) (item_rows_before c.roll_back-5.new.self) (memo_rows_before c.args.self.now.memos) (memo_rows_before c.roll_back-6.new.self) (tally_rows_before c.args.self.now.tallies) (tally_rows_before c.roll_back-7.new.self)
       c.roll_back-5.ensures.before c.roll_back-6.ensures.before c.roll_back-7.ensures.before h.totals;
 }
