@@ -20,9 +20,9 @@ use std::alloc::Global;
 
 /// A book in memory. It never answers `Failed`.
 ///
-/// It keeps an index of the items by their numbers, and the tallies. `meets_range`, the items of an airline,
-/// the memos of an agent, the unbilled memos and the tallies of an airline or of a period are found by reading
-/// all ranges, items, memos or tallies.
+/// It keeps the tallies and indexes of the rows: items by their numbers, and by their airlines and periods;
+/// memos by their agents, and the unbilled ones; tallies by their airlines and periods, and by their periods.
+/// `meets_range` reads all ranges.
 #[derive(Drop)]
 pub struct ListBook {
     alloc: Global,

@@ -4,11 +4,14 @@ use Rattle.std.specs.FinMap.{FinMap, get, values}
 use Rattle.bsp_rules.specs.declared.rows.Item.{Item}
 use Rattle.bsp_memos.specs.declared.fields.MemoFields.{MemoFields}
 use Rattle.bsp_postings.specs.declared.tally.Tally.{Tally}
-use Rattle.bsp_rows.specs.declared.keys.ItemKey.{ItemKey}
 use Rattle.bsp_rows.specs.declared.keys.TallyKey.{TallyKey}
-use Rattle.bsp_rows.specs.Rows.{item_cmp, memo_cmp}
 use Rattle.bsp_rows.specs.Tallies.{added_up, key_tally, tally_cmp}
-use Rattle.bsp_list_tables.specs.Numbers.{IsIndexed, number_cmp}
+use Rattle.bsp_row_tables.specs.ItemTables.{AreItemsKept, WereItemsKept, item_rows, item_rows_before}
+use Rattle.bsp_row_tables.specs.MemoTables.{AreMemosKept, WereMemosKept, memo_rows, memo_rows_before}
+use Rattle.bsp_row_tables.specs.declared.items.ItemTable.{ItemTable}
+use Rattle.bsp_row_tables.specs.TallyTables.{AreTalliesKept, WereTalliesKept, tally_rows, tally_rows_before}
+use Rattle.bsp_row_tables.specs.declared.memos.MemoTable.{MemoTable}
+use Rattle.bsp_row_tables.specs.declared.tallies.TallyTable.{TallyTable}
 
 -- the tally that is kept for a key, or that of no rows
 abbrev pub tally_at : FinMap tally_cmp Tally → TallyKey → Tally
@@ -18,7 +21,16 @@ tally_at tallies k = unwrap_or (get tallies k) (key_tally k)
 abbrev pub AreAddedUp : List Item → List MemoFields → FinMap tally_cmp Tally → Type 0
 AreAddedUp items memos tallies = (k : TallyKey) → tally_at tallies k ≡ added_up (key_tally k) items memos
 
--- what is kept beside the items and the memos follows from them
-pub record AreDerived (items : FinMap item_cmp Item) (memos : FinMap memo_cmp MemoFields) (numbers : FinMap number_cmp ItemKey) (tallies : FinMap tally_cmp Tally) : Type 0 where
-  pub indexed : IsIndexed items numbers
-  pub totals : AreAddedUp (values items) (values memos) tallies
+-- the indexes and the tallies follow from the rows
+pub record AreDerived (items : ItemTable) (memos : MemoTable) (tallies : TallyTable) : Type 0 where
+  pub of_items : AreItemsKept items
+  pub of_memos : AreMemosKept memos
+  pub of_tallies : AreTalliesKept tallies
+  pub totals : AreAddedUp (values (item_rows items)) (values (memo_rows memos)) (tally_rows tallies)
+
+-- and did at the last commit
+pub record WereDerived (items : ItemTable) (memos : MemoTable) (tallies : TallyTable) : Type 0 where
+  pub of_items : WereItemsKept items
+  pub of_memos : WereMemosKept memos
+  pub of_tallies : WereTalliesKept tallies
+  pub totals : AreAddedUp (values (item_rows_before items)) (values (memo_rows_before memos)) (tally_rows_before tallies)

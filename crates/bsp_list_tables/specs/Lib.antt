@@ -1,5 +1,3 @@
-pub mod Numbers
-pub mod Windows
 pub mod Plans
 pub mod Kept
 pub mod Tables

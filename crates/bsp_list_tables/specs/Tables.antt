@@ -7,10 +7,10 @@ use Rattle.bsp_maps.specs.Undo.{before, content}
 use Rattle.bsp_maps.specs.Present.{present}
 use Rattle.bsp_rows.specs.declared.keys.ItemKey.{ItemKey}
 use Rattle.bsp_rows.specs.declared.keys.MemoKey.{MemoKey}
-use Rattle.bsp_rows.specs.Rows.{Rows, item_cmp, memo_cmp, range_cmp}
-use Rattle.bsp_rows.specs.Tallies.{tally_cmp}
-use Rattle.bsp_list_tables.specs.Kept.{AreDerived}
-use Rattle.bsp_list_tables.specs.Numbers.{number_cmp}
+use Rattle.bsp_rows.specs.Rows.{Rows, range_cmp}
+use Rattle.bsp_row_tables.specs.ItemTables.{item_rows, item_rows_before}
+use Rattle.bsp_row_tables.specs.MemoTables.{memo_rows, memo_rows_before}
+use Rattle.bsp_list_tables.specs.Kept.{AreDerived, WereDerived}
 use Rattle.bsp_list_tables.specs.Plans.{saved_plan}
 use Rattle.bsp_list_tables.specs.declared.tables.Tables.{Tables}
 
@@ -21,8 +21,8 @@ rows_of t = record {
   agents = content nat_cmp t.agents;
   airlines = content nat_cmp t.airlines;
   ranges = present (content range_cmp t.ranges);
-  items = content item_cmp t.items;
-  memos = content memo_cmp t.memos;
+  items = item_rows t.items;
+  memos = memo_rows t.memos;
 }
 
 -- the rows at the last commit
@@ -32,16 +32,16 @@ committed_rows t = record {
   agents = before nat_cmp t.agents;
   airlines = before nat_cmp t.airlines;
   ranges = present (before range_cmp t.ranges);
-  items = before item_cmp t.items;
-  memos = before memo_cmp t.memos;
+  items = item_rows_before t.items;
+  memos = memo_rows_before t.memos;
 }
 
--- the index and the tallies follow from the rows, and did at the last commit
+-- the indexes and the tallies follow from the rows, and did at the last commit
 abbrev pub IsDerived : Tables → Type 0
-IsDerived t = AreDerived (content item_cmp t.items) (content memo_cmp t.memos) (content number_cmp t.numbers) (content tally_cmp t.tallies)
+IsDerived t = AreDerived t.items t.memos t.tallies
 
 abbrev pub WasDerived : Tables → Type 0
-WasDerived t = AreDerived (before item_cmp t.items) (before memo_cmp t.memos) (before number_cmp t.numbers) (before tally_cmp t.tallies)
+WasDerived t = WereDerived t.items t.memos t.tallies
 
 -- ---- rows with a value written at a key
 

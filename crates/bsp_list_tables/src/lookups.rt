@@ -2,17 +2,14 @@
 
 ghost use Rattle.std.specs.Prelude.{◌≡◌, ◌==◌, IfOk};
 ghost use Rattle.std.specs.FinMap.{entries};
-ghost use Rattle.bsp_maps.specs.Undo.{content};
+ghost use Rattle.bsp_row_tables.specs.TallyTables.{tally_rows};
 ghost use Rattle.bsp_maps.specs.Windows.{entries_in};
-ghost use Rattle.std.specs.List.{filter};
 ghost use Rattle.bsp_memos.specs.Owed.{is_billed_in};
-ghost use Rattle.bsp_rows.specs.Rows.{agent_items, agent_token, airline_memos, airline_token, has_meeting, is_in, is_of_airline, is_unbilled, is_used_in, items_bearing, items_of, memo_at, memos_of, ranges_of, registered};
-ghost use Rattle.bsp_rows.specs.Tallies.{is_tally_asked, tallies_of, tally_cmp, tally_of};
+ghost use Rattle.bsp_rows.specs.Rows.{agent_token, airline_token, has_meeting, is_in, is_used_in, items_bearing, items_of, memo_at, memos_of, ranges_of, registered};
+ghost use Rattle.bsp_rows.specs.Tallies.{is_tally_asked, tallies_of, tally_of};
 ghost use Rattle.bsp_list_tables.specs.Lookups.{asked_tallies, is_asked, is_meeting, present_ranges};
 ghost use Rattle.bsp_list_tables.specs.Tables.{IsDerived, rows_of};
 
-use crate::keys::{ItemsOf, ItemsWithin, MemosOf, RangesOf, TalliesOf};
-use crate::numbers::{Bearing, keys_bearing};
 use crate::tables::Tables;
 use crate::tallies::tally_at;
 use bsp_fields::{AgentCode, AirlineCode, DocNumber, PeriodCode, Token};
@@ -20,7 +17,8 @@ use bsp_maps::{Every, Rule, Test};
 use bsp_memos::Memo;
 use bsp_postings::Tally;
 use bsp_ret_records::Transaction;
-use bsp_rows::{ItemKey, Items, MemoKey, Memos, RangeKey, Tallies, TallyKey};
+use bsp_row_tables::RangesOf;
+use bsp_rows::{Items, MemoKey, Memos, RangeKey, Tallies, TallyKey};
 use bsp_rules::{Item, Range};
 use std::alloc::{AllocError, Global};
 
@@ -36,35 +34,6 @@ impl Test<Item> for In {
     }
 }
 
-/// Items of an airline that were accepted in a period.
-#[derive(Clone, Copy)]
-struct OfAirlineIn {
-    airline: AirlineCode,
-    period: PeriodCode,
-}
-
-impl Test<Item> for OfAirlineIn {
-    ghost passes = { λ test i. is_of_airline test.airline test.period i };
-
-    fn passes(&self, item: &Item) -> bool {
-        item.transaction.document.airline == self.airline && item.period == self.period
-    }
-}
-
-/// Memos to an agent.
-#[derive(Clone, Copy)]
-struct ToAgent(AgentCode);
-
-impl Test<Memo> for ToAgent {
-    ghost use Rattle.std.specs.Prelude.{◌==◌};
-
-    ghost passes = { λ test m. m.agent == test.0 };
-
-    fn passes(&self, memo: &Memo) -> bool {
-        memo.fields().agent == self.0
-    }
-}
-
 /// Memos that were billed in a period.
 #[derive(Clone, Copy)]
 struct BilledIn(PeriodCode);
@@ -74,18 +43,6 @@ impl Test<Memo> for BilledIn {
 
     fn passes(&self, memo: &Memo) -> bool {
         memo.fields().is_billed_in(self.0)
-    }
-}
-
-/// Memos that are not billed.
-#[derive(Clone, Copy)]
-struct IsUnbilled;
-
-impl Test<Memo> for IsUnbilled {
-    ghost passes = { λ test m. is_unbilled m };
-
-    fn passes(&self, memo: &Memo) -> bool {
-        memo.fields().billed.is_none()
     }
 }
 
@@ -203,8 +160,7 @@ impl Tables {
     pub fn is_range_used(&self, agent: AgentCode, range: &Range) -> bool
         ensures { result ≡ is_used_in agent range.now (rows_of self.now) }
     {
-        let range = *range;
-        self.items.has_any(&ItemsWithin { agent, range })
+        self.items.is_any_within(agent, range)
     }
 
     /// The items of an agent that share a number with a transaction. It reads those alone.
@@ -216,34 +172,18 @@ impl Tables {
     ) -> Result<Vec<Item>, AllocError>
         ensures { IfOk result (λ found. IsDerived self.now → found.items ≡ items_bearing agent transaction.now (rows_of self.now)) }
     {
-        let keys = keys_bearing(alloc, &self.numbers, agent, transaction)?;
-        self.items
-            .picked(alloc, &keys, &Bearing { agent, transaction })
+        self.items.bearing(alloc, agent, transaction)
     }
 
-    /// The items of an agent that pass a test, in the order of their keys. It reads that agent's alone.
-    fn agent_items<T: Test<Item>>(
-        &self,
-        alloc: Global,
-        agent: AgentCode,
-        test: &T,
-    ) -> Result<Vec<Item>, AllocError>
-        ensures { IfOk result (λ found. found.items ≡ filter (T.passes test.now) (agent_items agent (rows_of self.now))) }
-    {
-        self.items.chosen(alloc, &ItemsOf(agent), test)
-    }
-
-    /// The items that are asked for, in the order of their keys. It reads those of the agent alone, or for an
-    /// airline all items.
+    /// The items that are asked for, in the order of their keys. It reads those of the agent, or of the airline
+    /// and the period, alone.
     pub fn items(&self, alloc: Global, which: &Items) -> Result<Vec<Item>, AllocError>
-        ensures { IfOk result (λ found. found.items ≡ items_of which.now (rows_of self.now)) }
+        ensures { IfOk result (λ found. IsDerived self.now → found.items ≡ items_of which.now (rows_of self.now)) }
     {
         match *which {
-            Items::OfAgent(agent) => self.agent_items(alloc, agent, &Every),
-            Items::OfAgentIn(agent, period) => self.agent_items(alloc, agent, &In(period)),
-            Items::OfAirlineIn(airline, period) => {
-                self.items.passing(alloc, &OfAirlineIn { airline, period })
-            }
+            Items::OfAgent(agent) => self.items.of_agent(alloc, agent, &Every),
+            Items::OfAgentIn(agent, period) => self.items.of_agent(alloc, agent, &In(period)),
+            Items::OfAirlineIn(airline, period) => self.items.of_airline(alloc, airline, period),
         }
     }
 
@@ -254,30 +194,18 @@ impl Tables {
         self.memos.get(key)
     }
 
-    /// The memos of an airline that pass a test, in the order of their keys. It reads that airline's alone.
-    fn airline_memos<T: Test<Memo>>(
-        &self,
-        alloc: Global,
-        airline: AirlineCode,
-        test: &T,
-    ) -> Result<Vec<Memo>, AllocError>
-        ensures { IfOk result (λ found. found.items ≡ filter (T.passes test.now) (airline_memos airline (rows_of self.now))) }
-    {
-        self.memos.chosen(alloc, &MemosOf(airline), test)
-    }
-
-    /// The memos that are asked for, in the order of their keys. It reads those of the airline alone, or for
-    /// an agent and for unbilled ones all memos.
+    /// The memos that are asked for, in the order of their keys. It reads those of the agent, of the airline, or
+    /// the unbilled ones, alone.
     pub fn memos(&self, alloc: Global, which: &Memos) -> Result<Vec<Memo>, AllocError>
-        ensures { IfOk result (λ found. found.items ≡ memos_of which.now (rows_of self.now)) }
+        ensures { IfOk result (λ found. IsDerived self.now → found.items ≡ memos_of which.now (rows_of self.now)) }
     {
         match *which {
-            Memos::OfAgent(agent) => self.memos.passing(alloc, &ToAgent(agent)),
-            Memos::OfAirline(airline) => self.airline_memos(alloc, airline, &Every),
+            Memos::OfAgent(agent) => self.memos.of_agent(alloc, agent),
+            Memos::OfAirline(airline) => self.memos.of_airline(alloc, airline, &Every),
             Memos::OfAirlineIn(airline, period) => {
-                self.airline_memos(alloc, airline, &BilledIn(period))
+                self.memos.of_airline(alloc, airline, &BilledIn(period))
             }
-            Memos::Unbilled => self.memos.passing(alloc, &IsUnbilled),
+            Memos::Unbilled => self.memos.unbilled(alloc),
         }
     }
 
@@ -295,29 +223,25 @@ impl Tables {
         agent: AgentCode,
         which: &Tallies,
     ) -> Result<Vec<Tally>, AllocError>
-        ensures { IfOk result (λ found. found.items ≡ asked_tallies which.now (entries_in (λ key. key.agent == agent) (entries (content tally_cmp self.now.tallies)))) }
+        ensures { IfOk result (λ found. found.items ≡ asked_tallies which.now (entries_in (λ key. key.agent == agent) (entries (tally_rows self.now.tallies)))) }
     {
-        let entries = self.tallies.entries_in(alloc, &TalliesOf(agent))?;
+        let entries = self.tallies.of_agent(alloc, agent)?;
         asked_tallies(alloc, &entries, which)
     }
 
-    /// The tallies that are asked for. It reads all tallies.
-    fn all_tallies(&self, alloc: Global, which: &Tallies) -> Result<Vec<Tally>, AllocError>
-        ensures { IfOk result (λ found. found.items ≡ asked_tallies which.now (entries (content tally_cmp self.now.tallies))) }
-    {
-        self.tallies.holding(alloc, &AskedTallies(*which))
-    }
-
     /// The tallies that are asked for and to which some row adds, in the order of their keys. It reads those of
-    /// the agent alone, or for an airline or a period all tallies.
+    /// the agent, or of the airline and the period, or of the period, alone.
     pub fn tallies(&self, alloc: Global, which: &Tallies) -> Result<Vec<Tally>, AllocError>
         ensures { IfOk result (λ found. IsDerived self.now → found.items ≡ tallies_of which.now (rows_of self.now)) }
     {
         match *which {
             Tallies::OfAgent(agent) => self.agent_tallies(alloc, agent, which),
             Tallies::OfAgentIn(agent, _) => self.agent_tallies(alloc, agent, which),
-            Tallies::OfAirlineIn(_, _) => self.all_tallies(alloc, which),
-            Tallies::In(_) => self.all_tallies(alloc, which),
+            Tallies::OfAirlineIn(airline, period) => {
+                let rule = AskedTallies(*which);
+                self.tallies.of_airline(alloc, airline, period, &rule)
+            }
+            Tallies::In(period) => self.tallies.of_period(alloc, period, &AskedTallies(*which)),
         }
     }
 }

@@ -9,19 +9,19 @@ ghost use Rattle.bsp_rows.specs.Writes.{MayBeBilled, after_request, ended, reque
 ghost use Rattle.bsp_list_tables.specs.Tables.{IsDerived, WasDerived, committed_rows, rows_of, with_item_at, with_memo_at};
 
 use crate::no_room::NoRoom;
-use crate::numbers::{Index, add_numbers};
 use crate::planned::Planned;
-use crate::tallies::{Kept, recount_item, recount_memo};
+use crate::tallies::{recount_item, recount_memo};
 use bsp_calendar::{Plan, PlanFault, PlanText};
 use bsp_fields::{AgentCode, AirlineCode, Change, Day, DocNumber, PeriodCode, Token};
 use bsp_maps::Logged;
 use bsp_memos::Memo;
+use bsp_row_tables::{ItemTable, MemoTable, TallyTable};
 use bsp_rows::{ItemKey, MemoKey, RangeKey};
 use bsp_rules::{Item, Range};
 use std::alloc::Global;
 
-/// The rows of all callers, an index of the items by their numbers, and the tallies. Each write keeps the
-/// index and the tallies. What was written since the last commit can be taken back without memory.
+/// The rows of all callers, with their indexes, and the tallies. Each write keeps the indexes and the
+/// tallies. What was written since the last commit can be taken back without memory.
 #[derive(Drop)]
 pub struct Tables {
     pub(crate) plan: Planned,
@@ -29,10 +29,9 @@ pub struct Tables {
     pub(crate) airlines: Logged<AirlineCode, Token>,
     // A range that was withdrawn has no value: to put it back takes no memory.
     pub(crate) ranges: Logged<RangeKey, Option<DocNumber>>,
-    pub(crate) items: Logged<ItemKey, Item>,
-    pub(crate) numbers: Index,
-    pub(crate) memos: Logged<MemoKey, Memo>,
-    pub(crate) tallies: Kept,
+    pub(crate) items: ItemTable,
+    pub(crate) memos: MemoTable,
+    pub(crate) tallies: TallyTable,
 }
 
 /// The key of an item whose number has its check digit.
@@ -80,10 +79,9 @@ impl Tables {
             agents: Logged::new(alloc),
             airlines: Logged::new(alloc),
             ranges: Logged::new(alloc),
-            items: Logged::new(alloc),
-            numbers: Logged::new(alloc),
-            memos: Logged::new(alloc),
-            tallies: Logged::new(alloc),
+            items: ItemTable::new(alloc),
+            memos: MemoTable::new(alloc),
+            tallies: TallyTable::new(alloc),
         }
     }
 
@@ -106,7 +104,6 @@ impl Tables {
         self.airlines.commit();
         self.ranges.commit();
         self.items.commit();
-        self.numbers.commit();
         self.memos.commit();
         self.tallies.commit();
     }
@@ -123,7 +120,6 @@ impl Tables {
         self.airlines.roll_back();
         self.ranges.roll_back();
         self.items.roll_back();
-        self.numbers.roll_back();
         self.memos.roll_back();
         self.tallies.roll_back();
     }
@@ -187,8 +183,7 @@ impl Tables {
     {
         let old = self.items.get(*key);
         recount_item(&mut self.tallies, old, item)?;
-        add_numbers(&mut self.numbers, key, &item.transaction)?;
-        self.items.put(*key, *item)?;
+        self.items.put(key, &old, item)?;
         Ok(())
     }
 
@@ -236,7 +231,7 @@ impl Tables {
     {
         let old = self.memos.get(*key);
         recount_memo(&mut self.tallies, old, memo)?;
-        self.memos.put(*key, *memo)?;
+        self.memos.put(key, &old, memo)?;
         Ok(())
     }
 

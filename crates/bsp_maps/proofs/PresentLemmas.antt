@@ -6,7 +6,7 @@ use Rattle.std.specs.List.Sorted.{IsStrictlySortedBy}
 use Rattle.std.specs.Map.{keys_of}
 use Rattle.std.specs.Ordering.{is_eq, is_lt, eq_by_cmp}
 use Rattle.std.specs.Cmp.{IsTotalOrder}
-use Rattle.std.specs.FinMap.{FinMap, IsAntisymmetric, get, insert, remove, empty, entries, entries_sorted, get-insert, get-remove, get-empty, get-from_entries, get-entries, same_map, find}
+use Rattle.std.specs.FinMap.{FinMap, IsAntisymmetric, get, insert, remove, empty, entries, entries_sorted, get-insert, get-remove, get_tied, get-empty, get-from_entries, get-entries, same_map, find}
 use Rattle.std.specs.FinMap.Entries.{is_sorted, below_all}
 use Rattle.bsp_maps.proofs.OrderLemmas.{in_order}
 use Rattle.bsp_maps.specs.Present.{present, present_entry, flat, with_present, with_present_value}
@@ -65,6 +65,16 @@ module _ {K V : Type 0} {R : K → K → Ordering} (o : IsTotalOrder R) where
 
   pub present-remove : IsAntisymmetric R → (m : FinMap R (Option V)) (k : K) → present (insert m k None) ≡ remove (present m) k
   present-remove exact m k = same_map o exact _ _ (λ q. at m k q None ∙ sym (get-remove o (present m) k q))
+
+-- an entry without a value is taken out
+module _ {K V : Type 0} {R : K → K → Ordering} (o : IsTotalOrder R) (exact : IsAntisymmetric R) where
+  at_absent : (m : FinMap R (Option V)) (k q : K) (b : Bool) → eq_by_cmp R q k ≡ b → get m k ≡ Some None → flat (cond b None (get m q)) ≡ flat (get m q)
+  at_absent m k q true tie absent = sym (ap flat (sym (get_tied o m q k (equal (R q k) true tie refl)) ∙ absent))
+  at_absent m k q false tie absent = refl
+
+  pub present-remove_absent : (m : FinMap R (Option V)) (k : K) → get m k ≡ Some None → present (remove m k) ≡ present m
+  present-remove_absent m k absent = same_map o exact _ _ (λ q.
+      get-present o (remove m k) q ∙ ap flat (get-remove o m k q) ∙ at_absent m k q (eq_by_cmp R q k) refl absent ∙ sym (get-present o m q))
 
 pub no_present : {K V : Type 0} (R : K → K → Ordering) → IsTotalOrder R → IsAntisymmetric R → present (empty {X = Option V} {R = R}) ≡ empty
 no_present R o exact = same_map o exact _ _ (λ q. get-present o empty q ∙ ap flat (get-empty R q) ∙ sym (get-empty R q))

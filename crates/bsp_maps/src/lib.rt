@@ -20,7 +20,7 @@ mod windows;
 pub use counts::are_within;
 pub use logged::Logged;
 pub use picks::{holding, passing, picked};
-pub use present::present_entries;
+pub use present::{commit_present, present_entries};
 pub use rules::{Every, Rule, Test, all_hold, any_holds};
 pub use spans::{Span, are_disjoint};
 pub use windows::{Window, chosen, has_any, window_entries};

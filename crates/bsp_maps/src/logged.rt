@@ -8,15 +8,15 @@ use std::collections::BTreeMap;
 /// A key that was written, and the value that was there.
 #[derive(Clone, Copy, Drop)]
 pub struct Old<K: Copy + Drop, V: Copy + Drop> {
-    key: K,
+    pub(crate) key: K,
     value: Option<V>,
 }
 
 /// Entries by their keys, and what was at each key that was written since the last commit.
 #[derive(Drop)]
 pub struct Logged<K: Ord + Copy + Drop, V: Copy + Drop> {
-    map: BTreeMap<K, V>,
-    undo: Vec<Old<K, V>>,
+    pub(crate) map: BTreeMap<K, V>,
+    pub(crate) undo: Vec<Old<K, V>>,
 }
 
 impl<K: Ord + Copy + Drop, V: Copy + Drop> Logged<K, V> {

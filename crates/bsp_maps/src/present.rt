@@ -3,7 +3,9 @@
 ghost use Rattle.std.specs.Prelude.{◌≡◌, IfOk, OnOk};
 ghost use Rattle.std.specs.FinMap.{IsAntisymmetric, from_entries};
 ghost use Rattle.bsp_maps.specs.Present.{present, with_present_value};
+ghost use Rattle.bsp_maps.specs.Undo.{before, content};
 
+use crate::logged::Logged;
 use std::alloc::{AllocError, Global};
 use std::collections::BTreeMap;
 
@@ -43,4 +45,32 @@ pub fn present_entries<K: Ord + Copy + Drop, V: Copy + Drop>(
         add_present(&mut found, key, value)?;
     }
     Ok(found)
+}
+
+/// Takes out the entry of a key, if it has no value.
+fn take_out_absent<K: Ord + Copy + Drop, V: Copy + Drop>(
+    entries: &mut BTreeMap<K, Option<V>>,
+    key: &K,
+)
+    requires { IsAntisymmetric K.cmp }
+    ensures { present {R = K.cmp} (from_entries entries.new.entries) ≡ present (from_entries entries.old.entries) }
+{
+    match entries.get(key).copied() {
+        Some(None) => {
+            let _ = entries.remove(key);
+        }
+        Some(Some(_)) | None => {}
+    }
+}
+
+/// Keeps what was written, and takes out the entries that were written and have no value. It takes time in
+/// proportion to what was written, and a logarithm, and no memory.
+pub fn commit_present<K: Ord + Copy + Drop, V: Copy + Drop>(map: &mut Logged<K, Option<V>>)
+    requires { IsAntisymmetric K.cmp }
+    ensures content { present (content K.cmp map.new) ≡ present (content K.cmp map.old) }
+    ensures before { before K.cmp map.new ≡ content K.cmp map.new }
+{
+    while let Some(old) = map.undo.pop() {
+        take_out_absent(&mut map.map, &old.key);
+    }
 }

@@ -1,8 +1,7 @@
 use Rattle.std.proofs.Common.{◌++◌, subst, Option}
 use Rattle.std.specs.Option.{option_to_list}
 use Rattle.bsp_rules.specs.declared.rows.Item.{Item}
-use Rattle.bsp_maps.specs.Undo.{content}
-use Rattle.bsp_rows.specs.Tallies.{tally_cmp}
+use Rattle.bsp_row_tables.specs.TallyTables.{tally_rows}
 use Rattle.bsp_list_tables.specs.Kept.{AreAddedUp}
 use Rattle.bsp_list_tables.proofs.TallySteps.{on_ok}
 use Rattle.bsp_list_tables.proofs.tallies.recount_item.Goals as goal
@@ -10,4 +9,4 @@ use Rattle.bsp_list_tables.proofs.tallies.recount_item.Goals as goal
 pub returns-in_ok-discount_item-in-Some-clause-ok : goal.returns-in_ok-discount_item-in-Some-clause-ok
 returns-in_ok-discount_item-in-Some-clause-ok c = on_ok c.count_item-in-Some.result (λ count items memos before.
     count items memos (c.in_ok-discount_item-in-Some.ensures.ok items memos
-    (subst (λ (o : Option Item). AreAddedUp (option_to_list o ++ items) memos (content tally_cmp c.args.tallies.now)) c.in-Some.is before))) c.count_item-in-Some.ensures.ok
+    (subst (λ (o : Option Item). AreAddedUp (option_to_list o ++ items) memos (tally_rows c.args.tallies.now)) c.in-Some.is before))) c.count_item-in-Some.ensures.ok

@@ -7,4 +7,9 @@ use Rattle.bsp_list_tables.proofs.tables.Tables.items.Goals as goal
 pub returns-in-OfAgent : goal.returns-in-OfAgent
 returns-in-OfAgent c =
     let rows = rows_of c.args.self.now in
-    if_ok c.agent_items.result (λ v e. e ∙ all_pass (agent_items c.in-OfAgent.agent rows) ∙ ap (λ w. items_of w rows) (sym c.in-OfAgent.is)) c.agent_items.ensures
+    if_ok c.of_agent.result (λ v e h. e ∙ all_pass (agent_items c.in-OfAgent.agent rows) ∙ ap (λ w. items_of w rows) (sym c.in-OfAgent.is)) c.of_agent.ensures
+
+pub returns-in-OfAirlineIn : goal.returns-in-OfAirlineIn
+returns-in-OfAirlineIn c =
+    let rows = rows_of c.args.self.now in
+    if_ok c.of_airline.result (λ v e h. e h.of_items ∙ ap (λ w. items_of w rows) (sym c.in-OfAirlineIn.is)) c.of_airline.ensures

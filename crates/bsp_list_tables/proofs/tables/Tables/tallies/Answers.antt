@@ -1,12 +1,15 @@
 use Rattle.std.proofs.Common.{◌≡◌, ℕ, ◌==◌, ◌&&◌, Bool, true, false, refl, sym, ap, ◌∙◌}
 use Rattle.std.specs.FinMap.{entries, values}
-use Rattle.bsp_maps.specs.Undo.{content}
 use Rattle.bsp_maps.proofs.PickLemmas.{if_ok}
 use Rattle.bsp_rows.specs.declared.keys.TallyKey.{TallyKey}
 use Rattle.bsp_rows.specs.declared.questions.Tallies.{Tallies}
-use Rattle.bsp_rows.specs.declared.questions.Tallies.TheVariants.{OfAgent, OfAgentIn}
-use Rattle.bsp_rows.specs.Rows.{item_cmp, memo_cmp}
-use Rattle.bsp_rows.specs.Tallies.{is_tally_asked, tally_cmp}
+use Rattle.bsp_rows.specs.declared.questions.Tallies.TheVariants.{OfAgent, OfAgentIn, OfAirlineIn, In}
+use Rattle.bsp_row_tables.specs.ItemTables.{item_rows}
+use Rattle.bsp_row_tables.specs.MemoTables.{memo_rows}
+use Rattle.bsp_rows.specs.Tallies.{is_tally_asked}
+use Rattle.bsp_postings.specs.declared.tally.Tally.{Tally}
+use Rattle.bsp_list_tables.specs.Lookups.{has_rows, is_asked}
+use Rattle.bsp_row_tables.specs.TallyTables.{tally_rows}
 use Rattle.bsp_list_tables.proofs.AskedLemmas.{asked_are, of_window}
 use Rattle.bsp_list_tables.proofs.tables.Tables.tallies.Goals as goal
 
@@ -23,9 +26,9 @@ of_agent_in which agent period is k asked = and_first (k.agent == agent) (k.peri
 pub returns-in-OfAgent : goal.returns-in-OfAgent
 returns-in-OfAgent c =
     let agent = c.in-OfAgent.agent in
-    let items = values (content item_cmp c.args.self.now.items) in
-    let memos = values (content memo_cmp c.args.self.now.memos) in
-    let tallies = content tally_cmp c.args.self.now.tallies in
+    let items = values (item_rows c.args.self.now.items) in
+    let memos = values (memo_rows c.args.self.now.memos) in
+    let tallies = tally_rows c.args.self.now.tallies in
     if_ok c.agent_tallies.result (λ v e h. e
     ∙ of_window c.args.which.now (λ k. k.agent == agent) (of_agent c.args.which.now agent c.in-OfAgent.is) (entries tallies)
     ∙ asked_are items memos tallies h.totals c.args.which.now) c.agent_tallies.ensures
@@ -33,23 +36,29 @@ returns-in-OfAgent c =
 pub returns-in-OfAgentIn : goal.returns-in-OfAgentIn
 returns-in-OfAgentIn c =
     let agent = c.in-OfAgentIn.agent in
-    let items = values (content item_cmp c.args.self.now.items) in
-    let memos = values (content memo_cmp c.args.self.now.memos) in
-    let tallies = content tally_cmp c.args.self.now.tallies in
+    let items = values (item_rows c.args.self.now.items) in
+    let memos = values (memo_rows c.args.self.now.memos) in
+    let tallies = tally_rows c.args.self.now.tallies in
     if_ok c.agent_tallies-in-OfAgentIn.result (λ v e h. e
     ∙ of_window c.args.which.now (λ k. k.agent == agent) (of_agent_in c.args.which.now agent c.in-OfAgentIn.field-1 c.in-OfAgentIn.is) (entries tallies)
     ∙ asked_are items memos tallies h.totals c.args.which.now) c.agent_tallies-in-OfAgentIn.ensures
 
+of_airline : (which : Tallies) (airline period : ℕ) → which ≡ OfAirlineIn airline period → (k : TallyKey) (t : Tally) → is_asked which k t ≡ true → ((k.airline == airline) && (k.period == period)) ≡ true
+of_airline which airline period is k t asked = sym (ap (λ (w : Tallies). is_tally_asked w k) is) ∙ and_first (is_tally_asked which k) (has_rows t) asked
+
+of_period : (which : Tallies) (period : ℕ) → which ≡ In period → (k : TallyKey) (t : Tally) → is_asked which k t ≡ true → (k.period == period) ≡ true
+of_period which period is k t asked = sym (ap (λ (w : Tallies). is_tally_asked w k) is) ∙ and_first (is_tally_asked which k) (has_rows t) asked
+
 pub returns-in-OfAirlineIn : goal.returns-in-OfAirlineIn
 returns-in-OfAirlineIn c =
-    let items = values (content item_cmp c.args.self.now.items) in
-    let memos = values (content memo_cmp c.args.self.now.memos) in
-    let tallies = content tally_cmp c.args.self.now.tallies in
-    if_ok c.all_tallies.result (λ v e h. e ∙ asked_are items memos tallies h.totals c.args.which.now) c.all_tallies.ensures
+    let items = values (item_rows c.args.self.now.items) in
+    let memos = values (memo_rows c.args.self.now.memos) in
+    let tallies = tally_rows c.args.self.now.tallies in
+    if_ok c.of_airline.result (λ v e h. e h.of_tallies (of_airline c.args.which.now c.in-OfAirlineIn.airline c.in-OfAirlineIn.period c.in-OfAirlineIn.is) ∙ asked_are items memos tallies h.totals c.args.which.now) c.of_airline.ensures
 
 pub returns-in-In : goal.returns-in-In
 returns-in-In c =
-    let items = values (content item_cmp c.args.self.now.items) in
-    let memos = values (content memo_cmp c.args.self.now.memos) in
-    let tallies = content tally_cmp c.args.self.now.tallies in
-    if_ok c.all_tallies-in-In.result (λ v e h. e ∙ asked_are items memos tallies h.totals c.args.which.now) c.all_tallies-in-In.ensures
+    let items = values (item_rows c.args.self.now.items) in
+    let memos = values (memo_rows c.args.self.now.memos) in
+    let tallies = tally_rows c.args.self.now.tallies in
+    if_ok c.of_period.result (λ v e h. e h.of_tallies (of_period c.args.which.now c.in-In.period c.in-In.is) ∙ asked_are items memos tallies h.totals c.args.which.now) c.of_period.ensures

@@ -1,0 +1,2 @@
+pub mod EntryLemmas
+pub mod IndexLemmas

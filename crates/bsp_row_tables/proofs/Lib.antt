@@ -1,0 +1,4 @@
+pub mod NumberOrder
+pub mod NumberLemmas
+pub mod PlaceOrders
+pub mod TableLemmas

@@ -1,0 +1,6 @@
+pub mod Numbers
+pub mod Windows
+pub mod Places
+pub mod MemoTables
+pub mod ItemTables
+pub mod TallyTables
