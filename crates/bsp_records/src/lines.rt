@@ -75,7 +75,8 @@ pub fn first_record(bytes: &[u8]) -> Option<(&[u8], &[u8])>
 {
     if let Some((line, tail)) = bytes.split_first_chunk::<136>() {
         if let Some((end, after)) = tail.split_first() {
-            if *end == b'\n' && all_printable(line) {
+            // Both parts are whole sixteens of characters, which one instruction tests.
+            if *end == b'\n' && all_printable(&line[..128]) && all_printable(&line[120..]) {
                 return Some((line, after));
             }
         }
