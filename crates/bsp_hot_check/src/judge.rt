@@ -7,7 +7,7 @@ ghost use Rattle.bsp_hot_check.specs.Standings.{heading_step, period_step, offic
 ghost use Rattle.bsp_hot_check.specs.Judging.{step_line};
 
 use crate::model::{DocumentKey, OfficeSums, Place, Progress, Stage, Standing};
-use crate::places::sums_of;
+use crate::places::added_by;
 use bsp_fields::{AirlineCode, PeriodCode};
 use bsp_hot_records::{
     AgentDigits, CodeTotals, Document, DocumentCode, FileTotals, Heading, OfficeHeader,
@@ -184,7 +184,7 @@ impl Standing {
     }
 
     /// BKS30, BKS39, BKS45 or BKP84 follows where the document takes it.
-    #[tactic(auto, unfolding(crate::specs::Standings::part_step))]
+    #[tactic(auto, using(crate::proofs::SumLemmas::counted_none), unfolding(crate::specs::Standings::part_step))]
     fn take_part(&mut self, next: PartOf) -> bool
         requires room { self.old.records < 2 ^ 63 }
         requires small { IsSmall self.old }
@@ -200,7 +200,11 @@ impl Standing {
         if !allowed {
             return false;
         }
-        self.count(progress.behind(next.part), sums_of(next.part));
+        let behind = progress.behind(next.part);
+        match added_by(next.part) {
+            Some(sums) => self.count(behind, sums),
+            None => self.move_to(Place::InDocument(behind)),
+        }
         true
     }
 

@@ -1,10 +1,10 @@
 //! What may stand behind what.
 
-ghost use Rattle.std.specs.Prelude.{◌≡◌};
+ghost use Rattle.std.specs.Prelude.{◌≡◌, IfSome, IfNone};
 ghost use Rattle.std.specs.List.{find};
 ghost use Rattle.std.specs.Option.{option_copied};
 ghost use Rattle.bsp_hot_records.specs.Judged.{IsSmallPart};
-ghost use Rattle.bsp_hot_records.specs.Sums.{AreSmall};
+ghost use Rattle.bsp_hot_records.specs.Sums.{no_sums, AreSmall};
 ghost use Rattle.bsp_hot_check.specs.Standings.{is_ended, is_complete, is_complete_progress, takes_amounts, takes_commission, takes_related, takes_cash, takes_credit, takes_exchange, takes, stage_of, progress_behind, takes_transaction, stands_in, left_codes, next_code, judged_sums};
 
 use crate::model::{CodeSums, Place, Progress, Stage};
@@ -126,26 +126,27 @@ impl Stage {
     }
 }
 
-/// What a record of a document adds. EX is in no total.
-pub(crate) fn sums_of(part: Part) -> Sums
+/// What a record of a document adds, if anything. EX is in no total.
+pub(crate) fn added_by(part: Part) -> Option<Sums>
     requires { IsSmallPart part }
-    ensures value { result ≡ judged_sums part }
-    ensures one { AreSmall 1 result }
+    ensures value { IfSome result (λ sums. sums ≡ judged_sums part) }
+    ensures one { IfSome result (λ sums. AreSmall 1 sums) }
+    ensures none { IfNone result (judged_sums part ≡ no_sums) }
 {
     match part {
-        Part::Commission(amount) => Sums {
+        Part::Commission(amount) => Some(Sums {
             commission: amount as i128,
             ..Sums::NONE
-        },
-        Part::Cash(amount) => Sums {
+        }),
+        Part::Cash(amount) => Some(Sums {
             cash: amount as i128,
             ..Sums::NONE
-        },
-        Part::Credit(amount) => Sums {
+        }),
+        Part::Credit(amount) => Some(Sums {
             credit: amount as i128,
             ..Sums::NONE
-        },
-        _ => Sums::NONE,
+        }),
+        _ => None,
     }
 }
 

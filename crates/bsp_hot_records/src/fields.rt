@@ -8,8 +8,8 @@ ghost use Rattle.bsp_hot_records.specs.Judged.{IsSmallAmount};
 
 use crate::code::DocumentCode;
 use crate::totals::{Sums, Totals};
-use bsp_fields::{AirlineCode, DocNumber, PeriodCode, read_amount, read_digits, read_total};
-use bsp_records::{all_letters_or_digits, all_spaces, taxes_fit};
+use bsp_fields::{AirlineCode, DocNumber, PeriodCode, read_amount, read_total};
+use bsp_records::{all_digits, all_letters_or_digits, all_spaces, number_of, taxes_fit};
 
 /// The code of a document, from its four letters.
 #[tactic(auto, unfolding(crate::specs::Records::code_of))]
@@ -59,9 +59,10 @@ pub(crate) fn number_in(text: &[u8]) -> Option<u64>
     ensures value { IfSome result (λ number. number ≡ number_in text.now) }
     ensures none { IfNone result (all_ascii_digits text.now ≡ false) }
 {
-    match read_digits(text) {
-        Ok(number) => Some(number),
-        Err(_) => None,
+    if all_digits(text) {
+        Some(number_of(text))
+    } else {
+        None
     }
 }
 

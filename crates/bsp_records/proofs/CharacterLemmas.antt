@@ -1,12 +1,12 @@
 -- Lemmas on the characters of fields.
-use Rattle.std.proofs.Common.{◌≡◌, ℕ, zero, suc, ◌-◌, ◌/◌, ◌%◌, ◌<◌, ◌≤◌, ◌&&◌, Bool, true, false, List, [], ◌∷◌, ◌++◌, length, take, drop, replicate, refl, ◌∙◌, ap, arith, ℤ}
+use Rattle.std.proofs.Common.{◌≡◌, ℕ, zero, suc, ◌+◌, ◌-◌, ◌/◌, ◌%◌, ◌<◌, ◌≤◌, ◌&&◌, Bool, true, false, List, [], ◌∷◌, ◌++◌, length, take, drop, replicate, refl, sym, ◌∙◌, ap, arith, ℤ}
 use Rattle.std.specs.Prelude.{unsigned_abs}
 use Rattle.std.specs.Int.{is_negative}
 use Rattle.std.specs.List.{concat, list_all}
 use Rattle.std.specs.Char.{is_ascii_digit}
 use Rattle.std.specs.Str.{all_ascii_digits}
 use Rattle.std.proofs.lemmas.Grind.{common_steps}
-use Rattle.std.proofs.lemmas.List.{length_push}
+use Rattle.std.proofs.lemmas.List.{length_push, take-append-drop, drop-drop}
 use Rattle.std.proofs.lemmas.List.Folds.{list_all-append}
 use Rattle.std.proofs.lemmas.Bool.{and_parts}
 use Rattle.bsp_fields.specs.Decimal.{fixed_digits}
@@ -31,6 +31,14 @@ pub list_all-drop : (p : ℕ → Bool) (n : ℕ) (text : List ℕ) → list_all 
 list_all-drop p zero text all = all
 list_all-drop p (suc n) [] all = refl
 list_all-drop p (suc n) (c ∷ text) all = list_all-drop p n text ((and_parts (p c) (list_all p text) all).1)
+
+-- a text in two parts that meet or overlap
+pub list_all-parts : (p : ℕ → Bool) (from to : ℕ) (text : List ℕ) → from ≤ to → list_all p (take to text) ≡ true → list_all p (drop from text) ≡ true → list_all p text ≡ true
+list_all-parts p from to text meet front back =
+    let count : from + (to - from) ≡ to = omega arith in
+    let behind : list_all p (drop to text) ≡ true =
+    ap (λ k. list_all p (drop k text)) (sym count) ∙ ap (list_all p) (sym (drop-drop (to - from) from text)) ∙ list_all-drop p (to - from) (drop from text) back in
+    ap (list_all p) (sym (take-append-drop to text)) ∙ list_all-append p (take to text) (drop to text) ∙ rw (front, behind) refl
 
 pub list_all-replicate : (p : ℕ → Bool) (n c : ℕ) → p c ≡ true → list_all p (replicate n c) ≡ true
 list_all-replicate p zero c one = refl

@@ -1,12 +1,13 @@
 -- Lemmas on tax places, one by one.
-use Rattle.std.proofs.Common.{◌≡◌, ℕ, zero, suc, ◌+◌, ◌-◌, ◌*◌, ◌<◌, ◌≤◌, Bool, true, false, ◌&&◌, List, [], ◌∷◌, ◌++◌, take, drop, refl, sym, ap, ◌∙◌, arith, drop-drop}
+use Rattle.std.proofs.Common.{◌≡◌, ◌≢◌, ℕ, zero, suc, ◌+◌, ◌-◌, ◌*◌, ◌<◌, ◌≤◌, Bool, true, false, ◌&&◌, List, [], ◌∷◌, ◌++◌, length, get_or, take, drop, refl, sym, ap, ◌∙◌, arith, inl, inr, drop-drop, length-drop}
 use Rattle.std.proofs.lemmas.Grind.{common_steps}
-use Rattle.std.proofs.lemmas.Bool.{and_left, and_right}
+use Rattle.std.proofs.lemmas.Bool.{cases_Bool, and_left, and_right, eqb-true}
+use Rattle.std.proofs.lemmas.List.{length-take, take-take}
 use Rattle.std.proofs.lemmas.List.Folds.{list_all-append}
-use Rattle.std.specs.Prelude.{if◌then◌else◌, nat_lt, slice_range}
+use Rattle.std.specs.Prelude.{◌==◌, if◌then◌else◌, nat_lt, slice_range}
 use Rattle.std.specs.List.{list_all}
 use Rattle.bsp_records.specs.Columns.{is_space}
-use Rattle.bsp_records.specs.Taxes.{tax_code, tax_fits, taxes_fit, tax_places}
+use Rattle.bsp_records.specs.Taxes.{tax_code, tax_fits, taxes_fit, tax_places, taxes_from}
 
 -- the places from this one on fit, behind a place with this code
 pub rest_fits : List ℕ → ℕ → ℕ → Bool
@@ -20,14 +21,13 @@ abbrev pub behind_place : List ℕ → ℕ → List ℕ
 behind_place line index = slice_range line (31 + 13 * index) 96
 
 -- what a used place asks of itself and of those behind it
-abbrev pub used_fits : List ℕ → ℕ → ℕ → Bool
-used_fits line index before =
-    tax_fits (place_at line index) && nat_lt before (tax_code (place_at line index)) && rest_fits line (index + 1) (tax_code (place_at line index))
+abbrev pub used_fits : List ℕ → ℕ → ℕ → List ℕ → Bool
+used_fits line index before place = tax_fits place && nat_lt before (tax_code place) && rest_fits line (index + 1) (tax_code place)
 
 -- what any place asks
 abbrev place_fits : List ℕ → ℕ → ℕ → Bool
 place_fits line index before =
-    if list_all is_space (place_at line index) then list_all is_space (behind_place line index) else used_fits line index before
+    if list_all is_space (place_at line index) then list_all is_space (behind_place line index) else used_fits line index before (place_at line index)
 
 -- all places, from the first on
 pub rest_fits-first : (line : List ℕ) → rest_fits line 0 0 ≡ taxes_fit 0 (tax_places line)
@@ -92,26 +92,72 @@ rest_fits-place line (suc (suc (suc (suc zero)))) before lt = rw (spaces-5 line)
 rest_fits-place line (suc (suc (suc (suc (suc zero))))) before lt = rw (spaces-6 line) refl
 rest_fits-place line (suc (suc (suc (suc (suc (suc index)))))) before lt = absurd (omega (arith, lt))
 
--- the taxes, where this place is the first unused
-pub taxes-unused : (line : List ℕ) (index before : ℕ) → rest_fits line 0 0 ≡ rest_fits line index before → index < 6 → list_all is_space (place_at line index) ≡ true → rest_fits line 0 0 ≡ list_all is_space (behind_place line index)
-taxes-unused line index before so_far lt unused = so_far ∙ rest_fits-place line index before lt ∙ rw unused refl
+-- the place of an index, by its columns
+pub place_is : (line : List ℕ) (index : ℕ) → index < 6 → get_or (tax_places line) index [] ≡ place_at line index
+place_is line zero lt = refl
+place_is line (suc zero) lt = refl
+place_is line (suc (suc zero)) lt = refl
+place_is line (suc (suc (suc zero))) lt = refl
+place_is line (suc (suc (suc (suc zero)))) lt = refl
+place_is line (suc (suc (suc (suc (suc zero))))) lt = refl
+place_is line (suc (suc (suc (suc (suc (suc index)))))) lt = absurd (omega (arith, lt))
 
--- the taxes, where this place is used
-pub taxes-used : (line : List ℕ) (index before : ℕ) → rest_fits line 0 0 ≡ rest_fits line index before → index < 6 → list_all is_space (place_at line index) ≡ false → rest_fits line 0 0 ≡ used_fits line index before
-taxes-used line index before so_far lt used = so_far ∙ rest_fits-place line index before lt ∙ rw used refl
+-- and as the first characters of those from there on
+pub place_cut : (line : List ℕ) (index : ℕ) → index < 6 → take 13 (taxes_from line index) ≡ get_or (tax_places line) index []
+place_cut line index lt =
+    let wide : 31 + 13 * index - (18 + 13 * index) ≡ 13 = omega arith in
+    take-take 13 (96 - (18 + 13 * index)) (drop (18 + 13 * index) line) (omega arith)
+    ∙ ap (λ k. take k (drop (18 + 13 * index) line)) (sym wide)
+    ∙ sym (place_is line index lt)
+
+-- a place that begins with a space is not used
+unused_fits : (place : List ℕ) → 2 ≤ length place → get_or place 0 0 ≡ 32 → tax_fits place ≡ false
+unused_fits [] wide space = absurd (omega arith)
+unused_fits (b ∷ []) wide space = absurd (omega arith)
+unused_fits (b ∷ c ∷ place) wide space = rw space refl
+
+-- and one that begins with another character is
+used_some : (place : List ℕ) → 0 < length place → get_or place 0 0 ≢ 32 → list_all is_space place ≡ false
+used_some [] one other = absurd (omega arith)
+used_some (b ∷ place) one other =
+    elim (cases_Bool (b == 32)) [ inl space ↦ absurd (other (eqb-true b 32 space)) | inr some ↦ rw some refl ]
+
+place_wide : (line : List ℕ) (index : ℕ) → index < 6 → 96 ≤ length line → length (place_at line index) ≡ 13
+place_wide line index lt wide =
+    rw (length-take (31 + 13 * index - (18 + 13 * index)) (drop (18 + 13 * index) line), length-drop (18 + 13 * index) line) (omega arith)
+
+-- the taxes, where the place of this index is the first unused
+pub taxes-unused : (line place : List ℕ) (index before : ℕ) → rest_fits line 0 0 ≡ rest_fits line index before → index < 6 → 96 ≤ length line → place ≡ get_or (tax_places line) index [] → get_or place 0 0 ≡ 32 → rest_fits line 0 0 ≡ list_all is_space (taxes_from line index)
+taxes-unused line place index before so_far lt wide is space =
+    let at : place_at line index ≡ place = sym (is ∙ place_is line index lt) in
+    let parts = spaces-parts line (18 + 13 * index) (31 + 13 * index) 96 (omega arith) (omega arith) in
+    let stopped : tax_fits (place_at line index) ≡ false =
+    unused_fits (place_at line index) (omega (arith, place_wide line index lt wide)) (ap (λ xs. get_or xs 0 0) at ∙ space) in
+    so_far ∙ rest_fits-place line index before lt ∙ elim (cases_Bool (list_all is_space (place_at line index))) [
+      | inl all ↦ rw all (sym (parts ∙ rw all refl))
+      | inr some ↦ rw (some, stopped) (sym (parts ∙ rw some refl))
+    ]
+
+-- the taxes, where it is used
+pub taxes-used : (line place : List ℕ) (index before : ℕ) → rest_fits line 0 0 ≡ rest_fits line index before → index < 6 → 96 ≤ length line → place ≡ get_or (tax_places line) index [] → get_or place 0 0 ≢ 32 → rest_fits line 0 0 ≡ used_fits line index before place
+taxes-used line place index before so_far lt wide is other =
+    let at : place_at line index ≡ place = sym (is ∙ place_is line index lt) in
+    let long : 0 < length place = omega (arith, place_wide line index lt wide, ap (length {A = ℕ}) at) in
+    let some : list_all is_space (place_at line index) ≡ false = rw at (used_some place long other) in
+    so_far ∙ rest_fits-place line index before lt ∙ rw some (ap (used_fits line index before) at)
 
 -- a tax that fits, behind a lower code
-pub taxes-passed : (line : List ℕ) (index before number : ℕ) → tax_fits (place_at line index) ≡ true → number ≡ tax_code (place_at line index) → before < number → used_fits line index before ≡ rest_fits line (index + 1) number
-taxes-passed line index before number fits is rises =
+pub taxes-passed : (line place : List ℕ) (index before number : ℕ) → tax_fits place ≡ true → number ≡ tax_code place → before < number → used_fits line index before place ≡ rest_fits line (index + 1) number
+taxes-passed line place index before number fits is rises =
     let lower : nat_lt before number ≡ true = grind arith in
     rw (fits, ← is, lower) refl
 
 -- a tax that does not fit
-pub taxes-stopped : (line : List ℕ) (index before : ℕ) → tax_fits (place_at line index) ≡ false → used_fits line index before ≡ false
-taxes-stopped line index before stops = rw stops refl
+pub taxes-stopped : (line place : List ℕ) (index before : ℕ) → tax_fits place ≡ false → used_fits line index before place ≡ false
+taxes-stopped line place index before stops = rw stops refl
 
 -- a code that does not rise
-pub taxes-fallen : (line : List ℕ) (index before number : ℕ) → number ≡ tax_code (place_at line index) → number ≤ before → used_fits line index before ≡ false
-taxes-fallen line index before number is falls =
+pub taxes-fallen : (line place : List ℕ) (index before number : ℕ) → number ≡ tax_code place → number ≤ before → used_fits line index before place ≡ false
+taxes-fallen line place index before number is falls =
     let lower : nat_lt before number ≡ false = grind arith in
-    rw (← is) (and_left _ (rest_fits line (index + 1) number) (and_right (tax_fits (place_at line index)) (nat_lt before number) lower))
+    rw (← is) (and_left _ (rest_fits line (index + 1) number) (and_right (tax_fits place) (nat_lt before number) lower))

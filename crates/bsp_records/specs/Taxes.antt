@@ -1,5 +1,5 @@
 -- Tax places, as in record 5 of a RET file.
-use Rattle.std.specs.Prelude.{ℕ, ◌+◌, ◌*◌, nat_lt, Bool, true, ◌&&◌, List, [], ◌∷◌, slice_index, if◌then◌else◌}
+use Rattle.std.specs.Prelude.{ℕ, ◌+◌, ◌*◌, nat_lt, Bool, true, ◌&&◌, List, [], ◌∷◌, slice_index, slice_range, if◌then◌else◌}
 use Rattle.std.specs.List.{list_all}
 use Rattle.bsp_records.specs.Columns.{columns, is_letter_or_digit, is_space}
 use Rattle.bsp_records.specs.Fields.{is_amount}
@@ -9,6 +9,10 @@ abbrev pub tax_places : List ℕ → List (List ℕ)
 tax_places line =
     columns 19 31 line ∷ columns 32 44 line ∷ columns 45 57 line ∷ columns 58 70 line ∷ columns 71 83 line
     ∷ columns 84 96 line ∷ []
+
+-- the characters of the places from this one on
+abbrev pub taxes_from : List ℕ → ℕ → List ℕ
+taxes_from line index = slice_range line (18 + 13 * index) 96
 
 -- the two characters of a tax code as a number, which orders codes by their bytes
 abbrev pub tax_code : List ℕ → ℕ

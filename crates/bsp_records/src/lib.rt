@@ -14,4 +14,4 @@ pub use characters::{all_digits, all_letters, all_letters_or_digits, all_printab
 pub use fields::{is_amount, is_record_day, is_total, is_wide};
 pub use lines::{ended_line, first_line, first_record};
 pub use numbers::{number_of, spells, spells_at_most};
-pub use taxes::{tax_code, taxes_fit};
+pub use taxes::{tax_code, tax_place, taxes_fit};

@@ -6,7 +6,6 @@ ghost use Rattle.bsp_fields.specs.Decimal.{number_of};
 ghost use Rattle.bsp_records.specs.Fields.{spells, spells_at_most};
 
 use crate::characters::all_digits;
-use bsp_fields::read_digits;
 
 /// Whether at most 19 characters are digits that write the number.
 #[inline]
@@ -33,8 +32,9 @@ pub fn number_of(text: &[u8]) -> u64
     requires digits { all_ascii_digits text.now ≡ true }
     ensures { result ≡ number_of text.now }
 {
-    let Ok(number) = read_digits(text) else {
-        unreachable!()
-    };
+    let mut number = 0;
+    for digit in text {
+        number = number * 10 + (*digit - b'0') as u64;
+    }
     number
 }

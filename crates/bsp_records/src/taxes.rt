@@ -1,7 +1,7 @@
 //! Tax places.
 
-ghost use Rattle.std.specs.Prelude.{◌≡◌, ◌≤◌, length};
-ghost use Rattle.bsp_records.specs.Taxes.{tax_code, tax_fits, taxes_fit, tax_places};
+ghost use Rattle.std.specs.Prelude.{◌≡◌, ◌<◌, ◌≤◌, [], length, slice_index_or};
+ghost use Rattle.bsp_records.specs.Taxes.{tax_code, tax_fits, taxes_fit, tax_places, taxes_from};
 
 use crate::characters::{all_letters_or_digits, all_spaces};
 use crate::fields::is_amount;
@@ -23,8 +23,31 @@ fn tax_fits(place: &[u8]) -> bool
     all_letters_or_digits(&place[..2]) && is_amount(&place[2..13])
 }
 
-/// Whether the six places of taxes in columns 19 to 96 have the used ones first, with codes that
-/// rise, and spaces behind them.
+/// The characters of taxes from the place of that index on: six places of 13 characters, in columns
+/// 19 to 96.
+#[inline]
+fn taxes_from(line: &[u8], index: usize) -> &[u8]
+    requires wide { 96 ≤ length line.now }
+    requires inside { index < 6 }
+    ensures { result.now ≡ taxes_from line.now index }
+{
+    &line[18 + 13 * index..96]
+}
+
+/// The tax place of that index, from 0 to 5: a code and an amount, or spaces.
+#[tactic(auto, using(crate::proofs::TaxPlaces::place_cut))]
+#[inline]
+pub fn tax_place(line: &[u8], index: usize) -> &[u8]
+    requires wide { 96 ≤ length line.now }
+    requires inside { index < 6 }
+    ensures place { result.now ≡ slice_index_or (tax_places line.now) index [] }
+    ensures wide { length result.now ≡ 13 }
+{
+    &taxes_from(line, index)[..13]
+}
+
+/// Whether the six places of taxes have the used ones first, with codes that rise, and spaces behind
+/// them.
 #[inline]
 pub fn taxes_fit(line: &[u8]) -> bool
     requires { 96 ≤ length line.now }
@@ -32,9 +55,9 @@ pub fn taxes_fit(line: &[u8]) -> bool
 {
     let mut before = 0;
     for index in 0..6 {
-        let place = &line[18 + 13 * index..31 + 13 * index];
-        if all_spaces(place) {
-            return all_spaces(&line[31 + 13 * index..96]);
+        let place = tax_place(line, index);
+        if place[0] == b' ' {
+            return all_spaces(taxes_from(line, index));
         }
         let code = tax_code(place);
         if !tax_fits(place) || code <= before {

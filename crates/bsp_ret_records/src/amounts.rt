@@ -9,7 +9,7 @@ ghost use Rattle.bsp_ret_records.specs.Values.{IsTax, AreAmounts};
 
 use crate::columns::{amount_of, array_of};
 use crate::transactions::{Amounts, Tax};
-use bsp_records::{all_spaces, is_amount, number_of, spells_at_most, taxes_fit};
+use bsp_records::{all_spaces, is_amount, number_of, spells_at_most, tax_place, taxes_fit};
 
 #[inline]
 fn fare(line: &[u8]) -> &[u8]
@@ -72,12 +72,12 @@ pub fn amounts_values(line: &[u8]) -> Amounts
     Amounts {
         fare: amount_of(fare(line)),
         taxes: [
-            tax_of(&line[18..31]),
-            tax_of(&line[31..44]),
-            tax_of(&line[44..57]),
-            tax_of(&line[57..70]),
-            tax_of(&line[70..83]),
-            tax_of(&line[83..96]),
+            tax_of(tax_place(line, 0)),
+            tax_of(tax_place(line, 1)),
+            tax_of(tax_place(line, 2)),
+            tax_of(tax_place(line, 3)),
+            tax_of(tax_place(line, 4)),
+            tax_of(tax_place(line, 5)),
         ],
         rate: number_of(rate(line)) as u16,
         commission: amount_of(commission(line)),

@@ -1,34 +1,34 @@
-use Rattle.std.proofs.Common.{◌≡◌, true, false, sym, ◌∙◌, arith}
+use Rattle.std.proofs.Common.{◌≡◌, false, ap, sym, ◌∙◌, arith}
 use Rattle.std.specs.List.{list_all}
 use Rattle.bsp_records.specs.Columns.{is_space}
-use Rattle.bsp_records.proofs.TaxPlaces.{place_at, rest_fits, rest_fits-first, rest_fits-none, taxes-unused, taxes-used, taxes-passed, taxes-stopped, taxes-fallen}
+use Rattle.bsp_records.proofs.TaxPlaces.{rest_fits, rest_fits-first, rest_fits-none, taxes-unused, taxes-used, taxes-passed, taxes-stopped, taxes-fallen}
 use Rattle.bsp_records.proofs.taxes.taxes_fit.Goals as goal
 use Rattle.bsp_records.proofs.taxes.taxes_fit.Goals.{then-not-tax_fits-via-then-not-tax_fits, then-not-tax_fits-via-else-not-tax_fits+then-code-before}
 
-pub returns-then-all_spaces : goal.returns-then-all_spaces
-returns-then-all_spaces c =
+pub returns-then-place-eq32 : goal.returns-then-place-eq32
+returns-then-place-eq32 c =
     let line = c.args.line.now in
-    let unused : list_all is_space (place_at line c.loop-index.index) ≡ true = sym c.all_spaces.ensures ∙ c.if-all_spaces.true in
-    c.all_spaces-then-all_spaces.ensures ∙ sym (taxes-unused line c.loop-index.index c.loop-index.before c.loop-index.invariant c.loop-index-test.true unused) ∙ rest_fits-first line
+    let unused = taxes-unused line c.tax_place-place.result.now c.loop-index.index c.loop-index.before c.loop-index.invariant c.loop-index-test.true c.requires c.tax_place-place.ensures.place c.if-place-eq32.true in
+    c.all_spaces.ensures ∙ ap (list_all is_space) c.taxes_from.ensures ∙ sym unused ∙ rest_fits-first line
 
 pub returns-then-not-tax_fits : goal.returns-then-not-tax_fits
 returns-then-not-tax_fits c =
     let line = c.args.line.now in
-    let used : list_all is_space (place_at line c.loop-index.index) ≡ false = sym c.all_spaces.ensures ∙ c.if-all_spaces.false in
-    let so_far = taxes-used line c.loop-index.index c.loop-index.before c.loop-index.invariant c.loop-index-test.true used in
+    let place = c.tax_place-place.result.now in
+    let so_far = taxes-used line place c.loop-index.index c.loop-index.before c.loop-index.invariant c.loop-index-test.true c.requires c.tax_place-place.ensures.place c.if-place-eq32.false in
     let refused : rest_fits line 0 0 ≡ false =
     elim c.then-not-tax_fits.branch [
-      | then-not-tax_fits-via-then-not-tax_fits w ↦ so_far ∙ taxes-stopped line c.loop-index.index c.loop-index.before (sym c.tax_fits.ensures ∙ w.if-not-tax_fits.true)
-      | then-not-tax_fits-via-else-not-tax_fits+then-code-before w ↦ so_far ∙ taxes-fallen line c.loop-index.index c.loop-index.before c.tax_code-code.result c.tax_code-code.ensures w.if-code-before.true
+      | then-not-tax_fits-via-then-not-tax_fits w ↦ so_far ∙ taxes-stopped line place c.loop-index.index c.loop-index.before (sym c.tax_fits.ensures ∙ w.if-not-tax_fits.true)
+      | then-not-tax_fits-via-else-not-tax_fits+then-code-before w ↦ so_far ∙ taxes-fallen line place c.loop-index.index c.loop-index.before c.tax_code-code.result c.tax_code-code.ensures w.if-code-before.true
     ] in
     sym (sym (rest_fits-first line) ∙ refused)
 
 pub loop-index-preserved : goal.loop-index-preserved
 loop-index-preserved c =
     let line = c.args.line.now in
-    let used : list_all is_space (place_at line c.loop-index.index) ≡ false = sym c.all_spaces.ensures ∙ c.if-all_spaces.false in
-    taxes-used line c.loop-index.index c.loop-index.before c.loop-index.invariant c.loop-index-test.true used
-    ∙ taxes-passed line c.loop-index.index c.loop-index.before c.tax_code-code.result (sym c.tax_fits.ensures ∙ c.if-not-tax_fits.false) c.tax_code-code.ensures c.if-code-before.false
+    let place = c.tax_place-place.result.now in
+    taxes-used line place c.loop-index.index c.loop-index.before c.loop-index.invariant c.loop-index-test.true c.requires c.tax_place-place.ensures.place c.if-place-eq32.false
+    ∙ taxes-passed line place c.loop-index.index c.loop-index.before c.tax_code-code.result (sym c.tax_fits.ensures ∙ c.if-not-tax_fits.false) c.tax_code-code.ensures c.if-code-before.false
 
 pub returns : goal.returns
 returns c =
