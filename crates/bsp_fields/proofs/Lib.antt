@@ -3,6 +3,7 @@ pub mod DecimalLemmas
 pub mod FirstFaultLemmas
 pub mod ZonedLemmas
 pub mod CodeLemmas
+pub mod DocumentLemmas
 pub mod DayLemmas
 pub mod DayOrderLemmas
 pub mod DayTextLemmas

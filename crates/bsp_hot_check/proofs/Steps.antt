@@ -107,7 +107,7 @@ office_whole items d body =
 pub number_more : (f : File) (items : List Item) (it : Item) → number f (items ++ it ∷ []) ≡ number f items + 1
 number_more f items it = omega (arith, length-append items (it ∷ []))
 
-items_records_snoc : (airline agent n : ℕ) (items : List Item) (it : Item) → items_records airline agent n (items ++ it ∷ []) ≡ items_records airline agent n items ++ item_records airline agent (n + length items) it
+pub items_records_snoc : (airline agent n : ℕ) (items : List Item) (it : Item) → items_records airline agent n (items ++ it ∷ []) ≡ items_records airline agent n items ++ item_records airline agent (n + length items) it
 items_records_snoc airline agent n [] it =
     append-nil (item_records airline agent n it) ∙ ap (λ (k : ℕ). item_records airline agent k it) (sym (add-zero n))
 items_records_snoc airline agent n (first_item ∷ items) it =

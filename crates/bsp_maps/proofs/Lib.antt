@@ -1,3 +1,4 @@
+pub mod Orderings
 pub mod UndoLemmas
 pub mod OrderLemmas
 pub mod WindowLemmas

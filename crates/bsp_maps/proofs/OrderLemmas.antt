@@ -11,7 +11,7 @@ put_front : {K X : Type 0} (R : K → K → Ordering) (k : K) (v : X) (es : List
 put_front R k v [] all = refl
 put_front R k v (e ∷ es) all = ap (λ o. by_order o ((k, v) ∷ e ∷ es) ((e.0, v) ∷ es) (e ∷ put R k v es)) all.0
 
-no_length : {A : Type 0} (es : List A) → length es ≡ 0 → es ≡ []
+pub no_length : {A : Type 0} (es : List A) → length es ≡ 0 → es ≡ []
 no_length [] e = refl
 no_length (x ∷ es) e = absurd (omega arith)
 

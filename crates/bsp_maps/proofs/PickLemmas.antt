@@ -1,34 +1,14 @@
 -- The values at some keys that pass are those of the map that pass, where each such key is among them.
-use Rattle.std.proofs.Common.{◌≡◌, Bool, true, false, cond, ◌&&◌, ◌||◌, List, [], ◌∷◌, map, refl, sym, ap, ◌∙◌, Ordering, Less, Equal, Greater, Option, Some, None, Result, Ok, Err, IfOk, ℕ, ◌≤◌, length, drop, length-drop, arith}
+use Rattle.std.proofs.Common.{◌≡◌, Bool, true, false, cond, ◌||◌, List, [], ◌∷◌, map, refl, sym, ap, ◌∙◌, Ordering, Option, Some, None, Result, Ok, Err, IfOk, ℕ, ◌≤◌, length, drop, length-drop, arith}
 use Rattle.std.specs.Prelude.{T}
 use Rattle.std.specs.List.{filter, list_any}
 use Rattle.std.specs.Ordering.{is_eq, is_lt, eq_by_cmp}
-use Rattle.std.specs.Cmp.{IsTotalOrder, tied_itself}
+use Rattle.std.specs.Cmp.{Equal-is, IsTotalOrder, tied_itself}
 use Rattle.std.specs.FinMap.{FinMap, IsAntisymmetric, get, insert, empty, entries, entries_sorted, from_sorted, get-insert, get-empty, get-entries, get-from_sorted, entries-from_sorted, same_map, find, values}
 use Rattle.std.specs.FinMap.Entries.{is_sorted, below_all}
+use Rattle.bsp_maps.proofs.OrderLemmas.{no_length}
+use Rattle.bsp_maps.proofs.Orderings.{both, first, none_behind, second}
 use Rattle.bsp_maps.specs.Picks.{with_value, with_key, with_keys, AreAmong}
-
-both : (a b : Bool) → T a → T b → T (a && b)
-both true b p q = q
-both false b p q = p
-
-first : (a b : Bool) → T (a && b) → T a
-first true b p = tt
-first false b p = p
-
-second : (a b : Bool) → T (a && b) → T b
-second true b p = p
-second false b p = absurd p
-
-less : (r : Ordering) → T (is_lt r) → r ≡ Less
-less Less p = refl
-less Equal p = absurd p
-less Greater p = absurd p
-
-equal : (r : Ordering) → is_eq r ≡ true → r ≡ Equal
-equal Less h = absurd (cc)
-equal Equal h = refl
-equal Greater h = absurd (cc)
 
 abbrev either : {V : Type 0} → Option V → Option V → Option V
 either None y = y
@@ -66,10 +46,6 @@ pub if_ok : {A B : Type 0} {P Q : A → Type 0} (r : Result A B) → ((x : A) �
 if_ok (Ok x) f p = f x p
 if_ok (Err y) f p = tt
 
-no_length : {A : Type 0} (xs : List A) → length xs ≡ 0 → xs ≡ []
-no_length [] e = refl
-no_length (x ∷ xs) e = absurd (omega arith)
-
 pub none_left : {A : Type 0} (xs : List A) (i : ℕ) → length xs ≤ i → drop i xs ≡ []
 none_left xs i h = no_length (drop i xs) (let b = length-drop i xs in omega arith)
 
@@ -92,13 +68,6 @@ module _ {K V : Type 0} (R : K → K → Ordering) (o : IsTotalOrder R) where
         | false ↦ rest
       ]
 
-  -- behind a key that ties none does
-  none_behind : (q x : K) (es : List (K × V)) → R q x ≡ Equal → T (below_all R x es) → find R q es ≡ None
-  none_behind q x [] tie up = refl
-  none_behind q x (e ∷ es) tie up =
-      let l : R q e.0 ≡ Less = o.congr q x e.0 tie ∙ less (R x e.0) (first (is_lt (R x e.0)) (below_all R x es) up) in
-      ap (λ r. cond (is_eq r) (Some e.1) (find R q es)) l ∙ none_behind q x es tie (second (is_lt (R x e.0)) (below_all R x es) up)
-
 module _ {K V : Type 0} (R : K → K → Ordering) (o : IsTotalOrder R) (exact : IsAntisymmetric R) (holds : K → V → Bool) where
   abbrev pub wanted : K → Option V → Option V
   wanted k None = None
@@ -110,11 +79,11 @@ module _ {K V : Type 0} (R : K → K → Ordering) (o : IsTotalOrder R) (exact :
       → find R q (filter (λ e. holds e.0 e.1) es) ≡ wanted q (find R q es)
       → find R q (cond h (e ∷ filter (λ e. holds e.0 e.1) es) (filter (λ e. holds e.0 e.1) es)) ≡ wanted q (cond b (Some e.1) (find R q es))
   step q e es true true b h up rest =
-      let same : q ≡ e.0 = exact q e.0 (equal (R q e.0) b) in
+      let same : q ≡ e.0 = exact q e.0 ((Equal-is (R q e.0)).0 b) in
       ap (λ t. cond t (Some e.1) (find R q (filter (λ e. holds e.0 e.1) es))) b ∙ sym (ap (λ t. cond t (Some e.1) None) (ap (λ k. holds k e.1) same ∙ h))
   step q e es true false b h up rest =
-      let same : q ≡ e.0 = exact q e.0 (equal (R q e.0) b) in
-      rest ∙ ap (wanted q) (none_behind R o q e.0 es (equal (R q e.0) b) up) ∙ sym (ap (λ t. cond t (Some e.1) None) (ap (λ k. holds k e.1) same ∙ h))
+      let same : q ≡ e.0 = exact q e.0 ((Equal-is (R q e.0)).0 b) in
+      rest ∙ ap (wanted q) (none_behind R o q e.0 es ((Equal-is (R q e.0)).0 b) up) ∙ sym (ap (λ t. cond t (Some e.1) None) (ap (λ k. holds k e.1) same ∙ h))
   step q e es false true b h up rest = ap (λ t. cond t (Some e.1) (find R q (filter (λ e. holds e.0 e.1) es))) b ∙ rest
   step q e es false false b h up rest = rest
 
@@ -141,7 +110,7 @@ module _ {K V : Type 0} (R : K → K → Ordering) (o : IsTotalOrder R) (exact :
   module _ (m : FinMap R V) where
     at_key : (q k : K) (b : Bool) (found : FinMap R V) → eq_by_cmp R q k ≡ b → get (with_key holds m k found) q ≡ cond b (either (wanted q (get m q)) (get found q)) (get found q)
     at_key q k true found e =
-        let same : k ≡ q = sym (exact q k (equal (R q k) e)) in
+        let same : k ≡ q = sym (exact q k ((Equal-is (R q k)).0 e)) in
         ap (λ j. get (with_key holds m j found) q) same ∙ here q (get m q) found
     at_key q k false found e = elsewhere q k (get m k) found e
 

@@ -1,45 +1,21 @@
 -- What a map that may have no value at a key has at it.
-use Rattle.std.proofs.Common.{◌≡◌, Bool, true, false, cond, ◌&&◌, List, [], ◌∷◌, refl, sym, ap, ◌∙◌, Ordering, Less, Equal, Greater, Option, Some, None}
+use Rattle.std.proofs.Common.{◌≡◌, Bool, true, false, cond, List, [], ◌∷◌, refl, sym, ap, ◌∙◌, Ordering, Less, Option, Some, None}
 use Rattle.std.specs.Prelude.{T}
 use Rattle.std.specs.List.{AllByRecursion, filter_map}
 use Rattle.std.specs.List.Sorted.{IsStrictlySortedBy}
 use Rattle.std.specs.Map.{keys_of}
-use Rattle.std.specs.Ordering.{is_eq, is_lt, eq_by_cmp}
-use Rattle.std.specs.Cmp.{IsTotalOrder}
+use Rattle.std.specs.Ordering.{is_lt, eq_by_cmp}
+use Rattle.std.specs.Cmp.{Equal-is, IsTotalOrder}
 use Rattle.std.specs.FinMap.{FinMap, IsAntisymmetric, get, insert, remove, empty, entries, entries_sorted, get-insert, get-remove, get_tied, get-empty, get-from_entries, get-entries, same_map, find}
 use Rattle.std.specs.FinMap.Entries.{is_sorted, below_all}
 use Rattle.bsp_maps.proofs.OrderLemmas.{in_order}
+use Rattle.bsp_maps.proofs.Orderings.{both, first, less, none_behind, second}
 use Rattle.bsp_maps.specs.Present.{present, present_entry, flat, with_present, with_present_value}
 
-first : (a b : Bool) → T (a && b) → T a
-first true b p = tt
-first false b p = p
-
-second : (a b : Bool) → T (a && b) → T b
-second true b p = p
-second false b p = absurd p
-
-less : (r : Ordering) → T (is_lt r) → r ≡ Less
-less Less p = refl
-less Equal p = absurd p
-less Greater p = absurd p
-
-equal : (r : Ordering) (b : Bool) → is_eq r ≡ b → b ≡ true → r ≡ Equal
-equal Less b e h = absurd (cc)
-equal Equal b e h = refl
-equal Greater b e h = absurd (cc)
-
 module _ {K V : Type 0} (R : K → K → Ordering) (o : IsTotalOrder R) where
-  -- behind a key that ties none does
-  none_behind : (q x : K) (es : List (K × Option V)) → R q x ≡ Equal → T (below_all R x es) → find R q es ≡ None
-  none_behind q x [] tie up = refl
-  none_behind q x (e ∷ es) tie up =
-      let l : R q e.0 ≡ Less = o.congr q x e.0 tie ∙ less (R x e.0) (first (is_lt (R x e.0)) (below_all R x es) up) in
-      ap (λ r. cond (is_eq r) (Some e.1) (find R q es)) l ∙ none_behind q x es tie (second (is_lt (R x e.0)) (below_all R x es) up)
-
   step : (q k : K) (w : Option V) (es : List (K × Option V)) (b : Bool) → eq_by_cmp R q k ≡ b → T (below_all R k es) → find R q (filter_map present_entry es) ≡ flat (find R q es)
       → find R q (filter_map present_entry ((k, w) ∷ es)) ≡ flat (cond b (Some w) (find R q es))
-  step q k None es true tie up h = h ∙ ap flat (none_behind q k es (equal (R q k) true tie refl) up)
+  step q k None es true tie up h = h ∙ ap flat (none_behind R o q k es ((Equal-is (R q k)).0 tie) up)
   step q k None es false tie up h = h
   step q k (Some v) es true tie up h = ap (λ b. cond b (Some v) (find R q (filter_map present_entry es))) tie
   step q k (Some v) es false tie up h = ap (λ b. cond b (Some v) (find R q (filter_map present_entry es))) tie ∙ h
@@ -81,10 +57,6 @@ no_present R o exact = same_map o exact _ _ (λ q. get-present o empty q ∙ ap 
 
 -- ---- the entries that have a value
 
-both : (a b : Bool) → T a → T b → T (a && b)
-both true b p q = q
-both false b p q = p
-
 module _ {K V : Type 0} (R : K → K → Ordering) where
   below_present : (x : K) (es : List (K × Option V)) → T (below_all R x es) → T (below_all R x (filter_map present_entry es))
   below_present x [] up = tt
@@ -118,10 +90,10 @@ module _ {K V : Type 0} {R : K → K → Ordering} (o : IsTotalOrder R) where
   present_step : (q k : K) (w : Option V) (es : List (K × Option V)) (m : FinMap R V) (b : Bool) → eq_by_cmp R q k ≡ b → T (below_all R k es)
       → get (with_present es (with_present_value k w m)) q ≡ or_there (flat (find R q es)) (get (with_present_value k w m) q)
       → get (with_present es (with_present_value k w m)) q ≡ or_there (flat (cond b (Some w) (find R q es))) (get m q)
-  present_step q k None es m true tie up h = h ∙ ap (λ f. or_there (flat f) (get m q)) (none_behind R o q k es (equal (R q k) true tie refl) up)
+  present_step q k None es m true tie up h = h ∙ ap (λ f. or_there (flat f) (get m q)) (none_behind R o q k es ((Equal-is (R q k)).0 tie) up)
   present_step q k None es m false tie up h = h
   present_step q k (Some v) es m true tie up h =
-      h ∙ ap (λ f. or_there (flat f) (get (insert m k v) q)) (none_behind R o q k es (equal (R q k) true tie refl) up)
+      h ∙ ap (λ f. or_there (flat f) (get (insert m k v) q)) (none_behind R o q k es ((Equal-is (R q k)).0 tie) up)
       ∙ get-insert o m k v q ∙ ap (λ b. cond b (Some v) (get m q)) tie
   present_step q k (Some v) es m false tie up h = h ∙ ap (or_there (flat (find R q es))) (get-insert o m k v q ∙ ap (λ b. cond b (Some v) (get m q)) tie)
 

@@ -5,7 +5,7 @@ use Rattle.std.specs.Ordering.{eq_by_cmp}
 use Rattle.std.specs.FinMap.{FinMap, entries, entries_sorted, from_entries, values, contains_key-keys, get-from_entries, is_sorted}
 use Rattle.std.specs.FinMap.Entries.{below_all, is_some-find}
 use Rattle.std.proofs.lemmas.Bool.{and_parts, and_from, eqb-true, eq-eqb, false_from_ne_true}
-use Rattle.std.proofs.lemmas.List.Elements.{All-contains_itself, Contains-append_cases, filter-append}
+use Rattle.std.proofs.lemmas.List.Elements.{All-contains_itself, Contains-append_cases, filter-append, filter_agree}
 use Rattle.std.proofs.lemmas.List.Kept.{AllPairs-cons}
 use Rattle.bsp_calendar.proofs.ListLemmas.{contains_head, contains_tail, contains_cases, contains_none, contains_filter, filter_contains, filter_holds}
 use Rattle.bsp_calendar.proofs.ListedLemmas.{contains_any}
@@ -32,10 +32,6 @@ use Rattle.bsp_rows.proofs.MapLemmas.{below_contains, is_true, same_key, same_So
 use Rattle.bsp_rows.proofs.PartLaws.{filter-map}
 use Rattle.bsp_rows.proofs.RowLemmas.{contains_map, mapped}
 use Rattle.bsp_rows.proofs.TallyLaws.{tallies_sum}
-
-agree : {X : Type 0} (p q : X → Bool) → ((x : X) → p x ≡ q x) → (xs : List X) → filter p xs ≡ filter q xs
-agree p q same [] = refl
-agree {X} p q same (x ∷ xs) = λ i. cond (same x i) (x ∷ agree p q same xs i) (agree p q same xs i)
 
 -- a test that follows from another may stand before it
 weaker : (asked test : Bool) → (test ≡ true → asked ≡ true) → (asked && test) ≡ test
@@ -122,7 +118,7 @@ module _ (which : Tallies) (is : List Item) (ms : List MemoFields) (k : TallyKey
   same_items : items_under own (key_tally k) ≡ items_under is (key_tally k)
   same_items =
       filter_filter (is_item_asked which) (is_item_under (key_tally k)) is
-      ∙ agree _ _ (λ i. weaker (is_item_asked which i) (is_item_under (key_tally k) i) (λ h. ap (is_tally_asked which) (item_key_is k i h) ∙ asked)) is
+      ∙ filter_agree _ _ (λ i. weaker (is_item_asked which i) (is_item_under (key_tally k) i) (λ h. ap (is_tally_asked which) (item_key_is k i h) ∙ asked)) is
 
   same_item_postings : filter (is_under (key_tally k)) (item_postings k.period own) ≡ filter (is_under (key_tally k)) (item_postings k.period is)
   same_item_postings =
@@ -130,7 +126,7 @@ module _ (which : Tallies) (is : List Item) (ms : List MemoFields) (k : TallyKey
       ∙ (ap (map item_posting) (
       ap (filter (λ (i : Item). is_under (key_tally k) (item_posting i))) (filter_filter (is_item_asked which) (is_counted k.period) is)
       ∙ (filter_filter (λ (i : Item). is_item_asked which i && is_counted k.period i) (λ (i : Item). is_under (key_tally k) (item_posting i)) is
-      ∙ (agree _ _ (λ i. three (is_item_asked which i) (is_counted k.period i) (is_under (key_tally k) (item_posting i)) (λ h. ap (is_tally_asked which) (item_posts_under k i h) ∙ asked)) is
+      ∙ (filter_agree _ _ (λ i. three (is_item_asked which i) (is_counted k.period i) (is_under (key_tally k) (item_posting i)) (λ h. ap (is_tally_asked which) (item_posts_under k i h) ∙ asked)) is
       ∙ sym (filter_filter (is_counted k.period) (λ (i : Item). is_under (key_tally k) (item_posting i)) is))))
       ∙ sym (filter-map (is_under (key_tally k)) item_posting (filter (is_counted k.period) is)))
 
@@ -140,7 +136,7 @@ module _ (which : Tallies) (is : List Item) (ms : List MemoFields) (k : TallyKey
       ∙ (ap (map memo_posting) (
       ap (filter (λ (m : MemoFields). is_under (key_tally k) (memo_posting m))) (filter_filter (is_billing_asked which) (is_billed_in k.period) ms)
       ∙ (filter_filter (λ (m : MemoFields). is_billing_asked which m && is_billed_in k.period m) (λ (m : MemoFields). is_under (key_tally k) (memo_posting m)) ms
-      ∙ (agree _ _ (λ m. three (is_billing_asked which m) (is_billed_in k.period m) (is_under (key_tally k) (memo_posting m)) (λ h. ap (is_key_asked which) (memo_posts_under k m h) ∙ asked)) ms
+      ∙ (filter_agree _ _ (λ m. three (is_billing_asked which m) (is_billed_in k.period m) (is_under (key_tally k) (memo_posting m)) (λ h. ap (is_key_asked which) (memo_posts_under k m h) ∙ asked)) ms
       ∙ sym (filter_filter (is_billed_in k.period) (λ (m : MemoFields). is_under (key_tally k) (memo_posting m)) ms))))
       ∙ sym (filter-map (is_under (key_tally k)) memo_posting (filter (is_billed_in k.period) ms)))
 

@@ -1,7 +1,7 @@
 -- What an accepting verdict says of the rows, by their keys.
 use Rattle.std.proofs.Common.{◌≡◌, ℕ, ◌+◌, ◌<◌, ◌==◌, Bool, true, false, not, ◌&&◌, ◌||◌, cond, List, [], ◌∷◌, map, count_by, Option, Some, None, is_some, is_none, IsSome, option_map, Ok, refl, sym, ap, subst, ◌∙◌, arith, nat_le}
 use Rattle.std.specs.List.{Contains, filter, list_any}
-use Rattle.std.specs.Str.{all_ascii_digits, bytes_eq}
+use Rattle.std.specs.Str.{all_ascii_digits}
 use Rattle.std.specs.FinMap.{get, entries}
 use Rattle.std.proofs.lemmas.Bool.{and_parts, or_parts, not-false, eqb-true, leb-true, both_ways}
 use Rattle.std.proofs.lemmas.List.Sums.{sum_by-cons}
@@ -34,16 +34,10 @@ use Rattle.bsp_rules.specs.Meanings.{IsPassed, ends_tickets}
 use Rattle.bsp_rules.proofs.MeaningLemmas.{tickets_live, canx_free}
 use Rattle.bsp_calendar.proofs.ListLemmas.{find_contains}
 use Rattle.bsp_rows.proofs.RowLemmas.{mapped, among_items, item_among, range_among}
-use Rattle.bsp_rows.proofs.NumberLemmas.{one_number}
+use Rattle.bsp_fields.proofs.DocumentLemmas.{one_number}
 use Rattle.bsp_rows.proofs.GroupLemmas.{own_reads, unrelated}
 
 -- ---- small steps
-
-same_bytes : (xs ys : List ℕ) → bytes_eq xs ys ≡ true → xs ≡ ys
-same_bytes xs ys h = (bytes_eq-Decides xs ys).0 h
-
-bytes_same : (xs ys : List ℕ) → xs ≡ ys → bytes_eq xs ys ≡ true
-bytes_same xs ys h = (bytes_eq-Decides xs ys).1 h
 
 canx_code : (code : TransactionCode) → same_code code Canx ≡ true → code ≡ Canx
 canx_code Tktt h = absurd (cc h)
@@ -72,7 +66,7 @@ ticket_found rows agent d i sound h =
     let (k, there, own) = item_among rows agent i in' in
     let right = (sound.each k i there).right in
     let both = and_parts (same_code i.transaction.code Tktt && (i.transaction.document.airline == d.airline)) (has_number d.number i) is in
-    let number : i.transaction.document.number ≡ d.number = same_bytes _ _ both.1 in
+    let number : i.transaction.document.number ≡ d.number = (bytes_eq-Decides i.transaction.document.number d.number).0 both.1 in
     let sale : is_canx i ≡ false = ticket_code i.transaction.code (and_parts (same_code i.transaction.code Tktt) (i.transaction.document.airline == d.airline) both.0).0 in
     let keyed : key_of i ≡ k = right.keyed in
     let agents : i.agent ≡ agent = ap (λ (x : ItemKey). x.agent) keyed ∙ own in
@@ -155,7 +149,7 @@ free_of : (registered : Bool) (ranges : List Range) (items : List Item) (t : Tra
 unfolding facts_in own_number
 free_of registered ranges items t p i h in' same = by_code t.code refl where
   has : has_number t.document.number i ≡ true
-  has = bytes_same i.transaction.document.number t.document.number same
+  has = (bytes_eq-Decides i.transaction.document.number t.document.number).1 same
 
   sold : used t.document.number items ≡ false → (same_code t.code Canx ≡ true) × (is_canx i ≡ false)
   sold none = absurd (both_ways _ (any_false (has_number t.document.number) items i none in') has)
@@ -176,7 +170,7 @@ unfolding facts_in own_number
 elsewhere_is registered ranges items t p i h in' same =
     let test : Item → Bool = λ j. has_number t.document.number j && not (j.transaction.document.airline == t.document.airline) in
     let no = any_false test items i h in' in
-    eqb-true _ _ (not-false _ (rest (has_number t.document.number i) (not (i.transaction.document.airline == t.document.airline)) (bytes_same _ _ same) no)) where
+    eqb-true _ _ (not-false _ (rest (has_number t.document.number i) (not (i.transaction.document.airline == t.document.airline)) ((bytes_eq-Decides i.transaction.document.number t.document.number).1 same) no)) where
       rest : (a b : Bool) → a ≡ true → (a && b) ≡ false → b ≡ false
       rest true b e g = g
       rest false b e g = absurd (cc e)

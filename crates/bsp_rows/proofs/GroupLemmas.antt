@@ -12,7 +12,7 @@ use Rattle.bsp_ret_records.specs.declared.transactions.ReportedDocument.{Reporte
 use Rattle.bsp_ret_records.specs.declared.transactions.Transaction.{Transaction}
 use Rattle.bsp_rules.specs.Meanings.{ends_tickets}
 use Rattle.bsp_rules.specs.Verdicts.{is_wrong, is_wrong_place, has_wrong_check_digit}
-use Rattle.bsp_rows.proofs.NumberLemmas.{reads_without_fault}
+use Rattle.bsp_fields.proofs.DocumentLemmas.{reads_without_fault}
 
 -- ---- the check digits
 

@@ -15,6 +15,7 @@ use Rattle.bsp_fields.specs.Codes.{code_reading, document_reading, check_digit_o
 use Rattle.bsp_fields.specs.Decimal.{number_of}
 use Rattle.bsp_fields.specs.declared.fault.FieldFault.TheVariants.{Width, NotDigit, CheckDigit}
 use Rattle.bsp_fields.proofs.FirstFaultLemmas.{row_passed, row_skipped}
+use Rattle.bsp_maps.proofs.Orderings.{then_equal}
 use Rattle.bsp_calendar.specs.Published.{Published}
 use Rattle.bsp_calendar.proofs.ListLemmas.{contains_cases, contains_none}
 use Rattle.bsp_ret_writer.specs.GroupValues.{are_related, is_document, related_of}
@@ -39,9 +40,9 @@ use Rattle.bsp_rows.proofs.CountTies.{count_alike, count_filter_map, count_mappe
 use Rattle.bsp_rows.proofs.DemandLemmas.{at_entry, entry_at, same_entries}
 use Rattle.bsp_rows.proofs.GroupLemmas.{group_fits}
 use Rattle.bsp_rows.proofs.ItemLemmas.{named}
-use Rattle.bsp_rows.proofs.KeyOrders.{item_total, item_exact, tally_total, tally_exact, then_equal}
+use Rattle.bsp_rows.proofs.KeyOrders.{item_total, item_exact, tally_total, tally_exact}
 use Rattle.bsp_rows.proofs.MapLemmas.{same_Some, same_key}
-use Rattle.bsp_rows.proofs.NumberLemmas.{one_number}
+use Rattle.bsp_fields.proofs.DocumentLemmas.{one_number}
 use Rattle.bsp_rows.proofs.RangeTies.{in_last_range, in_stock}
 
 -- ---- the keys of relations

@@ -1,8 +1,9 @@
 -- The orders of the keys are total, and no two keys tie.
-use Rattle.std.proofs.Common.{◌≡◌, Bool, true, false, refl, Ordering, Less, Equal, Greater, nat_cmp}
+use Rattle.std.proofs.Common.{nat_cmp}
 use Rattle.std.specs.Ordering.{bool_cmp, ordering_then}
 use Rattle.std.specs.Cmp.{IsTotalOrder, nat_cmp_total, bool_cmp_total, on_total, then_total}
 use Rattle.std.specs.FinMap.{IsAntisymmetric, nat_cmp-IsAntisymmetric}
+use Rattle.bsp_maps.proofs.Orderings.{bool_exact, then_equal}
 use Rattle.bsp_rows.specs.declared.keys.RangeKey.{RangeKey}
 use Rattle.bsp_rows.specs.declared.keys.ItemKey.{ItemKey}
 use Rattle.bsp_rows.specs.declared.keys.MemoKey.{MemoKey}
@@ -15,17 +16,6 @@ range_total = then_total (on_total (λ (k : RangeKey). k.agent) nat_cmp_total) (
 
 pub item_total : IsTotalOrder item_cmp
 item_total = then_total (on_total (λ (k : ItemKey). k.agent) nat_cmp_total) (then_total (on_total (λ (k : ItemKey). k.number) nat_cmp_total) (on_total (λ (k : ItemKey). k.is_canx) bool_cmp_total))
-
-pub then_equal : (a b : Ordering) → ordering_then a b ≡ Equal → (a ≡ Equal) × (b ≡ Equal)
-then_equal Less b e = absurd (cc)
-then_equal Equal b e = (refl, e)
-then_equal Greater b e = absurd (cc)
-
-bool_exact : (x y : Bool) → bool_cmp x y ≡ Equal → x ≡ y
-bool_exact false false e = refl
-bool_exact false true e = absurd (cc)
-bool_exact true false e = absurd (cc)
-bool_exact true true e = refl
 
 pub range_exact : IsAntisymmetric range_cmp
 range_exact x y e =

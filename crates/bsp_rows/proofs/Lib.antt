@@ -1,5 +1,4 @@
 -- Lemmas of this crate.
-pub mod NumberLemmas
 pub mod KeyOrders
 pub mod MapLemmas
 pub mod RowLemmas

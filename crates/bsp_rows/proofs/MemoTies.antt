@@ -6,6 +6,7 @@ use Rattle.std.specs.BTreeMap.{BTreeMap, IsOrdered, values}
 use Rattle.std.specs.FinMap.{FinMap, IsAntisymmetric, entries, get, nat_cmp-IsAntisymmetric}
 use Rattle.std.proofs.lemmas.Bool.{and_parts, and_from, eqb-true, eq-eqb}
 use Rattle.std.proofs.lemmas.Bool.Decides.{same_from_decides}
+use Rattle.bsp_maps.proofs.Orderings.{then_equal}
 use Rattle.bsp_calendar.specs.Published.{Published}
 use Rattle.bsp_rules.specs.Verdicts.{limit_of}
 use Rattle.bsp_memos.specs.declared.fields.MemoFields.{MemoFields}
@@ -16,7 +17,7 @@ use Rattle.bsp_rows.specs.declared.keys.MemoKey.{MemoKey}
 use Rattle.bsp_rows.specs.declared.limits.PartiesKey.{PartiesKey}
 use Rattle.bsp_rows.proofs.CountTies.{count_alike, count_mapped, key_decides}
 use Rattle.bsp_rows.proofs.DemandLemmas.{at_entry, same_entries}
-use Rattle.bsp_rows.proofs.KeyOrders.{memo_total, memo_exact, then_equal}
+use Rattle.bsp_rows.proofs.KeyOrders.{memo_total, memo_exact}
 
 parties_total : IsTotalOrder parties_cmp
 parties_total = then_total (on_total (λ (k : PartiesKey). k.airline) nat_cmp_total) (on_total (λ (k : PartiesKey). k.agent) nat_cmp_total)

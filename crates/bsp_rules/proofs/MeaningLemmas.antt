@@ -150,30 +150,22 @@ held_row None more x period h e = absurd (never (Held period) more x (accepted_n
 held_row (Some y) more x period h e = let same : y ≡ period = cc e in ap (λ (z : ℕ). Some z) same
 
 -- the rows below the first two
-abbrev later_rows : Transaction → Facts → Published → List (Bool × Verdict)
-later_rows t f p =
-    (not (has_airline p t.document.airline), Refused UnknownAirline)
-    ∷ (has_wrong_check_digit t, Refused WrongCheckDigit)
-    ∷ (is_before p.day t.issued, Refused NotYetIssued)
-    ∷ (not f.in_range, Refused NotInStock)
-    ∷ (is_number_used t.code f.own, Refused NumberUsed)
-    ∷ (has_wrong_amounts t (rate_on p t.document.airline t.issued), Refused WrongAmounts)
-    ∷ (lacks_ticket t f, Refused NoTicket)
-    ∷ (has_ended t f, Refused TicketEnded)
-    ∷ (disagrees_with_tickets t f.related, Refused WrongAgainstTicket)
-    ∷ (is_none (target_of p t.issued), Refused NoPeriod)
-    ∷ (nat_le (limit_of p.terms) f.count, Refused LimitReached)
-    ∷ []
+abbrev behind_two : {X : Type 0} → List X → List X
+behind_two (x ∷ y ∷ rest) = rest
+behind_two _ = []
+
+abbrev later_rows : Reporter → Transaction → Facts → Published → List (Bool × Verdict)
+later_rows reporter t f p = behind_two (rows reporter t f p)
 
 held_found : (reporter : Reporter) (t : Transaction) (f : Facts) (p : Published) (period : ℕ) → verdict_on reporter t f p ≡ Held period → (has_wrong_agent reporter t f ≡ false) × (f.held ≡ Some period)
 unfolding verdict_on
 held_found reporter t f p period h =
     let x = unwrap_or (target_of p t.issued) 0 in
     let not_held = λ (r : Refusal). refusal_not_held r period in
-    let others : AreOthers (Held period) (later_rows t f p) =
+    let others : AreOthers (Held period) (later_rows reporter t f p) =
     (not_held UnknownAirline, (not_held WrongCheckDigit, (not_held NotYetIssued, (not_held NotInStock, (not_held NumberUsed, (not_held WrongAmounts, (not_held NoTicket, (not_held TicketEnded, (not_held WrongAgainstTicket, (not_held NoPeriod, (not_held LimitReached, tt))))))))))) in
-    let a = passed (Held period) (has_wrong_agent reporter t f) (Refused WrongAgent) ((is_some f.held, Held (unwrap_or f.held 0)) ∷ later_rows t f p) x (not_held WrongAgent) h in
-    (a.0, held_row f.held (later_rows t f p) x period others a.1)
+    let a = passed (Held period) (has_wrong_agent reporter t f) (Refused WrongAgent) ((is_some f.held, Held (unwrap_or f.held 0)) ∷ later_rows reporter t f p) x (not_held WrongAgent) h in
+    (a.0, held_row f.held (later_rows reporter t f p) x period others a.1)
 
 found_held : (reporter : Reporter) (t : Transaction) (f : Facts) (p : Published) (period : ℕ) → (has_wrong_agent reporter t f ≡ false) × (f.held ≡ Some period) → verdict_on reporter t f p ≡ Held period
 unfolding verdict_on
@@ -193,9 +185,9 @@ unfolding verdict_on
 agent_wrong reporter t f p h =
     let x = unwrap_or (target_of p t.issued) 0 in
     let held : Held (unwrap_or f.held 0) ≡ Refused WrongAgent → ⊥ = λ e. absurd (cc e) in
-    let others : AreOthers (Refused WrongAgent) (later_rows t f p) =
+    let others : AreOthers (Refused WrongAgent) (later_rows reporter t f p) =
     (λ e. absurd (cc e), (λ e. absurd (cc e), (λ e. absurd (cc e), (λ e. absurd (cc e), (λ e. absurd (cc e), (λ e. absurd (cc e), (λ e. absurd (cc e), (λ e. absurd (cc e), (λ e. absurd (cc e), (λ e. absurd (cc e), (λ e. absurd (cc e), tt))))))))))) in
-    agent_row (has_wrong_agent reporter t f) ((is_some f.held, Held (unwrap_or f.held 0)) ∷ later_rows t f p) x (held, others) h
+    agent_row (has_wrong_agent reporter t f) ((is_some f.held, Held (unwrap_or f.held 0)) ∷ later_rows reporter t f p) x (held, others) h
 
 wrong_agent : (reporter : Reporter) (t : Transaction) (f : Facts) (p : Published) → has_wrong_agent reporter t f ≡ true → verdict_on reporter t f p ≡ Refused WrongAgent
 unfolding verdict_on

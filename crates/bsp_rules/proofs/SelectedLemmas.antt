@@ -34,14 +34,8 @@ find_kept test keep kept (x ∷ xs) = find_step test keep x xs (kept x) (find_ke
 
 -- ---- numbers
 
-same_bytes : (xs ys : List ℕ) → bytes_eq xs ys ≡ true → xs ≡ ys
-same_bytes xs ys h = (bytes_eq-Decides xs ys).0 h
-
-bytes_same : (xs : List ℕ) → bytes_eq xs xs ≡ true
-bytes_same xs = (bytes_eq-Decides xs xs).1 refl
-
 is_among-same : (number other : List ℕ) (numbers : List (List ℕ)) → bytes_eq number other ≡ true → is_among number numbers ≡ true → is_among other numbers ≡ true
-is_among-same number other numbers e h = let P : List ℕ → Type 0 = λ n. is_among n numbers ≡ true in subst P (same_bytes number other e) h
+is_among-same number other numbers e h = let P : List ℕ → Type 0 = λ n. is_among n numbers ≡ true in subst P ((bytes_eq-Decides number other).0 e) h
 
 -- two lists share a number that is in both
 in_both : (number : List ℕ) (numbers others : List (List ℕ)) → is_among number numbers ≡ true → is_among number others ≡ true → list_any (λ other. is_among other numbers) others ≡ true
@@ -64,7 +58,7 @@ kept_by_name number numbers h i named =
     in_both number numbers (numbers_of i.transaction) h (or_right _ _ (sym (named_among number i.transaction.related) ∙ named))
 
 own_is_among : (t : Transaction) → is_among t.document.number (numbers_of t) ≡ true
-own_is_among t = or_left (bytes_eq t.document.number t.document.number) _ (bytes_same t.document.number)
+own_is_among t = or_left (bytes_eq t.document.number t.document.number) _ ((bytes_eq-Decides t.document.number t.document.number).1 refl)
 
 -- the same content has the same number
 number_of_same : (a b : Transaction) → same_content a b ≡ true → bytes_eq a.document.number b.document.number ≡ true
@@ -130,7 +124,7 @@ related_same numbers items [] among = refl
 related_same numbers items (None ∷ places) among = rw (related_same numbers items places among) refl
 related_same numbers items (Some d ∷ places) among =
     let rest = related_same numbers items places (λ n h. among n (or_right (bytes_eq n d.number) _ h)) in
-    let first = document_same numbers items d (among d.number (or_left (bytes_eq d.number d.number) _ (bytes_same d.number))) in
+    let first = document_same numbers items d (among d.number (or_left (bytes_eq d.number d.number) _ ((bytes_eq-Decides d.number d.number).1 refl))) in
     rw (first, rest) refl
 
 pub facts_selected : (f : Facts) (registered : Bool) (ranges : List Range) (items : List Item) (t : Transaction) (p : Published) → f ≡ facts_in registered ranges items t p → AreSelected f registered ranges items t p

@@ -41,7 +41,7 @@ use Rattle.bsp_rows.proofs.ClearedLemmas.{IsCleared, cleared}
 use Rattle.bsp_rows.proofs.KeptLemmas.{accepted_free}
 use Rattle.bsp_rows.proofs.KeyOrders.{item_exact, item_total}
 use Rattle.bsp_rows.proofs.MapLemmas.{same_key}
-use Rattle.bsp_rows.proofs.NumberLemmas.{one_number}
+use Rattle.bsp_fields.proofs.DocumentLemmas.{one_number}
 use Rattle.bsp_rows.proofs.PartLemmas.{changed_none, each_get, kept_changed, kept_get, passing}
 use Rattle.bsp_rows.proofs.RowLemmas.{among_items}
 use Rattle.bsp_step.specs.Ledger.{ended_in, review_of, taken}

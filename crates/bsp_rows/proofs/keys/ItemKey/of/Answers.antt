@@ -4,7 +4,7 @@ use Rattle.bsp_rules.specs.declared.rows.Item.{Item}
 use Rattle.bsp_rules.specs.Rows.{is_canx}
 use Rattle.bsp_rows.specs.Rows.{HasNumberKey, key_of}
 use Rattle.bsp_rows.specs.declared.keys.ItemKey.{ItemKey}
-use Rattle.bsp_rows.proofs.NumberLemmas.{read_number, reads_as_number}
+use Rattle.bsp_fields.proofs.DocumentLemmas.{read_number, reads_as_number}
 use Rattle.bsp_rows.proofs.keys.ItemKey.of.Goals as goal
 
 key_read : (i : Item) (number : ℕ) (canx : Bool) → document_reading i.transaction.document.number i.transaction.document.check_digit ≡ Ok number → canx ≡ is_canx i → HasNumberKey i × (◌≡◌ {A = ItemKey} (record { agent = i.agent; number = number; is_canx = canx }) (key_of i))
