@@ -6,5 +6,7 @@ mod facts;
 mod judging;
 mod keeping;
 mod report;
+#[cfg(test)]
+mod tests;
 
 pub use report::{report_of_agent, report_of_office};
