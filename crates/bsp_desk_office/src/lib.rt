@@ -9,6 +9,8 @@ mod callers;
 mod closes;
 mod plan;
 mod stock;
+#[cfg(test)]
+mod tests;
 
 pub use callers::{register_agent, register_airline};
 pub use closes::close;
