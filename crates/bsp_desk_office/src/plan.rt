@@ -1,0 +1,61 @@
+//! The plan and the business day.
+
+ghost use Rattle.std.specs.Prelude.{◌≡◌, false};
+ghost use Rattle.bsp_calendar.specs.History.Request.{Publish, SetDay};
+ghost use Rattle.bsp_messages.specs.Bodies.{body_of, day_form};
+ghost use Rattle.bsp_serving.specs.Serves.{EndsOnFault, ServesOffice};
+ghost use Rattle.bsp_step.specs.Requests.{IsPlanOf, PlanRead};
+ghost use Rattle.bsp_step.specs.Requests.OfficeRequest.{PublishPlan, SetBusinessDay};
+ghost use Rattle.bsp_step.specs.Step.{told_plan};
+ghost use Rattle.bsp_step.specs.Texts.{Says};
+
+use crate::bodies::unread;
+use bsp_book::{Book, BookFault};
+use bsp_calendar::{PlanFault, read_plan};
+use bsp_fields::Change;
+use bsp_messages::{Answer, RequestRefusal, read_day};
+use bsp_serving::give_up;
+use std::alloc::Global;
+
+/// What the plan answers, as a message.
+pub(crate) fn plan_answer(outcome: Result<Change, PlanFault>) -> Answer
+    ensures { Says (told_plan outcome) result }
+{
+    match outcome {
+        Ok(change) => Answer::Changed(change),
+        Err(fault) => Answer::Refused(RequestRefusal::Plan(fault)),
+    }
+}
+
+/// Publishes the entries of a plan text that are new: `POST /office/plan`.
+///
+/// # Errors
+///
+/// `NoRoom` where an allocation was refused, or `Failed`.
+pub fn publish<B: Book>(alloc: Global, book: &mut B, text: &[u8]) -> Result<Answer, BookFault>
+    requires { B.means.has_failed book.old ≡ false }
+    ensures served { (read : PlanRead) → IsPlanOf text.now read → ServesOffice B.means book.old book.new result (PublishPlan read) }
+    ensures fault { EndsOnFault B.means book.old book.new result }
+{
+    match read_plan(alloc, text) {
+        Ok(entries) => Ok(plan_answer(book.publish(&entries)?)),
+        Err(PlanFault::NoMemory) => give_up(book),
+        Err(fault) => Ok(Answer::Refused(RequestRefusal::Plan(fault))),
+    }
+}
+
+/// Sets the business day: `POST /office/day`.
+///
+/// # Errors
+///
+/// `NoRoom` where an allocation was refused, or `Failed`.
+pub fn set_day<B: Book>(alloc: Global, book: &mut B, body: &[u8]) -> Result<Answer, BookFault>
+    requires { B.means.has_failed book.old ≡ false }
+    ensures served { ServesOffice B.means book.old book.new result (SetBusinessDay (body_of day_form body.now)) }
+    ensures fault { EndsOnFault B.means book.old book.new result }
+{
+    match read_day(alloc, body) {
+        Ok(day) => Ok(plan_answer(book.set_day(day)?)),
+        Err(fault) => unread(book, fault),
+    }
+}
