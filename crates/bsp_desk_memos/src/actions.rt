@@ -86,7 +86,8 @@ fn act_for_airline<B: Book>(
     act_on(book, memo, action)
 }
 
-/// An agent disputes a memo to it: the first of M01, M06, held, M03 and M02 that applies, or done.
+/// An agent disputes a memo to it, by a body of `airline` and `document`. It answers the first of N04, M01, M06,
+/// held, M03 and M02 that applies, or done.
 ///
 /// # Errors
 ///
@@ -107,7 +108,8 @@ pub fn dispute<B: Book>(
     }
 }
 
-/// An agent agrees to a memo to it: the first of M01, M06, held, M03 and M02 that applies, or done.
+/// An agent agrees to a memo to it, by a body of `airline` and `document`. It answers the first of N04, M01, M06,
+/// held, M03 and M02 that applies, or done.
 ///
 /// # Errors
 ///
@@ -128,7 +130,8 @@ pub fn agree<B: Book>(
     }
 }
 
-/// An airline upholds a disputed memo of its own: the first of M01, M06, held and M03 that applies, or done.
+/// An airline upholds a disputed memo of its own, by a body of `document`. It answers the first of N04, M01, M06,
+/// held and M03 that applies, or done.
 ///
 /// # Errors
 ///
@@ -149,8 +152,8 @@ pub fn uphold<B: Book>(
     }
 }
 
-/// An airline withdraws a memo of its own that is not billed: the first of M01, M06, held and M03 that
-/// applies, or done.
+/// An airline withdraws a memo of its own that is not billed, by a body of `document`. It answers the first of N04,
+/// M01, M06, held and M03 that applies, or done.
 ///
 /// # Errors
 ///
@@ -171,8 +174,8 @@ pub fn withdraw<B: Book>(
     }
 }
 
-/// An airline reduces a disputed memo of its own to an amount from 1 to below the old one: the first of M01,
-/// M06, held, M03 and M04 that applies, or done.
+/// An airline reduces a disputed memo of its own, by a body of `amount` and `document`: to minor units from 1 to
+/// below the old amount. It answers the first of N04, M01, M06, held, M03 and M04 that applies, or done.
 ///
 /// # Errors
 ///

@@ -117,7 +117,8 @@ fn issue_stated<B: Book>(
     }
 }
 
-/// An airline issues a memo: the first of M08, M04, held, M05 and M07 that applies, or done.
+/// An airline issues a memo, by a body of `agent`, `amount` in minor units, `document`, `kind` and `reason`. It
+/// answers the first of N04, M08, M04, held, M05 and M07 that applies, or done.
 ///
 /// # Errors
 ///
