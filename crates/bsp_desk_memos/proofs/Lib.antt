@@ -1,0 +1,4 @@
+-- Lemmas of this crate.
+pub mod MemoLemmas
+pub mod IssueLemmas
+pub mod ServeLemmas
