@@ -1,0 +1,7 @@
+-- Lemmas of this crate.
+pub mod OwnRows
+pub mod AirlineRows
+pub mod PeriodRows
+pub mod Posted
+pub mod PeriodSums
+pub mod Shown

@@ -1,0 +1,2 @@
+-- What the functions of this crate add up and look up.
+pub mod Sums
