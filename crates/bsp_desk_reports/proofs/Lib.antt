@@ -5,3 +5,6 @@ pub mod PeriodRows
 pub mod Posted
 pub mod PeriodSums
 pub mod Shown
+pub mod DocumentRows
+pub mod NumberOrder
+pub mod StockRows

@@ -1,2 +1,4 @@
 -- What the functions of this crate add up and look up.
 pub mod Sums
+pub mod Documents
+pub mod Stock

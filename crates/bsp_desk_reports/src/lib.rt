@@ -5,12 +5,16 @@
 //! path of the request has it.
 #![tactic(auto)]
 
+mod documents;
 mod hot_files;
 mod periods;
 mod settlements;
 mod statements;
+mod stocks;
 
+pub use documents::document;
 pub use hot_files::hot;
 pub use periods::period;
 pub use settlements::settlement;
 pub use statements::statement;
+pub use stocks::stock;
