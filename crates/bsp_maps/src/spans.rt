@@ -8,7 +8,9 @@ ghost use Rattle.bsp_maps.specs.Spans.{apart_from, IsRange, contains, AreDisjoin
 /// A range, both ends included.
 #[derive(Clone, Copy, Debug, PartialEq, Eq, PartialOrd, Ord)]
 pub struct Span {
+    /// Its first number.
     pub first: u64,
+    /// Its last number.
     pub last: u64,
 }
 
