@@ -19,11 +19,15 @@ use std::alloc::Global;
 /// A memo that an airline issues: `agent`, `amount`, `document`, `kind`, `reason`.
 #[derive(Clone, Copy, Debug, PartialEq, Eq, Hash)]
 pub struct MemoIssue {
+    /// The agent to which it is issued.
     pub agent: StatedAgent,
     /// In minor units; nothing says that it is in range.
     pub amount: i64,
+    /// Its document number.
     pub document: DocNumber,
+    /// Debit or credit.
     pub kind: MemoKind,
+    /// Its reason.
     pub reason: Reason,
 }
 
@@ -32,6 +36,7 @@ pub struct MemoIssue {
 pub struct Reduction {
     /// In minor units; nothing says that it is in range.
     pub amount: i64,
+    /// The document number of the memo.
     pub document: DocNumber,
 }
 

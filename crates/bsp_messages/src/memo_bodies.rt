@@ -14,7 +14,9 @@ use std::alloc::Global;
 /// A memo as its agent names it: `airline`, `document`.
 #[derive(Clone, Copy, Debug, PartialEq, Eq, Hash)]
 pub struct NamedMemo {
+    /// The airline that issued it.
     pub airline: AirlineCode,
+    /// Its document number.
     pub document: DocNumber,
 }
 

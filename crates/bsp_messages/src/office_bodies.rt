@@ -16,14 +16,18 @@ use std::alloc::Global;
 /// An agent and the token by which it is known: `agent`, `token`.
 #[derive(Clone, Copy)]
 pub struct AgentRegistration {
+    /// The code of the agent, as it is stated.
     pub agent: StatedAgent,
+    /// Its token.
     pub token: Token,
 }
 
 /// An airline and the token by which it is known: `airline`, `token`.
 #[derive(Clone, Copy)]
 pub struct AirlineRegistration {
+    /// The code of the airline.
     pub airline: AirlineCode,
+    /// Its token.
     pub token: Token,
 }
 
@@ -31,7 +35,9 @@ pub struct AirlineRegistration {
 /// Nothing says that the first is not after the last.
 #[derive(Clone, Copy, Debug, PartialEq, Eq)]
 pub struct StockChange {
+    /// The code of the agent, as it is stated.
     pub agent: StatedAgent,
+    /// The range.
     pub range: Range,
 }
 

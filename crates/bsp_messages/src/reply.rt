@@ -26,8 +26,11 @@ pub enum Body {
 /// An answer as it is sent.
 #[derive(Drop)]
 pub struct Reply {
+    /// The status code.
     pub status: Status,
+    /// The media type of the body.
     pub media: Media,
+    /// The body.
     pub body: Body,
 }
 
