@@ -16,7 +16,7 @@ use Rattle.bsp_serving.specs.Serves.{FallsBackSound, LeavesLastSound}
 use Rattle.bsp_step.specs.Ledger.{Ledger, ledger_filed, ledger_judged, ledger_of, own_verdict, own_verdicts}
 use Rattle.bsp_step.specs.Step.{Owner, bearer, office_verdict, office_verdicts, rows_filed, rows_judged}
 use Rattle.bsp_step.proofs.SeenLemmas.{filed_own}
-use Rattle.bsp_desk_files.specs.Judged.{AreJudged, IsJudged, Leave, owner_of, rows_next, verdict_of, verdicts_of}
+use Rattle.bsp_desk_files.specs.Judged.{AreJudged, HasJudged, IsJudged, owner_of, rows_next, verdict_of, verdicts_of}
 
 -- groups have one list of values
 pub one_list : (n : ℕ) (groups : List (List (List ℕ))) (ts us : List Transaction) → HaveContents n groups ts → HaveContents n groups us → ts ≡ us
@@ -69,9 +69,9 @@ filed_more owner (u ∷ us) [] rows t v h = absurd (omega (arith, h))
 -- ---- one transaction more
 
 module _ {B : Type 0} (m : Meaning B Rows) (mid new : B) (who : Reporter) where
-  one_more : (ts : List Transaction) (now last : Rows) (verdicts more : List Verdict) (t : Transaction) (v : Verdict) → Leave m mid who ts now last verdicts → more ≡ verdicts ++ v ∷ [] →
+  one_more : (ts : List Transaction) (now last : Rows) (verdicts more : List Verdict) (t : Transaction) (v : Verdict) → HasJudged m mid who ts now last verdicts → more ≡ verdicts ++ v ∷ [] →
       let rows = rows_filed (owner_of who) ts verdicts now in
-      IsJudged who t rows v → m.holds new (rows_next who t rows) (Some last) → Leave m new who (ts ++ t ∷ []) now last more
+      IsJudged who t rows v → m.holds new (rows_next who t rows) (Some last) → HasJudged m new who (ts ++ t ∷ []) now last more
   one_more ts now last verdicts more t v was is judged holds =
       let rows = rows_filed (owner_of who) ts verdicts now in
       let count : length verdicts ≡ length ts = ap length was.are ∙ verdict_count who ts now in

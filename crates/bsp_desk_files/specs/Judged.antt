@@ -33,8 +33,8 @@ pub record IsJudged (who : Reporter) (t : Transaction) (rows : Rows) (verdict : 
   pub is : verdict ≡ verdict_of who rows t
   pub sound : Sound (rows_next who t rows)
 
--- the verdicts are the transactions', and the book contains what they leave, which is sound
-pub record Leave {B : Type 0} (m : Meaning B Rows) (new : B) (who : Reporter) (ts : List Transaction) (now last : Rows) (verdicts : List Verdict) : Type 0 where
+-- the verdicts are those of the transactions, and the book contains the rows after them, which are sound
+pub record HasJudged {B : Type 0} (m : Meaning B Rows) (new : B) (who : Reporter) (ts : List Transaction) (now last : Rows) (verdicts : List Verdict) : Type 0 where
   pub are : verdicts ≡ verdicts_of who now ts
   pub sound : Sound (rows_filed (owner_of who) ts verdicts now)
   pub holds : m.holds new (rows_filed (owner_of who) ts verdicts now) (Some last)
@@ -43,4 +43,4 @@ pub record Leave {B : Type 0} (m : Meaning B Rows) (new : B) (who : Reporter) (t
 pub record AreJudged {B : Type 0} (m : Meaning B Rows) (old new : B) (who : Reporter) (groups : List (List (List ℕ))) (verdicts : List Verdict) : Type 0 where
   pub transactions : List Transaction
   pub contents : HaveContents 1 groups transactions
-  pub judged : m.trusts new → (now last : Rows) → Sound now → m.holds old now (Some last) → Leave m new who transactions now last verdicts
+  pub judged : m.trusts new → (now last : Rows) → Sound now → m.holds old now (Some last) → HasJudged m new who transactions now last verdicts
