@@ -7,7 +7,7 @@ use Rattle.bsp_rows.specs.Rows.{Rows}
 use Rattle.bsp_rows.specs.Sound.{Sound}
 use Rattle.bsp_step.proofs.AirlineIsolated.{airline_isolated}
 use Rattle.bsp_step.proofs.ClosedKept.{closed_stays}
-use Rattle.bsp_step.proofs.Held.{repeats_are_held}
+use Rattle.bsp_step.proofs.Held.{one_owner, repeats_are_held}
 use Rattle.bsp_step.proofs.Isolated.{isolated}
 use Rattle.bsp_step.proofs.Reports.{reports_stay}
 use Rattle.bsp_step.specs.Requests.{Request as Reading}
@@ -113,7 +113,9 @@ module _ {B : Type 0} (m : Meaning B Rows) (mid new : B) (request : Request) (of
 pub ran : (office : List ℕ) (rows : Rows) (es : List Exchange) (new : Rows) → Run office rows es new → AllFit es → Sound rows → Sound new → Ran rows es new office
 ran office rows es new run fits sound after = record {
   steps = run;
+  fits = fits;
   sound = after;
+  owners = λ k l i j. one_owner new k l i j after;
   agents = λ agent. isolated office agent rows es new run;
   airlines = λ airline. airline_isolated office airline rows es new run fits sound;
   repeats = λ agent t period has. (

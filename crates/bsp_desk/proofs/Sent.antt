@@ -78,6 +78,7 @@ module _ {B : Type 0} (m : Meaning B Rows) (old new : B) (request : Request) (of
     trust = fault.trust;
     step = λ e reading is t rows sound h. (kept reading is t rows sound h).0;
     kept = λ e reading is t rows sound h. (sound_kept office rows reading sound (read_fits request reading is), (kept reading is t rows sound h).1);
+    unchanged = λ e reading is t rows sound h done none. subst (λ (r : Rows). m.holds new r None) (unchanged rows reading (answer_of office rows reading) done none) (kept reading is t rows sound h).1;
     refused = λ e reading is t rows sound h.
         let k = kept reading is t rows sound h in
         subst (λ (r : Rows). m.holds new r None) (refused_left rows reading (answer_of office rows reading) reply k.0 e) k.1;
@@ -94,6 +95,7 @@ module _ {B : Type 0} (m : Meaning B Rows) (old new : B) (request : Request) (of
     trust = fault.trust;
     step = λ e. no_503 (ap is_unavailable is_full.status) e;
     kept = λ e. no_503 (ap is_unavailable is_full.status) e;
+    unchanged = λ e. no_503 (ap is_unavailable is_full.status) e;
     refused = λ e. absurd (let k = sym e ∙ available reply.status (ap is_unavailable is_full.status) in cc);
     unavailable = λ e. inl is_full;
     full = λ e. fault.full refl;
@@ -108,6 +110,7 @@ module _ {B : Type 0} (m : Meaning B Rows) (old new : B) (request : Request) (of
     trust = fault.trust;
     step = λ e. no_503 (ap is_unavailable is_broken.status) e;
     kept = λ e. no_503 (ap is_unavailable is_broken.status) e;
+    unchanged = λ e. no_503 (ap is_unavailable is_broken.status) e;
     refused = λ e. absurd (let k = sym e ∙ available reply.status (ap is_unavailable is_broken.status) in cc);
     unavailable = λ e. inr is_broken;
     full = λ e. absurd (apart reply e is_broken);

@@ -5,8 +5,10 @@ use Rattle.bsp_calendar.specs.Published.{closed_period}
 use Rattle.bsp_calendar.specs.declared.entries.Period.{Period}
 use Rattle.bsp_messages.specs.declared.reply.Reply.{Reply}
 use Rattle.bsp_ret_records.specs.declared.transactions.Transaction.{Transaction}
-use Rattle.bsp_rows.specs.Rows.{Rows}
+use Rattle.bsp_rows.specs.Rows.{Rows, item_at}
+use Rattle.bsp_rows.specs.declared.keys.ItemKey.{ItemKey}
 use Rattle.bsp_rows.specs.Sound.{Sound}
+use Rattle.bsp_rules.specs.declared.rows.Item.{Item}
 use Rattle.bsp_step.specs.AirlineLedger.{airline_ledger_of, hot_answer}
 use Rattle.bsp_step.specs.AirlineView.{airline_all, airline_ledger_answers, airline_told, airline_view}
 use Rattle.bsp_step.specs.Answers.{Answer}
@@ -14,7 +16,7 @@ use Rattle.bsp_step.specs.Laws.{HasAccepted, IsHeldIn, IsPeriodKept}
 use Rattle.bsp_step.specs.Ledger.{ledger_of, own_verdicts, statement_answer}
 use Rattle.bsp_step.specs.Requests.{Request as Reading}
 use Rattle.bsp_step.specs.Step.{AreGroups, office_verdicts, settlement_answer}
-use Rattle.bsp_step.specs.View.{Exchange, Run, ledger_all, ledger_answers, told, view}
+use Rattle.bsp_step.specs.View.{AllFit, Exchange, Run, ledger_all, ledger_answers, told, view}
 use Rattle.bsp_desk.specs.Replies.{IsSent, is_unavailable}
 
 -- ---- replies and answers
@@ -64,8 +66,12 @@ module _ (rows : Rows) (exchanges : List Exchange) (new : Rows) where
   pub record Ran (office : List ℕ) : Type 0 where
     -- each answer is that of the rows that those before it left
     pub steps : Run office rows exchanges new
+    -- each transaction of each file is a group
+    pub fits : AllFit exchanges
     -- and the rows are sound in the end
     pub sound : Sound new
+    -- where the accepted transactions of a document number are of one agent
+    pub owners : (k l : ItemKey) (i j : Item) → item_at k new ≡ Some i → item_at l new ≡ Some j → k.number ≡ l.number → k.agent ≡ l.agent
     pub agents : (agent : ℕ) → AgentAlone agent
     pub airlines : (airline : ℕ) → AirlineAlone airline
     pub repeats : (agent : ℕ) (t : Transaction) (period : ℕ) → RepeatHeld agent t period

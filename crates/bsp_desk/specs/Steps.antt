@@ -1,5 +1,5 @@
 -- What one request makes of a book, which is at rest before and after.
-use Rattle.std.specs.Prelude.{◌≡◌, ◌⊎◌, ◌↔◌, ℕ, true, false, List, None, Result, IfOk}
+use Rattle.std.specs.Prelude.{◌≡◌, ◌⊎◌, ◌↔◌, ℕ, true, false, List, [], None, Result, IfOk}
 use Rattle.bsp_book.specs.Calls.{Faults, Meaning}
 use Rattle.bsp_book.specs.declared.fault.BookFault.{BookFault}
 use Rattle.bsp_messages.specs.declared.answer.Answer.{Answer as Message}
@@ -8,6 +8,7 @@ use Rattle.bsp_messages.specs.declared.reply.Reply.{Reply}
 use Rattle.bsp_rows.specs.Rows.{Rows}
 use Rattle.bsp_rows.specs.Sound.{Sound}
 use Rattle.bsp_serving.specs.Serves.{FallsBackSound, Finds, LeavesLastSound, Serves}
+use Rattle.bsp_step.specs.Answers.{is_done, verdicts_in}
 use Rattle.bsp_step.specs.Requests.{Request as Reading}
 use Rattle.bsp_step.specs.Step.{answer_of, rows_after}
 use Rattle.bsp_desk.specs.Reading.{IsRead}
@@ -60,6 +61,9 @@ module _ {B : Type 0} (m : Meaning B Rows) (old new : B) (request : Request) whe
     pub step : is_unavailable reply.status ≡ false → OfRequest (λ rows reading. IsSent (answer_of office rows reading) reply)
     -- and the book then holds the rows after it, which are sound again
     pub kept : is_unavailable reply.status ≡ false → OfRequest (λ rows reading. Sound (left_by office rows reading) × m.holds new (left_by office rows reading) None)
+    -- where no change is done and no verdict given it holds the same rows: so where a change is held, and where rows are shown
+    pub unchanged : is_unavailable reply.status ≡ false → OfRequest (λ rows reading.
+        is_done (answer_of office rows reading) ≡ false → verdicts_in (answer_of office rows reading) ≡ [] → m.holds new rows None)
     -- a refusal leaves the rows as they are
     pub refused : is_refusal reply.status ≡ true → OfRequest (λ rows reading. m.holds new rows None)
     -- a 503 is B01 or B03
