@@ -11,6 +11,8 @@ mod desk;
 mod office;
 mod request;
 mod serve;
+#[cfg(test)]
+mod tests;
 mod token;
 mod transaction;
 
