@@ -1,0 +1,5 @@
+-- Lemmas of this crate.
+pub mod Known
+pub mod Fits
+pub mod Sent
+pub mod Reach

@@ -1,0 +1,26 @@
+-- The caller that a path names, where the token is its own.
+use Rattle.std.specs.Prelude.{ℕ, List, Option, Some, None, if◌then◌else◌}
+use Rattle.std.specs.Borrow.{Bor}
+use Rattle.bsp_messages.specs.Values.{airline_in}
+use Rattle.bsp_routes.specs.declared.asking.Asking.TheVariants as asking
+use Rattle.bsp_routes.specs.declared.call.Call.{Call}
+use Rattle.bsp_rows.specs.Rows.{Rows, agent_token, airline_token}
+use Rattle.bsp_serving.specs.declared.content.Content.{Content}
+use Rattle.bsp_step.specs.Ledger.{agent_of}
+use Rattle.bsp_step.specs.Step.{is_token}
+use Rattle.bsp_desk.specs.declared.request.Request.{Request}
+
+-- a caller of this kind with its token among the rows, and the token given
+abbrev pub if_own : (ℕ → Rows → Option (List ℕ)) → Option (List ℕ) → Option ℕ → Rows → Option ℕ
+if_own token_of given None rows = None
+if_own token_of given (Some caller) rows = if is_token (token_of caller rows) given then Some caller else None
+
+abbrev pub known_agent : Option (List ℕ) → List ℕ → Rows → Option ℕ
+known_agent given code rows = if_own agent_token given (agent_of code) rows
+
+abbrev pub known_airline : Option (List ℕ) → List ℕ → Rows → Option ℕ
+known_airline given code rows = if_own airline_token given (airline_in code) rows
+
+-- the request of a call
+abbrev pub calling : Option (Bor (List ℕ)) → Call (Bor (List ℕ)) → Content → Request
+calling token call content = record { token = token; call = asking.Call call; content = content }

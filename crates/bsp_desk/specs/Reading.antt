@@ -1,0 +1,21 @@
+-- How a request that comes in is read as one of `bsp_step`.
+use Rattle.std.specs.Prelude.{◌≡◌, ℕ, List, [], ◌∷◌, Option, Some, None}
+use Rattle.std.specs.Borrow.{Bor}
+use Rattle.bsp_routes.specs.Calls.{asking_text}
+use Rattle.bsp_serving.specs.Contents.{IsAskedWith}
+use Rattle.bsp_step.specs.Requests.{Request as Reading}
+use Rattle.bsp_desk.specs.declared.request.Request.{Request}
+
+abbrev pub token_text : Option (Bor (List ℕ)) → Option (List ℕ)
+token_text None = None
+token_text (Some token) = Some token.now
+
+pub record IsRead (request : Request) (reading : Reading) : Type 0 where
+  pub token : reading.token ≡ token_text request.token
+  pub asked : IsAskedWith (asking_text request.call) request.content reading.asked
+
+-- each request is read so
+abbrev pub AreRead : List Request → List Reading → Type 0
+AreRead [] [] = Unit {0}
+AreRead (request ∷ requests) (reading ∷ readings) = IsRead request reading × AreRead requests readings
+AreRead _ _ = ⊥

@@ -1,0 +1,83 @@
+-- What a run of requests is, and what holds of all of it.
+use Rattle.std.specs.Prelude.{◌≡◌, ℕ, true, false, List, [], ◌∷◌, Option, Some, None}
+use Rattle.bsp_book.specs.Calls.{Meaning}
+use Rattle.bsp_calendar.specs.Published.{closed_period}
+use Rattle.bsp_calendar.specs.declared.entries.Period.{Period}
+use Rattle.bsp_messages.specs.declared.reply.Reply.{Reply}
+use Rattle.bsp_ret_records.specs.declared.transactions.Transaction.{Transaction}
+use Rattle.bsp_rows.specs.Rows.{Rows, item_at}
+use Rattle.bsp_rows.specs.declared.keys.ItemKey.{ItemKey}
+use Rattle.bsp_rows.specs.Sound.{Sound}
+use Rattle.bsp_rules.specs.declared.rows.Item.{Item}
+use Rattle.bsp_step.specs.AirlineLedger.{airline_ledger_of, hot_answer}
+use Rattle.bsp_step.specs.AirlineView.{airline_all, airline_ledger_answers, airline_told, airline_view}
+use Rattle.bsp_step.specs.Answers.{Answer}
+use Rattle.bsp_step.specs.Laws.{HasAccepted, IsHeldIn, IsPeriodKept}
+use Rattle.bsp_step.specs.Ledger.{ledger_of, own_verdicts, statement_answer}
+use Rattle.bsp_step.specs.Requests.{Request as Reading}
+use Rattle.bsp_step.specs.Step.{AreGroups, office_verdicts, settlement_answer}
+use Rattle.bsp_step.specs.View.{AllFit, Exchange, Run, ledger_all, ledger_answers, told, view}
+use Rattle.bsp_desk.specs.Replies.{IsSent, is_unavailable}
+
+-- ---- replies and answers
+
+-- no answer is sent as a 503, and an answer as any other reply
+abbrev pub IsReplied : Option Answer → Reply → Type 0
+IsReplied None reply = is_unavailable reply.status ≡ true
+IsReplied (Some answer) reply = (is_unavailable reply.status ≡ false) × IsSent answer reply
+
+-- each request, as it is read, with the answer that its reply sends
+abbrev pub AreExchanges : List Reading → List Reply → List Exchange → Type 0
+AreExchanges [] [] [] = Unit {0}
+AreExchanges (reading ∷ readings) (reply ∷ replies) (e ∷ es) = (e.0 ≡ reading) × IsReplied e.1 reply × AreExchanges readings replies es
+AreExchanges _ _ _ = ⊥
+
+-- ---- what holds of a run
+
+module _ (rows : Rows) (exchanges : List Exchange) (new : Rows) where
+  -- an agent's answers are those of its ledger over what it sees, and so is its part of the rows in the end
+  abbrev pub AgentAlone : ℕ → Type 0
+  AgentAlone agent =
+      let start = ledger_of agent rows in
+      (told agent start exchanges ≡ ledger_answers agent start (view agent start exchanges)) × (ledger_of agent new ≡ ledger_all agent start (view agent start exchanges))
+
+  -- and so are an airline's, HOT files among them
+  abbrev pub AirlineAlone : ℕ → Type 0
+  AirlineAlone airline =
+      let start = airline_ledger_of airline rows in
+      (airline_told airline start exchanges ≡ airline_ledger_answers airline start (airline_view airline start exchanges))
+      × (airline_ledger_of airline new ≡ airline_all airline start (airline_view airline start exchanges))
+
+  -- what an agent has accepted stays so, and is held in that period whenever the agent or the office reports it again
+  abbrev pub RepeatHeld : ℕ → Transaction → ℕ → Type 0
+  RepeatHeld agent t period =
+      HasAccepted rows agent t period → HasAccepted new agent t period
+      × ((ts : List Transaction) → AreGroups ts → IsHeldIn t period ts (office_verdicts new ts) × IsHeldIn t period ts (own_verdicts agent (ledger_of agent new) ts))
+
+  -- a closed period stays, with its settlement, each statement and each HOT file
+  abbrev pub PeriodStays : ℕ → Period → Type 0
+  PeriodStays code q =
+      closed_period rows.published code ≡ Some q → IsPeriodKept code rows new
+      × (settlement_answer (Some code) new ≡ settlement_answer (Some code) rows)
+      × ((agent : ℕ) → statement_answer agent (ledger_of agent new) (Some code) ≡ statement_answer agent (ledger_of agent rows) (Some code))
+      × ((airline : ℕ) → hot_answer airline (airline_ledger_of airline new) (Some code) ≡ hot_answer airline (airline_ledger_of airline rows) (Some code))
+
+  -- from sound rows, at an office with this token
+  pub record Ran (office : List ℕ) : Type 0 where
+    -- each answer is that of the rows that those before it left
+    pub steps : Run office rows exchanges new
+    -- each transaction of each file is a group
+    pub fits : AllFit exchanges
+    -- and the rows are sound in the end
+    pub sound : Sound new
+    -- where the accepted transactions of a document number are of one agent
+    pub owners : (k l : ItemKey) (i j : Item) → item_at k new ≡ Some i → item_at l new ≡ Some j → k.number ≡ l.number → k.agent ≡ l.agent
+    pub agents : (agent : ℕ) → AgentAlone agent
+    pub airlines : (airline : ℕ) → AirlineAlone airline
+    pub repeats : (agent : ℕ) (t : Transaction) (period : ℕ) → RepeatHeld agent t period
+    pub periods : (code : ℕ) (q : Period) → PeriodStays code q
+
+-- a book ran so: it holds the rows in the end, where it has not failed
+abbrev pub RanOver : {B : Type 0} (m : Meaning B Rows) (new : B) → List ℕ → Rows → List Reading → List Reply → Type 0
+RanOver m new office rows readings replies =
+    (exchanges : List Exchange) × (left : Rows) × AreExchanges readings replies exchanges × Ran rows exchanges left office × (m.has_failed new ≡ false → m.holds new left None)

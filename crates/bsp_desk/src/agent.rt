@@ -1,0 +1,40 @@
+ghost use Rattle.std.specs.Prelude.{◌≡◌, false};
+ghost use Rattle.bsp_desk.specs.Calls.{agent_text};
+ghost use Rattle.bsp_serving.specs.Contents.{IsAgentCall};
+ghost use Rattle.bsp_serving.specs.Serves.{EndsOnFault, ServesAgent};
+ghost use Rattle.bsp_step.specs.Requests.{AgentRequest};
+
+use bsp_book::{Book, BookFault};
+use bsp_desk_files::report_of_agent;
+use bsp_desk_memos::{agent_memos, agree, dispute};
+use bsp_desk_reports::{document, period, statement, stock};
+use bsp_fields::AgentCode;
+use bsp_messages::Answer;
+use bsp_routes::AgentCall;
+use bsp_serving::Content;
+use std::alloc::Global;
+
+/// Serves a call of an agent in the open transaction.
+pub(crate) fn serve_agent<B: Book>(
+    alloc: Global,
+    book: &mut B,
+    agent: AgentCode,
+    call: &AgentCall<&[u8]>,
+    content: &Content<'_>,
+) -> Result<Answer, BookFault>
+    requires { B.means.has_failed book.old ≡ false }
+    ensures served { (request : AgentRequest) → IsAgentCall (agent_text call.now) content.now request → ServesAgent B.means book.old book.new result agent request }
+    ensures fault { EndsOnFault B.means book.old book.new result }
+{
+    let body = content.bytes();
+    match call {
+        AgentCall::Ret => report_of_agent(alloc, book, agent, content),
+        AgentCall::Document(number) => document(book, agent, number),
+        AgentCall::Period(code) => period(book, agent, code),
+        AgentCall::Stock => stock(alloc, book, agent),
+        AgentCall::Memos => agent_memos(alloc, book, agent),
+        AgentCall::Dispute => dispute(alloc, book, agent, body),
+        AgentCall::Agree => agree(alloc, book, agent, body),
+        AgentCall::Statement(code) => statement(alloc, book, agent, code),
+    }
+}

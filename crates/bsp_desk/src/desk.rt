@@ -1,0 +1,124 @@
+ghost use Rattle.std.specs.Prelude.{◌≡◌, ℕ, List, None, IfOk, IsOk, MatchResult, OnErr, false, length};
+ghost use Rattle.bsp_desk.specs.Callers.{calling};
+ghost use Rattle.bsp_desk.specs.Reading.{AreRead};
+ghost use Rattle.bsp_desk.specs.Replies.{Refuses};
+ghost use Rattle.bsp_desk.specs.Runs.{RanOver};
+ghost use Rattle.bsp_desk.specs.Steps.{Answers};
+ghost use Rattle.bsp_messages.specs.declared.refusal.RequestRefusal.TheVariants.{NoRoute, OtherMethod};
+ghost use Rattle.bsp_routes.specs.declared.methods.Methods.{Methods};
+ghost use Rattle.bsp_rows.specs.Rows.{Rows};
+ghost use Rattle.bsp_rows.specs.Sound.{Sound};
+ghost use Rattle.bsp_step.specs.Requests.{Request as Reading};
+
+use crate::request::Request;
+use crate::transaction::answer_call;
+use bsp_book::{Book, BookFault};
+use bsp_fields::Token;
+use bsp_messages::{Reply, RequestRefusal};
+use bsp_routes::{Asking, Call};
+use bsp_serving::Content;
+use std::alloc::Global;
+
+/// The desk of an office over a book.
+#[derive(Drop)]
+pub struct Desk<B: Book> {
+    alloc: Global,
+    book: B,
+    office: Token,
+}
+
+impl<B: Book> Desk<B> {
+    /// Opens the desk of the office with this token. What is promised of answers holds over sound rows, where
+    /// no transaction is open: so every opening of a book leaves them.
+    ///
+    /// # Errors
+    ///
+    /// `Failed`, where the book has failed, with the book as it was.
+    pub fn open(alloc: Global, book: B, office: Token) -> Result<Desk<B>, (BookFault, B)>
+        ensures opened { MatchResult result (λ desk. (desk.book ≡ book) × (desk.office ≡ office)) (λ refused. refused ≡ (BookFault.Failed, book)) }
+        ensures unfailed { B.means.has_failed book ≡ false → IsOk result }
+    {
+        if book.has_failed() {
+            return Err((BookFault::Failed, book));
+        }
+        Ok(Desk {
+            alloc,
+            book,
+            office,
+        })
+    }
+
+    /// The book, as the last answer left it.
+    pub fn close(self) -> B
+        ensures { result ≡ self.book }
+    {
+        self.book
+    }
+
+    /// Answers one request: over sound rows with the answer of `bsp_step`, after which the book holds the rows
+    /// that it leaves, or with a 503. A refusal and B01 leave the rows as they are. B03 is the reply if and only
+    /// if the book has failed, and then to every request.
+    ///
+    /// No route and another method are answered 404 N02 and 405 N03 without the book, and take no memory.
+    pub fn answer(&mut self, request: &Request<'_>) -> Reply
+        ensures answered { Answers B.means self.old.book self.new.book request.now self.old.office result }
+        ensures no_route { B.means.has_failed self.old.book ≡ false → request.now.call ≡ Asking.NoRoute → Refuses NoRoute result × (self.new ≡ self.old) }
+        ensures other_method { (methods : Methods) → B.means.has_failed self.old.book ≡ false → request.now.call ≡ Asking.OtherMethod methods → Refuses OtherMethod result × (self.new ≡ self.old) }
+        ensures office { self.new.office ≡ self.old.office }
+    {
+        if self.book.has_failed() {
+            return RequestRefusal::StoreFailed.reply();
+        }
+        match &request.call {
+            Asking::NoRoute => RequestRefusal::NoRoute.reply(),
+            Asking::OtherMethod(_) => RequestRefusal::OtherMethod.reply(),
+            Asking::Call(call) => self.reply_to(request.token, call, &request.content),
+        }
+    }
+
+    /// Answers requests of any callers, one after the other.
+    ///
+    /// However the requests are read, what their replies send is a run of `bsp_step` from sound rows, and a 503
+    /// counts for nothing. So each agent's and each airline's answers are those of its own ledger, what was
+    /// accepted is held, and a closed period stays.
+    ///
+    /// # Errors
+    ///
+    /// `NoRoom`, where there is no room for the replies. No request is then answered.
+    pub fn run(&mut self, requests: &[Request<'_>]) -> Result<Vec<Reply>, BookFault>
+        ensures trust { B.means.trusts self.new.book → B.means.trusts self.old.book }
+        ensures ran { IfOk result (λ replies. (readings : List Reading) → AreRead requests.now readings → B.means.trusts self.new.book → (rows : Rows) → Sound rows → B.means.holds self.old.book rows None →
+            RanOver B.means self.new.book self.old.office rows readings replies.items) }
+        ensures count { IfOk result (λ replies. length replies.items ≡ length requests.now) }
+        ensures fault { OnErr result ((self.new.book ≡ self.old.book) × (result ≡ Err BookFault.NoRoom)) }
+        ensures office { self.new.office ≡ self.old.office }
+    {
+        let Ok(mut replies) = Vec::with_capacity(self.alloc, requests.len()) else {
+            return Err(BookFault::NoRoom);
+        };
+        for request in requests {
+            let reply = self.answer(request);
+            let _ = replies.push(reply);
+        }
+        Ok(replies)
+    }
+
+    // The reply to a call, which asks the book.
+    fn reply_to(&mut self, token: Option<&[u8]>, call: &Call<&[u8]>, content: &Content<'_>) -> Reply
+        ensures answered { Answers B.means self.old.book self.new.book (calling token.entry call.now content.now) self.old.office result }
+        ensures office { self.new.office ≡ self.old.office }
+    {
+        match answer_call(
+            self.alloc,
+            &mut self.book,
+            &self.office,
+            token,
+            call,
+            content,
+        ) {
+            Ok(reply) => reply,
+            Err(BookFault::NoRoom) => RequestRefusal::NoRoom.reply(),
+            Err(BookFault::Failed) => RequestRefusal::StoreFailed.reply(),
+        }
+    }
+}

@@ -1,0 +1,55 @@
+ghost use Rattle.std.specs.Prelude.{◌≡◌, false, IfOk};
+ghost use Rattle.bsp_desk.specs.Callers.{calling};
+ghost use Rattle.bsp_desk.specs.Replies.{is_unavailable};
+ghost use Rattle.bsp_desk.specs.Steps.{Commits, EndsRequest, EndsUnsent, Sends};
+
+use crate::serve::serve;
+use bsp_book::{Book, BookFault};
+use bsp_fields::Token;
+use bsp_messages::{Reply, Status, reply_of};
+use bsp_routes::Call;
+use bsp_serving::{Content, give_up};
+use std::alloc::Global;
+
+/// Answers a call in one transaction, whose reply is made before the commit.
+pub(crate) fn answer_call<B: Book>(
+    alloc: Global,
+    book: &mut B,
+    office: &Token,
+    token: Option<&[u8]>,
+    call: &Call<&[u8]>,
+    content: &Content<'_>,
+) -> Result<Reply, BookFault>
+    ensures kept { Commits B.means book.old book.new (calling token.entry call.now content.now) office.now result }
+    ensures available { IfOk result (λ reply. is_unavailable reply.status ≡ false) }
+    ensures fault { EndsRequest B.means book.old book.new (calling token.entry call.now content.now) office.now result }
+{
+    book.begin()?;
+    let reply = reply_within(alloc, book, office, token, call, content)?;
+    book.commit()?;
+    Ok(reply)
+}
+
+/// The reply to a call in the open transaction. What would be a 503 is given up.
+fn reply_within<B: Book>(
+    alloc: Global,
+    book: &mut B,
+    office: &Token,
+    token: Option<&[u8]>,
+    call: &Call<&[u8]>,
+    content: &Content<'_>,
+) -> Result<Reply, BookFault>
+    requires { B.means.has_failed book.old ≡ false }
+    ensures sent { Sends B.means book.old book.new (calling token.entry call.now content.now) office.now result }
+    ensures available { IfOk result (λ reply. is_unavailable reply.status ≡ false) }
+    ensures fault { EndsUnsent B.means book.old book.new (calling token.entry call.now content.now) result }
+{
+    let answer = serve(alloc, book, office, token, call, content)?;
+    let Ok(reply) = reply_of(alloc, answer) else {
+        return give_up(book);
+    };
+    if reply.status == Status::ServiceUnavailable {
+        return give_up(book);
+    }
+    Ok(reply)
+}
