@@ -4,6 +4,7 @@ use Rattle.std.specs.Ordering.{eq_by_cmp, is_eq, ordering_then}
 use Rattle.std.specs.Option.{option_cmp}
 use Rattle.std.specs.Cmp.{IsTotalOrder, alike_right, on_total, then_total}
 use Rattle.std.specs.FinMap.{FinMap, IsAntisymmetric, contains_key, get, get-insert, get-remove}
+use Rattle.bsp_maps.proofs.Orderings.{then_equal}
 use Rattle.bsp_indexes.specs.Indexes.{AreExact, IsAlone, IsMoved, entry_cmp, is_place, with_place, without_place}
 
 pub tied : (r : Ordering) → is_eq r ≡ true → r ≡ Equal
@@ -14,11 +15,6 @@ tied Greater h = absurd (cc)
 pub then_ok : {A B S T : Type 0} (r : Result A B) → (S → T) → OnOk r S → OnOk r T
 then_ok (Ok x) f p = f p
 then_ok (Err y) f p = tt
-
-then_equal : (a b : Ordering) → ordering_then a b ≡ Equal → (a ≡ Equal) × (b ≡ Equal)
-then_equal Less b e = absurd (cc)
-then_equal Equal b e = (refl, e)
-then_equal Greater b e = absurd (cc)
 
 both_tied : (a b : Ordering) → is_eq (ordering_then a b) ≡ (is_eq a && is_eq b)
 both_tied Less b = refl

@@ -45,7 +45,7 @@ module _ {K V : Type 0} {R : K → K → Ordering} (o : IsTotalOrder R) where
 -- an entry without a value is taken out
 module _ {K V : Type 0} {R : K → K → Ordering} (o : IsTotalOrder R) (exact : IsAntisymmetric R) where
   at_absent : (m : FinMap R (Option V)) (k q : K) (b : Bool) → eq_by_cmp R q k ≡ b → get m k ≡ Some None → flat (cond b None (get m q)) ≡ flat (get m q)
-  at_absent m k q true tie absent = sym (ap flat (sym (get_tied o m q k (equal (R q k) true tie refl)) ∙ absent))
+  at_absent m k q true tie absent = sym (ap flat (sym (get_tied o m q k ((Equal-is (R q k)).0 tie)) ∙ absent))
   at_absent m k q false tie absent = refl
 
   pub present-remove_absent : (m : FinMap R (Option V)) (k : K) → get m k ≡ Some None → present (remove m k) ≡ present m

@@ -4,19 +4,9 @@ use Rattle.std.specs.Ordering.{bool_cmp, ordering_then}
 use Rattle.std.specs.Cmp.{IsTotalOrder, nat_cmp_total, bool_cmp_total, on_total, then_total}
 use Rattle.std.specs.Cmp.Lexicographic.{slice_cmp, nat_list_cmp_total}
 use Rattle.std.specs.FinMap.{IsAntisymmetric, nat_cmp-IsAntisymmetric, slice_cmp-IsAntisymmetric}
+use Rattle.bsp_maps.proofs.Orderings.{bool_exact, then_equal}
 use Rattle.bsp_row_tables.specs.declared.keys.NumberKey.{NumberKey}
 use Rattle.bsp_row_tables.specs.Numbers.{number_cmp}
-
-then_equal : (a b : Ordering) → ordering_then a b ≡ Equal → (a ≡ Equal) × (b ≡ Equal)
-then_equal Less b e = absurd (cc)
-then_equal Equal b e = (refl, e)
-then_equal Greater b e = absurd (cc)
-
-bool_exact : (x y : Bool) → bool_cmp x y ≡ Equal → x ≡ y
-bool_exact false false e = refl
-bool_exact false true e = absurd (cc)
-bool_exact true false e = absurd (cc)
-bool_exact true true e = refl
 
 pub number_total : IsTotalOrder number_cmp
 number_total = then_total (on_total (λ (k : NumberKey). k.agent) nat_cmp_total) (then_total (on_total (λ (k : NumberKey). k.number) nat_list_cmp_total)

@@ -11,7 +11,8 @@ use Rattle.bsp_rows.specs.declared.keys.TallyKey.{TallyKey}
 use Rattle.bsp_rows.specs.Tallies.{tally_cmp}
 use Rattle.bsp_postings.specs.declared.tally.Tally.{Tally}
 use Rattle.bsp_rows.specs.Rows.{is_of_airline, is_unbilled, item_cmp, memo_cmp}
-use Rattle.bsp_rows.proofs.KeyOrders.{item_exact, memo_exact, tally_exact, then_equal}
+use Rattle.bsp_maps.proofs.Orderings.{then_equal}
+use Rattle.bsp_rows.proofs.KeyOrders.{item_exact, memo_exact, tally_exact}
 use Rattle.bsp_row_tables.specs.Places.{airline_cmp, at_airline, item_place, one_cmp, tally_airline_place, tally_period_place, agent_place, unbilled_at, unbilled_place}
 use Rattle.bsp_row_tables.specs.Windows.{and_first, and_second, false_first, first_item, first_memo, first_tally, from_least, least, ties}
 use Rattle.bsp_row_tables.specs.declared.places.AirlinePeriod.{AirlinePeriod}
