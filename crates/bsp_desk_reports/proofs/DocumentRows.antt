@@ -6,7 +6,6 @@ use Rattle.std.specs.FinMap.Entries.{find as find_key}
 use Rattle.std.specs.List.{Contains, filter, find}
 use Rattle.std.specs.Ordering.{eq_by_cmp, is_eq}
 use Rattle.std.specs.declared.cmp.Ordering.{Ordering}
-use Rattle.std.specs.Str.{bytes_eq}
 use Rattle.std.proofs.lemmas.Bool.{and_from, and_parts, eqb-true}
 use Rattle.std.proofs.lemmas.Slice.Eq.{bytes_eq-Decides}
 use Rattle.bsp_calendar.proofs.ListLemmas.{contains_head, contains_tail, filter_contains, filter_holds}

@@ -1,9 +1,9 @@
 -- An agent's items are in the order of their numbers, and its ranges are shown by these.
-use Rattle.std.proofs.Common.{◌≡◌, ℕ, ◌<◌, ◌≤◌, ◌==◌, Bool, true, false, List, [], ◌∷◌, length, map, get_or, Ok, refl, sym, ap, subst, ◌∙◌, inl, inr, arith, Less, Equal, Greater, Ordering}
+use Rattle.std.proofs.Common.{◌≡◌, ℕ, ◌≤◌, ◌==◌, true, false, List, [], ◌∷◌, length, map, get_or, refl, sym, ap, subst, ◌∙◌, inl, inr, arith, Less, Equal, Greater, Ordering}
 use Rattle.std.specs.Cmp.{tied_itself}
 use Rattle.std.specs.FinMap.{entries, entries_sorted, get, is_sorted}
 use Rattle.std.specs.FinMap.Entries.{below_all}
-use Rattle.std.specs.List.{All, AllPairs, Contains, filter}
+use Rattle.std.specs.List.{AllPairs, Contains, filter}
 use Rattle.std.specs.List.Sorted.{IsNonDecreasing}
 use Rattle.std.specs.Ordering.{bool_cmp, is_gt, nat_cmp, ordering_then}
 use Rattle.std.specs.Cmp.{nat_cmp_total}
@@ -19,7 +19,7 @@ use Rattle.bsp_rows.proofs.MapLemmas.{below_contains, entry_get, is_true}
 use Rattle.bsp_rows.proofs.PartLemmas.{kept_entries, sorted_filter}
 use Rattle.bsp_rows.proofs.RowLemmas.{contains_map}
 use Rattle.bsp_rows.specs.Part.{agent_part}
-use Rattle.bsp_rows.specs.Rows.{HasNumberKey, Rows, agent_items, item_cmp, key_of, range_of, ranges_of}
+use Rattle.bsp_rows.specs.Rows.{HasNumberKey, Rows, agent_items, item_cmp, range_of, ranges_of}
 use Rattle.bsp_rows.specs.Sound.{IsRight, Sound}
 use Rattle.bsp_rows.specs.declared.keys.ItemKey.{ItemKey}
 use Rattle.bsp_rows.specs.declared.keys.RangeKey.{RangeKey}

@@ -1,4 +1,4 @@
-use Rattle.std.proofs.Common.{◌≡◌, List, Some, ap, sym, subst, ◌∙◌}
+use Rattle.std.proofs.Common.{List, Some, ap, sym, subst, ◌∙◌}
 use Rattle.std.specs.Result.{result_ok}
 use Rattle.bsp_fields.specs.Codes.{check_digit_of}
 use Rattle.bsp_messages.specs.declared.answer.DocumentShown.{DocumentShown}

@@ -1,4 +1,4 @@
-use Rattle.std.proofs.Common.{◌≡◌, refl, ◌∙◌}
+use Rattle.std.proofs.Common.{refl, ◌∙◌}
 use Rattle.bsp_desk_reports.proofs.StockRows.{stock_shown}
 use Rattle.bsp_desk_reports.proofs.stocks.stock.Goals as goal
 
