@@ -18,7 +18,7 @@ use Rattle.bsp_messages.specs.declared.answer.DocumentShown.{DocumentShown}
 use Rattle.bsp_messages.specs.declared.refusal.RequestRefusal.TheVariants.{NoDocument}
 use Rattle.bsp_rows.proofs.KeyOrders.{item_exact, item_total}
 use Rattle.bsp_rows.proofs.MapLemmas.{entry_get, same_key}
-use Rattle.bsp_rows.proofs.NumberLemmas.{one_number, read_number}
+use Rattle.bsp_fields.proofs.DocumentLemmas.{one_number, read_number}
 use Rattle.bsp_rows.proofs.PartLemmas.{kept_entries}
 use Rattle.bsp_rows.specs.Part.{agent_part}
 use Rattle.bsp_rows.specs.Rows.{Rows, agent_items, item_cmp, key_of}
