@@ -63,11 +63,14 @@ read_ok (Ok n) b h = ap (λ (x : ℕ). Ok x) (same_Some n b h)
 read_ok (Err fault) b h = absurd (cc h)
 
 -- what an agent's file has accepted bears that agent
-pub reported_own : (b : ℕ) (t : Transaction) (rows : Rows) (period : ℕ) → own_verdict (Agent b) (ledger_of b rows) t ≡ verdict.Accepted period → agent_of (fixed_digits 8 b) ≡ Some b → agent_of t.agent ≡ Some b
-reported_own b t rows period h reads =
-    let passed = (accepted_is_passed (Agent b) t _ rows.published period).0 h in
+pub accepted_own : (b : ℕ) (t : Transaction) (l : Ledger) (period : ℕ) → own_verdict (Agent b) l t ≡ verdict.Accepted period → agent_of (fixed_digits 8 b) ≡ Some b → agent_of t.agent ≡ Some b
+accepted_own b t l period h reads =
+    let passed = (accepted_is_passed (Agent b) t _ l.published period).0 h in
     let own = ((agent_is_reporters (Agent b) t _).0 passed.agent).1 in
     ap agent_of own ∙ reads
+
+pub reported_own : (b : ℕ) (t : Transaction) (rows : Rows) (period : ℕ) → own_verdict (Agent b) (ledger_of b rows) t ≡ verdict.Accepted period → agent_of (fixed_digits 8 b) ≡ Some b → agent_of t.agent ≡ Some b
+reported_own b t rows = accepted_own b t (ledger_of b rows)
 
 pub accepts : (who : Reporter) (b : ℕ) (t : Transaction) (period : ℕ) (rows : Rows) → is_group_values t ≡ true → agent_of t.agent ≡ Some b → own_verdict who (ledger_of b rows) t ≡ verdict.Accepted period → IsAcceptance who rows (new_item b t period)
 accepts who b t period rows group bears h = record {

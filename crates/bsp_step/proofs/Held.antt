@@ -5,6 +5,7 @@ use Rattle.std.specs.FinMap.{FinMap, get}
 use Rattle.std.proofs.lemmas.List.Elements.{All-contains}
 use Rattle.bsp_fields.specs.Decimal.{fixed_digits}
 use Rattle.bsp_ret_records.specs.declared.transactions.Transaction.{Transaction}
+use Rattle.bsp_ret_writer.specs.GroupValues.{is_group_values}
 use Rattle.bsp_rules.specs.FactsOf.{facts_in}
 use Rattle.bsp_rules.specs.Rows.{IsHeld, held_period, is_canx}
 use Rattle.bsp_rules.specs.Meanings.{IsReporterOf}
@@ -56,15 +57,15 @@ stays who rows item agent t period s a h = record {
 }
 
 -- sound rows in which an agent has it
-record Has (agent : ℕ) (t : Transaction) (period : ℕ) (rows : Rows) : Type 0 where
-  sound : Sound rows
-  has : HasAccepted rows agent t period
+pub record Has (agent : ℕ) (t : Transaction) (period : ℕ) (rows : Rows) : Type 0 where
+  pub sound : Sound rows
+  pub has : HasAccepted rows agent t period
 
 -- rows with the same items
 as_before : (agent : ℕ) (t : Transaction) (period : ℕ) (rows new : Rows) → new.items ≡ rows.items → HasAccepted rows agent t period → HasAccepted new agent t period
 as_before agent t period rows new same h = record { key = h.key; own = h.own; item = h.item; there = ap (λ (m : FinMap item_cmp Item). get m h.key) same ∙ h.there; content = h.content; period_is = h.period_is }
 
-has_is_kept : (agent : ℕ) (t : Transaction) (period : ℕ) → IsKept (Has agent t period)
+pub has_is_kept : (agent : ℕ) (t : Transaction) (period : ℕ) → IsKept (Has agent t period)
 has_is_kept agent t period = record {
   sound = λ rows h. h.sound;
   accepted = λ who rows item h a. record { sound = sound_is_kept.accepted who rows item h.sound a; has = stays who rows item agent t period h.sound a h.has };
@@ -110,7 +111,7 @@ held_by who rows agent t period s h reports =
     part_verdict who agent rows t ∙ (held_is_found who t f rows.published period).1 (right, held)
 
 -- it bears the agent, as the eight digits of its code
-bears : (rows : Rows) (agent : ℕ) (t : Transaction) (period : ℕ) → Sound rows → HasAccepted rows agent t period → agent_of t.agent ≡ Some agent
+pub bears : (rows : Rows) (agent : ℕ) (t : Transaction) (period : ℕ) → Sound rows → HasAccepted rows agent t period → agent_of t.agent ≡ Some agent
 bears rows agent t period s h =
     let right = (s.items.each h.key h.item h.there).right in
     let own : h.item.agent ≡ agent = ap (λ (k : ItemKey). k.agent) right.keyed ∙ h.own in
@@ -133,14 +134,14 @@ module _ (agent : ℕ) (t : Transaction) (period : ℕ) where
   own_held_one : (rows : Rows) → Has agent t period rows → own_verdict (Agent agent) (ledger_of agent rows) t ≡ verdict.Held period
   own_held_one rows h = held_by (Agent agent) rows agent t period h.sound h.has (sym (same_digits t.agent agent (bears rows agent t period h.sound h.has)))
 
-  office_held : (ts : List Transaction) (rows : Rows) → Has agent t period rows → AreGroups ts → IsHeldIn t period ts (office_verdicts rows ts)
+  pub office_held : (ts : List Transaction) (rows : Rows) → Has agent t period rows → AreGroups ts → IsHeldIn t period ts (office_verdicts rows ts)
   office_held [] rows h groups = tt
   office_held (u ∷ us) rows h groups = (
     (λ same. ap (office_verdict rows) same ∙ office_held_one rows h),
     office_held us (rows_judged bearer u (office_verdict rows u) rows) (office_judged_keeps (Has agent t period) kept u rows h groups.0 (office_verdict rows u) refl) groups.1,
   )
 
-  own_held : (ts : List Transaction) (rows : Rows) → Has agent t period rows → AreGroups ts → IsHeldIn t period ts (own_verdicts agent (ledger_of agent rows) ts)
+  pub own_held : (ts : List Transaction) (rows : Rows) → Has agent t period rows → AreGroups ts → IsHeldIn t period ts (own_verdicts agent (ledger_of agent rows) ts)
   own_held [] rows h groups = tt
   own_held (u ∷ us) rows h groups =
       let v : Verdict = own_verdict (Agent agent) (ledger_of agent rows) u in
@@ -162,16 +163,31 @@ module _ (agent : ℕ) (t : Transaction) (period : ℕ) where
     period_is = refl;
   }
 
+  -- after the office's file has it accepted at a place
+  pub office_joins : (u : Transaction) (rows : Rows) → Sound rows → is_group_values u ≡ true → agent_of t.agent ≡ Some agent → u ≡ t → office_verdict rows u ≡ verdict.Accepted period → Has agent t period (rows_judged bearer u (office_verdict rows u) rows)
+  office_joins u rows s group own same accepted = record {
+    sound = office_judged_keeps Sound sound_is_kept u rows s group (office_verdict rows u) refl;
+    has = subst (λ (x : Verdict). HasAccepted (rows_judged bearer u x rows) agent t period) (sym accepted)
+        (subst (λ (x : Transaction). HasAccepted (joined (agent_of x.agent) x period rows) agent t period) (sym same)
+        (subst (λ (r : Option ℕ). HasAccepted (joined r t period rows) agent t period) (sym own) (joins rows)));
+  }
+
+  -- and after its agent's file has
+  pub own_joins : (u : Transaction) (rows : Rows) → Sound rows → is_group_values u ≡ true → agent_of t.agent ≡ Some agent → u ≡ t →
+      let v = own_verdict (Agent agent) (ledger_of agent rows) u in
+      v ≡ verdict.Accepted period → Has agent t period (rows_judged (reporter (Some agent)) u v rows)
+  own_joins u rows s group own same accepted = record {
+    sound = own_judged_keeps Sound sound_is_kept agent u rows (reads_back t.agent agent own) s group (own_verdict (Agent agent) (ledger_of agent rows) u) refl;
+    has = subst (λ (x : Verdict). HasAccepted (rows_judged (reporter (Some agent)) u x rows) agent t period) (sym accepted)
+        (subst (λ (x : Transaction). HasAccepted (joined (Some agent) x period rows) agent t period) (sym same) (joins rows));
+  }
+
   office_taken : (ts : List Transaction) (rows : Rows) → Sound rows → AreGroups ts → agent_of t.agent ≡ Some agent → IsAcceptedIn t period ts (office_verdicts rows ts) → HasAccepted (rows_filed bearer ts (office_verdicts rows ts) rows) agent t period
   office_taken [] rows s groups own h = elim h [ ]
   office_taken (u ∷ us) rows s groups own (inl (same, accepted)) =
       let v : Verdict = office_verdict rows u in
       let next : Rows = rows_judged bearer u v rows in
-      let has : HasAccepted next agent t period =
-      subst (λ (x : Verdict). HasAccepted (rows_judged bearer u x rows) agent t period) (sym accepted)
-      (subst (λ (x : Transaction). HasAccepted (joined (agent_of x.agent) x period rows) agent t period) (sym same)
-      (subst (λ (r : Option ℕ). HasAccepted (joined r t period rows) agent t period) (sym own) (joins rows))) in
-      (office_file_keeps (Has agent t period) kept us next (record { sound = office_judged_keeps Sound sound_is_kept u rows s groups.0 v refl; has = has }) groups.1).has
+      (office_file_keeps (Has agent t period) kept us next (office_joins u rows s groups.0 own same accepted) groups.1).has
   office_taken (u ∷ us) rows s groups own (inr later) =
       office_taken us (rows_judged bearer u (office_verdict rows u) rows) (office_judged_keeps Sound sound_is_kept u rows s groups.0 (office_verdict rows u) refl) groups.1 own later
 
@@ -181,11 +197,8 @@ module _ (agent : ℕ) (t : Transaction) (period : ℕ) where
       let v : Verdict = own_verdict (Agent agent) (ledger_of agent rows) u in
       let next : Rows = rows_judged (reporter (Some agent)) u v rows in
       let back = reads_back t.agent agent own in
-      let has : HasAccepted next agent t period =
-      subst (λ (x : Verdict). HasAccepted (rows_judged (reporter (Some agent)) u x rows) agent t period) (sym accepted)
-      (subst (λ (x : Transaction). HasAccepted (joined (Some agent) x period rows) agent t period) (sym same) (joins rows)) in
       subst (λ (l : Ledger). HasAccepted (rows_filed (reporter (Some agent)) us (own_verdicts agent l us) next) agent t period) (judged_own agent u v rows)
-      (own_file_keeps (Has agent t period) kept agent us next back (record { sound = own_judged_keeps Sound sound_is_kept agent u rows back s groups.0 v refl; has = has }) groups.1).has
+      (own_file_keeps (Has agent t period) kept agent us next back (own_joins u rows s groups.0 own same accepted) groups.1).has
   own_taken (u ∷ us) rows s groups own (inr later) =
       let v : Verdict = own_verdict (Agent agent) (ledger_of agent rows) u in
       let next : Rows = rows_judged (reporter (Some agent)) u v rows in

@@ -10,10 +10,13 @@ pub mod StepLemmas
 pub mod Runs
 pub mod TextLemmas
 pub mod Held
+pub mod RunParts
+pub mod HeldInRuns
 pub mod FitLemmas
 pub mod Closed
 pub mod ClosedKept
 pub mod Reports
+pub mod ShownInRuns
 pub mod AirlineLemmas
 pub mod AirlineSeen
 pub mod AirlineIsolated

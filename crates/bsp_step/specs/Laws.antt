@@ -1,5 +1,5 @@
 -- What holds of every request, of every run, and of what one agent is answered.
-use Rattle.std.specs.Prelude.{◌≡◌, ◌⊎◌, ℕ, ◌==◌, true, false, List, [], ◌∷◌, Option, Some, if◌then◌else◌}
+use Rattle.std.specs.Prelude.{◌≡◌, ◌⊎◌, ℕ, ◌==◌, Bool, true, false, List, [], ◌∷◌, ◌++◌, Option, Some, None, Ok, if◌then◌else◌}
 use Rattle.bsp_routes.specs.declared.asking.Asking.{Asking}
 use Rattle.bsp_messages.specs.Values.{airline_in}
 use Rattle.bsp_messages.specs.declared.refusal.RequestRefusal.TheVariants.{Forbidden}
@@ -19,10 +19,13 @@ use Rattle.bsp_rows.specs.declared.keys.ItemKey.{ItemKey}
 use Rattle.bsp_rows.specs.Sound.{Sound}
 use Rattle.bsp_step.specs.AirlineView.{airline_all, airline_ledger_answers, airline_sights, airline_told, airline_view}
 use Rattle.bsp_step.specs.Answers.{Answer, is_done, verdicts_in}
-use Rattle.bsp_step.specs.Answers.Answer.{Refused}
+use Rattle.bsp_step.specs.Answers.Answer.{Verdicts, Statement, Settlement, Hot, Refused}
 use Rattle.bsp_step.specs.Ledger.{agent_of, ledger_answer, ledger_of, own_verdicts, statement_answer}
 use Rattle.bsp_step.specs.Requests.{AgentRequest, AirlineRequest, Asked, IsAsked, Request}
-use Rattle.bsp_step.specs.Requests.Asked.{ByAgent, ByAirline}
+use Rattle.bsp_step.specs.Requests.AgentRequest.{AgentFile, AskStatement}
+use Rattle.bsp_step.specs.Requests.AirlineRequest.{AskHot}
+use Rattle.bsp_step.specs.Requests.Asked.{ByOffice, ByAgent, ByAirline}
+use Rattle.bsp_step.specs.Requests.OfficeRequest.{OfficeFile, AskSettlement}
 use Rattle.bsp_step.specs.Step.{AreGroups, Fits, answer_of, bearer, is_token, office_verdicts, reporter, rows_after, rows_filed, settlement_answer}
 use Rattle.bsp_step.specs.View.{AllFit, Exchange, Run, is_own, ledger_all, ledger_answers, sights, told, view}
 
@@ -152,6 +155,56 @@ RepeatsAreHeld =
     Run office rows exchanges new → AllFit exchanges → Sound rows → HasAccepted rows agent t period → AreGroups ts →
     HasAccepted new agent t period × IsHeldIn t period ts (office_verdicts new ts) × IsHeldIn t period ts (own_verdicts agent (ledger_of agent new) ts)
 
+-- ---- repeats within a run
+
+-- the transactions of the file that a request brings
+abbrev pub file_of : Asked → List Transaction
+file_of (ByOffice (OfficeFile (Ok ts))) = ts
+file_of (ByAgent code (AgentFile (Ok ts))) = ts
+file_of _ = []
+
+-- the verdicts that are replied, none where the reply has none
+abbrev pub verdicts_of : Exchange → List Verdict
+verdicts_of p = by p.1 where
+  by : Option Answer → List Verdict
+  by None = []
+  by (Some answer) = verdicts_in answer
+
+-- a file of the office, or of the agent that the transaction bears
+abbrev pub IsFileFor : Transaction → Asked → Type 0
+IsFileFor t (ByOffice (OfficeFile file)) = Unit {0}
+IsFileFor t (ByAgent code (AgentFile file)) = agent_of code ≡ agent_of t.agent
+IsFileFor t _ = ⊥
+
+-- the reply accepts the transaction in this period at some place of the file
+abbrev pub Accepts : Exchange → Transaction → ℕ → Type 0
+Accepts p t period = IsAcceptedIn t period (file_of p.0.asked) (verdicts_of p)
+
+-- where the file is the office's or its agent's, and verdicts are the reply, it is held in this period at each place
+abbrev pub Holds : Exchange → Transaction → ℕ → Type 0
+Holds p t period = (vs : List Verdict) → IsFileFor t p.0.asked → p.1 ≡ Some (Verdicts vs) → IsHeldIn t period (file_of p.0.asked) vs
+
+-- accepted in this period at a place of a file, it is held in it at each later place
+abbrev pub IsHeldBehind : Transaction → ℕ → List Transaction → List Verdict → Type 0
+IsHeldBehind t period [] [] = Unit {0}
+IsHeldBehind t period (u ∷ us) (v ∷ vs) = (u ≡ t → v ≡ verdict.Accepted period → IsHeldIn t period us vs) × IsHeldBehind t period us vs
+IsHeldBehind t period _ _ = ⊥
+
+-- what is accepted once is held ever after
+pub record RepeatsHeld (rows : Rows) (exchanges : List Exchange) : Type 0 where
+  -- accepted before these exchanges, in each of them
+  pub known : (before after : List Exchange) (q : Exchange) (agent : ℕ) (t : Transaction) (period : ℕ) →
+      exchanges ≡ before ++ q ∷ after → HasAccepted rows agent t period → Holds q t period
+  -- accepted in one of them, in each later one
+  pub later : (before between after : List Exchange) (p q : Exchange) (t : Transaction) (period : ℕ) →
+      exchanges ≡ before ++ (p ∷ between ++ q ∷ after) → Accepts p t period → Holds q t period
+  -- and at each later place of the same file
+  pub behind : (before after : List Exchange) (p : Exchange) (t : Transaction) (period : ℕ) →
+      exchanges ≡ before ++ p ∷ after → Accepts p t period → IsHeldBehind t period (file_of p.0.asked) (verdicts_of p)
+
+abbrev pub RunsHoldRepeats : Type 0
+RunsHoldRepeats = (office : List ℕ) (rows : Rows) (exchanges : List Exchange) (new : Rows) → Run office rows exchanges new → AllFit exchanges → Sound rows → RepeatsHeld rows exchanges
+
 -- ---- one owner
 
 -- two accepted transactions of one document number are of one agent
@@ -189,3 +242,22 @@ ReportsStay =
     (settlement_answer (Some code) new ≡ settlement_answer (Some code) rows)
     × ((agent : ℕ) → statement_answer agent (ledger_of agent new) (Some code) ≡ statement_answer agent (ledger_of agent rows) (Some code))
     × ((airline : ℕ) → hot_answer airline (airline_ledger_of airline new) (Some code) ≡ hot_answer airline (airline_ledger_of airline rows) (Some code))
+
+-- ---- reports within a run
+
+-- a request for a settlement, a statement or a HOT file that is answered with it
+abbrev pub shows_report : Asked → Answer → Bool
+shows_report (ByOffice (AskSettlement period)) (Settlement report) = true
+shows_report (ByAgent code (AskStatement period)) (Statement agent report) = true
+shows_report (ByAirline code (AskHot period)) (Hot airline rows) = true
+shows_report _ _ = false
+
+-- once it is shown, each later request for it has the same answer, but for 503 and for 403 to a token that is not the caller's
+abbrev pub ShownReportsStay : List Exchange → Type 0
+ShownReportsStay exchanges =
+    (before between after : List Exchange) (p q : Exchange) (shown answer : Answer) →
+    exchanges ≡ before ++ (p ∷ between ++ q ∷ after) → p.1 ≡ Some shown → shows_report p.0.asked shown ≡ true →
+    q.0.asked ≡ p.0.asked → q.1 ≡ Some answer → (answer ≡ shown) ⊎ (answer ≡ Refused Forbidden)
+
+abbrev pub RunsShowTheSame : Type 0
+RunsShowTheSame = (office : List ℕ) (rows : Rows) (exchanges : List Exchange) (new : Rows) → Run office rows exchanges new → AllFit exchanges → Sound rows → ShownReportsStay exchanges

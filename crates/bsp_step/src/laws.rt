@@ -1,6 +1,6 @@
 //! Laws of requests and their answers.
 
-ghost use Rattle.bsp_step.specs.Laws.{AgentIsIsolated, AgentsAreAlike, AirlineIsAnsweredByLedger, AirlineIsIsolated, AirlineLedgerIsOfSights, AirlinesAreAlike, ClosedPeriodsStay, FilesAreTaken, LedgerIsOfSights, NumbersHaveOneOwner, OthersAreForbidden, OwnIsAnsweredByLedger, ReadRequestsFit, RefusalsChangeNothing, RepeatsAreHeld, ReportsStay, RunIsSound, StepIsSound};
+ghost use Rattle.bsp_step.specs.Laws.{AgentIsIsolated, AgentsAreAlike, AirlineIsAnsweredByLedger, AirlineIsIsolated, AirlineLedgerIsOfSights, AirlinesAreAlike, ClosedPeriodsStay, FilesAreTaken, LedgerIsOfSights, NumbersHaveOneOwner, OthersAreForbidden, OwnIsAnsweredByLedger, ReadRequestsFit, RefusalsChangeNothing, RepeatsAreHeld, ReportsStay, RunIsSound, RunsHoldRepeats, RunsShowTheSame, StepIsSound};
 ghost use Rattle.bsp_step.specs.Texts.{AnswersAreOneText};
 
 /// Any request keeps sound rows sound, whatever it is answered, and so does any run of requests; and an
@@ -33,9 +33,12 @@ pub fn answers_are_one_text()
 
 /// What a file has accepted stays accepted over any run of requests, after a CANX too, and whenever its
 /// agent or the office reports it again, at any place of a file, it is held in the period of its acceptance.
+/// So once a reply of a run has accepted a transaction, it is held at each later place of the same file, and by
+/// each later reply of verdicts to its agent, whatever its token by then, or to the office.
 pub fn repeats_are_held()
     ensures taken { FilesAreTaken }
     ensures held { RepeatsAreHeld }
+    ensures runs { RunsHoldRepeats }
 {}
 
 /// In sound rows the accepted transactions of a document number are of one agent.
@@ -55,8 +58,11 @@ pub fn airline_isolation()
 {}
 
 /// A closed period stays as it is over any run of requests: its days, its items and the memos billed in it;
-/// and so do the settlement, each agent's statement and each airline's HOT file of it.
+/// and so do the settlement, each agent's statement and each airline's HOT file of it. Once a run has shown one
+/// of these, each later request for it has the same answer, but for 503 and for 403 to a token that is not the
+/// caller's.
 pub fn closed_periods_stay()
     ensures rows { ClosedPeriodsStay }
     ensures reports { ReportsStay }
+    ensures runs { RunsShowTheSame }
 {}
