@@ -13,6 +13,8 @@ pub mod Held
 pub mod RunParts
 pub mod HeldInRuns
 pub mod FitLemmas
+pub mod EachIsRead
+pub mod RequestsRead
 pub mod Closed
 pub mod ClosedKept
 pub mod Reports

@@ -21,7 +21,7 @@ use Rattle.bsp_step.specs.AirlineView.{airline_all, airline_ledger_answers, airl
 use Rattle.bsp_step.specs.Answers.{Answer, is_done, verdicts_in}
 use Rattle.bsp_step.specs.Answers.Answer.{Verdicts, Statement, Settlement, Hot, Refused}
 use Rattle.bsp_step.specs.Ledger.{agent_of, ledger_answer, ledger_of, own_verdicts, statement_answer}
-use Rattle.bsp_step.specs.Requests.{AgentRequest, AirlineRequest, Asked, IsAsked, Request}
+use Rattle.bsp_step.specs.Requests.{AgentRequest, AirlineRequest, Asked, FileRead, IsAsked, IsFileOf, IsInMemory, Request}
 use Rattle.bsp_step.specs.Requests.AgentRequest.{AgentFile, AskStatement}
 use Rattle.bsp_step.specs.Requests.AirlineRequest.{AskHot}
 use Rattle.bsp_step.specs.Requests.Asked.{ByOffice, ByAgent, ByAirline}
@@ -30,6 +30,14 @@ use Rattle.bsp_step.specs.Step.{AreGroups, Fits, answer_of, bearer, is_token, of
 use Rattle.bsp_step.specs.View.{AllFit, Exchange, Run, is_own, ledger_all, ledger_answers, sights, told, view}
 
 -- ---- one request
+
+-- each body is the transactions of a RET file, or has a first fault
+abbrev pub EachFileIsRead : Type 0
+EachFileIsRead = (body : List ℕ) → (read : FileRead) × IsFileOf body read
+
+-- each call with the bytes of its body is read as some request
+abbrev pub EachRequestIsRead : Type 0
+EachRequestIsRead = (asking : Asking (List ℕ)) (body : List ℕ) → IsInMemory asking body → (asked : Asked) × IsAsked asking body asked
 
 -- what a call and the bytes of its body are read as: each transaction of its file is a group of the RET format
 abbrev pub ReadRequestsFit : Type 0

@@ -1,8 +1,8 @@
 -- Requests with their bodies read, and how they are read from a call's path and bytes.
-use Rattle.std.specs.Prelude.{◌≡◌, ℕ, List, Option, Result, Ok, Err, Some}
+use Rattle.std.specs.Prelude.{◌≡◌, ℕ, ◌<◌, ◌^◌, List, length, Option, Result, Ok, Err, Some}
 use Rattle.std.specs.Result.{result_map_both}
 use Rattle.bsp_fields.specs.CivilDay.{CivilDay}
-use Rattle.bsp_calendar.specs.PlanDocument.{plan_data, plan_reading}
+use Rattle.bsp_calendar.specs.PlanDocument.{PlanData, plan_data, plan_reading}
 use Rattle.bsp_calendar.specs.declared.entries.PlanText.{PlanText}
 use Rattle.bsp_calendar.specs.declared.fault.PlanFault.{PlanFault}
 use Rattle.bsp_records.specs.Lines.{lines}
@@ -126,3 +126,15 @@ IsAsked (asking.OtherMethod methods) body asked = asked ≡ OtherMethod
 IsAsked (asking.Call (call.Office of_office)) body asked = (request : OfficeRequest) × IsOfficeRequest of_office body request × (asked ≡ ByOffice request)
 IsAsked (asking.Call (call.Agent code of_agent)) body asked = (request : AgentRequest) × IsAgentRequest of_agent body request × (asked ≡ ByAgent code request)
 IsAsked (asking.Call (call.Airline code of_airline)) body asked = (request : AirlineRequest) × IsAirlineRequest of_airline body request × (asked ≡ ByAirline code request)
+
+-- ---- plan texts that memory can hold
+
+-- no list of what the text says has 2^63 entries, more than any memory holds
+abbrev pub IsPlanInMemory : List ℕ → Type 0
+IsPlanInMemory body =
+    (said : PlanData) → plan_reading body ≡ Ok said → (length said.airlines < 2 ^ 63) × (length said.rates < 2 ^ 63) × (length said.periods < 2 ^ 63)
+
+-- a body that is to be a plan text is one of these; of another body nothing is asked
+abbrev pub IsInMemory : Asking (List ℕ) → List ℕ → Type 0
+IsInMemory (asking.Call (call.Office office.Plan)) body = IsPlanInMemory body
+IsInMemory _ body = Unit {0}

@@ -1,7 +1,14 @@
 //! Laws of requests and their answers.
 
-ghost use Rattle.bsp_step.specs.Laws.{AgentIsIsolated, AgentsAreAlike, AirlineIsAnsweredByLedger, AirlineIsIsolated, AirlineLedgerIsOfSights, AirlinesAreAlike, ClosedPeriodsStay, FilesAreTaken, LedgerIsOfSights, NumbersHaveOneOwner, OthersAreForbidden, OwnIsAnsweredByLedger, ReadRequestsFit, RefusalsChangeNothing, RepeatsAreHeld, ReportsStay, RunIsSound, RunsHoldRepeats, RunsShowTheSame, StepIsSound};
+ghost use Rattle.bsp_step.specs.Laws.{AgentIsIsolated, AgentsAreAlike, AirlineIsAnsweredByLedger, AirlineIsIsolated, AirlineLedgerIsOfSights, AirlinesAreAlike, ClosedPeriodsStay, EachFileIsRead, EachRequestIsRead, FilesAreTaken, LedgerIsOfSights, NumbersHaveOneOwner, OthersAreForbidden, OwnIsAnsweredByLedger, ReadRequestsFit, RefusalsChangeNothing, RepeatsAreHeld, ReportsStay, RunIsSound, RunsHoldRepeats, RunsShowTheSame, StepIsSound};
 ghost use Rattle.bsp_step.specs.Texts.{AnswersAreOneText};
+
+/// Each body has a reading as a RET file, its transactions or its first fault; and so each method, target and
+/// body is read as some request. Of a plan text no list may have 2^63 entries, more than any memory holds.
+pub fn requests_are_read()
+    ensures files { EachFileIsRead }
+    ensures requests { EachRequestIsRead }
+{}
 
 /// Any request keeps sound rows sound, whatever it is answered, and so does any run of requests; and an
 /// answer that is neither a done change nor a list of verdicts leaves the rows as they are: so does every

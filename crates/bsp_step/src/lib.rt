@@ -9,5 +9,5 @@ mod laws;
 
 pub use laws::{
     agent_isolation, airline_isolation, answers_are_one_text, closed_periods_stay,
-    numbers_have_one_owner, repeats_are_held, steps_are_sound,
+    numbers_have_one_owner, repeats_are_held, requests_are_read, steps_are_sound,
 };
