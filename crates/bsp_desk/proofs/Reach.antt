@@ -8,8 +8,10 @@ use Rattle.bsp_rows.specs.Sound.{Sound}
 use Rattle.bsp_step.proofs.AirlineIsolated.{airline_isolated}
 use Rattle.bsp_step.proofs.ClosedKept.{closed_stays}
 use Rattle.bsp_step.proofs.Held.{one_owner, repeats_are_held}
+use Rattle.bsp_step.proofs.HeldInRuns.{runs_hold}
 use Rattle.bsp_step.proofs.Isolated.{isolated}
 use Rattle.bsp_step.proofs.Reports.{reports_stay}
+use Rattle.bsp_step.proofs.ShownInRuns.{runs_show}
 use Rattle.bsp_step.specs.Requests.{Request as Reading}
 use Rattle.bsp_step.specs.Step.{Fits, answer_of}
 use Rattle.bsp_step.specs.View.{AllFit, Exchange, IsAnswered, Run, rows_replied}
@@ -125,4 +127,6 @@ ran office rows es new run fits sound after = record {
   periods = λ code q closed.
       let h = reports_stay office rows es new code q run fits sound closed in
       (closed_stays office rows es new code q run fits sound closed, h.0, h.1, h.2);
+  held = runs_hold office rows es new run fits sound;
+  shown = runs_show office rows es new run fits sound;
 }

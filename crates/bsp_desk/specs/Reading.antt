@@ -2,8 +2,8 @@
 use Rattle.std.specs.Prelude.{◌≡◌, ℕ, List, [], ◌∷◌, Option, Some, None}
 use Rattle.std.specs.Borrow.{Bor}
 use Rattle.bsp_routes.specs.Calls.{asking_text}
-use Rattle.bsp_serving.specs.Contents.{IsAskedWith}
-use Rattle.bsp_step.specs.Requests.{Request as Reading}
+use Rattle.bsp_serving.specs.Contents.{IsAskedWith, IsWhole, bytes_in}
+use Rattle.bsp_step.specs.Requests.{IsInMemory, Request as Reading}
 use Rattle.bsp_desk.specs.declared.request.Request.{Request}
 
 abbrev pub token_text : Option (Bor (List ℕ)) → Option (List ℕ)
@@ -19,3 +19,8 @@ abbrev pub AreRead : List Request → List Reading → Type 0
 AreRead [] [] = Unit {0}
 AreRead (request ∷ requests) (reading ∷ readings) = IsRead request reading × AreRead requests readings
 AreRead _ _ = ⊥
+
+-- each request that comes in is read as some request
+abbrev pub EachIsRead : Type 0
+EachIsRead =
+    (request : Request) → IsWhole request.content → IsInMemory (asking_text request.call) (bytes_in request.content) → (reading : Reading) × IsRead request reading

@@ -12,7 +12,7 @@ use Rattle.bsp_rules.specs.declared.rows.Item.{Item}
 use Rattle.bsp_step.specs.AirlineLedger.{airline_ledger_of, hot_answer}
 use Rattle.bsp_step.specs.AirlineView.{airline_all, airline_ledger_answers, airline_told, airline_view}
 use Rattle.bsp_step.specs.Answers.{Answer}
-use Rattle.bsp_step.specs.Laws.{HasAccepted, IsHeldIn, IsPeriodKept}
+use Rattle.bsp_step.specs.Laws.{HasAccepted, IsHeldIn, IsPeriodKept, RepeatsHeld, ShownReportsStay}
 use Rattle.bsp_step.specs.Ledger.{ledger_of, own_verdicts, statement_answer}
 use Rattle.bsp_step.specs.Requests.{Request as Reading}
 use Rattle.bsp_step.specs.Step.{AreGroups, office_verdicts, settlement_answer}
@@ -76,6 +76,10 @@ module _ (rows : Rows) (exchanges : List Exchange) (new : Rows) where
     pub airlines : (airline : ℕ) → AirlineAlone airline
     pub repeats : (agent : ℕ) (t : Transaction) (period : ℕ) → RepeatHeld agent t period
     pub periods : (code : ℕ) (q : Period) → PeriodStays code q
+    -- what was accepted before an exchange, in this run too, that exchange holds, and so do later places of one file
+    pub held : RepeatsHeld rows exchanges
+    -- once the run has shown a settlement, a statement or a HOT file, each later request for it has the same answer
+    pub shown : ShownReportsStay exchanges
 
 -- a book ran so: it holds the rows in the end, where it has not failed
 abbrev pub RanOver : {B : Type 0} (m : Meaning B Rows) (new : B) → List ℕ → Rows → List Reading → List Reply → Type 0

@@ -28,7 +28,7 @@ use Rattle.bsp_step.specs.Answers.{is_done}
 use Rattle.bsp_step.specs.Ledger.{review_of}
 use Rattle.bsp_step.specs.Requests.{IsPlanOf, PlanRead}
 use Rattle.bsp_step.specs.Requests.OfficeRequest.{ClosePeriod, PublishPlan, SetBusinessDay}
-use Rattle.bsp_step.specs.Step.{office_answer, told_plan, with_close}
+use Rattle.bsp_step.specs.Step.{office_answer, outcome_answer, with_close}
 use Rattle.bsp_step.specs.Texts.{Says}
 use Rattle.bsp_desk_office.specs.Billings.{with_billings}
 
@@ -51,22 +51,22 @@ held_plan p (SetDay day) plan s held h = sym (day_set p day plan h).1 ∙ ap (λ
 held_plan p (Close code) plan s held h = sym (closed_by p code plan true held h)
 
 left_by : (request : Request) (rows : Rows) → Sound rows → (held : Bool) → is_held rows.published request ≡ held → (wanted : Result Published PlanFault) → outcome rows.published request ≡ wanted →
-    record rows { published = plan_left rows.published wanted } ≡ cond (is_done (told_plan (change_or_fault held wanted))) (record rows { published = plan_left rows.published wanted }) rows
+    record rows { published = plan_left rows.published wanted } ≡ cond (is_done (outcome_answer (change_or_fault held wanted))) (record rows { published = plan_left rows.published wanted }) rows
 left_by request rows s true held (Ok plan) h = ap (λ (p : Published). record rows { published = p }) (held_plan rows.published request plan s.plan held h)
 left_by request rows s false held (Ok plan) h = refl
 left_by request rows s held is (Err fault) h = refl
 
 -- what is held or refused leaves the rows
-pub left_after : (request : Request) (rows : Rows) → Sound rows → after_request request rows ≡ cond (is_done (told_plan (request_answer request rows))) (after_request request rows) rows
+pub left_after : (request : Request) (rows : Rows) → Sound rows → after_request request rows ≡ cond (is_done (outcome_answer (request_answer request rows))) (after_request request rows) rows
 left_after request rows s = left_by request rows s (is_held rows.published request) refl (outcome rows.published request) refl
 
 -- ---- the business day
 
 pub day_served : (P : Rows → Type 0) (rows : Rows) (day : CivilDay) (answered : Result Change PlanFault) (message : Message) → Sound rows →
-    answered ≡ request_answer (SetDay day) rows → Says (told_plan answered) message → P (after_request (SetDay day) rows) →
+    answered ≡ request_answer (SetDay day) rows → Says (outcome_answer answered) message → P (after_request (SetDay day) rows) →
     Says (office_answer (SetBusinessDay (Some day)) rows) message × P (office_after (SetBusinessDay (Some day)) rows)
 day_served P rows day answered message s is says h =
-    (subst (λ (r : Result Change PlanFault). Says (told_plan r) message) is says, subst P (left_after (SetDay day) rows s) h)
+    (subst (λ (r : Result Change PlanFault). Says (outcome_answer r) message) is says, subst P (left_after (SetDay day) rows s) h)
 
 -- ---- a text
 
@@ -99,13 +99,13 @@ value_of (Err fault) wanted h = absurd (cc h)
 -- a text that is read
 pub text_served : (P : Rows → Type 0) (rows : Rows) (bytes : List ℕ) (read : PlanRead) (text : PlanText) (answered : Result Change PlanFault) (message : Message) → Sound rows →
     IsPlanOf bytes read → plan_reading bytes ≡ Ok (plan_data text) →
-    answered ≡ request_answer (Publish text) rows → Says (told_plan answered) message → P (after_request (Publish text) rows) →
+    answered ≡ request_answer (Publish text) rows → Says (outcome_answer answered) message → P (after_request (Publish text) rows) →
     Says (office_answer (PublishPlan read) rows) message × P (office_after (PublishPlan read) rows)
 text_served P rows bytes read text answered message s of is answer says h =
     let (other, value, same) = value_of read (plan_data text) (of ∙ is) in
     let Q : PlanRead → Type 0 = λ r. Says (office_answer (PublishPlan r) rows) message × P (office_after (PublishPlan r) rows) in
     subst Q (sym value) (
-      subst (λ (r : Result Change PlanFault). Says (told_plan r) message) (answer ∙ sym (same_answer rows other text same)) says,
+      subst (λ (r : Result Change PlanFault). Says (outcome_answer r) message) (answer ∙ sym (same_answer rows other text same)) says,
       subst P (sym (same_left rows other text same) ∙ left_after (Publish other) rows s) h,
     )
 
@@ -135,17 +135,17 @@ not_done P rows after b h at = subst (λ c. P (cond c after rows)) (sym h) at
 
 -- a close that is held or refused
 pub close_kept : (P : Rows → Type 0) (rows : Rows) (period : ℕ) (answered : Result Change PlanFault) (message : Message) → Sound rows →
-    answered ≡ request_answer (Close period) rows → is_done (told_plan answered) ≡ false → Says (told_plan answered) message → P (after_request (Close period) rows) →
+    answered ≡ request_answer (Close period) rows → is_done (outcome_answer answered) ≡ false → Says (outcome_answer answered) message → P (after_request (Close period) rows) →
     Says (office_answer (ClosePeriod (Some period)) rows) message × P (office_after (ClosePeriod (Some period)) rows)
 close_kept P rows period answered message s is undone says h =
-    let none : is_done (told_plan (request_answer (Close period) rows)) ≡ false = sym (ap (λ r. is_done (told_plan r)) is) ∙ undone in
+    let none : is_done (outcome_answer (request_answer (Close period) rows)) ≡ false = sym (ap (λ r. is_done (outcome_answer r)) is) ∙ undone in
     let same : after_request (Close period) rows ≡ rows = left_after (Close period) rows s ∙ ap (λ b. cond b (after_request (Close period) rows) rows) none in
-    (subst (λ (r : Result Change PlanFault). Says (told_plan r) message) is says, not_done P rows (with_close period rows) (is_done (told_plan (request_answer (Close period) rows))) none (subst P same h))
+    (subst (λ (r : Result Change PlanFault). Says (outcome_answer r) message) is says, not_done P rows (with_close period rows) (is_done (outcome_answer (request_answer (Close period) rows))) none (subst P same h))
 
 -- a close that is done, with its billings
 pub close_done : (P : Rows → Type 0) (rows : Rows) (period : ℕ) (answered : Result Change PlanFault) (message : Message) →
-    answered ≡ request_answer (Close period) rows → is_done (told_plan answered) ≡ true → Says (told_plan answered) message → P (with_billings period (after_request (Close period) rows)) →
+    answered ≡ request_answer (Close period) rows → is_done (outcome_answer answered) ≡ true → Says (outcome_answer answered) message → P (with_billings period (after_request (Close period) rows)) →
     Says (office_answer (ClosePeriod (Some period)) rows) message × P (office_after (ClosePeriod (Some period)) rows)
 close_done P rows period answered message is done says h =
-    let all : is_done (told_plan (request_answer (Close period) rows)) ≡ true = sym (ap (λ r. is_done (told_plan r)) is) ∙ done in
-    (subst (λ (r : Result Change PlanFault). Says (told_plan r) message) is says, subst (λ b. P (cond b (with_close period rows) rows)) (sym all) (subst P (closed_with period rows) h))
+    let all : is_done (outcome_answer (request_answer (Close period) rows)) ≡ true = sym (ap (λ r. is_done (outcome_answer r)) is) ∙ done in
+    (subst (λ (r : Result Change PlanFault). Says (outcome_answer r) message) is says, subst (λ b. P (cond b (with_close period rows) rows)) (sym all) (subst P (closed_with period rows) h))

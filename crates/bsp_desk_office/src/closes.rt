@@ -7,7 +7,7 @@ ghost use Rattle.bsp_messages.specs.Bodies.{body_of, period_form};
 ghost use Rattle.bsp_serving.specs.Serves.{EndsOnFault, Finds, ServesOffice};
 ghost use Rattle.bsp_step.specs.Answers.{is_done};
 ghost use Rattle.bsp_step.specs.Ledger.{review_of};
-ghost use Rattle.bsp_step.specs.Step.{told_plan};
+ghost use Rattle.bsp_step.specs.Step.{outcome_answer};
 ghost use Rattle.bsp_step.specs.Requests.OfficeRequest.{ClosePeriod};
 
 use crate::bodies::unread;
@@ -22,7 +22,7 @@ use std::alloc::Global;
 
 /// Whether a change of the plan is done.
 fn is_done(outcome: Result<Change, PlanFault>) -> bool
-    ensures { result ≡ is_done (told_plan outcome) }
+    ensures { result ≡ is_done (outcome_answer outcome) }
 {
     matches!(outcome, Ok(Change::Done))
 }

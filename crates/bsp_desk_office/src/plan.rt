@@ -6,7 +6,7 @@ ghost use Rattle.bsp_messages.specs.Bodies.{body_of, day_form};
 ghost use Rattle.bsp_serving.specs.Serves.{EndsOnFault, ServesOffice};
 ghost use Rattle.bsp_step.specs.Requests.{IsPlanOf, PlanRead};
 ghost use Rattle.bsp_step.specs.Requests.OfficeRequest.{PublishPlan, SetBusinessDay};
-ghost use Rattle.bsp_step.specs.Step.{told_plan};
+ghost use Rattle.bsp_step.specs.Step.{outcome_answer};
 ghost use Rattle.bsp_step.specs.Texts.{Says};
 
 use crate::bodies::unread;
@@ -19,7 +19,7 @@ use std::alloc::Global;
 
 /// What the plan answers, as a message.
 pub(crate) fn plan_answer(outcome: Result<Change, PlanFault>) -> Answer
-    ensures { Says (told_plan outcome) result }
+    ensures { Says (outcome_answer outcome) result }
 {
     match outcome {
         Ok(change) => Answer::Changed(change),

@@ -1,1 +1,2 @@
 -- Lemmas of this crate.
+pub mod ContentsRead

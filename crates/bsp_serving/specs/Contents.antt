@@ -1,5 +1,6 @@
 -- How a call and the content of a request are read as a request.
 use Rattle.std.specs.Prelude.{◌≡◌, ℕ, List, [], Ok, Err}
+use Rattle.bsp_ret.specs.Ret.{HasLines}
 use Rattle.bsp_ret_writer.specs.Writing.{HaveContents}
 use Rattle.bsp_routes.specs.declared.asking.Asking.{Asking}
 use Rattle.bsp_routes.specs.declared.asking.Asking.TheVariants as asking
@@ -10,7 +11,7 @@ use Rattle.bsp_routes.specs.declared.call.AgentCall.{AgentCall}
 use Rattle.bsp_routes.specs.declared.call.AgentCall.TheVariants as agent
 use Rattle.bsp_serving.specs.declared.content.Content.{Content}
 use Rattle.bsp_serving.specs.declared.content.Content.TheVariants.{Bytes, File, Fault}
-use Rattle.bsp_step.specs.Requests.{AgentRequest, Asked, FileRead, IsAgentRequest, IsAsked, IsFileOf, IsOfficeRequest, OfficeRequest}
+use Rattle.bsp_step.specs.Requests.{AgentRequest, Asked, FileRead, IsAgentRequest, IsAsked, IsFileOf, IsInMemory, IsOfficeRequest, OfficeRequest}
 use Rattle.bsp_step.specs.Requests.AgentRequest.{AgentFile}
 use Rattle.bsp_step.specs.Requests.Asked.{ByAgent, ByOffice}
 use Rattle.bsp_step.specs.Requests.OfficeRequest.{OfficeFile}
@@ -44,3 +45,14 @@ abbrev pub IsAskedWith : Asking (List ℕ) → Content → Asked → Type 0
 IsAskedWith (asking.Call (call.Office of_office)) content asked = (request : OfficeRequest) × IsOfficeCall of_office content request × (asked ≡ ByOffice request)
 IsAskedWith (asking.Call (call.Agent code of_agent)) content asked = (request : AgentRequest) × IsAgentCall of_agent content request × (asked ≡ ByAgent code request)
 IsAskedWith asking content asked = IsAsked asking (bytes_in content) asked
+
+-- what a reader gave as a file is one, as each `RetFile` is
+abbrev pub IsWhole : Content → Type 0
+IsWhole (Bytes bytes) = Unit {0}
+IsWhole (File file) = HasLines file.now
+IsWhole (Fault fault) = Unit {0}
+
+-- each call with its content is read as some request
+abbrev pub EachContentIsRead : Type 0
+EachContentIsRead =
+    (asking : Asking (List ℕ)) (content : Content) → IsWhole content → IsInMemory asking (bytes_in content) → (asked : Asked) × IsAskedWith asking content asked

@@ -1,5 +1,5 @@
 ghost use Rattle.std.specs.Prelude.{◌≡◌};
-ghost use Rattle.bsp_serving.specs.Contents.{bytes_in};
+ghost use Rattle.bsp_serving.specs.Contents.{EachContentIsRead, bytes_in};
 
 use bsp_ret::{RetFault, RetFile};
 
@@ -25,3 +25,9 @@ impl<'r> Content<'r> {
         }
     }
 }
+
+/// Each call with its content is read as some request of `bsp_step`. What a reader gave as a file is to be one, as
+/// each [`RetFile`] is, and of a plan text no list may have 2^63 entries, more than any memory holds.
+pub fn contents_are_read()
+    ensures { EachContentIsRead }
+{}

@@ -25,7 +25,7 @@ use Rattle.bsp_step.specs.AirlineLedger.{AirlineLedger, airline_ledger_of, count
 use Rattle.bsp_step.specs.Answers.{is_done}
 use Rattle.bsp_step.specs.Answers.Answer.{Changed, Refused}
 use Rattle.bsp_step.specs.Ledger.{review_of}
-use Rattle.bsp_step.specs.Step.{issued_to, told_plan, with_close}
+use Rattle.bsp_step.specs.Step.{issued_to, outcome_answer, with_close}
 use Rattle.bsp_step.proofs.Seen.{free_key, issue_free, of_its_airline}
 use Rattle.bsp_step.proofs.Invariant.{IsKept}
 
@@ -69,10 +69,10 @@ module _ (P : Rows → Type 0) (kept : IsKept P) where
   closed_by rows code m s unclosed h None is known = absurd (cc known)
   closed_by rows code m s unclosed h (Some terms) is known = kept.closed rows code m terms s unclosed h is
 
-  close_done : (rows : Rows) (code : ℕ) → P rows → (held : Bool) (o : Result Published PlanFault) → is_closed rows.published code ≡ held → closing rows.published code ≡ o → is_done (told_plan (change_or_fault held o)) ≡ true → P (after_close code (plan_left rows.published o) (review_of rows.published.terms) rows)
+  close_done : (rows : Rows) (code : ℕ) → P rows → (held : Bool) (o : Result Published PlanFault) → is_closed rows.published code ≡ held → closing rows.published code ≡ o → is_done (outcome_answer (change_or_fault held o)) ≡ true → P (after_close code (plan_left rows.published o) (review_of rows.published.terms) rows)
   close_done rows code s true (Ok m) c h done = absurd (cc done)
   close_done rows code s false (Ok m) c h done = closed_by rows code m s c h rows.published.terms refl (close_terms rows code m (kept.sound rows s) c h)
   close_done rows code s held (Err fault) c h done = absurd (cc done)
 
-  pub closed_keeps : (rows : Rows) (code : ℕ) → P rows → is_done (told_plan (change_or_fault (is_closed rows.published code) (closing rows.published code))) ≡ true → P (with_close code rows)
+  pub closed_keeps : (rows : Rows) (code : ℕ) → P rows → is_done (outcome_answer (change_or_fault (is_closed rows.published code) (closing rows.published code))) ≡ true → P (with_close code rows)
   closed_keeps rows code s done = close_done rows code s (is_closed rows.published code) (closing rows.published code) refl refl done

@@ -20,7 +20,7 @@ use Rattle.bsp_rows.specs.Rows.{Rows, memo_cmp, agent_token, airline_token}
 use Rattle.bsp_rows.proofs.KeyOrders.{memo_exact}
 use Rattle.bsp_rows.proofs.KeyOrders.{memo_total}
 use Rattle.bsp_rows.proofs.MapLemmas.{same_key}
-use Rattle.bsp_step.specs.Ledger.{Ledger, ledger_of, ledger_answer, ledger_after_request, ledger_acted, memo_answer, memo_named, told_memo, review_of}
+use Rattle.bsp_step.specs.Ledger.{Ledger, ledger_of, ledger_answer, ledger_after_request, ledger_acted, memo_answer, memo_named, action_answer, review_of}
 use Rattle.bsp_step.specs.Step.{is_token, answer_of, asked_answer, office_answer, to_agent, to_airline, rows_after, asked_after, office_done, filed_by_office, filed_by_agent, agent_done, after_file, airline_done, by_airline, Owner, bearer, reporter, registered_as, allotted, withdrawn, issued_to, with_action}
 use Rattle.bsp_step.specs.View.{Sight, ledger_all, sights, answered_sights, office_sights, filed_sights, file_sights, airline_sights, of_airline, action_sights, is_agent, if_own}
 use Rattle.bsp_step.specs.View.Sight.{Own, Registered, Allotted, Withdrew, Issued, Acted}
@@ -130,7 +130,7 @@ insert_step exact m k v h q false is = refl
 pub insert_same : {K X : Type 0} {R : K → K → Ordering} (o : IsTotalOrder R) (exact : IsAntisymmetric R) (m : FinMap R X) (k : K) (v : X) → get m k ≡ Some v → insert m k v ≡ m
 insert_same {R = R} o exact m k v h = same_map o exact _ _ (λ q. get-insert o m k v q ∙ insert_step exact m k v h q (eq_by_cmp R q k) refl)
 
-left_alone_by : (action : Action) (memo : MemoFields) (r : Result Change MemoFault) → is_done (told_memo r) ≡ false → left_by r action memo ≡ memo
+left_alone_by : (action : Action) (memo : MemoFields) (r : Result Change MemoFault) → is_done (action_answer r) ≡ false → left_by r action memo ≡ memo
 left_alone_by action memo (Ok Done) h = absurd (cc h)
 left_alone_by action memo (Ok Held) h = refl
 left_alone_by action memo (Err fault) h = refl

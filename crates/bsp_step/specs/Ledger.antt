@@ -174,14 +174,14 @@ abbrev pub review_of : Option Terms → ℕ
 review_of None = 0
 review_of (Some terms) = terms.review_days
 
-abbrev pub told_memo : Result Change MemoFault → Answer
-told_memo (Ok change) = Changed change
-told_memo (Err fault) = Refused (refusal.Memo fault)
+abbrev pub action_answer : Result Change MemoFault → Answer
+action_answer (Ok change) = Changed change
+action_answer (Err fault) = Refused (refusal.Memo fault)
 
 -- of an action on a memo that the caller has, or has not
 abbrev pub memo_answer : Action → Published → Option MemoFields → Answer
 memo_answer action p None = Refused (refusal.Memo NoSuchMemo)
-memo_answer action p (Some memo) = told_memo (answer_to memo action p.day (review_of p.terms))
+memo_answer action p (Some memo) = action_answer (answer_to memo action p.day (review_of p.terms))
 
 abbrev pub memo_named : NamedMemo → MemoKey
 memo_named body = record { airline = body.airline; document = body.document }

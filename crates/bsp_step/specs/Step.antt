@@ -52,21 +52,21 @@ is_token (Some own) (Some given) = bytes_eq own given
 
 -- ---- the office: the plan
 
-abbrev pub told_plan : Result Change PlanFault → Answer
-told_plan (Ok change) = Changed change
-told_plan (Err fault) = Refused (refusal.Plan fault)
+abbrev pub outcome_answer : Result Change PlanFault → Answer
+outcome_answer (Ok change) = Changed change
+outcome_answer (Err fault) = Refused (refusal.Plan fault)
 
 abbrev pub plan_answer : PlanRead → Rows → Answer
 plan_answer (Err fault) rows = Refused (refusal.Plan fault)
-plan_answer (Ok text) rows = told_plan (request_answer (Publish text) rows)
+plan_answer (Ok text) rows = outcome_answer (request_answer (Publish text) rows)
 
 abbrev pub day_answer : Option CivilDay → Rows → Answer
 day_answer None rows = Refused Malformed
-day_answer (Some day) rows = told_plan (request_answer (SetDay day) rows)
+day_answer (Some day) rows = outcome_answer (request_answer (SetDay day) rows)
 
 abbrev pub close_answer : Option ℕ → Rows → Answer
 close_answer None rows = Refused Malformed
-close_answer (Some period) rows = told_plan (request_answer (Close period) rows)
+close_answer (Some period) rows = outcome_answer (request_answer (Close period) rows)
 
 -- the period is closed, and each memo that the close admits is billed in it
 abbrev pub with_close : ℕ → Rows → Rows
