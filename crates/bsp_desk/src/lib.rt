@@ -8,6 +8,7 @@ mod agent;
 mod airline;
 mod caller;
 mod desk;
+mod laws;
 mod office;
 mod request;
 mod serve;
@@ -17,4 +18,5 @@ mod token;
 mod transaction;
 
 pub use desk::Desk;
+pub use laws::replies_are_alike;
 pub use request::Request;
