@@ -3,3 +3,4 @@ pub mod Known
 pub mod Fits
 pub mod Sent
 pub mod Reach
+pub mod Alike

@@ -17,7 +17,7 @@ use Rattle.bsp_step.specs.Step.{Fits, answer_of}
 use Rattle.bsp_step.specs.View.{AllFit, Exchange, IsAnswered, Run, rows_replied}
 use Rattle.bsp_desk.specs.Reading.{AreRead, IsRead}
 use Rattle.bsp_desk.specs.Replies.{Refuses, is_unavailable}
-use Rattle.bsp_desk.specs.Runs.{AreExchanges, IsReplied, Ran}
+use Rattle.bsp_desk.specs.Runs.{AreAnswered, AreExchanges, IsReplied, Ran}
 use Rattle.bsp_desk.specs.Steps.{Answers}
 use Rattle.bsp_desk.specs.declared.request.Request.{Request}
 use Rattle.bsp_desk.proofs.Fits.{read_fits}
@@ -59,6 +59,14 @@ fit_push : (es : List Exchange) (e : Exchange) → AllFit es → Fits e.0.asked 
 fit_push [] e h is = (is, tt)
 fit_push (p ∷ ps) e h is = (h.0, fit_push ps e h.1 is)
 
+-- one more request is answered, over the book that those before it left
+pub answered_push : {B : Type 0} (m : Meaning B Rows) (office : List ℕ) (requests : List Request) (replies : List Reply) (old mid new : B) (request : Request) (reply : Reply)
+    → AreAnswered m office old requests replies mid → Answers m mid new request office reply → AreAnswered m office old (requests ++ request ∷ []) (replies ++ reply ∷ []) new
+answered_push {B = B} m office [] [] old mid new request reply h is = (new, subst (λ (b : B). Answers m b new request office reply) h is, refl)
+answered_push m office [] (p ∷ ps) old mid new request reply h is = elim h [ ]
+answered_push m office (q ∷ qs) [] old mid new request reply h is = elim h [ ]
+answered_push m office (q ∷ qs) (p ∷ ps) old mid new request reply h is = (h.0, h.1, answered_push m office qs ps h.0 mid new request reply h.2 is)
+
 -- ---- what is reached
 
 -- a run of the requests, as they are read, and the rows that it leaves: `Held` is said of them while nothing has failed
@@ -82,10 +90,10 @@ module _ {B : Type 0} (m : Meaning B Rows) (mid new : B) (request : Request) (of
   unsent : Answers m mid new request office reply → IsRead request reading → m.trusts new → Before → is_unavailable reply.status ≡ true → After
   unsent answers is t h gone =
       let e : Exchange = (reading, None) in
-      (h.0 ++ e ∷ [], h.1, exchanges_push readings replies h.0 reading reply e h.2 refl gone, run_push office rows h.0 h.1 e h.3 tt, fit_push h.0 e h.4 (read_fits request reading is), h.5, holds)
+      (h.0 ++ e ∷ [], h.1, exchanges_push readings replies h.0 reading reply e h.2 refl (answers.unavailable gone), run_push office rows h.0 h.1 e h.3 tt, fit_push h.0 e h.4 (read_fits request reading is), h.5, holds)
     where
       by : m.has_failed new ≡ false → (b : Bool) → m.has_failed mid ≡ b → Refuses NoRoom reply ⊎ Refuses StoreFailed reply → m.holds new h.1 None
-      by fine true was k = absurd (let f = sym fine ∙ answers.failed.1 (answers.dead was).0 in cc)
+      by fine true was k = absurd (let f = sym fine ∙ answers.failed.1 (answers.after_failure was).0 in cc)
       by fine false was (inl full) = answers.full full reading is t h.1 h.5 (h.6 was)
       by fine false was (inr lost) = absurd (let f = sym fine ∙ answers.failed.1 lost in cc)
 
@@ -97,7 +105,7 @@ module _ {B : Type 0} (m : Meaning B Rows) (mid new : B) (request : Request) (of
   sent answers is t h here = go (m.has_failed mid) refl
     where
       go : (b : Bool) → m.has_failed mid ≡ b → After
-      go true was = absurd (let f = sym here ∙ ap is_unavailable (answers.dead was).0.status in cc)
+      go true was = absurd (let f = sym here ∙ ap is_unavailable (answers.after_failure was).0.status in cc)
       go false was =
           let e : Exchange = (reading, Some (answer_of office h.1 reading)) in
           let k = answers.kept here reading is t h.1 h.5 (h.6 was) in

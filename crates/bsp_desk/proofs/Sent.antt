@@ -1,5 +1,6 @@
--- What is owed of a request and its reply, by how the reply was made.
+-- What holds of a request and its reply, by how the reply was made.
 use Rattle.std.proofs.Common.{◌≡◌, inl, inr, ℕ, true, false, codes, List, [], None, Ok, Err, refl, sym, ap, subst, ◌∙◌, get_or, arith}
+use Rattle.std.specs.Borrow.{Bor}
 use Rattle.serde_json.proofs.OnLiterals.{serde_json_on_literals}
 use Rattle.serde_json.specs.Written.{compact_text}
 use Rattle.bsp_book.specs.Calls.{Meaning}
@@ -11,6 +12,8 @@ use Rattle.bsp_messages.specs.declared.refusal.RequestRefusal.TheVariants.{NoRoo
 use Rattle.bsp_messages.specs.declared.reply.Reply.{Reply}
 use Rattle.bsp_messages.specs.declared.status.Status.{Status}
 use Rattle.bsp_messages.specs.declared.status.Status.TheVariants as status
+use Rattle.bsp_routes.specs.declared.asking.Asking.TheVariants as asking
+use Rattle.bsp_routes.specs.declared.call.Call.{Call}
 use Rattle.bsp_rows.specs.Rows.{Rows}
 use Rattle.bsp_step.proofs.Runs.{sound_kept}
 use Rattle.bsp_step.proofs.Unchanged.{unchanged}
@@ -66,9 +69,9 @@ available status.MethodNotAllowed e = absurd (cc)
 available status.Conflict e = absurd (cc)
 available status.UnprocessableEntity e = absurd (cc)
 
--- ---- what is owed
+-- ---- a request of the office, of an agent or of an airline
 
-module _ {B : Type 0} (m : Meaning B Rows) (old new : B) (request : Request) (office : List ℕ) (reply : Reply) where
+module _ {B : Type 0} (m : Meaning B Rows) (old new : B) (request : Request) (asked : Call (Bor (List ℕ))) (is_call : request.call ≡ asking.Call asked) (office : List ℕ) (reply : Reply) where
   no_503 : {A : Type 0} → is_unavailable reply.status ≡ true → is_unavailable reply.status ≡ false → A
   no_503 e k = absurd (let f = sym e ∙ k in cc)
 
@@ -86,7 +89,9 @@ module _ {B : Type 0} (m : Meaning B Rows) (old new : B) (request : Request) (of
     full = λ e. no_503 (ap is_unavailable e.status) open_;
     failed = (λ e. absurd (let k = sym e ∙ fault.failed in cc), λ e. no_503 (ap is_unavailable e.status) open_);
     stop = λ e. no_503 (ap is_unavailable e.status) open_;
-    dead = λ e. absurd (let k = (fault.dead e).0 in cc);
+    after_failure = λ e. absurd (let k = (fault.dead e).0 in cc);
+    no_route = λ fine e. absurd (let k = sym is_call ∙ e in cc);
+    other_method = λ methods fine e. absurd (let k = sym is_call ∙ e in cc);
   }
 
   -- there is no room
@@ -101,7 +106,9 @@ module _ {B : Type 0} (m : Meaning B Rows) (old new : B) (request : Request) (of
     full = λ e. fault.full refl;
     failed = (λ e. absurd (let k = sym e ∙ fault.failed in cc), λ e. absurd (apart reply is_full e));
     stop = λ e. absurd (apart reply is_full e);
-    dead = λ e. absurd (let k = (fault.dead e).0 in cc);
+    after_failure = λ e. absurd (let k = (fault.dead e).0 in cc);
+    no_route = λ fine e. absurd (let k = sym is_call ∙ e in cc);
+    other_method = λ methods fine e. absurd (let k = sym is_call ∙ e in cc);
   }
 
   -- the store failed
@@ -116,5 +123,7 @@ module _ {B : Type 0} (m : Meaning B Rows) (old new : B) (request : Request) (of
     full = λ e. absurd (apart reply e is_broken);
     failed = (λ e. is_broken, λ e. fault.failed);
     stop = λ e f. fault.left refl f;
-    dead = λ e. (is_broken, (fault.dead e).1);
+    after_failure = λ e. (is_broken, (fault.dead e).1);
+    no_route = λ fine e. absurd (let k = sym is_call ∙ e in cc);
+    other_method = λ methods fine e. absurd (let k = sym is_call ∙ e in cc);
   }

@@ -5,3 +5,4 @@ pub mod Reading
 pub mod Replies
 pub mod Steps
 pub mod Runs
+pub mod Laws

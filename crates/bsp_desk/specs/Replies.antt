@@ -1,10 +1,11 @@
--- How an answer is sent as a reply, and the replies of 503.
-use Rattle.std.specs.Prelude.{Bool, true, false}
-use Rattle.bsp_messages.specs.Replies.{IsReply}
+-- How an answer is sent as a reply, what of it is read, and the replies of 503.
+use Rattle.std.specs.Prelude.{ℕ, Bool, true, false, List}
+use Rattle.bsp_messages.specs.Replies.{IsReply, body_bytes}
 use Rattle.bsp_messages.specs.declared.answer.Answer.{Answer as Message}
 use Rattle.bsp_messages.specs.declared.answer.Answer.TheVariants.{Refused}
 use Rattle.bsp_messages.specs.declared.refusal.RequestRefusal.{RequestRefusal}
 use Rattle.bsp_messages.specs.declared.reply.Reply.{Reply}
+use Rattle.bsp_messages.specs.declared.status.Media.{Media}
 use Rattle.bsp_messages.specs.declared.status.Status.{Status}
 use Rattle.bsp_messages.specs.declared.status.Status.TheVariants as status
 use Rattle.bsp_step.specs.Answers.{Answer}
@@ -17,6 +18,15 @@ IsSent answer reply = (message : Message) × Says answer message × IsReply mess
 -- the refusal's fixed reply
 abbrev pub Refuses : RequestRefusal → Reply → Type 0
 Refuses refusal reply = IsReply (Refused refusal) reply
+
+-- what a caller reads of a reply
+pub record ReplyRead : Type 0 where
+  pub status : Status
+  pub media : Media
+  pub bytes : List ℕ
+
+abbrev pub read_of : Reply → ReplyRead
+read_of reply = record { status = reply.status; media = reply.media; bytes = body_bytes reply.body }
 
 -- the status is 503
 abbrev pub is_unavailable : Status → Bool

@@ -1,8 +1,9 @@
 -- What a run of requests is, and what holds of all of it.
-use Rattle.std.specs.Prelude.{◌≡◌, ℕ, true, false, List, [], ◌∷◌, Option, Some, None}
+use Rattle.std.specs.Prelude.{◌≡◌, ◌⊎◌, ℕ, false, List, [], ◌∷◌, Option, Some, None}
 use Rattle.bsp_book.specs.Calls.{Meaning}
 use Rattle.bsp_calendar.specs.Published.{closed_period}
 use Rattle.bsp_calendar.specs.declared.entries.Period.{Period}
+use Rattle.bsp_messages.specs.declared.refusal.RequestRefusal.TheVariants.{NoRoom, StoreFailed}
 use Rattle.bsp_messages.specs.declared.reply.Reply.{Reply}
 use Rattle.bsp_ret_records.specs.declared.transactions.Transaction.{Transaction}
 use Rattle.bsp_rows.specs.Rows.{Rows, item_at}
@@ -17,13 +18,15 @@ use Rattle.bsp_step.specs.Ledger.{ledger_of, own_verdicts, statement_answer}
 use Rattle.bsp_step.specs.Requests.{Request as Reading}
 use Rattle.bsp_step.specs.Step.{AreGroups, office_verdicts, settlement_answer}
 use Rattle.bsp_step.specs.View.{AllFit, Exchange, Run, ledger_all, ledger_answers, told, view}
-use Rattle.bsp_desk.specs.Replies.{IsSent, is_unavailable}
+use Rattle.bsp_desk.specs.Replies.{IsSent, Refuses, is_unavailable}
+use Rattle.bsp_desk.specs.Steps.{Answers}
+use Rattle.bsp_desk.specs.declared.request.Request.{Request}
 
 -- ---- replies and answers
 
--- no answer is sent as a 503, and an answer as any other reply
+-- where there is no answer the reply is B01 or B03, and an answer is sent as any other reply
 abbrev pub IsReplied : Option Answer → Reply → Type 0
-IsReplied None reply = is_unavailable reply.status ≡ true
+IsReplied None reply = Refuses NoRoom reply ⊎ Refuses StoreFailed reply
 IsReplied (Some answer) reply = (is_unavailable reply.status ≡ false) × IsSent answer reply
 
 -- each request, as it is read, with the answer that its reply sends
@@ -31,6 +34,14 @@ abbrev pub AreExchanges : List Reading → List Reply → List Exchange → Type
 AreExchanges [] [] [] = Unit {0}
 AreExchanges (reading ∷ readings) (reply ∷ replies) (e ∷ es) = (e.0 ≡ reading) × IsReplied e.1 reply × AreExchanges readings replies es
 AreExchanges _ _ _ = ⊥
+
+-- ---- request by request
+
+-- by a chain of books from the first to the last, each request is answered over the book that the one before it left
+abbrev pub AreAnswered : {B : Type 0} (m : Meaning B Rows) → List ℕ → B → List Request → List Reply → B → Type 0
+AreAnswered m office old [] [] new = new ≡ old
+AreAnswered {B = B} m office old (request ∷ requests) (reply ∷ replies) new = (mid : B) × Answers m old mid request office reply × AreAnswered m office mid requests replies new
+AreAnswered m office old _ _ new = ⊥
 
 -- ---- what holds of a run
 
@@ -81,7 +92,14 @@ module _ (rows : Rows) (exchanges : List Exchange) (new : Rows) where
     -- once the run has shown a settlement, a statement or a HOT file, each later request for it has the same answer
     pub shown : ShownReportsStay exchanges
 
+-- a run with its replies, from sound rows, at an office with this token
+pub record RunReplied (office : List ℕ) (rows : Rows) (readings : List Reading) (replies : List Reply) : Type 0 where
+  pub begun : Sound rows
+  pub exchanges : List Exchange
+  pub left : Rows
+  pub sent : AreExchanges readings replies exchanges
+  pub laws : Ran rows exchanges left office
+
 -- a book ran so: it holds the rows in the end, where it has not failed
 abbrev pub RanOver : {B : Type 0} (m : Meaning B Rows) (new : B) → List ℕ → Rows → List Reading → List Reply → Type 0
-RanOver m new office rows readings replies =
-    (exchanges : List Exchange) × (left : Rows) × AreExchanges readings replies exchanges × Ran rows exchanges left office × (m.has_failed new ≡ false → m.holds new left None)
+RanOver m new office rows readings replies = (run : RunReplied office rows readings replies) × (m.has_failed new ≡ false → m.holds new run.left None)

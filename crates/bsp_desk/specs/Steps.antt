@@ -1,10 +1,12 @@
--- What one request makes of a book, which is at rest before and after.
+-- What one request makes of a book, in which no transaction is open before and after.
 use Rattle.std.specs.Prelude.{◌≡◌, ◌⊎◌, ◌↔◌, ℕ, true, false, List, [], None, Result, IfOk}
 use Rattle.bsp_book.specs.Calls.{Faults, Meaning}
 use Rattle.bsp_book.specs.declared.fault.BookFault.{BookFault}
 use Rattle.bsp_messages.specs.declared.answer.Answer.{Answer as Message}
-use Rattle.bsp_messages.specs.declared.refusal.RequestRefusal.TheVariants.{NoRoom, StoreFailed}
+use Rattle.bsp_messages.specs.declared.refusal.RequestRefusal.TheVariants.{NoRoom, NoRoute, OtherMethod, StoreFailed}
 use Rattle.bsp_messages.specs.declared.reply.Reply.{Reply}
+use Rattle.bsp_routes.specs.declared.asking.Asking.TheVariants as asking
+use Rattle.bsp_routes.specs.declared.methods.Methods.{Methods}
 use Rattle.bsp_rows.specs.Rows.{Rows}
 use Rattle.bsp_rows.specs.Sound.{Sound}
 use Rattle.bsp_serving.specs.Serves.{FallsBackSound, Finds, LeavesLastSound, Serves}
@@ -20,7 +22,7 @@ abbrev pub left_by : List ℕ → Rows → Reading → Rows
 left_by office rows reading = rows_after rows reading (answer_of office rows reading)
 
 module _ {B : Type 0} (m : Meaning B Rows) (old new : B) (request : Request) where
-  -- over sound rows at rest, however the request is read
+  -- over sound rows, with no transaction open, however the request is read
   abbrev pub OfRequest : (Rows → Reading → Type 0) → Type 0
   OfRequest P = (reading : Reading) → IsRead request reading → m.trusts new → (rows : Rows) → Sound rows → m.holds old rows None → P rows reading
 
@@ -54,7 +56,7 @@ module _ {B : Type 0} (m : Meaning B Rows) (old new : B) (request : Request) whe
 
   -- ---- the reply
 
-  -- what is owed of a request and its reply, at an office with this token
+  -- what holds of a request and its reply, at an office with this token
   pub record Answers (office : List ℕ) (reply : Reply) : Type 0 where
     pub trust : m.trusts new → m.trusts old
     -- but for a 503 it is the answer of the request
@@ -75,4 +77,7 @@ module _ {B : Type 0} (m : Meaning B Rows) (old new : B) (request : Request) whe
     -- after the first B03 a stop leaves the rows, or those after the request
     pub stop : Refuses StoreFailed reply → m.has_failed old ≡ false → OfRequest (λ rows reading. m.leaves new rows (left_by office rows reading))
     -- of a book that has failed each reply is B03, and the book stays as it is
-    pub dead : m.has_failed old ≡ true → Refuses StoreFailed reply × (new ≡ old)
+    pub after_failure : m.has_failed old ≡ true → Refuses StoreFailed reply × (new ≡ old)
+    -- of one that has not, no route is N02 and another method N03, and the book stays as it is
+    pub no_route : m.has_failed old ≡ false → request.call ≡ asking.NoRoute → Refuses NoRoute reply × (new ≡ old)
+    pub other_method : (methods : Methods) → m.has_failed old ≡ false → request.call ≡ asking.OtherMethod methods → Refuses OtherMethod reply × (new ≡ old)

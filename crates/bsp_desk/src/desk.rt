@@ -1,11 +1,8 @@
-ghost use Rattle.std.specs.Prelude.{◌≡◌, ℕ, List, None, IfOk, IsOk, MatchResult, OnErr, false, length};
+ghost use Rattle.std.specs.Prelude.{◌≡◌, ◌↔◌, List, None, IfOk, IsOk, MatchResult, OnErr, false, length, ℕ};
 ghost use Rattle.bsp_desk.specs.Callers.{calling};
 ghost use Rattle.bsp_desk.specs.Reading.{AreRead};
-ghost use Rattle.bsp_desk.specs.Replies.{Refuses};
-ghost use Rattle.bsp_desk.specs.Runs.{RanOver};
+ghost use Rattle.bsp_desk.specs.Runs.{AreAnswered, RanOver};
 ghost use Rattle.bsp_desk.specs.Steps.{Answers};
-ghost use Rattle.bsp_messages.specs.declared.refusal.RequestRefusal.TheVariants.{NoRoute, OtherMethod};
-ghost use Rattle.bsp_routes.specs.declared.methods.Methods.{Methods};
 ghost use Rattle.bsp_rows.specs.Rows.{Rows};
 ghost use Rattle.bsp_rows.specs.Sound.{Sound};
 ghost use Rattle.bsp_step.specs.Requests.{Request as Reading};
@@ -36,7 +33,7 @@ impl<B: Book> Desk<B> {
     /// `Failed`, where the book has failed, with the book as it was.
     pub fn open(alloc: Global, book: B, office: Token) -> Result<Desk<B>, (BookFault, B)>
         ensures opened { MatchResult result (λ desk. (desk.book ≡ book) × (desk.office ≡ office)) (λ refused. refused ≡ (BookFault.Failed, book)) }
-        ensures unfailed { B.means.has_failed book ≡ false → IsOk result }
+        ensures unfailed { IsOk result ↔ B.means.has_failed book ≡ false }
     {
         if book.has_failed() {
             return Err((BookFault::Failed, book));
@@ -59,11 +56,9 @@ impl<B: Book> Desk<B> {
     /// that it leaves, or with a 503. A refusal and B01 leave the rows as they are. B03 is the reply if and only
     /// if the book has failed, and then to every request.
     ///
-    /// No route and another method are answered 404 N02 and 405 N03 without the book, and take no memory.
+    /// No route and another method are answered 404 N02 and 405 N03 without a transaction, and take no memory.
     pub fn answer(&mut self, request: &Request<'_>) -> Reply
         ensures answered { Answers B.means self.old.book self.new.book request.now self.old.office result }
-        ensures no_route { B.means.has_failed self.old.book ≡ false → request.now.call ≡ Asking.NoRoute → Refuses NoRoute result × (self.new ≡ self.old) }
-        ensures other_method { (methods : Methods) → B.means.has_failed self.old.book ≡ false → request.now.call ≡ Asking.OtherMethod methods → Refuses OtherMethod result × (self.new ≡ self.old) }
         ensures office { self.new.office ≡ self.old.office }
     {
         if self.book.has_failed() {
@@ -76,16 +71,18 @@ impl<B: Book> Desk<B> {
         }
     }
 
-    /// Answers requests of any callers, one after the other.
+    /// Answers requests of any callers, one after the other: each as `answer` does, over the book that the one
+    /// before it left.
     ///
-    /// However the requests are read, what their replies send is a run of `bsp_step` from sound rows, and a 503
-    /// counts for nothing. So each agent's and each airline's answers are those of its own ledger, what was
+    /// However the requests are read, what their replies send is a run of `bsp_step` from sound rows, in which a
+    /// 503 changes nothing. So each agent's and each airline's answers are those of its own ledger, what was
     /// accepted is held, and a closed period stays.
     ///
     /// # Errors
     ///
     /// `NoRoom`, where there is no room for the replies. No request is then answered.
     pub fn run(&mut self, requests: &[Request<'_>]) -> Result<Vec<Reply>, BookFault>
+        ensures answered { IfOk result (λ replies. AreAnswered B.means self.old.office self.old.book requests.now replies.items self.new.book) }
         ensures trust { B.means.trusts self.new.book → B.means.trusts self.old.book }
         ensures ran { IfOk result (λ replies. (readings : List Reading) → AreRead requests.now readings → B.means.trusts self.new.book → (rows : Rows) → Sound rows → B.means.holds self.old.book rows None →
             RanOver B.means self.new.book self.old.office rows readings replies.items) }

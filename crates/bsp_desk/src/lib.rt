@@ -18,5 +18,5 @@ mod token;
 mod transaction;
 
 pub use desk::Desk;
-pub use laws::requests_are_read;
+pub use laws::{replies_are_alike, requests_are_read};
 pub use request::Request;

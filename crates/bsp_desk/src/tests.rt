@@ -123,7 +123,7 @@ fn an_invalid_code_is_forbidden(rt: HostRuntime) {
 }
 
 #[test]
-fn a_registered_agent_is_let_in(rt: HostRuntime) {
+fn a_registered_agent_has_its_memos_shown(rt: HostRuntime) {
     let all = [
         ask(OFFICE, b"/office/agents", REGISTRATION),
         ask(AGENT, b"/agents/12345675/memos", b""),
