@@ -34,6 +34,10 @@ const TO_NOBODY: Body = Body::Text(
     b"{\"agent\":\"12345686\",\"amount\":5000,\"document\":\"6000000001\",\"kind\":\"ADMA\",\"reason\":\"fare\"}",
 );
 
+const TO_B: Body = Body::Text(
+    b"{\"agent\":\"76543213\",\"amount\":5000,\"document\":\"6000000005\",\"kind\":\"ADMA\",\"reason\":\"fare\"}",
+);
+
 const MEMO_1: Body = Body::Text(b"{\"airline\":\"125\",\"document\":\"6000000001\"}");
 
 const MEMO_2: Body = Body::Text(b"{\"airline\":\"125\",\"document\":\"6000000002\"}");
@@ -161,11 +165,14 @@ fn an_airline_acts_on_its_own_memos(rt: HostRuntime) {
     assert!(rt; replies_so(rt.alloc(), &[&PLANNED, &OPENED, &ISSUED, &OF_ANOTHER]));
 }
 
-/// Example 37, with a documents limit of 3.
-const FOURTH: [Row; 1] = [Row(AIRLINE_125, MEMOS, DEBIT_4, M07)];
+/// Example 37, with a documents limit of 3, and then a memo to B.
+const FOURTH: [Row; 2] = [
+    Row(AIRLINE_125, MEMOS, DEBIT_4, M07),
+    Row(AIRLINE_125, MEMOS, TO_B, DONE),
+];
 
 #[test]
-fn an_airline_issues_as_many_memos_as_the_limit(rt: HostRuntime) {
+fn an_airline_issues_as_many_memos_to_an_agent_as_the_limit(rt: HostRuntime) {
     assert!(rt; replies_so(rt.alloc(), &[&LIMITED_TO_THREE, &OPENED, &ISSUED, &FOURTH]));
 }
 
