@@ -123,13 +123,10 @@ fn is_wanted(alloc: Global, reply: &Reply, wanted: &Wanted) -> bool {
     reply.status.code() == status && reply.media == media && same
 }
 
-/// The place of the first row that is replied to otherwise; the count of rows where all are replied to so.
-fn followed(alloc: Global, replies: &[Reply], rows: &[Row]) -> Option<usize> {
-    if replies.len() != rows.len() {
-        return None;
-    }
+/// How many rows, up to the first that is replied to otherwise, have their replies.
+fn followed(alloc: Global, replies: &[Reply], rows: &[Row]) -> usize {
     let same = |pair: &(&Reply, &Row)| is_wanted(alloc, pair.0, &pair.1.3);
-    Some(replies.iter().zip(rows).take_while(same).count())
+    replies.iter().zip(rows).take_while(same).count()
 }
 
 /// Asks for what the rows ask in one run.
@@ -145,20 +142,20 @@ fn desk(alloc: Global) -> Option<Desk<ListBook>> {
     Desk::open(alloc, ListBook::new(alloc), office).ok()
 }
 
-/// The first row that is replied to otherwise, as its run and its place in it.
-fn first_other(alloc: Global, runs: &[&[Row]]) -> Option<Result<(), (usize, usize)>> {
-    let mut desk = desk(alloc)?;
+/// Whether a desk with an empty book gives the replies of the runs, one run after the other. If not: the first run
+/// and row, from 0, whose reply is another one or is missing.
+fn follows(alloc: Global, runs: &[&[Row]]) -> Result<(), (usize, usize)> {
+    let Some(mut desk) = desk(alloc) else {
+        return Err((0, 0));
+    };
     for (number, rows) in runs.iter().enumerate() {
-        let replies = run(alloc, &mut desk, rows)?;
-        let place = followed(alloc, &replies, rows)?;
-        if place < rows.len() {
-            return Some(Err((number, place)));
+        let Some(replies) = run(alloc, &mut desk, rows) else {
+            return Err((number, 0));
+        };
+        let place = followed(alloc, &replies, rows);
+        if place < replies.len().max(rows.len()) {
+            return Err((number, place));
         }
     }
-    Some(Ok(()))
-}
-
-/// Whether a desk with an empty book gives all replies of the runs, one after the other.
-fn replies_so(alloc: Global, runs: &[&[Row]]) -> bool {
-    first_other(alloc, runs) == Some(Ok(()))
+    Ok(())
 }

@@ -6,7 +6,7 @@ use super::opening::{
     REGISTER_125, REGISTER_A,
 };
 use super::replies::{DONE, HELD, N01, N02, N03};
-use super::{Body, Row, Wanted, replies_so};
+use super::{Body, Row, Wanted, follows};
 
 const NO_MEMOS: Wanted = Wanted::Json(200, b"{\"memos\":[]}");
 
@@ -37,7 +37,7 @@ const REGISTERED: [Row; 13] = [
 
 #[test]
 fn callers_are_answered_once_they_are_registered(rt: HostRuntime) {
-    assert!(rt; replies_so(rt.alloc(), &[&PLANNED, &REGISTERED]));
+    assert_eq!(rt; follows(rt.alloc(), &[&PLANNED, &REGISTERED]), Ok(()));
 }
 
 const MEMO: Body = Body::Text(b"{\"airline\":\"125\",\"document\":\"6000000001\"}");
@@ -67,7 +67,10 @@ const NOT_THE_OFFICE: [Row; 9] = [
 
 #[test]
 fn requests_of_the_office_need_its_token(rt: HostRuntime) {
-    assert!(rt; replies_so(rt.alloc(), &[&PLANNED, &OPENED, &NOT_THE_OFFICE]));
+    assert_eq!(rt;
+        follows(rt.alloc(), &[&PLANNED, &OPENED, &NOT_THE_OFFICE]),
+        Ok(())
+    );
 }
 
 /// Each request of A with another token.
@@ -94,7 +97,10 @@ const NOT_THE_AGENT: [Row; 8] = [
 
 #[test]
 fn requests_of_an_agent_need_its_token(rt: HostRuntime) {
-    assert!(rt; replies_so(rt.alloc(), &[&PLANNED, &OPENED, &NOT_THE_AGENT]));
+    assert_eq!(rt;
+        follows(rt.alloc(), &[&PLANNED, &OPENED, &NOT_THE_AGENT]),
+        Ok(())
+    );
 }
 
 /// Each request of 125 with another token, and one of an airline that is not registered.
@@ -110,7 +116,10 @@ const NOT_THE_AIRLINE: [Row; 7] = [
 
 #[test]
 fn requests_of_an_airline_need_its_token(rt: HostRuntime) {
-    assert!(rt; replies_so(rt.alloc(), &[&PLANNED, &OPENED, &NOT_THE_AIRLINE]));
+    assert_eq!(rt;
+        follows(rt.alloc(), &[&PLANNED, &OPENED, &NOT_THE_AIRLINE]),
+        Ok(())
+    );
 }
 
 /// Whatever the token.
@@ -125,5 +134,5 @@ const ELSEWHERE: [Row; 6] = [
 
 #[test]
 fn other_paths_and_methods_are_refused(rt: HostRuntime) {
-    assert!(rt; replies_so(rt.alloc(), &[&ELSEWHERE]));
+    assert_eq!(rt; follows(rt.alloc(), &[&ELSEWHERE]), Ok(()));
 }

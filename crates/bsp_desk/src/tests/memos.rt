@@ -2,7 +2,7 @@
 
 use super::opening::{A, AIRLINE_125, AIRLINE_220, B, LIMITED_TO_THREE, OFFICE, OPENED, PLANNED};
 use super::replies::{DONE, HELD, M01, M02, M03, M04, M05, M06, M07, M08};
-use super::{Body, Row, Wanted, replies_so};
+use super::{Body, Row, Wanted, follows};
 
 const MEMOS: &[u8] = b"/airlines/125/memos";
 
@@ -89,7 +89,10 @@ const DISPUTED: [Row; 9] = [
 
 #[test]
 fn a_memo_is_disputed_within_its_review(rt: HostRuntime) {
-    assert!(rt; replies_so(rt.alloc(), &[&PLANNED, &OPENED, &DISPUTED]));
+    assert_eq!(rt;
+        follows(rt.alloc(), &[&PLANNED, &OPENED, &DISPUTED]),
+        Ok(())
+    );
 }
 
 const ISSUED: [Row; 3] = [
@@ -148,7 +151,10 @@ const BILLED: [Row; 14] = [
 
 #[test]
 fn memos_are_billed_over_two_closes(rt: HostRuntime) {
-    assert!(rt; replies_so(rt.alloc(), &[&PLANNED, &OPENED, &ISSUED, &BILLED]));
+    assert_eq!(rt;
+        follows(rt.alloc(), &[&PLANNED, &OPENED, &ISSUED, &BILLED]),
+        Ok(())
+    );
 }
 
 /// Example 37.
@@ -162,7 +168,10 @@ const OF_ANOTHER: [Row; 5] = [
 
 #[test]
 fn an_airline_acts_on_its_own_memos(rt: HostRuntime) {
-    assert!(rt; replies_so(rt.alloc(), &[&PLANNED, &OPENED, &ISSUED, &OF_ANOTHER]));
+    assert_eq!(rt;
+        follows(rt.alloc(), &[&PLANNED, &OPENED, &ISSUED, &OF_ANOTHER]),
+        Ok(())
+    );
 }
 
 /// Example 37, with a documents limit of 3, and then a memo to B.
@@ -173,7 +182,10 @@ const FOURTH: [Row; 2] = [
 
 #[test]
 fn an_airline_issues_as_many_memos_to_an_agent_as_the_limit(rt: HostRuntime) {
-    assert!(rt; replies_so(rt.alloc(), &[&LIMITED_TO_THREE, &OPENED, &ISSUED, &FOURTH]));
+    assert_eq!(rt;
+        follows(rt.alloc(), &[&LIMITED_TO_THREE, &OPENED, &ISSUED, &FOURTH]),
+        Ok(())
+    );
 }
 
 /// Example 38.
@@ -184,11 +196,12 @@ const ISSUED_AGAIN: [Row; 2] = [
 
 #[test]
 fn a_reduced_memo_is_known_by_its_first_amount(rt: HostRuntime) {
-    assert!(rt;
-        replies_so(
+    assert_eq!(rt;
+        follows(
             rt.alloc(),
             &[&PLANNED, &OPENED, &ISSUED, &BILLED, &ISSUED_AGAIN]
-        )
+        ),
+        Ok(())
     );
 }
 
@@ -216,5 +229,8 @@ const ACTIONS: [Row; 11] = [
 
 #[test]
 fn memos_are_upheld_and_withdrawn(rt: HostRuntime) {
-    assert!(rt; replies_so(rt.alloc(), &[&PLANNED, &OPENED, &ISSUED, &ACTIONS]));
+    assert_eq!(rt;
+        follows(rt.alloc(), &[&PLANNED, &OPENED, &ISSUED, &ACTIONS]),
+        Ok(())
+    );
 }

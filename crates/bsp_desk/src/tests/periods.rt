@@ -3,7 +3,7 @@
 use super::files::{CANX, CARD_SALE, SALE_OF_B, THREE_SALES, V1};
 use super::opening::{A, AIRLINE_125, AIRLINE_220, B, LIMITED_TO_TWO, OFFICE, OPENED, PLANNED};
 use super::replies::{ACCEPTED, DONE, E09, H02, HELD, P04, P06, P07, S01};
-use super::{Body, Row, Wanted, replies_so};
+use super::{Body, Row, Wanted, follows};
 
 const DAY: &[u8] = b"/office/day";
 
@@ -37,7 +37,10 @@ const CLOSED_ONCE_OVER: [Row; 8] = [
 
 #[test]
 fn a_period_is_closed_once_it_is_over(rt: HostRuntime) {
-    assert!(rt; replies_so(rt.alloc(), &[&PLANNED, &OPENED, &CLOSED_ONCE_OVER]));
+    assert_eq!(rt;
+        follows(rt.alloc(), &[&PLANNED, &OPENED, &CLOSED_ONCE_OVER]),
+        Ok(())
+    );
 }
 
 const THIRD_REFUSED: Wanted = Wanted::Json(
@@ -54,7 +57,10 @@ const LIMITED: [Row; 3] = [
 
 #[test]
 fn the_documents_limit_is_that_of_an_agent_and_an_airline(rt: HostRuntime) {
-    assert!(rt; replies_so(rt.alloc(), &[&LIMITED_TO_TWO, &OPENED, &LIMITED]));
+    assert_eq!(rt;
+        follows(rt.alloc(), &[&LIMITED_TO_TWO, &OPENED, &LIMITED]),
+        Ok(())
+    );
 }
 
 const DEBIT: Body = Body::Text(
@@ -185,7 +191,10 @@ const REPORTS: [Row; 5] = [
 
 #[test]
 fn a_closed_period_has_its_reports(rt: HostRuntime) {
-    assert!(rt; replies_so(rt.alloc(), &[&PLANNED, &OPENED, &CLOSED, &REPORTS]));
+    assert_eq!(rt;
+        follows(rt.alloc(), &[&PLANNED, &OPENED, &CLOSED, &REPORTS]),
+        Ok(())
+    );
 }
 
 /// V3.
@@ -210,11 +219,12 @@ const NEXT_CLOSED: [Row; 3] = [
 
 #[test]
 fn a_closed_period_stays_and_the_next_has_a_file_of_four_records(rt: HostRuntime) {
-    assert!(rt;
-        replies_so(
+    assert_eq!(rt;
+        follows(
             rt.alloc(),
             &[&PLANNED, &OPENED, &CLOSED, &NEXT_CLOSED, &REPORTS]
-        )
+        ),
+        Ok(())
     );
 }
 
@@ -240,7 +250,10 @@ const NOTHING_SOLD: [Row; 4] = [
 
 #[test]
 fn a_period_without_documents_is_settled(rt: HostRuntime) {
-    assert!(rt; replies_so(rt.alloc(), &[&PLANNED, &OPENED, &NOTHING_SOLD]));
+    assert_eq!(rt;
+        follows(rt.alloc(), &[&PLANNED, &OPENED, &NOTHING_SOLD]),
+        Ok(())
+    );
 }
 
 /// A period that is not closed, one that is unknown, and a text that is none.
@@ -256,5 +269,8 @@ const NOT_CLOSED: [Row; 7] = [
 
 #[test]
 fn a_period_that_is_not_closed_has_no_reports(rt: HostRuntime) {
-    assert!(rt; replies_so(rt.alloc(), &[&PLANNED, &OPENED, &NOT_CLOSED]));
+    assert_eq!(rt;
+        follows(rt.alloc(), &[&PLANNED, &OPENED, &NOT_CLOSED]),
+        Ok(())
+    );
 }

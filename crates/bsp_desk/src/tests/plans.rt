@@ -3,7 +3,7 @@
 use super::files::TAXES_FALLING;
 use super::opening::{A, AIRLINE_125, JANUARY_5, OFFICE, OPENED, PLAN, PLANNED};
 use super::replies::{DONE, HELD, N04, P01, P02, P03, P05, P08};
-use super::{Body, Row, Wanted, replies_so};
+use super::{Body, Row, Wanted, follows};
 
 const PATH: &[u8] = b"/office/plan";
 
@@ -75,7 +75,7 @@ const PUBLISHED: [Row; 9] = [
 
 #[test]
 fn a_plan_is_published_once(rt: HostRuntime) {
-    assert!(rt; replies_so(rt.alloc(), &[&PUBLISHED]));
+    assert_eq!(rt; follows(rt.alloc(), &[&PUBLISHED]), Ok(()));
 }
 
 const EMPTY: Body = Body::Text(b"{}");
@@ -105,5 +105,8 @@ const MALFORMED: [Row; 15] = [
 
 #[test]
 fn a_malformed_body_is_refused(rt: HostRuntime) {
-    assert!(rt; replies_so(rt.alloc(), &[&PLANNED, &OPENED, &MALFORMED]));
+    assert_eq!(rt;
+        follows(rt.alloc(), &[&PLANNED, &OPENED, &MALFORMED]),
+        Ok(())
+    );
 }

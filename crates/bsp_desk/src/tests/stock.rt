@@ -3,7 +3,7 @@
 use super::files::V1;
 use super::opening::{A, B, OFFICE, OPENED, PLANNED, RANGE_OF_A, RANGE_OF_B};
 use super::replies::{ACCEPTED, DONE, K03, K04, K05};
-use super::{Body, Row, Wanted, replies_so};
+use super::{Body, Row, Wanted, follows};
 
 const ALLOT: &[u8] = b"/office/stock/allot";
 
@@ -37,5 +37,8 @@ const WITHDRAWN: [Row; 7] = [
 
 #[test]
 fn unused_ranges_are_withdrawn(rt: HostRuntime) {
-    assert!(rt; replies_so(rt.alloc(), &[&PLANNED, &OPENED, &WITHDRAWN]));
+    assert_eq!(rt;
+        follows(rt.alloc(), &[&PLANNED, &OPENED, &WITHDRAWN]),
+        Ok(())
+    );
 }

@@ -3,7 +3,7 @@
 use super::files::{REFUND_OF_B, REFUND_OF_NOBODY, SALE_OF_B, V1, V1_OF_B};
 use super::opening::{A, B, OPENED, PLANNED};
 use super::replies::{ACCEPTED, D01, E05, E08, N01};
-use super::{Body, Row, Wanted, replies_so};
+use super::{Body, Row, Wanted, follows};
 
 const RET: &[u8] = b"/agents/76543213/ret";
 
@@ -14,11 +14,12 @@ const NUMBER_OF_A: [Row; 1] = [Row(B, RET, V1_OF_B, E05)];
 
 #[test]
 fn a_number_of_another_agent_is_refused_before_its_use_and_after(rt: HostRuntime) {
-    assert!(rt;
-        replies_so(
+    assert_eq!(rt;
+        follows(
             rt.alloc(),
             &[&PLANNED, &OPENED, &NUMBER_OF_A, &REPORTED, &NUMBER_OF_A]
-        )
+        ),
+        Ok(())
     );
 }
 
@@ -29,12 +30,18 @@ const TICKET_OF_NOBODY: [Row; 1] = [Row(B, RET, REFUND_OF_NOBODY, E08)];
 
 #[test]
 fn a_ticket_of_another_agent_is_not_found(rt: HostRuntime) {
-    assert!(rt; replies_so(rt.alloc(), &[&PLANNED, &OPENED, &REPORTED, &TICKET_OF_A]));
+    assert_eq!(rt;
+        follows(rt.alloc(), &[&PLANNED, &OPENED, &REPORTED, &TICKET_OF_A]),
+        Ok(())
+    );
 }
 
 #[test]
 fn a_ticket_of_nobody_is_not_found(rt: HostRuntime) {
-    assert!(rt; replies_so(rt.alloc(), &[&PLANNED, &OPENED, &TICKET_OF_NOBODY]));
+    assert_eq!(rt;
+        follows(rt.alloc(), &[&PLANNED, &OPENED, &TICKET_OF_NOBODY]),
+        Ok(())
+    );
 }
 
 const NOTHING_COUNTED: Wanted = Wanted::Json(
@@ -90,10 +97,16 @@ const ASKED_BY_B: [Row; 10] = [
 
 #[test]
 fn an_agent_is_replied_to_so_where_another_holds_the_ticket(rt: HostRuntime) {
-    assert!(rt; replies_so(rt.alloc(), &[&PLANNED, &OPENED, &REPORTED, &ASKED_BY_B]));
+    assert_eq!(rt;
+        follows(rt.alloc(), &[&PLANNED, &OPENED, &REPORTED, &ASKED_BY_B]),
+        Ok(())
+    );
 }
 
 #[test]
 fn an_agent_is_replied_to_so_where_nobody_holds_the_ticket(rt: HostRuntime) {
-    assert!(rt; replies_so(rt.alloc(), &[&PLANNED, &OPENED, &ASKED_BY_B]));
+    assert_eq!(rt;
+        follows(rt.alloc(), &[&PLANNED, &OPENED, &ASKED_BY_B]),
+        Ok(())
+    );
 }
