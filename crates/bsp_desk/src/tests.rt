@@ -1,159 +1,161 @@
-use crate::*;
-use bsp_book::{Book, ListBook};
+//! Worked examples: tables of requests with their replies, byte for byte, over a book in memory.
+
+mod callers;
+mod files;
+mod memos;
+mod opening;
+mod periods;
+mod plans;
+mod replies;
+mod sales;
+mod stock;
+mod worlds;
+
+use crate::{Desk, Request};
+use bsp_book::{BookFault, ListBook};
 use bsp_fields::Token;
-use bsp_messages::Reply;
+use bsp_messages::{Media, Reply};
 use bsp_routes::Routes;
 use bsp_serving::Content;
 use std::alloc::Global;
 
-const OFFICE: &[u8] = b"officetoken00001";
-
-const AGENT: &[u8] = b"agenttoken000001";
-
-const PLAN: &[u8] =
-    b"currency = \"EUR\"\nreview_days = 14\ndocuments_limit = 1000\nairline = [\"125\"]\n[[rate]]\nairline = \"125\"\nfrom = \"2024-01-01\"\nhundredths = 500\n[[period]]\ncode = \"24011\"\nfirst = \"2024-01-01\"\nlast = \"2024-01-15\"\nremit = \"2024-02-15\"\n";
-
-const REGISTRATION: &[u8] = b"{\"agent\":\"12345675\",\"token\":\"agenttoken000001\"}";
-
-const RANGE: &[u8] = b"{\"agent\":\"12345675\",\"first\":\"1300000000\",\"last\":\"1300000099\"}";
-
-/// The sale of document 1300000001 on 2024-01-05.
-const SALE: [&[u8]; 5] = [
-    b"1TSTA2401050930DE000001PROD001",
-    b"2000001TKTT1234567512513000000016240105DOE/JANE",
-    b"50000010000002000{RA0000000350{                                                                 005000000000100{",
-    b"8000001CA0000002350{",
-    b"Z0000005000000100000000002350{",
-];
-
-/// What is asked, of a path: by GET where there is no body.
+/// A request and its reply: the token, the path, the body and what is replied.
 #[derive(Clone, Copy)]
-struct Asked<'r> {
-    token: &'r [u8],
-    path: &'r [u8],
-    body: &'r [u8],
+struct Row(Option<&'static [u8]>, &'static [u8], Body, Wanted);
+
+/// What a request has as body: with none it is a GET, else a POST.
+#[derive(Clone, Copy)]
+enum Body {
+    Missing,
+    Text(&'static [u8]),
+    Records(&'static [&'static [u8]]),
 }
 
-fn ask<'r>(token: &'r [u8], path: &'r [u8], body: &'r [u8]) -> Asked<'r> {
-    Asked { token, path, body }
+/// What is replied: an object with its status, or a report or a file with 200.
+#[derive(Clone, Copy)]
+enum Wanted {
+    Json(u16, &'static [u8]),
+    Report(&'static [u8]),
+    Records(&'static [&'static [u8]]),
 }
 
-/// The lines, each filled with spaces to 136 characters.
+/// Fills up with spaces.
+fn fill(bytes: &mut Vec<u8>, width: usize) -> Option<()> {
+    let missing = width.saturating_sub(bytes.len()).min(136);
+    bytes.extend_from_slice(&[b' '; 136][..missing]).ok()
+}
+
+/// A record of 136 characters and its LF: `|` separates fields, and `>` leaves the places up to column 96 blank.
+fn record(alloc: Global, line: &[u8]) -> Option<Vec<u8>> {
+    let mut bytes = Vec::new(alloc);
+    for byte in line {
+        match byte {
+            b'|' => (),
+            b'>' => fill(&mut bytes, 96)?,
+            character => bytes.push(*character).ok()?,
+        }
+    }
+    fill(&mut bytes, 136)?;
+    bytes.push(b'\n').ok()?;
+    Some(bytes)
+}
+
 fn text(alloc: Global, lines: &[&[u8]]) -> Option<Vec<u8>> {
     let mut bytes = Vec::new(alloc);
     for line in lines {
-        bytes.extend_from_slice(line).ok()?;
-        let spaces = &[b' '; 136][line.len().min(136)..];
-        bytes.extend_from_slice(spaces).ok()?;
-        bytes.push(b'\n').ok()?;
+        bytes.extend_from_slice(&record(alloc, line)?).ok()?;
     }
     Some(bytes)
 }
 
-fn requests<'r>(alloc: Global, all: &[Asked<'r>]) -> Option<Vec<Request<'r>>> {
+fn copied(alloc: Global, text: &[u8]) -> Option<Vec<u8>> {
+    let mut bytes = Vec::new(alloc);
+    bytes.extend_from_slice(text).ok()?;
+    Some(bytes)
+}
+
+/// The bytes of the bodies.
+fn bodies(alloc: Global, rows: &[Row]) -> Option<Vec<Vec<u8>>> {
+    let mut bodies = Vec::new(alloc);
+    for row in rows {
+        let body = match row.2 {
+            Body::Missing => Vec::new(alloc),
+            Body::Text(bytes) => copied(alloc, bytes)?,
+            Body::Records(lines) => text(alloc, lines)?,
+        };
+        bodies.push(body).ok()?;
+    }
+    Some(bodies)
+}
+
+fn request<'r>(routes: &Routes, row: &Row, body: &'r [u8]) -> Request<'r> {
+    let method = match row.2 {
+        Body::Missing => b"GET".as_slice(),
+        _ => b"POST".as_slice(),
+    };
+    Request {
+        token: row.0,
+        call: routes.ask(method, row.1),
+        content: Content::Bytes(body),
+    }
+}
+
+fn requests<'r>(alloc: Global, rows: &[Row], bodies: &'r [Vec<u8>]) -> Option<Vec<Request<'r>>> {
     let routes = Routes::new(alloc).ok()?;
     let mut requests = Vec::new(alloc);
-    for one in all {
-        let method = if one.body.is_empty() {
-            b"GET".as_slice()
-        } else {
-            b"POST".as_slice()
-        };
-        let request = Request {
-            token: Some(one.token),
-            call: routes.ask(method, one.path),
-            content: Content::Bytes(one.body),
-        };
-        requests.push(request).ok()?;
+    for (row, body) in rows.iter().zip(bodies) {
+        requests.push(request(&routes, row, body)).ok()?;
     }
     Some(requests)
 }
 
-/// The replies of a desk over the book.
-fn replies<B: Book + Drop>(alloc: Global, book: B, all: &[Asked<'_>]) -> Option<Vec<Reply>> {
-    let requests = requests(alloc, all)?;
-    let Ok(mut desk) = Desk::open(alloc, book, Token::read(OFFICE)?) else {
-        return None;
+/// Whether a reply is the one that is wanted, with its status, its media type and its bytes.
+fn is_wanted(alloc: Global, reply: &Reply, wanted: &Wanted) -> bool {
+    let bytes = reply.body.as_bytes();
+    let (status, media, same) = match wanted {
+        Wanted::Json(status, json) => (*status, Media::Json, bytes == *json),
+        Wanted::Report(report) => (200, Media::Text, bytes == *report),
+        Wanted::Records(lines) => match text(alloc, lines) {
+            Some(file) => (200, Media::Text, bytes == file.as_slice()),
+            None => (0, Media::Text, false),
+        },
     };
+    reply.status.code() == status && reply.media == media && same
+}
+
+/// How many rows, up to the first that is replied to otherwise, have their replies.
+fn followed(alloc: Global, replies: &[Reply], rows: &[Row]) -> usize {
+    let same = |pair: &(&Reply, &Row)| is_wanted(alloc, pair.0, &pair.1.3);
+    replies.iter().zip(rows).take_while(same).count()
+}
+
+/// Asks for what the rows ask in one run.
+fn run(alloc: Global, desk: &mut Desk<ListBook>, rows: &[Row]) -> Option<Vec<Reply>> {
+    let bodies = bodies(alloc, rows)?;
+    let requests = requests(alloc, rows, &bodies)?;
     desk.run(&requests).ok()
 }
 
-/// Whether the last reply has the text.
-fn ends_in(alloc: Global, all: &[Asked<'_>], text: &[u8]) -> bool {
-    match replies(alloc, ListBook::new(alloc), all) {
-        Some(replies) => match replies.last() {
-            Some(reply) => reply.body.as_bytes() == text,
-            None => false,
-        },
-        None => false,
+/// The desk of an office with an empty book.
+fn desk(alloc: Global) -> Option<Desk<ListBook>> {
+    let office = Token::read(b"officetoken00001")?;
+    Desk::open(alloc, ListBook::new(alloc), office).ok()
+}
+
+/// Whether a desk with an empty book gives the replies of the runs, one run after the other. If not: the first run
+/// and row, from 0, whose reply is another one or is missing.
+fn follows(alloc: Global, runs: &[&[Row]]) -> Result<(), (usize, usize)> {
+    let Some(mut desk) = desk(alloc) else {
+        return Err((0, 0));
+    };
+    for (number, rows) in runs.iter().enumerate() {
+        let Some(replies) = run(alloc, &mut desk, rows) else {
+            return Err((number, 0));
+        };
+        let place = followed(alloc, &replies, rows);
+        if place < replies.len().max(rows.len()) {
+            return Err((number, place));
+        }
     }
-}
-
-#[test]
-fn no_route_is_not_found(rt: HostRuntime) {
-    let all = [ask(OFFICE, b"/office/x", b"")];
-    assert!(rt; ends_in(rt.alloc(), &all, b"{\"code\":\"N02\"}"));
-}
-
-#[test]
-fn another_method_is_not_allowed(rt: HostRuntime) {
-    let all = [ask(OFFICE, b"/office/day", b"")];
-    assert!(rt; ends_in(rt.alloc(), &all, b"{\"code\":\"N03\"}"));
-}
-
-#[test]
-fn another_token_is_forbidden(rt: HostRuntime) {
-    let all = [
-        ask(OFFICE, b"/office/agents", REGISTRATION),
-        ask(OFFICE, b"/agents/12345675/memos", b""),
-    ];
-    assert!(rt; ends_in(rt.alloc(), &all, b"{\"code\":\"N01\"}"));
-}
-
-#[test]
-fn an_unknown_agent_is_forbidden(rt: HostRuntime) {
-    let all = [ask(AGENT, b"/agents/12345675/memos", b"")];
-    assert!(rt; ends_in(rt.alloc(), &all, b"{\"code\":\"N01\"}"));
-}
-
-#[test]
-fn an_invalid_code_is_forbidden(rt: HostRuntime) {
-    let all = [ask(AGENT, b"/agents/12345670/memos", b"")];
-    assert!(rt; ends_in(rt.alloc(), &all, b"{\"code\":\"N01\"}"));
-}
-
-#[test]
-fn a_registered_agent_has_its_memos_shown(rt: HostRuntime) {
-    let all = [
-        ask(OFFICE, b"/office/agents", REGISTRATION),
-        ask(AGENT, b"/agents/12345675/memos", b""),
-    ];
-    assert!(rt; ends_in(rt.alloc(), &all, b"{\"memos\":[]}"));
-}
-
-/// Whether so many requests, of which the fifth and the sixth report the sale, end in the text.
-fn sold(alloc: Global, count: usize, expected: &[u8]) -> Option<bool> {
-    let sale = text(alloc, &SALE)?;
-    let report = ask(AGENT, b"/agents/12345675/ret", &sale);
-    let all = [
-        ask(OFFICE, b"/office/plan", PLAN),
-        ask(OFFICE, b"/office/day", b"{\"day\":\"2024-01-05\"}"),
-        ask(OFFICE, b"/office/agents", REGISTRATION),
-        ask(OFFICE, b"/office/stock/allot", RANGE),
-        report,
-        report,
-    ];
-    Some(ends_in(alloc, all.get(..count)?, expected))
-}
-
-#[test]
-fn a_sale_is_accepted(rt: HostRuntime) {
-    let accepted = b"{\"results\":[{\"n\":1,\"period\":\"24011\",\"verdict\":\"accepted\"}]}";
-    assert_eq!(rt; sold(rt.alloc(), 5, accepted), Some(true));
-}
-
-#[test]
-fn a_sale_reported_again_is_held(rt: HostRuntime) {
-    let held = b"{\"results\":[{\"n\":1,\"period\":\"24011\",\"verdict\":\"held\"}]}";
-    assert_eq!(rt; sold(rt.alloc(), 6, held), Some(true));
+    Ok(())
 }

@@ -1,0 +1,112 @@
+//! An agent's replies are the same whatever another agent holds.
+
+use super::files::{REFUND_OF_B, REFUND_OF_NOBODY, SALE_OF_B, V1, V1_OF_B};
+use super::opening::{A, B, OPENED, PLANNED};
+use super::replies::{ACCEPTED, D01, E05, E08, N01};
+use super::{Body, Row, Wanted, follows};
+
+const RET: &[u8] = b"/agents/76543213/ret";
+
+const REPORTED: [Row; 1] = [Row(A, b"/agents/12345675/ret", V1, ACCEPTED)];
+
+/// Example 9.
+const NUMBER_OF_A: [Row; 1] = [Row(B, RET, V1_OF_B, E05)];
+
+#[test]
+fn a_number_of_another_agent_is_refused_before_its_use_and_after(rt: HostRuntime) {
+    assert_eq!(rt;
+        follows(
+            rt.alloc(),
+            &[&PLANNED, &OPENED, &NUMBER_OF_A, &REPORTED, &NUMBER_OF_A]
+        ),
+        Ok(())
+    );
+}
+
+/// Example 10.
+const TICKET_OF_A: [Row; 1] = [Row(B, RET, REFUND_OF_B, E08)];
+
+const TICKET_OF_NOBODY: [Row; 1] = [Row(B, RET, REFUND_OF_NOBODY, E08)];
+
+#[test]
+fn a_ticket_of_another_agent_is_not_found(rt: HostRuntime) {
+    assert_eq!(rt;
+        follows(rt.alloc(), &[&PLANNED, &OPENED, &REPORTED, &TICKET_OF_A]),
+        Ok(())
+    );
+}
+
+#[test]
+fn a_ticket_of_nobody_is_not_found(rt: HostRuntime) {
+    assert_eq!(rt;
+        follows(rt.alloc(), &[&PLANNED, &OPENED, &TICKET_OF_NOBODY]),
+        Ok(())
+    );
+}
+
+const NOTHING_COUNTED: Wanted = Wanted::Json(
+    200,
+    b"{\"closed\":false,\"documents\":0,\"net\":\"0.00\",\"period\":\"24011\"}",
+);
+
+const ONE_COUNTED: Wanted = Wanted::Json(
+    200,
+    b"{\"closed\":false,\"documents\":1,\"net\":\"225.00\",\"period\":\"24011\"}",
+);
+
+const UNUSED: Wanted = Wanted::Json(
+    200,
+    b"{\"ranges\":[{\"first\":\"1400000000\",\"last\":\"1400000099\",\"used\":0}]}",
+);
+
+const NO_MEMOS: Wanted = Wanted::Json(200, b"{\"memos\":[]}");
+
+/// Example 36: all that B asks.
+const ASKED_BY_B: [Row; 10] = [
+    Row(B, RET, V1_OF_B, E05),
+    Row(B, RET, REFUND_OF_B, E08),
+    Row(B, RET, REFUND_OF_NOBODY, E08),
+    Row(
+        B,
+        b"/agents/76543213/documents/1300000001",
+        Body::Missing,
+        D01,
+    ),
+    Row(
+        B,
+        b"/agents/76543213/periods/24011",
+        Body::Missing,
+        NOTHING_COUNTED,
+    ),
+    Row(B, b"/agents/76543213/stock", Body::Missing, UNUSED),
+    Row(B, b"/agents/76543213/memos", Body::Missing, NO_MEMOS),
+    Row(
+        B,
+        b"/agents/12345675/documents/1300000001",
+        Body::Missing,
+        N01,
+    ),
+    Row(B, RET, SALE_OF_B, ACCEPTED),
+    Row(
+        B,
+        b"/agents/76543213/periods/24011",
+        Body::Missing,
+        ONE_COUNTED,
+    ),
+];
+
+#[test]
+fn an_agent_is_replied_to_so_where_another_holds_the_ticket(rt: HostRuntime) {
+    assert_eq!(rt;
+        follows(rt.alloc(), &[&PLANNED, &OPENED, &REPORTED, &ASKED_BY_B]),
+        Ok(())
+    );
+}
+
+#[test]
+fn an_agent_is_replied_to_so_where_nobody_holds_the_ticket(rt: HostRuntime) {
+    assert_eq!(rt;
+        follows(rt.alloc(), &[&PLANNED, &OPENED, &ASKED_BY_B]),
+        Ok(())
+    );
+}
