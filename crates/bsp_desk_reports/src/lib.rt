@@ -11,6 +11,8 @@ mod periods;
 mod settlements;
 mod statements;
 mod stocks;
+#[cfg(test)]
+mod tests;
 
 pub use documents::document;
 pub use hot_files::hot;
