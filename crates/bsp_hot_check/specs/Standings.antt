@@ -7,17 +7,11 @@ use Rattle.bsp_hot_records.specs.declared.code.DocumentCode.TheVariants.{Tktt, R
 use Rattle.bsp_hot_records.specs.declared.totals.Sums.{Sums}
 use Rattle.bsp_hot_check.specs.declared.model.HotTotals.{HotTotals}
 use Rattle.bsp_hot_records.specs.declared.model.Heading.{Heading as JudgedHeading}
-use Rattle.bsp_hot_records.specs.declared.model.OfficeHeader.{OfficeHeader}
-use Rattle.bsp_hot_records.specs.declared.model.TransactionHeader.{TransactionHeader}
 use Rattle.bsp_hot_check.specs.declared.model.DocumentKey.{DocumentKey}
 use Rattle.bsp_hot_records.specs.declared.model.Document.{Document as JudgedDocument}
 use Rattle.bsp_hot_records.specs.declared.model.Part.{Part as JudgedPart}
 use Rattle.bsp_hot_records.specs.declared.model.Part.TheVariants as part_is
 use Rattle.bsp_hot_records.specs.declared.model.PartOf.{PartOf}
-use Rattle.bsp_hot_records.specs.declared.model.CodeTotals.{CodeTotals}
-use Rattle.bsp_hot_records.specs.declared.model.OfficeTotals.{OfficeTotals}
-use Rattle.bsp_hot_records.specs.declared.model.PeriodTotals.{PeriodTotals}
-use Rattle.bsp_hot_records.specs.declared.model.FileTotals.{FileTotals}
 use Rattle.bsp_hot_records.specs.declared.model.Record.{Record as JudgedRecord}
 use Rattle.bsp_hot_records.specs.declared.model.Record.TheVariants as record_is
 use Rattle.bsp_hot_check.specs.declared.model.Stage.{Stage}
