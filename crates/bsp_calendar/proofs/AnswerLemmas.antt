@@ -12,11 +12,11 @@ use Rattle.bsp_calendar.specs.Requests.{closing, has_code}
 use Rattle.bsp_fields.specs.declared.change.Change.TheVariants.{Done, Held}
 use Rattle.bsp_calendar.specs.declared.entries.Rate.{Rate}
 use Rattle.bsp_calendar.specs.declared.entries.Terms.{Terms}
-use Rattle.bsp_calendar.specs.Standing.{first_codes, plan_of, IsStanding, IsPlaceOf, IsFirstNotOver}
+use Rattle.bsp_calendar.specs.Standing.{first_codes, plan_of, IsPlaceOf, IsFirstNotOver}
 use Rattle.bsp_calendar.specs.declared.entries.Period.{Period}
 use Rattle.bsp_calendar.specs.declared.fault.PlanFault.TheVariants.{NotEarliest, NotOver}
 use Rattle.bsp_calendar.proofs.ListLemmas.{with_item, find_none}
-use Rattle.bsp_calendar.proofs.PeriodLemmas.{period_is, has_period_code, among_is, among_none, next_open_is, next_open_none, target_some, target_later, target_past, takes_among}
+use Rattle.bsp_calendar.proofs.PeriodLemmas.{IsStanding, period_is, has_period_code, among_is, among_none, next_open_is, next_open_none, target_some, target_later, target_past, takes_among}
 
 abbrev told : ℕ → List ℕ → Period → Period × Bool
 told code closed q = (q, is_among code closed)

@@ -8,10 +8,11 @@ use Rattle.std.proofs.lemmas.Cmp.{nat_eq_equiv}
 use Rattle.bsp_fields.specs.CivilDay.{CivilDay}
 use Rattle.bsp_calendar.specs.declared.entries.Terms.{Terms}
 use Rattle.bsp_calendar.proofs.KeyLemmas.{eqb_symm}
+use Rattle.bsp_calendar.proofs.PeriodLemmas.{IsStanding}
 use Rattle.bsp_calendar.proofs.ListedLemmas.{any_once, once_more_front}
 use Rattle.bsp_calendar.specs.DayOrder.{is_up_to}
 use Rattle.bsp_calendar.specs.Published.{Published, is_among}
-use Rattle.bsp_calendar.specs.Standing.{IsStanding, first_codes, plan_of}
+use Rattle.bsp_calendar.specs.Standing.{first_codes, plan_of}
 use Rattle.bsp_calendar.specs.Requests.{once, has_conflict, same_airline, same_rate, same_period, differ_in_rate, differ_in_days, differ_in_terms, are_within_bounds, have_airlines, has_difference, are_in_order, has_late_rate, extended, with_entries, has_terms, is_empty, holds_already}
 use Rattle.bsp_calendar.specs.declared.entries.Period.{Period}
 use Rattle.bsp_calendar.specs.declared.entries.PlanText.{PlanText}

@@ -15,7 +15,7 @@ use Rattle.bsp_calendar.specs.KeyLaws.{rate_key_cmp, alike_rates, rate_itself, a
 use Rattle.bsp_calendar.specs.Published.{Published, opening, is_among}
 use Rattle.bsp_calendar.specs.Requests.{once, AreDistinct, has_conflict, same_airline, same_rate, same_period, differ_in_rate, differ_in_days, terms_within_bounds, rates_within_bounds, are_within_bounds, have_airlines, has_difference, are_in_order, has_late_rate, extended, with_entries, on_day, closing}
 use Rattle.bsp_calendar.specs.SoundPlan.{IsSoundPlan}
-use Rattle.bsp_calendar.specs.Standing.{IsStanding, IsPlaceOf, first_codes, ends_before, plan_of}
+use Rattle.bsp_calendar.specs.Standing.{IsPlaceOf, first_codes, ends_before, plan_of}
 use Rattle.bsp_calendar.specs.declared.entries.Period.{Period}
 use Rattle.bsp_calendar.specs.declared.entries.PlanText.{PlanText}
 use Rattle.bsp_calendar.specs.declared.entries.Rate.{Rate}
@@ -25,6 +25,7 @@ use Rattle.bsp_calendar.proofs.ExtendLemmas.{accepted}
 use Rattle.bsp_calendar.proofs.KeyLemmas.{is_eq-nat_cmp, rate_key, same_rates}
 use Rattle.bsp_calendar.proofs.ListLemmas.{with_item, each_passes}
 use Rattle.bsp_calendar.proofs.ListedLemmas.{once_same, no_conflict, agree_distinct, contains_any}
+use Rattle.bsp_calendar.proofs.PeriodLemmas.{IsStanding}
 use Rattle.bsp_calendar.proofs.RateKeyLemmas.{rate_key_total}
 use Rattle.bsp_calendar.proofs.SoundLemmas.{closed_within}
 

@@ -11,14 +11,20 @@ use Rattle.bsp_fields.specs.CivilDay.{CivilDay}
 use Rattle.bsp_fields.specs.Days.{day_number}
 use Rattle.bsp_calendar.specs.DayOrder.{is_up_to, is_before, is_next_day}
 use Rattle.bsp_calendar.specs.Published.{is_among}
-use Rattle.bsp_calendar.specs.Requests.{has_days_in_order, follow_one_another}
-use Rattle.bsp_calendar.specs.Standing.{first_codes, IsStanding, ends_before, IsFirstNotOver}
+use Rattle.bsp_calendar.specs.Requests.{has_days_in_order, follow_one_another, are_in_order}
+use Rattle.bsp_calendar.specs.Standing.{first_codes, ends_before, IsFirstNotOver}
 use Rattle.bsp_calendar.specs.declared.entries.Period.{Period}
 use Rattle.bsp_calendar.proofs.ListLemmas.{with_item, find_is, find_none}
 use Rattle.bsp_calendar.proofs.DayLemmas.{up_to_true, up_to_from, not_up_to, not_up_to_from, before_true, before_from, not_before, next_above, up_to_next, below_weaker, below_trans, up_to_trans}
 
 abbrev pub AreApart : List Period → Type 0
 AreApart qs = AllPairs (λ q r. (q.code == r.code) ≡ false) qs
+
+-- as many periods as are closed, no code twice, and each period after the one before it
+pub record IsStanding (periods : List Period) (closed : ℕ) : Type 0 where
+  pub within : closed ≤ length periods
+  pub distinct : AreApart periods
+  pub in_order : are_in_order periods ≡ true
 
 -- ---- closed codes
 

@@ -17,7 +17,7 @@ use Rattle.bsp_calendar.specs.KeyLaws.{rate_key_cmp}
 use Rattle.bsp_calendar.specs.Published.{Published, opening, is_among}
 use Rattle.bsp_calendar.specs.Requests.{once, AreDistinct, same_airline, same_rate, same_period, terms_within_bounds, rates_within_bounds, extended, with_entries, on_day, closing, has_code, is_over, next_open}
 use Rattle.bsp_calendar.specs.SoundPlan.{IsPlan, IsSoundPlan}
-use Rattle.bsp_calendar.specs.Standing.{IsStanding, first_codes, ends_before}
+use Rattle.bsp_calendar.specs.Standing.{first_codes, ends_before}
 use Rattle.bsp_calendar.specs.declared.entries.Period.{Period}
 use Rattle.bsp_calendar.specs.declared.entries.PlanText.{PlanText}
 use Rattle.bsp_calendar.specs.declared.entries.Rate.{Rate}
@@ -28,7 +28,7 @@ use Rattle.bsp_calendar.proofs.KeyLemmas.{rate_key, same_rates}
 use Rattle.bsp_calendar.proofs.ListLemmas.{with_item, each_passes, all_pass}
 use Rattle.bsp_calendar.proofs.ListedLemmas.{once_contains, once_distinct, once_more_front, any_false}
 use Rattle.bsp_calendar.proofs.OutcomeLemmas.{IsPublished, published, day_set, IsClosing, closed_now}
-use Rattle.bsp_calendar.proofs.PeriodLemmas.{next_open_is, next_open_none}
+use Rattle.bsp_calendar.proofs.PeriodLemmas.{IsStanding, next_open_is, next_open_none}
 use Rattle.bsp_calendar.proofs.RateKeyLemmas.{rate_key_total}
 
 -- ---- the opening

@@ -1,11 +1,10 @@
 -- The periods of a plan, of which the first are closed.
 use Rattle.std.specs.Prelude.{◌≡◌, ℕ, ◌<◌, ◌≤◌, ◌==◌, Bool, true, false, List, map, length, take, Option, MatchOption}
-use Rattle.std.specs.List.{All, AllPairs, HoldsAt}
+use Rattle.std.specs.List.{All, HoldsAt}
 use Rattle.std.specs.List.Sorted.{IsPartitionPoint}
 use Rattle.bsp_fields.specs.CivilDay.{CivilDay}
 use Rattle.bsp_calendar.specs.DayOrder.{is_before}
 use Rattle.bsp_calendar.specs.Published.{Published}
-use Rattle.bsp_calendar.specs.Requests.{are_in_order}
 use Rattle.bsp_calendar.specs.declared.entries.Period.{Period}
 use Rattle.bsp_calendar.specs.declared.entries.Rate.{Rate}
 use Rattle.bsp_calendar.specs.declared.entries.Terms.{Terms}
@@ -13,12 +12,6 @@ use Rattle.bsp_calendar.specs.declared.entries.Terms.{Terms}
 -- the codes of the first periods
 abbrev pub first_codes : List Period → ℕ → List ℕ
 first_codes periods count = map (λ q. q.code) (take count periods)
-
--- as many periods as are closed, no code twice, and each period after the one before it
-pub record IsStanding (periods : List Period) (closed : ℕ) : Type 0 where
-  pub within : closed ≤ length periods
-  pub distinct : AllPairs (λ q r. (q.code == r.code) ≡ false) periods
-  pub in_order : are_in_order periods ≡ true
 
 -- the plan of these entries on a business day, with so many periods closed
 abbrev pub plan_of : Option Terms → List ℕ → List Rate → List Period → CivilDay → ℕ → Published

@@ -8,13 +8,14 @@ use Rattle.bsp_hot_records.specs.declared.code.DocumentCode.{DocumentCode}
 use Rattle.bsp_hot_records.specs.declared.code.DocumentCode.TheVariants.{Tktt, Rfnd, Canx, Adma, Acma}
 use Rattle.bsp_hot_records.specs.declared.totals.Sums.{Sums}
 use Rattle.bsp_hot_records.specs.declared.model.Heading.{Heading as JudgedHeading}
+use Rattle.bsp_hot_records.specs.declared.model.Record.TheVariants as record_is
 use Rattle.bsp_hot_check.specs.declared.model.Place.{Place}
 use Rattle.bsp_hot_check.specs.declared.model.Place.TheVariants.{InDocument, Totalled}
 use Rattle.bsp_hot_check.specs.declared.model.OfficeSums.{OfficeSums}
 use Rattle.bsp_hot_records.specs.Records.{Heading, Document, Record, office_header, code_totals, office_totals, period_totals, file_totals}
 use Rattle.bsp_hot_records.specs.Sums.{add, with_net, has_totals, is_code, all_codes}
 use Rattle.bsp_hot_check.specs.Hot.{Body, Item, Office, File, AreItems, IsBehind, AreOffices, IsFile, items_sums, code_sums, file_sums, items_records, has_code, office_records, offices_records, headers, all_but_last}
-use Rattle.bsp_hot_check.specs.Standings.{later_codes, left_codes, sums_at, stands_in, next_code, is_next, is_agent_after, code_totals_step, office_totals_step, period_totals_step, file_totals_step}
+use Rattle.bsp_hot_check.specs.Standings.{later_codes, left_codes, sums_at, stands_in, next_code, is_next, is_agent_after, step}
 use Rattle.bsp_hot_check.proofs.SumLemmas.{file_sums_snoc, codes_of}
 use Rattle.bsp_hot_check.proofs.PartialItems.{whole, progress_of, item_with, is_whole}
 use Rattle.bsp_hot_check.proofs.Drafts.{between, in_item, totalled, closed, ended, count_items, number, front, with_items, code_records, so_far, last_agent, office_of, office_with, made, IsInItem, IsTotalling, Next}
@@ -96,9 +97,9 @@ is_code_refl Acma = refl
 
 -- the BOT93 of the code that is found comes next
 code_total : (r r2 : ℕ) (p : Place) (h : Option JudgedHeading) (o t t2 : ℕ) (f : Sums) (agent : ℕ) (w : OfficeSums) (items : List Item) (c : DocumentCode) → w ≡ office_of items → find (has_code items) (left_codes p) ≡ Some c → r + 1 ≡ r2 → t ≡ t2
-    → code_totals_step (made r p h o t (add f w.all) (Some agent) w) (record { agent = agent; code = c; totals = with_net (code_sums c items) })
+    → step (made r p h o t (add f w.all) (Some agent) w) (record_is.CodeTotals (record { agent = agent; code = c; totals = with_net (code_sums c items) }))
     ≡ Some (made r2 (Totalled c) h o t2 (add f (items_sums items)) (Some agent) (office_of items))
-unfolding code_totals_step
+unfolding step
 code_total r r2 p h o t t2 f agent w items c e found er et =
     let next : is_next (next_code w.codes p) c ≡ true = rw (e, found_codes items (left_codes p), found) (is_code_refl c) in
     let totals : has_totals (sums_at w.codes c) (with_net (code_sums c items)) ≡ true = rw (e, sums_at_codes items c) (has_with_net (code_sums c items)) in
@@ -200,7 +201,7 @@ office_whole_records f agent items done e =
 
 pub totals : (f : File) (agent : ℕ) (items : List Item) (done : List DocumentCode) (c : DocumentCode) → IsTotalling f agent items done c → find (has_code items) (later_codes c) ≡ None
     → Next (totalled f agent items done c) (office_totals agent (with_net (items_sums items))) (between (with_office f agent items))
-unfolding office_totals_step
+unfolding step
 totals f agent items done c is none =
     let o : Office = record { agent = agent; items = items } in
     let r = office_totals agent (with_net (items_sums items)) in
@@ -219,7 +220,7 @@ totals f agent items done c is none =
 -- ---- BCT95 and BFT99
 
 pub closes : (f : File) → IsFile f → Next (between f) (period_totals f.heading.period (length f.offices) (with_net (file_sums f.offices))) (closed f)
-unfolding period_totals_step
+unfolding step
 closes f file =
     let r = period_totals f.heading.period (length f.offices) (with_net (file_sums f.offices)) in
     let records : so_far (closed f) ≡ so_far (between f) ++ r ∷ [] = sym (append_assoc (headers f) (offices_records f.heading 1 f.offices) (r ∷ [])) in
@@ -232,7 +233,7 @@ closes f file =
     }
 
 pub ends : (f : File) → IsFile f → Next (closed f) (file_totals f.heading.airline (length (all_but_last f) + 1) (with_net (file_sums f.offices))) (ended f)
-unfolding file_totals_step
+unfolding step
 ends f file =
     let r = file_totals f.heading.airline (length (all_but_last f) + 1) (with_net (file_sums f.offices)) in
     record {

@@ -1,5 +1,6 @@
 -- Lines that are judged one after the other, and files.
 use Rattle.std.proofs.Common.{◌≡◌, ℕ, suc, ◌+◌, ◌-◌, true, false, cond, ◌&&◌, List, [], ◌∷◌, ◌++◌, length, take, Option, Some, None, Result, Ok, Err, refl, sym, ap, subst, ◌∙◌, arith, inl, inr, length-append, append_assoc, append-nil}
+use Rattle.std.specs.Option.{option_map}
 use Rattle.std.specs.Str.{bytes_eq}
 use Rattle.std.proofs.lemmas.Bool.{and_parts, cases_Bool}
 use Rattle.std.proofs.lemmas.List.{take_all}
@@ -8,12 +9,13 @@ use Rattle.bsp_records.specs.Lines.{lines, BeginsOtherwise}
 use Rattle.bsp_records.specs.Columns.{columns, is_wide}
 use Rattle.bsp_records.specs.Fields.{spells}
 use Rattle.bsp_hot_records.specs.declared.name.RecordName.{RecordName}
+use Rattle.bsp_hot_check.specs.declared.model.Place.TheVariants.{Ended}
 use Rattle.bsp_hot_check.specs.declared.model.Standing.{Standing}
 use Rattle.bsp_hot_records.specs.Records.{Record, letters, name_of, fields_fit, record_of, IsRecord, AreRecords}
 use Rattle.bsp_hot_check.specs.Hot.{File, records_of, Hot, BeginFile, IsFirstFault}
 use Rattle.bsp_hot_records.specs.Judged.{judged}
-use Rattle.bsp_hot_check.specs.Standings.{step, start, is_ended}
-use Rattle.bsp_hot_records.specs.Reading.{named_record, record_at, judged_or}
+use Rattle.bsp_hot_check.specs.Standings.{step, start, is_at}
+use Rattle.bsp_hot_records.specs.Reading.{named_record, record_at}
 use Rattle.bsp_hot_check.specs.Judging.{step_or, step_line, or_fault, judge_from}
 use Rattle.bsp_hot_check.proofs.Drafts.{Draft, nothing, headed, between, opened, begun, in_item, totalled, closed, ended, so_far, standing_of, IsSoundDraft, Next}
 use Rattle.bsp_hot_check.proofs.Taken.{taken}
@@ -23,7 +25,7 @@ use Rattle.bsp_hot_check.proofs.Chains.{Chain, file_chain, reaches}
 
 read_as : (n : ℕ) (line : List ℕ) (r : Record) → IsRecord n line r → record_at n line ≡ Some r
 unfolding record_at
-read_as n line r is = rw (is.has.wide, is.has.sequence, is.has.digits, is.has.letters_are, is.has.fields, is.says) refl
+read_as n line r is = rw (is.wide, is.sequence, is.digits, is.letters_are, is.fields, is.says) refl
 
 by_name : (n : ℕ) (line : List ℕ) (r : Record) (name : Option RecordName) → name_of (columns 12 13 line) ≡ name → is_wide line ≡ true → spells n (columns 4 11 line) ≡ true → named_record name line ≡ Some r → IsRecord n line r
 by_name n line r None e wide sequence h = absurd (cc h)
@@ -35,7 +37,11 @@ by_name n line r (Some name) e wide sequence h =
           let says : r ≡ record_of name line = cc s in
           record {
             name = name;
-            has = record { wide = wide; sequence = sequence; digits = e; letters_are = a.0; fields = a.1 };
+            wide = wide;
+            sequence = sequence;
+            digits = e;
+            letters_are = a.0;
+            fields = a.1;
             says = says;
           }
       | inr k ↦ let s : None ≡ Some r = rw k at h in absurd cc
@@ -57,7 +63,7 @@ record Allowed (at : Standing) (line : List ℕ) (then : Standing) : Type 0 wher
   is : IsRecord (at.records + 1) line of
   steps : step at (judged of) ≡ Some then
 
-by_record : (at then : Standing) (line : List ℕ) (r : Option Record) → record_at (at.records + 1) line ≡ r → step_or at (judged_or r) ≡ Some then → Allowed at line then
+by_record : (at then : Standing) (line : List ℕ) (r : Option Record) → record_at (at.records + 1) line ≡ r → step_or at (option_map judged r) ≡ Some then → Allowed at line then
 by_record at then line None e h = absurd cc
 by_record at then line (Some r) e h = record { of = r; is = is_read (at.records + 1) line r e; steps = h }
 
@@ -69,7 +75,7 @@ line_steps at line r is = rw (read_as (at.records + 1) line r is) refl
 
 -- ---- judged lines
 
-pub judge_nil : (at : Standing) → judge_from at [] ≡ cond (is_ended at.place) (Ok at) (Err (at.records + 1))
+pub judge_nil : (at : Standing) → judge_from at [] ≡ cond (is_at Ended at.place) (Ok at) (Err (at.records + 1))
 unfolding judge_from
 judge_nil at = refl
 
@@ -202,11 +208,14 @@ begins_file before d p =
     record {
       records = so_far d;
       are = p.are;
-      begin = record { file = r.file; sound = r.sound; more = r.more; joined = sym (chain_so_far d (ended r.file) r.more r.chain) };
+      file = r.file;
+      sound = r.sound;
+      more = r.more;
+      joined = sym (chain_so_far d (ended r.file) r.more r.chain);
     }
 
 -- lines that end too early
-lacking : (before : List (List ℕ)) (d : Draft) → Passed before d → is_ended (standing_of d).place ≡ false → IsFirstFault before ((standing_of d).records + 1)
+lacking : (before : List (List ℕ)) (d : Draft) → Passed before d → is_at Ended (standing_of d).place ≡ false → IsFirstFault before ((standing_of d).records + 1)
 lacking before d p open_end =
     let n = (standing_of d).records + 1 in
     let count : n ≡ length before + 1 = omega (arith, count_is d, same_count before (so_far d) 1 p.are) in
@@ -222,9 +231,9 @@ lacking before d p open_end =
 -- lines that begin a file have no fault among them
 begin_judged : (lines : List (List ℕ)) → BeginFile lines → (at : Standing) × (judge_from start lines ≡ judge_from at []) × (at.records ≡ length lines)
 begin_judged lines b =
-    let f = b.begin.file in
-    let all : Chain nothing (b.records ++ b.begin.more) (ended f) = subst (λ (xs : List Record). Chain nothing xs (ended f)) (sym b.begin.joined) (file_chain f b.begin.sound) in
-    let split = chain_split nothing (ended f) b.records b.begin.more all in
+    let f = b.file in
+    let all : Chain nothing (b.records ++ b.more) (ended f) = subst (λ (xs : List Record). Chain nothing xs (ended f)) (sym b.joined) (file_chain f b.sound) in
+    let split = chain_split nothing (ended f) b.records b.more all in
     let m = split.0 in
     let judged_as : judge_from start lines ≡ judge_from (standing_of m) [] = ap (judge_from start) (sym (append-nil lines)) ∙ chain_judged b.records lines [] nothing m 1 split.1 refl b.are in
     let count : (standing_of m).records ≡ length lines = count_is m ∙ ap length (chain_so_far nothing m b.records split.1) ∙ sym (same_count lines b.records 1 b.are) in
@@ -232,7 +241,7 @@ begin_judged lines b =
 
 not_within : (at : Standing) (n : ℕ) → judge_from at [] ≡ Err n → n ≡ at.records + 1
 not_within at n h =
-    elim (cases_Bool (is_ended at.place)) [
+    elim (cases_Bool (is_at Ended at.place)) [
       | inl e ↦ let k : ◌≡◌ {A = Outcome} (Ok at) (Err n) = sym (judge_nil at ∙ rw e refl) ∙ h in absurd (no_both n at (sym k))
       | inr e ↦ let k : ◌≡◌ {A = Outcome} (Err (at.records + 1)) (Err n) = sym (judge_nil at ∙ rw e refl) ∙ h in let m : at.records + 1 ≡ n = cc in sym m
     ]
@@ -260,7 +269,7 @@ failing before d line lines p none =
       );
     }
 
-is_end : (d : Draft) → is_ended (standing_of d).place ≡ true → (f : File) × (d ≡ ended f)
+is_end : (d : Draft) → is_at Ended (standing_of d).place ≡ true → (f : File) × (d ≡ ended f)
 is_end (ended f) h = (f, refl)
 is_end nothing h = absurd cc
 is_end (headed g) h = absurd cc
@@ -293,7 +302,7 @@ by_step before d line lines (Some then) p h more =
 judged_from : (lines before : List (List ℕ)) (d : Draft) → Passed before d → IsJudged (before ++ lines) (judge_from (standing_of d) lines)
 judged_from [] before d p =
     rw (append-nil before, judge_nil (standing_of d))
-    (elim (cases_Bool (is_ended (standing_of d).place)) [
+    (elim (cases_Bool (is_at Ended (standing_of d).place)) [
       | inl h ↦ let e = is_end d h in rw h (at_end before d e.0 p e.1)
       | inr h ↦ rw h (lacking before d p h)
     ])

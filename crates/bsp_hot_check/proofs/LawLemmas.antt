@@ -25,12 +25,10 @@ fewer : (lines : List (List ℕ)) (k : ℕ) → BeginFile lines → BeginFile (t
 fewer lines k b = record {
   records = take k b.records;
   are = take_records lines b.records 1 k b.are;
-  begin = record {
-    file = b.begin.file;
-    sound = b.begin.sound;
-    more = drop k b.records ++ b.begin.more;
-    joined = sym (append_assoc (take k b.records) (drop k b.records) b.begin.more) ∙ ap (λ (xs : List Record). xs ++ b.begin.more) (take-append-drop k b.records) ∙ b.begin.joined;
-  };
+  file = b.file;
+  sound = b.sound;
+  more = drop k b.records ++ b.more;
+  joined = sym (append_assoc (take k b.records) (drop k b.records) b.more) ∙ ap (λ (xs : List Record). xs ++ b.more) (take-append-drop k b.records) ∙ b.joined;
 }
 
 -- and those of a file begin it
@@ -38,7 +36,10 @@ hot_begins : (lines : List (List ℕ)) (file : File) (k : ℕ) → Hot lines fil
 hot_begins lines file k hot = record {
   records = take k (records_of file);
   are = take_records lines (records_of file) 1 k hot.records;
-  begin = record { file = file; sound = hot.sound; more = drop k (records_of file); joined = take-append-drop k (records_of file) };
+  file = file;
+  sound = hot.sound;
+  more = drop k (records_of file);
+  joined = take-append-drop k (records_of file);
 }
 
 not_both : (lines : List (List ℕ)) (at : ℕ) (file : File) → IsFirstFault lines at → Hot lines file → ⊥

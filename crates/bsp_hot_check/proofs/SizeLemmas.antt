@@ -17,7 +17,7 @@ use Rattle.bsp_hot_check.specs.declared.model.Standing.{Standing}
 use Rattle.bsp_hot_records.specs.Sums.{no_sums, one_document, AreSmall}
 use Rattle.bsp_hot_records.proofs.SizeLemmas.{no_small, one_small, small_add, one_longer}
 use Rattle.bsp_hot_records.specs.Judged.{IsSmallPart, IsSmallRecord}
-use Rattle.bsp_hot_check.specs.Standings.{key_of, sums_at, add_at, moved, counted, allowed, judged_sums, progress_behind, heading_step, period_step, office_step, transaction_step, document_step, part_step_in, part_step, code_totals_step, office_totals_step, period_totals_step, file_totals_step, step, AreSmallSums, IsSmall, IsSmallNext}
+use Rattle.bsp_hot_check.specs.Standings.{key_of, sums_at, add_at, moved, counted, allowed, judged_sums, progress_behind, part_step, step, AreSmallSums, IsSmall, IsSmallNext}
 
 -- the sums of one code are small where those of all are
 pub small_at : (n : ℕ) (sums : CodeSums) (c : DocumentCode) → AreSmallSums n sums → AreSmall n (sums_at sums c)
@@ -75,13 +75,13 @@ by_allowed : (test : Bool) (at x next : Standing) → allowed test x ≡ Some ne
 by_allowed true at x next e g = let k : x ≡ next = cc in subst (IsSmallNext at) k g
 by_allowed false at x next e g = absurd cc
 
-small_next_part : (at next : Standing) (place : Place) (heading : Option Heading) (y : PartOf) → IsSmall at → IsSmallPart y.part → part_step_in at place heading y ≡ Some next → IsSmallNext at next
+small_next_part : (at next : Standing) (place : Place) (heading : Option Heading) (y : PartOf) → IsSmall at → IsSmallPart y.part → part_step at place heading y ≡ Some next → IsSmallNext at next
 small_next_part at next (InDocument x) (Some heading) y h one e =
     by_allowed _ at (counted at (progress_behind x y.part) (judged_sums y.part)) next e (record { records = refl; small = small_counted at (progress_behind x y.part) (judged_sums y.part) h (small_part y.part one) })
 small_next_part at next _ _ y h one e = absurd cc
 
 small_next : (at next : Standing) (r : Record) → IsSmall at → IsSmallRecord r → step at r ≡ Some next → IsSmallNext at next
-unfolding heading_step period_step office_step transaction_step document_step part_step code_totals_step office_totals_step period_totals_step file_totals_step
+unfolding step
 small_next at next (record_is.FileHeader heading) h one e =
     let m = small_moved at Headed h in
     by_allowed _ at _ next e (record { records = refl; small = record { offices = m.offices; transactions = m.transactions; file = m.file; codes = m.codes; all = m.all } })

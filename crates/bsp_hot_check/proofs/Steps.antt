@@ -17,7 +17,7 @@ use Rattle.bsp_hot_records.specs.Records.{Days, Heading, Document, Part, amounts
 use Rattle.bsp_hot_records.specs.Sums.{one_document, add, with_net, is_same, has_totals}
 use Rattle.bsp_hot_check.specs.Hot.{Body, Item, File, IsAfter, AreItems, IsItem, IsFile, part_sums, document_sums, items_sums, file_sums, item_records, items_records}
 use Rattle.bsp_hot_records.specs.Judged.{judged_part}
-use Rattle.bsp_hot_check.specs.Standings.{judged_sums, is_key_after, is_agent_after, add_at, allowed, heading_step, period_step, office_step, transaction_step, document_step, part_step}
+use Rattle.bsp_hot_check.specs.Standings.{judged_sums, is_key_after, is_agent_after, add_at, allowed, step}
 use Rattle.bsp_hot_records.proofs.SumLemmas.{plus_assoc, none_right}
 use Rattle.bsp_hot_check.proofs.SumLemmas.{document_sums_none, document_sums_snoc, items_sums_snoc, codes_of, codes_snoc, add_at_more}
 use Rattle.bsp_hot_check.proofs.PartialItems.{PartialItem, whole, first, code_of, parts_so_far, IsNextPart, item_with, is_item, is_whole, first_code, first_parts, first_progress, first_sound}
@@ -50,14 +50,14 @@ has_with_net s =
 -- ---- the headers
 
 pub begins : (h : Heading) → Next nothing (file_header h) (headed h)
-unfolding heading_step
+unfolding step
 begins h = record { stands = refl; records_are = refl; sound = tt }
 
 abbrev pub no_offices : Heading → Days → File
 no_offices h days = record { heading = h; days = days; offices = [] }
 
 pub heads : (h : Heading) (days : Days) → Next (headed h) (period_header h.period days) (between (no_offices h days))
-unfolding period_step
+unfolding step
 heads h days = record {
   stands = allowed_as _ _ _ (eqb-refl h.period) refl;
   records_are = refl;
@@ -67,7 +67,7 @@ heads h days = record {
 -- ---- an office begins
 
 pub opens : (f : File) (agent : ℕ) → IsFile f → is_agent_after (last_agent None f.offices) agent ≡ true → Next (between f) (office_header agent f.heading.period f.heading.currency) (opened f agent)
-unfolding office_step
+unfolding step
 opens f agent file after = record {
   stands =
       let currency = (bytes_eq-Decides f.heading.currency f.heading.currency).1 refl in
@@ -83,7 +83,7 @@ pub number_none : (f : File) → number f [] ≡ count_items f.offices + 1
 number_none f = omega arith
 
 pub begins_first : (f : File) (agent : ℕ) → IsOpen f agent [] → Next (opened f agent) (transaction_header (number f []) f.heading.airline) (begun f agent [])
-unfolding transaction_step
+unfolding step
 begins_first f agent is_open = record {
   stands =
       let test = and_from _ _ (eq-eqb _ _ (number_none f)) (eqb-refl f.heading.airline) in
@@ -142,7 +142,7 @@ open_snoc f agent items d body g = record {
 
 pub begins_next : (f : File) (agent : ℕ) (items : List Item) (d : Document) (body : Body) → IsInItem f agent items d (whole body)
     → Next (in_item f agent items d (whole body)) (transaction_header (number f (items ++ item_with d body ∷ [])) f.heading.airline) (begun f agent (items ++ item_with d body ∷ []))
-unfolding transaction_step
+unfolding step
 begins_next f agent items d body g =
     let it = item_with d body in
     let items2 = items ++ it ∷ [] in
@@ -163,7 +163,7 @@ begins_next f agent items d body g =
 
 pub documents : (f : File) (agent : ℕ) (items : List Item) (c : DocumentCode) (d : Document) → IsOpen f agent items → is_key_after (latest_key items) (record { code = c; number = d.number }) ≡ true
     → Next (begun f agent items) (document (number f items) agent c d) (in_item f agent items d (first c))
-unfolding document_step
+unfolding step
 documents f agent items c d is_open after =
     let r = document (number f items) agent c d in
     let n = number f items in
@@ -198,7 +198,7 @@ judged_adds (exchange ex) = refl
 
 pub parts : (f : File) (agent : ℕ) (items : List Item) (d : Document) (g h : PartialItem) (x : Part) → IsInItem f agent items d g → IsNextPart f.heading.airline g x h
     → Next (in_item f agent items d g) (part (number f items) x) (in_item f agent items d h)
-unfolding part_step
+unfolding step
 parts f agent items d g h x is next =
     let n = number f items in
     let r = part n x in

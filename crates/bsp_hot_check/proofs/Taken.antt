@@ -9,6 +9,7 @@ use Rattle.bsp_hot_records.specs.declared.code.DocumentCode.{DocumentCode}
 use Rattle.bsp_hot_records.specs.declared.code.DocumentCode.TheVariants.{Tktt, Rfnd, Canx, Adma, Acma}
 use Rattle.bsp_hot_records.specs.declared.totals.Sums.{Sums}
 use Rattle.bsp_hot_records.specs.declared.totals.Totals.{Totals}
+use Rattle.bsp_hot_records.specs.declared.model.Record.TheVariants as record_is
 use Rattle.bsp_hot_check.specs.declared.model.OfficeSums.{OfficeSums}
 use Rattle.bsp_hot_check.specs.declared.model.Place.TheVariants.{InDocument}
 use Rattle.bsp_hot_check.specs.declared.model.Standing.{Standing}
@@ -16,7 +17,7 @@ use Rattle.bsp_hot_records.specs.Records.{Days, Heading, Document, Part, Record,
 use Rattle.bsp_hot_records.specs.Sums.{with_net, is_same, has_totals, is_code, all_codes}
 use Rattle.bsp_hot_check.specs.Hot.{Body, Item, File, items_sums, code_sums, file_sums, has_code, all_but_last}
 use Rattle.bsp_hot_records.specs.Judged.{judged, judged_part}
-use Rattle.bsp_hot_check.specs.Standings.{is_complete_progress, later_codes, sums_at, next_code, is_next, allowed, heading_step, period_step, office_step, transaction_step, document_step, part_step, code_totals_step, office_totals_step, period_totals_step, file_totals_step, step}
+use Rattle.bsp_hot_check.specs.Standings.{is_complete_progress, later_codes, sums_at, next_code, is_next, allowed, step}
 use Rattle.bsp_hot_check.proofs.SumLemmas.{codes_of}
 use Rattle.bsp_hot_check.proofs.PartialItems.{PartialItem, whole, progress_of, next_part, item_with, is_whole, whole_body}
 use Rattle.bsp_hot_check.proofs.Drafts.{Draft, nothing, headed, between, opened, begun, in_item, totalled, closed, ended, number, office_with, standing_of, IsOpen, IsInItem, IsTotalling, IsSoundDraft, Next}
@@ -68,15 +69,15 @@ none_is (Some c) h = absurd cc
 
 -- ---- each record
 
-period_taken : (h : Heading) (period : ℕ) (days : Days) (at : Standing) → period_step (standing_of (headed h)) period ≡ Some at → Taken (headed h) (period_header period days)
-unfolding period_step
+period_taken : (h : Heading) (period : ℕ) (days : Days) (at : Standing) → step (standing_of (headed h)) (record_is.PeriodHeader period) ≡ Some at → Taken (headed h) (period_header period days)
+unfolding step
 period_taken h period days at e =
     let k = eqb-true _ _ (test_of _ _ _ e) in
     same_record _ _ _ (ap (λ (x : ℕ). period_header x days) k) (_, heads h days)
 
-office_taken : (f : File) (agent period : ℕ) (currency : List ℕ) (at : Standing) → IsSoundDraft (between f) → office_step (standing_of (between f)) (record { agent = agent; period = period; currency = currency }) ≡ Some at
+office_taken : (f : File) (agent period : ℕ) (currency : List ℕ) (at : Standing) → IsSoundDraft (between f) → step (standing_of (between f)) (record_is.OfficeHeader (record { agent = agent; period = period; currency = currency })) ≡ Some at
     → Taken (between f) (office_header agent period currency)
-unfolding office_step
+unfolding step
 office_taken f agent period currency at sound e =
     let a = and_parts _ _ (test_of _ _ _ e) in
     let b = and_parts _ _ a.0 in
@@ -84,9 +85,9 @@ office_taken f agent period currency at sound e =
     let currency_is : currency ≡ f.heading.currency = (bytes_eq-Decides currency f.heading.currency).0 a.1 in
     same_record _ _ (office_header agent f.heading.period f.heading.currency) (rw (period_is, currency_is) refl) (opened f agent, opens f agent sound b.0)
 
-first_taken : (f : File) (agent n airline : ℕ) (at : Standing) → IsSoundDraft (opened f agent) → transaction_step (standing_of (opened f agent)) (record { transaction = n; airline = airline }) ≡ Some at
+first_taken : (f : File) (agent n airline : ℕ) (at : Standing) → IsSoundDraft (opened f agent) → step (standing_of (opened f agent)) (record_is.TransactionHeader (record { transaction = n; airline = airline })) ≡ Some at
     → Taken (opened f agent) (transaction_header n airline)
-unfolding transaction_step
+unfolding step
 first_taken f agent n airline at sound e =
     let a = and_parts _ _ (test_of _ _ _ e) in
     let number_is : n ≡ number f [] = eqb-true _ _ a.0 ∙ sym (number_none f) in
@@ -100,9 +101,9 @@ behind_whole f agent items d body n airline sound number_is airline_is =
     same_record _ _ (transaction_header (number f (items ++ it ∷ [])) f.heading.airline) (rw (number_is, airline_is, number_more f items it) refl) (_, begins_next f agent items d body sound)
 
 transaction_taken : (f : File) (agent : ℕ) (items : List Item) (d : Document) (g : PartialItem) (n airline : ℕ) (at : Standing) → IsInItem f agent items d g
-    → transaction_step (standing_of (in_item f agent items d g)) (record { transaction = n; airline = airline }) ≡ Some at
+    → step (standing_of (in_item f agent items d g)) (record_is.TransactionHeader (record { transaction = n; airline = airline })) ≡ Some at
     → Taken (in_item f agent items d g) (transaction_header n airline)
-unfolding transaction_step
+unfolding step
 transaction_taken f agent items d g n airline at sound e =
     let a = and_parts _ _ (test_of _ _ _ e) in
     let b = and_parts _ _ a.0 in
@@ -111,9 +112,9 @@ transaction_taken f agent items d g n airline at sound e =
     subst P (sym w.1) (λ s. behind_whole f agent items d w.0 n airline s (eqb-true _ _ b.1) (eqb-true _ _ a.1)) sound
 
 document_taken : (f : File) (agent : ℕ) (items : List Item) (n agent2 : ℕ) (c : DocumentCode) (d : Document) (at : Standing) → IsOpen f agent items
-    → document_step (standing_of (begun f agent items)) (record { transaction = n; agent = agent2; code = c; number = d.number }) ≡ Some at
+    → step (standing_of (begun f agent items)) (record_is.Document (record { transaction = n; agent = agent2; code = c; number = d.number })) ≡ Some at
     → Taken (begun f agent items) (document n agent2 c d)
-unfolding document_step
+unfolding step
 document_taken f agent items n agent2 c d at sound e =
     let a = and_parts _ _ (test_of _ _ _ e) in
     let b = and_parts _ _ a.0 in
@@ -122,9 +123,9 @@ document_taken f agent items n agent2 c d at sound e =
     same_record _ _ (document (number f items) agent c d) (rw (number_is, agent_is) refl) (_, documents f agent items c d sound a.1)
 
 part_taken : (f : File) (agent : ℕ) (items : List Item) (d : Document) (g : PartialItem) (n : ℕ) (x : Part) (at : Standing) → IsInItem f agent items d g
-    → part_step (standing_of (in_item f agent items d g)) (record { transaction = n; part = judged_part x }) ≡ Some at
+    → step (standing_of (in_item f agent items d g)) (record_is.PartOf (record { transaction = n; part = judged_part x })) ≡ Some at
     → Taken (in_item f agent items d g) (part n x)
-unfolding part_step
+unfolding step
 part_taken f agent items d g n x at sound e =
     let a = and_parts _ _ (test_of _ _ _ e) in
     let number_is : n ≡ number f items = eqb-true _ _ a.1 in
@@ -147,9 +148,9 @@ no_code f items d g c next true e = refl
 no_code f items d g c next false e = let k = rw e at next in absurd cc
 
 code_taken : (f : File) (agent : ℕ) (items : List Item) (d : Document) (g : PartialItem) (agent2 : ℕ) (c : DocumentCode) (t : Totals) (at : Standing) → IsInItem f agent items d g
-    → code_totals_step (standing_of (in_item f agent items d g)) (record { agent = agent2; code = c; totals = t }) ≡ Some at
+    → step (standing_of (in_item f agent items d g)) (record_is.CodeTotals (record { agent = agent2; code = c; totals = t })) ≡ Some at
     → Taken (in_item f agent items d g) (code_totals agent2 c t)
-unfolding code_totals_step
+unfolding step
 code_taken f agent items d g agent2 c t at sound e =
     let a = and_parts _ _ (test_of _ _ _ e) in
     let b = and_parts _ _ a.0 in
@@ -159,9 +160,9 @@ code_taken f agent items d g agent2 c t at sound e =
     subst P (sym w.1) (λ s next has. totals_whole f agent items d w.0 agent2 c t s next (eqb-true _ _ b.1) has) sound b.0 a.1
 
 code_taken_next : (f : File) (agent : ℕ) (items : List Item) (done : List DocumentCode) (before : DocumentCode) (agent2 : ℕ) (c : DocumentCode) (t : Totals) (at : Standing) → IsTotalling f agent items done before
-    → code_totals_step (standing_of (totalled f agent items done before)) (record { agent = agent2; code = c; totals = t }) ≡ Some at
+    → step (standing_of (totalled f agent items done before)) (record_is.CodeTotals (record { agent = agent2; code = c; totals = t })) ≡ Some at
     → Taken (totalled f agent items done before) (code_totals agent2 c t)
-unfolding code_totals_step
+unfolding step
 code_taken_next f agent items done before agent2 c t at sound e =
     let a = and_parts _ _ (test_of _ _ _ e) in
     let b = and_parts _ _ a.0 in
@@ -171,9 +172,9 @@ code_taken_next f agent items done before agent2 c t at sound e =
     same_record _ _ (code_totals agent c (with_net (code_sums c items))) (rw (agent_is, totals_is) refl) (_, totals_next f agent items done before c sound found)
 
 office_totals_taken : (f : File) (agent : ℕ) (items : List Item) (done : List DocumentCode) (c : DocumentCode) (agent2 : ℕ) (t : Totals) (at : Standing) → IsTotalling f agent items done c
-    → office_totals_step (standing_of (totalled f agent items done c)) (record { agent = agent2; totals = t }) ≡ Some at
+    → step (standing_of (totalled f agent items done c)) (record_is.OfficeTotals (record { agent = agent2; totals = t })) ≡ Some at
     → Taken (totalled f agent items done c) (office_totals agent2 t)
-unfolding office_totals_step
+unfolding step
 office_totals_taken f agent items done c agent2 t at sound e =
     let a = and_parts _ _ (test_of _ _ _ e) in
     let b = and_parts _ _ a.0 in
@@ -182,9 +183,9 @@ office_totals_taken f agent items done c agent2 t at sound e =
     let totals_is : t ≡ with_net (items_sums items) = totals_are _ t a.1 in
     same_record _ _ (office_totals agent (with_net (items_sums items))) (rw (agent_is, totals_is) refl) (_, totals f agent items done c sound none)
 
-period_totals_taken : (f : File) (period offices : ℕ) (t : Totals) (at : Standing) → IsSoundDraft (between f) → period_totals_step (standing_of (between f)) (record { period = period; offices = offices; totals = t }) ≡ Some at
+period_totals_taken : (f : File) (period offices : ℕ) (t : Totals) (at : Standing) → IsSoundDraft (between f) → step (standing_of (between f)) (record_is.PeriodTotals (record { period = period; offices = offices; totals = t })) ≡ Some at
     → Taken (between f) (period_totals period offices t)
-unfolding period_totals_step
+unfolding step
 period_totals_taken f period offices t at sound e =
     let a = and_parts _ _ (test_of _ _ _ e) in
     let b = and_parts _ _ a.0 in
@@ -193,9 +194,9 @@ period_totals_taken f period offices t at sound e =
     let totals_is : t ≡ with_net (file_sums f.offices) = totals_are _ t a.1 in
     same_record _ _ (period_totals f.heading.period (length f.offices) (with_net (file_sums f.offices))) (rw (period_is, offices_are, totals_is) refl) (_, closes f sound)
 
-file_totals_taken : (f : File) (airline records : ℕ) (t : Totals) (at : Standing) → IsSoundDraft (closed f) → file_totals_step (standing_of (closed f)) (record { airline = airline; records = records; totals = t }) ≡ Some at
+file_totals_taken : (f : File) (airline records : ℕ) (t : Totals) (at : Standing) → IsSoundDraft (closed f) → step (standing_of (closed f)) (record_is.FileTotals (record { airline = airline; records = records; totals = t })) ≡ Some at
     → Taken (closed f) (file_totals airline records t)
-unfolding file_totals_step
+unfolding step
 file_totals_taken f airline records t at sound e =
     let a = and_parts _ _ (test_of _ _ _ e) in
     let b = and_parts _ _ a.0 in
@@ -206,7 +207,7 @@ file_totals_taken f airline records t at sound e =
 
 -- a record that the ones before allow
 pub taken : (d : Draft) (r : Record) (at : Standing) → IsSoundDraft d → step (standing_of d) (judged r) ≡ Some at → Taken d r
-unfolding heading_step period_step office_step transaction_step document_step part_step code_totals_step office_totals_step period_totals_step file_totals_step
+unfolding step
 taken nothing (file_header h) at sound e = (headed h, begins h)
 taken (headed h) (period_header period days) at sound e = period_taken h period days at e
 taken (between f) (office_header agent period currency) at sound e = office_taken f agent period currency at sound e

@@ -196,28 +196,20 @@ totals_of_file f = record {
   net = (with_net (file_sums f.offices)).net;
 }
 
--- the records are the first of some file's
-pub record Begin (records : List Record) : Type 0 where
+-- the lines are the first records of some file
+pub record BeginFile (lines : List (List ℕ)) : Type 0 where
+  pub records : List Record
+  pub are : AreRecords 1 lines records
   pub file : File
   pub sound : IsFile file
   pub more : List Record
   pub joined : records ++ more ≡ records_of file
 
--- the lines are the first records of some file
-pub record BeginFile (lines : List (List ℕ)) : Type 0 where
-  pub records : List Record
-  pub are : AreRecords 1 lines records
-  pub begin : Begin records
-
--- the lines are those of no file
-abbrev pub IsNoFile : List (List ℕ) → Type 0
-IsNoFile lines = (file : File) → Hot lines file → ⊥
-
 -- the record with this number is the first at fault: those before it are the first records of some file, and with it they are not, or it is the one that is missing
 pub record IsFirstFault (lines : List (List ℕ)) (at : ℕ) : Type 0 where
   pub counted : 1 ≤ at
   pub before : BeginFile (take (at - 1) lines)
-  pub fault : ((at ≤ length lines) × (BeginFile (take at lines) → ⊥)) ⊎ ((at ≡ length lines + 1) × IsNoFile lines)
+  pub fault : ((at ≤ length lines) × (BeginFile (take at lines) → ⊥)) ⊎ ((at ≡ length lines + 1) × ((file : File) → Hot lines file → ⊥))
 
 -- some record is at fault or some file has the lines, and not both; no two records are the first at fault, and no two files of the lines have other totals
 pub record HotOrFault (lines : List (List ℕ)) : Type 0 where

@@ -2,8 +2,9 @@
 use Rattle.std.specs.Prelude.{ℕ, ◌+◌, List, [], ◌∷◌, Option, Some, None, Result, Ok, Err, if◌then◌else◌}
 use Rattle.bsp_hot_records.specs.declared.model.Record.{Record as JudgedRecord}
 use Rattle.bsp_hot_records.specs.Reading.{judged_at}
+use Rattle.bsp_hot_check.specs.declared.model.Place.TheVariants.{Ended}
 use Rattle.bsp_hot_check.specs.declared.model.Standing.{Standing}
-use Rattle.bsp_hot_check.specs.Standings.{step, is_ended}
+use Rattle.bsp_hot_check.specs.Standings.{step, is_at}
 
 abbrev pub step_or : Standing → Option JudgedRecord → Option Standing
 step_or at None = None
@@ -18,5 +19,5 @@ or_fault n None more = Err n
 or_fault n (Some at) more = more at
 
 unfoldable pub judge_from : Standing → List (List ℕ) → Result Standing ℕ
-judge_from at [] = if is_ended at.place then Ok at else Err (at.records + 1)
+judge_from at [] = if is_at Ended at.place then Ok at else Err (at.records + 1)
 judge_from at (line ∷ lines) = or_fault (at.records + 1) (step_line at line) (λ next. judge_from next lines)

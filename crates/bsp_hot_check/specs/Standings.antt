@@ -7,17 +7,11 @@ use Rattle.bsp_hot_records.specs.declared.code.DocumentCode.TheVariants.{Tktt, R
 use Rattle.bsp_hot_records.specs.declared.totals.Sums.{Sums}
 use Rattle.bsp_hot_check.specs.declared.model.HotTotals.{HotTotals}
 use Rattle.bsp_hot_records.specs.declared.model.Heading.{Heading as JudgedHeading}
-use Rattle.bsp_hot_records.specs.declared.model.OfficeHeader.{OfficeHeader}
-use Rattle.bsp_hot_records.specs.declared.model.TransactionHeader.{TransactionHeader}
 use Rattle.bsp_hot_check.specs.declared.model.DocumentKey.{DocumentKey}
 use Rattle.bsp_hot_records.specs.declared.model.Document.{Document as JudgedDocument}
 use Rattle.bsp_hot_records.specs.declared.model.Part.{Part as JudgedPart}
 use Rattle.bsp_hot_records.specs.declared.model.Part.TheVariants as part_is
 use Rattle.bsp_hot_records.specs.declared.model.PartOf.{PartOf}
-use Rattle.bsp_hot_records.specs.declared.model.CodeTotals.{CodeTotals}
-use Rattle.bsp_hot_records.specs.declared.model.OfficeTotals.{OfficeTotals}
-use Rattle.bsp_hot_records.specs.declared.model.PeriodTotals.{PeriodTotals}
-use Rattle.bsp_hot_records.specs.declared.model.FileTotals.{FileTotals}
 use Rattle.bsp_hot_records.specs.declared.model.Record.{Record as JudgedRecord}
 use Rattle.bsp_hot_records.specs.declared.model.Record.TheVariants as record_is
 use Rattle.bsp_hot_check.specs.declared.model.Stage.{Stage}
@@ -33,33 +27,19 @@ use Rattle.bsp_hot_check.specs.Hot.{is_before}
 
 -- ---- what may stand behind what
 
-abbrev pub is_start : Place → Bool
-is_start Start = true
-is_start _ = false
-
-abbrev pub is_headed : Place → Bool
-is_headed Headed = true
-is_headed _ = false
-
-abbrev pub is_between : Place → Bool
-is_between Between = true
-is_between _ = false
-
-abbrev pub is_begun : Place → Bool
-is_begun Begun = true
-is_begun _ = false
+-- the place is this one, of those that hold no value
+abbrev pub is_at : Place → Place → Bool
+is_at Start Start = true
+is_at Headed Headed = true
+is_at Between Between = true
+is_at Begun Begun = true
+is_at Closed Closed = true
+is_at Ended Ended = true
+is_at _ _ = false
 
 abbrev pub is_totalled : Place → Bool
 is_totalled (Totalled c) = true
 is_totalled _ = false
-
-abbrev pub is_closed : Place → Bool
-is_closed Closed = true
-is_closed _ = false
-
-abbrev pub is_ended : Place → Bool
-is_ended Ended = true
-is_ended _ = false
 
 -- by the code of a document, its last record, and whether it has a BKS45
 abbrev pub is_complete : DocumentCode → Stage → Bool → Bool
@@ -73,53 +53,34 @@ is_complete Adma stage.Cash has_related = true
 is_complete Acma stage.Cash has_related = true
 is_complete _ _ has_related = false
 
-abbrev pub takes_amounts : DocumentCode → Stage → Bool → Bool
-takes_amounts Tktt stage.Document taxed = true
-takes_amounts Rfnd stage.Document taxed = true
-takes_amounts Adma stage.Document taxed = not taxed
-takes_amounts Acma stage.Document taxed = not taxed
-takes_amounts _ _ taxed = false
-
-abbrev pub takes_commission : DocumentCode → Stage → Bool
-takes_commission Tktt stage.Amounts = true
-takes_commission Rfnd stage.Amounts = true
-takes_commission _ _ = false
-
-abbrev pub takes_related : DocumentCode → Stage → Bool
-takes_related Tktt stage.Commission = true
-takes_related Rfnd stage.Commission = true
-takes_related _ _ = false
-
-abbrev pub takes_cash : DocumentCode → Stage → Bool
-takes_cash Tktt stage.Commission = true
-takes_cash Tktt stage.Related = true
-takes_cash Rfnd stage.Related = true
-takes_cash Adma stage.Amounts = true
-takes_cash Acma stage.Amounts = true
-takes_cash _ _ = false
-
-abbrev pub takes_credit : DocumentCode → Stage → Bool
-takes_credit Tktt stage.Commission = true
-takes_credit Tktt stage.Related = true
-takes_credit Tktt stage.Cash = true
-takes_credit Rfnd stage.Related = true
-takes_credit Rfnd stage.Cash = true
-takes_credit _ _ = false
-
-abbrev pub takes_exchange : DocumentCode → Stage → Bool → Bool
-takes_exchange Tktt stage.Related has_related = has_related
-takes_exchange Tktt stage.Cash has_related = has_related
-takes_exchange Tktt stage.Credit has_related = has_related
-takes_exchange _ _ has_related = false
+-- by the airline, a document's code, its last record, whether it has a BKS45, and the record that is to come next
+abbrev pub takes_part : ℕ → DocumentCode → Stage → Bool → JudgedPart → Bool
+takes_part airline Tktt stage.Document related (part_is.Amounts taxed) = true
+takes_part airline Tktt stage.Amounts related (part_is.Commission amount) = true
+takes_part airline Tktt stage.Commission related (part_is.Related other) = other == airline
+takes_part airline Tktt stage.Commission related (part_is.Cash amount) = true
+takes_part airline Tktt stage.Commission related (part_is.Credit amount) = true
+takes_part airline Tktt stage.Related related (part_is.Cash amount) = true
+takes_part airline Tktt stage.Related related (part_is.Credit amount) = true
+takes_part airline Tktt stage.Related related part_is.Exchange = related
+takes_part airline Tktt stage.Cash related (part_is.Credit amount) = true
+takes_part airline Tktt stage.Cash related part_is.Exchange = related
+takes_part airline Tktt stage.Credit related part_is.Exchange = related
+takes_part airline Rfnd stage.Document related (part_is.Amounts taxed) = true
+takes_part airline Rfnd stage.Amounts related (part_is.Commission amount) = true
+takes_part airline Rfnd stage.Commission related (part_is.Related other) = other == airline
+takes_part airline Rfnd stage.Related related (part_is.Cash amount) = true
+takes_part airline Rfnd stage.Related related (part_is.Credit amount) = true
+takes_part airline Rfnd stage.Cash related (part_is.Credit amount) = true
+takes_part airline Adma stage.Document related (part_is.Amounts taxed) = not taxed
+takes_part airline Adma stage.Amounts related (part_is.Cash amount) = true
+takes_part airline Acma stage.Document related (part_is.Amounts taxed) = not taxed
+takes_part airline Acma stage.Amounts related (part_is.Cash amount) = true
+takes_part airline _ _ related _ = false
 
 -- a further record of a document of this airline
 abbrev pub takes : ℕ → Progress → JudgedPart → Bool
-takes airline x (part_is.Amounts taxed) = takes_amounts x.code x.stage taxed
-takes airline x (part_is.Commission amount) = takes_commission x.code x.stage
-takes airline x (part_is.Related other) = takes_related x.code x.stage && (other == airline)
-takes airline x (part_is.Cash amount) = takes_cash x.code x.stage
-takes airline x (part_is.Credit amount) = takes_credit x.code x.stage
-takes airline x part_is.Exchange = takes_exchange x.code x.stage x.related
+takes airline x y = takes_part airline x.code x.stage x.related y
 
 abbrev pub stage_of : JudgedPart → Stage
 stage_of (part_is.Amounts taxed) = stage.Amounts
@@ -168,9 +129,6 @@ sums_at sums Canx = sums.canx
 sums_at sums Adma = sums.adma
 sums_at sums Acma = sums.acma
 
-abbrev pub no_code_sums : CodeSums
-no_code_sums = record { tktt = no_sums; rfnd = no_sums; canx = no_sums; adma = no_sums; acma = no_sums }
-
 abbrev pub add_at : CodeSums → DocumentCode → Sums → CodeSums
 add_at sums Tktt s = record { tktt = add sums.tktt s; rfnd = sums.rfnd; canx = sums.canx; adma = sums.adma; acma = sums.acma }
 add_at sums Rfnd s = record { tktt = sums.tktt; rfnd = add sums.rfnd s; canx = sums.canx; adma = sums.adma; acma = sums.acma }
@@ -183,7 +141,11 @@ abbrev pub stands_in : CodeSums → DocumentCode → Bool
 stands_in sums c = nat_lt 0 (sums_at sums c).documents
 
 abbrev pub no_office : OfficeSums
-no_office = record { codes = no_code_sums; all = no_sums; latest = None }
+no_office = record {
+  codes = record { tktt = no_sums; rfnd = no_sums; canx = no_sums; adma = no_sums; acma = no_sums };
+  all = no_sums;
+  latest = None;
+}
 
 -- the code whose BOT93 comes next
 abbrev pub next_code : CodeSums → Place → Option DocumentCode
@@ -252,32 +214,6 @@ counted at x s =
 abbrev pub allowed : Bool → Standing → Option Standing
 allowed test at = if test then Some at else None
 
-unfoldable pub heading_step : Standing → JudgedHeading → Option Standing
-heading_step at h = allowed (is_start at.place) (record (moved at Headed) { heading = Some h })
-
-unfoldable pub period_step : Standing → ℕ → Option Standing
-period_step at period = allowed (is_headed at.place && is_period at.heading period) (moved at Between)
-
-unfoldable pub office_step : Standing → OfficeHeader → Option Standing
-office_step at o =
-    allowed
-    (is_between at.place && is_agent_after at.agent o.agent && is_period at.heading o.period && is_currency at.heading o.currency)
-    (record (moved at Opened) { agent = Some o.agent })
-
-unfoldable pub transaction_step : Standing → TransactionHeader → Option Standing
-transaction_step at t =
-    allowed
-    (takes_transaction at.place && (t.transaction == at.transactions + 1) && is_airline at.heading t.airline)
-    (record (moved at Begun) { transactions = at.transactions + 1 })
-
-unfoldable pub document_step : Standing → JudgedDocument → Option Standing
-document_step at d =
-    allowed
-    (is_begun at.place && (d.transaction == at.transactions) && is_agent at.agent d.agent && is_key_after at.office.latest (key_of d))
-    (counted
-    (record at { office = record at.office { latest = Some (key_of d) } })
-    (record { code = d.code; stage = stage.Document; related = false }) one_document)
-
 abbrev pub judged_sums : JudgedPart → Sums
 judged_sums (part_is.Amounts taxed) = no_sums
 judged_sums (part_is.Commission amount) = record { documents = 0; cash = pos 0; credit = pos 0; commission = amount }
@@ -286,49 +222,46 @@ judged_sums (part_is.Cash amount) = record { documents = 0; cash = amount; credi
 judged_sums (part_is.Credit amount) = record { documents = 0; cash = pos 0; credit = amount; commission = pos 0 }
 judged_sums part_is.Exchange = no_sums
 
-abbrev pub part_step_in : Standing → Place → Option JudgedHeading → PartOf → Option Standing
-part_step_in at (InDocument x) (Some h) y =
+abbrev pub part_step : Standing → Place → Option JudgedHeading → PartOf → Option Standing
+part_step at (InDocument x) (Some h) y =
     allowed (takes h.airline x y.part && (y.transaction == at.transactions)) (counted at (progress_behind x y.part) (judged_sums y.part))
-part_step_in at _ _ y = None
+part_step at _ _ y = None
 
-unfoldable pub part_step : Standing → PartOf → Option Standing
-part_step at y = part_step_in at at.place at.heading y
-
-unfoldable pub code_totals_step : Standing → CodeTotals → Option Standing
-code_totals_step at t =
+-- one more record, where those before allow it
+unfoldable pub step : Standing → JudgedRecord → Option Standing
+step at (record_is.FileHeader h) = allowed (is_at Start at.place) (record (moved at Headed) { heading = Some h })
+step at (record_is.PeriodHeader period) = allowed (is_at Headed at.place && is_period at.heading period) (moved at Between)
+step at (record_is.OfficeHeader o) =
+    allowed
+    (is_at Between at.place && is_agent_after at.agent o.agent && is_period at.heading o.period && is_currency at.heading o.currency)
+    (record (moved at Opened) { agent = Some o.agent })
+step at (record_is.TransactionHeader t) =
+    allowed
+    (takes_transaction at.place && (t.transaction == at.transactions + 1) && is_airline at.heading t.airline)
+    (record (moved at Begun) { transactions = at.transactions + 1 })
+step at (record_is.Document d) =
+    allowed
+    (is_at Begun at.place && (d.transaction == at.transactions) && is_agent at.agent d.agent && is_key_after at.office.latest (key_of d))
+    (counted
+    (record at { office = record at.office { latest = Some (key_of d) } })
+    (record { code = d.code; stage = stage.Document; related = false }) one_document)
+step at (record_is.PartOf y) = part_step at at.place at.heading y
+step at (record_is.CodeTotals t) =
     allowed
     (is_next (next_code at.office.codes at.place) t.code && is_agent at.agent t.agent && has_totals (sums_at at.office.codes t.code) t.totals)
     (moved at (Totalled t.code))
-
-unfoldable pub office_totals_step : Standing → OfficeTotals → Option Standing
-office_totals_step at t =
+step at (record_is.OfficeTotals t) =
     allowed
     (is_totalled at.place && is_none (next_code at.office.codes at.place) && is_agent at.agent t.agent && has_totals at.office.all t.totals)
     (record (moved at Between) { offices = at.offices + 1; office = no_office })
-
-unfoldable pub period_totals_step : Standing → PeriodTotals → Option Standing
-period_totals_step at t =
+step at (record_is.PeriodTotals t) =
     allowed
-    (is_between at.place && is_period at.heading t.period && (t.offices == at.offices) && has_totals at.file t.totals)
+    (is_at Between at.place && is_period at.heading t.period && (t.offices == at.offices) && has_totals at.file t.totals)
     (moved at Closed)
-
-unfoldable pub file_totals_step : Standing → FileTotals → Option Standing
-file_totals_step at t =
+step at (record_is.FileTotals t) =
     allowed
-    (is_closed at.place && is_airline at.heading t.airline && (t.records == at.records + 1) && has_totals at.file t.totals)
+    (is_at Closed at.place && is_airline at.heading t.airline && (t.records == at.records + 1) && has_totals at.file t.totals)
     (moved at Ended)
-
-abbrev pub step : Standing → JudgedRecord → Option Standing
-step at (record_is.FileHeader h) = heading_step at h
-step at (record_is.PeriodHeader period) = period_step at period
-step at (record_is.OfficeHeader o) = office_step at o
-step at (record_is.TransactionHeader t) = transaction_step at t
-step at (record_is.Document d) = document_step at d
-step at (record_is.PartOf y) = part_step at y
-step at (record_is.CodeTotals t) = code_totals_step at t
-step at (record_is.OfficeTotals t) = office_totals_step at t
-step at (record_is.PeriodTotals t) = period_totals_step at t
-step at (record_is.FileTotals t) = file_totals_step at t
 
 -- the totals of a file that stands so
 abbrev pub totals_at : Standing → HotTotals

@@ -2,10 +2,10 @@
 
 ghost use Rattle.std.specs.Prelude.{◌≡◌, ◌≤◌, ℕ, List, length, Ok, IfOk, IfErr};
 ghost use Rattle.bsp_records.specs.Lines.{lines};
-ghost use Rattle.bsp_hot_check.specs.Hot.{File, Hot, HotOrFault, totals_of_file};
+ghost use Rattle.bsp_hot_check.specs.Hot.{File, Hot, IsFirstFault, HotOrFault, totals_of_file};
 ghost use Rattle.bsp_hot_check.specs.Standings.{start, IsSmall};
 ghost use Rattle.bsp_hot_check.specs.Judging.{judge_from};
-ghost use Rattle.bsp_hot_check.specs.Checked.{HasTotals, IsFaultOf};
+ghost use Rattle.bsp_hot_check.specs.Checked.{HasTotals};
 
 use crate::model::{HotTotals, RecordFault, Standing};
 use bsp_records::first_record;
@@ -46,7 +46,7 @@ pub fn check_hot(bytes: &[u8]) -> Result<HotTotals, RecordFault>
     // A file is found.
     ensures only { (file : File) → Hot (lines bytes.now) file → result ≡ Ok (totals_of_file file) }
     // Which record is at fault.
-    ensures fault { IfErr result (IsFaultOf (lines bytes.now)) }
+    ensures fault { IfErr result (λ fault. IsFirstFault (lines bytes.now) fault.number) }
 {
     match judge(bytes) {
         Ok(standing) => Ok(standing.totals()),

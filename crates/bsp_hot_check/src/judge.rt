@@ -3,7 +3,7 @@
 ghost use Rattle.std.specs.Prelude.{◌≡◌, ◌<◌, ◌^◌, length, true, false, Some, None};
 ghost use Rattle.bsp_records.specs.Columns.{is_wide};
 ghost use Rattle.bsp_hot_records.specs.Judged.{IsSmallPart, IsSmallRecord};
-ghost use Rattle.bsp_hot_check.specs.Standings.{heading_step, period_step, office_step, transaction_step, document_step, part_step, code_totals_step, office_totals_step, period_totals_step, file_totals_step, step, is_airline, is_period, is_currency, is_agent, is_agent_after, is_key_after, is_next, IsSmall, IsSmallNext};
+ghost use Rattle.bsp_hot_check.specs.Standings.{step, is_airline, is_period, is_currency, is_agent, is_agent_after, is_key_after, is_next, IsSmall, IsSmallNext};
 ghost use Rattle.bsp_hot_check.specs.Judging.{step_line};
 
 use crate::model::{DocumentKey, OfficeSums, Place, Progress, Stage, Standing};
@@ -86,11 +86,11 @@ fn is_next(next: Option<DocumentCode>, code: DocumentCode) -> bool
 
 impl Standing {
     /// BFH01 is the first record.
-    #[tactic(auto, unfolding(crate::specs::Standings::heading_step))]
+    #[tactic(auto, unfolding(crate::specs::Standings::step))]
     fn take_heading(&mut self, heading: Heading) -> bool
         requires { self.old.records < 2 ^ 63 }
-        ensures taken { result ≡ true → heading_step self.old heading ≡ Some self.new }
-        ensures refused { result ≡ false → heading_step self.old heading ≡ None }
+        ensures taken { result ≡ true → step self.old (Record.FileHeader heading) ≡ Some self.new }
+        ensures refused { result ≡ false → step self.old (Record.FileHeader heading) ≡ None }
     {
         if !matches!(self.place, Place::Start) {
             return false;
@@ -101,11 +101,11 @@ impl Standing {
     }
 
     /// BCH02 is the second, of the same period.
-    #[tactic(auto, unfolding(crate::specs::Standings::period_step))]
+    #[tactic(auto, unfolding(crate::specs::Standings::step))]
     fn take_period(&mut self, period: PeriodCode) -> bool
         requires { self.old.records < 2 ^ 63 }
-        ensures taken { result ≡ true → period_step self.old period ≡ Some self.new }
-        ensures refused { result ≡ false → period_step self.old period ≡ None }
+        ensures taken { result ≡ true → step self.old (Record.PeriodHeader period) ≡ Some self.new }
+        ensures refused { result ≡ false → step self.old (Record.PeriodHeader period) ≡ None }
     {
         if !(matches!(self.place, Place::Headed) && is_period(self.heading, period)) {
             return false;
@@ -115,11 +115,11 @@ impl Standing {
     }
 
     /// BOH03 begins the office of a later agent, with the file's period and currency.
-    #[tactic(auto, unfolding(crate::specs::Standings::office_step))]
+    #[tactic(auto, unfolding(crate::specs::Standings::step))]
     fn take_office(&mut self, office: OfficeHeader) -> bool
         requires { self.old.records < 2 ^ 63 }
-        ensures taken { result ≡ true → office_step self.old office ≡ Some self.new }
-        ensures refused { result ≡ false → office_step self.old office ≡ None }
+        ensures taken { result ≡ true → step self.old (Record.OfficeHeader office) ≡ Some self.new }
+        ensures refused { result ≡ false → step self.old (Record.OfficeHeader office) ≡ None }
     {
         let allowed = matches!(self.place, Place::Between)
             && is_agent_after(self.agent, office.agent)
@@ -134,12 +134,12 @@ impl Standing {
     }
 
     /// BKT06 begins the next transaction, of the file's airline.
-    #[tactic(auto, unfolding(crate::specs::Standings::transaction_step))]
+    #[tactic(auto, unfolding(crate::specs::Standings::step))]
     fn take_transaction(&mut self, header: TransactionHeader) -> bool
         requires room { self.old.records < 2 ^ 63 }
         requires small { IsSmall self.old }
-        ensures taken { result ≡ true → transaction_step self.old header ≡ Some self.new }
-        ensures refused { result ≡ false → transaction_step self.old header ≡ None }
+        ensures taken { result ≡ true → step self.old (Record.TransactionHeader header) ≡ Some self.new }
+        ensures refused { result ≡ false → step self.old (Record.TransactionHeader header) ≡ None }
     {
         let transactions = self.transactions + 1;
         let allowed = self.place.takes_transaction()
@@ -154,12 +154,12 @@ impl Standing {
     }
 
     /// BKS24 follows BKT06, with a later document of the office's agent.
-    #[tactic(auto, unfolding(crate::specs::Standings::document_step))]
+    #[tactic(auto, unfolding(crate::specs::Standings::step))]
     fn take_document(&mut self, document: Document) -> bool
         requires room { self.old.records < 2 ^ 63 }
         requires small { IsSmall self.old }
-        ensures taken { result ≡ true → document_step self.old document ≡ Some self.new }
-        ensures refused { result ≡ false → document_step self.old document ≡ None }
+        ensures taken { result ≡ true → step self.old (Record.Document document) ≡ Some self.new }
+        ensures refused { result ≡ false → step self.old (Record.Document document) ≡ None }
     {
         let key = DocumentKey {
             code: document.code,
@@ -184,13 +184,13 @@ impl Standing {
     }
 
     /// BKS30, BKS39, BKS45 or BKP84 follows where the document takes it.
-    #[tactic(auto, using(crate::proofs::SumLemmas::counted_none), unfolding(crate::specs::Standings::part_step))]
+    #[tactic(auto, using(crate::proofs::SumLemmas::counted_none), unfolding(crate::specs::Standings::step))]
     fn take_part(&mut self, next: PartOf) -> bool
         requires room { self.old.records < 2 ^ 63 }
         requires small { IsSmall self.old }
         requires part { IsSmallPart next.part }
-        ensures taken { result ≡ true → part_step self.old next ≡ Some self.new }
-        ensures refused { result ≡ false → part_step self.old next ≡ None }
+        ensures taken { result ≡ true → step self.old (Record.PartOf next) ≡ Some self.new }
+        ensures refused { result ≡ false → step self.old (Record.PartOf next) ≡ None }
     {
         let (Place::InDocument(progress), Some(heading)) = (self.place, self.heading) else {
             return false;
@@ -209,12 +209,12 @@ impl Standing {
     }
 
     /// BOT93 has the totals of the next code that has a document.
-    #[tactic(auto, unfolding(crate::specs::Standings::code_totals_step))]
+    #[tactic(auto, unfolding(crate::specs::Standings::step))]
     fn take_code_totals(&mut self, next: &CodeTotals) -> bool
         requires room { self.old.records < 2 ^ 63 }
         requires small { IsSmall self.old }
-        ensures taken { result ≡ true → code_totals_step self.old next.now ≡ Some self.new }
-        ensures refused { result ≡ false → code_totals_step self.old next.now ≡ None }
+        ensures taken { result ≡ true → step self.old (Record.CodeTotals next.now) ≡ Some self.new }
+        ensures refused { result ≡ false → step self.old (Record.CodeTotals next.now) ≡ None }
     {
         let allowed = is_next(self.office.codes.next_code(self.place), next.code)
             && is_agent(self.agent, next.agent)
@@ -227,12 +227,12 @@ impl Standing {
     }
 
     /// BOT94 has the totals of the office behind its last BOT93.
-    #[tactic(auto, unfolding(crate::specs::Standings::office_totals_step))]
+    #[tactic(auto, unfolding(crate::specs::Standings::step))]
     fn take_office_totals(&mut self, next: &OfficeTotals) -> bool
         requires room { self.old.records < 2 ^ 63 }
         requires small { IsSmall self.old }
-        ensures taken { result ≡ true → office_totals_step self.old next.now ≡ Some self.new }
-        ensures refused { result ≡ false → office_totals_step self.old next.now ≡ None }
+        ensures taken { result ≡ true → step self.old (Record.OfficeTotals next.now) ≡ Some self.new }
+        ensures refused { result ≡ false → step self.old (Record.OfficeTotals next.now) ≡ None }
     {
         let allowed = matches!(self.place, Place::Totalled(_))
             && self.office.codes.next_code(self.place).is_none()
@@ -248,12 +248,12 @@ impl Standing {
     }
 
     /// BCT95 has the number of offices and the totals of all documents, behind the last office.
-    #[tactic(auto, unfolding(crate::specs::Standings::period_totals_step))]
+    #[tactic(auto, unfolding(crate::specs::Standings::step))]
     fn take_period_totals(&mut self, next: &PeriodTotals) -> bool
         requires room { self.old.records < 2 ^ 63 }
         requires small { IsSmall self.old }
-        ensures taken { result ≡ true → period_totals_step self.old next.now ≡ Some self.new }
-        ensures refused { result ≡ false → period_totals_step self.old next.now ≡ None }
+        ensures taken { result ≡ true → step self.old (Record.PeriodTotals next.now) ≡ Some self.new }
+        ensures refused { result ≡ false → step self.old (Record.PeriodTotals next.now) ≡ None }
     {
         let allowed = matches!(self.place, Place::Between)
             && is_period(self.heading, next.period)
@@ -267,12 +267,12 @@ impl Standing {
     }
 
     /// BFT99 is the last record, and has their number and the totals.
-    #[tactic(auto, unfolding(crate::specs::Standings::file_totals_step))]
+    #[tactic(auto, unfolding(crate::specs::Standings::step))]
     fn take_file_totals(&mut self, next: &FileTotals) -> bool
         requires room { self.old.records < 2 ^ 63 }
         requires small { IsSmall self.old }
-        ensures taken { result ≡ true → file_totals_step self.old next.now ≡ Some self.new }
-        ensures refused { result ≡ false → file_totals_step self.old next.now ≡ None }
+        ensures taken { result ≡ true → step self.old (Record.FileTotals next.now) ≡ Some self.new }
+        ensures refused { result ≡ false → step self.old (Record.FileTotals next.now) ≡ None }
     {
         let allowed = matches!(self.place, Place::Closed)
             && is_airline(self.heading, next.airline)

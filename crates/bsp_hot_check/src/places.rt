@@ -5,7 +5,7 @@ ghost use Rattle.std.specs.List.{find};
 ghost use Rattle.std.specs.Option.{option_copied};
 ghost use Rattle.bsp_hot_records.specs.Judged.{IsSmallPart};
 ghost use Rattle.bsp_hot_records.specs.Sums.{no_sums, AreSmall};
-ghost use Rattle.bsp_hot_check.specs.Standings.{is_ended, is_complete, is_complete_progress, takes_amounts, takes_commission, takes_related, takes_cash, takes_credit, takes_exchange, takes, stage_of, progress_behind, takes_transaction, stands_in, left_codes, next_code, judged_sums};
+ghost use Rattle.bsp_hot_check.specs.Standings.{is_at, is_complete, is_complete_progress, takes, stage_of, progress_behind, takes_transaction, stands_in, left_codes, next_code, judged_sums};
 
 use crate::model::{CodeSums, Place, Progress, Stage};
 use bsp_fields::AirlineCode;
@@ -28,73 +28,44 @@ impl Progress {
         }
     }
 
-    fn takes_amounts(self, taxed: bool) -> bool
-        ensures { result ≡ takes_amounts self.code self.stage taxed }
-    {
-        matches!(self.stage, Stage::Document)
-            && match self.code {
-                DocumentCode::Tktt | DocumentCode::Rfnd => true,
-                DocumentCode::Canx => false,
-                DocumentCode::Adma | DocumentCode::Acma => !taxed,
-            }
-    }
-
-    fn takes_commission(self) -> bool
-        ensures { result ≡ takes_commission self.code self.stage }
-    {
-        matches!(self.stage, Stage::Amounts)
-            && matches!(self.code, DocumentCode::Tktt | DocumentCode::Rfnd)
-    }
-
-    fn takes_related(self) -> bool
-        ensures { result ≡ takes_related self.code self.stage }
-    {
-        matches!(self.stage, Stage::Commission)
-            && matches!(self.code, DocumentCode::Tktt | DocumentCode::Rfnd)
-    }
-
-    fn takes_cash(self) -> bool
-        ensures { result ≡ takes_cash self.code self.stage }
-    {
-        match self.code {
-            DocumentCode::Tktt => matches!(self.stage, Stage::Commission | Stage::Related),
-            DocumentCode::Rfnd => matches!(self.stage, Stage::Related),
-            DocumentCode::Canx => false,
-            DocumentCode::Adma | DocumentCode::Acma => matches!(self.stage, Stage::Amounts),
-        }
-    }
-
-    fn takes_credit(self) -> bool
-        ensures { result ≡ takes_credit self.code self.stage }
-    {
-        match self.code {
-            DocumentCode::Tktt => {
-                matches!(self.stage, Stage::Commission | Stage::Related | Stage::Cash)
-            }
-            DocumentCode::Rfnd => matches!(self.stage, Stage::Related | Stage::Cash),
-            _ => false,
-        }
-    }
-
-    fn takes_exchange(self) -> bool
-        ensures { result ≡ takes_exchange self.code self.stage self.related }
-    {
-        matches!(self.code, DocumentCode::Tktt)
-            && matches!(self.stage, Stage::Related | Stage::Cash | Stage::Credit)
-            && self.related
-    }
-
     /// Whether the record may come next in a document of this airline.
     pub(crate) fn takes(self, airline: AirlineCode, part: Part) -> bool
         ensures { result ≡ takes airline self part }
     {
         match part {
-            Part::Amounts(taxed) => self.takes_amounts(taxed),
-            Part::Commission(_) => self.takes_commission(),
-            Part::Related(other) => self.takes_related() && other == airline,
-            Part::Cash(_) => self.takes_cash(),
-            Part::Credit(_) => self.takes_credit(),
-            Part::Exchange => self.takes_exchange(),
+            Part::Amounts(taxed) => {
+                matches!(self.stage, Stage::Document)
+                    && match self.code {
+                        DocumentCode::Tktt | DocumentCode::Rfnd => true,
+                        DocumentCode::Canx => false,
+                        DocumentCode::Adma | DocumentCode::Acma => !taxed,
+                    }
+            }
+            Part::Commission(_) => matches!(self.stage, Stage::Amounts)
+                && matches!(self.code, DocumentCode::Tktt | DocumentCode::Rfnd),
+            Part::Related(other) => {
+                matches!(self.stage, Stage::Commission)
+                    && matches!(self.code, DocumentCode::Tktt | DocumentCode::Rfnd)
+                    && other == airline
+            }
+            Part::Cash(_) => match self.code {
+                DocumentCode::Tktt => matches!(self.stage, Stage::Commission | Stage::Related),
+                DocumentCode::Rfnd => matches!(self.stage, Stage::Related),
+                DocumentCode::Canx => false,
+                DocumentCode::Adma | DocumentCode::Acma => matches!(self.stage, Stage::Amounts),
+            },
+            Part::Credit(_) => match self.code {
+                DocumentCode::Tktt => {
+                    matches!(self.stage, Stage::Commission | Stage::Related | Stage::Cash)
+                }
+                DocumentCode::Rfnd => matches!(self.stage, Stage::Related | Stage::Cash),
+                _ => false,
+            },
+            Part::Exchange => {
+                matches!(self.code, DocumentCode::Tktt)
+                    && matches!(self.stage, Stage::Related | Stage::Cash | Stage::Credit)
+                    && self.related
+            }
         }
     }
 
@@ -153,7 +124,7 @@ pub(crate) fn added_by(part: Part) -> Option<Sums>
 impl Place {
     /// Whether a file ends here.
     pub(crate) fn is_ended(self) -> bool
-        ensures { result ≡ is_ended self }
+        ensures { result ≡ is_at Place.Ended self }
     {
         matches!(self, Place::Ended)
     }

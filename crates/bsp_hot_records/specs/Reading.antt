@@ -1,5 +1,6 @@
 -- What a line says, as record number n of a file.
 use Rattle.std.specs.Prelude.{ℕ, ◌&&◌, List, Option, Some, None, if◌then◌else◌}
+use Rattle.std.specs.Option.{option_map}
 use Rattle.std.specs.Str.{bytes_eq}
 use Rattle.bsp_records.specs.Columns.{columns, is_wide}
 use Rattle.bsp_records.specs.Fields.{spells}
@@ -17,12 +18,8 @@ unfoldable pub record_at : ℕ → List ℕ → Option Record
 record_at n line =
     if is_wide line && spells n (columns 4 11 line) then named_record (name_of (columns 12 13 line)) line else None
 
-abbrev pub judged_or : Option Record → Option JudgedRecord
-judged_or None = None
-judged_or (Some r) = Some (judged r)
-
 abbrev pub judged_at : ℕ → List ℕ → Option JudgedRecord
-judged_at n line = judged_or (record_at n line)
+judged_at n line = option_map judged (record_at n line)
 
 -- what a record with the name says that is judged, where its fields are in their form
 abbrev pub judged_if : RecordName → List ℕ → Option JudgedRecord

@@ -170,91 +170,52 @@ totals_fit text =
     all_ascii_digits (columns 1 8 text) && is_total (columns 9 23 text) && is_total (columns 24 38 text)
     && is_total (columns 39 53 text) && is_total (columns 54 68 text)
 
--- ---- the fields of each record, from column 14 on
-
-unfoldable pub file_header_fits : List ℕ → Bool
-file_header_fits line =
-    all_ascii_digits (columns 14 16 line) && all_ascii_digits (columns 17 21 line) && is_record_day (columns 22 27 line)
-    && list_all is_letter (columns 28 30 line) && bytes_eq (columns 31 37 line) (codes "PROD001")
-    && is_blank (columns 38 136 line)
-
-unfoldable pub period_header_fits : List ℕ → Bool
-period_header_fits line =
-    all_ascii_digits (columns 14 18 line) && is_record_day (columns 19 24 line) && is_record_day (columns 25 30 line)
-    && is_record_day (columns 31 36 line) && is_blank (columns 37 136 line)
-
-unfoldable pub office_header_fits : List ℕ → Bool
-office_header_fits line =
-    all_ascii_digits (columns 14 21 line) && all_ascii_digits (columns 22 26 line) && list_all is_letter (columns 27 29 line)
-    && is_blank (columns 30 136 line)
-
-unfoldable pub transaction_header_fits : List ℕ → Bool
-transaction_header_fits line =
-    all_ascii_digits (columns 14 21 line) && all_ascii_digits (columns 22 24 line) && is_blank (columns 25 136 line)
-
-unfoldable pub document_fits : List ℕ → Bool
-document_fits line =
-    all_ascii_digits (columns 14 21 line) && is_record_day (columns 22 27 line) && all_ascii_digits (columns 28 37 line)
-    && all_ascii_digits (columns 38 38 line) && is_some (code_of (columns 39 42 line))
-    && all_ascii_digits (columns 43 50 line) && is_blank (columns 100 136 line)
-
 -- the six tax places stand as in a RET file's record 5, 14 columns further on
 unfoldable pub tax_places_fit : List ℕ → Bool
 tax_places_fit line = taxes_fit 0 (tax_places (columns 15 136 line))
 
-unfoldable pub amounts_fit : List ℕ → Bool
-amounts_fit line =
+-- ---- the fields of each record, from column 14 on
+
+unfoldable pub fields_fit : RecordName → List ℕ → Bool
+fields_fit Bfh01 line =
+    all_ascii_digits (columns 14 16 line) && all_ascii_digits (columns 17 21 line) && is_record_day (columns 22 27 line)
+    && list_all is_letter (columns 28 30 line) && bytes_eq (columns 31 37 line) (codes "PROD001")
+    && is_blank (columns 38 136 line)
+fields_fit Bch02 line =
+    all_ascii_digits (columns 14 18 line) && is_record_day (columns 19 24 line) && is_record_day (columns 25 30 line)
+    && is_record_day (columns 31 36 line) && is_blank (columns 37 136 line)
+fields_fit Boh03 line =
+    all_ascii_digits (columns 14 21 line) && all_ascii_digits (columns 22 26 line) && list_all is_letter (columns 27 29 line)
+    && is_blank (columns 30 136 line)
+fields_fit Bkt06 line =
+    all_ascii_digits (columns 14 21 line) && all_ascii_digits (columns 22 24 line) && is_blank (columns 25 136 line)
+fields_fit Bks24 line =
+    all_ascii_digits (columns 14 21 line) && is_record_day (columns 22 27 line) && all_ascii_digits (columns 28 37 line)
+    && all_ascii_digits (columns 38 38 line) && is_some (code_of (columns 39 42 line))
+    && all_ascii_digits (columns 43 50 line) && is_blank (columns 100 136 line)
+fields_fit Bks30 line =
     all_ascii_digits (columns 14 21 line) && is_amount (columns 22 32 line) && tax_places_fit line
     && is_blank (columns 111 136 line)
-
-unfoldable pub commission_fits : List ℕ → Bool
-commission_fits line =
+fields_fit Bks39 line =
     all_ascii_digits (columns 14 21 line) && spells_at_most 10000 (columns 22 26 line) && is_amount (columns 27 37 line)
     && is_blank (columns 38 136 line)
-
-unfoldable pub related_fits : List ℕ → Bool
-related_fits line =
+fields_fit Bks45 line =
     all_ascii_digits (columns 14 21 line) && all_ascii_digits (columns 22 24 line) && all_ascii_digits (columns 25 34 line)
     && all_ascii_digits (columns 35 35 line) && is_blank (columns 36 136 line)
-
-unfoldable pub payment_fits : List ℕ → Bool
-payment_fits line =
+fields_fit Bkp84 line =
     all_ascii_digits (columns 14 21 line) && form_fits (columns 22 23 line) (columns 35 36 line)
     && is_amount (columns 24 34 line) && is_blank (columns 37 136 line)
-
-unfoldable pub code_totals_fit : List ℕ → Bool
-code_totals_fit line =
+fields_fit Bot93 line =
     all_ascii_digits (columns 14 21 line) && is_some (code_of (columns 22 25 line)) && totals_fit (columns 26 93 line)
     && is_blank (columns 94 136 line)
-
-unfoldable pub office_totals_fit : List ℕ → Bool
-office_totals_fit line =
+fields_fit Bot94 line =
     all_ascii_digits (columns 14 21 line) && totals_fit (columns 22 89 line) && is_blank (columns 90 136 line)
-
-unfoldable pub period_totals_fit : List ℕ → Bool
-period_totals_fit line =
+fields_fit Bct95 line =
     all_ascii_digits (columns 14 18 line) && all_ascii_digits (columns 19 26 line) && totals_fit (columns 27 94 line)
     && is_blank (columns 95 136 line)
-
-unfoldable pub file_totals_fit : List ℕ → Bool
-file_totals_fit line =
+fields_fit Bft99 line =
     all_ascii_digits (columns 14 16 line) && all_ascii_digits (columns 17 24 line) && totals_fit (columns 25 92 line)
     && is_blank (columns 93 136 line)
-
-abbrev pub fields_fit : RecordName → List ℕ → Bool
-fields_fit Bfh01 line = file_header_fits line
-fields_fit Bch02 line = period_header_fits line
-fields_fit Boh03 line = office_header_fits line
-fields_fit Bkt06 line = transaction_header_fits line
-fields_fit Bks24 line = document_fits line
-fields_fit Bks30 line = amounts_fit line
-fields_fit Bks39 line = commission_fits line
-fields_fit Bks45 line = related_fits line
-fields_fit Bkp84 line = payment_fits line
-fields_fit Bot93 line = code_totals_fit line
-fields_fit Bot94 line = office_totals_fit line
-fields_fit Bct95 line = period_totals_fit line
-fields_fit Bft99 line = file_totals_fit line
 
 -- ---- what a record says, where its fields fit
 
@@ -268,9 +229,6 @@ amount_of text = result_unwrap_or (zoned_reading 11 text) (pos 0)
 unfoldable pub total_of : List ℕ → ℤ
 total_of text = result_unwrap_or (zoned_reading 15 text) (pos 0)
 
-abbrev pub code_in : List ℕ → DocumentCode
-code_in text = unwrap_or (code_of text) Tktt
-
 abbrev pub totals_of : List ℕ → Totals
 totals_of text = record {
   sums = record {
@@ -280,25 +238,6 @@ totals_of text = record {
     commission = total_of (columns 39 53 text);
   };
   net = total_of (columns 54 68 text);
-}
-
-abbrev pub heading_of : List ℕ → Heading
-heading_of line = record {
-  airline = number_in (columns 14 16 line);
-  period = number_in (columns 17 21 line);
-  remittance = columns 22 27 line;
-  currency = columns 28 30 line;
-}
-
-abbrev pub days_of : List ℕ → Days
-days_of line = record { first = columns 19 24 line; last = columns 25 30 line; remittance = columns 31 36 line }
-
-abbrev pub document_of : List ℕ → Document
-document_of line = record {
-  issued = columns 22 27 line;
-  number = number_in (columns 28 37 line);
-  check_digit = columns 38 38 line;
-  name = columns 51 99 line;
 }
 
 abbrev pub payment_of : List ℕ → Part
@@ -313,11 +252,27 @@ abbrev pub first_number : List ℕ → ℕ
 first_number line = number_in (columns 14 21 line)
 
 unfoldable pub record_of : RecordName → List ℕ → Record
-record_of Bfh01 line = file_header (heading_of line)
-record_of Bch02 line = period_header (number_in (columns 14 18 line)) (days_of line)
+record_of Bfh01 line =
+    file_header
+    (record {
+      airline = number_in (columns 14 16 line);
+      period = number_in (columns 17 21 line);
+      remittance = columns 22 27 line;
+      currency = columns 28 30 line;
+    })
+record_of Bch02 line =
+    period_header (number_in (columns 14 18 line))
+    (record { first = columns 19 24 line; last = columns 25 30 line; remittance = columns 31 36 line })
 record_of Boh03 line = office_header (first_number line) (number_in (columns 22 26 line)) (columns 27 29 line)
 record_of Bkt06 line = transaction_header (first_number line) (number_in (columns 22 24 line))
-record_of Bks24 line = document (first_number line) (number_in (columns 43 50 line)) (code_in (columns 39 42 line)) (document_of line)
+record_of Bks24 line =
+    document (first_number line) (number_in (columns 43 50 line)) (unwrap_or (code_of (columns 39 42 line)) Tktt)
+    (record {
+      issued = columns 22 27 line;
+      number = number_in (columns 28 37 line);
+      check_digit = columns 38 38 line;
+      name = columns 51 99 line;
+    })
 record_of Bks30 line =
     part (first_number line) (amounts (record { fare = amount_of (columns 22 32 line); taxes = columns 33 110 line }))
 record_of Bks39 line =
@@ -327,25 +282,22 @@ record_of Bks45 line =
     part (first_number line)
     (related (record { airline = number_in (columns 22 24 line); number = columns 25 34 line; check_digit = columns 35 35 line }))
 record_of Bkp84 line = part (first_number line) (payment_of line)
-record_of Bot93 line = code_totals (first_number line) (code_in (columns 22 25 line)) (totals_of (columns 26 93 line))
+record_of Bot93 line =
+    code_totals (first_number line) (unwrap_or (code_of (columns 22 25 line)) Tktt) (totals_of (columns 26 93 line))
 record_of Bot94 line = office_totals (first_number line) (totals_of (columns 22 89 line))
 record_of Bct95 line = period_totals (number_in (columns 14 18 line)) (number_in (columns 19 26 line)) (totals_of (columns 27 94 line))
 record_of Bft99 line = file_totals (number_in (columns 14 16 line)) (number_in (columns 17 24 line)) (totals_of (columns 25 92 line))
 
 -- ---- lines
 
--- the line is record number n of a file, with that name
-pub record HasName (n : ℕ) (name : RecordName) (line : List ℕ) : Type 0 where
+-- the line is record number n of a file, with some name, and says this
+pub record IsRecord (n : ℕ) (line : List ℕ) (r : Record) : Type 0 where
+  pub name : RecordName
   pub wide : is_wide line ≡ true
   pub sequence : spells n (columns 4 11 line) ≡ true
   pub digits : name_of (columns 12 13 line) ≡ Some name
   pub letters_are : bytes_eq (columns 1 3 line) (letters name) ≡ true
   pub fields : fields_fit name line ≡ true
-
--- the line is record number n of a file, and says this
-pub record IsRecord (n : ℕ) (line : List ℕ) (r : Record) : Type 0 where
-  pub name : RecordName
-  pub has : HasName n name line
   pub says : r ≡ record_of name line
 
 -- lines are records, from number n on

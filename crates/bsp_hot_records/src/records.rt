@@ -16,7 +16,7 @@ use crate::model::{
 use crate::name::RecordName;
 use bsp_records::{all_digits, all_letters, all_spaces, is_amount, is_record_day, spells_at_most};
 
-#[tactic(auto, unfolding(crate::specs::Records::record_of, crate::specs::Records::file_header_fits))]
+#[tactic(auto, unfolding(crate::specs::Records::record_of, crate::specs::Records::fields_fit))]
 fn file_header(line: &[u8]) -> Option<Record>
     requires { length line.now ≡ 136 }
     ensures value { result ≡ judged_if RecordName.Bfh01 line.now }
@@ -38,7 +38,7 @@ fn file_header(line: &[u8]) -> Option<Record>
     }))
 }
 
-#[tactic(auto, unfolding(crate::specs::Records::record_of, crate::specs::Records::period_header_fits))]
+#[tactic(auto, unfolding(crate::specs::Records::record_of, crate::specs::Records::fields_fit))]
 fn period_header(line: &[u8]) -> Option<Record>
     requires { length line.now ≡ 136 }
     ensures value { result ≡ judged_if RecordName.Bch02 line.now }
@@ -55,7 +55,7 @@ fn period_header(line: &[u8]) -> Option<Record>
     Some(Record::PeriodHeader(period))
 }
 
-#[tactic(auto, unfolding(crate::specs::Records::record_of, crate::specs::Records::office_header_fits))]
+#[tactic(auto, unfolding(crate::specs::Records::record_of, crate::specs::Records::fields_fit))]
 fn office_header(line: &[u8]) -> Option<Record>
     requires { length line.now ≡ 136 }
     ensures value { result ≡ judged_if RecordName.Boh03 line.now }
@@ -73,7 +73,7 @@ fn office_header(line: &[u8]) -> Option<Record>
     }))
 }
 
-#[tactic(auto, unfolding(crate::specs::Records::record_of, crate::specs::Records::transaction_header_fits))]
+#[tactic(auto, unfolding(crate::specs::Records::record_of, crate::specs::Records::fields_fit))]
 #[inline]
 fn transaction_header(line: &[u8]) -> Option<Record>
     requires { length line.now ≡ 136 }
@@ -91,7 +91,7 @@ fn transaction_header(line: &[u8]) -> Option<Record>
     }))
 }
 
-#[tactic(auto, unfolding(crate::specs::Records::record_of, crate::specs::Records::document_fits))]
+#[tactic(auto, unfolding(crate::specs::Records::record_of, crate::specs::Records::fields_fit))]
 #[inline]
 fn document(line: &[u8]) -> Option<Record>
     requires { length line.now ≡ 136 }
@@ -119,7 +119,7 @@ fn document(line: &[u8]) -> Option<Record>
     }))
 }
 
-#[tactic(auto, unfolding(crate::specs::Records::record_of, crate::specs::Records::amounts_fit))]
+#[tactic(auto, unfolding(crate::specs::Records::record_of, crate::specs::Records::fields_fit))]
 #[inline]
 fn amounts(line: &[u8]) -> Option<Record>
     requires { length line.now ≡ 136 }
@@ -137,7 +137,7 @@ fn amounts(line: &[u8]) -> Option<Record>
     }))
 }
 
-#[tactic(auto, unfolding(crate::specs::Records::record_of, crate::specs::Records::commission_fits))]
+#[tactic(auto, unfolding(crate::specs::Records::record_of, crate::specs::Records::fields_fit))]
 #[inline]
 fn commission(line: &[u8]) -> Option<Record>
     requires { length line.now ≡ 136 }
@@ -158,7 +158,7 @@ fn commission(line: &[u8]) -> Option<Record>
     }))
 }
 
-#[tactic(auto, unfolding(crate::specs::Records::record_of, crate::specs::Records::related_fits))]
+#[tactic(auto, unfolding(crate::specs::Records::record_of, crate::specs::Records::fields_fit))]
 #[inline]
 fn related(line: &[u8]) -> Option<Record>
     requires { length line.now ≡ 136 }
@@ -177,7 +177,7 @@ fn related(line: &[u8]) -> Option<Record>
     }))
 }
 
-#[tactic(auto, unfolding(crate::specs::Records::record_of, crate::specs::Records::payment_fits))]
+#[tactic(auto, unfolding(crate::specs::Records::record_of, crate::specs::Records::fields_fit))]
 #[inline]
 fn payment(line: &[u8]) -> Option<Record>
     requires { length line.now ≡ 136 }
@@ -200,7 +200,7 @@ fn payment(line: &[u8]) -> Option<Record>
     Some(Record::PartOf(PartOf { transaction, part }))
 }
 
-#[tactic(auto, unfolding(crate::specs::Records::record_of, crate::specs::Records::code_totals_fit))]
+#[tactic(auto, unfolding(crate::specs::Records::record_of, crate::specs::Records::fields_fit))]
 fn code_totals(line: &[u8]) -> Option<Record>
     requires { length line.now ≡ 136 }
     ensures value { result ≡ judged_if RecordName.Bot93 line.now }
@@ -219,7 +219,7 @@ fn code_totals(line: &[u8]) -> Option<Record>
     }))
 }
 
-#[tactic(auto, unfolding(crate::specs::Records::record_of, crate::specs::Records::office_totals_fit))]
+#[tactic(auto, unfolding(crate::specs::Records::record_of, crate::specs::Records::fields_fit))]
 fn office_totals(line: &[u8]) -> Option<Record>
     requires { length line.now ≡ 136 }
     ensures value { result ≡ judged_if RecordName.Bot94 line.now }
@@ -233,7 +233,7 @@ fn office_totals(line: &[u8]) -> Option<Record>
     Some(Record::OfficeTotals(OfficeTotals { agent, totals }))
 }
 
-#[tactic(auto, unfolding(crate::specs::Records::record_of, crate::specs::Records::period_totals_fit))]
+#[tactic(auto, unfolding(crate::specs::Records::record_of, crate::specs::Records::fields_fit))]
 fn period_totals(line: &[u8]) -> Option<Record>
     requires { length line.now ≡ 136 }
     ensures value { result ≡ judged_if RecordName.Bct95 line.now }
@@ -252,7 +252,7 @@ fn period_totals(line: &[u8]) -> Option<Record>
     }))
 }
 
-#[tactic(auto, unfolding(crate::specs::Records::record_of, crate::specs::Records::file_totals_fit))]
+#[tactic(auto, unfolding(crate::specs::Records::record_of, crate::specs::Records::fields_fit))]
 fn file_totals(line: &[u8]) -> Option<Record>
     requires { length line.now ≡ 136 }
     ensures value { result ≡ judged_if RecordName.Bft99 line.now }

@@ -10,7 +10,7 @@ use Rattle.bsp_ret.specs.declared.model.LastRecord.{LastRecord}
 use Rattle.bsp_ret.specs.declared.model.LastRecord.TheVariants.{Related, Amounts, Form}
 use Rattle.bsp_ret.specs.Said.{record_in}
 use Rattle.bsp_ret_records.specs.Records.{related_fits, amounts_fit}
-use Rattle.bsp_ret.specs.Table.{kind_of}
+use Rattle.bsp_ret.specs.Table.{kind}
 use Rattle.bsp_ret.specs.Ret.{Group, IsRecord, IsForm, lines_of}
 use Rattle.bsp_ret.proofs.BodyLemmas.{BodyFacts}
 
@@ -24,7 +24,7 @@ place_of (Form Exchange) = 5
 place_of _ = 0
 
 abbrev place : List ℕ → ℕ
-place line = place_of (kind_of line)
+place line = place_of (kind (record_in line))
 
 related_place : (n : ℕ) (line : List ℕ) → IsRecord 51 n related_fits line → place line ≡ 1
 unfolding record_in

@@ -17,7 +17,7 @@ use Rattle.bsp_ret.specs.declared.model.Standing.{Standing}
 use Rattle.bsp_records.specs.Columns.{identifier}
 use Rattle.bsp_ret_records.specs.Records.{is_header, code_of, form_of}
 use Rattle.bsp_ret.specs.Said.{record_in}
-use Rattle.bsp_ret.specs.Table.{is_sale, is_related, paid, total_paid, code_or, last_code, behind_sale, kind_of, standing, has_ended, row_fault}
+use Rattle.bsp_ret.specs.Table.{is_sale, is_related, paid, total_paid, code_or, behind_sale, kind, standing, has_ended, row_fault}
 use Rattle.bsp_ret.specs.Standings.{standing_behind}
 use Rattle.bsp_ret.specs.Reading.{Draft, with_group, add, or_read, read_from}
 use Rattle.bsp_ret.proofs.Rows.{Clean, no_row}
@@ -35,7 +35,7 @@ pub total_paid_snoc : (before : List (List ℕ)) (line : List ℕ) → total_pai
 total_paid_snoc [] line = +ℤ_idr (paid line) ∙ sym (+ℤ_idl (paid line))
 total_paid_snoc (first ∷ before) line = ap (λ (x : ℤ). paid first +ℤ x) (total_paid_snoc before line) ∙ sym (+ℤ_assoc (paid first) (total_paid before) (paid line))
 
-last_code_snoc : (before : List (List ℕ)) (line : List ℕ) → last_code (before ++ line ∷ []) ≡ cond (is_sale line) (code_or Tktt (Some line)) (last_code before)
+last_code_snoc : (before : List (List ℕ)) (line : List ℕ) → code_or Tktt (last_or None (filter is_sale (before ++ line ∷ []))) ≡ cond (is_sale line) (code_or Tktt (Some line)) (code_or Tktt (last_or None (filter is_sale before)))
 last_code_snoc before line =
     let joined = filter-append is_sale before (line ∷ []) in
     elim (cases_Bool (is_sale line)) [
@@ -74,7 +74,7 @@ stands_with : (at : Standing) (line : List ℕ) → standing_behind at line ≡ 
   sum = at.sum +ℤ paid line;
   code = cond (is_sale line) (code_or Tktt (Some line)) at.code;
   related = cond (is_sale line) false (at.related || is_related line);
-  last = kind_of line;
+  last = kind (record_in line);
 }
 unfolding record_in
 stands_with at line =

@@ -1,6 +1,6 @@
 -- A text that comes in pieces.
 use Rattle.std.specs.Prelude.{◌≡◌, ℕ, ◌+◌, true, false, List, [], ◌++◌, length, Some, None}
-use Rattle.bsp_ret.specs.declared.model.FaultCode.TheVariants.{F08, F09}
+use Rattle.bsp_ret.specs.declared.model.FaultCode.{FaultCode}
 use Rattle.bsp_ret.specs.declared.model.RetFault.{RetFault}
 use Rattle.bsp_ret.specs.declared.model.Standing.{Standing}
 use Rattle.bsp_ret.specs.declared.model.Progress.{Progress}
@@ -31,13 +31,9 @@ pub record IsClearSoFar (bytes : List ℕ) : Type 0 where
   pub clear : IsClear (lines (before_rest bytes rest))
   pub nothing_behind : has_ended (standing (lines (before_rest bytes rest))).last ≡ true → rest ≡ []
 
--- the fault of a byte behind a file
-abbrev pub behind_file : List ℕ → RetFault
-behind_file bytes = record { code = F09; at = length (lines bytes) + 1 }
-
--- the fault of a file that is asked for before the text has ended
-abbrev pub unended : List ℕ → RetFault
-unended bytes = record { code = F08; at = length (lines bytes) + 1 }
+-- the fault of the record that would come next
+abbrev pub fault_at_end : FaultCode → List ℕ → RetFault
+fault_at_end code bytes = record { code = code; at = length (lines bytes) + 1 }
 
 -- ---- a part of a text, behind lines that stand so
 

@@ -2,9 +2,7 @@
 use Rattle.std.specs.Prelude.{◌≤◌, ℕ, ◌+◌, ◌*◌, ◌^◌, ◌+ℤ◌, unsigned_abs, true, false, List, [], ◌∷◌, Option, Some, None, if◌then◌else◌}
 use Rattle.bsp_ret.specs.declared.model.Record.{Record}
 use Rattle.bsp_ret.specs.declared.model.Record.TheVariants as said
-use Rattle.bsp_ret.specs.declared.model.LastRecord.{LastRecord}
 use Rattle.bsp_ret.specs.declared.model.LastRecord.TheVariants as last
-use Rattle.bsp_ret_records.specs.declared.codes.FormOfPayment.TheVariants.{Cash, Credit, Exchange}
 use Rattle.bsp_ret.specs.declared.model.Standing.{Standing}
 use Rattle.bsp_ret.specs.declared.model.FaultCode.TheVariants.{F08}
 use Rattle.bsp_ret.specs.declared.model.RetFault.{RetFault}
@@ -34,10 +32,3 @@ pub record FitsIn (at : Standing) (most : ℕ) : Type 0 where
   pub counted : at.transactions ≤ at.records
   pub small : unsigned_abs at.sum ≤ at.records * 10 ^ 11
   pub few : at.records ≤ most
-
--- the most forms that a group has up to this record
-abbrev pub forms_up_to : LastRecord → ℕ
-forms_up_to (last.Form Cash) = 1
-forms_up_to (last.Form Credit) = 2
-forms_up_to (last.Form Exchange) = 3
-forms_up_to _ = 0

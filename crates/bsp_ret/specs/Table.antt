@@ -40,13 +40,10 @@ abbrev pub total_paid : List (List ℕ) → ℤ
 total_paid [] = pos 0
 total_paid (line ∷ lines) = paid line +ℤ total_paid lines
 
--- the code of the last record 2, TKTT where there is none
+-- the code of a record 2, or else this one
 abbrev pub code_or : TransactionCode → Option (List ℕ) → TransactionCode
 code_or code None = code
 code_or code (Some line) = unwrap_or (code_of line) code
-
-abbrev pub last_code : List (List ℕ) → TransactionCode
-last_code before = code_or Tktt (last_or None (filter is_sale before))
 
 -- the lines behind the last record 2, all where there is none
 abbrev pub behind_sale : List (List ℕ) → List (List ℕ)
@@ -63,20 +60,17 @@ kind said.Amounts = last.Amounts
 kind (said.Form form amount) = last.Form form
 kind said.Trailer = last.Trailer
 
-abbrev pub kind_of : List ℕ → LastRecord
-kind_of line = kind (record_in line)
-
 abbrev pub kind_or_start : Option (List ℕ) → LastRecord
 kind_or_start None = last.Start
-kind_or_start (Some line) = kind_of line
+kind_or_start (Some line) = kind (record_in line)
 
--- how the lines stand
+-- how the lines stand: the code is that of the last record 2, TKTT where there is none
 abbrev pub standing : List (List ℕ) → Standing
 standing before = record {
   records = length before;
   transactions = count_by is_sale before;
   sum = total_paid before;
-  code = last_code before;
+  code = code_or Tktt (last_or None (filter is_sale before));
   related = list_any is_related (behind_sale before);
   last = kind_or_start (last_or None before);
 }
@@ -150,23 +144,9 @@ has_sum at line = has_value at.sum (zoned_reading 15 (total line))
 abbrev pub header_table : List ℕ → List (Bool × FaultCode)
 header_table line = (not (is_header line), F02) ∷ (not (is_production line), F04) ∷ (not (header_fits line), F05) ∷ []
 
-abbrev pub sale_table : Standing → List ℕ → List (Bool × FaultCode)
-sale_table at line =
-    (not (is_complete at.last at.code at.related && spells (at.transactions + 1) (transaction_number line)), F03)
-    ∷ (not (sale_fits line), F05) ∷ []
-
-abbrev pub related_table : Standing → List ℕ → List (Bool × FaultCode)
-related_table at line =
-    (not (takes_related at.last at.code && spells at.transactions (transaction_number line)), F03) ∷ (not (related_fits line), F05) ∷ []
-
-abbrev pub amounts_table : Standing → List ℕ → List (Bool × FaultCode)
-amounts_table at line =
-    (not (takes_amounts at.last at.code && spells at.transactions (transaction_number line)), F03) ∷ (not (amounts_fit line), F05) ∷ []
-
-abbrev pub form_table : Standing → List ℕ → List (Bool × FaultCode)
-form_table at line =
-    (not (takes_form at.last at.code at.related (form_of line) && spells at.transactions (transaction_number line)), F03)
-    ∷ (not (form_fits line), F05) ∷ []
+-- of records 2, 3, 5 and 8: whether the record may come next, the number of its transaction, and whether its fields fit
+abbrev pub transaction_table : Bool → ℕ → Bool → List ℕ → List (Bool × FaultCode)
+transaction_table allowed number fits line = (not (allowed && spells number (transaction_number line)), F03) ∷ (not fits, F05) ∷ []
 
 -- of a trailer, and of a record that is none of these
 abbrev pub trailer_table : Standing → List ℕ → List (Bool × FaultCode)
@@ -176,10 +156,15 @@ trailer_table at line =
 
 abbrev pub later_table : Standing → List ℕ → List (Bool × FaultCode)
 later_table at line =
-    if identifier line == 50 then sale_table at line
-    else (if identifier line == 51 then related_table at line
-    else (if identifier line == 53 then amounts_table at line
-    else (if identifier line == 56 then form_table at line else trailer_table at line)))
+    if identifier line == 50
+    then transaction_table (is_complete at.last at.code at.related) (at.transactions + 1) (sale_fits line) line
+    else (if identifier line == 51
+    then transaction_table (takes_related at.last at.code) at.transactions (related_fits line) line
+    else (if identifier line == 53
+    then transaction_table (takes_amounts at.last at.code) at.transactions (amounts_fit line) line
+    else (if identifier line == 56
+    then transaction_table (takes_form at.last at.code at.related (form_of line)) at.transactions (form_fits line) line
+    else trailer_table at line)))
 
 abbrev pub record_table : Standing → List ℕ → List (Bool × FaultCode)
 record_table at line = if is_start at.last then header_table line else later_table at line

@@ -1,11 +1,11 @@
 //! The fault table over one record, behind records that stand so, and what the record says.
 
-ghost use Rattle.std.specs.Prelude.{◌≡◌, ◌^◌, ◌<◌, ◌≤◌, length, true, false, Ok, Err, IfOk, IfErr};
+ghost use Rattle.std.specs.Prelude.{◌≡◌, ◌+◌, ◌^◌, ◌<◌, ◌≤◌, length, true, false, Ok, Err, IfOk, IfErr};
 ghost use Rattle.bsp_fields.specs.FirstFault.{first_fault_or};
 ghost use Rattle.bsp_records.specs.Columns.{identifier, is_wide};
-ghost use Rattle.bsp_ret_records.specs.Records.{IsFit, trailer_fits};
+ghost use Rattle.bsp_ret_records.specs.Records.{IsFit, sale_fits, related_fits, amounts_fit, form_of, form_fits, trailer_fits};
 ghost use Rattle.bsp_ret.specs.Said.{record_in};
-ghost use Rattle.bsp_ret.specs.Table.{has_ended, has_counts, has_sum, header_table, sale_table, related_table, amounts_table, form_table, trailer_table, later_table, record_table, row_fault};
+ghost use Rattle.bsp_ret.specs.Table.{has_ended, has_counts, has_sum, header_table, is_complete, takes_related, takes_amounts, takes_form, transaction_table, trailer_table, later_table, record_table, row_fault};
 
 use crate::model::{FaultCode, Record, Standing};
 use bsp_records::{is_wide, spells};
@@ -52,7 +52,7 @@ fn sale_record(at: Standing, line: &[u8]) -> Result<Record, FaultCode>
     requires kind { identifier line.now ≡ 50 }
     requires room { at.records < 2 ^ 63 }
     requires counted { at.transactions ≤ at.records }
-    ensures { result ≡ first_fault_or (sale_table at line.now) (record_in line.now) }
+    ensures { result ≡ first_fault_or (transaction_table (is_complete at.last at.code at.related) (at.transactions + 1) (sale_fits line.now) line.now) (record_in line.now) }
 {
     if !at.last.is_complete(at.code, at.related)
         || !spells(at.transactions + 1, transaction_number(line))
@@ -69,7 +69,7 @@ fn sale_record(at: Standing, line: &[u8]) -> Result<Record, FaultCode>
 fn related_record(at: Standing, line: &[u8]) -> Result<Record, FaultCode>
     requires wide { length line.now ≡ 136 }
     requires kind { identifier line.now ≡ 51 }
-    ensures { result ≡ first_fault_or (related_table at line.now) (record_in line.now) }
+    ensures { result ≡ first_fault_or (transaction_table (takes_related at.last at.code) at.transactions (related_fits line.now) line.now) (record_in line.now) }
 {
     if !at.last.takes_related(at.code) || !spells(at.transactions, transaction_number(line)) {
         Err(FaultCode::F03)
@@ -84,7 +84,7 @@ fn related_record(at: Standing, line: &[u8]) -> Result<Record, FaultCode>
 fn amounts_record(at: Standing, line: &[u8]) -> Result<Record, FaultCode>
     requires wide { length line.now ≡ 136 }
     requires kind { identifier line.now ≡ 53 }
-    ensures { result ≡ first_fault_or (amounts_table at line.now) (record_in line.now) }
+    ensures { result ≡ first_fault_or (transaction_table (takes_amounts at.last at.code) at.transactions (amounts_fit line.now) line.now) (record_in line.now) }
 {
     if !at.last.takes_amounts(at.code) || !spells(at.transactions, transaction_number(line)) {
         Err(FaultCode::F03)
@@ -99,7 +99,7 @@ fn amounts_record(at: Standing, line: &[u8]) -> Result<Record, FaultCode>
 fn form_record(at: Standing, line: &[u8]) -> Result<Record, FaultCode>
     requires wide { length line.now ≡ 136 }
     requires kind { identifier line.now ≡ 56 }
-    ensures { result ≡ first_fault_or (form_table at line.now) (record_in line.now) }
+    ensures { result ≡ first_fault_or (transaction_table (takes_form at.last at.code at.related (form_of line.now)) at.transactions (form_fits line.now) line.now) (record_in line.now) }
 {
     let form = form_of(line);
     if !at.last.takes_form(at.code, at.related, form)

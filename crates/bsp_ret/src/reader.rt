@@ -5,7 +5,7 @@ ghost use Rattle.bsp_records.specs.Lines.{lines};
 ghost use Rattle.bsp_ret.specs.Table.{first_fault};
 ghost use Rattle.bsp_ret.specs.Ret.{File, Ret};
 ghost use Rattle.bsp_ret.specs.Reading.{no_memory};
-ghost use Rattle.bsp_ret.specs.Pieces.{Fed, IsFinal, IsClearSoFar, behind_file, unended};
+ghost use Rattle.bsp_ret.specs.Pieces.{Fed, IsFinal, IsClearSoFar, fault_at_end};
 
 use crate::file::RetFile;
 use crate::model::{FaultCode, Progress, RetFault, Standing};
@@ -62,7 +62,7 @@ impl RetReader {
         ensures failed { (fault : RetFault) → self.old.progress ≡ Progress.Failed fault → (result ≡ Err fault) × (self.new ≡ self.old) }
         ensures ended_none { self.old.progress ≡ Progress.Ended → length piece.now ≡ 0 → (result ≡ Ok tt) × (self.new ≡ self.old) }
         ensures ended_some { self.old.progress ≡ Progress.Ended → 0 < length piece.now
-            → (result ≡ Err (behind_file self.old.bytes)) × (self.new ≡ record { bytes = self.old.bytes; progress = Progress.Failed (behind_file self.old.bytes) }) }
+            → (result ≡ Err (fault_at_end FaultCode.F09 self.old.bytes)) × (self.new ≡ record { bytes = self.old.bytes; progress = Progress.Failed (fault_at_end FaultCode.F09 self.old.bytes) }) }
         ensures ok { self.old.progress ≡ Progress.Reading
             → OnOk result ((self.new ≡ record { bytes = self.old.bytes ++ piece.now; progress = Progress.Reading }) × IsClearSoFar self.new.bytes) }
         ensures fault { self.old.progress ≡ Progress.Reading → IfErr result (λ fault. ((fault ≡ no_memory) × (self.new ≡ self.old))
@@ -93,7 +93,7 @@ impl RetReader {
         requires { self.old.progress ≡ Progress.Ended }
         ensures none { length piece.now ≡ 0 → (result ≡ Ok tt) × (self.new ≡ self.old) }
         ensures some { 0 < length piece.now
-            → (result ≡ Err (behind_file self.old.bytes)) × (self.new ≡ record { bytes = self.old.bytes; progress = Progress.Failed (behind_file self.old.bytes) }) }
+            → (result ≡ Err (fault_at_end FaultCode.F09 self.old.bytes)) × (self.new ≡ record { bytes = self.old.bytes; progress = Progress.Failed (fault_at_end FaultCode.F09 self.old.bytes) }) }
     {
         if piece.is_empty() {
             return Ok(());
@@ -143,7 +143,7 @@ impl RetReader {
     /// was refused.
     pub fn file(&self) -> Result<RetFile<'_>, RetFault>
         ensures failed { (fault : RetFault) → self.now.progress ≡ Progress.Failed fault → result ≡ Err fault }
-        ensures reading { self.now.progress ≡ Progress.Reading → result ≡ Err (unended self.now.bytes) }
+        ensures reading { self.now.progress ≡ Progress.Reading → result ≡ Err (fault_at_end FaultCode.F08 self.now.bytes) }
         ensures found { IfOk result (λ file. Ret (lines self.now.bytes) file) }
         ensures only { self.now.progress ≡ Progress.Ended → (file : File) → Ret (lines self.now.bytes) file → (result ≡ Ok file) ⊎ (result ≡ Err no_memory) }
         ensures fault { self.now.progress ≡ Progress.Ended → IfErr result (λ fault. fault ≡ no_memory) }
@@ -158,7 +158,7 @@ impl RetReader {
     /// The fault of a text that has not ended: its trailer lacks.
     fn unended(&self) -> RetFault
         requires { self.now.progress ≡ Progress.Reading }
-        ensures { result ≡ unended self.now.bytes }
+        ensures { result ≡ fault_at_end FaultCode.F08 self.now.bytes }
     {
         let (_, rest) = self.bytes.split_at(self.judged);
         if rest.is_empty() {

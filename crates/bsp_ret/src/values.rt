@@ -3,7 +3,6 @@
 ghost use Rattle.std.specs.Prelude.{◌≡◌, ◌≤◌, ◌+◌, ℕ, List, [], length, MatchOption, slice_index_or};
 ghost use Rattle.bsp_ret.specs.Content.{IsContent, HasContent};
 ghost use Rattle.bsp_ret.specs.Groups.{records_of, AreFit};
-ghost use Rattle.bsp_ret.specs.Law.{HasOneContent};
 
 use crate::file::RetFile;
 use crate::records::Records;
@@ -50,5 +49,5 @@ pub fn transaction(file: &RetFile, index: usize) -> Option<Transaction>
 
 /// A group has the values of one transaction only.
 pub fn one_content()
-    ensures { (n : ℕ) → (lines : List (List ℕ)) → HasOneContent n lines }
+    ensures { (n : ℕ) → (lines : List (List ℕ)) → (t other : Transaction) → HasContent n lines t → HasContent n lines other → t ≡ other }
 {}

@@ -12,7 +12,7 @@ use Rattle.bsp_fields.specs.declared.fault.FieldFault.TheVariants.{Width, NotDig
 use Rattle.bsp_fields.proofs.FirstFaultLemmas.{row_passed}
 use Rattle.bsp_ret_records.specs.declared.transactions.Tax.{Tax}
 use Rattle.bsp_records.specs.Columns.{columns, is_space, is_wide, is_printable}
-use Rattle.bsp_ret_records.specs.Records.{code_of, agent_and_document, agent, document, issued, sale_blank, sale_fits, related_document, related_blank, related_fits}
+use Rattle.bsp_ret_records.specs.Records.{code_of, agent_and_document, agent, document, issued, sale_fits, related_document, related_fits}
 use Rattle.bsp_records.specs.Fields.{is_record_day}
 use Rattle.bsp_records.specs.Taxes.{tax_code, tax_fits, taxes_fit}
 use Rattle.bsp_ret_records.specs.Values.{IsTax}
@@ -42,7 +42,7 @@ sale_fields line fits =
     let code_is = is_some (code_of line) in
     let digits_are = all_ascii_digits (agent_and_document line) in
     let day_is = is_record_day (issued line) in
-    let third = and_parts (code_is && digits_are && day_is) (list_all is_space (sale_blank line)) fits in
+    let third = and_parts (code_is && digits_are && day_is) (list_all is_space (columns 89 136 line)) fits in
     let second = and_parts (code_is && digits_are) day_is third.0 in
     let first = and_parts code_is digits_are second.0 in
     record {
@@ -55,7 +55,7 @@ sale_fields line fits =
 pub related_digits : (line : List ℕ) → related_fits line ≡ true → all_ascii_digits (related_document line) ≡ true
 unfolding related_fits
 related_digits line fits =
-    (and_parts (all_ascii_digits (related_document line)) (list_all is_space (related_blank line)) fits).0
+    (and_parts (all_ascii_digits (related_document line)) (list_all is_space (columns 22 136 line)) fits).0
 
 -- ---- tax places
 

@@ -5,10 +5,10 @@ use Rattle.std.specs.List.{list_all}
 use Rattle.std.specs.Str.{all_ascii_digits}
 use Rattle.std.proofs.lemmas.Bool.{and_parts, cases_Bool, or_right, leb-true}
 use Rattle.bsp_fields.specs.Decimal.{number_of}
-use Rattle.bsp_records.specs.Columns.{is_space}
+use Rattle.bsp_records.specs.Columns.{columns, is_space}
 use Rattle.bsp_records.specs.Fields.{is_amount, is_total, spells_at_most}
 use Rattle.bsp_records.specs.Taxes.{tax_places, tax_code, tax_fits, taxes_fit}
-use Rattle.bsp_ret_records.specs.Records.{fare, rate, commission, amounts_blank, amounts_fit, payment_amount, vendor, payment_blank, vendor_fits, form_of, form_fits, record_count, transaction_count, total, trailer_blank, trailer_fits}
+use Rattle.bsp_ret_records.specs.Records.{fare, rate, commission, amounts_fit, payment_amount, vendor, vendor_fits, form_of, form_fits, record_count, transaction_count, total, trailer_fits}
 use Rattle.bsp_ret_records.proofs.ReadLemmas.{blank_rest, used_rest}
 
 -- ---- record 5
@@ -57,7 +57,7 @@ amounts_fields line fits =
     let taxes_are = taxes_fit 0 (tax_places line) in
     let rate_is = spells_at_most 10000 (rate line) in
     let commission_is = is_amount (commission line) in
-    let fourth = and_parts (fare_is && taxes_are && rate_is && commission_is) (list_all is_space (amounts_blank line)) fits in
+    let fourth = and_parts (fare_is && taxes_are && rate_is && commission_is) (list_all is_space (columns 113 136 line)) fits in
     let third = and_parts (fare_is && taxes_are && rate_is) commission_is fourth.0 in
     let second = and_parts (fare_is && taxes_are) rate_is third.0 in
     let first = and_parts fare_is taxes_are second.0 in
@@ -79,7 +79,7 @@ unfolding form_fits
 form_amount_is line fits =
     let vendor_is = vendor_fits (form_of line) (vendor line) in
     let amount_is = is_amount (payment_amount line) in
-    (and_parts vendor_is amount_is ((and_parts (vendor_is && amount_is) (list_all is_space (payment_blank line)) fits).0)).1
+    (and_parts vendor_is amount_is ((and_parts (vendor_is && amount_is) (list_all is_space (columns 23 136 line)) fits).0)).1
 
 -- ---- record Z
 
@@ -94,7 +94,7 @@ trailer_fields line fits =
     let records_are = all_ascii_digits (record_count line) in
     let transactions_are = all_ascii_digits (transaction_count line) in
     let sum_is = is_total (total line) in
-    let third = and_parts (records_are && transactions_are && sum_is) (list_all is_space (trailer_blank line)) fits in
+    let third = and_parts (records_are && transactions_are && sum_is) (list_all is_space (columns 31 136 line)) fits in
     let second = and_parts (records_are && transactions_are) sum_is third.0 in
     let first = and_parts records_are transactions_are second.0 in
     record { records = first.0; transactions = first.1; sum = second.1 }

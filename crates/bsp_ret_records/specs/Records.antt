@@ -54,9 +54,6 @@ issued line = columns 34 39 line
 abbrev pub passenger : List ℕ → List ℕ
 passenger line = columns 40 88 line
 
-abbrev pub sale_blank : List ℕ → List ℕ
-sale_blank line = columns 89 136 line
-
 unfoldable pub code_of : List ℕ → Option TransactionCode
 code_of line =
     if bytes_eq (columns 8 11 line) (codes "TKTT") then Some Tktt
@@ -66,18 +63,15 @@ code_of line =
 unfoldable pub sale_fits : List ℕ → Bool
 sale_fits line =
     is_some (code_of line) && all_ascii_digits (agent_and_document line) && is_record_day (issued line)
-    && list_all is_space (sale_blank line)
+    && list_all is_space (columns 89 136 line)
 
 -- ---- record 3, related document
 
 abbrev pub related_document : List ℕ → List ℕ
 related_document line = columns 8 21 line
 
-abbrev pub related_blank : List ℕ → List ℕ
-related_blank line = columns 22 136 line
-
 unfoldable pub related_fits : List ℕ → Bool
-related_fits line = all_ascii_digits (related_document line) && list_all is_space (related_blank line)
+related_fits line = all_ascii_digits (related_document line) && list_all is_space (columns 22 136 line)
 
 -- ---- record 5, amounts; its tax places are bsp_records'
 
@@ -90,13 +84,10 @@ rate line = columns 97 101 line
 abbrev pub commission : List ℕ → List ℕ
 commission line = columns 102 112 line
 
-abbrev pub amounts_blank : List ℕ → List ℕ
-amounts_blank line = columns 113 136 line
-
 unfoldable pub amounts_fit : List ℕ → Bool
 amounts_fit line =
     is_amount (fare line) && taxes_fit 0 (tax_places line) && spells_at_most 10000 (rate line)
-    && is_amount (commission line) && list_all is_space (amounts_blank line)
+    && is_amount (commission line) && list_all is_space (columns 113 136 line)
 
 -- ---- record 8, form of payment
 
@@ -105,9 +96,6 @@ payment_amount line = columns 10 20 line
 
 abbrev pub vendor : List ℕ → List ℕ
 vendor line = columns 21 22 line
-
-abbrev pub payment_blank : List ℕ → List ℕ
-payment_blank line = columns 23 136 line
 
 unfoldable pub form_of : List ℕ → Option FormOfPayment
 form_of line =
@@ -124,7 +112,7 @@ vendor_fits (Some Exchange) text = list_all is_space text
 
 unfoldable pub form_fits : List ℕ → Bool
 form_fits line =
-    vendor_fits (form_of line) (vendor line) && is_amount (payment_amount line) && list_all is_space (payment_blank line)
+    vendor_fits (form_of line) (vendor line) && is_amount (payment_amount line) && list_all is_space (columns 23 136 line)
 
 -- the amount of a form, 0 where there is none
 unfoldable pub form_amount : List ℕ → ℤ
@@ -141,10 +129,7 @@ transaction_count line = columns 9 15 line
 abbrev pub total : List ℕ → List ℕ
 total line = columns 16 30 line
 
-abbrev pub trailer_blank : List ℕ → List ℕ
-trailer_blank line = columns 31 136 line
-
 unfoldable pub trailer_fits : List ℕ → Bool
 trailer_fits line =
     all_ascii_digits (record_count line) && all_ascii_digits (transaction_count line) && is_total (total line)
-    && list_all is_space (trailer_blank line)
+    && list_all is_space (columns 31 136 line)

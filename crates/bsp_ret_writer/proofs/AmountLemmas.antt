@@ -9,10 +9,10 @@ use Rattle.bsp_fields.specs.Decimal.{fixed_digits}
 use Rattle.bsp_fields.specs.Zoned.{spelling}
 use Rattle.bsp_fields.proofs.DecimalLemmas.{length-fixed_digits, digits-fixed_digits, number_of-fixed_digits}
 use Rattle.bsp_ret_records.specs.declared.transactions.Amounts.{Amounts}
-use Rattle.bsp_records.specs.Columns.{identifier, is_wide, is_printable, is_space}
+use Rattle.bsp_records.specs.Columns.{columns, identifier, is_wide, is_printable, is_space}
 use Rattle.bsp_records.specs.Fields.{is_amount, spells_at_most}
 use Rattle.bsp_records.specs.Taxes.{tax_places, taxes_fit}
-use Rattle.bsp_ret_records.specs.Records.{transaction_number, fare as fare_of, rate as rate_of, commission as commission_of, amounts_blank, amounts_fit}
+use Rattle.bsp_ret_records.specs.Records.{transaction_number, fare as fare_of, rate as rate_of, commission as commission_of, amounts_fit}
 use Rattle.bsp_ret.specs.Ret.{IsRecord}
 use Rattle.bsp_ret_records.specs.Values.{AreAmounts, AreTaxes}
 use Rattle.bsp_ret_writer.specs.GroupValues.{are_taxes, are_amounts}
@@ -32,7 +32,7 @@ record AmountsColumns (line number fare : List ℕ) (places : List (List ℕ)) (
   places_at : tax_places line ≡ places
   rate_at : rate_of line ≡ rate
   commission_at : commission_of line ≡ commission
-  rest_at : amounts_blank line ≡ rest
+  rest_at : columns 113 136 line ≡ rest
 
 widths_are : (name number fare : List ℕ) (places : List (List ℕ)) (rate commission rest : List ℕ) → length name ≡ 1 → length number ≡ 6 → length fare ≡ 11 → map length places ≡ replicate 6 13 → length rate ≡ 5 → length commission ≡ 11 → length rest ≡ 24 → map length (name ∷ number ∷ fare ∷ (places ++ (rate ∷ commission ∷ rest ∷ []))) ≡ 1 ∷ 6 ∷ 11 ∷ 13 ∷ 13 ∷ 13 ∷ 13 ∷ 13 ∷ 13 ∷ 5 ∷ 11 ∷ 24 ∷ []
 widths_are name number fare places rate commission rest a b d e f g h =

@@ -12,10 +12,10 @@ use Rattle.bsp_ret_records.specs.declared.transactions.ReportedDocument.{Reporte
 use Rattle.bsp_ret_records.specs.declared.transactions.Amounts.{Amounts}
 use Rattle.bsp_ret_records.specs.declared.transactions.CardPayment.{CardPayment}
 use Rattle.bsp_ret_records.specs.declared.transactions.Transaction.{Transaction}
-use Rattle.bsp_records.specs.Columns.{is_space, is_letter_or_digit, is_printable}
+use Rattle.bsp_records.specs.Columns.{columns, is_space, is_letter_or_digit, is_printable}
 use Rattle.bsp_records.specs.Fields.{is_amount}
 use Rattle.bsp_records.specs.Taxes.{tax_places}
-use Rattle.bsp_ret_records.specs.Records.{document, related_document, payment_amount, vendor, payment_blank, vendor_fits, form_of, form_fits, related_fits, amounts_fit}
+use Rattle.bsp_ret_records.specs.Records.{document, related_document, payment_amount, vendor, vendor_fits, form_of, form_fits, related_fits, amounts_fit}
 use Rattle.bsp_ret.specs.Ret.{Group, IsRecord, IsForm, IsPaid, HasRelated, HasBody}
 use Rattle.bsp_ret.specs.Content.{InBoth, HasRelatedValues, IsContent, HasContent}
 use Rattle.bsp_ret_records.specs.Values.{IsRelated, AreAmounts, IsPayment, IsCardPayment, none_or}
@@ -44,7 +44,7 @@ unfolding form_fits is_card
 card_fits line p fits form is =
     let vendor_is = vendor_fits (form_of line) (vendor line) in
     let amount_is = is_amount (payment_amount line) in
-    let second = and_parts (vendor_is && amount_is) (list_all is_space (payment_blank line)) fits in
+    let second = and_parts (vendor_is && amount_is) (list_all is_space (columns 23 136 line)) fits in
     let first = (and_parts vendor_is amount_is second.0).0 in
     ap (list_all is_letter_or_digit) is.vendor ∙ sym (ap (λ o. vendor_fits o (vendor line)) form) ∙ first
 

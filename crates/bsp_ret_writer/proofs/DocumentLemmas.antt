@@ -10,7 +10,7 @@ use Rattle.bsp_fields.proofs.DecimalLemmas.{length-fixed_digits, digits-fixed_di
 use Rattle.bsp_fields.proofs.CodeLemmas.{code_reading-fixed_digits}
 use Rattle.bsp_ret_records.specs.declared.transactions.ReportedDocument.{ReportedDocument}
 use Rattle.bsp_records.specs.Columns.{columns, identifier, is_wide, is_printable, is_space}
-use Rattle.bsp_ret_records.specs.Records.{transaction_number, related_document, related_blank, related_fits}
+use Rattle.bsp_ret_records.specs.Records.{transaction_number, related_document, related_fits}
 use Rattle.bsp_ret.specs.Ret.{IsRecord}
 use Rattle.bsp_ret_records.specs.Values.{IsDocument, IsRelated}
 use Rattle.bsp_ret_writer.specs.GroupValues.{is_document}
@@ -54,7 +54,7 @@ record RelatedColumns (line number airline digits check rest : List ℕ) : Type 
   name : identifier line ≡ 51
   number_at : transaction_number line ≡ number
   document_at : related_document line ≡ concat (airline ∷ digits ∷ check ∷ [])
-  rest_at : related_blank line ≡ rest
+  rest_at : columns 22 136 line ≡ rest
 
 widths_are : (name number airline digits check rest : List ℕ) → length name ≡ 1 → length number ≡ 6 → length airline ≡ 3 → length digits ≡ 10 → length check ≡ 1 → length rest ≡ 115 → map length (name ∷ number ∷ airline ∷ digits ∷ check ∷ rest ∷ []) ≡ 1 ∷ 6 ∷ 3 ∷ 10 ∷ 1 ∷ 115 ∷ []
 widths_are name number airline digits check rest a b d e f g = rw (a, b, d, e, f, g) refl

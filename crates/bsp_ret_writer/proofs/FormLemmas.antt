@@ -9,7 +9,7 @@ use Rattle.bsp_ret_records.specs.declared.codes.FormOfPayment.{FormOfPayment}
 use Rattle.bsp_ret_records.specs.declared.codes.FormOfPayment.TheVariants.{Cash, Credit, Exchange}
 use Rattle.bsp_records.specs.Columns.{columns, identifier, is_wide, is_printable, is_space, is_letter_or_digit}
 use Rattle.bsp_records.specs.Fields.{is_amount}
-use Rattle.bsp_ret_records.specs.Records.{transaction_number, payment_amount, vendor as vendor_of, payment_blank, vendor_fits, form_of, form_fits}
+use Rattle.bsp_ret_records.specs.Records.{transaction_number, payment_amount, vendor as vendor_of, vendor_fits, form_of, form_fits}
 use Rattle.bsp_ret.specs.Ret.{IsForm}
 use Rattle.bsp_ret_records.specs.Values.{IsPayment}
 use Rattle.bsp_ret_writer.specs.Writing.{form_line, spaces}
@@ -25,7 +25,7 @@ pub record FormColumns (line number form amount vendor rest : List ℕ) : Type 0
   pub form_at : columns 8 9 line ≡ form
   pub amount_at : payment_amount line ≡ amount
   pub vendor_at : vendor_of line ≡ vendor
-  pub rest_at : payment_blank line ≡ rest
+  pub rest_at : columns 23 136 line ≡ rest
 
 widths_are : (name number form amount vendor rest : List ℕ) → length name ≡ 1 → length number ≡ 6 → length form ≡ 2 → length amount ≡ 11 → length vendor ≡ 2 → length rest ≡ 114 → map length (name ∷ number ∷ form ∷ amount ∷ vendor ∷ rest ∷ []) ≡ 1 ∷ 6 ∷ 2 ∷ 11 ∷ 2 ∷ 114 ∷ []
 widths_are name number form amount vendor rest a b d e f g = rw (a, b, d, e, f, g) refl

@@ -13,7 +13,7 @@ use Rattle.bsp_ret_records.specs.declared.codes.TransactionCode.TheVariants.{Tkt
 use Rattle.bsp_ret_records.specs.declared.transactions.Transaction.{Transaction}
 use Rattle.bsp_records.specs.Columns.{columns, identifier, is_wide, is_printable, is_space}
 use Rattle.bsp_records.specs.Fields.{is_record_day}
-use Rattle.bsp_ret_records.specs.Records.{transaction_number, agent_and_document, agent as agent_of, document as document_of, issued as issued_of, passenger as passenger_of, sale_blank, code_of, sale_fits}
+use Rattle.bsp_ret_records.specs.Records.{transaction_number, agent_and_document, agent as agent_of, document as document_of, issued as issued_of, passenger as passenger_of, code_of, sale_fits}
 use Rattle.bsp_ret.specs.Ret.{IsRecord}
 use Rattle.bsp_ret_records.specs.Values.{IsDocument}
 use Rattle.bsp_ret_writer.specs.GroupValues.{is_document}
@@ -36,7 +36,7 @@ pub record SaleColumns (line number code agent airline digits check day passenge
   pub document_at : document_of line ≡ concat (airline ∷ digits ∷ check ∷ [])
   pub day_at : issued_of line ≡ day
   pub passenger_at : passenger_of line ≡ passenger
-  pub rest_at : sale_blank line ≡ rest
+  pub rest_at : columns 89 136 line ≡ rest
 
 widths_are : (name number code agent airline digits check day passenger rest : List ℕ) → length name ≡ 1 → length number ≡ 6 → length code ≡ 4 → length agent ≡ 8 → length airline ≡ 3 → length digits ≡ 10 → length check ≡ 1 → length day ≡ 6 → length passenger ≡ 49 → length rest ≡ 48 → map length (name ∷ number ∷ code ∷ agent ∷ airline ∷ digits ∷ check ∷ day ∷ passenger ∷ rest ∷ []) ≡ 1 ∷ 6 ∷ 4 ∷ 8 ∷ 3 ∷ 10 ∷ 1 ∷ 6 ∷ 49 ∷ 48 ∷ []
 widths_are name number code agent airline digits check day passenger rest a b d e f g h i j k =

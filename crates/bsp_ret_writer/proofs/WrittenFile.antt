@@ -14,9 +14,9 @@ use Rattle.bsp_fields.proofs.DecimalLemmas.{number_of-lt}
 use Rattle.bsp_ret_records.specs.declared.transactions.Transaction.{Transaction}
 use Rattle.bsp_ret_records.specs.declared.transactions.CardPayment.{CardPayment}
 use Rattle.bsp_records.specs.Lines.{lines, has_end, without_cr}
-use Rattle.bsp_records.specs.Columns.{identifier, is_wide, is_printable, is_space}
+use Rattle.bsp_records.specs.Columns.{columns, identifier, is_wide, is_printable, is_space}
 use Rattle.bsp_records.specs.Fields.{is_total, spells}
-use Rattle.bsp_ret_records.specs.Records.{transaction_number, record_count, transaction_count, total, trailer_blank, sale_fits, related_fits, amounts_fit, trailer_fits, form_amount}
+use Rattle.bsp_ret_records.specs.Records.{transaction_number, record_count, transaction_count, total, sale_fits, related_fits, amounts_fit, trailer_fits, form_amount}
 use Rattle.bsp_ret.specs.Table.{paid, total_paid}
 use Rattle.bsp_ret.specs.Ret.{File, flatten, forms_of, IsRecord, IsForm, HasBody, AreGroups, IsTrailer, Ret, file_lines}
 use Rattle.bsp_ret_writer.specs.Stored.{IsStored}
@@ -217,7 +217,7 @@ record TrailerColumns (line records transactions sum rest : List ℕ) : Type 0 w
   pub records_at : record_count line ≡ records
   pub transactions_at : transaction_count line ≡ transactions
   pub sum_at : total line ≡ sum
-  pub rest_at : trailer_blank line ≡ rest
+  pub rest_at : columns 31 136 line ≡ rest
 
 trailer_widths : (records transactions sum rest : List ℕ) → length records ≡ 7 → length transactions ≡ 7 → length sum ≡ 15 → length rest ≡ 106 → map length (codes "Z" ∷ records ∷ transactions ∷ sum ∷ rest ∷ []) ≡ 1 ∷ 7 ∷ 7 ∷ 15 ∷ 106 ∷ []
 trailer_widths records transactions sum rest a b d e = rw (a, b, d, e) refl

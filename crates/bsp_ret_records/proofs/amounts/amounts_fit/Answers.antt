@@ -1,15 +1,15 @@
 use Rattle.std.proofs.Common.{◌≡◌, ◌&&◌, refl, sym, ap, ◌∙◌}
 use Rattle.std.specs.List.{list_all}
-use Rattle.bsp_records.specs.Columns.{is_space}
+use Rattle.bsp_records.specs.Columns.{columns, is_space}
 use Rattle.bsp_records.specs.Fields.{is_amount, spells_at_most}
-use Rattle.bsp_ret_records.specs.Records.{fare, rate, commission, amounts_blank, amounts_fit}
+use Rattle.bsp_ret_records.specs.Records.{fare, rate, commission, amounts_fit}
 use Rattle.bsp_records.proofs.TaxPlaces.{rest_fits, rest_fits-first}
 use Rattle.bsp_ret_records.proofs.AmountTests.{asked, spared, amounts_fit-parts}
 use Rattle.bsp_ret_records.proofs.amounts.amounts_fit.Goals as goal
 use Rattle.bsp_ret_records.proofs.amounts.amounts_fit.Goals.{Joined-spells_at_most, then-is_amount, else-is_amount, then-taxes_fit, else-taxes_fit, then-spells_at_most, else-spells_at_most}
 
 -- the record's fields are the first four, and spaces behind them
-parts : (c : Joined-spells_at_most) → amounts_fit c.args.line.now ≡ (c.if-spells_at_most.value && list_all is_space (amounts_blank c.args.line.now))
+parts : (c : Joined-spells_at_most) → amounts_fit c.args.line.now ≡ (c.if-spells_at_most.value && list_all is_space (columns 113 136 c.args.line.now))
 parts c =
     let line = c.args.line.now in
     let first : c.if-is_amount.value ≡ (is_amount (fare line) && rest_fits line 0 0) =

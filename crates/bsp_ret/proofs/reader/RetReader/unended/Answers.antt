@@ -5,7 +5,7 @@ use Rattle.bsp_ret.specs.declared.model.Progress.{Progress}
 use Rattle.bsp_ret.specs.declared.model.Progress.TheVariants.{Reading}
 use Rattle.bsp_ret.specs.declared.model.Standing.{Standing}
 use Rattle.bsp_records.specs.Lines.{lines}
-use Rattle.bsp_ret.specs.Pieces.{Fed, IsJudgedTo, IsKnown, unended}
+use Rattle.bsp_ret.specs.Pieces.{Fed, IsJudgedTo, IsKnown, fault_at_end}
 use Rattle.bsp_ret.proofs.FeedLemmas.{came_some, came_none}
 use Rattle.bsp_ret.proofs.reader.RetReader.unended.Goals as goal
 
@@ -17,7 +17,7 @@ known_rest progress at n bytes rest known reading is =
     subst JudgedTo (sym is) (subst KnownBy reading known)
 
 -- F08 at one more than the lines that came
-told : (at : ℕ) (bytes items : List ℕ) → items ≡ bytes → at ≡ length (lines items) + 1 → ◌≡◌ {A = RetFault} (record { code = F08; at = at }) (unended bytes)
+told : (at : ℕ) (bytes items : List ℕ) → items ≡ bytes → at ≡ length (lines items) + 1 → ◌≡◌ {A = RetFault} (record { code = F08; at = at }) (fault_at_end F08 bytes)
 told at bytes items same is = rw (is, same) refl
 
 pub returns-then-is_empty : goal.returns-then-is_empty
