@@ -1,9 +1,9 @@
 -- Each body has a reading as a RET file: its transactions, or its first fault.
-use Rattle.std.proofs.Common.{◌≡◌, ℕ, ℤ, suc, true, Bool, List, [], ◌∷◌, length, drop, length-take, length-drop, take, Option, Some, None, is_some, Result, Ok, Err, IfSome, false, refl, sym, subst, arith, inl, inr}
-use Rattle.std.specs.Prelude.{◌==◌, ◌&&◌, ◌||◌, nat_lt, is_ok}
+use Rattle.std.proofs.Common.{◌≡◌, ℕ, ℤ, suc, Bool, true, false, List, [], ◌∷◌, length, drop, length-take, length-drop, Option, Some, None, IfSome, is_some, Result, Ok, Err, refl, subst, arith}
+use Rattle.std.specs.Prelude.{◌==◌, is_ok}
 use Rattle.std.specs.List.{list_all}
 use Rattle.std.specs.Str.{all_ascii_digits}
-use Rattle.std.proofs.lemmas.Bool.{and_parts, cases_Bool, eqb-true}
+use Rattle.std.proofs.lemmas.Bool.{and_parts, eqb-true}
 use Rattle.bsp_fields.specs.Codes.{code_reading}
 use Rattle.bsp_fields.specs.Days.{record_reading}
 use Rattle.bsp_fields.specs.Decimal.{number_of}
@@ -19,7 +19,7 @@ use Rattle.bsp_ret.specs.Table.{first_fault}
 use Rattle.bsp_ret.specs.declared.model.RetFault.{RetFault}
 use Rattle.bsp_ret.proofs.BodyLemmas.{body_facts}
 use Rattle.bsp_ret.proofs.LawLemmas.{law}
-use Rattle.bsp_ret_records.specs.Records.{agent, agent_and_document, amounts_fit, code_of, commission, document, fare, form_fits, issued, passenger, payment_amount, rate, related_document, related_fits, sale_fits, vendor}
+use Rattle.bsp_ret_records.specs.Records.{agent, agent_and_document, amounts_fit, code_of, commission, document, fare, issued, passenger, payment_amount, rate, related_document, related_fits, sale_fits, vendor}
 use Rattle.bsp_ret_records.specs.Values.{AreAmounts, AreTaxes, IsCardPayment, IsDocument, IsPayment, IsRelated, IsTax}
 use Rattle.bsp_ret_records.specs.declared.codes.FormOfPayment.{FormOfPayment}
 use Rattle.bsp_ret_records.specs.declared.codes.FormOfPayment.TheVariants.{Cash, Credit, Exchange}
@@ -118,7 +118,7 @@ content_read n g code is sale body =
     let facts = body_facts n g code body in
     let fields = sale_fields g.sale sale.fields in
     let long : length (document g.sale) ≡ 14 =
-        omega (arith, width g.sale sale.wide, length-take 14 (drop 8 (agent_and_document g.sale)), length-drop 8 (agent_and_document g.sale), length-take 22 (drop 11 g.sale), length-drop 11 g.sale) in
+    omega (arith, width g.sale sale.wide, length-take 14 (drop 8 (agent_and_document g.sale)), length-drop 8 (agent_and_document g.sale), length-take 22 (drop 11 g.sale), length-drop 11 g.sale) in
     let of_document = document_read (document g.sale) long fields.document in
     let day = value_of (record_reading (issued g.sale)) fields.day in
     let of_related = both IsRelated (IsRecord 51 n related_fits) (related_read n) g.related facts.related in
