@@ -1,6 +1,5 @@
 -- Of one answer there is one reply, so the same answers to a caller are the same replies to it.
-use Rattle.std.proofs.Common.{◌≡◌, ℕ, Bool, true, false, cond, List, [], ◌∷◌, ◌++◌, Option, Some, None, map, refl, sym, ap, subst, ◌∙◌}
-use Rattle.bsp_messages.specs.Answers.{media_of, status_of, text_of}
+use Rattle.std.proofs.Common.{◌≡◌, ℕ, Bool, true, false, cond, List, [], ◌∷◌, ◌++◌, Option, Some, None, map, refl, sym, subst, ◌∙◌}
 use Rattle.bsp_messages.specs.declared.reply.Reply.{Reply}
 use Rattle.bsp_messages.specs.declared.status.Media.{Media}
 use Rattle.bsp_messages.specs.declared.status.Status.{Status}
