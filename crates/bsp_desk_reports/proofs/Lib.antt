@@ -3,6 +3,7 @@ pub mod OwnRows
 pub mod AirlineRows
 pub mod PeriodRows
 pub mod Posted
+pub mod FewTallies
 pub mod PeriodSums
 pub mod Shown
 pub mod DocumentRows

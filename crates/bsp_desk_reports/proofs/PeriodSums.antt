@@ -61,7 +61,7 @@ documents_of code items memos =
 
 -- ---- tallies
 
-abbrev shown_as : Bool → ℕ → ℤ → ℕ → PeriodShown
+abbrev pub shown_as : Bool → ℕ → ℤ → ℕ → PeriodShown
 shown_as closed documents net code = record { closed = closed; documents = documents; net = net; period = code }
 
 module _ (items : List Item) (memos : List MemoFields) (tallies : List Tally) (are : AreTallies items memos tallies) (code : ℕ) where

@@ -1,5 +1,5 @@
 -- What is shown of a period.
-use Rattle.std.specs.Prelude.{ℕ, ◌+◌, ◌+ℤ◌, ◌-ℤ◌, Bool, List}
+use Rattle.std.specs.Prelude.{ℕ, Bool, List}
 use Rattle.std.specs.List.{sum_by}
 use Rattle.bsp_messages.specs.declared.answer.PeriodShown.{PeriodShown}
 use Rattle.bsp_postings.specs.Nets.{net_of_postings}
@@ -12,11 +12,4 @@ shown_over closed period rows = record {
   documents = sum_by (λ p. p.documents) rows;
   net = net_of_postings rows;
   period = period;
-}
-
--- with a posting more
-abbrev pub shown_with : Posting → PeriodShown → PeriodShown
-shown_with p s = record s {
-  documents = s.documents + p.documents;
-  net = s.net +ℤ ((p.cash -ℤ p.commission) +ℤ p.memos);
 }

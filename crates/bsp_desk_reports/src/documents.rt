@@ -1,9 +1,9 @@
 //! A document of an agent, and its state.
 
-ghost use Rattle.std.specs.List.{find, list_any};
+ghost use Rattle.std.specs.List.{find};
 ghost use Rattle.std.specs.Option.{option_copied};
 ghost use Rattle.std.specs.Prelude.{◌≡◌, false};
-ghost use Rattle.bsp_rules.specs.Rows.{is_living_relation, names_number};
+ghost use Rattle.bsp_rules.specs.Rows.{is_living_relation};
 ghost use Rattle.bsp_desk_reports.specs.Documents.{is_canx_of, is_sale_of};
 ghost use Rattle.bsp_serving.specs.Serves.{EndsOnFault, ServesAgent};
 ghost use Rattle.bsp_step.specs.Ledger.{first_of, state_of};
@@ -12,9 +12,9 @@ ghost use Rattle.bsp_step.specs.Requests.AgentRequest.{AskDocument};
 use bsp_book::{Book, BookFault};
 use bsp_fields::{AgentCode, DocNumber};
 use bsp_messages::{Answer, DocumentShown, DocumentState, RequestRefusal};
-use bsp_ret_records::{ReportedDocument, TransactionCode};
+use bsp_ret_records::TransactionCode;
 use bsp_rows::Items;
-use bsp_rules::Item;
+use bsp_rules::{Item, is_living_relation};
 
 /// The TKTT or RFND of a number.
 fn sale_of<'a>(number: &[u8; 10], items: &'a [Item]) -> Option<&'a Item>
@@ -44,29 +44,6 @@ fn item_of(number: &[u8; 10], items: &[Item]) -> Option<Item>
         Some(item) => Some(item),
         None => canx_of(number, items).copied(),
     }
-}
-
-/// Whether a related place names the number.
-fn names_number(place: &Option<ReportedDocument>, number: &[u8; 10]) -> bool
-    ensures { result ≡ names_number number.now place.now }
-{
-    match place {
-        Some(document) => document.number == *number,
-        None => false,
-    }
-}
-
-/// Whether the item is a living TKTT or RFND that relates to the number.
-fn is_living_relation(item: &Item, number: &[u8; 10]) -> bool
-    ensures { result ≡ is_living_relation number.now item.now }
-{
-    item.lives
-        && item.transaction.code != TransactionCode::Canx
-        && item
-            .transaction
-            .related
-            .iter()
-            .any(|place| names_number(place, number))
 }
 
 /// The living TKTT or RFND that relates to the number.

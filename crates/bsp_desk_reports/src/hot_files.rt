@@ -36,6 +36,9 @@ pub fn hot<B: Book>(
     let Ok(code) = PeriodCode::read(period) else {
         return Ok(Answer::Refused(RequestRefusal::NoHot));
     };
+    if book.plan().closed_period(code).is_none() {
+        return Ok(Answer::Refused(RequestRefusal::NoHot));
+    }
     let items = book.items(Items::OfAirlineIn(airline, code))?;
     let memos = book.memos(Memos::OfAirlineIn(airline, code))?;
     let tallies = book.tallies(Tallies::OfAirlineIn(airline, code))?;

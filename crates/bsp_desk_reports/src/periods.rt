@@ -1,8 +1,11 @@
 //! The sums of an agent in a period.
 
-ghost use Rattle.std.specs.Prelude.{◌≡◌, false, IfSome};
-ghost use Rattle.bsp_postings.specs.Tallies.{tally_postings};
-ghost use Rattle.bsp_desk_reports.specs.Sums.{shown_over, shown_with};
+ghost use Rattle.std.specs.Prelude.{◌≡◌, ◌<◌, ◌≤◌, ◌^◌, false, All, length, map};
+ghost use Rattle.std.specs.List.{sum_by};
+ghost use Rattle.bsp_postings.specs.Nets.{net_of_postings};
+ghost use Rattle.bsp_postings.specs.Sides.{AreOnce};
+ghost use Rattle.bsp_postings.specs.Tallies.{tally_posting, tally_postings};
+ghost use Rattle.bsp_desk_reports.specs.Sums.{shown_over};
 ghost use Rattle.bsp_serving.specs.Serves.{EndsOnFault, ServesAgent};
 ghost use Rattle.bsp_step.specs.Requests.AgentRequest.{AskPeriod};
 
@@ -11,35 +14,53 @@ use bsp_fields::{AgentCode, PeriodCode};
 use bsp_messages::{Answer, PeriodShown, RequestRefusal};
 use bsp_postings::{Posting, Tally};
 use bsp_rows::Tallies;
-use bsp_serving::give_up;
 
-/// With a posting more; none where a sum has no room for it.
-fn with_posting(shown: &PeriodShown, posting: &Posting) -> Option<PeriodShown>
-    ensures { IfSome result (λ more. more ≡ shown_with posting.now shown.now) }
+/// What a tally posts. Its airline's code has three digits.
+fn posting_of(tally: Tally) -> Posting
+    ensures value { result ≡ tally_posting tally }
+    ensures code { tally.airline < 10 ^ 3 }
 {
-    Some(PeriodShown {
-        documents: shown.documents.checked_add(u64::from(posting.documents))?,
-        net: shown.net.checked_add(posting.net())?,
-        ..*shown
-    })
+    tally.posting()
 }
 
-/// What the tallies of a period add up to; none where a sum has no room for it.
-fn shown_over(period: PeriodCode, closed: bool, tallies: &[Tally]) -> Option<PeriodShown>
-    ensures { IfSome result (λ shown. shown ≡ shown_over closed period (tally_postings period tallies.now)) }
+/// How many documents the tallies of a period have. The count of 1,000 tallies fits.
+fn documents_over(period: PeriodCode, tallies: &[Tally]) -> u64
+    ensures sum { length tallies.now ≤ 1000 → result ≡ sum_by (λ p. p.documents) (tally_postings period tallies.now) }
+    ensures codes { All (λ t. t.airline < 10 ^ 3) tallies.now }
 {
-    let mut shown = PeriodShown {
-        closed,
-        documents: 0,
-        net: 0,
-        period,
-    };
+    let mut documents = 0_u64;
     for tally in tallies {
+        let posting = posting_of(*tally);
         if tally.is_used_in(period) {
-            shown = with_posting(&shown, &tally.posting())?;
+            documents = documents.saturating_add(u64::from(posting.documents));
         }
     }
-    Some(shown)
+    documents
+}
+
+/// The net of the tallies of a period, in minor units. The sum of 1,000 tallies fits.
+fn net_over(period: PeriodCode, tallies: &[Tally]) -> i128
+    ensures { length tallies.now ≤ 1000 → result ≡ net_of_postings (tally_postings period tallies.now) }
+{
+    let mut net = 0_i128;
+    for tally in tallies {
+        if tally.is_used_in(period) {
+            net = net.saturating_add(tally.posting().net());
+        }
+    }
+    net
+}
+
+/// What the tallies of an agent in a period add up to, of which there is one for each airline.
+fn shown_over(period: PeriodCode, closed: bool, tallies: &[Tally]) -> PeriodShown
+    ensures { AreOnce (map (λ t. t.airline) tallies.now) → result ≡ shown_over closed period (tally_postings period tallies.now) }
+{
+    PeriodShown {
+        closed,
+        documents: documents_over(period, tallies),
+        net: net_over(period, tallies),
+        period,
+    }
 }
 
 /// Shows a period of an agent: whether it is closed, how many living TKTT and RFND the agent has in it, and what
@@ -49,7 +70,7 @@ fn shown_over(period: PeriodCode, closed: bool, tallies: &[Tally]) -> Option<Per
 ///
 /// # Errors
 ///
-/// `NoRoom` where there was no room, in memory or in size, or `Failed`.
+/// `NoRoom` where an allocation was refused, or `Failed`.
 pub fn period<B: Book>(book: &mut B, agent: AgentCode, period: &[u8]) -> Result<Answer, BookFault>
     requires works { B.means.has_failed book.old ≡ false }
     ensures served { ServesAgent B.means book.old book.new result agent (AskPeriod period.now) }
@@ -62,8 +83,5 @@ pub fn period<B: Book>(book: &mut B, agent: AgentCode, period: &[u8]) -> Result<
         return Ok(Answer::Refused(RequestRefusal::UnknownPeriod));
     };
     let tallies = book.tallies(Tallies::OfAgentIn(agent, code))?;
-    match shown_over(code, closed, &tallies) {
-        Some(shown) => Ok(Answer::Period(shown)),
-        None => give_up(book),
-    }
+    Ok(Answer::Period(shown_over(code, closed, &tallies)))
 }

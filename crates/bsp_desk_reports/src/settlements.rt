@@ -27,6 +27,9 @@ pub fn settlement<B: Book>(alloc: Global, book: &mut B, period: &[u8]) -> Result
     let Ok(code) = PeriodCode::read(period) else {
         return Ok(Answer::Refused(RequestRefusal::UnknownPeriod));
     };
+    if book.plan().closed_period(code).is_none() {
+        return Ok(Answer::Refused(RequestRefusal::UnknownPeriod));
+    }
     let tallies = book.tallies(Tallies::In(code))?;
     match settlement_of(alloc, code, &tallies, book.plan()) {
         Ok(settlement) => Ok(Answer::Report(settlement.text)),

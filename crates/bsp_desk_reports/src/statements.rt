@@ -32,6 +32,9 @@ pub fn statement<B: Book>(
     let Ok(code) = PeriodCode::read(period) else {
         return Ok(Answer::Refused(RequestRefusal::UnknownPeriod));
     };
+    if book.plan().closed_period(code).is_none() {
+        return Ok(Answer::Refused(RequestRefusal::UnknownPeriod));
+    }
     let tallies = book.tallies(Tallies::OfAgentIn(agent, code))?;
     match statement_of(alloc, agent, code, &tallies, book.plan()) {
         Ok(text) => Ok(Answer::Report(text)),

@@ -24,5 +24,6 @@ pub use judging::judge;
 pub use laws::{facts_by_key, meaning_of_verdicts};
 pub use rounding::commission;
 pub use rows::{Item, Range};
+pub use searching::is_living_relation;
 pub use sums::{amount_or_zero, card_amount, commission_amount, net};
 pub use verdict::{Refusal, Reporter, Verdict};

@@ -81,8 +81,8 @@ pub(crate) fn names(transaction: &Transaction, number: &[u8; 10]) -> bool
     })
 }
 
-/// Whether the item is a living TKTT or RFND that relates to the number.
-fn is_living_relation(item: &Item, number: &[u8; 10]) -> bool
+/// Whether the item is a living TKTT or RFND that relates to the number, of ten digits.
+pub fn is_living_relation(item: &Item, number: &[u8; 10]) -> bool
     ensures { result ≡ is_living_relation number.now item.now }
 {
     item.lives && item.transaction.code != TransactionCode::Canx && names(&item.transaction, number)

@@ -15,9 +15,9 @@ returns-in-Ok-write_hot_of-clause-served g c = λ trust now last sound h.
     let kept = c.in_ok-tallies.ensures.ok now last after_memos in
     let items = c.deref.ensures.value ∙ c.in_ok-items.ensures.found items_trust now last h in
     let memos = c.deref-2.ensures.value ∙ c.in_ok-memos.ensures.found memos_trust now last after_items in
-    let plan = c.plan.ensures trust now (Some last) kept in
+    let plan = c.plan-2.ensures trust now (Some last) kept in
     let (q, terms, closed, published, over) = c.in-Ok-write_hot_of.ensures.written in (
-      hot_says now c.args.period.now code (ap result_ok c.in-Ok.ensures.value) c.plan.result.now plan q terms closed published airline _ _ items memos c.in-Ok-write_hot_of.file over,
+      hot_says now c.args.period.now code (ap result_ok c.in-Ok.ensures.value) c.plan-2.result.now plan q terms closed published airline _ _ items memos c.in-Ok-write_hot_of.file over,
       subst (λ (rows : Rows). g.B.Book.means.holds c.tallies.new.self rows (Some last)) (sym (same_rows _ now)) kept,
     )
 
@@ -32,9 +32,9 @@ returns-in-Err-TooWide-clause-served g c = λ trust now last sound h.
     let kept = c.in_ok-tallies.ensures.ok now last after_memos in
     let items = c.deref.ensures.value ∙ c.in_ok-items.ensures.found items_trust now last h in
     let memos = c.deref-2.ensures.value ∙ c.in_ok-memos.ensures.found memos_trust now last after_items in
-    let plan = c.plan.ensures trust now (Some last) kept in
+    let plan = c.plan-2.ensures trust now (Some last) kept in
     let wide = rw c.in-Err-TooWide.field-0-is at c.in-Err-TooWide.ensures.written in
     let (q, terms, closed, published, over) = wide in (
-      hot_is_wide now c.args.period.now code (ap result_ok c.in-Ok.ensures.value) c.plan.result.now plan q terms closed published airline _ _ items memos over,
+      hot_is_wide now c.args.period.now code (ap result_ok c.in-Ok.ensures.value) c.plan-2.result.now plan q terms closed published airline _ _ items memos over,
       subst (λ (rows : Rows). g.B.Book.means.holds c.tallies.new.self rows (Some last)) (sym (same_rows _ now)) kept,
     )
