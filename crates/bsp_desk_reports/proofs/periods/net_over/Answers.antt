@@ -5,7 +5,6 @@ use Rattle.std.proofs.lemmas.Int.{ints}
 use mir.Syntax.{w128}
 use mir.Val.{to_z}
 use Rattle.bsp_postings.proofs.NetLemmas.{net_of_posting}
-use Rattle.bsp_postings.specs.declared.posting.Posting.{Posting}
 use Rattle.bsp_postings.specs.Tallies.{tally_posting}
 use Rattle.bsp_desk_reports.proofs.Posted.{net_kept, net_more}
 use Rattle.bsp_desk_reports.proofs.periods.net_over.Goals as goal

@@ -1,4 +1,4 @@
-use Rattle.std.proofs.Common.{◌≡◌, ◌≤◌, ◌<◌, ◌^◌, ℕ, List, length, map, arith, ap, get_or, subst, ◌∙◌, sym}
+use Rattle.std.proofs.Common.{◌≡◌, ◌≤◌, ◌<◌, ◌^◌, ℕ, length, map, arith, subst, ◌∙◌}
 use Rattle.std.specs.List.{Contains}
 use mir.Syntax.{w128}
 use mir.Val.{of_z, to_z}
