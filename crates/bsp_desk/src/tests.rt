@@ -12,7 +12,7 @@ mod stock;
 mod worlds;
 
 use crate::{Desk, Request};
-use bsp_book::{BookFault, ListBook};
+use bsp_book::ListBook;
 use bsp_fields::Token;
 use bsp_messages::{Media, Reply};
 use bsp_routes::Routes;

@@ -19,7 +19,7 @@ const NEW_TOKEN: Option<&[u8]> = Some(b"agenttoken000009");
 const OTHER_TOKEN: Body = Body::Text(b"{\"agent\":\"12345675\",\"token\":\"agenttoken000009\"}");
 
 /// An agent and an airline before their registration and after it, and the agent with another token.
-const REGISTERED: [Row; 13] = [
+static REGISTERED: [Row; 13] = [
     Row(A, MEMOS_OF_A, Body::Missing, N01),
     Row(OFFICE, b"/office/agents", REGISTER_A, DONE),
     Row(OFFICE, b"/office/agents", REGISTER_A, HELD),
@@ -53,7 +53,7 @@ const DEBIT: Body = Body::Text(
 const PERIOD: Body = Body::Text(b"{\"period\":\"24011\"}");
 
 /// Each request of the office with an agent's token.
-const NOT_THE_OFFICE: [Row; 9] = [
+static NOT_THE_OFFICE: [Row; 9] = [
     Row(A, b"/office/plan", PLAN, N01),
     Row(A, b"/office/day", JANUARY_5, N01),
     Row(A, b"/office/agents", REGISTER_A, N01),
@@ -74,7 +74,7 @@ fn requests_of_the_office_need_its_token(rt: HostRuntime) {
 }
 
 /// Each request of A with another token.
-const NOT_THE_AGENT: [Row; 8] = [
+static NOT_THE_AGENT: [Row; 8] = [
     Row(B, b"/agents/12345675/ret", V1, N01),
     Row(
         B,
@@ -104,7 +104,7 @@ fn requests_of_an_agent_need_its_token(rt: HostRuntime) {
 }
 
 /// Each request of 125 with another token, and one of an airline that is not registered.
-const NOT_THE_AIRLINE: [Row; 7] = [
+static NOT_THE_AIRLINE: [Row; 7] = [
     Row(AIRLINE_220, MEMOS_OF_125, Body::Missing, N01),
     Row(AIRLINE_220, MEMOS_OF_125, DEBIT, N01),
     Row(AIRLINE_220, b"/airlines/125/memos/uphold", NUMBER, N01),
@@ -123,7 +123,7 @@ fn requests_of_an_airline_need_its_token(rt: HostRuntime) {
 }
 
 /// Whatever the token.
-const ELSEWHERE: [Row; 6] = [
+static ELSEWHERE: [Row; 6] = [
     Row(OFFICE, b"/office/x", Body::Missing, N02),
     Row(None, b"/office/settlement/24011?text", Body::Missing, N02),
     Row(A, b"/agents/12345675/stock/", Body::Missing, N02),

@@ -75,7 +75,7 @@ const DISPUTE: &[u8] = b"/agents/12345675/memos/dispute";
 const DISPUTE_OF_B: &[u8] = b"/agents/76543213/memos/dispute";
 
 /// Example 13.
-const DISPUTED: [Row; 9] = [
+static DISPUTED: [Row; 9] = [
     Row(AIRLINE_125, MEMOS, DEBIT_1, DONE),
     Row(AIRLINE_125, MEMOS, DEBIT_2, DONE),
     Row(OFFICE, b"/office/day", JANUARY_19, DONE),
@@ -95,7 +95,7 @@ fn a_memo_is_disputed_within_its_review(rt: HostRuntime) {
     );
 }
 
-const ISSUED: [Row; 3] = [
+static ISSUED: [Row; 3] = [
     Row(AIRLINE_125, MEMOS, DEBIT_1, DONE),
     Row(AIRLINE_125, MEMOS, DEBIT_2, DONE),
     Row(AIRLINE_125, MEMOS, CREDIT_3, DONE),
@@ -122,7 +122,7 @@ const NET_OF_2: Wanted = Wanted::Json(
 );
 
 /// Example 14, from the issues on.
-const BILLED: [Row; 14] = [
+static BILLED: [Row; 14] = [
     Row(OFFICE, b"/office/day", JANUARY_19, DONE),
     Row(A, DISPUTE, MEMO_1, DONE),
     Row(OFFICE, b"/office/close", PERIOD_1, DONE),
@@ -158,7 +158,7 @@ fn memos_are_billed_over_two_closes(rt: HostRuntime) {
 }
 
 /// Example 37.
-const OF_ANOTHER: [Row; 5] = [
+static OF_ANOTHER: [Row; 5] = [
     Row(AIRLINE_220, b"/airlines/220/memos/uphold", NUMBER_1, M01),
     Row(AIRLINE_220, b"/airlines/220/memos/uphold", NUMBER_9, M01),
     Row(AIRLINE_125, MEMOS, DEBIT_1, HELD),
@@ -175,7 +175,7 @@ fn an_airline_acts_on_its_own_memos(rt: HostRuntime) {
 }
 
 /// Example 37, with a documents limit of 3, and then a memo to B.
-const FOURTH: [Row; 2] = [
+static FOURTH: [Row; 2] = [
     Row(AIRLINE_125, MEMOS, DEBIT_4, M07),
     Row(AIRLINE_125, MEMOS, TO_B, DONE),
 ];
@@ -189,7 +189,7 @@ fn an_airline_issues_as_many_memos_to_an_agent_as_the_limit(rt: HostRuntime) {
 }
 
 /// Example 38.
-const ISSUED_AGAIN: [Row; 2] = [
+static ISSUED_AGAIN: [Row; 2] = [
     Row(AIRLINE_125, MEMOS, DEBIT_1, HELD),
     Row(AIRLINE_125, MEMOS, DEBIT_1_OF_3000, M05),
 ];
@@ -213,7 +213,7 @@ const ACTED_ON: Wanted = Wanted::Json(
 const NO_MEMOS: Wanted = Wanted::Json(200, b"{\"memos\":[]}");
 
 /// A memo is upheld, one is withdrawn, and a credit memo allows no action.
-const ACTIONS: [Row; 11] = [
+static ACTIONS: [Row; 11] = [
     Row(AIRLINE_125, UPHOLD, NUMBER_1, M03),
     Row(A, DISPUTE, MEMO_1, DONE),
     Row(AIRLINE_125, UPHOLD, NUMBER_1, DONE),

@@ -66,13 +66,13 @@ airline = [\"125\", \"220\"]
 );
 
 /// The plan PL is published.
-pub(super) const PLANNED: [Row; 1] = [Row(OFFICE, b"/office/plan", PLAN, DONE)];
+pub(super) static PLANNED: [Row; 1] = [Row(OFFICE, b"/office/plan", PLAN, DONE)];
 
 /// PL of 24011 alone, with a documents limit of 2.
-pub(super) const LIMITED_TO_TWO: [Row; 1] = [Row(OFFICE, b"/office/plan", PLAN_OF_TWO, DONE)];
+pub(super) static LIMITED_TO_TWO: [Row; 1] = [Row(OFFICE, b"/office/plan", PLAN_OF_TWO, DONE)];
 
 /// PL without rates and periods, with a documents limit of 3.
-pub(super) const LIMITED_TO_THREE: [Row; 1] = [Row(OFFICE, b"/office/plan", PLAN_OF_THREE, DONE)];
+pub(super) static LIMITED_TO_THREE: [Row; 1] = [Row(OFFICE, b"/office/plan", PLAN_OF_THREE, DONE)];
 
 pub(super) const JANUARY_5: Body = Body::Text(b"{\"day\":\"2024-01-05\"}");
 
@@ -97,7 +97,7 @@ pub(super) const REGISTER_125: Body = Body::Text(
 const REGISTER_220: Body = Body::Text(b"{\"airline\":\"220\",\"token\":\"airlinetoken0220\"}");
 
 /// Once a plan is published.
-pub(super) const OPENED: [Row; 7] = [
+pub(super) static OPENED: [Row; 7] = [
     Row(OFFICE, b"/office/day", JANUARY_5, DONE),
     Row(OFFICE, b"/office/agents", REGISTER_A, DONE),
     Row(OFFICE, b"/office/agents", REGISTER_B, DONE),

@@ -24,7 +24,7 @@ const PERIOD_1: Body = Body::Text(b"{\"period\":\"24011\"}");
 const PERIOD_2: Body = Body::Text(b"{\"period\":\"24012\"}");
 
 /// Example 15.
-const CLOSED_ONCE_OVER: [Row; 8] = [
+static CLOSED_ONCE_OVER: [Row; 8] = [
     Row(A, RET_OF_A, V1, ACCEPTED),
     Row(OFFICE, DAY, JANUARY_15, DONE),
     Row(OFFICE, CLOSE, PERIOD_1, P07),
@@ -49,7 +49,7 @@ const THIRD_REFUSED: Wanted = Wanted::Json(
 );
 
 /// Example 15, with a documents limit of 2: of another airline, and of another agent.
-const LIMITED: [Row; 3] = [
+static LIMITED: [Row; 3] = [
     Row(A, RET_OF_A, THREE_SALES, THIRD_REFUSED),
     Row(A, RET_OF_A, CARD_SALE, ACCEPTED),
     Row(B, RET_OF_B, SALE_OF_B, ACCEPTED),
@@ -145,7 +145,7 @@ const HOT_OF_220: Wanted = Wanted::Records(&[
 ]);
 
 /// Example 16, up to the close.
-const CLOSED: [Row; 7] = [
+static CLOSED: [Row; 7] = [
     Row(A, RET_OF_A, V1, ACCEPTED),
     Row(A, RET_OF_A, CARD_SALE, ACCEPTED),
     Row(AIRLINE_220, b"/airlines/220/memos", DEBIT, DONE),
@@ -156,7 +156,7 @@ const CLOSED: [Row; 7] = [
 ];
 
 /// Example 16.
-const REPORTS: [Row; 5] = [
+static REPORTS: [Row; 5] = [
     Row(
         A,
         b"/agents/12345675/statements/24011",
@@ -206,7 +206,7 @@ const HOT_OF_NOTHING: Wanted = Wanted::Records(&[
 ]);
 
 /// Example 17.
-const NEXT_CLOSED: [Row; 3] = [
+static NEXT_CLOSED: [Row; 3] = [
     Row(OFFICE, DAY, FEBRUARY_1, DONE),
     Row(OFFICE, CLOSE, PERIOD_2, DONE),
     Row(
@@ -236,7 +236,7 @@ TOTAL   AIRLINES            0.00
 );
 
 /// Example 35.
-const NOTHING_SOLD: [Row; 4] = [
+static NOTHING_SOLD: [Row; 4] = [
     Row(OFFICE, DAY, JANUARY_16, DONE),
     Row(OFFICE, CLOSE, PERIOD_1, DONE),
     Row(OFFICE, CLOSE, PERIOD_1, HELD),
@@ -257,7 +257,7 @@ fn a_period_without_documents_is_settled(rt: HostRuntime) {
 }
 
 /// A period that is not closed, one that is unknown, and a text that is none.
-const NOT_CLOSED: [Row; 7] = [
+static NOT_CLOSED: [Row; 7] = [
     Row(OFFICE, b"/office/settlement/24011", Body::Missing, S01),
     Row(A, b"/agents/12345675/statements/24011", Body::Missing, S01),
     Row(AIRLINE_125, b"/airlines/125/hot/24011", Body::Missing, H02),

@@ -61,7 +61,7 @@ airline = [\"125\", \"220\"]
 );
 
 /// Example 23.
-const PUBLISHED: [Row; 9] = [
+static PUBLISHED: [Row; 9] = [
     Row(OFFICE, PATH, PLAN, DONE),
     Row(OFFICE, PATH, PLAN, HELD),
     Row(OFFICE, b"/office/day", JANUARY_5, DONE),
@@ -85,7 +85,7 @@ const NO_RECORD: Wanted = Wanted::Json(422, b"{\"code\":\"F08\",\"record\":1}");
 const THIRD_RECORD: Wanted = Wanted::Json(422, b"{\"code\":\"F05\",\"record\":3}");
 
 /// A body of each route that has one.
-const MALFORMED: [Row; 15] = [
+static MALFORMED: [Row; 15] = [
     Row(OFFICE, PATH, Body::Text(b"\xff"), P01),
     Row(OFFICE, b"/office/day", EMPTY, N04),
     Row(OFFICE, b"/office/agents", EMPTY, N04),

@@ -38,7 +38,7 @@ const ONE_USED: Wanted = Wanted::Json(
 );
 
 /// Example 5.
-const SOLD: [Row; 3] = [
+static SOLD: [Row; 3] = [
     Row(A, RET, V1, ACCEPTED),
     Row(A, DOCUMENT_1, Body::Missing, ALIVE),
     Row(A, STOCK, Body::Missing, ONE_USED),
@@ -55,7 +55,7 @@ const FIVE_JUDGED: Wanted = Wanted::Json(
 );
 
 /// Example 6.
-const COMMISSION_ROUNDED: [Row; 1] = [Row(A, RET, ROUNDED, FIVE_JUDGED)];
+static COMMISSION_ROUNDED: [Row; 1] = [Row(A, RET, ROUNDED, FIVE_JUDGED)];
 
 #[test]
 fn commission_is_rounded_to_the_nearest(rt: HostRuntime) {
@@ -66,7 +66,7 @@ fn commission_is_rounded_to_the_nearest(rt: HostRuntime) {
 }
 
 /// Example 7.
-const REPORTED_TWICE: [Row; 4] = [
+static REPORTED_TWICE: [Row; 4] = [
     Row(A, RET, V1, ACCEPTED),
     Row(A, PERIOD, Body::Missing, ONE_SOLD),
     Row(A, RET, V1, HELD_SALE),
@@ -82,7 +82,7 @@ fn a_sale_reported_again_is_held(rt: HostRuntime) {
 }
 
 /// Example 24.
-const NOTHING_ASKED: [Row; 0] = [];
+static NOTHING_ASKED: [Row; 0] = [];
 
 #[test]
 fn no_requests_have_no_replies(rt: HostRuntime) {
@@ -105,7 +105,7 @@ const BOTH_COUNTED: Wanted = Wanted::Json(
 );
 
 /// Example 8.
-const REFUNDED: [Row; 3] = [
+static REFUNDED: [Row; 3] = [
     Row(A, RET, REFUND_BEFORE_SALE, SALE_ALONE),
     Row(A, RET, REFUND_BEFORE_SALE, REFUND_AFTER_ALL),
     Row(A, PERIOD, Body::Missing, BOTH_COUNTED),
@@ -145,7 +145,7 @@ const CANX_SHOWN: Wanted = Wanted::Json(
 );
 
 /// Example 11.
-const SOLD_AND_CANCELLED: [Row; 9] = [
+static SOLD_AND_CANCELLED: [Row; 9] = [
     Row(A, RET, SALE_AND_CANX, BOTH_ACCEPTED),
     Row(A, RET, SALE_AND_CANX, BOTH_HELD),
     Row(A, RET, V1, HELD_SALE),
@@ -192,7 +192,7 @@ const REFUND_SHOWN: Wanted = Wanted::Json(
 );
 
 /// Example 12.
-const EXCHANGED_AND_REFUNDED: [Row; 11] = [
+static EXCHANGED_AND_REFUNDED: [Row; 11] = [
     Row(A, RET, V1, ACCEPTED),
     Row(A, RET, EXCHANGE, ACCEPTED),
     Row(A, PERIOD, Body::Missing, EXCHANGE_COUNTED),

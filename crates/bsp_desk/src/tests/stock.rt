@@ -25,7 +25,7 @@ const ONE_USED: Wanted = Wanted::Json(
 const NO_RANGES: Wanted = Wanted::Json(200, b"{\"ranges\":[]}");
 
 /// Example 19.
-const WITHDRAWN: [Row; 7] = [
+static WITHDRAWN: [Row; 7] = [
     Row(OFFICE, ALLOT, OVERLAPPING, K03),
     Row(A, b"/agents/12345675/ret", V1, ACCEPTED),
     Row(OFFICE, WITHDRAW, RANGE_OF_A, K05),

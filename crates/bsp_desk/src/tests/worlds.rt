@@ -7,10 +7,10 @@ use super::{Body, Row, Wanted, follows};
 
 const RET: &[u8] = b"/agents/76543213/ret";
 
-const REPORTED: [Row; 1] = [Row(A, b"/agents/12345675/ret", V1, ACCEPTED)];
+static REPORTED: [Row; 1] = [Row(A, b"/agents/12345675/ret", V1, ACCEPTED)];
 
 /// Example 9.
-const NUMBER_OF_A: [Row; 1] = [Row(B, RET, V1_OF_B, E05)];
+static NUMBER_OF_A: [Row; 1] = [Row(B, RET, V1_OF_B, E05)];
 
 #[test]
 fn a_number_of_another_agent_is_refused_before_its_use_and_after(rt: HostRuntime) {
@@ -24,9 +24,9 @@ fn a_number_of_another_agent_is_refused_before_its_use_and_after(rt: HostRuntime
 }
 
 /// Example 10.
-const TICKET_OF_A: [Row; 1] = [Row(B, RET, REFUND_OF_B, E08)];
+static TICKET_OF_A: [Row; 1] = [Row(B, RET, REFUND_OF_B, E08)];
 
-const TICKET_OF_NOBODY: [Row; 1] = [Row(B, RET, REFUND_OF_NOBODY, E08)];
+static TICKET_OF_NOBODY: [Row; 1] = [Row(B, RET, REFUND_OF_NOBODY, E08)];
 
 #[test]
 fn a_ticket_of_another_agent_is_not_found(rt: HostRuntime) {
@@ -62,7 +62,7 @@ const UNUSED: Wanted = Wanted::Json(
 const NO_MEMOS: Wanted = Wanted::Json(200, b"{\"memos\":[]}");
 
 /// Example 36: all that B asks.
-const ASKED_BY_B: [Row; 10] = [
+static ASKED_BY_B: [Row; 10] = [
     Row(B, RET, V1_OF_B, E05),
     Row(B, RET, REFUND_OF_B, E08),
     Row(B, RET, REFUND_OF_NOBODY, E08),
