@@ -11,8 +11,6 @@ mod periods;
 mod settlements;
 mod statements;
 mod stocks;
-#[cfg(test)]
-mod tests;
 
 pub use documents::document;
 pub use hot_files::hot;
