@@ -12,7 +12,7 @@ use Rattle.bsp_rows.proofs.KeyOrders.{range_exact, range_total}
 use Rattle.bsp_rows.proofs.MapLemmas.{entry_get, get_entry}
 
 module _ (range : Range) (ranges : FinMap range_cmp ℕ) where
-  abbrev is_met : Bool
+  abbrev pub is_met : Bool
   is_met = list_any (λ e. meets range (range_of e)) (entries ranges)
 
   met : (k : RangeKey) (last : ℕ) → get ranges k ≡ Some last → range.first ≤ last → k.first ≤ range.last → is_met ≡ true
