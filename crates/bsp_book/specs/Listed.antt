@@ -1,6 +1,7 @@
 -- What a `ListBook` contains.
 use Rattle.std.specs.Prelude.{◌≡◌, Bool, false, Option, unwrap_or, is_some, ⊤}
 use Rattle.bsp_rows.specs.Rows.{Rows}
+use Rattle.bsp_rows.specs.Sound.{AreApart}
 use Rattle.bsp_list_tables.specs.Tables.{IsDerived, WasDerived, committed_rows, rows_of}
 use Rattle.bsp_book.specs.Calls.{Meaning}
 use Rattle.bsp_book.specs.declared.list.ListBook.{ListBook}
@@ -10,6 +11,9 @@ pub record Holds (book : ListBook) (now : Rows) (begun : Option Rows) : Type 0 w
   pub rows : now ≡ rows_of book.tables
   pub committed : unwrap_or begun now ≡ committed_rows book.tables
   pub is_open : book.is_open ≡ is_some begun
+  -- no number is in two ranges, which an index of them rests on
+  pub apart : AreApart now.ranges
+  pub was_apart : AreApart (unwrap_or begun now).ranges
   pub derived : IsDerived book.tables
   pub was_derived : WasDerived book.tables
 

@@ -4,9 +4,9 @@ ghost use Rattle.std.specs.Prelude.{◌≡◌, OnOk, Option, None, is_some, unwr
 ghost use Rattle.bsp_calendar.specs.History.{Request};
 ghost use Rattle.bsp_calendar.specs.History.Request.{Close, Publish, SetDay};
 ghost use Rattle.bsp_book.specs.Calls.{Answers, Begins, Commits, FallsBack, Faults, LeavesEither, LeavesLast, LeavesNow, LooksUp, Makes, Meaning, Stays};
-ghost use Rattle.bsp_rows.specs.Rows.{HasNumberKey, Rows, agent_token, airline_token, has_meeting, is_used_in, item_at, items_bearing, items_of, key_of, memo_at, memo_key, memos_of, range_at, range_key, ranges_of, registered};
+ghost use Rattle.bsp_rows.specs.Rows.{HasNumberKey, Rows, agent_token, airline_token, has_meeting, is_used_in, item_at, items_bearing, items_of, key_of, memo_at, memo_key, memos_of, ranges_of, registered};
 ghost use Rattle.bsp_rows.specs.Tallies.{tallies_of, tally_of};
-ghost use Rattle.bsp_rows.specs.Writes.{IsFree, IsThere, MayBeBilled, after_request, request_answer, with_agent_token, with_airline_token, with_billing, with_end, with_item, with_memo, with_range, without_range};
+ghost use Rattle.bsp_rows.specs.Writes.{IsFree, IsThere, MayBeAdded, MayBeBilled, after_request, request_answer, with_agent_token, with_airline_token, with_billing, with_end, with_item, with_memo, with_range, without_range};
 
 use crate::fault::BookFault;
 use bsp_calendar::{Plan, PlanFault, PlanText};
@@ -80,7 +80,7 @@ pub trait Book {
     fn ranges(&mut self, agent: AgentCode) -> Result<Vec<Range>, BookFault>
         ensures { LooksUp means self.old self.new result (λ found. found.items) (ranges_of agent) };
 
-    /// Whether a range of any agent has a number of this one. It may read all ranges.
+    /// Whether a range of any agent has a number of this one.
     fn meets_range(&mut self, range: Range) -> Result<bool, BookFault>
         ensures { LooksUp means self.old self.new result (λ found. found) (has_meeting range) };
 
@@ -127,9 +127,10 @@ pub trait Book {
     fn set_airline_token(&mut self, airline: AirlineCode, token: Token) -> Result<(), BookFault>
         ensures { Makes means self.old self.new result (λ now. ⊤) (with_airline_token airline token) };
 
-    /// Adds a range of an agent, whose key must be free.
+    /// Adds a range of an agent. Its key must be free, its first number not after its last, and no range of any
+    /// agent may have a number of it.
     fn add_range(&mut self, agent: AgentCode, range: Range) -> Result<(), BookFault>
-        ensures { Makes means self.old self.new result (λ now. IsFree (range_at (range_key agent range) now)) (with_range agent range) };
+        ensures { Makes means self.old self.new result (MayBeAdded agent range) (with_range agent range) };
 
     /// Withdraws a range of an agent.
     fn withdraw_range(&mut self, agent: AgentCode, range: Range) -> Result<(), BookFault>

@@ -20,9 +20,9 @@ use std::alloc::Global;
 
 /// A book in memory. It never answers `Failed`.
 ///
-/// It keeps the tallies and indexes of the rows: items by their numbers, and by their airlines and periods;
-/// memos by their agents, and the unbilled ones; tallies by their airlines and periods, and by their periods.
-/// `meets_range` reads all ranges.
+/// It keeps the tallies and indexes of the rows: ranges by their last numbers; items by their numbers, and by their
+/// airlines and periods; memos by their agents, and the unbilled ones; tallies by their airlines and periods, and
+/// by their periods.
 #[derive(Drop)]
 pub struct ListBook {
     alloc: Global,

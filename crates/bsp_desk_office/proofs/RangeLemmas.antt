@@ -61,7 +61,7 @@ has_listed rows agent range = has_by rows agent range (list_any (is_same_range r
 meets_at : (rows : Rows) (agent : ℕ) (range : Range) (last : ℕ) → Sound rows → range.first ≤ range.last → range_at (range_key agent range) rows ≡ Some last → has_meeting range rows ≡ true
 meets_at rows agent range last s order there =
     any_contains (λ e. meets range (range_of e)) (entries rows.ranges) (range_key agent range, last) (get_entry range_total range_exact rows.ranges (range_key agent range) last there)
-    (and_from (nat_le range.first last) (nat_le range.first range.last) (le-leb range.first last (s.ranges.numbers (range_key agent range) last there)) (le-leb range.first range.last order))
+    (and_from (nat_le range.first last) (nat_le range.first range.last) (le-leb range.first last (s.ranges.apart.numbers (range_key agent range) last there)) (le-leb range.first range.last order))
 
 free_by : (rows : Rows) (agent : ℕ) (range : Range) (found : Option ℕ) → Sound rows → range.first ≤ range.last → has_meeting range rows ≡ false → range_at (range_key agent range) rows ≡ found → found ≡ None
 free_by rows agent range None s order apart is = refl

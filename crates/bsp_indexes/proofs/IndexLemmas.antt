@@ -3,7 +3,7 @@ use Rattle.std.proofs.Common.{◌≡◌, Bool, true, false, cond, ◌&&◌, ◌|
 use Rattle.std.specs.List.{filter, filter_map, list_any}
 use Rattle.std.specs.Ordering.{eq_by_cmp, is_eq, is_le, ordering_then}
 use Rattle.std.specs.Cmp.{IsTotalOrder, alike_right}
-use Rattle.std.specs.FinMap.{FinMap, IsAntisymmetric, contains_key-keys, empty, entries, get, get-empty, get-insert, insert}
+use Rattle.std.specs.FinMap.{FinMap, IsAntisymmetric, contains_key-keys, empty, entries, get, get-empty, get-insert, get-remove, insert, remove}
 use Rattle.bsp_maps.specs.Picks.{AreAmong}
 use Rattle.bsp_maps.specs.Present.{present_entry}
 use Rattle.bsp_maps.specs.Windows.{entries_in}
@@ -37,6 +37,24 @@ module _ {P K V : Type 0} (RP : P → P → Ordering) (RK : K → K → Ordering
     pub index_written : (from to : Option P) → from ≡ found_place place key (get rows key) → to ≡ place key v → (IsAlone RP RK key from old → IsMoved RP RK key to old new) → IsIndex RP RK place rows old → IsIndex RP RK place (insert rows key v) new
     index_written from to was now move is =
         written is (subst (λ (t : Option P). IsMoved RP RK key t old new) now (move (subst (λ (f : Option P). IsAlone RP RK key f old) (sym was) (is key))))
+
+  -- ---- a row is taken out
+
+  module _ (ok : IsTotalOrder RK) (rows : FinMap RK V) (key : K) (old new : FinMap (entry_cmp RP RK) (Unit {0})) where
+    row_out : (k : K) (p : P) (b : Bool) → cond b false (is_place RP RK (found_place place k (get rows k)) p) ≡ is_place RP RK (found_place place k (cond b None (get rows k))) p
+    row_out k p true = refl
+    row_out k p false = refl
+
+    taken_out : IsIndex RP RK place rows old → IsMoved RP RK key None old new → IsIndex RP RK place (remove rows key) new
+    taken_out is move k p =
+        move p k
+        ∙ ap (cond (eq_by_cmp RK k key) false) (is k p)
+        ∙ row_out k p (eq_by_cmp RK k key)
+        ∙ ap (λ (w : Option V). is_place RP RK (found_place place k w) p) (sym (get-remove ok rows key k))
+
+    -- its key was taken from the place of the row that was there
+    pub index_taken : (from : Option P) → from ≡ found_place place key (get rows key) → (IsAlone RP RK key from old → IsMoved RP RK key None old new) → IsIndex RP RK place rows old → IsIndex RP RK place (remove rows key) new
+    index_taken from was move is = taken_out is (move (subst (λ (f : Option P). IsAlone RP RK key f old) (sym was) (is key)))
 
 -- ---- the keys at a place
 

@@ -1,2 +1,3 @@
 pub mod EntryLemmas
 pub mod IndexLemmas
+pub mod FirstLemmas

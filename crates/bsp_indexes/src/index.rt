@@ -1,5 +1,8 @@
 ghost use Rattle.std.specs.Prelude.{◌≡◌, IfOk, OnOk};
 ghost use Rattle.std.specs.FinMap.{empty};
+ghost use Rattle.std.specs.FinMap.{keys as in_map};
+ghost use Rattle.std.specs.List.{find};
+ghost use Rattle.std.specs.Ordering.{is_le};
 ghost use Rattle.bsp_indexes.specs.Indexes.{AreExact, IsAlone, IsLeast, IsMoved, keys_at, members, members_before, with_place, without_place};
 
 use bsp_maps::{Logged, commit_present};
@@ -104,5 +107,20 @@ impl<P: Ord + Copy + Drop, K: Ord + Copy + Drop> Index<P, K> {
             }
         }
         Ok(found)
+    }
+
+    /// The first place that is not below this one and has a key, and its least key; none if there is no such
+    /// place. `least` is a key that none is below. It reads that entry, and those before it that were taken
+    /// since the last commit.
+    pub fn first_from(&self, place: P, least: K) -> Option<(P, K)>
+        requires { IsLeast K.cmp least }
+        ensures { result ≡ find (λ entry. is_le (P.cmp place entry.0)) (in_map (members P.cmp K.cmp self.now)) }
+    {
+        for (entry, value) in self.entries.map().range((place, least)..) {
+            if let Some(()) = value {
+                return Some(*entry);
+            }
+        }
+        None
     }
 }

@@ -2,5 +2,4 @@ pub mod PlanLemmas
 pub mod TallySteps
 pub mod ValueLemmas
 pub mod DerivedLemmas
-pub mod LookupLemmas
 pub mod AskedLemmas

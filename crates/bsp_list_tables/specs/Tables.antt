@@ -4,12 +4,12 @@ use Rattle.std.specs.Ordering.{nat_cmp}
 use Rattle.bsp_rules.specs.declared.rows.Item.{Item}
 use Rattle.bsp_memos.specs.declared.fields.MemoFields.{MemoFields}
 use Rattle.bsp_maps.specs.Undo.{before, content}
-use Rattle.bsp_maps.specs.Present.{present}
 use Rattle.bsp_rows.specs.declared.keys.ItemKey.{ItemKey}
 use Rattle.bsp_rows.specs.declared.keys.MemoKey.{MemoKey}
-use Rattle.bsp_rows.specs.Rows.{Rows, range_cmp}
+use Rattle.bsp_rows.specs.Rows.{Rows}
 use Rattle.bsp_row_tables.specs.ItemTables.{item_rows, item_rows_before}
 use Rattle.bsp_row_tables.specs.MemoTables.{memo_rows, memo_rows_before}
+use Rattle.bsp_row_tables.specs.RangeTables.{range_rows, range_rows_before}
 use Rattle.bsp_list_tables.specs.Kept.{AreDerived, WereDerived}
 use Rattle.bsp_list_tables.specs.Plans.{saved_plan}
 use Rattle.bsp_list_tables.specs.declared.tables.Tables.{Tables}
@@ -20,7 +20,7 @@ rows_of t = record {
   published = t.plan.plan;
   agents = content nat_cmp t.agents;
   airlines = content nat_cmp t.airlines;
-  ranges = present (content range_cmp t.ranges);
+  ranges = range_rows t.ranges;
   items = item_rows t.items;
   memos = memo_rows t.memos;
 }
@@ -31,17 +31,17 @@ committed_rows t = record {
   published = saved_plan t.plan;
   agents = before nat_cmp t.agents;
   airlines = before nat_cmp t.airlines;
-  ranges = present (before range_cmp t.ranges);
+  ranges = range_rows_before t.ranges;
   items = item_rows_before t.items;
   memos = memo_rows_before t.memos;
 }
 
 -- the indexes and the tallies follow from the rows, and did at the last commit
 abbrev pub IsDerived : Tables → Type 0
-IsDerived t = AreDerived t.items t.memos t.tallies
+IsDerived t = AreDerived t.ranges t.items t.memos t.tallies
 
 abbrev pub WasDerived : Tables → Type 0
-WasDerived t = WereDerived t.items t.memos t.tallies
+WasDerived t = WereDerived t.ranges t.items t.memos t.tallies
 
 -- ---- rows with a value written at a key
 

@@ -6,19 +6,19 @@ ghost use Rattle.bsp_row_tables.specs.TallyTables.{tally_rows};
 ghost use Rattle.bsp_maps.specs.Windows.{entries_in};
 ghost use Rattle.bsp_memos.specs.Owed.{is_billed_in};
 ghost use Rattle.bsp_rows.specs.Rows.{agent_token, airline_token, has_meeting, is_in, is_used_in, items_bearing, items_of, memo_at, memos_of, ranges_of, registered};
+ghost use Rattle.bsp_rows.specs.Sound.{AreApart};
 ghost use Rattle.bsp_rows.specs.Tallies.{is_tally_asked, tallies_of, tally_of};
-ghost use Rattle.bsp_list_tables.specs.Lookups.{asked_tallies, is_asked, is_meeting, present_ranges};
+ghost use Rattle.bsp_list_tables.specs.Lookups.{asked_tallies, is_asked};
 ghost use Rattle.bsp_list_tables.specs.Tables.{IsDerived, rows_of};
 
 use crate::tables::Tables;
 use crate::tallies::tally_at;
-use bsp_fields::{AgentCode, AirlineCode, DocNumber, PeriodCode, Token};
+use bsp_fields::{AgentCode, AirlineCode, PeriodCode, Token};
 use bsp_maps::{Every, Rule, Test};
 use bsp_memos::Memo;
 use bsp_postings::Tally;
 use bsp_ret_records::Transaction;
-use bsp_row_tables::RangesOf;
-use bsp_rows::{Items, MemoKey, Memos, RangeKey, Tallies, TallyKey};
+use bsp_rows::{Items, MemoKey, Memos, Tallies, TallyKey};
 use bsp_rules::{Item, Range};
 use std::alloc::{AllocError, Global};
 
@@ -44,37 +44,6 @@ impl Test<Memo> for BilledIn {
     fn passes(&self, memo: &Memo) -> bool {
         memo.fields().is_billed_in(self.0)
     }
-}
-
-/// Ranges that have a number of this one, and are not withdrawn.
-#[derive(Clone, Copy)]
-struct Meeting(Range);
-
-impl Rule<RangeKey, Option<DocNumber>> for Meeting {
-    ghost holds = { λ rule key last. is_meeting rule.0 key last };
-
-    fn holds(&self, key: &RangeKey, last: &Option<DocNumber>) -> bool {
-        match last {
-            None => false,
-            Some(last) => self.0.first <= *last && key.first <= self.0.last,
-        }
-    }
-}
-
-/// The ranges that are not withdrawn.
-fn present_ranges(
-    alloc: Global,
-    entries: &[(RangeKey, Option<DocNumber>)],
-) -> Result<Vec<Range>, AllocError>
-    ensures { IfOk result (λ found. found.items ≡ present_ranges entries.now) }
-{
-    let mut found = Vec::new(alloc);
-    for (key, last) in entries {
-        if let Some(last) = last {
-            found.push(key.up_to(*last))?;
-        }
-    }
-    Ok(found)
 }
 
 /// Whether a key is asked for.
@@ -141,19 +110,20 @@ impl Tables {
         self.agents.keys(alloc)
     }
 
-    /// The ranges of an agent. It reads that agent's alone, withdrawn ones too.
+    /// The ranges of an agent. It reads that agent's alone, and those that were withdrawn from it since the last
+    /// commit.
     pub fn ranges(&self, alloc: Global, agent: AgentCode) -> Result<Vec<Range>, AllocError>
         ensures { IfOk result (λ found. found.items ≡ ranges_of agent (rows_of self.now)) }
     {
-        let entries = self.ranges.entries_in(alloc, &RangesOf(agent))?;
-        present_ranges(alloc, &entries)
+        self.ranges.of_agent(alloc, agent)
     }
 
-    /// Whether a range of any agent has a number of this one. It reads all ranges.
+    /// Whether a range of any agent has a number of this one, where no number is in two ranges. It reads one
+    /// range, and some that were withdrawn since the last commit.
     pub fn meets_range(&self, range: &Range) -> bool
-        ensures { result ≡ has_meeting range.now (rows_of self.now) }
+        ensures { IsDerived self.now → AreApart (rows_of self.now).ranges → result ≡ has_meeting range.now (rows_of self.now) }
     {
-        self.ranges.any_holds(&Meeting(*range))
+        self.ranges.meets(range)
     }
 
     /// Whether an item of the agent has a number of the range. It reads one key.

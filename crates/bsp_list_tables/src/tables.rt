@@ -12,10 +12,10 @@ use crate::no_room::NoRoom;
 use crate::planned::Planned;
 use crate::tallies::{recount_item, recount_memo};
 use bsp_calendar::{Plan, PlanFault, PlanText};
-use bsp_fields::{AgentCode, AirlineCode, Change, Day, DocNumber, PeriodCode, Token};
+use bsp_fields::{AgentCode, AirlineCode, Change, Day, PeriodCode, Token};
 use bsp_maps::Logged;
 use bsp_memos::Memo;
-use bsp_row_tables::{ItemTable, MemoTable, TallyTable};
+use bsp_row_tables::{ItemTable, MemoTable, RangeTable, TallyTable};
 use bsp_rows::{ItemKey, MemoKey, RangeKey};
 use bsp_rules::{Item, Range};
 use std::alloc::Global;
@@ -27,8 +27,7 @@ pub struct Tables {
     pub(crate) plan: Planned,
     pub(crate) agents: Logged<AgentCode, Token>,
     pub(crate) airlines: Logged<AirlineCode, Token>,
-    // A range that was withdrawn has no value: to put it back takes no memory.
-    pub(crate) ranges: Logged<RangeKey, Option<DocNumber>>,
+    pub(crate) ranges: RangeTable,
     pub(crate) items: ItemTable,
     pub(crate) memos: MemoTable,
     pub(crate) tallies: TallyTable,
@@ -78,7 +77,7 @@ impl Tables {
             plan: Planned::new(alloc),
             agents: Logged::new(alloc),
             airlines: Logged::new(alloc),
-            ranges: Logged::new(alloc),
+            ranges: RangeTable::new(alloc),
             items: ItemTable::new(alloc),
             memos: MemoTable::new(alloc),
             tallies: TallyTable::new(alloc),
@@ -158,8 +157,7 @@ impl Tables {
         ensures derived { OnOk result (IsDerived self.old → IsDerived self.new) }
         ensures was_derived { WasDerived self.old → WasDerived self.new }
     {
-        self.ranges
-            .put(RangeKey::of(agent, range), Some(range.last))?;
+        self.ranges.add(&RangeKey::of(agent, range), range.last)?;
         Ok(())
     }
 
@@ -170,7 +168,7 @@ impl Tables {
         ensures derived { OnOk result (IsDerived self.old → IsDerived self.new) }
         ensures was_derived { WasDerived self.old → WasDerived self.new }
     {
-        self.ranges.put(RangeKey::of(agent, range), None)?;
+        self.ranges.withdraw(&RangeKey::of(agent, range))?;
         Ok(())
     }
 

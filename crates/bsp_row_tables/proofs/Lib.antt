@@ -2,3 +2,4 @@ pub mod NumberOrder
 pub mod NumberLemmas
 pub mod PlaceOrders
 pub mod TableLemmas
+pub mod RangeLemmas

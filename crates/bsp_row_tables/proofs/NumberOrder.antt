@@ -1,5 +1,5 @@
 -- The order of the index's keys is total, and no two keys tie.
-use Rattle.std.proofs.Common.{◌≡◌, Bool, true, false, refl, Ordering, Less, Equal, Greater, nat_cmp}
+use Rattle.std.proofs.Common.{nat_cmp}
 use Rattle.std.specs.Ordering.{bool_cmp, ordering_then}
 use Rattle.std.specs.Cmp.{IsTotalOrder, nat_cmp_total, bool_cmp_total, on_total, then_total}
 use Rattle.std.specs.Cmp.Lexicographic.{slice_cmp, nat_list_cmp_total}

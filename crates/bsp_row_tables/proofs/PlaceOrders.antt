@@ -10,11 +10,11 @@ use Rattle.bsp_rows.specs.declared.keys.MemoKey.{MemoKey}
 use Rattle.bsp_rows.specs.declared.keys.TallyKey.{TallyKey}
 use Rattle.bsp_rows.specs.Tallies.{tally_cmp}
 use Rattle.bsp_postings.specs.declared.tally.Tally.{Tally}
-use Rattle.bsp_rows.specs.Rows.{is_of_airline, is_unbilled, item_cmp, memo_cmp}
+use Rattle.bsp_rows.specs.Rows.{is_of_airline, is_unbilled, item_cmp, memo_cmp, range_cmp}
 use Rattle.bsp_maps.proofs.Orderings.{then_equal}
-use Rattle.bsp_rows.proofs.KeyOrders.{item_exact, memo_exact, tally_exact}
+use Rattle.bsp_rows.proofs.KeyOrders.{item_exact, memo_exact, range_exact, tally_exact}
 use Rattle.bsp_row_tables.specs.Places.{airline_cmp, at_airline, item_place, one_cmp, tally_airline_place, tally_period_place, agent_place, unbilled_at, unbilled_place}
-use Rattle.bsp_row_tables.specs.Windows.{and_first, and_second, false_first, first_item, first_memo, first_tally, from_least, least, ties}
+use Rattle.bsp_row_tables.specs.Windows.{and_first, and_second, false_first, first_item, first_memo, first_range, first_tally, from_least, least, ties}
 use Rattle.bsp_row_tables.specs.declared.places.AirlinePeriod.{AirlinePeriod}
 
 airline_exact : IsAntisymmetric airline_cmp
@@ -33,6 +33,9 @@ memos_by_agent = record { places = nat_cmp-IsAntisymmetric; keys = memo_exact }
 pub unbilled_memos : AreExact one_cmp memo_cmp
 unbilled_memos = record { places = one_exact; keys = memo_exact }
 
+pub ranges_by_last : AreExact nat_cmp range_cmp
+ranges_by_last = record { places = nat_cmp-IsAntisymmetric; keys = range_exact }
+
 pub items_by_airline : AreExact airline_cmp item_cmp
 items_by_airline = record { places = airline_exact; keys = item_exact }
 
@@ -49,6 +52,9 @@ least_tally_key k = from_least k.agent _ (from_least k.airline _ (least k.period
 
 pub least_memo_key : IsLeast memo_cmp (first_memo 0)
 least_memo_key k = from_least k.airline _ (least k.document)
+
+pub least_range_key : IsLeast range_cmp (first_range 0)
+least_range_key k = from_least k.agent _ (least k.first)
 
 pub least_item_key : IsLeast item_cmp (first_item 0)
 least_item_key k = from_least k.agent _ (from_least k.number _ (false_first k.is_canx))

@@ -4,3 +4,4 @@ pub mod Places
 pub mod MemoTables
 pub mod ItemTables
 pub mod TallyTables
+pub mod RangeTables

@@ -8,6 +8,7 @@ use Rattle.bsp_memos.specs.declared.fields.MemoFields.{MemoFields}
 use Rattle.bsp_postings.specs.declared.tally.Tally.{Tally}
 use Rattle.bsp_rows.specs.declared.keys.ItemKey.{ItemKey}
 use Rattle.bsp_rows.specs.declared.keys.MemoKey.{MemoKey}
+use Rattle.bsp_rows.specs.declared.keys.RangeKey.{RangeKey}
 use Rattle.bsp_rows.specs.declared.keys.TallyKey.{TallyKey}
 use Rattle.bsp_row_tables.specs.declared.places.AirlinePeriod.{AirlinePeriod}
 
@@ -21,6 +22,10 @@ one_cmp x y = Equal
 
 abbrev pub at_airline : ℕ → ℕ → AirlinePeriod
 at_airline airline period = record { airline = airline; period = period }
+
+-- the last number of a range
+abbrev pub last_place : RangeKey → ℕ → Option ℕ
+last_place k last = Some last
 
 -- the airline of an item, and its period
 abbrev pub item_place : ItemKey → Item → Option AirlinePeriod

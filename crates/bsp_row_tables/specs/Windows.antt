@@ -20,7 +20,7 @@ use Rattle.bsp_row_tables.specs.declared.keys.NumberKey.{NumberKey}
 
 -- ---- orders of one number
 
-first_le : (a b : Ordering) → is_le (ordering_then a b) ≡ true → is_le a ≡ true
+pub first_le : (a b : Ordering) → is_le (ordering_then a b) ≡ true → is_le a ≡ true
 first_le Less b h = refl
 first_le Equal b h = refl
 first_le Greater b h = h
@@ -50,7 +50,7 @@ up_to x y Less e h = let k : x < y = ranked x y Less e in omega arith
 up_to x y Equal e h = let k : x ≡ y = ranked x y Equal e in omega arith
 up_to x y Greater e h = absurd (cc)
 
-is_up_to : (x y : ℕ) (r : Ordering) → r ≡ nat_cmp x y → x ≤ y → is_le r ≡ true
+pub is_up_to : (x y : ℕ) (r : Ordering) → r ≡ nat_cmp x y → x ≤ y → is_le r ≡ true
 is_up_to x y Less e h = refl
 is_up_to x y Equal e h = refl
 is_up_to x y Greater e h = let k : y < x = ranked x y Greater e in absurd (omega arith)

@@ -72,6 +72,13 @@ fn least_period() -> PeriodCode
     code
 }
 
+/// The least key of a range.
+pub fn least_range() -> RangeKey
+    ensures { result ≡ first_range 0 }
+{
+    RangesOf(least_agent()).low()
+}
+
 /// The least key of an item.
 pub fn least_item() -> ItemKey
     ensures { result ≡ first_item 0 }

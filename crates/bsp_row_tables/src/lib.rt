@@ -1,7 +1,6 @@
-//! The tables of rows in memory, each with the indexes by which its rows are found: items by number and by
-//! airline and period, memos by agent and while they are not billed, tallies by airline and period and by period.
-//! What was written since the last commit
-//! can be taken back.
+//! The tables of rows in memory, each with the indexes by which its rows are found: ranges by their last number,
+//! items by number and by airline and period, memos by agent and while they are not billed, tallies by airline
+//! and period and by period. What was written since the last commit can be taken back.
 #![tactic(auto)]
 
 mod items;
@@ -9,10 +8,13 @@ mod keys;
 mod memos;
 mod numbers;
 mod places;
+mod ranges;
 mod tallies;
+#[cfg(test)]
+mod tests;
 
 pub use items::ItemTable;
-pub use keys::RangesOf;
 pub use memos::MemoTable;
 pub use places::AirlinePeriod;
+pub use ranges::RangeTable;
 pub use tallies::TallyTable;

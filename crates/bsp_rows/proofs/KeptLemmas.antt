@@ -26,7 +26,7 @@ use Rattle.bsp_rules.specs.Verdicts.{limit_of}
 use Rattle.bsp_memos.specs.declared.fields.MemoFields.{MemoFields}
 use Rattle.bsp_memos.proofs.KeptLemmas.{issue_sound}
 use Rattle.bsp_memos.proofs.StepLemmas.{issue-left_by}
-use Rattle.bsp_rows.specs.Rows.{Rows, no_rows, item_cmp, range_cmp, memo_cmp, key_of, memo_key}
+use Rattle.bsp_rows.specs.Rows.{Rows, no_rows, item_cmp, range_cmp, memo_cmp, key_of, memo_key, range_key}
 use Rattle.bsp_rows.specs.Writes.{with_item, with_range, without_range, plan_left, changed_to}
 use Rattle.bsp_rows.specs.declared.keys.ItemKey.{ItemKey}
 use Rattle.bsp_rows.specs.declared.keys.MemoKey.{MemoKey}
@@ -40,7 +40,7 @@ use Rattle.bsp_rows.proofs.KeyOrders.{memo_total, memo_exact}
 use Rattle.bsp_rows.proofs.MapLemmas.{get_written, same_Some, counted}
 use Rattle.bsp_rows.proofs.MemoLemmas.{memos_grow, memo_added, memo_billed, memo_acted}
 use Rattle.bsp_rows.proofs.PartLemmas.{each_get, each_entries}
-use Rattle.bsp_rows.proofs.StockLemmas.{items_beside, known_still, ranges_known, ranges_added, has_still, ranges_withdrawn, in_stock_still}
+use Rattle.bsp_rows.proofs.StockLemmas.{items_beside, known_still, none_apart, ranges_known, ranges_added, has_still, ranges_withdrawn, in_stock_still}
 use Rattle.bsp_rows.proofs.TakenLemmas.{fate, mid_at}
 
 -- ---- an accepted transaction
@@ -167,16 +167,16 @@ close_terms rows code m s unclosed h = let (t, kept, was) = (just_closed rows.pu
 pub range_sound : RangeIsSound
 range_sound rows agent range s known numbers apart = record {
   plan = s.plan;
-  ranges = ranges_added rows agent range s.ranges known numbers apart;
-  items = items_beside rows.published rows.published rows.agents rows.agents rows.ranges (with_range agent range rows).ranges rows.items s.items (grows_itself rows.published) (λ a k. k) (λ k i at h. record { key = h.key; own = h.own; has = has_still rows agent range s.ranges known numbers apart h.key k.number h.has });
+  ranges = ranges_added rows agent range s.ranges.apart numbers apart rows.agents s.ranges known;
+  items = items_beside rows.published rows.published rows.agents rows.agents rows.ranges (with_range agent range rows).ranges rows.items s.items (grows_itself rows.published) (λ a k. k) (λ k i at h. record { key = h.key; own = h.own; has = has_still rows agent range s.ranges.apart numbers apart h.key k.number h.has });
   memos = s.memos;
 }
 
 pub withdrawal_sound : WithdrawalIsSound
 withdrawal_sound rows agent range s there unused = record {
   plan = s.plan;
-  ranges = ranges_withdrawn rows agent range s.ranges there unused;
-  items = items_beside rows.published rows.published rows.agents rows.agents rows.ranges (without_range agent range rows).ranges rows.items s.items (grows_itself rows.published) (λ a k. k) (in_stock_still rows agent range s.ranges there unused);
+  ranges = ranges_withdrawn rows.ranges (range_key agent range) rows.agents s.ranges;
+  items = items_beside rows.published rows.published rows.agents rows.agents rows.ranges (without_range agent range rows).ranges rows.items s.items (grows_itself rows.published) (λ a k. k) (in_stock_still rows agent range there unused);
   memos = s.memos;
 }
 
@@ -214,8 +214,7 @@ no_rows_sound = record {
   plan = opening_sound;
   ranges = record {
     registered = λ k last h. none_at range_cmp k last h;
-    numbers = λ k last h. none_at range_cmp k last h;
-    apart = λ k l number h g. none_at range_cmp k h.last h.there;
+    apart = none_apart;
   };
   items = record {
     each = λ k i h. none_at item_cmp k i h;

@@ -8,6 +8,7 @@ pub mod TakenLemmas
 pub mod ItemLemmas
 pub mod MemoLemmas
 pub mod StockLemmas
+pub mod MeetingLemmas
 pub mod PartLemmas
 pub mod CountLemmas
 pub mod KeptLemmas

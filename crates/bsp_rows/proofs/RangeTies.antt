@@ -36,21 +36,23 @@ module _ (agents : FinMap nat_cmp (List ℕ)) (m : BTreeMap RangeKey ℕ) (order
   pub ranges_sound : AreDisjoint (map span_of m.entries) → Known → AreSoundRanges agents ranges
   ranges_sound d known = record {
     registered = known;
-    numbers = λ k last h. All-contains IsRange (map span_of m.entries) (span_of (k, last)) d.ranges (mapped span_of m.entries (k, last) (entry_at range_total range_exact m ordered k last h));
-    apart = λ k l number hk hl.
-        let few : count_by (λ (e : RangeKey × ℕ). contains number (span_of e)) m.entries ≤ 1 = subst (λ (n : ℕ). n ≤ 1) (count_mapped (contains number) span_of m.entries) (d.once number) in
-        ap (λ (e : RangeKey × ℕ). e.0) (one_passes (λ (e : RangeKey × ℕ). contains number (span_of e)) m.entries few (k, hk.last) (l, hl.last)
-        (entry_at range_total range_exact m ordered k hk.last hk.there) (entry_at range_total range_exact m ordered l hl.last hl.there) (in_span k number hk) (in_span l number hl));
+    apart = record {
+      numbers = λ k last h. All-contains IsRange (map span_of m.entries) (span_of (k, last)) d.ranges (mapped span_of m.entries (k, last) (entry_at range_total range_exact m ordered k last h));
+      once = λ k l number hk hl.
+          let few : count_by (λ (e : RangeKey × ℕ). contains number (span_of e)) m.entries ≤ 1 = subst (λ (n : ℕ). n ≤ 1) (count_mapped (contains number) span_of m.entries) (d.once number) in
+          ap (λ (e : RangeKey × ℕ). e.0) (one_passes (λ (e : RangeKey × ℕ). contains number (span_of e)) m.entries few (k, hk.last) (l, hl.last)
+          (entry_at range_total range_exact m ordered k hk.last hk.there) (entry_at range_total range_exact m ordered l hl.last hl.there) (in_span k number hk) (in_span l number hl));
+    };
   }
 
   range_at : AreSoundRanges agents ranges → (s : Span) → Contains (map span_of m.entries) s → IsRange s
   range_at s span in' =
       let (e, there, is) = contains_map span_of m.entries span in' in
-      subst IsRange is (s.numbers e.0 e.1 (at_entry range_total range_exact m ordered e.0 e.1 there))
+      subst IsRange is (s.apart.numbers e.0 e.1 (at_entry range_total range_exact m ordered e.0 e.1 there))
 
   same_entry : AreSoundRanges agents ranges → (number : ℕ) (a b : RangeKey × ℕ) → Contains m.entries a → Contains m.entries b → contains number (span_of a) ≡ true → contains number (span_of b) ≡ true → a ≡ b
   same_entry s number a b ia ib ha hb =
-      let key : a.0 ≡ b.0 = s.apart a.0 b.0 number (from_span a number ia ha) (from_span b number ib hb) in
+      let key : a.0 ≡ b.0 = s.apart.once a.0 b.0 number (from_span a number ia ha) (from_span b number ib hb) in
       let last : a.1 ≡ b.1 = same_Some a.1 b.1 (sym (at_entry range_total range_exact m ordered a.0 a.1 ia) ∙ (ap (get ranges) key ∙ at_entry range_total range_exact m ordered b.0 b.1 ib)) in
       λ i. (key i, last i)
 
@@ -76,8 +78,8 @@ module _ (agents : FinMap nat_cmp (List ℕ)) (ranges : FinMap range_cmp ℕ) (s
       let later : h.key.first < k.first = leb-false k.first h.key.first is in
       let (last, at) = some_value (get ranges k) there in
       let has_to = h.has.to in
-      let up = s.numbers k last at in
-      let one : h.key ≡ k = s.apart h.key k k.first (record { last = h.has.last; there = h.has.there; from = omega (arith, later); to = omega (arith, from, has_to) }) (record { last = last; there = at; from = omega arith; to = up }) in
+      let up = s.apart.numbers k last at in
+      let one : h.key ≡ k = s.apart.once h.key k k.first (record { last = h.has.last; there = h.has.there; from = omega (arith, later); to = omega (arith, from, has_to) }) (record { last = last; there = at; from = omega arith; to = up }) in
       let first : h.key.first ≡ k.first = ap (λ (x : RangeKey). x.first) one in
       absurd (omega (arith, later, first))
 

@@ -1,6 +1,6 @@
 -- What keeps the items and the ranges sound beside a change of the plan, the agents or the ranges.
 use Rattle.std.proofs.Common.{◌≡◌, ℕ, ◌≤◌, ◌==◌, nat_le, Bool, true, false, ◌&&◌, ◌⊎◌, cond, List, Option, Some, None, is_some, IsSome, refl, sym, ap, subst, ◌∙◌, inl, inr, arith}
-use Rattle.std.specs.FinMap.{FinMap, get, insert, remove, entries, get-insert, get-remove}
+use Rattle.std.specs.FinMap.{FinMap, empty, get, insert, remove, entries, get-empty, get-insert, get-remove}
 use Rattle.std.specs.Ordering.{nat_cmp, eq_by_cmp}
 use Rattle.std.specs.Cmp.{nat_cmp_total}
 use Rattle.std.proofs.lemmas.Bool.{and_from, le-leb, eq-eqb, both_ways}
@@ -14,7 +14,7 @@ use Rattle.bsp_rows.specs.declared.keys.RangeKey.{RangeKey}
 use Rattle.bsp_rows.specs.declared.keys.ItemKey.{ItemKey}
 use Rattle.bsp_rows.specs.Rows.{Rows, range_cmp, item_cmp, range_key, range_of, meets, has_meeting, is_used_in}
 use Rattle.bsp_rows.proofs.KeyOrders.{item_total, item_exact, range_total, range_exact}
-use Rattle.bsp_rows.specs.Sound.{HasNumber, AreSoundRanges, IsInStock, IsInTime, AreSoundItems}
+use Rattle.bsp_rows.specs.Sound.{HasNumber, AreApart, AreSoundRanges, IsInStock, IsInTime, AreSoundItems}
 use Rattle.bsp_rows.proofs.MapLemmas.{get_entry, get_written, get_other, same_key, same_Some}
 use Rattle.bsp_calendar.specs.SoundPlan.{Grows}
 use Rattle.bsp_rows.proofs.MemoLemmas.{limit_grows, up_to_later}
@@ -47,11 +47,16 @@ pub known_still : (agents : FinMap nat_cmp (List ℕ)) (agent : ℕ) (token : Li
 known_still agents agent token a h = known_by agents agent token a h (eq_by_cmp nat_cmp a agent) refl
 
 pub ranges_known : (agents more : FinMap nat_cmp (List ℕ)) (ranges : FinMap range_cmp ℕ) → AreSoundRanges agents ranges → ((a : ℕ) → IsSome (get agents a) → IsSome (get more a)) → AreSoundRanges more ranges
-ranges_known agents more ranges s known = record { registered = λ k last h. known k.agent (s.registered k last h); numbers = s.numbers; apart = s.apart }
+ranges_known agents more ranges s known = record { registered = λ k last h. known k.agent (s.registered k last h); apart = s.apart }
+
+-- ---- no ranges
+
+pub none_apart : AreApart empty
+none_apart = record { numbers = λ k last h. absurd (cc (sym h ∙ get-empty range_cmp k)); once = λ k l number hk hl. absurd (cc (sym hk.there ∙ get-empty range_cmp k)) }
 
 -- ---- a range more
 
-module _ (rows : Rows) (agent : ℕ) (range : Range) (s : AreSoundRanges rows.agents rows.ranges) (known : IsSome (get rows.agents agent)) (numbers : range.first ≤ range.last) (apart : has_meeting range rows ≡ false) where
+module _ (rows : Rows) (agent : ℕ) (range : Range) (s : AreApart rows.ranges) (numbers : range.first ≤ range.last) (apart : has_meeting range rows ≡ false) where
   abbrev own : RangeKey
   own = range_key agent range
 
@@ -105,57 +110,68 @@ module _ (rows : Rows) (agent : ℕ) (range : Range) (s : AreSoundRanges rows.ag
     | inr old ↦ inr (record { last = h.last; there = old; from = h.from; to = h.to })
   ]
 
-  pub ranges_added : AreSoundRanges rows.agents grown
-  ranges_added = record {
-    registered = λ k last h. elim (found k last h) [
-      | inl is ↦ subst (λ (a : ℕ). IsSome (get rows.agents a)) (sym (ap (λ (x : RangeKey). x.agent) is.0)) known
-      | inr old ↦ s.registered k last old
-    ];
+  pub apart_added : AreApart grown
+  apart_added = record {
     numbers = λ k last h. elim (found k last h) [
       | inl is ↦ (let first : k.first ≡ range.first = ap (λ (x : RangeKey). x.first) is.0 in let end = is.1 in omega (arith, first, end, numbers))
       | inr old ↦ s.numbers k last old
     ];
-    apart = λ k l number hk hl. elim (had k number hk) [
+    once = λ k l number hk hl. elim (had k number hk) [
       | inl is ↦ elim (had l number hl) [
         | inl other ↦ is.0 ∙ sym other.0
         | inr old ↦ absurd (no_number l number old is.1 is.2)
       ]
       | inr old ↦ elim (had l number hl) [
         | inl is ↦ absurd (no_number k number old is.1 is.2)
-        | inr other ↦ s.apart k l number old other
+        | inr other ↦ s.once k l number old other
       ]
     ];
   }
 
--- ---- a range less
-
-module _ (rows : Rows) (agent : ℕ) (range : Range) (s : AreSoundRanges rows.agents rows.ranges) (there : get rows.ranges (range_key agent range) ≡ Some range.last) (unused : is_used_in agent range rows ≡ false) where
-  abbrev gone : RangeKey
-  gone = range_key agent range
-
-  abbrev fewer : FinMap range_cmp ℕ
-  fewer = remove rows.ranges gone
-
-  was_by : (k : RangeKey) (last : ℕ) → get fewer k ≡ Some last → (b : Bool) → eq_by_cmp range_cmp k gone ≡ b → get rows.ranges k ≡ Some last
-  was_by k last h true same = absurd (cc (sym h ∙ (get-remove range_total rows.ranges gone k ∙ ap (λ b. cond b None (get rows.ranges k)) same)))
-  was_by k last h false same = sym (get-remove range_total rows.ranges gone k ∙ ap (λ b. cond b None (get rows.ranges k)) same) ∙ h
-
-  was : (k : RangeKey) (last : ℕ) → get fewer k ≡ Some last → get rows.ranges k ≡ Some last
-  was k last h = was_by k last h (eq_by_cmp range_cmp k gone) refl
-
-  had_before : (k : RangeKey) (number : ℕ) → HasNumber fewer k number → HasNumber rows.ranges k number
-  had_before k number h = record { last = h.last; there = was k h.last h.there; from = h.from; to = h.to }
-
-  pub ranges_withdrawn : AreSoundRanges rows.agents fewer
-  ranges_withdrawn = record {
-    registered = λ k last h. s.registered k last (was k last h);
-    numbers = λ k last h. s.numbers k last (was k last h);
-    apart = λ k l number hk hl. s.apart k l number (had_before k number hk) (had_before l number hl);
+  pub ranges_added : (agents : FinMap nat_cmp (List ℕ)) → AreSoundRanges agents rows.ranges → IsSome (get agents agent) → AreSoundRanges agents grown
+  ranges_added agents sound known = record {
+    registered = λ k last h. elim (found k last h) [
+      | inl is ↦ subst (λ (a : ℕ). IsSome (get agents a)) (sym (ap (λ (x : RangeKey). x.agent) is.0)) known
+      | inr old ↦ sound.registered k last old
+    ];
+    apart = apart_added;
   }
 
-  still_by : (k : ItemKey) (i : Item) → get rows.items k ≡ Some i → (h : IsInStock rows.ranges k.agent k.number) → (b : Bool) → eq_by_cmp range_cmp h.key gone ≡ b → IsInStock fewer k.agent k.number
+-- ---- a range less
+
+module _ (ranges : FinMap range_cmp ℕ) (gone : RangeKey) where
+  abbrev fewer : FinMap range_cmp ℕ
+  fewer = remove ranges gone
+
+  was_by : (k : RangeKey) (last : ℕ) → get fewer k ≡ Some last → (b : Bool) → eq_by_cmp range_cmp k gone ≡ b → get ranges k ≡ Some last
+  was_by k last h true same = absurd (cc (sym h ∙ (get-remove range_total ranges gone k ∙ ap (λ b. cond b None (get ranges k)) same)))
+  was_by k last h false same = sym (get-remove range_total ranges gone k ∙ ap (λ b. cond b None (get ranges k)) same) ∙ h
+
+  was : (k : RangeKey) (last : ℕ) → get fewer k ≡ Some last → get ranges k ≡ Some last
+  was k last h = was_by k last h (eq_by_cmp range_cmp k gone) refl
+
+  had_before : (k : RangeKey) (number : ℕ) → HasNumber fewer k number → HasNumber ranges k number
+  had_before k number h = record { last = h.last; there = was k h.last h.there; from = h.from; to = h.to }
+
+  pub apart_withdrawn : AreApart ranges → AreApart fewer
+  apart_withdrawn s = record {
+    numbers = λ k last h. s.numbers k last (was k last h);
+    once = λ k l number hk hl. s.once k l number (had_before k number hk) (had_before l number hl);
+  }
+
+  pub ranges_withdrawn : (agents : FinMap nat_cmp (List ℕ)) → AreSoundRanges agents ranges → AreSoundRanges agents fewer
+  ranges_withdrawn agents s = record { registered = λ k last h. s.registered k last (was k last h); apart = apart_withdrawn s.apart }
+
+module _ (rows : Rows) (agent : ℕ) (range : Range) (there : get rows.ranges (range_key agent range) ≡ Some range.last) (unused : is_used_in agent range rows ≡ false) where
+  abbrev out : RangeKey
+  out = range_key agent range
+
+  abbrev left : FinMap range_cmp ℕ
+  left = remove rows.ranges out
+
+  still_by : (k : ItemKey) (i : Item) → get rows.items k ≡ Some i → (h : IsInStock rows.ranges k.agent k.number) → (b : Bool) → eq_by_cmp range_cmp h.key out ≡ b → IsInStock left k.agent k.number
   still_by k i at h true same =
-      let is : h.key ≡ gone = same_key range_exact h.key gone same in
+      let is : h.key ≡ out = same_key range_exact h.key out same in
       let last : h.has.last ≡ range.last = same_Some h.has.last range.last (sym h.has.there ∙ (ap (get rows.ranges) is ∙ there)) in
       let first : h.key.first ≡ range.first = ap (λ (x : RangeKey). x.first) is in
       let own : k.agent ≡ agent = sym h.own ∙ ap (λ (x : RangeKey). x.agent) is in
@@ -166,8 +182,8 @@ module _ (rows : Rows) (agent : ℕ) (range : Range) (s : AreSoundRanges rows.ag
   still_by k i at h false same = record {
     key = h.key;
     own = h.own;
-    has = record { last = h.has.last; there = get-remove range_total rows.ranges gone h.key ∙ (ap (λ b. cond b None (get rows.ranges h.key)) same ∙ h.has.there); from = h.has.from; to = h.has.to };
+    has = record { last = h.has.last; there = get-remove range_total rows.ranges out h.key ∙ (ap (λ b. cond b None (get rows.ranges h.key)) same ∙ h.has.there); from = h.has.from; to = h.has.to };
   }
 
-  pub in_stock_still : (k : ItemKey) (i : Item) → get rows.items k ≡ Some i → IsInStock rows.ranges k.agent k.number → IsInStock fewer k.agent k.number
-  in_stock_still k i at h = still_by k i at h (eq_by_cmp range_cmp h.key gone) refl
+  pub in_stock_still : (k : ItemKey) (i : Item) → get rows.items k ≡ Some i → IsInStock rows.ranges k.agent k.number → IsInStock left k.agent k.number
+  in_stock_still k i at h = still_by k i at h (eq_by_cmp range_cmp h.key out) refl

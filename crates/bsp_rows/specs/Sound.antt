@@ -34,13 +34,15 @@ pub record HasNumber (ranges : FinMap range_cmp ℕ) (k : RangeKey) (number : �
   pub from : k.first ≤ number
   pub to : number ≤ last
 
+-- each range has a number, and no number is in two
+pub record AreApart (ranges : FinMap range_cmp ℕ) : Type 0 where
+  pub numbers : (k : RangeKey) (last : ℕ) → get ranges k ≡ Some last → k.first ≤ last
+  pub once : (k l : RangeKey) (number : ℕ) → HasNumber ranges k number → HasNumber ranges l number → k ≡ l
+
 pub record AreSoundRanges (agents : FinMap nat_cmp (List ℕ)) (ranges : FinMap range_cmp ℕ) : Type 0 where
   -- its agent is registered
   pub registered : (k : RangeKey) (last : ℕ) → get ranges k ≡ Some last → IsSome (get agents k.agent)
-  -- a range has a number
-  pub numbers : (k : RangeKey) (last : ℕ) → get ranges k ≡ Some last → k.first ≤ last
-  -- and no number is in two ranges
-  pub apart : (k l : RangeKey) (number : ℕ) → HasNumber ranges k number → HasNumber ranges l number → k ≡ l
+  pub apart : AreApart ranges
 
 -- ---- items
 

@@ -1,5 +1,5 @@
 -- What each write makes of the rows.
-use Rattle.std.specs.Prelude.{◌≡◌, ℕ, Bool, false, List, Option, Some, None, IsSome, IfSome, IsTrue, Result, Ok, Err}
+use Rattle.std.specs.Prelude.{◌≡◌, ℕ, ◌≤◌, Bool, false, List, Option, Some, None, IsSome, IfSome, IsTrue, Result, Ok, Err}
 use Rattle.std.specs.declared.cmp.Ordering.{Ordering}
 use Rattle.std.specs.FinMap.{FinMap, get, insert, remove}
 use Rattle.bsp_fields.specs.Changes.{change_of}
@@ -16,7 +16,7 @@ use Rattle.bsp_memos.specs.declared.fields.MemoFields.{MemoFields}
 use Rattle.bsp_memos.specs.Billing.{billed_in, may_be_billed}
 use Rattle.bsp_rows.specs.declared.keys.ItemKey.{ItemKey}
 use Rattle.bsp_rows.specs.declared.keys.MemoKey.{MemoKey}
-use Rattle.bsp_rows.specs.Rows.{Rows, key_of, memo_key, range_key}
+use Rattle.bsp_rows.specs.Rows.{Rows, has_meeting, key_of, memo_key, range_at, range_key}
 
 -- ---- conditions on what is found at a key
 
@@ -28,6 +28,12 @@ IsThere found = IsSome found
 
 abbrev pub MayBeBilled : Option MemoFields → Type 0
 MayBeBilled found = IfSome found (λ m. IsTrue (may_be_billed m))
+
+-- a range that may be added: its key is free, its first number is not after its last, and no range has a number of it
+pub record MayBeAdded (agent : ℕ) (range : Range) (rows : Rows) : Type 0 where
+  pub free : IsFree (range_at (range_key agent range) rows)
+  pub numbers : range.first ≤ range.last
+  pub apart : has_meeting range rows ≡ false
 
 -- ---- callers and ranges
 

@@ -221,5 +221,5 @@ pub one_owner : NumbersHaveOneOwner
 one_owner rows k l i j s at there same =
     let mine = (s.items.each k i at).in_stock in
     let beside = (s.items.each l j there).in_stock in
-    let one : mine.key ≡ beside.key = s.ranges.apart mine.key beside.key l.number (subst (λ (n : ℕ). HasNumber rows.ranges mine.key n) same mine.has) beside.has in
+    let one : mine.key ≡ beside.key = s.ranges.apart.once mine.key beside.key l.number (subst (λ (n : ℕ). HasNumber rows.ranges mine.key n) same mine.has) beside.has in
     sym mine.own ∙ (ap (λ (r : RangeKey). r.agent) one ∙ beside.own)

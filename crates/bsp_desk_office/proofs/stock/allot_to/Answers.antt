@@ -23,4 +23,4 @@ returns-clause-served g c = λ t now last s h.
     (sym (known.found t_known now last h) ∙ c.if-not-branch.false)
     (sym (held.found t_held now last at_known) ∙ c.if-branch.false)
     apart
-    (added.ok now last (free_key now agent range s (in_order range c.requires) apart) at_met)
+    (added.ok now last (record { free = free_key now agent range s (in_order range c.requires) apart; numbers = in_order range c.requires; apart = apart }) at_met)

@@ -6,6 +6,7 @@ use Rattle.bsp_list_tables.proofs.tables.Tables.commit.Goals as goal
 
 pub returns-clause-derived : goal.returns-clause-derived
 returns-clause-derived c = λ h. record {
+  of_ranges = c.commit-4.ensures.kept h.of_ranges;
   of_items = c.commit-5.ensures.kept h.of_items;
   of_memos = c.commit-6.ensures.kept h.of_memos;
   of_tallies = c.commit-7.ensures.kept h.of_tallies;
@@ -15,6 +16,7 @@ returns-clause-derived c = λ h. record {
 
 pub returns-clause-was_derived : goal.returns-clause-was_derived
 returns-clause-was_derived c = λ h. record {
+  of_ranges = c.commit-4.ensures.was_kept h.of_ranges;
   of_items = c.commit-5.ensures.was_kept h.of_items;
   of_memos = c.commit-6.ensures.was_kept h.of_memos;
   of_tallies = c.commit-7.ensures.was_kept h.of_tallies;

@@ -1,23 +1,19 @@
-use Rattle.std.proofs.Common.{ap, ◌∙◌}
 use Rattle.std.specs.FinMap.{empty}
-use Rattle.bsp_maps.specs.Present.{present}
 use Rattle.bsp_row_tables.specs.ItemTables.{item_rows, item_rows_before}
 use Rattle.bsp_row_tables.specs.MemoTables.{memo_rows, memo_rows_before}
-use Rattle.bsp_maps.proofs.PresentLemmas.{no_present}
-use Rattle.bsp_rows.specs.Rows.{range_cmp}
-use Rattle.bsp_rows.proofs.KeyOrders.{range_exact, range_total}
 use Rattle.bsp_row_tables.specs.TallyTables.{tally_rows, tally_rows_before}
 use Rattle.bsp_list_tables.proofs.DerivedLemmas.{no_totals, totals_same}
 use Rattle.bsp_list_tables.proofs.tables.Tables.new.Goals as goal
 
 pub returns-clause-rows : goal.returns-clause-rows
-returns-clause-rows c = λ i. record { published = c.new.ensures.now i; agents = c.new-2.ensures.content i; airlines = c.new-3.ensures.content i; ranges = (ap present c.new-4.ensures.content ∙ no_present range_cmp range_total range_exact) i; items = c.new-5.ensures.rows i; memos = c.new-6.ensures.rows i }
+returns-clause-rows c = λ i. record { published = c.new.ensures.now i; agents = c.new-2.ensures.content i; airlines = c.new-3.ensures.content i; ranges = c.new-4.ensures.rows i; items = c.new-5.ensures.rows i; memos = c.new-6.ensures.rows i }
 
 pub returns-clause-committed : goal.returns-clause-committed
-returns-clause-committed c = λ i. record { published = c.new.ensures.before i; agents = c.new-2.ensures.before i; airlines = c.new-3.ensures.before i; ranges = (ap present c.new-4.ensures.before ∙ no_present range_cmp range_total range_exact) i; items = c.new-5.ensures.before i; memos = c.new-6.ensures.before i }
+returns-clause-committed c = λ i. record { published = c.new.ensures.before i; agents = c.new-2.ensures.before i; airlines = c.new-3.ensures.before i; ranges = c.new-4.ensures.before i; items = c.new-5.ensures.before i; memos = c.new-6.ensures.before i }
 
 pub returns-clause-derived : goal.returns-clause-derived
 returns-clause-derived c = record {
+  of_ranges = c.new-4.ensures.kept;
   of_items = c.new-5.ensures.kept;
   of_memos = c.new-6.ensures.kept;
   of_tallies = c.new-7.ensures.kept;
@@ -26,6 +22,7 @@ returns-clause-derived c = record {
 
 pub returns-clause-was_derived : goal.returns-clause-was_derived
 returns-clause-was_derived c = record {
+  of_ranges = c.new-4.ensures.was_kept;
   of_items = c.new-5.ensures.was_kept;
   of_memos = c.new-6.ensures.was_kept;
   of_tallies = c.new-7.ensures.was_kept;

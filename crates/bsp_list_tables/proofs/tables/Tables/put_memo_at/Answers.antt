@@ -18,6 +18,7 @@ returns-clause-derived c = λ h.
     let tallies = tally_rows c.args.self.now.tallies in
     let next = tally_rows c.recount_memo.new.tallies in
     record {
+      of_ranges = h.of_ranges;
       of_items = h.of_items;
       of_memos = c.in_ok-put.ensures.kept h.of_memos;
       of_tallies = c.in_ok-recount_memo.ensures.kept h.of_tallies;
