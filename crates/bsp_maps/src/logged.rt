@@ -55,9 +55,9 @@ impl<K: Ord + Copy + Drop, V: Copy + Drop> Logged<K, V> {
         ensures ok { OnOk result (content K.cmp self.new ≡ insert (content K.cmp self.old) key value) }
         ensures before { before K.cmp self.new ≡ before K.cmp self.old }
     {
-        let old = self.get(key);
-        self.undo.push(Old { key, value: old })?;
-        self.map.insert(key, value)?;
+        self.undo.reserve(1)?;
+        let old = self.map.insert(key, value)?;
+        self.undo.push_reserved(Old { key, value: old });
         Ok(())
     }
 
