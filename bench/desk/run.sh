@@ -1,7 +1,7 @@
 #!/usr/bin/env bash
 # Measures the requests of a desk over a ListBook of 10,000 and of 100,000 sales by 500 agents of 50 airlines, as
 # make_requests.py writes them, and the RET files among them also at a desk in plain Rust (plain/). The two
-# programs run in turn on one processor, ROUNDS times. Their replies to RET files are compared first. Prints, for
+# programs run in turn on one processor, ROUNDS times. Their replies to RET files are compared after each round. Prints, for
 # each request, the median of a round, of the rounds the best, and the growth and the ratio of these.
 #
 # usage: bench/desk/run.sh [ROUNDS [PROCESSOR]]     (7 and 3 by default)
