@@ -11,7 +11,7 @@ pub record Holds (book : ListBook) (now : Rows) (begun : Option Rows) : Type 0 w
   pub rows : now ≡ rows_of book.tables
   pub committed : unwrap_or begun now ≡ committed_rows book.tables
   pub is_open : book.is_open ≡ is_some begun
-  -- no number is in two ranges, which an index of them rests on
+  -- each range has a number, and no number is in two: the index of last numbers rests on it
   pub apart : AreApart now.ranges
   pub was_apart : AreApart (unwrap_or begun now).ranges
   pub derived : IsDerived book.tables

@@ -4,6 +4,7 @@ ghost use Rattle.std.specs.Prelude.{◌≡◌, IfOk, IsOkUnless, None, Option};
 ghost use Rattle.std.specs.Bool.{Decides};
 ghost use Rattle.bsp_rows.specs.Rows.{Rows, no_rows};
 ghost use Rattle.bsp_rows.specs.Sound.{Sound};
+ghost use Rattle.bsp_list_tables.specs.Tables.{rows_of};
 ghost use Rattle.bsp_book.specs.Listed.{IsUndone, meaning};
 
 use crate::book::Book;
@@ -48,7 +49,8 @@ impl ListBook {
     ///
     /// `NoRoom`, where an allocation was refused. The book is then as it was.
     pub fn sound(&self) -> Result<bool, BookFault>
-        ensures sound { IfOk result (λ sound. (now : Rows) (begun : Option Rows) → meaning.holds self.now now begun → Decides sound (Sound now)) }
+        ensures sound { IfOk result (λ sound. Decides sound (Sound (rows_of self.now.tables))) }
+        ensures held { IfOk result (λ sound. (now : Rows) (begun : Option Rows) → meaning.holds self.now now begun → Decides sound (Sound now)) }
         ensures fault { IsOkUnless result BookFault.NoRoom }
     {
         match self.tables.are_sound(self.alloc) {

@@ -20,7 +20,7 @@ AreRead [] [] = Unit {0}
 AreRead (request ∷ requests) (reading ∷ readings) = IsRead request reading × AreRead requests readings
 AreRead _ _ = ⊥
 
--- each request that comes in is read as some request
+-- each request whose content is whole and in memory is read as some request
 abbrev pub EachIsRead : Type 0
 EachIsRead =
     (request : Request) → IsWhole request.content → IsInMemory (asking_text request.call) (bytes_in request.content) → (reading : Reading) × IsRead request reading

@@ -15,18 +15,17 @@ mod pair;
 mod reports;
 mod settled_period;
 mod setup;
+mod verdict;
 mod withdrawn_range;
 
 use crate::asked::Asked;
 use crate::lines::{CARD_SALE, V1, text};
-use crate::pair::{Mistake, Pair, Room, open};
+use crate::pair::{Pair, open};
+use crate::verdict::{Mistake, Room, status};
 use bsp_book::ListBook;
 use bsp_routes::Routes;
 use std::alloc::Global;
 use std::process::ExitCode;
-
-/// The status where a reply was 503 B01.
-const LACKED_ROOM: u8 = 2;
 
 /// What the examples are asked with.
 #[derive(Drop)]
@@ -94,15 +93,12 @@ fn play_examples(alloc: Global) -> Result<Room, Mistake> {
 }
 
 fn main(rt: HostRuntime) -> ExitCode {
-    match play_examples(rt.alloc()) {
-        Ok(Room::Ample) => ExitCode::SUCCESS,
-        Ok(Room::Lacked) => ExitCode::from(LACKED_ROOM),
-        Err(mistake) => {
-            let _ = println!(rt;
-                "{}: request {}, {}",
-                mistake.example, mistake.number, mistake.path
-            );
-            ExitCode::FAILURE
-        }
+    let played = play_examples(rt.alloc());
+    if let Err(mistake) = &played {
+        let _ = println!(rt;
+            "{}: request {}, {}",
+            mistake.example, mistake.number, mistake.path
+        );
     }
+    ExitCode::from(status(&played))
 }

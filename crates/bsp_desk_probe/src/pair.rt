@@ -1,54 +1,16 @@
 //! Two desks that are asked the same.
 
+ghost use Rattle.std.specs.Prelude.{◌≡◌, true, IsOk, OnErr};
+
 use crate::asked::{Asked, OFFICE};
 use crate::reports;
+use crate::verdict::{Mistake, Room, are_same, is_no_room};
 use bsp_book::Book;
 use bsp_desk::{Desk, Request};
 use bsp_fields::Token;
-use bsp_messages::{Reply, Status};
+use bsp_messages::Reply;
 use bsp_routes::Routes;
 use std::alloc::Global;
-
-/// Whether a reply was 503 B01.
-#[derive(Clone, Copy, PartialEq, Eq)]
-pub enum Room {
-    /// None was.
-    Ample,
-    /// One was, and its request was made again.
-    Lacked,
-}
-
-impl Room {
-    /// Whether a reply of either was 503 B01.
-    pub fn and(self, other: Room) -> Room {
-        match self {
-            Room::Ample => other,
-            Room::Lacked => Room::Lacked,
-        }
-    }
-}
-
-/// A request that was not answered as it has to be.
-#[derive(Clone, Copy)]
-pub struct Mistake {
-    /// The example.
-    pub example: &'static str,
-    /// The request's place, counted from 1; 0 before the first.
-    pub number: u32,
-    /// Its path.
-    pub path: &'static str,
-}
-
-impl Mistake {
-    /// A mistake before the first request.
-    pub fn before(example: &'static str) -> Mistake {
-        Mistake {
-            example,
-            number: 0,
-            path: "",
-        }
-    }
-}
 
 /// Two desks that are asked the same.
 #[derive(Drop)]
@@ -78,17 +40,6 @@ fn last_reply<B: Book>(desk: &mut Desk<B>, request: &Request<'_>, room: &mut Roo
     }
     *room = Room::Lacked;
     reply_to(desk, request)
-}
-
-fn is_no_room(reply: &Reply) -> bool {
-    reply.status == Status::ServiceUnavailable
-        && reply.body.as_bytes() == br#"{"code":"B01"}"#.as_slice()
-}
-
-fn are_same(reply: &Reply, other: &Reply) -> bool {
-    reply.status == other.status
-        && reply.media == other.media
-        && reply.body.as_bytes() == other.body.as_bytes()
 }
 
 impl<B: Book + Drop> Pair<B> {
@@ -149,7 +100,11 @@ impl<B: Book + Drop> Pair<B> {
         Ok(())
     }
 
-    fn judge(&self, is_right: bool, asked: &Asked<'_>) -> Result<(), Mistake> {
+    /// Names the request where it was not answered as it has to be.
+    fn judge(&self, is_right: bool, asked: &Asked<'_>) -> Result<(), Mistake>
+        ensures judged { IsOk result ↔ is_right ≡ true }
+        ensures named { OnErr result (result ≡ Err (record { example = self.now.example; number = self.now.number; path = asked.now.path })) }
+    {
         if is_right {
             return Ok(());
         }

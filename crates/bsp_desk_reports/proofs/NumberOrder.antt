@@ -13,7 +13,11 @@ use Rattle.bsp_postings.proofs.ListLemmas.{filter_filter}
 use Rattle.bsp_rows.proofs.ItemTies.{any_true}
 use Rattle.bsp_step.specs.Ledger.{same_number}
 use Rattle.bsp_step.specs.Step.{is_last}
-use Rattle.bsp_desk_reports.specs.Stock.{IsLatest}
+
+-- the last of numbers that never fall
+abbrev pub IsLatest : Option ℕ → List ℕ → Type 0
+IsLatest None ns = ns ≡ []
+IsLatest (Some n) ns = Contains ns n × ((m : ℕ) → Contains ns m → m ≤ n)
 
 alike : (a b : Bool) → (a ≡ true → b ≡ true) → (b ≡ true → a ≡ true) → a ≡ b
 alike true b h g = sym (h refl)

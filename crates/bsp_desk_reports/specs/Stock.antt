@@ -1,6 +1,6 @@
 -- The numbers of an agent's items, and how many of them its ranges have.
-use Rattle.std.specs.Prelude.{◌≡◌, ℕ, ◌≤◌, List, [], length, map, Option, Some, None}
-use Rattle.std.specs.List.{All, Contains, filter}
+use Rattle.std.specs.Prelude.{ℕ, List, length, map}
+use Rattle.std.specs.List.{All, filter}
 use Rattle.std.specs.List.Sorted.{IsNonDecreasing}
 use Rattle.bsp_calendar.specs.Requests.{once}
 use Rattle.bsp_fields.specs.Decimal.{number_of}
@@ -22,11 +22,6 @@ pub record AreInOrder (items : List Item) : Type 0 where
 -- the numbers, each once
 abbrev pub numbers_once : List Item → List ℕ
 numbers_once items = once same_number (map item_number items)
-
--- the last of numbers that never fall
-abbrev pub IsLatest : Option ℕ → List ℕ → Type 0
-IsLatest None ns = ns ≡ []
-IsLatest (Some n) ns = Contains ns n × ((m : ℕ) → Contains ns m → m ≤ n)
 
 -- a range with how many of the numbers it has
 abbrev pub shown_by : List ℕ → Range → RangeShown

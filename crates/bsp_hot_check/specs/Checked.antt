@@ -1,4 +1,4 @@
--- What is told of a text.
+-- The totals of a text.
 use Rattle.std.specs.Prelude.{◌≡◌, ℕ, List}
 use Rattle.bsp_hot_check.specs.declared.model.HotTotals.{HotTotals}
 use Rattle.bsp_hot_check.specs.Hot.{File, Hot, totals_of_file}

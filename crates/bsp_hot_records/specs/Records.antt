@@ -229,6 +229,9 @@ amount_of text = result_unwrap_or (zoned_reading 11 text) (pos 0)
 unfoldable pub total_of : List ℕ → ℤ
 total_of text = result_unwrap_or (zoned_reading 15 text) (pos 0)
 
+abbrev pub code_in : List ℕ → DocumentCode
+code_in text = unwrap_or (code_of text) Tktt
+
 abbrev pub totals_of : List ℕ → Totals
 totals_of text = record {
   sums = record {
@@ -266,7 +269,7 @@ record_of Bch02 line =
 record_of Boh03 line = office_header (first_number line) (number_in (columns 22 26 line)) (columns 27 29 line)
 record_of Bkt06 line = transaction_header (first_number line) (number_in (columns 22 24 line))
 record_of Bks24 line =
-    document (first_number line) (number_in (columns 43 50 line)) (unwrap_or (code_of (columns 39 42 line)) Tktt)
+    document (first_number line) (number_in (columns 43 50 line)) (code_in (columns 39 42 line))
     (record {
       issued = columns 22 27 line;
       number = number_in (columns 28 37 line);
@@ -283,7 +286,7 @@ record_of Bks45 line =
     (related (record { airline = number_in (columns 22 24 line); number = columns 25 34 line; check_digit = columns 35 35 line }))
 record_of Bkp84 line = part (first_number line) (payment_of line)
 record_of Bot93 line =
-    code_totals (first_number line) (unwrap_or (code_of (columns 22 25 line)) Tktt) (totals_of (columns 26 93 line))
+    code_totals (first_number line) (code_in (columns 22 25 line)) (totals_of (columns 26 93 line))
 record_of Bot94 line = office_totals (first_number line) (totals_of (columns 22 89 line))
 record_of Bct95 line = period_totals (number_in (columns 14 18 line)) (number_in (columns 19 26 line)) (totals_of (columns 27 94 line))
 record_of Bft99 line = file_totals (number_in (columns 14 16 line)) (number_in (columns 17 24 line)) (totals_of (columns 25 92 line))

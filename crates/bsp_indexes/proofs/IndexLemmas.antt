@@ -4,7 +4,7 @@ use Rattle.std.specs.List.{filter, filter_map, list_any}
 use Rattle.std.specs.Ordering.{eq_by_cmp, is_eq, is_le, ordering_then}
 use Rattle.std.specs.Cmp.{IsTotalOrder, alike_right}
 use Rattle.std.specs.FinMap.{FinMap, IsAntisymmetric, contains_key-keys, empty, entries, get, get-empty, get-insert, get-remove, insert, remove}
-use Rattle.bsp_maps.specs.Picks.{AreAmong}
+use Rattle.bsp_maps.proofs.PickLemmas.{AreAmong}
 use Rattle.bsp_maps.specs.Present.{present_entry}
 use Rattle.bsp_maps.specs.Windows.{entries_in}
 use Rattle.bsp_indexes.specs.Indexes.{IsAlone, IsIndex, IsLeast, IsMoved, entry_cmp, found_place, here, is_place, keys_at}

@@ -8,7 +8,11 @@ use Rattle.std.specs.FinMap.{FinMap, IsAntisymmetric, get, insert, empty, entrie
 use Rattle.std.specs.FinMap.Entries.{is_sorted, below_all}
 use Rattle.bsp_maps.proofs.OrderLemmas.{no_length}
 use Rattle.bsp_maps.proofs.Orderings.{both, first, none_behind, second}
-use Rattle.bsp_maps.specs.Picks.{with_value, with_key, with_keys, AreAmong}
+use Rattle.bsp_maps.specs.Picks.{with_value, with_key, with_keys}
+
+-- each key whose value passes is among these
+abbrev pub AreAmong : {K V : Type 0} {R : K → K → Ordering} → (K → V → Bool) → FinMap R V → List K → Type 0
+AreAmong {K} {V} {R} holds m ks = (k : K) (v : V) → get m k ≡ Some v → holds k v ≡ true → list_any (eq_by_cmp R k) ks ≡ true
 
 abbrev either : {V : Type 0} → Option V → Option V → Option V
 either None y = y

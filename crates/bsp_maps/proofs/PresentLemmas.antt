@@ -10,7 +10,17 @@ use Rattle.std.specs.FinMap.{FinMap, IsAntisymmetric, get, insert, remove, empty
 use Rattle.std.specs.FinMap.Entries.{is_sorted, below_all}
 use Rattle.bsp_maps.proofs.OrderLemmas.{in_order}
 use Rattle.bsp_maps.proofs.Orderings.{both, first, less, none_behind, second}
-use Rattle.bsp_maps.specs.Present.{present, present_entry, flat, with_present, with_present_value}
+use Rattle.bsp_maps.specs.Present.{present, present_entry, with_present_value}
+
+-- the value that is there, if one is
+abbrev pub flat : {V : Type 0} → Option (Option V) → Option V
+flat None = None
+flat (Some v) = v
+
+-- with those of entries, the first one first
+abbrev pub with_present : {K V : Type 0} {R : K → K → Ordering} → List (K × Option V) → FinMap R V → FinMap R V
+with_present [] m = m
+with_present (e ∷ es) m = with_present es (with_present_value e.0 e.1 m)
 
 module _ {K V : Type 0} (R : K → K → Ordering) (o : IsTotalOrder R) where
   step : (q k : K) (w : Option V) (es : List (K × Option V)) (b : Bool) → eq_by_cmp R q k ≡ b → T (below_all R k es) → find R q (filter_map present_entry es) ≡ flat (find R q es)

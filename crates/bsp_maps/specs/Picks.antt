@@ -1,7 +1,5 @@
 -- The values at some keys that pass a test, each once.
-use Rattle.std.specs.Prelude.{◌≡◌, Bool, true, cond, Option, Some, None, List, [], ◌∷◌}
-use Rattle.std.specs.List.{list_any}
-use Rattle.std.specs.Ordering.{eq_by_cmp}
+use Rattle.std.specs.Prelude.{Bool, cond, Option, Some, None, List, [], ◌∷◌}
 use Rattle.std.specs.declared.cmp.Ordering.{Ordering}
 use Rattle.std.specs.FinMap.{FinMap, get, insert}
 
@@ -17,7 +15,3 @@ module _ {K V : Type 0} {R : K → K → Ordering} (holds : K → V → Bool) wh
   abbrev pub with_keys : FinMap R V → List K → FinMap R V → FinMap R V
   with_keys m [] found = found
   with_keys m (k ∷ ks) found = with_keys m ks (with_key m k found)
-
-  -- each key whose value passes is among these
-  abbrev pub AreAmong : FinMap R V → List K → Type 0
-  AreAmong m ks = (k : K) (v : V) → get m k ≡ Some v → holds k v ≡ true → list_any (eq_by_cmp R k) ks ≡ true

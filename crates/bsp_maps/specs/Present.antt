@@ -1,5 +1,5 @@
 -- A map whose entries may be taken back.
-use Rattle.std.specs.Prelude.{Option, Some, None, List, [], ◌∷◌}
+use Rattle.std.specs.Prelude.{Option, Some, None}
 use Rattle.std.specs.List.{filter_map}
 use Rattle.std.specs.declared.cmp.Ordering.{Ordering}
 use Rattle.std.specs.FinMap.{FinMap, entries, from_entries, insert}
@@ -15,16 +15,7 @@ present_entry e = present_value e.0 e.1
 abbrev pub present : {K V : Type 0} {R : K → K → Ordering} → FinMap R (Option V) → FinMap R V
 present m = from_entries (filter_map present_entry (entries m))
 
-abbrev pub flat : {V : Type 0} → Option (Option V) → Option V
-flat None = None
-flat (Some v) = v
-
 -- a map with the value of an entry, if it has one
 abbrev pub with_present_value : {K V : Type 0} {R : K → K → Ordering} → K → Option V → FinMap R V → FinMap R V
 with_present_value k None m = m
 with_present_value k (Some v) m = insert m k v
-
--- with those of entries, the first one first
-abbrev pub with_present : {K V : Type 0} {R : K → K → Ordering} → List (K × Option V) → FinMap R V → FinMap R V
-with_present [] m = m
-with_present (e ∷ es) m = with_present es (with_present_value e.0 e.1 m)

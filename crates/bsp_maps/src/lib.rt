@@ -1,9 +1,9 @@
 //! Maps in memory whose changes can be taken back, look-ups in them, and tests over maps and ranges.
 //!
 //! A [`Logged`] map remembers what was at each key that it wrote: [`Logged::commit`] forgets that, and
-//! [`Logged::roll_back`] puts it back without memory. Of a map, [`chosen`] gives the values of a group of keys,
-//! [`passing`] those that pass a test, [`picked`] those at some keys. [`all_hold`], [`are_within`] and
-//! [`are_disjoint`] are tests that an audit of maps needs.
+//! [`Logged::roll_back`] puts it back without memory. Of a map, [`chosen`] gives the values of a group of keys that
+//! pass a test, [`picked`] those at some keys. [`all_hold`], [`are_within`] and [`are_disjoint`] are tests that an
+//! audit of maps needs.
 #![tactic(auto)]
 
 mod counts;
@@ -19,7 +19,7 @@ mod windows;
 
 pub use counts::are_within;
 pub use logged::Logged;
-pub use picks::{holding, passing, picked};
+pub use picks::picked;
 pub use present::{commit_present, present_entries};
 pub use rules::{Every, Rule, Test, all_hold, any_holds};
 pub use spans::{Span, are_disjoint};

@@ -1,4 +1,4 @@
-ghost use Rattle.std.specs.Prelude.{◌≡◌, OnOk};
+ghost use Rattle.std.specs.Prelude.{◌≡◌, IfOk, OnOk};
 ghost use Rattle.std.specs.FinMap.{IsAntisymmetric, empty, insert, get};
 ghost use Rattle.bsp_maps.specs.Undo.{content, before, restored};
 
@@ -45,6 +45,23 @@ impl<K: Ord + Copy + Drop, V: Copy + Drop> Logged<K, V> {
         self.map.get(&key).copied()
     }
 
+    /// Writes a value at a key, and gives the value that was there. It reads and writes a logarithm of the entries.
+    ///
+    /// # Errors
+    ///
+    /// Where an allocation was refused. The entries of the last commit are remembered all the same.
+    pub fn replace(&mut self, key: K, value: V) -> Result<Option<V>, AllocError>
+        requires { IsAntisymmetric K.cmp }
+        ensures ok { OnOk result (content K.cmp self.new ≡ insert (content K.cmp self.old) key value) }
+        ensures old { IfOk result (λ old. old ≡ get (content K.cmp self.old) key) }
+        ensures before { before K.cmp self.new ≡ before K.cmp self.old }
+    {
+        self.undo.reserve(1)?;
+        let old = self.map.insert(key, value)?;
+        self.undo.push_reserved(Old { key, value: old });
+        Ok(old)
+    }
+
     /// Writes a value at a key. It reads and writes a logarithm of the entries.
     ///
     /// # Errors
@@ -55,9 +72,7 @@ impl<K: Ord + Copy + Drop, V: Copy + Drop> Logged<K, V> {
         ensures ok { OnOk result (content K.cmp self.new ≡ insert (content K.cmp self.old) key value) }
         ensures before { before K.cmp self.new ≡ before K.cmp self.old }
     {
-        self.undo.reserve(1)?;
-        let old = self.map.insert(key, value)?;
-        self.undo.push_reserved(Old { key, value: old });
+        self.replace(key, value)?;
         Ok(())
     }
 

@@ -1,6 +1,6 @@
 //! Look-ups in a logged map, as functions of its content.
 
-ghost use Rattle.std.specs.Prelude.{◌≡◌, IfOk, map};
+ghost use Rattle.std.specs.Prelude.{◌≡◌, IfOk};
 ghost use Rattle.std.specs.List.{filter, list_any};
 ghost use Rattle.std.specs.FinMap.{IsAntisymmetric, empty, entries, keys, values};
 ghost use Rattle.bsp_maps.specs.Undo.{content};
@@ -23,13 +23,6 @@ impl<K: Ord + Copy + Drop, V: Copy + Drop> Logged<K, V> {
         ensures { IfOk result (λ found. found.items ≡ keys (content K.cmp self.now)) }
     {
         picks::keys(alloc, self.map())
-    }
-
-    /// The values that pass a test, in the order of their keys. It reads all of them.
-    pub fn passing<T: Test<V>>(&self, alloc: Global, test: &T) -> Result<Vec<V>, AllocError>
-        ensures { IfOk result (λ found. found.items ≡ filter (T.passes test.now) (values (content K.cmp self.now))) }
-    {
-        picks::passing(alloc, self.map(), test)
     }
 
     /// The values at the keys that pass, each once, in the order of their keys. It reads those keys alone.
@@ -73,13 +66,6 @@ impl<K: Ord + Copy + Drop, V: Copy + Drop> Logged<K, V> {
         ensures { result ≡ list_any (λ e. W.has window.now e.0) (entries (content K.cmp self.now)) }
     {
         windows::has_any(self.map(), window)
-    }
-
-    /// The values of the entries of which a rule holds, in the order of their keys. It reads all of them.
-    pub fn holding<T: Rule<K, V>>(&self, alloc: Global, rule: &T) -> Result<Vec<V>, AllocError>
-        ensures { IfOk result (λ found. found.items ≡ map (λ e. e.1) (filter (λ e. T.holds rule.now e.0 e.1) (entries (content K.cmp self.now)))) }
-    {
-        picks::holding(alloc, self.map(), rule)
     }
 
     /// Whether a rule holds of some entry. It reads the entries up to the first.

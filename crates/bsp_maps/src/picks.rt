@@ -1,13 +1,12 @@
 //! Values at some keys, each once.
 
-ghost use Rattle.std.specs.Prelude.{◌≡◌, IfOk, OnOk, map};
+ghost use Rattle.std.specs.Prelude.{◌≡◌, IfOk, OnOk};
 ghost use Rattle.std.specs.BTreeMap.{IsOrdered, keys, values};
-ghost use Rattle.std.specs.List.{filter};
 ghost use Rattle.std.specs.FinMap.{IsAntisymmetric, empty, from_entries};
 ghost use Rattle.std.specs.FinMap.{values as in_map};
 ghost use Rattle.bsp_maps.specs.Picks.{with_key, with_keys};
 
-use crate::rules::{Rule, Test};
+use crate::rules::Rule;
 use std::alloc::{AllocError, Global};
 use std::collections::BTreeMap;
 
@@ -60,44 +59,6 @@ pub fn keys<K: Ord + Copy + Drop, V: Copy + Drop>(
     let _count = entries.len();
     for key in entries.keys() {
         found.push(*key)?;
-    }
-    Ok(found)
-}
-
-/// The values of a map that pass a test, in the order of their keys. It reads all of them.
-pub fn passing<K: Ord + Copy + Drop, V: Copy + Drop, T: Test<V>>(
-    alloc: Global,
-    entries: &BTreeMap<K, V>,
-    test: &T,
-) -> Result<Vec<V>, AllocError>
-    ensures ordered { IsOrdered K.cmp entries.now }
-    ensures found { IfOk result (λ found. found.items ≡ filter (T.passes test.now) (values entries.now)) }
-{
-    let mut found = Vec::new(alloc);
-    let _count = entries.len();
-    for value in entries.values() {
-        if test.passes(value) {
-            found.push(*value)?;
-        }
-    }
-    Ok(found)
-}
-
-/// The values of the entries of which a rule holds, in the order of their keys. It reads all of them.
-pub fn holding<K: Ord + Copy + Drop, V: Copy + Drop, T: Rule<K, V>>(
-    alloc: Global,
-    entries: &BTreeMap<K, V>,
-    rule: &T,
-) -> Result<Vec<V>, AllocError>
-    ensures ordered { IsOrdered K.cmp entries.now }
-    ensures found { IfOk result (λ found. found.items ≡ map (λ e. e.1) (filter (λ e. T.holds rule.now e.0 e.1) entries.now.entries)) }
-{
-    let mut found = Vec::new(alloc);
-    let _count = entries.len();
-    for (key, value) in entries {
-        if rule.holds(key, value) {
-            found.push(*value)?;
-        }
     }
     Ok(found)
 }

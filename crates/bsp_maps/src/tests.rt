@@ -53,11 +53,34 @@ fn a_roll_back_puts_back_each_entry(rt: HostRuntime) -> Result<(), Fail> {
     Ok(())
 }
 
-/// The keys, the even values, and the values at 2, 1, 2 and 4 that are not below their key.
+/// The keys from a lowest one on.
+struct From(u32);
+
+impl Window<u32> for From {
+    ghost use Rattle.std.specs.Ordering.{is_le, nat_cmp};
+
+    ghost low = { λ window. window.0 };
+
+    ghost has = { λ window key. is_le (nat_cmp window.0 key) };
+
+    ghost lowest = { λ window key within. within };
+
+    ghost together = { λ window key last from before within. from };
+
+    fn low(&self) -> u32 {
+        self.0
+    }
+
+    fn has(&self, key: &u32) -> bool {
+        self.0.cmp(key).is_le()
+    }
+}
+
+/// The keys, the even values from the key 1 on, and the values at 2, 1, 2 and 4 that are not below their key.
 fn found(alloc: Global) -> Result<[Vec<u32>; 3], Fail> {
     let map = kept(alloc)?;
     let keys = map.keys(alloc)?;
-    let even = map.passing(alloc, &IsEven)?;
+    let even = map.chosen(alloc, &From(1), &IsEven)?;
     let picked = map.picked(alloc, &[2, 1, 2, 4], &Rises)?;
     Ok([keys, even, picked])
 }

@@ -64,7 +64,7 @@ abbrev pub kind_or_start : Option (List ℕ) → LastRecord
 kind_or_start None = last.Start
 kind_or_start (Some line) = kind (record_in line)
 
--- how the lines stand: the code is that of the last record 2, TKTT where there is none
+-- the state behind the lines: the code is that of the last record 2, TKTT where there is none
 abbrev pub standing : List (List ℕ) → Standing
 standing before = record {
   records = length before;

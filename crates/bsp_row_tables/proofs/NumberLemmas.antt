@@ -12,7 +12,7 @@ use Rattle.bsp_ret_records.specs.declared.transactions.Transaction.{Transaction}
 use Rattle.bsp_rules.specs.declared.rows.Item.{Item}
 use Rattle.bsp_rules.specs.Selected.{is_among, numbers_of, shares}
 use Rattle.bsp_maps.specs.Windows.{values_in}
-use Rattle.bsp_maps.specs.Picks.{AreAmong}
+use Rattle.bsp_maps.proofs.PickLemmas.{AreAmong}
 use Rattle.bsp_rows.specs.declared.keys.ItemKey.{ItemKey}
 use Rattle.bsp_rows.specs.Rows.{item_cmp}
 use Rattle.bsp_rows.proofs.KeyOrders.{item_exact, item_total}

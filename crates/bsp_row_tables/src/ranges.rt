@@ -110,6 +110,10 @@ impl RangeTable {
     }
 
     /// Withdraws the range of a key, if there is one.
+    ///
+    /// # Errors
+    ///
+    /// Where an allocation was refused, as of each write. What the last commit kept is remembered all the same.
     pub fn withdraw(&mut self, key: &RangeKey) -> Result<(), AllocError>
         ensures rows { OnOk result (range_rows self.new ≡ remove (range_rows self.old) key.now) }
         ensures before { range_rows_before self.new ≡ range_rows_before self.old }

@@ -82,7 +82,7 @@ impl TallyTable {
         ensures kept { OnOk result (AreTalliesKept self.old → AreTalliesKept self.new) }
         ensures was_kept { WereTalliesKept self.old → WereTalliesKept self.new }
     {
-        let old = self.rows.get(*key);
+        let old = self.rows.replace(*key, *tally)?;
         let new = Some(*tally);
         self.by_airline.relocate(
             *key,
@@ -93,8 +93,7 @@ impl TallyTable {
             *key,
             tally_period_place(key, &old),
             tally_period_place(key, &new),
-        )?;
-        self.rows.put(*key, *tally)
+        )
     }
 
     /// The keys of an agent and their tallies, in the order of the keys. It reads those alone.

@@ -52,7 +52,7 @@ IsWhole (Bytes bytes) = Unit {0}
 IsWhole (File file) = HasLines file.now
 IsWhole (Fault fault) = Unit {0}
 
--- each call with its content is read as some request
+-- each call whose content is whole and in memory is read as some request
 abbrev pub EachContentIsRead : Type 0
 EachContentIsRead =
     (asking : Asking (List ℕ)) (content : Content) → IsWhole content → IsInMemory asking (bytes_in content) → (asked : Asked) × IsAskedWith asking content asked

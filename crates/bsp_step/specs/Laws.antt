@@ -260,7 +260,7 @@ shows_report (ByAgent code (AskStatement period)) (Statement agent report) = tru
 shows_report (ByAirline code (AskHot period)) (Hot airline rows) = true
 shows_report _ _ = false
 
--- once it is shown, each later request for it has the same answer, but for 503 and for 403 to a token that is not the caller's
+-- once it is shown, each later request for it has the same answer, but for 503 and for 403
 abbrev pub ShownReportsStay : List Exchange → Type 0
 ShownReportsStay exchanges =
     (before between after : List Exchange) (p q : Exchange) (shown answer : Answer) →

@@ -134,7 +134,7 @@ abbrev pub IsPlanInMemory : List ℕ → Type 0
 IsPlanInMemory body =
     (said : PlanData) → plan_reading body ≡ Ok said → (length said.airlines < 2 ^ 63) × (length said.rates < 2 ^ 63) × (length said.periods < 2 ^ 63)
 
--- a body that is to be a plan text is one of these; of another body nothing is asked
+-- a body that is to be a plan text says no list of 2^63 entries; of another body nothing is asked
 abbrev pub IsInMemory : Asking (List ℕ) → List ℕ → Type 0
 IsInMemory (asking.Call (call.Office office.Plan)) body = IsPlanInMemory body
 IsInMemory _ body = Unit {0}

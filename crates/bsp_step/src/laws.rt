@@ -66,8 +66,7 @@ pub fn airline_isolation()
 
 /// A closed period stays as it is over any run of requests: its days, its items and the memos billed in it;
 /// and so do the settlement, each agent's statement and each airline's HOT file of it. Once a run has shown one
-/// of these, each later request for it has the same answer, but for 503 and for 403 to a token that is not the
-/// caller's.
+/// of these, each later request for it has the same answer, but for 503 and for 403.
 pub fn closed_periods_stay()
     ensures rows { ClosedPeriodsStay }
     ensures reports { ReportsStay }

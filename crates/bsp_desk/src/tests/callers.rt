@@ -2,13 +2,11 @@
 
 use super::files::V1;
 use super::opening::{
-    A, AIRLINE_125, AIRLINE_220, B, JANUARY_5, OFFICE, OPENED, PLAN, PLANNED, RANGE_OF_A,
-    REGISTER_125, REGISTER_A,
+    A, AIRLINE_125, AIRLINE_220, B, DEBIT_1, JANUARY_5, OFFICE, OPENED, PERIOD_1, PLAN, PLANNED,
+    RANGE_OF_A, REGISTER_125, REGISTER_A, TO_3000,
 };
-use super::replies::{DONE, HELD, N01, N02, N03};
+use super::replies::{DONE, HELD, N01, N02, N03, NO_MEMOS};
 use super::{Body, Row, Wanted, follows};
-
-const NO_MEMOS: Wanted = Wanted::Json(200, b"{\"memos\":[]}");
 
 const MEMOS_OF_A: &[u8] = b"/agents/12345675/memos";
 
@@ -44,14 +42,6 @@ const MEMO: Body = Body::Text(b"{\"airline\":\"125\",\"document\":\"6000000001\"
 
 const NUMBER: Body = Body::Text(b"{\"document\":\"6000000001\"}");
 
-const REDUCED: Body = Body::Text(b"{\"amount\":3000,\"document\":\"6000000001\"}");
-
-const DEBIT: Body = Body::Text(
-    b"{\"agent\":\"12345675\",\"amount\":5000,\"document\":\"6000000001\",\"kind\":\"ADMA\",\"reason\":\"fare\"}",
-);
-
-const PERIOD: Body = Body::Text(b"{\"period\":\"24011\"}");
-
 /// Each request of the office with an agent's token.
 static NOT_THE_OFFICE: [Row; 9] = [
     Row(A, b"/office/plan", PLAN, N01),
@@ -61,7 +51,7 @@ static NOT_THE_OFFICE: [Row; 9] = [
     Row(A, b"/office/stock/allot", RANGE_OF_A, N01),
     Row(A, b"/office/stock/withdraw", RANGE_OF_A, N01),
     Row(A, b"/office/ret", V1, N01),
-    Row(A, b"/office/close", PERIOD, N01),
+    Row(A, b"/office/close", PERIOD_1, N01),
     Row(None, b"/office/settlement/24011", Body::Missing, N01),
 ];
 
@@ -106,10 +96,10 @@ fn requests_of_an_agent_need_its_token(rt: HostRuntime) {
 /// Each request of 125 with another token, and one of an airline that is not registered.
 static NOT_THE_AIRLINE: [Row; 7] = [
     Row(AIRLINE_220, MEMOS_OF_125, Body::Missing, N01),
-    Row(AIRLINE_220, MEMOS_OF_125, DEBIT, N01),
+    Row(AIRLINE_220, MEMOS_OF_125, DEBIT_1, N01),
     Row(AIRLINE_220, b"/airlines/125/memos/uphold", NUMBER, N01),
     Row(OFFICE, b"/airlines/125/memos/withdraw", NUMBER, N01),
-    Row(A, b"/airlines/125/memos/reduce", REDUCED, N01),
+    Row(A, b"/airlines/125/memos/reduce", TO_3000, N01),
     Row(None, b"/airlines/125/hot/24011", Body::Missing, N01),
     Row(AIRLINE_125, b"/airlines/330/memos", Body::Missing, N01),
 ];

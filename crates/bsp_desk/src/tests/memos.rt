@@ -1,14 +1,13 @@
 //! Memos of the airline 125 to A: issued, disputed, reduced and billed.
 
-use super::opening::{A, AIRLINE_125, AIRLINE_220, B, LIMITED_TO_THREE, OFFICE, OPENED, PLANNED};
-use super::replies::{DONE, HELD, M01, M02, M03, M04, M05, M06, M07, M08};
+use super::opening::{
+    A, AIRLINE_125, AIRLINE_220, B, DEBIT_1, FEBRUARY_1, LIMITED_TO_THREE, OFFICE, OPENED,
+    PERIOD_1, PERIOD_2, PLANNED, TO_3000,
+};
+use super::replies::{DONE, HELD, M01, M02, M03, M04, M05, M06, M07, M08, NO_MEMOS};
 use super::{Body, Row, Wanted, follows};
 
 const MEMOS: &[u8] = b"/airlines/125/memos";
-
-const DEBIT_1: Body = Body::Text(
-    b"{\"agent\":\"12345675\",\"amount\":5000,\"document\":\"6000000001\",\"kind\":\"ADMA\",\"reason\":\"fare\"}",
-);
 
 const DEBIT_2: Body = Body::Text(
     b"{\"agent\":\"12345675\",\"amount\":5000,\"document\":\"6000000002\",\"kind\":\"ADMA\",\"reason\":\"fare\"}",
@@ -54,17 +53,9 @@ const NUMBER_9: Body = Body::Text(b"{\"document\":\"6000000009\"}");
 
 const TO_5000: Body = Body::Text(b"{\"amount\":5000,\"document\":\"6000000001\"}");
 
-const TO_3000: Body = Body::Text(b"{\"amount\":3000,\"document\":\"6000000001\"}");
-
 const JANUARY_19: Body = Body::Text(b"{\"day\":\"2024-01-19\"}");
 
 const JANUARY_20: Body = Body::Text(b"{\"day\":\"2024-01-20\"}");
-
-const FEBRUARY_1: Body = Body::Text(b"{\"day\":\"2024-02-01\"}");
-
-const PERIOD_1: Body = Body::Text(b"{\"period\":\"24011\"}");
-
-const PERIOD_2: Body = Body::Text(b"{\"period\":\"24012\"}");
 
 const UPHOLD: &[u8] = b"/airlines/125/memos/uphold";
 
@@ -209,8 +200,6 @@ const ACTED_ON: Wanted = Wanted::Json(
     200,
     b"{\"memos\":[{\"agent\":\"12345675\",\"airline\":\"125\",\"amount\":5000,\"billed\":null,\"document\":\"6000000001\",\"issued\":\"2024-01-05\",\"kind\":\"ADMA\",\"reason\":\"fare\",\"state\":\"upheld\"},{\"agent\":\"12345675\",\"airline\":\"125\",\"amount\":5000,\"billed\":null,\"document\":\"6000000002\",\"issued\":\"2024-01-05\",\"kind\":\"ADMA\",\"reason\":\"fare\",\"state\":\"withdrawn\"},{\"agent\":\"12345675\",\"airline\":\"125\",\"amount\":100,\"billed\":null,\"document\":\"6000000003\",\"issued\":\"2024-01-05\",\"kind\":\"ACMA\",\"reason\":\"fare\",\"state\":\"open\"}]}",
 );
-
-const NO_MEMOS: Wanted = Wanted::Json(200, b"{\"memos\":[]}");
 
 /// A memo is upheld, one is withdrawn, and a credit memo allows no action.
 static ACTIONS: [Row; 11] = [

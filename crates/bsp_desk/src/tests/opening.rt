@@ -106,3 +106,15 @@ pub(super) static OPENED: [Row; 7] = [
     Row(OFFICE, b"/office/stock/allot", RANGE_OF_A, DONE),
     Row(OFFICE, b"/office/stock/allot", RANGE_OF_B, DONE),
 ];
+
+pub(super) const FEBRUARY_1: Body = Body::Text(b"{\"day\":\"2024-02-01\"}");
+
+pub(super) const PERIOD_1: Body = Body::Text(b"{\"period\":\"24011\"}");
+
+pub(super) const PERIOD_2: Body = Body::Text(b"{\"period\":\"24012\"}");
+
+pub(super) const DEBIT_1: Body = Body::Text(
+    b"{\"agent\":\"12345675\",\"amount\":5000,\"document\":\"6000000001\",\"kind\":\"ADMA\",\"reason\":\"fare\"}",
+);
+
+pub(super) const TO_3000: Body = Body::Text(b"{\"amount\":3000,\"document\":\"6000000001\"}");

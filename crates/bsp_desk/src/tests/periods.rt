@@ -1,7 +1,10 @@
 //! Closed periods: what they keep, and their reports.
 
 use super::files::{CANX, CARD_SALE, SALE_OF_B, THREE_SALES, V1};
-use super::opening::{A, AIRLINE_125, AIRLINE_220, B, LIMITED_TO_TWO, OFFICE, OPENED, PLANNED};
+use super::opening::{
+    A, AIRLINE_125, AIRLINE_220, B, FEBRUARY_1, LIMITED_TO_TWO, OFFICE, OPENED, PERIOD_1, PERIOD_2,
+    PLANNED,
+};
 use super::replies::{ACCEPTED, DONE, E09, H02, HELD, P04, P06, P07, S01};
 use super::{Body, Row, Wanted, follows};
 
@@ -16,12 +19,6 @@ const RET_OF_B: &[u8] = b"/agents/76543213/ret";
 const JANUARY_15: Body = Body::Text(b"{\"day\":\"2024-01-15\"}");
 
 const JANUARY_16: Body = Body::Text(b"{\"day\":\"2024-01-16\"}");
-
-const FEBRUARY_1: Body = Body::Text(b"{\"day\":\"2024-02-01\"}");
-
-const PERIOD_1: Body = Body::Text(b"{\"period\":\"24011\"}");
-
-const PERIOD_2: Body = Body::Text(b"{\"period\":\"24012\"}");
 
 /// Example 15.
 static CLOSED_ONCE_OVER: [Row; 8] = [

@@ -75,3 +75,20 @@ pub(super) const D01: Wanted = Wanted::Json(404, b"{\"code\":\"D01\"}");
 pub(super) const S01: Wanted = Wanted::Json(409, b"{\"code\":\"S01\"}");
 
 pub(super) const H02: Wanted = Wanted::Json(409, b"{\"code\":\"H02\"}");
+
+pub(super) const NO_MEMOS: Wanted = Wanted::Json(200, b"{\"memos\":[]}");
+
+pub(super) const ONE_USED: Wanted = Wanted::Json(
+    200,
+    b"{\"ranges\":[{\"first\":\"1300000000\",\"last\":\"1300000099\",\"used\":1}]}",
+);
+
+pub(super) const NONE_COUNTED: Wanted = Wanted::Json(
+    200,
+    b"{\"closed\":false,\"documents\":0,\"net\":\"0.00\",\"period\":\"24011\"}",
+);
+
+pub(super) const ONE_SOLD: Wanted = Wanted::Json(
+    200,
+    b"{\"closed\":false,\"documents\":1,\"net\":\"225.00\",\"period\":\"24011\"}",
+);

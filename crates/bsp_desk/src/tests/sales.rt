@@ -5,7 +5,7 @@ use super::files::{
     SALE_AND_CANX, SALE_OF_5, V1,
 };
 use super::opening::{A, OPENED, PLANNED};
-use super::replies::{ACCEPTED, E06, E09, HELD_SALE};
+use super::replies::{ACCEPTED, E06, E09, HELD_SALE, NONE_COUNTED, ONE_SOLD, ONE_USED};
 use super::{Body, Row, Wanted, follows};
 
 const RET: &[u8] = b"/agents/12345675/ret";
@@ -22,19 +22,9 @@ const DOCUMENT_5: &[u8] = b"/agents/12345675/documents/1300000005";
 
 const STOCK: &[u8] = b"/agents/12345675/stock";
 
-const ONE_SOLD: Wanted = Wanted::Json(
-    200,
-    b"{\"closed\":false,\"documents\":1,\"net\":\"225.00\",\"period\":\"24011\"}",
-);
-
 const ALIVE: Wanted = Wanted::Json(
     200,
     b"{\"airline\":\"125\",\"cash\":23500,\"code\":\"TKTT\",\"commission\":1000,\"credit\":0,\"issued\":\"2024-01-05\",\"period\":\"24011\",\"state\":\"alive\"}",
-);
-
-const ONE_USED: Wanted = Wanted::Json(
-    200,
-    b"{\"ranges\":[{\"first\":\"1300000000\",\"last\":\"1300000099\",\"used\":1}]}",
 );
 
 /// Example 5.
@@ -127,11 +117,6 @@ const BOTH_ACCEPTED: Wanted = Wanted::Json(
 const BOTH_HELD: Wanted = Wanted::Json(
     200,
     b"{\"results\":[{\"n\":1,\"period\":\"24011\",\"verdict\":\"held\"},{\"n\":2,\"period\":\"24011\",\"verdict\":\"held\"}]}",
-);
-
-const NONE_COUNTED: Wanted = Wanted::Json(
-    200,
-    b"{\"closed\":false,\"documents\":0,\"net\":\"0.00\",\"period\":\"24011\"}",
 );
 
 const CANCELLED: Wanted = Wanted::Json(

@@ -2,7 +2,7 @@
 
 use super::files::V1;
 use super::opening::{A, B, OFFICE, OPENED, PLANNED, RANGE_OF_A, RANGE_OF_B};
-use super::replies::{ACCEPTED, DONE, K03, K04, K05};
+use super::replies::{ACCEPTED, DONE, K03, K04, K05, ONE_USED};
 use super::{Body, Row, Wanted, follows};
 
 const ALLOT: &[u8] = b"/office/stock/allot";
@@ -15,11 +15,6 @@ const OVERLAPPING: Body = Body::Text(
 
 const PART: Body = Body::Text(
     b"{\"agent\":\"12345675\",\"first\":\"1300000000\",\"last\":\"1300000050\"}",
-);
-
-const ONE_USED: Wanted = Wanted::Json(
-    200,
-    b"{\"ranges\":[{\"first\":\"1300000000\",\"last\":\"1300000099\",\"used\":1}]}",
 );
 
 const NO_RANGES: Wanted = Wanted::Json(200, b"{\"ranges\":[]}");

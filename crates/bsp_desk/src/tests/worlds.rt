@@ -2,7 +2,7 @@
 
 use super::files::{REFUND_OF_B, REFUND_OF_NOBODY, SALE_OF_B, V1, V1_OF_B};
 use super::opening::{A, B, OPENED, PLANNED};
-use super::replies::{ACCEPTED, D01, E05, E08, N01};
+use super::replies::{ACCEPTED, D01, E05, E08, N01, NO_MEMOS, NONE_COUNTED, ONE_SOLD};
 use super::{Body, Row, Wanted, follows};
 
 const RET: &[u8] = b"/agents/76543213/ret";
@@ -44,22 +44,10 @@ fn a_ticket_of_nobody_is_not_found(rt: HostRuntime) {
     );
 }
 
-const NOTHING_COUNTED: Wanted = Wanted::Json(
-    200,
-    b"{\"closed\":false,\"documents\":0,\"net\":\"0.00\",\"period\":\"24011\"}",
-);
-
-const ONE_COUNTED: Wanted = Wanted::Json(
-    200,
-    b"{\"closed\":false,\"documents\":1,\"net\":\"225.00\",\"period\":\"24011\"}",
-);
-
 const UNUSED: Wanted = Wanted::Json(
     200,
     b"{\"ranges\":[{\"first\":\"1400000000\",\"last\":\"1400000099\",\"used\":0}]}",
 );
-
-const NO_MEMOS: Wanted = Wanted::Json(200, b"{\"memos\":[]}");
 
 /// Example 36: all that B asks.
 static ASKED_BY_B: [Row; 10] = [
@@ -76,7 +64,7 @@ static ASKED_BY_B: [Row; 10] = [
         B,
         b"/agents/76543213/periods/24011",
         Body::Missing,
-        NOTHING_COUNTED,
+        NONE_COUNTED,
     ),
     Row(B, b"/agents/76543213/stock", Body::Missing, UNUSED),
     Row(B, b"/agents/76543213/memos", Body::Missing, NO_MEMOS),
@@ -91,12 +79,12 @@ static ASKED_BY_B: [Row; 10] = [
         B,
         b"/agents/76543213/periods/24011",
         Body::Missing,
-        ONE_COUNTED,
+        ONE_SOLD,
     ),
 ];
 
 #[test]
-fn an_agent_is_replied_to_so_where_another_holds_the_ticket(rt: HostRuntime) {
+fn an_agent_has_the_same_replies_where_another_holds_the_ticket(rt: HostRuntime) {
     assert_eq!(rt;
         follows(rt.alloc(), &[&PLANNED, &OPENED, &REPORTED, &ASKED_BY_B]),
         Ok(())
@@ -104,7 +92,7 @@ fn an_agent_is_replied_to_so_where_another_holds_the_ticket(rt: HostRuntime) {
 }
 
 #[test]
-fn an_agent_is_replied_to_so_where_nobody_holds_the_ticket(rt: HostRuntime) {
+fn an_agent_has_the_same_replies_where_nobody_holds_the_ticket(rt: HostRuntime) {
     assert_eq!(rt;
         follows(rt.alloc(), &[&PLANNED, &OPENED, &ASKED_BY_B]),
         Ok(())

@@ -2,9 +2,8 @@ use Rattle.std.proofs.Common.{sym, ap, ◌∙◌}
 use Rattle.std.specs.FinMap.{empty, from_entries}
 use Rattle.std.specs.Map.Iter.{deref_pair}
 use Rattle.std.proofs.lemmas.Map.Iter.{rest_all}
-use Rattle.bsp_maps.specs.Present.{with_present}
 use Rattle.bsp_maps.proofs.OrderLemmas.{in_order}
-use Rattle.bsp_maps.proofs.PresentLemmas.{with_present-empty}
+use Rattle.bsp_maps.proofs.PresentLemmas.{with_present, with_present-empty}
 use Rattle.bsp_maps.proofs.present.present_entries.Goals as goal
 
 pub returns : goal.returns

@@ -1,6 +1,6 @@
 use Rattle.std.proofs.Common.{◌≡◌}
 use Rattle.std.specs.FinMap.{empty, from_entries}
-use Rattle.bsp_maps.specs.Present.{with_present}
+use Rattle.bsp_maps.proofs.PresentLemmas.{with_present}
 use Rattle.bsp_maps.proofs.present.present_entries.Given as goal
 
 abbrev pub invariant-loop-key : goal.invariant-loop-key

@@ -1,7 +1,6 @@
 use Rattle.std.proofs.Common.{sym, ap, ◌∙◌}
-use Rattle.bsp_maps.specs.Present.{flat}
 use Rattle.bsp_maps.specs.Undo.{content}
-use Rattle.bsp_maps.proofs.PresentLemmas.{get-present}
+use Rattle.bsp_maps.proofs.PresentLemmas.{flat, get-present}
 use Rattle.bsp_rows.specs.Rows.{range_cmp}
 use Rattle.bsp_rows.proofs.KeyOrders.{range_total}
 use Rattle.bsp_row_tables.proofs.ranges.RangeTable.get.Goals as goal

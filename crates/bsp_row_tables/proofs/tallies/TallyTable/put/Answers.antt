@@ -25,9 +25,9 @@ returns-clause-kept c =
     let rows = content tally_cmp c.args.self.now.rows in
     let airlines = members airline_cmp tally_cmp c.relocate.new.self in
     let periods = members nat_cmp tally_cmp c.relocate-2.new.self in
-    then_ok c.put.result (λ e h. tallies_same (insert rows key tally) (content tally_cmp c.put.new.self) airlines airlines periods periods e refl refl (record {
+    then_ok c.relocate-2.result (λ moved h. tallies_same (insert rows key tally) (content tally_cmp c.replace.new.self) airlines airlines periods periods c.in_ok-old.ensures.ok refl refl (record {
       by_airline = index_written airline_cmp tally_cmp tally_airline_place tally_total tally_exact rows key tally (members airline_cmp tally_cmp c.args.self.now.by_airline) airlines c.tally_airline_place.result c.tally_airline_place-2.result
-          (c.tally_airline_place.ensures ∙ ap (found_place tally_airline_place key) c.get-old.ensures) c.tally_airline_place-2.ensures c.in_ok-relocate.ensures.ok h.by_airline;
+          (c.tally_airline_place.ensures ∙ ap (found_place tally_airline_place key) c.in_ok-old.ensures.old) c.tally_airline_place-2.ensures c.in_ok-relocate.ensures.ok h.by_airline;
       by_period = index_written nat_cmp tally_cmp tally_period_place tally_total tally_exact rows key tally (members nat_cmp tally_cmp c.args.self.now.by_period) periods c.tally_period_place.result c.tally_period_place-2.result
-          (c.tally_period_place.ensures ∙ ap (found_place tally_period_place key) c.get-old.ensures) c.tally_period_place-2.ensures c.in_ok-relocate-2.ensures.ok h.by_period;
-    })) c.put.ensures.ok
+          (c.tally_period_place.ensures ∙ ap (found_place tally_period_place key) c.in_ok-old.ensures.old) c.tally_period_place-2.ensures moved h.by_period;
+    })) c.relocate-2.ensures.ok
