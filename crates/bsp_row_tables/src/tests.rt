@@ -1,9 +1,10 @@
 //! Look-ups after writes, and after these were taken back.
 
 use crate::*;
-use bsp_fields::{AgentCode, AirlineCode, DocNumber, PeriodCode};
+use bsp_fields::{AgentCode, AirlineCode, Amount, Day, DocNumber, PeriodCode};
+use bsp_memos::{Memo, MemoFields, MemoKind, MemoState, Reason};
 use bsp_postings::Tally;
-use bsp_rows::{RangeKey, TallyKey};
+use bsp_rows::{MemoKey, RangeKey, TallyKey};
 use bsp_rules::Range;
 use std::alloc::Global;
 
@@ -169,4 +170,51 @@ fn tallies(alloc: Global) -> Option<[usize; 2]> {
 #[test]
 fn a_roll_back_takes_out_a_new_tally(rt: HostRuntime) {
     assert_eq!(rt; tallies(rt.alloc()), Some([2, 1]));
+}
+
+// ---- memos
+
+/// An agreed memo to the first agent.
+fn memo(billed: Option<PeriodCode>) -> Option<Memo> {
+    let [agent, _] = agents()?;
+    let amount = Amount::new(3_000).ok()?;
+    Memo::restore(MemoFields {
+        airline: AirlineCode::read(b"125").ok()?,
+        document: DocNumber::read_unchecked(b"6000000001").ok()?,
+        agent,
+        kind: MemoKind::Debit,
+        amount,
+        issued_amount: amount,
+        reason: Reason::read(b"fare difference")?,
+        issued: Day::read_text(b"2024-01-05").ok()?,
+        state: MemoState::Agreed,
+        billed,
+    })
+}
+
+fn write(table: &mut MemoTable, memo: &Memo) -> Option<()> {
+    let key = MemoKey::of(memo.fields());
+    let old = table.get(key);
+    table.put(&key, &old, memo).ok()
+}
+
+fn unbilled(alloc: Global, table: &MemoTable) -> Option<usize> {
+    Some(table.unbilled(alloc).ok()?.len())
+}
+
+/// How many memos are unbilled once the memo is issued, once it is billed, and once that is taken back.
+fn unbilled_counts(alloc: Global) -> Option<[usize; 3]> {
+    let mut table = MemoTable::new(alloc);
+    write(&mut table, &memo(None)?)?;
+    table.commit();
+    let issued = unbilled(alloc, &table)?;
+    write(&mut table, &memo(PeriodCode::read(b"24011").ok())?)?;
+    let billed = unbilled(alloc, &table)?;
+    table.roll_back();
+    Some([issued, billed, unbilled(alloc, &table)?])
+}
+
+#[test]
+fn a_roll_back_leaves_a_memo_unbilled(rt: HostRuntime) {
+    assert_eq!(rt; unbilled_counts(rt.alloc()), Some([1, 0, 1]));
 }
