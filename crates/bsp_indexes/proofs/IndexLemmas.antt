@@ -7,8 +7,13 @@ use Rattle.std.specs.FinMap.{FinMap, IsAntisymmetric, contains_key-keys, empty, 
 use Rattle.bsp_maps.proofs.PickLemmas.{AreAmong}
 use Rattle.bsp_maps.specs.Present.{present_entry}
 use Rattle.bsp_maps.specs.Windows.{entries_in}
-use Rattle.bsp_indexes.specs.Indexes.{IsAlone, IsIndex, IsLeast, IsMoved, entry_cmp, found_place, here, is_place, keys_at}
+use Rattle.bsp_indexes.specs.Indexes.{IsAlone, IsIndex, IsLeast, IsMoved, entry_cmp, found_place, is_place, keys_at}
 use Rattle.bsp_indexes.proofs.EntryLemmas.{entry_tied, tied}
+
+-- the key of an entry, if it is there
+abbrev pub here : {P K : Type 0} → (P × K) × Option (Unit {0}) → Option K
+here (e, None) = None
+here (e, Some u) = Some e.1
 
 -- ---- a row is written
 

@@ -57,11 +57,6 @@ module _ {P K : Type 0} (RP : P → P → Ordering) (RK : K → K → Ordering) 
   abbrev pub IsMoved : K → Option P → FinMap (entry_cmp RP RK) (Unit {0}) → FinMap (entry_cmp RP RK) (Unit {0}) → Type 0
   IsMoved key to old new = (place : P) (k : K) → contains_key new (place, k) ≡ cond (eq_by_cmp RK k key) (is_place to place) (contains_key old (place, k))
 
--- the key of an entry, if it is there
-abbrev pub here : {P K : Type 0} → (P × K) × Option (Unit {0}) → Option K
-here (e, None) = None
-here (e, Some u) = Some e.1
-
 -- ---- the index of rows
 
 -- the place of the row that is found, if one is

@@ -6,7 +6,12 @@ use Rattle.std.specs.Map.{keys_of}
 use Rattle.std.specs.Ordering.{is_le}
 use Rattle.std.specs.BTreeMap.Range.{range_contains, entries_between}
 use Rattle.std.specs.declared.ops.Bound.TheVariants.{Included, Unbounded}
-use Rattle.bsp_maps.specs.Windows.{entries_in, front}
+use Rattle.bsp_maps.specs.Windows.{entries_in}
+
+-- the entries from the front on whose keys are in the window
+abbrev pub front : {K V : Type 0} → (K → Bool) → List (K × V) → List (K × V)
+front has [] = []
+front has (e ∷ es) = cond (has e.0) (e ∷ front has es) []
 
 no_more : {K : Type 0} (R : K → K → Ordering) (has from : K → Bool) → ((x y : K) → from x ≡ true → R x y ≡ Less → has y ≡ true → has x ≡ true) → (x y : K) (b : Bool) → has y ≡ b → from x ≡ true → has x ≡ false → R x y ≡ Less → b ≡ false
 no_more R has from together x y true is f n up = absurd (cc (together x y f up is))

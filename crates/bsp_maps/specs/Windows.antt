@@ -1,5 +1,5 @@
 -- The entries of a window of keys.
-use Rattle.std.specs.Prelude.{Bool, cond, List, [], ◌∷◌, map}
+use Rattle.std.specs.Prelude.{Bool, List, map}
 use Rattle.std.specs.List.{filter}
 
 -- the entries whose keys are in the window
@@ -9,8 +9,3 @@ entries_in has es = filter (λ e. has e.0) es
 -- their values
 abbrev pub values_in : {K V : Type 0} → (K → Bool) → List (K × V) → List V
 values_in has es = map (λ e. e.1) (entries_in has es)
-
--- the entries from the front on whose keys are in the window
-abbrev pub front : {K V : Type 0} → (K → Bool) → List (K × V) → List (K × V)
-front has [] = []
-front has (e ∷ es) = cond (has e.0) (e ∷ front has es) []

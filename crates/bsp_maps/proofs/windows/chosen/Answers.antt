@@ -3,7 +3,8 @@ use Rattle.std.specs.List.{filter}
 use Rattle.std.specs.Map.Iter.{deref_pair}
 use Rattle.std.proofs.lemmas.List.{append-nil}
 use Rattle.std.proofs.lemmas.Map.Iter.{rest_more, rest_all}
-use Rattle.bsp_maps.specs.Windows.{front, entries_in}
+use Rattle.bsp_maps.specs.Windows.{entries_in}
+use Rattle.bsp_maps.proofs.WindowLemmas.{front}
 use Rattle.bsp_maps.proofs.WindowLemmas.{from_low}
 use Rattle.bsp_maps.proofs.windows.chosen.Goals.{in-None, in-Some+then-not-has}
 use Rattle.bsp_maps.proofs.windows.chosen.Goals as goal

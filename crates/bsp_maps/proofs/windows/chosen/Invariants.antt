@@ -2,7 +2,7 @@ use Rattle.std.proofs.Common.{◌≡◌, ◌++◌, map}
 use Rattle.std.specs.List.{filter}
 use Rattle.std.specs.BTreeMap.Range.{entries_between}
 use Rattle.std.specs.declared.ops.Bound.TheVariants.{Included, Unbounded}
-use Rattle.bsp_maps.specs.Windows.{front}
+use Rattle.bsp_maps.proofs.WindowLemmas.{front}
 use Rattle.bsp_maps.proofs.windows.chosen.Given as goal
 
 abbrev pub invariant-loop-key : goal.invariant-loop-key

@@ -1,7 +1,7 @@
 use Rattle.std.proofs.Common.{ap, ◌∙◌}
 use Rattle.std.specs.BTreeMap.Range.{entries_between}
 use Rattle.std.specs.declared.ops.Bound.TheVariants.{Included, Unbounded}
-use Rattle.bsp_maps.specs.Windows.{front}
+use Rattle.bsp_maps.proofs.WindowLemmas.{front}
 use Rattle.bsp_maps.proofs.WindowLemmas.{from_low, none_in, first_decides}
 use Rattle.bsp_maps.proofs.windows.has_any.Goals as goal
 

@@ -2,7 +2,7 @@ use Rattle.std.proofs.Common.{◌≡◌, cond, [], ◌∷◌, ◌++◌, sym, ap,
 use Rattle.std.specs.Map.Iter.{deref_pair}
 use Rattle.std.proofs.lemmas.List.{append-nil}
 use Rattle.std.proofs.lemmas.Map.Iter.{rest_more, rest_all}
-use Rattle.bsp_maps.specs.Windows.{front}
+use Rattle.bsp_maps.proofs.WindowLemmas.{front}
 use Rattle.bsp_maps.proofs.WindowLemmas.{from_low}
 use Rattle.bsp_maps.proofs.windows.window_entries.Goals.{in-None, in-Some+then-not-has}
 use Rattle.bsp_maps.proofs.windows.window_entries.Goals as goal

@@ -1,7 +1,7 @@
 use Rattle.std.proofs.Common.{◌≡◌, ◌++◌}
 use Rattle.std.specs.BTreeMap.Range.{entries_between}
 use Rattle.std.specs.declared.ops.Bound.TheVariants.{Included, Unbounded}
-use Rattle.bsp_maps.specs.Windows.{front}
+use Rattle.bsp_maps.proofs.WindowLemmas.{front}
 use Rattle.bsp_maps.proofs.windows.window_entries.Given as goal
 
 abbrev pub invariant-loop-key : goal.invariant-loop-key

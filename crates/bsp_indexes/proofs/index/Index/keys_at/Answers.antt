@@ -9,13 +9,14 @@ use Rattle.std.specs.Map.Iter.{deref_pair}
 use Rattle.std.proofs.lemmas.List.{append-nil}
 use Rattle.std.proofs.lemmas.Map.Iter.{rest_more, rest_all}
 use Rattle.bsp_maps.specs.Undo.{content}
-use Rattle.bsp_maps.specs.Windows.{front, entries_in}
+use Rattle.bsp_maps.specs.Windows.{entries_in}
+use Rattle.bsp_maps.proofs.WindowLemmas.{front}
 use Rattle.bsp_maps.proofs.ContentLemmas.{of_content}
 use Rattle.bsp_maps.proofs.PresentLemmas.{entries-present}
 use Rattle.bsp_maps.proofs.WindowLemmas.{from_low}
-use Rattle.bsp_indexes.specs.Indexes.{entry_cmp, here}
+use Rattle.bsp_indexes.specs.Indexes.{entry_cmp}
 use Rattle.bsp_indexes.proofs.EntryLemmas.{entry_total}
-use Rattle.bsp_indexes.proofs.IndexLemmas.{here_keys, place_lowest, place_together}
+use Rattle.bsp_indexes.proofs.IndexLemmas.{here, here_keys, place_lowest, place_together}
 use Rattle.bsp_indexes.proofs.index.Index.keys_at.Goals.{in-None, in-Some+then-is_ne}
 use Rattle.bsp_indexes.proofs.index.Index.keys_at.Goals as goal
 

@@ -3,8 +3,9 @@ use Rattle.std.specs.List.{filter_map}
 use Rattle.std.specs.Ordering.{eq_by_cmp}
 use Rattle.std.specs.BTreeMap.Range.{entries_between}
 use Rattle.std.specs.declared.ops.Bound.TheVariants.{Included, Unbounded}
-use Rattle.bsp_maps.specs.Windows.{front}
-use Rattle.bsp_indexes.specs.Indexes.{entry_cmp, here}
+use Rattle.bsp_maps.proofs.WindowLemmas.{front}
+use Rattle.bsp_indexes.specs.Indexes.{entry_cmp}
+use Rattle.bsp_indexes.proofs.IndexLemmas.{here}
 use Rattle.bsp_indexes.proofs.index.Index.keys_at.Given as goal
 
 abbrev pub invariant-loop-entry : goal.invariant-loop-entry
