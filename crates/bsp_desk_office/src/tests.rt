@@ -11,18 +11,18 @@ use std::alloc::Global;
 const PLAN: &[u8] =
     b"currency = \"EUR\"\nreview_days = 14\ndocuments_limit = 1000\nairline = [\"125\", \"220\"]\n[[rate]]\nairline = \"125\"\nfrom = \"2024-01-01\"\nhundredths = 500\n[[period]]\ncode = \"24011\"\nfirst = \"2024-01-01\"\nlast = \"2024-01-15\"\nremit = \"2024-02-15\"\n";
 
-/// What is told of a change: done or held, or its refusal.
-type Told = Option<Result<Change, RequestRefusal>>;
+/// What a change is answered: done or held, or its refusal.
+type Outcome = Option<Result<Change, RequestRefusal>>;
 
-const DONE: Told = Some(Ok(Change::Done));
+const DONE: Outcome = Some(Ok(Change::Done));
 
-const HELD: Told = Some(Ok(Change::Held));
+const HELD: Outcome = Some(Ok(Change::Held));
 
-fn refused(refusal: RequestRefusal) -> Told {
+fn refused(refusal: RequestRefusal) -> Outcome {
     Some(Err(refusal))
 }
 
-fn told(answer: Result<Answer, BookFault>) -> Told {
+fn outcome_of(answer: Result<Answer, BookFault>) -> Outcome {
     match answer {
         Ok(Answer::Changed(change)) => Some(Ok(change)),
         Ok(Answer::Refused(refusal)) => Some(Err(refusal)),
@@ -39,17 +39,17 @@ fn with_plan(alloc: Global) -> ListBook {
 }
 
 /// An airline before and after the plan has it, and again; a malformed body; an agent with a wrong check digit.
-fn registrations(alloc: Global) -> [Told; 6] {
+fn registrations(alloc: Global) -> [Outcome; 6] {
     let mut book = ListBook::new(alloc);
     let _ = book.begin();
     let airline = b"{\"airline\":\"125\",\"token\":\"airlinetoken00001\"}";
     let agent = b"{\"agent\":\"12345674\",\"token\":\"agenttoken000001\"}";
-    let unknown = told(register_airline(alloc, &mut book, airline));
-    let published = told(publish(alloc, &mut book, PLAN));
-    let known = told(register_airline(alloc, &mut book, airline));
-    let again = told(register_airline(alloc, &mut book, airline));
-    let malformed = told(register_airline(alloc, &mut book, b"{\"airline\":\"125\"}"));
-    let wrong = told(register_agent(alloc, &mut book, agent));
+    let unknown = outcome_of(register_airline(alloc, &mut book, airline));
+    let published = outcome_of(publish(alloc, &mut book, PLAN));
+    let known = outcome_of(register_airline(alloc, &mut book, airline));
+    let again = outcome_of(register_airline(alloc, &mut book, airline));
+    let malformed = outcome_of(register_airline(alloc, &mut book, b"{\"airline\":\"125\"}"));
+    let wrong = outcome_of(register_agent(alloc, &mut book, agent));
     [unknown, published, known, again, malformed, wrong]
 }
 
@@ -69,16 +69,16 @@ fn callers_are_registered(rt: HostRuntime) {
 }
 
 /// Registers an agent, and allots it a range.
-fn supply(alloc: Global, book: &mut ListBook, agent: &[u8], range: &[u8]) -> [Told; 2] {
+fn supply(alloc: Global, book: &mut ListBook, agent: &[u8], range: &[u8]) -> [Outcome; 2] {
     [
-        told(register_agent(alloc, book, agent)),
-        told(allot(alloc, book, range)),
+        outcome_of(register_agent(alloc, book, agent)),
+        outcome_of(allot(alloc, book, range)),
     ]
 }
 
 /// Two agents with a range each: an allotment to the second that meets the first's range, a withdrawal of a part of
 /// that range, and one of the second's range.
-fn stock(alloc: Global) -> [Told; 3] {
+fn stock(alloc: Global) -> [Outcome; 3] {
     let mut book = ListBook::new(alloc);
     let _ = book.begin();
     let first = b"{\"agent\":\"12345675\",\"first\":\"1300000000\",\"last\":\"1300000099\"}";
@@ -98,9 +98,9 @@ fn stock(alloc: Global) -> [Told; 3] {
         second,
     );
     [
-        told(allot(alloc, &mut book, meeting)),
-        told(withdraw_range(alloc, &mut book, part)),
-        told(withdraw_range(alloc, &mut book, second)),
+        outcome_of(allot(alloc, &mut book, meeting)),
+        outcome_of(withdraw_range(alloc, &mut book, part)),
+        outcome_of(withdraw_range(alloc, &mut book, second)),
     ]
 }
 
@@ -134,19 +134,19 @@ fn memo() -> Option<Memo> {
 }
 
 /// Closes 24011 on its last day, on the next day, and again.
-fn closes(alloc: Global, book: &mut ListBook) -> [Told; 3] {
+fn closes(alloc: Global, book: &mut ListBook) -> [Outcome; 3] {
     let period = b"{\"period\":\"24011\"}";
     let _ = set_day(alloc, book, b"{\"day\":\"2024-01-15\"}");
-    let early = told(close(alloc, book, period));
+    let early = outcome_of(close(alloc, book, period));
     let _ = set_day(alloc, book, b"{\"day\":\"2024-01-16\"}");
     [
         early,
-        told(close(alloc, book, period)),
-        told(close(alloc, book, period)),
+        outcome_of(close(alloc, book, period)),
+        outcome_of(close(alloc, book, period)),
     ]
 }
 
-fn closes_of_a_period(alloc: Global) -> [Told; 3] {
+fn closes_of_a_period(alloc: Global) -> [Outcome; 3] {
     let mut book = with_plan(alloc);
     closes(alloc, &mut book)
 }

@@ -1,8 +1,9 @@
 //! Answers the requests of worked examples by two desks that are asked the same, and judges the replies.
 //!
 //! At most one allocation of a run is refused, so of two replies one at least is that of ample memory. The
-//! other has to be the same, or 503 B01; then all reports of both desks are still the same, and the request,
-//! made again, has the reply of ample memory. Where a reply's text is known from the example, it is compared too.
+//! other has to be the same, or 503 B01; then the request, made again, has the reply of ample memory. Where the
+//! first desk lacks room, all its reports are compared before that with those of the second. Where a reply's
+//! text is known from the example, it is compared too.
 //!
 //! The status is 0 where each reply was that of ample memory at once, and 2 where one was 503 B01 before. Else
 //! it is 1, and the request is printed.

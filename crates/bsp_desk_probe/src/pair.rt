@@ -1,6 +1,6 @@
 //! Two desks that are asked the same.
 
-ghost use Rattle.std.specs.Prelude.{◌≡◌, true, IsOk, OnErr};
+ghost use Rattle.std.specs.Prelude.{◌≡◌, ◌↔◌, true, Err, IsOk, OnErr};
 
 use crate::asked::{Asked, OFFICE};
 use crate::reports;

@@ -11,7 +11,7 @@ pub fn of_office() -> [Asked<'static>; 2] {
 }
 
 /// What the agents are shown.
-pub fn of_agents() -> [Asked<'static>; 12] {
+pub fn of_agents() -> [Asked<'static>; 14] {
     let (a, b) = (Caller::AgentA, Caller::AgentB);
     [
         a.gets("/agents/12345675/statements/24011", b""),
@@ -23,19 +23,22 @@ pub fn of_agents() -> [Asked<'static>; 12] {
         a.gets("/agents/12345675/stock", b""),
         a.gets("/agents/12345675/memos", b""),
         b.gets("/agents/76543213/statements/24011", b""),
+        b.gets("/agents/76543213/statements/24012", b""),
         b.gets("/agents/76543213/periods/24011", b""),
+        b.gets("/agents/76543213/periods/24012", b""),
         b.gets("/agents/76543213/stock", b""),
         b.gets("/agents/76543213/memos", b""),
     ]
 }
 
 /// What the airlines are shown.
-pub fn of_airlines() -> [Asked<'static>; 5] {
+pub fn of_airlines() -> [Asked<'static>; 6] {
     [
         Caller::Airline125.gets("/airlines/125/hot/24011", b""),
         Caller::Airline125.gets("/airlines/125/hot/24012", b""),
         Caller::Airline125.gets("/airlines/125/memos", b""),
         Caller::Airline220.gets("/airlines/220/hot/24011", b""),
+        Caller::Airline220.gets("/airlines/220/hot/24012", b""),
         Caller::Airline220.gets("/airlines/220/memos", b""),
     ]
 }
