@@ -59,14 +59,14 @@ module _ {P K : Type 0} (RP : P → P → Ordering) (RK : K → K → Ordering) 
   at_entry : (place p : P) (k key : K) → eq_by_cmp (entry_cmp RP RK) (place, k) (p, key) ≡ (eq_by_cmp RK k key && eq_by_cmp RP place p)
   at_entry place p k key = entry_tied RP RK (place, k) (p, key) ∙ turned (eq_by_cmp RP place p) (eq_by_cmp RK k key)
 
-  taken : (key : K) (from : Option P) (m : FinMap (entry_cmp RP RK) (Unit {0})) (place : P) (k : K) → contains_key (without_place RP RK key from m) (place, k) ≡ (not (eq_by_cmp RK k key && is_place RP RK from place) && contains_key m (place, k))
+  taken : (key : K) (from : Option P) (m : FinMap (entry_cmp RP RK) (Unit {0})) (place : P) (k : K) → contains_key (without_place RP RK key from m) (place, k) ≡ (not (eq_by_cmp RK k key && is_place RP from place) && contains_key m (place, k))
   taken key None m place k = ap (λ b. not b && contains_key m (place, k)) (sym (and_false (eq_by_cmp RK k key)))
   taken key (Some p) m place k =
       ap is_some (get-remove (entry_total op ok) m (p, key) (place, k))
       ∙ not_there (eq_by_cmp (entry_cmp RP RK) (place, k) (p, key)) (get m (place, k))
       ∙ ap (λ b. not b && contains_key m (place, k)) (at_entry place p k key)
 
-  added : (key : K) (to : Option P) (m : FinMap (entry_cmp RP RK) (Unit {0})) (place : P) (k : K) → contains_key (with_place RP RK key to m) (place, k) ≡ ((eq_by_cmp RK k key && is_place RP RK to place) || contains_key m (place, k))
+  added : (key : K) (to : Option P) (m : FinMap (entry_cmp RP RK) (Unit {0})) (place : P) (k : K) → contains_key (with_place RP RK key to m) (place, k) ≡ ((eq_by_cmp RK k key && is_place RP to place) || contains_key m (place, k))
   added key None m place k = ap (λ b. b || contains_key m (place, k)) (sym (and_false (eq_by_cmp RK k key)))
   added key (Some p) m place k =
       ap is_some (get-insert (entry_total op ok) m (p, key) tt (place, k))
@@ -83,11 +83,11 @@ module _ {P K : Type 0} (RP : P → P → Ordering) (RK : K → K → Ordering) 
   pub moved : AreExact RP RK → (key : K) (from to : Option P) (old : FinMap (entry_cmp RP RK) (Unit {0})) → IsAlone RP RK key from old → IsMoved RP RK key to old (with_place RP RK key to (without_place RP RK key from old))
   moved exact key from to old alone place k =
       added key to (without_place RP RK key from old) place k
-      ∙ ap (λ b. (eq_by_cmp RK k key && is_place RP RK to place) || b) (taken key from old place k)
-      ∙ here (eq_by_cmp RK k key) (is_place RP RK to place) (is_place RP RK from place) (contains_key old (place, k))
+      ∙ ap (λ b. (eq_by_cmp RK k key && is_place RP to place) || b) (taken key from old place k)
+      ∙ here (eq_by_cmp RK k key) (is_place RP to place) (is_place RP from place) (contains_key old (place, k))
       (λ tie. ap (λ (j : K). contains_key old (place, j)) (exact.keys k key (tied (RK k key) tie)) ∙ alone place)
 
-  alike : (from to : Option P) → option_cmp RP from to ≡ Equal → (place : P) → is_place RP RK from place ≡ is_place RP RK to place
+  alike : (from to : Option P) → option_cmp RP from to ≡ Equal → (place : P) → is_place RP from place ≡ is_place RP to place
   alike None None same place = refl
   alike None (Some q) same place = absurd (cc)
   alike (Some p) None same place = absurd (cc)
@@ -100,5 +100,5 @@ module _ {P K : Type 0} (RP : P → P → Ordering) (RK : K → K → Ordering) 
   -- or is there already
   pub stayed : AreExact RP RK → (key : K) (from to : Option P) (old : FinMap (entry_cmp RP RK) (Unit {0})) → option_cmp RP from to ≡ Equal → IsAlone RP RK key from old → IsMoved RP RK key to old old
   stayed exact key from to old same alone place k =
-      stayed_at (eq_by_cmp RK k key) (is_place RP RK to place) (contains_key old (place, k))
+      stayed_at (eq_by_cmp RK k key) (is_place RP to place) (contains_key old (place, k))
       (λ tie. ap (λ (j : K). contains_key old (place, j)) (exact.keys k key (tied (RK k key) tie)) ∙ alone place ∙ alike from to same place)

@@ -20,23 +20,23 @@ here (e, Some u) = Some e.1
 module _ {P K V : Type 0} (RP : P → P → Ordering) (RK : K → K → Ordering) (place : K → V → Option P) where
   -- of no rows
   pub nothing_indexed : IsIndex RP RK place empty empty
-  nothing_indexed k p = ap is_some (get-empty (entry_cmp RP RK) (p, k)) ∙ ap (λ (w : Option V). is_place RP RK (found_place place k w) p) (sym (get-empty RK k))
+  nothing_indexed k p = ap is_some (get-empty (entry_cmp RP RK) (p, k)) ∙ ap (λ (w : Option V). is_place RP (found_place place k w) p) (sym (get-empty RK k))
 
   -- of equal maps
   pub index_same : (rows others : FinMap RK V) (old new : FinMap (entry_cmp RP RK) (Unit {0})) → others ≡ rows → new ≡ old → IsIndex RP RK place rows old → IsIndex RP RK place others new
   index_same rows others old new p q is = subst (λ (m : FinMap RK V). IsIndex RP RK place m new) (sym p) (subst (λ (m : FinMap (entry_cmp RP RK) (Unit {0})). IsIndex RP RK place rows m) (sym q) is)
 
   module _ (ok : IsTotalOrder RK) (exact : IsAntisymmetric RK) (rows : FinMap RK V) (key : K) (v : V) (old new : FinMap (entry_cmp RP RK) (Unit {0})) where
-    row_at : (k : K) (p : P) (b : Bool) → eq_by_cmp RK k key ≡ b → cond b (is_place RP RK (place key v) p) (is_place RP RK (found_place place k (get rows k)) p) ≡ is_place RP RK (found_place place k (cond b (Some v) (get rows k))) p
-    row_at k p true tie = ap (λ (j : K). is_place RP RK (place j v) p) (sym (exact k key (tied (RK k key) tie)))
+    row_at : (k : K) (p : P) (b : Bool) → eq_by_cmp RK k key ≡ b → cond b (is_place RP (place key v) p) (is_place RP (found_place place k (get rows k)) p) ≡ is_place RP (found_place place k (cond b (Some v) (get rows k))) p
+    row_at k p true tie = ap (λ (j : K). is_place RP (place j v) p) (sym (exact k key (tied (RK k key) tie)))
     row_at k p false tie = refl
 
     written : IsIndex RP RK place rows old → IsMoved RP RK key (place key v) old new → IsIndex RP RK place (insert rows key v) new
     written is move k p =
         move p k
-        ∙ ap (cond (eq_by_cmp RK k key) (is_place RP RK (place key v) p)) (is k p)
+        ∙ ap (cond (eq_by_cmp RK k key) (is_place RP (place key v) p)) (is k p)
         ∙ row_at k p (eq_by_cmp RK k key) refl
-        ∙ ap (λ (w : Option V). is_place RP RK (found_place place k w) p) (sym (get-insert ok rows key v k))
+        ∙ ap (λ (w : Option V). is_place RP (found_place place k w) p) (sym (get-insert ok rows key v k))
 
     -- its key was moved from the place of the row that was there to that of the one that is
     pub index_written : (from to : Option P) → from ≡ found_place place key (get rows key) → to ≡ place key v → (IsAlone RP RK key from old → IsMoved RP RK key to old new) → IsIndex RP RK place rows old → IsIndex RP RK place (insert rows key v) new
@@ -46,7 +46,7 @@ module _ {P K V : Type 0} (RP : P → P → Ordering) (RK : K → K → Ordering
   -- ---- a row is taken out
 
   module _ (ok : IsTotalOrder RK) (rows : FinMap RK V) (key : K) (old new : FinMap (entry_cmp RP RK) (Unit {0})) where
-    row_out : (k : K) (p : P) (b : Bool) → cond b false (is_place RP RK (found_place place k (get rows k)) p) ≡ is_place RP RK (found_place place k (cond b None (get rows k))) p
+    row_out : (k : K) (p : P) (b : Bool) → cond b false (is_place RP (found_place place k (get rows k)) p) ≡ is_place RP (found_place place k (cond b None (get rows k))) p
     row_out k p true = refl
     row_out k p false = refl
 
@@ -55,7 +55,7 @@ module _ {P K V : Type 0} (RP : P → P → Ordering) (RK : K → K → Ordering
         move p k
         ∙ ap (cond (eq_by_cmp RK k key) false) (is k p)
         ∙ row_out k p (eq_by_cmp RK k key)
-        ∙ ap (λ (w : Option V). is_place RP RK (found_place place k w) p) (sym (get-remove ok rows key k))
+        ∙ ap (λ (w : Option V). is_place RP (found_place place k w) p) (sym (get-remove ok rows key k))
 
     -- its key was taken from the place of the row that was there
     pub index_taken : (from : Option P) → from ≡ found_place place key (get rows key) → (IsAlone RP RK key from old → IsMoved RP RK key None old new) → IsIndex RP RK place rows old → IsIndex RP RK place (remove rows key) new
@@ -73,10 +73,10 @@ module _ {P K : Type 0} (RP : P → P → Ordering) (RK : K → K → Ordering) 
     at false rest = rest
 
   -- each key whose row passes is among them, where what passes is at the place
-  pub index_among : {V : Type 0} (place : K → V → Option P) (holds : K → V → Bool) (p : P) → ((k : K) (v : V) → holds k v ≡ true → is_place RP RK (place k v) p ≡ true) → (rows : FinMap RK V) (index : FinMap (entry_cmp RP RK) (Unit {0})) → IsIndex RP RK place rows index → AreAmong holds rows (keys_at RP RK p index)
+  pub index_among : {V : Type 0} (place : K → V → Option P) (holds : K → V → Bool) (p : P) → ((k : K) (v : V) → holds k v ≡ true → is_place RP (place k v) p ≡ true) → (rows : FinMap RK V) (index : FinMap (entry_cmp RP RK) (Unit {0})) → IsIndex RP RK place rows index → AreAmong holds rows (keys_at RP RK p index)
   index_among place holds p at rows index is k v found passes =
       sym (contains_key-keys index (p, k) ∙ any_at p k (entries index))
-      ∙ is k p ∙ ap (λ w. is_place RP RK (found_place place k w) p) found ∙ at k v passes
+      ∙ is k p ∙ ap (λ w. is_place RP (found_place place k w) p) found ∙ at k v passes
 
   -- ---- where they are
 

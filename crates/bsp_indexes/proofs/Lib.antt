@@ -1,3 +1,4 @@
 pub mod EntryLemmas
 pub mod IndexLemmas
 pub mod FirstLemmas
+pub mod CountLemmas

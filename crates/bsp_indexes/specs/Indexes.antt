@@ -17,6 +17,11 @@ pub record AreExact {P K : Type 0} (RP : P → P → Ordering) (RK : K → K →
 abbrev pub IsLeast : {K : Type 0} → (K → K → Ordering) → K → Type 0
 IsLeast {K} R least = (k : K) → is_le (R least k) ≡ true
 
+-- it is this place
+abbrev pub is_place : {P : Type 0} → (P → P → Ordering) → Option P → P → Bool
+is_place R None place = false
+is_place R (Some p) place = eq_by_cmp R place p
+
 -- ---- the entries of an index
 
 -- by place, and then by key
@@ -44,18 +49,13 @@ module _ {P K : Type 0} (RP : P → P → Ordering) (RK : K → K → Ordering) 
   with_place key None index = index
   with_place key (Some place) index = insert index (place, key) tt
 
-  -- it is this place
-  abbrev pub is_place : Option P → P → Bool
-  is_place None place = false
-  is_place (Some p) place = eq_by_cmp RP place p
-
   -- a key is at one place alone, or at none
   abbrev pub IsAlone : K → Option P → FinMap (entry_cmp RP RK) (Unit {0}) → Type 0
-  IsAlone key at index = (place : P) → contains_key index (place, key) ≡ is_place at place
+  IsAlone key at index = (place : P) → contains_key index (place, key) ≡ is_place RP at place
 
   -- a key is at this place alone now, and each other key where it was
   abbrev pub IsMoved : K → Option P → FinMap (entry_cmp RP RK) (Unit {0}) → FinMap (entry_cmp RP RK) (Unit {0}) → Type 0
-  IsMoved key to old new = (place : P) (k : K) → contains_key new (place, k) ≡ cond (eq_by_cmp RK k key) (is_place to place) (contains_key old (place, k))
+  IsMoved key to old new = (place : P) (k : K) → contains_key new (place, k) ≡ cond (eq_by_cmp RK k key) (is_place RP to place) (contains_key old (place, k))
 
 -- ---- the index of rows
 

@@ -74,3 +74,32 @@ fn the_first_key_from_a_place_on_is_found(rt: HostRuntime) -> Result<(), Fail> {
     assert_eq!(rt; firsts(rt.alloc())?, wanted);
     Ok(())
 }
+
+/// Two rows at place 1 and one at place 3, kept.
+fn counted(alloc: Global) -> Result<Counts<u32>, Fail> {
+    let mut counts = Counts::new(alloc);
+    counts.relocate(None, 1)?;
+    counts.relocate(None, 1)?;
+    counts.relocate(None, 3)?;
+    counts.commit();
+    Ok(counts)
+}
+
+/// The counts of places 1, 2 and 3 once a row moved from 1 to 2, one stayed at 3, and one came to 2.
+fn recounted(alloc: Global) -> Result<([u64; 3], [u64; 3]), Fail> {
+    let mut counts = counted(alloc)?;
+    counts.relocate(Some(1), 2)?;
+    counts.relocate(Some(3), 3)?;
+    counts.relocate(None, 2)?;
+    let moved = [1, 2, 3].map(|place| counts.at(place));
+    counts.roll_back();
+    Ok((moved, [1, 2, 3].map(|place| counts.at(place))))
+}
+
+#[test]
+fn a_row_is_counted_where_it_is_until_a_roll_back(rt: HostRuntime) -> Result<(), Fail> {
+    let (moved, rolled_back) = recounted(rt.alloc())?;
+    assert_eq!(rt; moved, [1, 2, 1]);
+    assert_eq!(rt; rolled_back, [2, 0, 1]);
+    Ok(())
+}

@@ -13,9 +13,10 @@ use Rattle.bsp_postings.specs.declared.tally.Tally.{Tally}
 use Rattle.bsp_rows.specs.Rows.{is_of_airline, is_unbilled, item_cmp, memo_cmp, range_cmp}
 use Rattle.bsp_maps.proofs.Orderings.{then_equal}
 use Rattle.bsp_rows.proofs.KeyOrders.{item_exact, memo_exact, range_exact, tally_exact}
-use Rattle.bsp_row_tables.specs.Places.{airline_cmp, at_airline, item_place, one_cmp, tally_airline_place, tally_period_place, agent_place, unbilled_at, unbilled_place}
+use Rattle.bsp_row_tables.specs.Places.{airline_cmp, at_airline, item_place, one_cmp, parties_cmp, tally_airline_place, tally_period_place, agent_place, unbilled_at, unbilled_place}
 use Rattle.bsp_row_tables.specs.Windows.{and_first, and_second, false_first, first_item, first_memo, first_range, first_tally, from_least, least, ties}
 use Rattle.bsp_row_tables.specs.declared.places.AirlinePeriod.{AirlinePeriod}
+use Rattle.bsp_row_tables.specs.declared.places.Parties.{Parties}
 
 airline_exact : IsAntisymmetric airline_cmp
 airline_exact x y e =
@@ -23,6 +24,13 @@ airline_exact x y e =
     let a = nat_cmp-IsAntisymmetric x.airline y.airline both.0 in
     let p = nat_cmp-IsAntisymmetric x.period y.period both.1 in
     λ i. record { airline = a i; period = p i }
+
+pub parties_exact : IsAntisymmetric parties_cmp
+parties_exact x y e =
+    let both = then_equal (nat_cmp x.airline y.airline) (nat_cmp x.agent y.agent) e in
+    let a = nat_cmp-IsAntisymmetric x.airline y.airline both.0 in
+    let g = nat_cmp-IsAntisymmetric x.agent y.agent both.1 in
+    λ i. record { airline = a i; agent = g i }
 
 one_exact : IsAntisymmetric one_cmp
 one_exact x y e = refl
@@ -61,14 +69,14 @@ least_item_key k = from_least k.agent _ (from_least k.number _ (false_first k.is
 
 -- ---- rows at a place
 
-pub at_agent : (agent : ℕ) (k : MemoKey) (m : MemoFields) → (m.agent == agent) ≡ true → is_place nat_cmp memo_cmp (agent_place k m) agent ≡ true
+pub at_agent : (agent : ℕ) (k : MemoKey) (m : MemoFields) → (m.agent == agent) ≡ true → is_place nat_cmp (agent_place k m) agent ≡ true
 at_agent agent k m is = ap is_eq (ties agent m.agent is)
 
-due : (billed : Option ℕ) → not (is_some billed) ≡ true → is_place one_cmp memo_cmp (unbilled_at billed) tt ≡ true
+due : (billed : Option ℕ) → not (is_some billed) ≡ true → is_place one_cmp (unbilled_at billed) tt ≡ true
 due None is = refl
 due (Some period) is = absurd (cc)
 
-pub at_unbilled : (k : MemoKey) (m : MemoFields) → is_unbilled m ≡ true → is_place one_cmp memo_cmp (unbilled_place k m) tt ≡ true
+pub at_unbilled : (k : MemoKey) (m : MemoFields) → is_unbilled m ≡ true → is_place one_cmp (unbilled_place k m) tt ≡ true
 at_unbilled k m is = due m.billed is
 
 both_equal : (a b : Ordering) → a ≡ Equal → b ≡ Equal → is_eq (ordering_then a b) ≡ true
@@ -76,17 +84,17 @@ both_equal Less b p q = absurd (cc)
 both_equal Equal b p q = ap is_eq q
 both_equal Greater b p q = absurd (cc)
 
-pub at_airline_place : (place : AirlinePeriod) (k : ItemKey) (i : Item) → is_of_airline place.airline place.period i ≡ true → is_place airline_cmp item_cmp (item_place k i) place ≡ true
+pub at_airline_place : (place : AirlinePeriod) (k : ItemKey) (i : Item) → is_of_airline place.airline place.period i ≡ true → is_place airline_cmp (item_place k i) place ≡ true
 at_airline_place place k i is =
     both_equal (nat_cmp place.airline i.transaction.document.airline) (nat_cmp place.period i.period)
     (ties place.airline i.transaction.document.airline (and_first (i.transaction.document.airline == place.airline) (i.period == place.period) is))
     (ties place.period i.period (and_second (i.transaction.document.airline == place.airline) (i.period == place.period) is))
 
-pub at_tally_airline : (airline period : ℕ) (k : TallyKey) (t : Tally) → ((k.airline == airline) && (k.period == period)) ≡ true → is_place airline_cmp tally_cmp (tally_airline_place k t) (at_airline airline period) ≡ true
+pub at_tally_airline : (airline period : ℕ) (k : TallyKey) (t : Tally) → ((k.airline == airline) && (k.period == period)) ≡ true → is_place airline_cmp (tally_airline_place k t) (at_airline airline period) ≡ true
 at_tally_airline airline period k t is =
     both_equal (nat_cmp airline k.airline) (nat_cmp period k.period)
     (ties airline k.airline (and_first (k.airline == airline) (k.period == period) is))
     (ties period k.period (and_second (k.airline == airline) (k.period == period) is))
 
-pub at_tally_period : (period : ℕ) (k : TallyKey) (t : Tally) → (k.period == period) ≡ true → is_place nat_cmp tally_cmp (tally_period_place k t) period ≡ true
+pub at_tally_period : (period : ℕ) (k : TallyKey) (t : Tally) → (k.period == period) ≡ true → is_place nat_cmp (tally_period_place k t) period ≡ true
 at_tally_period period k t is = ap is_eq (ties period k.period is)

@@ -52,9 +52,9 @@ module _ (range : Range) (ranges : FinMap range_cmp ℕ) (index : FinMap (entry_
   reaches e = is_le (nat_cmp range.first e.0)
 
   indexed : (k : RangeKey) (last : ℕ) → get ranges k ≡ Some last → contains_key index (last, k) ≡ true
-  indexed k last there = kept k last ∙ ap (λ (w : Option ℕ). is_place nat_cmp range_cmp (found_place last_place k w) last) there ∙ ap is_eq (tied_itself nat_cmp_total last)
+  indexed k last there = kept k last ∙ ap (λ (w : Option ℕ). is_place nat_cmp (found_place last_place k w) last) there ∙ ap is_eq (tied_itself nat_cmp_total last)
 
-  row_by : (k : RangeKey) (last : ℕ) (w : Option ℕ) → is_place nat_cmp range_cmp (found_place last_place k w) last ≡ true → w ≡ Some last
+  row_by : (k : RangeKey) (last : ℕ) (w : Option ℕ) → is_place nat_cmp (found_place last_place k w) last ≡ true → w ≡ Some last
   row_by k last None h = absurd (cc h)
   row_by k last (Some v) h = ap Some (sym (nat_cmp-IsAntisymmetric last v (tied (nat_cmp last v) h)))
 

@@ -1,16 +1,17 @@
 -- The indexes of a table follow from its rows.
-use Rattle.std.proofs.Common.{◌≡◌, refl, sym, subst}
+use Rattle.std.proofs.Common.{◌≡◌, ℕ, refl, sym, subst}
 use Rattle.std.specs.Ordering.{nat_cmp}
 use Rattle.std.specs.FinMap.{FinMap, empty}
 use Rattle.bsp_rules.specs.declared.rows.Item.{Item}
 use Rattle.bsp_memos.specs.declared.fields.MemoFields.{MemoFields}
 use Rattle.bsp_indexes.specs.Indexes.{entry_cmp}
+use Rattle.bsp_indexes.proofs.CountLemmas.{counts_same, nothing_counted}
 use Rattle.bsp_indexes.proofs.IndexLemmas.{index_same}
 use Rattle.bsp_indexes.proofs.IndexLemmas as rows
 use Rattle.bsp_rows.specs.declared.keys.ItemKey.{ItemKey}
 use Rattle.bsp_rows.specs.Rows.{item_cmp, memo_cmp}
 use Rattle.bsp_row_tables.specs.Numbers.{IsIndexed, number_cmp}
-use Rattle.bsp_row_tables.specs.Places.{agent_place, airline_cmp, item_place, one_cmp, tally_airline_place, tally_period_place, unbilled_place}
+use Rattle.bsp_row_tables.specs.Places.{agent_place, airline_cmp, item_place, one_cmp, parties_cmp, parties_of, tally_airline_place, tally_period_place, unbilled_place}
 use Rattle.bsp_row_tables.specs.MemoTables.{AreMemosIndexed}
 use Rattle.bsp_row_tables.specs.ItemTables.{AreItemsIndexed}
 use Rattle.bsp_row_tables.specs.TallyTables.{AreTalliesIndexed}
@@ -20,15 +21,16 @@ use Rattle.bsp_row_tables.proofs.NumberLemmas.{nothing_indexed}
 
 -- ---- memos
 
-pub memos_same : (memos others : FinMap memo_cmp MemoFields) (agents other_agents : FinMap (entry_cmp nat_cmp memo_cmp) (Unit {0})) (due other_due : FinMap (entry_cmp one_cmp memo_cmp) (Unit {0}))
-    → others ≡ memos → other_agents ≡ agents → other_due ≡ due → AreMemosIndexed memos agents due → AreMemosIndexed others other_agents other_due
-memos_same memos others agents other_agents due other_due p q r h = record {
+pub memos_same : (memos others : FinMap memo_cmp MemoFields) (agents other_agents : FinMap (entry_cmp nat_cmp memo_cmp) (Unit {0})) (due other_due : FinMap (entry_cmp one_cmp memo_cmp) (Unit {0})) (counts other_counts : FinMap parties_cmp ℕ)
+    → others ≡ memos → other_agents ≡ agents → other_due ≡ due → other_counts ≡ counts → AreMemosIndexed memos agents due counts → AreMemosIndexed others other_agents other_due other_counts
+memos_same memos others agents other_agents due other_due counts other_counts p q r s h = record {
   by_agent = index_same nat_cmp memo_cmp agent_place memos others agents other_agents p q h.by_agent;
   unbilled = index_same one_cmp memo_cmp unbilled_place memos others due other_due p r h.unbilled;
+  issued = counts_same parties_cmp memo_cmp parties_of memos others counts other_counts p s h.issued;
 }
 
-pub no_memos : AreMemosIndexed empty empty empty
-no_memos = record { by_agent = rows.nothing_indexed nat_cmp memo_cmp agent_place; unbilled = rows.nothing_indexed one_cmp memo_cmp unbilled_place }
+pub no_memos : AreMemosIndexed empty empty empty empty
+no_memos = record { by_agent = rows.nothing_indexed nat_cmp memo_cmp agent_place; unbilled = rows.nothing_indexed one_cmp memo_cmp unbilled_place; issued = nothing_counted parties_cmp memo_cmp parties_of }
 
 -- ---- items
 

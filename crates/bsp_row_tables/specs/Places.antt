@@ -11,10 +11,15 @@ use Rattle.bsp_rows.specs.declared.keys.MemoKey.{MemoKey}
 use Rattle.bsp_rows.specs.declared.keys.RangeKey.{RangeKey}
 use Rattle.bsp_rows.specs.declared.keys.TallyKey.{TallyKey}
 use Rattle.bsp_row_tables.specs.declared.places.AirlinePeriod.{AirlinePeriod}
+use Rattle.bsp_row_tables.specs.declared.places.Parties.{Parties}
 
 -- by airline, and then by period
 abbrev pub airline_cmp : AirlinePeriod → AirlinePeriod → Ordering
 airline_cmp = then_cmp (on (λ p. p.airline) nat_cmp) (on (λ p. p.period) nat_cmp)
+
+-- by airline, and then by agent
+abbrev pub parties_cmp : Parties → Parties → Ordering
+parties_cmp = then_cmp (on (λ p. p.airline) nat_cmp) (on (λ p. p.agent) nat_cmp)
 
 -- of one place
 abbrev pub one_cmp : Unit {0} → Unit {0} → Ordering
@@ -34,6 +39,10 @@ item_place k i = Some (at_airline i.transaction.document.airline i.period)
 -- the agent of a memo
 abbrev pub agent_place : MemoKey → MemoFields → Option ℕ
 agent_place k m = Some m.agent
+
+-- the airline of a memo's key, and its agent
+abbrev pub parties_of : MemoKey → MemoFields → Parties
+parties_of k m = record { airline = k.airline; agent = m.agent }
 
 -- unbilled memos have one place, and billed ones none
 abbrev pub unbilled_at : Option ℕ → Option (Unit {0})

@@ -15,6 +15,6 @@ mod tests;
 
 pub use items::ItemTable;
 pub use memos::MemoTable;
-pub use places::AirlinePeriod;
+pub use places::{AirlinePeriod, Parties};
 pub use ranges::RangeTable;
 pub use tallies::TallyTable;

@@ -4,25 +4,29 @@ ghost use Rattle.std.specs.Prelude.{◌≡◌, ◌==◌, IfOk, OnOk};
 ghost use Rattle.std.specs.FinMap.{empty, entries, get, insert, values};
 ghost use Rattle.std.specs.List.{filter};
 ghost use Rattle.bsp_maps.specs.Windows.{values_in};
+ghost use Rattle.bsp_indexes.specs.Counts.{row_count};
 ghost use Rattle.bsp_rows.specs.Rows.{is_unbilled};
 ghost use Rattle.bsp_row_tables.specs.MemoTables.{AreMemosKept, WereMemosKept, memo_rows, memo_rows_before};
+ghost use Rattle.bsp_row_tables.specs.Places.{parties_cmp, parties_of};
 
 use crate::keys::{MemosOf, least_memo};
-use crate::places::{agent_place, unbilled_place};
+use crate::places::{Parties, agent_place, old_parties, parties_of, unbilled_place};
 use bsp_fields::{AgentCode, AirlineCode};
-use bsp_indexes::Index;
+use bsp_indexes::{Counts, Index};
 use bsp_maps::{Logged, Rule, Test};
 use bsp_memos::Memo;
 use bsp_rows::MemoKey;
 use std::alloc::{AllocError, Global};
 use std::collections::BTreeMap;
 
-/// The memos by their keys, those of each agent, and the unbilled ones.
+/// The memos by their keys, those of each agent, the unbilled ones, and how many each airline has issued to each
+/// agent.
 #[derive(Drop)]
 pub struct MemoTable {
     rows: Logged<MemoKey, Memo>,
     by_agent: Index<AgentCode, MemoKey>,
     unbilled: Index<(), MemoKey>,
+    issued: Counts<Parties>,
 }
 
 /// Memos to an agent.
@@ -63,6 +67,7 @@ impl MemoTable {
             rows: Logged::new(alloc),
             by_agent: Index::new(alloc),
             unbilled: Index::new(alloc),
+            issued: Counts::new(alloc),
         }
     }
 
@@ -83,6 +88,7 @@ impl MemoTable {
         self.rows.commit();
         self.by_agent.commit();
         self.unbilled.commit();
+        self.issued.commit();
     }
 
     /// Takes back what was written since the last commit. It takes no memory.
@@ -95,6 +101,7 @@ impl MemoTable {
         self.rows.roll_back();
         self.by_agent.roll_back();
         self.unbilled.roll_back();
+        self.issued.roll_back();
     }
 
     /// The memo of a key.
@@ -121,7 +128,16 @@ impl MemoTable {
             .relocate(*key, agent_place(old), agent_place(&new))?;
         self.unbilled
             .relocate(*key, unbilled_place(old), unbilled_place(&new))?;
+        self.issued
+            .relocate(old_parties(key, old), parties_of(key, memo))?;
         self.rows.put(*key, *memo)
+    }
+
+    /// How many memos an airline has issued to an agent. It reads one entry.
+    pub fn issued(&self, airline: AirlineCode, agent: AgentCode) -> u64
+        ensures { AreMemosKept self.now → result ≡ row_count parties_cmp parties_of (memo_rows self.now) (record { airline = airline; agent = agent }) }
+    {
+        self.issued.at(Parties { airline, agent })
     }
 
     /// The memos of an airline that pass a test, in the order of their keys. It reads that airline's alone.

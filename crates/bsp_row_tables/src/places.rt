@@ -1,15 +1,15 @@
 //! The places of rows in the indexes.
 
-ghost use Rattle.std.specs.Prelude.{◌≡◌};
+ghost use Rattle.std.specs.Prelude.{◌≡◌, option_map};
 ghost use Rattle.bsp_rows.specs.declared.keys.ItemKey.{ItemKey as ItemKeyValue};
 ghost use Rattle.bsp_rows.specs.declared.keys.MemoKey.{MemoKey as MemoKeyValue};
 ghost use Rattle.bsp_indexes.specs.Indexes.{found_place};
-ghost use Rattle.bsp_row_tables.specs.Places.{agent_place, item_place, tally_airline_place, tally_period_place, unbilled_place};
+ghost use Rattle.bsp_row_tables.specs.Places.{agent_place, item_place, parties_of, tally_airline_place, tally_period_place, unbilled_place};
 
 use bsp_fields::{AgentCode, AirlineCode, PeriodCode};
 use bsp_memos::Memo;
 use bsp_postings::Tally;
-use bsp_rows::TallyKey;
+use bsp_rows::{MemoKey, TallyKey};
 use bsp_rules::Item;
 
 /// An airline and a period.
@@ -19,6 +19,15 @@ pub struct AirlinePeriod {
     pub airline: AirlineCode,
     /// The period.
     pub period: PeriodCode,
+}
+
+/// An airline and an agent.
+#[derive(Clone, Copy, Debug, PartialEq, Eq, PartialOrd, Ord)]
+pub struct Parties {
+    /// The airline.
+    pub airline: AirlineCode,
+    /// The agent.
+    pub agent: AgentCode,
 }
 
 /// The airline of an item and its period, if there is an item.
@@ -41,6 +50,26 @@ pub(crate) fn agent_place(memo: &Option<Memo>) -> Option<AgentCode>
     match memo {
         None => None,
         Some(memo) => Some(memo.fields().agent),
+    }
+}
+
+/// The airline of a memo's key, and its agent.
+pub(crate) fn parties_of(key: &MemoKey, memo: &Memo) -> Parties
+    ensures { result ≡ parties_of key.now memo.now }
+{
+    Parties {
+        airline: key.airline,
+        agent: memo.fields().agent,
+    }
+}
+
+/// The airline of a memo's key and its agent, if there is a memo.
+pub(crate) fn old_parties(key: &MemoKey, memo: &Option<Memo>) -> Option<Parties>
+    ensures { result ≡ option_map (parties_of key.now) memo.now }
+{
+    match memo {
+        None => None,
+        Some(memo) => Some(parties_of(key, memo)),
     }
 }
 

@@ -218,3 +218,31 @@ fn unbilled_counts(alloc: Global) -> Option<[usize; 3]> {
 fn a_roll_back_leaves_a_memo_unbilled(rt: HostRuntime) {
     assert_eq!(rt; unbilled_counts(rt.alloc()), Some([1, 0, 1]));
 }
+
+/// How many memos the airline has issued to each agent.
+fn issued(table: &MemoTable) -> Option<[u64; 2]> {
+    let airline = AirlineCode::read(b"125").ok()?;
+    Some(agents()?.map(|agent| table.issued(airline, agent)))
+}
+
+/// The counts once a memo is issued, once it is billed and another is issued, and once that is taken back.
+fn issued_counts(alloc: Global) -> Option<[[u64; 2]; 3]> {
+    let mut table = MemoTable::new(alloc);
+    write(&mut table, &memo(None)?)?;
+    table.commit();
+    let one = issued(&table)?;
+    let next = MemoFields {
+        document: DocNumber::read_unchecked(b"6000000002").ok()?,
+        ..*memo(None)?.fields()
+    };
+    write(&mut table, &memo(PeriodCode::read(b"24011").ok())?)?;
+    write(&mut table, &Memo::restore(next)?)?;
+    let two = issued(&table)?;
+    table.roll_back();
+    Some([one, two, issued(&table)?])
+}
+
+#[test]
+fn a_roll_back_puts_back_how_many_memos_are_issued(rt: HostRuntime) {
+    assert_eq!(rt; issued_counts(rt.alloc()), Some([[1, 0], [2, 0], [1, 0]]));
+}
