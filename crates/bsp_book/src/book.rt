@@ -4,6 +4,7 @@ ghost use Rattle.std.specs.Prelude.{◌≡◌, OnOk, Option, None, is_some, unwr
 ghost use Rattle.bsp_calendar.specs.History.{Request};
 ghost use Rattle.bsp_calendar.specs.History.Request.{Close, Publish, SetDay};
 ghost use Rattle.bsp_book.specs.Calls.{Answers, Begins, Commits, FallsBack, Faults, LeavesEither, LeavesLast, LeavesNow, LooksUp, Makes, Meaning, Stays};
+ghost use Rattle.bsp_rows.specs.Laws.{issued_count};
 ghost use Rattle.bsp_rows.specs.Rows.{HasNumberKey, Rows, agent_token, airline_token, has_meeting, is_used_in, item_at, items_bearing, items_of, key_of, memo_at, memo_key, memos_of, ranges_of, registered};
 ghost use Rattle.bsp_rows.specs.Tallies.{tallies_of, tally_of};
 ghost use Rattle.bsp_rows.specs.Writes.{IsFree, IsThere, MayBeAdded, MayBeBilled, after_request, request_answer, with_agent_token, with_airline_token, with_billing, with_end, with_item, with_memo, with_range, without_range};
@@ -109,6 +110,10 @@ pub trait Book {
     /// all memos.
     fn memos(&mut self, which: Memos) -> Result<Vec<Memo>, BookFault>
         ensures { LooksUp means self.old self.new result (λ found. found.items) (memos_of which) };
+
+    /// How many memos an airline has issued to an agent.
+    fn issued_count(&mut self, agent: AgentCode, airline: AirlineCode) -> Result<u64, BookFault>
+        ensures { LooksUp means self.old self.new result (λ found. found) (issued_count agent airline) };
 
     /// The tally of an agent, an airline and a period.
     fn tally(&mut self, key: TallyKey) -> Result<Tally, BookFault>

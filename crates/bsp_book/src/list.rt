@@ -22,7 +22,8 @@ use std::alloc::Global;
 /// A book in memory. It never answers `Failed`.
 ///
 /// It keeps the tallies and indexes of the rows: ranges by their last numbers; items by their numbers, and by their
-/// airlines and periods; memos by their agents, and the unbilled ones; tallies by their airlines and periods, and
+/// airlines and periods; memos by their agents, the unbilled ones, and how many each airline has issued to each
+/// agent; tallies by their airlines and periods, and
 /// by their periods.
 #[derive(Drop)]
 pub struct ListBook {
@@ -162,6 +163,10 @@ impl Book for ListBook {
             Ok(found) => Ok(found),
             Err(_) => Err(self.undo()),
         }
+    }
+
+    fn issued_count(&mut self, agent: AgentCode, airline: AirlineCode) -> Result<u64, BookFault> {
+        Ok(self.tables.issued_count(agent, airline))
     }
 
     fn tally(&mut self, key: TallyKey) -> Result<Tally, BookFault> {

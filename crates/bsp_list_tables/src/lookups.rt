@@ -6,6 +6,7 @@ ghost use Rattle.bsp_row_tables.specs.TallyTables.{tally_rows};
 ghost use Rattle.bsp_maps.specs.Windows.{entries_in};
 ghost use Rattle.bsp_memos.specs.Owed.{is_billed_in};
 ghost use Rattle.bsp_rows.specs.Rows.{agent_token, airline_token, has_meeting, is_in, is_used_in, items_bearing, items_of, memo_at, memos_of, ranges_of, registered};
+ghost use Rattle.bsp_rows.specs.Laws.{issued_count};
 ghost use Rattle.bsp_rows.specs.Sound.{AreApart};
 ghost use Rattle.bsp_rows.specs.Tallies.{is_tally_asked, tallies_of, tally_of};
 ghost use Rattle.bsp_list_tables.specs.Lookups.{asked_tallies, is_asked};
@@ -177,6 +178,13 @@ impl Tables {
             }
             Memos::Unbilled => self.memos.unbilled(alloc),
         }
+    }
+
+    /// How many memos an airline has issued to an agent. It reads one entry.
+    pub fn issued_count(&self, agent: AgentCode, airline: AirlineCode) -> u64
+        ensures { IsDerived self.now → result ≡ issued_count agent airline (rows_of self.now) }
+    {
+        self.memos.issued(airline, agent)
     }
 
     /// The tally of a key. It reads one entry.

@@ -133,19 +133,22 @@ fn issue(list: &mut ListBook, memo: &Memo) -> Result<bool, BookFault> {
     Ok(true)
 }
 
-fn has_memo(list: &mut ListBook, memo: &Memo) -> Result<bool, BookFault> {
+/// Whether a memo is there, and how many memos its airline has issued to its agent.
+fn memo_found(list: &mut ListBook, memo: &Memo) -> Result<(bool, u64), BookFault> {
+    let fields = memo.fields();
     list.begin()?;
-    let found = list.memo(MemoKey::of(memo.fields()))?;
+    let found = list.memo(MemoKey::of(fields))?;
+    let count = list.issued_count(fields.agent, fields.airline)?;
     list.roll_back()?;
-    Ok(found.is_some())
+    Ok((found.is_some(), count))
 }
 
 fn issued(list: &mut ListBook, memo: &Memo) -> Answer {
     let right = issue(list, memo);
     let is_done = right.is_ok();
     let answer = answer_to(right, list.is_open());
-    match has_memo(list, memo) {
-        Ok(is_there) => answer.only_where(is_there == is_done),
+    match memo_found(list, memo) {
+        Ok(found) => answer.only_where(found == (is_done, u64::from(is_done))),
         Err(_) => Answer::Wrong,
     }
 }
