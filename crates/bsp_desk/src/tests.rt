@@ -2,6 +2,7 @@
 
 mod callers;
 mod files;
+mod largest;
 mod memos;
 mod opening;
 mod periods;
@@ -142,14 +143,11 @@ fn desk(alloc: Global) -> Option<Desk<ListBook>> {
     Desk::open(alloc, ListBook::new(alloc), office).ok()
 }
 
-/// Whether a desk with an empty book gives the replies of the runs, one run after the other. If not: the first run
-/// and row, from 0, whose reply is another one or is missing.
-fn follows(alloc: Global, runs: &[&[Row]]) -> Result<(), (usize, usize)> {
-    let Some(mut desk) = desk(alloc) else {
-        return Err((0, 0));
-    };
+/// Whether a desk gives the replies of the runs, one run after the other. If not: the first run and row, from 0,
+/// whose reply is another one or is missing.
+fn follow(alloc: Global, desk: &mut Desk<ListBook>, runs: &[&[Row]]) -> Result<(), (usize, usize)> {
     for (number, rows) in runs.iter().enumerate() {
-        let Some(replies) = run(alloc, &mut desk, rows) else {
+        let Some(replies) = run(alloc, desk, rows) else {
             return Err((number, 0));
         };
         let place = followed(alloc, &replies, rows);
@@ -158,4 +156,12 @@ fn follows(alloc: Global, runs: &[&[Row]]) -> Result<(), (usize, usize)> {
         }
     }
     Ok(())
+}
+
+/// Whether a desk with an empty book gives the replies of the runs.
+fn follows(alloc: Global, runs: &[&[Row]]) -> Result<(), (usize, usize)> {
+    match desk(alloc) {
+        Some(mut desk) => follow(alloc, &mut desk, runs),
+        None => Err((0, 0)),
+    }
 }

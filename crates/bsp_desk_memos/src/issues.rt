@@ -1,9 +1,8 @@
 //! The issue of a memo.
 
-ghost use Rattle.std.specs.Prelude.{◌≡◌, IfOk, OnOk, Some, false};
-ghost use Rattle.bsp_book.specs.Calls.{FallsBack, Faults, Keeps, LeavesLast, Shows};
+ghost use Rattle.std.specs.Prelude.{◌≡◌, Some, false};
+ghost use Rattle.bsp_book.specs.Calls.{FallsBack, Faults, LeavesLast};
 ghost use Rattle.bsp_messages.specs.Bodies.{body_of, issue_form};
-ghost use Rattle.bsp_rows.specs.Laws.{issued_count};
 ghost use Rattle.bsp_rules.specs.Verdicts.{limit_of};
 ghost use Rattle.bsp_serving.specs.Serves.{EndsOnFault, Serves, ServesAirline};
 ghost use Rattle.bsp_step.specs.Requests.AirlineRequest.{IssueMemo};
@@ -15,7 +14,7 @@ use bsp_calendar::Plan;
 use bsp_fields::{AgentCode, AirlineCode, Change};
 use bsp_memos::{Memo, MemoFault, MemoFields};
 use bsp_messages::{Answer, MemoIssue, RequestRefusal, read_issue};
-use bsp_rows::{MemoKey, Memos};
+use bsp_rows::MemoKey;
 use std::alloc::Global;
 
 /// The documents limit, and 0 before terms are published.
@@ -28,33 +27,14 @@ fn limit(plan: &Plan) -> u32
     }
 }
 
-/// How many memos of the airline the agent has.
-fn issued_count<B: Book>(
-    book: &mut B,
-    agent: AgentCode,
-    airline: AirlineCode,
-) -> Result<usize, BookFault>
-    ensures found { IfOk result (λ count. Shows B.means book.old book.new count (issued_count agent airline)) }
-    ensures ok { OnOk result (Keeps B.means book.old book.new) }
-    ensures fault { Faults B.means book.old book.new (FallsBack B.means book.old book.new) (LeavesLast B.means book.old book.new) result }
-{
-    let memos = book.memos(Memos::OfAirline(airline))?;
-    Ok(
-        memos
-            .iter()
-            .filter(|memo| memo.fields().agent == agent)
-            .count(),
-    )
-}
-
 /// Adds a memo under a free number, unless its airline has as many to its agent as the documents limit.
 fn add<B: Book>(book: &mut B, memo: &Memo) -> Result<Answer, BookFault>
     ensures served { Adds B.means book.old book.new result memo.now }
     ensures fault { Faults B.means book.old book.new (FallsBack B.means book.old book.new) (LeavesLast B.means book.old book.new) result }
 {
     let MemoFields { agent, airline, .. } = *memo.fields();
-    let count = issued_count(book, agent, airline)?;
-    if count >= limit(book.plan()) as usize {
+    let count = book.issued_count(agent, airline)?;
+    if count >= u64::from(limit(book.plan())) {
         return Ok(Answer::Refused(RequestRefusal::Memo(MemoFault::LimitReached)));
     }
     book.add_memo(memo)?;

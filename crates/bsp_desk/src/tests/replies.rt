@@ -74,6 +74,8 @@ pub(super) const D01: Wanted = Wanted::Json(404, b"{\"code\":\"D01\"}");
 
 pub(super) const S01: Wanted = Wanted::Json(409, b"{\"code\":\"S01\"}");
 
+pub(super) const H01: Wanted = Wanted::Json(409, b"{\"code\":\"H01\"}");
+
 pub(super) const H02: Wanted = Wanted::Json(409, b"{\"code\":\"H02\"}");
 
 pub(super) const NO_MEMOS: Wanted = Wanted::Json(200, b"{\"memos\":[]}");
