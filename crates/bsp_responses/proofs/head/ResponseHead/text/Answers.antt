@@ -1,7 +1,7 @@
 use Rattle.std.proofs.Common.{◌≡◌, ◌∙◌, sym, ap}
-use Rattle.bsp_responses.specs.Head.{head_text, code, phrase, media_type, allow_lines, closing_lines, lines_text}
+use Rattle.bsp_responses.specs.Heads.{head_text, code, phrase, media_type, allow_lines, closing_lines, lines_text}
 use Rattle.bsp_responses.proofs.Texts.{text_is}
-use Rattle.bsp_responses.proofs.reply.head_of.Goals as goal
+use Rattle.bsp_responses.proofs.head.ResponseHead.text.Goals as goal
 
 pub returns : goal.returns
 unfolding head_text
@@ -19,17 +19,18 @@ returns c =
       c.put-3.ensures,
       c.put-2.ensures,
       c.put.ensures,
-      c.new-line.ensures,
+      c.new-text.ensures,
       c.as_bytes.ensures.value,
       c.format.ensures.text,
       c.as_u16.ensures.value,
       c.code.ensures,
       c.as_bytes-2.ensures.value,
       c.phrase.ensures.value,
-      c.media_of.ensures.value,
       c.as_bytes-3.ensures.value,
+      c.text.ensures.value,
+      c.as_bytes-4.ensures.value,
       c.format-2.ensures.text,
-      c.allow_of.ensures.value,
-      c.closing_of.ensures.value,
+      c.allow_line.ensures.value,
+      c.closing_line.ensures.value,
     )
-    (text_is _ _ _ _ (allow_lines c.args.head.now.allow) (closing_lines c.args.head.now.closes))
+    (text_is _ _ _ _ (allow_lines c.args.self.now.allow) (closing_lines c.args.self.now.closes))

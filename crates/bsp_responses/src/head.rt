@@ -1,0 +1,90 @@
+//! The head of a response, and what of its body is sent.
+
+ghost use Rattle.std.specs.Prelude.{◌≡◌, ◌≤◌, [], length, if◌then◌else◌};
+ghost use Rattle.bsp_responses.specs.Heads.{allow_lines, closing_lines, lines_text, head_text};
+ghost use Rattle.bsp_responses.specs.Responses.{continue_text, sent_body};
+
+use crate::status::{Media, Status};
+use crate::text::HeadText;
+use bsp_routes::Methods;
+use itoa::Buffer;
+
+/// What the head of a response says.
+#[derive(Clone, Copy, Debug, PartialEq, Eq)]
+pub struct ResponseHead {
+    /// The status.
+    pub status: Status,
+    /// The media type of the body.
+    pub media: Media,
+    /// The length of the body in bytes, also where a HEAD is answered and the body is left out
+    /// (RFC 9110, 8.6).
+    pub length: usize,
+    /// The methods of the field `Allow`, which a 405 has (RFC 9110, 10.2.1).
+    pub allow: Option<Methods>,
+    /// Whether the connection closes behind the response (RFC 9112, 9.6).
+    pub closes: bool,
+}
+
+fn allow_line(allow: Option<Methods>) -> &'static [u8]
+    ensures value { result.now ≡ lines_text (allow_lines allow) }
+    ensures short { length result.now ≤ 18 }
+{
+    match allow {
+        None => b"",
+        Some(Methods::Get) => b"Allow: GET\r\n",
+        Some(Methods::Post) => b"Allow: POST\r\n",
+        Some(Methods::GetAndPost) => b"Allow: GET, POST\r\n",
+    }
+}
+
+fn closing_line(closes: bool) -> &'static [u8]
+    ensures value { result.now ≡ lines_text (closing_lines closes) }
+    ensures short { length result.now ≤ 19 }
+{
+    if closes {
+        b"Connection: close\r\n"
+    } else {
+        b""
+    }
+}
+
+impl ResponseHead {
+    /// The head as it is sent: the status line, its fields, and the empty line (RFC 9112, section 2.1).
+    pub fn text(&self) -> HeadText
+        ensures { result ≡ head_text self.now }
+    {
+        let mut text = HeadText::new();
+        text.put(b"HTTP/1.1 ");
+        text.put(Buffer::new().format(self.status.code().as_u16()).as_bytes());
+        text.put(b" ");
+        text.put(self.status.phrase().as_bytes());
+        text.put(b"\r\nContent-Type: ");
+        text.put(self.media.text().as_bytes());
+        text.put(b"\r\nContent-Length: ");
+        text.put(Buffer::new().format(self.length).as_bytes());
+        text.put(b"\r\n");
+        text.put(allow_line(self.allow));
+        text.put(closing_line(self.closes));
+        text.put(b"\r\n");
+        text
+    }
+}
+
+/// What of a body is sent behind its head: nothing where a HEAD is answered (RFC 9110, 9.3.2).
+pub fn body_sent(to_head: bool, body: &[u8]) -> &[u8]
+    ensures { result.now ≡ sent_body to_head body.now }
+{
+    if to_head { &[] } else { body }
+}
+
+/// What is sent before a body is read: the interim response where the sender waits for it
+/// (RFC 9110, 15.2.1), else nothing.
+pub fn interim(expects: bool) -> &'static [u8]
+    ensures { result.now ≡ (if expects then continue_text else []) }
+{
+    if expects {
+        b"HTTP/1.1 100 Continue\r\n\r\n"
+    } else {
+        b""
+    }
+}
