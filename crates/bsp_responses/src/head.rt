@@ -1,8 +1,7 @@
-//! The head of a response, and what of its body is sent.
+//! The head of a response.
 
-ghost use Rattle.std.specs.Prelude.{◌≡◌, ◌≤◌, [], length, if◌then◌else◌};
+ghost use Rattle.std.specs.Prelude.{◌≡◌, ◌≤◌, length};
 ghost use Rattle.bsp_responses.specs.Heads.{allow_lines, closing_lines, lines_text, head_text};
-ghost use Rattle.bsp_responses.specs.Responses.{continue_text, sent_body};
 
 use crate::status::{Media, Status};
 use crate::text::HeadText;
@@ -10,7 +9,7 @@ use bsp_routes::Methods;
 use itoa::Buffer;
 
 /// What the head of a response says.
-#[derive(Clone, Copy, Debug, PartialEq, Eq)]
+#[derive(Clone, Copy)]
 pub struct ResponseHead {
     /// The status.
     pub status: Status,
@@ -67,24 +66,5 @@ impl ResponseHead {
         text.put(closing_line(self.closes));
         text.put(b"\r\n");
         text
-    }
-}
-
-/// What of a body is sent behind its head: nothing where a HEAD is answered (RFC 9110, 9.3.2).
-pub fn body_sent(to_head: bool, body: &[u8]) -> &[u8]
-    ensures { result.now ≡ sent_body to_head body.now }
-{
-    if to_head { &[] } else { body }
-}
-
-/// What is sent before a body is read: the interim response where the sender waits for it
-/// (RFC 9110, 15.2.1), else nothing.
-pub fn interim(expects: bool) -> &'static [u8]
-    ensures { result.now ≡ (if expects then continue_text else []) }
-{
-    if expects {
-        b"HTTP/1.1 100 Continue\r\n\r\n"
-    } else {
-        b""
     }
 }

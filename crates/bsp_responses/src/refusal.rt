@@ -1,12 +1,12 @@
 //! The answers to requests whose head is refused.
 
-ghost use Rattle.std.specs.Prelude.{◌≡◌, true};
-ghost use Rattle.bsp_responses.specs.Responses.{refusal_reply, reply_head};
+ghost use Rattle.std.specs.Prelude.{◌≡◌};
+ghost use Rattle.bsp_responses.specs.Responses.{refusal_reply, reply_text};
 
-use crate::head::ResponseHead;
+use crate::response::Reply;
 use crate::status::{Media, Status};
 
-/// Why the head of a request is refused. Behind the answer the connection closes.
+/// Why the head of a request is refused. Behind the response the connection closes.
 #[derive(Clone, Copy, Debug, PartialEq, Eq, Hash)]
 pub enum HeadRefusal {
     /// It is no head, its HTTP/1.1 has not exactly one Host (RFC 9112, 3.2), or it has more than one
@@ -24,7 +24,7 @@ pub enum HeadRefusal {
 
 impl HeadRefusal {
     /// The status of the answer.
-    pub fn status(self) -> Status
+    fn status(self) -> Status
         ensures { result ≡ (refusal_reply self).status }
     {
         match self {
@@ -37,7 +37,7 @@ impl HeadRefusal {
     }
 
     /// The body of the answer, `{"code":"T01"}` to `{"code":"T05"}`.
-    pub fn body(self) -> &'static [u8]
+    fn body(self) -> &'static [u8]
         ensures { result.now ≡ (refusal_reply self).body }
     {
         match self {
@@ -49,16 +49,15 @@ impl HeadRefusal {
         }
     }
 
-    /// The head of the answer.
-    pub fn head(self) -> ResponseHead
-        ensures { result ≡ reply_head true (refusal_reply self) }
+    /// The answer.
+    pub fn reply(self) -> Reply<'static>
+        ensures { reply_text result ≡ refusal_reply self }
     {
-        ResponseHead {
+        Reply {
             status: self.status(),
             media: Media::Json,
-            length: self.body().len(),
             allow: None,
-            closes: true,
+            body: self.body(),
         }
     }
 }
