@@ -92,10 +92,10 @@ fn hot_totals(alloc: Global, count: u64) -> Option<Vec<u8>> {
     copied(alloc, totals(file.body.as_bytes())?)
 }
 
-/// Example 18: a net of 9,999,999,999,900.00.
+/// Example 18: cash and a net of 9,999,999,999,900.00; a memo counts as cash.
 #[test]
 fn the_largest_net_has_a_hot_file(rt: HostRuntime) {
-    let wanted = b"0001000000000000000000{00000000000000{00000000000000{99999999999000{";
+    let wanted = b"0001000099999999999000{00000000000000{00000000000000{99999999999000{";
     let found = hot_totals(rt.alloc(), 10_000);
     assert!(rt; found.is_some_and(|totals| totals.as_slice() == wanted.as_slice()));
 }
