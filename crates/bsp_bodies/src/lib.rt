@@ -6,6 +6,8 @@ mod kept;
 mod passing;
 mod ret_body;
 mod sink;
+#[cfg(test)]
+mod tests;
 
 pub use kept::KeptBody;
 pub use passing::{Short, pass};
