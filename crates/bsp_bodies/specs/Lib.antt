@@ -1,0 +1,2 @@
+-- What the contracts of bodies cite.
+pub mod Bodies
