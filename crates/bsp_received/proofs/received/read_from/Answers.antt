@@ -1,4 +1,4 @@
-use Rattle.std.proofs.Common.{◌≡◌, ℕ, List, ◌+◌, ◌-◌, ◌≤◌, ◌++◌, length, take, arith, refl}
+use Rattle.std.proofs.Common.{◌-◌, ◌≤◌, length, take, arith, refl}
 use borrow.Rule.Slice.PartMut.{post_of, put_mid}
 use Rattle.bsp_received.proofs.Lists.{read_more}
 use Rattle.bsp_received.proofs.received.read_from.Goals as goal

@@ -1,5 +1,4 @@
-use Rattle.std.proofs.Common.{◌≡◌, ◌∙◌, sym, ap}
-use Rattle.bsp_responses.specs.Heads.{head_text, code, phrase, media_type, allow_lines, closing_lines, lines_text}
+use Rattle.bsp_responses.specs.Heads.{head_text, allow_lines, closing_lines}
 use Rattle.bsp_responses.proofs.Texts.{text_is}
 use Rattle.bsp_responses.proofs.head.ResponseHead.text.Goals as goal
 
