@@ -7,7 +7,7 @@ use Rattle.bsp_heads.specs.declared.scan.Scan.{Scan}
 abbrev pub after_byte : ℕ → ℕ → ℕ
 after_byte line b = if b == 13 && line == 0 then 1 else 2
 
--- How far the first empty line goes that stands after a line that is not empty. A line ends by LF or CR LF.
+-- where the first empty line ends that comes after a line that is not empty; a line ends by LF or CR LF
 abbrev pub head_len_from : Bool → ℕ → List ℕ → Option ℕ
 head_len_from seen line [] = None
 head_len_from seen line (b ∷ bytes) =
@@ -18,6 +18,6 @@ head_len_from seen line (b ∷ bytes) =
 abbrev pub head_len : List ℕ → Option ℕ
 head_len bytes = head_len_from false 0 bytes
 
--- the scan stands after so many bytes of a text, whatever follows is more
+-- what the scan answers after these bytes of a text, whatever bytes follow
 abbrev pub HasScanned : List ℕ → Scan → Type 0
 HasScanned bytes scan = (more : List ℕ) → head_len (bytes ++ more) ≡ option_map (λ n. length bytes + n) (head_len_from scan.seen scan.line more)

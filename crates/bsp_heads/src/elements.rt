@@ -1,4 +1,4 @@
-// The elements of a field's value.
+//! The elements of a field's value (RFC 9110, 5.6.1).
 ghost use Rattle.std.specs.Prelude.{◌≡◌, ℕ, ◌+◌, ◌≤◌, List, [], ◌++◌, length, take, drop};
 ghost use Rattle.std.specs.List.{list_all};
 ghost use Rattle.bsp_heads.specs.Elements.{is_blank, without_front, begins, is_element, has_element};
@@ -12,7 +12,7 @@ fn is_blank(b: u8) -> bool
 }
 
 /// Whether two texts are the same in any letter case.
-pub fn is_same(text: &[u8], name: &[u8]) -> bool
+pub(crate) fn is_same(text: &[u8], name: &[u8]) -> bool
     ensures { result ≡ pointwise eq_ignore_ascii_case text.now name.now }
 {
     text.eq_ignore_ascii_case(name)
@@ -55,7 +55,7 @@ fn is_element(text: &[u8], name: &[u8]) -> bool
 }
 
 /// Whether one of the elements between commas is the name.
-pub fn has_element(text: &[u8], name: &[u8]) -> bool
+pub(crate) fn has_element(text: &[u8], name: &[u8]) -> bool
     ensures { result ≡ has_element name.now text.now }
 {
     let mut start = 0;

@@ -1,4 +1,4 @@
-use Rattle.bsp_heads.proofs.Fields.{same_name}
+use Rattle.bsp_heads.proofs.ElementLemmas.{same_name}
 use Rattle.bsp_heads.proofs.elements.is_same.Goals as goal
 
 pub returns : goal.returns

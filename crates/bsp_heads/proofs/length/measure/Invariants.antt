@@ -2,7 +2,7 @@ use Rattle.std.proofs.Common.{◌≡◌, true, take, min}
 use Rattle.std.specs.List.{list_all}
 use Rattle.std.specs.Char.{is_ascii_digit}
 use Rattle.std.specs.Str.Parse.{digits_value}
-use Rattle.bsp_heads.proofs.head.measure.Given as goal
+use Rattle.bsp_heads.proofs.length.measure.Given as goal
 
 abbrev pub invariant-loop-b : goal.invariant-loop-b
 invariant-loop-b l = record {

@@ -1,6 +1,9 @@
--- The parts between commas, a byte at a time.
-use Rattle.std.proofs.Common.{◌≡◌, ℕ, ◌+◌, ◌-◌, ◌<◌, ◌≤◌, Bool, true, false, ◌||◌, List, [], ◌∷◌, ◌++◌, length, take, drop, get_or, slice_range, refl, sym, ap, ◌∙◌, arith, subst, nat_eq, ◌==◌, if◌then◌else◌}
+-- The parts between commas, a byte at a time; names in any letter case.
+use Rattle.std.proofs.Common.{◌≡◌, ℕ, ◌+◌, ◌-◌, ◌<◌, ◌≤◌, Bool, true, false, ◌||◌, List, [], ◌∷◌, ◌++◌, length, take, drop, get_or, slice_range, refl, sym, ap, ◌∙◌, arith, subst, nat_eq, ◌==◌, if◌then◌else◌, map, ◌↔◌, IsTrue}
 use Rattle.std.specs.List.{list_any}
+use Rattle.std.specs.Cmp.Lexicographic.{pointwise, bytes_decides}
+use Rattle.std.specs.Cmp.Derive.Mapped.{pointwise-map}
+use Rattle.std.specs.Char.{eq_ignore_ascii_case, to_ascii_lowercase}
 use Rattle.std.proofs.lemmas.List.{take_more, at_drop_more, get_or-drop, length-drop}
 use Rattle.bsp_heads.specs.Elements.{parts_from, is_element}
 
@@ -25,3 +28,16 @@ other name xs start i next has le lt is same e =
     let cut : parts_from (slice_range xs start i) (drop i xs) ≡ parts_from (slice_range xs start i ++ get_or xs i 0 ∷ []) (drop (i + 1) xs) =
     at_drop_more (parts_from (slice_range xs start i)) xs i 0 lt ∙ ap (λ (t : Bool). if t then slice_range xs start i ∷ parts_from [] (drop (i + 1) xs) else parts_from (slice_range xs start i ++ get_or xs i 0 ∷ []) (drop (i + 1) xs)) is in
     e ∙ ap (list_any (is_element name)) (cut ∙ ap (λ (l : List ℕ). parts_from l (drop (i + 1) xs)) (next_part xs start i le lt ∙ ap (λ (n : ℕ). slice_range xs n (i + 1)) (sym same)))
+
+-- two tests that are true together are one
+pub one_test : (r s : Bool) → (r ≡ true → s ≡ true) → (s ≡ true → r ≡ true) → r ≡ s
+one_test true true f g = refl
+one_test true false f g = sym (f refl)
+one_test false true f g = g refl
+one_test false false f g = refl
+
+pub same_name : (a b : List ℕ) (r : Bool) → (IsTrue r ↔ (map to_ascii_lowercase a ≡ map to_ascii_lowercase b)) → r ≡ pointwise eq_ignore_ascii_case a b
+same_name a b r h =
+    let lowered : pointwise nat_eq (map to_ascii_lowercase a) (map to_ascii_lowercase b) ≡ pointwise eq_ignore_ascii_case a b = pointwise-map to_ascii_lowercase nat_eq a b in
+    let decides = bytes_decides (map to_ascii_lowercase a) (map to_ascii_lowercase b) in
+    one_test r _ (λ t. sym lowered ∙ decides.1 (h.0 t)) (λ t. h.1 (decides.0 (lowered ∙ t)))

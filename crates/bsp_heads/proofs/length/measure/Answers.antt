@@ -1,6 +1,6 @@
-use Rattle.bsp_heads.proofs.Fields.{measured_step, digits_step}
+use Rattle.bsp_heads.proofs.LengthLemmas.{measured_step, digits_step}
 use Rattle.std.proofs.Common.{sym}
-use Rattle.bsp_heads.proofs.head.measure.Goals as goal
+use Rattle.bsp_heads.proofs.length.measure.Goals as goal
 
 pub loop-b-preserved : goal.loop-b-preserved
 loop-b-preserved c = record {

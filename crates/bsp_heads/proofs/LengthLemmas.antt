@@ -1,0 +1,36 @@
+-- The length of a body, a digit at a time.
+use Rattle.std.proofs.Common.{◌≡◌, ℕ, ◌+◌, ◌<◌, ◌≤◌, Bool, true, false, List, length, take, get_or, refl, sym, ap, ◌∙◌, arith, nat_lt, min, ◌*◌, ◌⊎◌, inl, inr, ◌-◌}
+use Rattle.std.specs.Char.{is_ascii_digit, digit_value}
+use Rattle.std.specs.List.{list_all}
+use Rattle.std.specs.Str.Parse.{digits_value}
+use Rattle.std.proofs.lemmas.Bool.{ltb-true, ltb-false, lt-ltb}
+use Rattle.std.proofs.lemmas.Int.Digits.{digits_value_more}
+use Rattle.std.proofs.lemmas.List.Folds.{list_all_more}
+use Rattle.std.proofs.lemmas.Str.{digit_value_digit}
+use Rattle.std.proofs.lemmas.Str.Parse.{digit_from_value}
+use Rattle.bsp_heads.specs.Lengths.{sized}
+
+-- a number that stops growing past the limit
+pub capped : (n v d : ℕ) → n ≡ min v 4194305 → min (n * 10 + d) 4194305 ≡ min (v * 10 + d) 4194305
+capped n v d e = omega arith
+
+pub by_test : (b : Bool) → (b ≡ true) ⊎ (b ≡ false)
+by_test true = inl refl
+by_test false = inr refl
+
+pub sized_capped : (n v : ℕ) → n ≡ min v 4194305 → sized n ≡ sized v
+sized_capped n v e =
+    elim (by_test (nat_lt 4194304 v)) [
+      | inl t ↦ let high : 4194304 < v = ltb-true _ _ t in let more : 4194304 < n = omega arith in let a = lt-ltb _ _ more in rw (a, t) refl
+      | inr f ↦ let low : v ≤ 4194304 = ltb-false _ _ f in let same : n ≡ v = omega arith in ap sized same
+    ]
+
+pub measured_step : (text : List ℕ) (i n r : ℕ) → i < length text → n ≡ min (digits_value 10 (take i text)) 4194305 → digit_value (get_or text i 0) < 10
+    → r ≡ min (n * 10 + (get_or text i 0 - 48)) 4194305 → r ≡ min (digits_value 10 (take (i + 1) text)) 4194305
+measured_step text i n r h e d is =
+    let digit : digit_value (get_or text i 0) + 48 ≡ get_or text i 0 = digit_value_digit _ (digit_from_value _ d) in
+    let same : get_or text i 0 - 48 ≡ digit_value (get_or text i 0) = omega arith in
+    is ∙ ap (λ (k : ℕ). min (n * 10 + k) 4194305) same ∙ capped n _ (digit_value (get_or text i 0)) e ∙ ap (λ (k : ℕ). min k 4194305) (sym (digits_value_more 10 text i h))
+
+pub digits_step : (text : List ℕ) (i : ℕ) → i < length text → list_all is_ascii_digit (take i text) ≡ true → is_ascii_digit (get_or text i 0) ≡ true → list_all is_ascii_digit (take (i + 1) text) ≡ true
+digits_step text i h e d = rw (list_all_more is_ascii_digit text i 0 h, e) d
