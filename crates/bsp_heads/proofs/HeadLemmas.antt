@@ -16,16 +16,5 @@ not_whole text len h reads len_is other k whole =
     let printed : text ≡ print_request k = whole.1 ∙ append-nil (print_request k) in
     other (len_is ∙ ap (λ (r : RequestHead). length (print_request r)) same.0 ∙ ap length (sym printed))
 
-pub is_head : (text : List ℕ) (headers : List HeaderSpan) (spans : RequestSpans) (h : RequestHead) → IsRequestAt text headers spans h → spans.len ≡ length text → length headers ≡ 64 → length text ≤ 16384 → IsHead text h
-is_head text headers spans h at whole room below = record {
-  reads = (at.reads.0, at.reads.1 ∙ ap (λ l. print_request h ++ l) (drop_all spans.len text (let e : length text ≤ spans.len = omega arith in e)));
-  few = omega (arith, ap length at.fields, length-map {A = Field} h.fields name_and_value, length-map {A = HeaderSpan} (take spans.headers headers) (header_bytes text), length-take {A = HeaderSpan} spans.headers headers);
-  short = below;
-}
-
-pub judged : (text : List ℕ) (headers : List HeaderSpan) (spans : RequestSpans) (h : RequestHead) → IsRequestAt text headers spans h
-    → judge spans.version (span_bytes text spans.method) (map (header_bytes text) (take spans.headers headers)) ≡ judgement h
-judged text headers spans h at = rw (at.version, at.method, at.fields) refl
-
 pub never_now : (text : List ℕ) → NeverHasRequest text → (h : RequestHead) → ReadsRequest text h [] → ⊥
 never_now text never h reads = never [] h [] (reads.0, append-nil text ∙ reads.1)

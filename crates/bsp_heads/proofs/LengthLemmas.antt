@@ -14,17 +14,6 @@ use Rattle.bsp_heads.specs.Lengths.{sized}
 pub capped : (n v d : ℕ) → n ≡ min v 4194305 → min (n * 10 + d) 4194305 ≡ min (v * 10 + d) 4194305
 capped n v d e = omega arith
 
-pub by_test : (b : Bool) → (b ≡ true) ⊎ (b ≡ false)
-by_test true = inl refl
-by_test false = inr refl
-
-pub sized_capped : (n v : ℕ) → n ≡ min v 4194305 → sized n ≡ sized v
-sized_capped n v e =
-    elim (by_test (nat_lt 4194304 v)) [
-      | inl t ↦ let high : 4194304 < v = ltb-true _ _ t in let more : 4194304 < n = omega arith in let a = lt-ltb _ _ more in rw (a, t) refl
-      | inr f ↦ let low : v ≤ 4194304 = ltb-false _ _ f in let same : n ≡ v = omega arith in ap sized same
-    ]
-
 pub measured_step : (text : List ℕ) (i n r : ℕ) → i < length text → n ≡ min (digits_value 10 (take i text)) 4194305 → digit_value (get_or text i 0) < 10
     → r ≡ min (n * 10 + (get_or text i 0 - 48)) 4194305 → r ≡ min (digits_value 10 (take (i + 1) text)) 4194305
 measured_step text i n r h e d is =
