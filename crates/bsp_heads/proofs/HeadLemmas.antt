@@ -1,13 +1,7 @@
 -- From the spans of a head to the head.
-use Rattle.std.proofs.Common.{◌≡◌, ◌≢◌, ℕ, ◌≤◌, List, [], ◌++◌, length, take, drop, refl, sym, ap, ◌∙◌, arith, map, append-nil}
-use Rattle.std.proofs.lemmas.List.{drop_all, length-map, length-take}
-use Rattle.httparse.specs.Grammar.{Field, RequestHead, ReadsRequest, print_request, NeverHasRequest}
-use Rattle.httparse.specs.Spans.{IsRequestAt, span_bytes, header_bytes, name_and_value}
-use Rattle.httparse.specs.declared.spans.HeaderSpan.{HeaderSpan}
-use Rattle.httparse.specs.declared.spans.RequestSpans.{RequestSpans}
+use Rattle.std.proofs.Common.{◌≡◌, ◌≢◌, ℕ, List, [], length, drop, sym, ap, ◌∙◌, append-nil}
+use Rattle.httparse.specs.Grammar.{RequestHead, ReadsRequest, print_request, NeverHasRequest}
 use Rattle.httparse.proofs.GrammarLemmas.{request_unique}
-use Rattle.bsp_heads.specs.Judging.{judge}
-use Rattle.bsp_heads.specs.Head.{judgement, IsHead}
 
 -- a head that stops before the end of the text is not the text
 pub not_whole : (text : List ℕ) (len : ℕ) (h : RequestHead) → ReadsRequest text h (drop len text) → len ≡ length (print_request h) → len ≢ length text → (k : RequestHead) → ReadsRequest text k [] → ⊥

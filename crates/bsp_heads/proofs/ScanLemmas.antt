@@ -1,8 +1,7 @@
 -- How far a head goes, in a text and in a longer one.
-use Rattle.std.proofs.Common.{◌≡◌, ◌≢◌, ℕ, ◌+◌, ◌<◌, ◌≤◌, Bool, true, false, List, [], ◌∷◌, ◌++◌, length, take, drop, get_or, if◌then◌else◌, Option, Some, None, refl, sym, ap, ◌∙◌, arith, subst, add-one, nat_eq, nat_lt, not, cond, ◌&&◌, ◌||◌, ◌==◌, IfSome}
+use Rattle.std.proofs.Common.{◌≡◌, ℕ, ◌+◌, ◌≤◌, Bool, true, false, List, [], ◌∷◌, ◌++◌, length, if◌then◌else◌, Option, Some, None, refl, sym, ap, ◌∙◌, arith, nat_lt, not, ◌&&◌, ◌||◌, ◌==◌}
 use Rattle.std.specs.Option.{option_map}
 use Rattle.bsp_heads.specs.Scan.{head_len, head_len_from, after_byte}
-use Rattle.std.proofs.lemmas.Grind.{common_steps}
 
 map_some : (r : Option ℕ) (n : ℕ) → option_map (λ k. k + 1) r ≡ Some n → (m : ℕ) × (r ≡ Some m) × (n ≡ m + 1)
 map_some None n e = cc

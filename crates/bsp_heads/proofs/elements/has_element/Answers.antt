@@ -1,4 +1,4 @@
-use Rattle.std.proofs.Common.{rules, ◌≡◌, arith, ap, sym, ◌∙◌, ◌==◌}
+use Rattle.std.proofs.Common.{rules, arith, ap, sym, ◌∙◌, ◌==◌}
 use Rattle.bsp_heads.proofs.ElementLemmas.{comma, other}
 use Rattle.bsp_heads.proofs.elements.has_element.Goals as goal
 use Rattle.bsp_heads.proofs.elements.has_element.Goals.{then-b-eq44+else-is_element, else-b-eq44}
