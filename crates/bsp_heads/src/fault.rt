@@ -1,0 +1,29 @@
+/// Why a head is refused. After each of them the connection closes.
+///
+/// The first that applies is answered, in this order: the head is too large, it is malformed (no head, or
+/// not one `Host`), it has a transfer coding, its length is malformed, missing or too large.
+#[derive(Clone, Copy, Debug, PartialEq, Eq, Hash)]
+pub enum HeadFault {
+    /// The text is no head of a request, an HTTP/1.1 head has not exactly one `Host` (RFC 9112, 3.2), or its
+    /// `Content-Length` comes twice or is not made of digits (RFC 9110, 8.6). Status 400, T01.
+    Malformed,
+    /// A POST has no `Content-Length` (RFC 9110, 15.5.12). Status 411, T02.
+    LengthRequired,
+    /// The body is longer than [`BODY_LIMIT`](crate::BODY_LIMIT) (RFC 9110, 15.5.14). Status 413, T03.
+    BodyTooLarge,
+    /// The head has more than [`HEAD_LIMIT`](crate::HEAD_LIMIT) bytes or [`FIELD_LIMIT`](crate::FIELD_LIMIT)
+    /// fields (RFC 6585, section 5). Status 431, T04.
+    HeadTooLarge,
+    /// The head has a `Transfer-Encoding`, of which none is taken (RFC 9112, 6.1). Status 501, T05.
+    TransferCoding,
+}
+
+/// A refusal of a head, and the form of its answer.
+#[derive(Clone, Copy, Debug, PartialEq, Eq, Hash)]
+pub struct Refused {
+    /// The first fault that applies.
+    pub fault: HeadFault,
+    /// Whether the answer leaves its body out: the text was read as a head, and its method is HEAD
+    /// (RFC 9110, 9.3.2).
+    pub bare: bool,
+}

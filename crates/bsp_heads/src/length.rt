@@ -1,0 +1,47 @@
+//! The length of a body (RFC 9112, 6.3).
+ghost use Rattle.std.specs.Prelude.{◌≡◌, ℕ, List, [], ◌∷◌, length, take};
+ghost use Rattle.bsp_heads.specs.Lengths.{sized, measured, framed};
+
+use crate::HeadFault;
+
+/// The most bytes that a body may have.
+pub const BODY_LIMIT: usize = 4194304;
+
+fn limit_length(len: usize) -> Result<usize, HeadFault>
+    ensures { result ≡ sized len }
+{
+    if len > BODY_LIMIT {
+        return Err(HeadFault::BodyTooLarge);
+    }
+    Ok(len)
+}
+
+/// The length of a body from the value of its `Content-Length`.
+fn measure(text: &[u8]) -> Result<usize, HeadFault>
+    ensures { result ≡ measured text.now }
+{
+    if text.is_empty() {
+        return Err(HeadFault::Malformed);
+    }
+    let mut len = 0usize;
+    for b in text {
+        if !b.is_ascii_digit() {
+            return Err(HeadFault::Malformed);
+        }
+        let digit = *b - b'0';
+        len = (len * 10 + digit as usize).min(BODY_LIMIT + 1);
+    }
+    limit_length(len)
+}
+
+/// The length of a body from how many `Content-Length` fields there are, and the value of the last one.
+pub(crate) fn frame(posts: bool, count: usize, text: &[u8]) -> Result<usize, HeadFault>
+    ensures { (texts : List (List ℕ)) → length texts ≡ count → ((one : List ℕ) → texts ≡ one ∷ [] → text.now ≡ one) → result ≡ framed posts texts }
+{
+    match count {
+        0 if posts => Err(HeadFault::LengthRequired),
+        0 => Ok(0),
+        1 => measure(text),
+        _ => Err(HeadFault::Malformed),
+    }
+}
