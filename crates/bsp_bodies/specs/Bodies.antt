@@ -10,7 +10,7 @@ use Rattle.bsp_bodies.specs.declared.passing.Short.{Short}
 
 -- ---- passing
 
--- the body stands whole behind the head, so much of it in what was held
+-- the body is whole behind the head, so much of it in what was held
 abbrev pub IsPassed : ℕ → ℕ → List ℕ → List ℕ → List ℕ → ℕ → Type 0
 IsPassed head body held got bytes have =
     (length bytes ≡ body) × (head + have ≤ length held) × (held ++ got ≡ take head held ++ (bytes ++ drop (head + have) held))

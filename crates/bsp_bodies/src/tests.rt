@@ -130,18 +130,23 @@ fn a_short_body_is_cut(rt: HostRuntime) {
 #[test]
 fn a_read_fault_is_told(rt: HostRuntime) {
     let mut kept = KeptBody::new(rt.alloc());
-    let mut input = Input {
-        bytes: b"3456",
-        most: 1,
-        good: 2,
-    };
+    let mut input = Input::of(b"3456", 1);
+    input.good = 2;
     let mut room = [0u8; 8];
     let told = pass(&mut input, b"..012", 2, 6, &mut room, &mut kept);
     assert_eq!(rt; told, Err(Short::Read));
     assert_eq!(rt; kept.bytes(), Some(b"01234".as_slice()));
     assert_eq!(rt; input.bytes, b"56".as_slice());
-    input.good = 2;
-    assert_eq!(rt; pass(&mut input, b"", 0, 2, &mut room, &mut kept), Ok(0));
+}
+
+#[test]
+fn a_body_takes_the_place_of_the_one_before(rt: HostRuntime) {
+    let mut kept = KeptBody::new(rt.alloc());
+    kept.feed(b"01234");
+    let mut input = Input::of(b"56", 1);
+    let mut room = [0u8; 8];
+    let told = pass(&mut input, b"", 0, 2, &mut room, &mut kept);
+    assert_eq!(rt; told, Ok(0));
     assert_eq!(rt; kept.bytes(), Some(b"56".as_slice()));
 }
 
