@@ -35,9 +35,9 @@ returns-clause-kept c =
     let counts = counted parties_cmp c.relocate-3.new.self in
     let was : option_map (parties_of key) (get rows key) ≡ c.old_parties.result = sym (c.old_parties.ensures ∙ ap (option_map (parties_of key)) c.requires) in
     let moved : AreCounted parties_cmp parties_of rows before → IsRecounted parties_cmp (option_map (parties_of key) (get rows key)) (parties_of key memo) before counts = λ are.
-        subst (λ (f : Option Parties). IsRecounted parties_cmp f (parties_of key memo) before counts) (sym was)
-        (subst (λ (t : Parties). IsRecounted parties_cmp c.old_parties.result t before counts) c.parties_of.ensures
-        (c.in_ok-relocate-3.ensures.ok (subst (λ (f : Option Parties). HasCounted parties_cmp f before) was (row_counted parties_cmp memo_cmp parties_of memo_total memo_exact rows key before are)))) in
+    subst (λ (f : Option Parties). IsRecounted parties_cmp f (parties_of key memo) before counts) (sym was)
+    (subst (λ (t : Parties). IsRecounted parties_cmp c.old_parties.result t before counts) c.parties_of.ensures
+    (c.in_ok-relocate-3.ensures.ok (subst (λ (f : Option Parties). HasCounted parties_cmp f before) was (row_counted parties_cmp memo_cmp parties_of memo_total memo_exact rows key before are)))) in
     then_ok c.put.result (λ e h. record {
       by_agent = index_same nat_cmp memo_cmp agent_place (insert rows key memo) (content memo_cmp c.put.new.self) agents agents e refl
           (index_written nat_cmp memo_cmp agent_place memo_total memo_exact rows key memo (members nat_cmp memo_cmp c.args.self.now.by_agent) agents c.agent_place.result c.agent_place-2.result
