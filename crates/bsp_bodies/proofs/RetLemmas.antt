@@ -7,7 +7,7 @@ use Rattle.bsp_ret.specs.declared.model.RetFault.{RetFault}
 use Rattle.bsp_ret.specs.Table.{standing, has_ended, row_fault, or_later, fault_from, first_fault}
 use Rattle.bsp_ret.specs.declared.model.Progress.TheVariants.{Reading, Failed}
 use Rattle.bsp_ret.specs.Pieces.{Fed, IsFinal}
-use Rattle.bsp_bodies.specs.Bodies.{HasFault, HasRet}
+use Rattle.bsp_bodies.specs.Bodies.{HasRet}
 
 at_end : (ended : Bool) (fault told : RetFault) → 0 < fault.at → cond ended None (Some fault) ≡ Some told → 0 < told.at
 at_end true fault told some e = absurd cc

@@ -17,7 +17,8 @@ IsPassed head body held got bytes have =
 abbrev pub IsCut : (List ℕ → Type 0) → ℕ → ℕ → List ℕ → List ℕ → Type 0
 IsCut has head body held got = (length held + length got < head + body) × has (drop head (held ++ got))
 
--- of these bytes the last piece was refused, and no more were read: it is what was held, or one chunk
+-- the sink has these bytes up to the last piece, which it refused; none behind it were read: it is what was held, or one
+-- chunk that was read
 pub record IsRefused (has : List ℕ → Type 0) (most chunk : ℕ) (held got : List ℕ) : Type 0 where
   pub front : List ℕ
   pub piece : List ℕ
@@ -27,7 +28,7 @@ pub record IsRefused (has : List ℕ → Type 0) (most chunk : ℕ) (held got : 
   pub at_once : (got ≡ []) ⊎ ((length piece ≤ chunk) × (length piece ≤ length got))
   pub has_front : has front
 
--- the sink has the whole body, or what came of it before the end, a fault or the piece that was refused
+-- the sink has the whole body, or what came of it before the end, the fault of a read or the refused piece
 abbrev pub Passed : (List ℕ → Type 0) → ℕ → ℕ → ℕ → List ℕ → List ℕ → Result ℕ Short → Type 0
 Passed has chunk head body held got (Ok have) = (bytes : List ℕ) × IsPassed head body held got bytes have × has bytes
 Passed has chunk head body held got (Err short.Cut) = IsCut has head body held got

@@ -1,4 +1,4 @@
-use Rattle.std.proofs.Common.{◌≡◌, ◌<◌, ◌++◌, ℕ, List, [], length, take, drop, Err}
+use Rattle.std.proofs.Common.{◌<◌, ◌++◌, ℕ, List, [], length, take, drop}
 use Rattle.std.proofs.KnownBytes.{Consumes-nil}
 use Rattle.bsp_bodies.proofs.PassLemmas.{cut_part, passed, not_passed, refused_held}
 use Rattle.bsp_bodies.proofs.passing.pass.Goals as goal

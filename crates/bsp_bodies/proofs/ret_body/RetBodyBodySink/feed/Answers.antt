@@ -1,4 +1,4 @@
-use Rattle.std.proofs.Common.{rules, ◌≡◌, ◌⊎◌, ◌<◌, ◌++◌, ℕ, List, inl, inr, sym, subst, length}
+use Rattle.std.proofs.Common.{rules, ◌<◌, inl, inr, sym, subst, length}
 use Rattle.bsp_ret.specs.Pieces.{Fed}
 use Rattle.bsp_bodies.specs.Bodies.{HasRet}
 use Rattle.bsp_bodies.proofs.RetLemmas.{fed_before, same_fault}
