@@ -4,7 +4,7 @@ use Rattle.bsp_records.specs.Lines.{lines}
 use Rattle.bsp_ret.specs.declared.model.FaultCode.{FaultCode}
 use Rattle.bsp_ret.specs.declared.model.FaultCode.TheVariants.{F08}
 use Rattle.bsp_ret.specs.declared.model.RetFault.{RetFault}
-use Rattle.bsp_ret.specs.Table.{standing, has_ended, row_fault, or_later, fault_from, first_fault}
+use Rattle.bsp_ret.specs.Table.{standing, has_ended, row_fault, or_later, fault_from}
 use Rattle.bsp_ret.specs.declared.model.Progress.TheVariants.{Reading, Failed}
 use Rattle.bsp_ret.specs.Pieces.{Fed, IsFinal}
 use Rattle.bsp_bodies.specs.Bodies.{HasRet}
