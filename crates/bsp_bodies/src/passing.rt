@@ -1,8 +1,8 @@
 //! A body passed on to a sink.
 
-ghost use Rattle.std.specs.Prelude.{◌≡◌, ℕ, ◌<◌, ◌≤◌, List, length, take, Err, IfOk, OnErr};
-ghost use Rattle.std.specs.Io.KnownBytes.{Consumes, IsAtEnd, Keeps};
-ghost use Rattle.bsp_bodies.specs.Bodies.{Passed};
+ghost use Rattle.std.specs.Prelude.{◌≡◌, ◌≢◌, ℕ, ◌<◌, ◌≤◌, List, [], length, take, Err, IfOk, IfErr, OnErr};
+ghost use Rattle.std.specs.Io.KnownBytes.{Consumes, IsAtEnd};
+ghost use Rattle.bsp_bodies.specs.Bodies.{Passed, PassedRest};
 
 use crate::sink::BodySink;
 use std::io::Read;
@@ -17,6 +17,9 @@ pub enum Short {
     /// A read failed.
     #[error("a read failed within a body")]
     Read,
+    /// The sink had no memory for a piece. What is behind the piece was not read.
+    #[error("no memory for a body")]
+    NoRoom,
 }
 
 /// Passes a body of `body` bytes on to a sink, in order: first what of it was received, in `held`
@@ -25,8 +28,9 @@ pub enum Short {
 ///
 /// # Errors
 ///
-/// `Cut` where the input ends before the body does, `Read` where a read fails. The sink then has
-/// the bytes that came.
+/// `Cut` where the input ends before the body does, `Read` where a read fails: the sink then has
+/// the bytes that came. `NoRoom` at once where the sink refuses a piece for want of memory: it
+/// then has what came before the piece, and the input is at the end of the piece.
 pub fn pass<R: Read, S: BodySink>(
     reader: &mut R,
     held: &[u8],
@@ -37,35 +41,57 @@ pub fn pass<R: Read, S: BodySink>(
 ) -> Result<usize, Short>
     requires within { head ≤ length held.now }
     requires room { 0 < length chunk.old }
-    ensures read { (got : List ℕ) × Consumes (R.remaining reader.old) (R.remaining reader.new) got × Passed (S.has sink.new) head body held.now got result }
+    ensures read { (got : List ℕ) × Consumes (R.remaining reader.old) (R.remaining reader.new) got × Passed (S.has sink.new) (length chunk.old) head body held.now got result }
     ensures len { length chunk.new ≡ length chunk.old }
     ensures end { result ≡ Err Short.Cut → IsAtEnd (R.remaining reader.new) }
 {
     let have = (held.len() - head).min(body);
     sink.start(body);
-    sink.feed(&held[head..head + have]);
-    let mut left = body - have;
+    let Ok(()) = sink.feed(&held[head..head + have]) else {
+        return Err(Short::NoRoom);
+    };
+    match pass_rest(reader, body - have, chunk, sink) {
+        Ok(()) => Ok(have),
+        Err(short) => Err(short),
+    }
+}
+
+/// Reads so many bytes through the chunk, and passes them on as they come.
+fn pass_rest<R: Read, S: BodySink>(
+    reader: &mut R,
+    rest: usize,
+    chunk: &mut [u8],
+    sink: &mut S,
+) -> Result<(), Short>
+    requires { 0 < length chunk.old }
+    ensures read { (got : List ℕ) × Consumes (R.remaining reader.old) (R.remaining reader.new) got × PassedRest (S.has sink.old) (S.has sink.new) (length chunk.old) rest got result }
+    ensures len { length chunk.new ≡ length chunk.old }
+    ensures end { result ≡ Err Short.Cut → IsAtEnd (R.remaining reader.new) }
+{
+    let mut left = rest;
     'more: while left > 0 {
         let room = left.min(chunk.len());
         let count = read_piece(reader, &mut chunk[..room])?;
-        if count == 0 {
-            return Err(Short::Cut);
-        }
-        sink.feed(&chunk[..count]);
+        let Ok(()) = sink.feed(&chunk[..count]) else {
+            return Err(Short::NoRoom);
+        };
         left -= count;
     }
-    Ok(have)
+    Ok(())
 }
 
-/// Reads once.
+/// Reads once, into room for one byte or more. Answers how many bytes came.
 fn read_piece<R: Read>(reader: &mut R, room: &mut [u8]) -> Result<usize, Short>
+    requires { 0 < length room.old }
     ensures len { length room.new ≡ length room.old }
-    ensures bound { IfOk result (λ count. count ≤ length room.new) }
+    ensures bound { IfOk result (λ count. (0 < count) × (count ≤ length room.new)) }
     ensures ok { IfOk result (λ count. Consumes (R.remaining reader.old) (R.remaining reader.new) (take count room.new)) }
-    ensures end { IfOk result (λ count. count ≡ 0 → 0 < length room.old → IsAtEnd (R.remaining reader.new)) }
-    ensures err { OnErr result ((result ≡ Err Short.Read) × Keeps (R.remaining reader.old) (R.remaining reader.new)) }
+    ensures err { OnErr result (Consumes (R.remaining reader.old) (R.remaining reader.new) []) }
+    ensures end { result ≡ Err Short.Cut → IsAtEnd (R.remaining reader.new) }
+    ensures why { IfErr result (λ short. short ≢ Short.NoRoom) }
 {
     match reader.read(room) {
+        Ok(0) => Err(Short::Cut),
         Ok(count) => Ok(count),
         Err(_) => Err(Short::Read),
     }

@@ -1,33 +1,34 @@
 //! A sink that reads a RET file as its bytes come.
 
-ghost use Rattle.std.specs.Prelude.{◌≡◌, ◌⊎◌, ◌<◌, ℕ, List, [], ◌++◌, length, Ok, Err, None, Some, IfOk, IfErr, MatchResult};
+ghost use Rattle.std.specs.Prelude.{◌≡◌, ◌⊎◌, ℕ, List, [], Ok, Err, None, Some, IfOk, IfErr, MatchResult};
 ghost use Rattle.bsp_records.specs.Lines.{lines};
+ghost use Rattle.bsp_ret.specs.declared.model.Progress.TheVariants.{Reading, Ended, Failed};
 ghost use Rattle.bsp_ret.specs.Table.{first_fault};
 ghost use Rattle.bsp_ret.specs.Ret.{File, Ret};
 ghost use Rattle.bsp_ret.specs.Reading.{no_memory};
 ghost use Rattle.bsp_ret.specs.Pieces.{fault_at_end};
-ghost use Rattle.bsp_bodies.specs.Bodies.{HasRet, IsFaultOf, unended, ended};
+ghost use Rattle.bsp_bodies.specs.Bodies.{HasRet, unended, ended};
 
 use crate::sink::BodySink;
+use bsp_fields::NoRoom;
 use bsp_ret::{FaultCode, RetFault, RetFile, RetReader};
 use std::alloc::Global;
 use std::marker::Model;
 
 /// Feeds a body to a reader of RET files, which has its only copy. After a fault the rest of the
-/// body is dropped. A contract sees the reader, and the fault.
+/// body is dropped. A contract sees the reader.
 #[derive(Drop)]
 pub struct RetBody {
     alloc: Global,
     reader: RetReader,
-    fault: Option<RetFault>,
 }
 
 impl Model for RetBody {
-    ghost use Rattle.bsp_bodies.specs.Bodies.{Taken};
+    ghost use Rattle.bsp_ret.specs.Pieces.{Fed};
 
-    ghost Value = { Taken };
+    ghost Value = { Fed };
 
-    ghost view = { λ body. record { fed = body.reader; found = body.fault } };
+    ghost view = { λ body. body.reader };
 }
 
 impl RetBody {
@@ -38,7 +39,6 @@ impl RetBody {
         RetBody {
             alloc,
             reader: RetReader::new(alloc),
-            fault: None,
         }
     }
 
@@ -47,44 +47,31 @@ impl RetBody {
     ///
     /// # Errors
     ///
-    /// The first fault of the bytes fed, or F10 where there was no memory for them; every later
-    /// call answers it again.
+    /// The first fault of the bytes that were taken; every later call answers it again.
     pub fn finish(&mut self) -> Result<(), RetFault>
         ensures judged { (bytes : List ℕ) → HasRet self.old bytes → MatchResult result
             (λ _. (first_fault (lines bytes) ≡ None) × (self.new ≡ ended bytes))
-            (λ fault. IsFaultOf self.old bytes fault × (self.new.found ≡ Some fault)) }
-        ensures failed { (fault : RetFault) → self.old.found ≡ Some fault → (result ≡ Err fault) × (self.new ≡ self.old) }
-        ensures again { (bytes : List ℕ) → self.old ≡ ended bytes → (result ≡ Ok tt) × (self.new ≡ self.old) }
+            (λ fault. (first_fault (lines bytes) ≡ Some fault) × (self.new.progress ≡ Failed fault)) }
+        ensures failed { (fault : RetFault) → self.old.progress ≡ Failed fault → (result ≡ Err fault) × (self.new ≡ self.old) }
+        ensures again { self.old.progress ≡ Ended → (result ≡ Ok tt) × (self.new ≡ self.old) }
     {
-        if let Some(fault) = self.fault {
-            return Err(fault);
-        }
-        match self.reader.finish() {
-            Ok(()) => Ok(()),
-            Err(fault) => {
-                self.fault = Some(fault);
-                Err(fault)
-            }
-        }
+        self.reader.finish()
     }
 
-    /// The file, the one that `read_ret` gives of all bytes fed. Another call gives it again.
+    /// The file, the one that `read_ret` gives of all bytes taken. Another call gives it again.
     ///
     /// # Errors
     ///
     /// The fault that was met; F08 before a `finish` without fault; F10 where an allocation was
     /// refused.
     pub fn file(&self) -> Result<RetFile<'_>, RetFault>
-        ensures failed { (fault : RetFault) → self.now.found ≡ Some fault → result ≡ Err fault }
+        ensures failed { (fault : RetFault) → self.now.progress ≡ Failed fault → result ≡ Err fault }
         ensures reading { (bytes : List ℕ) → self.now ≡ unended bytes → result ≡ Err (fault_at_end FaultCode.F08 bytes) }
         ensures found { (bytes : List ℕ) → self.now ≡ ended bytes → IfOk result (λ file. Ret (lines bytes) file) }
         ensures only { (bytes : List ℕ) → self.now ≡ ended bytes → (file : File) → Ret (lines bytes) file → (result ≡ Ok file) ⊎ (result ≡ Err no_memory) }
         ensures fault { (bytes : List ℕ) → self.now ≡ ended bytes → IfErr result (λ fault. fault ≡ no_memory) }
     {
-        match self.fault {
-            Some(fault) => Err(fault),
-            None => self.reader.file(),
-        }
+        self.reader.file()
     }
 }
 
@@ -93,13 +80,19 @@ impl BodySink for RetBody {
 
     fn start(&mut self, _length: usize) {
         self.reader = RetReader::new(self.alloc);
-        self.fault = None;
     }
 
-    fn feed(&mut self, piece: &[u8]) {
-        if self.fault.is_some() || piece.is_empty() {
-            return;
+    fn feed(&mut self, piece: &[u8]) -> Result<(), NoRoom> {
+        if piece.is_empty() {
+            return Ok(());
         }
-        self.fault = self.reader.feed(piece).err();
+        let Err(fault) = self.reader.feed(piece) else {
+            return Ok(());
+        };
+        // F10 alone is the fault of no record.
+        if fault.at == 0 {
+            return Err(NoRoom);
+        }
+        Ok(())
     }
 }

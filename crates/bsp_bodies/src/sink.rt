@@ -1,6 +1,8 @@
 //! What takes a body, and a sink that drops it.
 
-ghost use Rattle.std.specs.Prelude.{◌≡◌, ℕ, List, [], ◌++◌};
+ghost use Rattle.std.specs.Prelude.{◌<◌, ℕ, List, [], ◌++◌, length, OnOk, OnErr};
+
+use bsp_fields::NoRoom;
 
 /// What takes the bytes of a body, piece by piece. It serves one body after the other.
 pub trait BodySink {
@@ -11,9 +13,15 @@ pub trait BodySink {
     fn start(&mut self, length: usize)
         ensures { Self.has self.new [] };
 
-    /// Takes the next piece. A sink that met a fault, or had no room, drops it.
-    fn feed(&mut self, piece: &[u8])
-        ensures { (bytes : List ℕ) → Self.has self.old bytes → Self.has self.new (bytes ++ piece.now) };
+    /// Takes the next piece. A sink that met a fault of the body drops it.
+    ///
+    /// # Errors
+    ///
+    /// `NoRoom` where memory for the piece, of one byte or more, was refused. The sink then has
+    /// what it had.
+    fn feed(&mut self, piece: &[u8]) -> Result<(), NoRoom>
+        ensures taken { OnOk result ((bytes : List ℕ) → Self.has self.old bytes → Self.has self.new (bytes ++ piece.now)) }
+        ensures refused { OnErr result ((0 < length piece.now) × ((bytes : List ℕ) → Self.has self.old bytes → Self.has self.new bytes)) };
 }
 
 /// Drops a body, as that of a message without a route (RFC 9112, section 6.3, has it read all the
@@ -26,5 +34,7 @@ impl BodySink for IgnoredBody {
 
     fn start(&mut self, _length: usize) {}
 
-    fn feed(&mut self, _piece: &[u8]) {}
+    fn feed(&mut self, _piece: &[u8]) -> Result<(), NoRoom> {
+        Ok(())
+    }
 }

@@ -1,4 +1,5 @@
 use crate::*;
+use bsp_fields::NoRoom;
 use bsp_ret::{FaultCode, RetFault, RetFile, read_ret};
 use std::io;
 use std::io::{ErrorKind, Read};
@@ -51,6 +52,27 @@ impl Read for Input<'_> {
     }
 }
 
+/// Takes the bytes that it has room for, and counts the pieces that came.
+#[derive(Drop)]
+struct Narrow {
+    room: usize,
+    pieces: usize,
+}
+
+impl BodySink for Narrow {
+    ghost has = { λ _ _. Unit {0} };
+
+    fn start(&mut self, _length: usize) {
+        self.pieces = 0;
+    }
+
+    fn feed(&mut self, piece: &[u8]) -> Result<(), NoRoom> {
+        self.pieces = self.pieces.wrapping_add(1);
+        self.room = self.room.checked_sub(piece.len()).ok_or(NoRoom)?;
+        Ok(())
+    }
+}
+
 /// Passes the body of the message on, of which so many bytes are held, in reads of at most `most`.
 /// Answers how many held bytes were of the body, and how many bytes are unread.
 fn pass_message<S: BodySink>(
@@ -79,7 +101,7 @@ fn pieces_of_any_size_are_one_body(rt: HostRuntime) -> Result<(), Fail> {
                 let mut room = [0u8; 16];
                 let told = pass_message(cut, most, &mut room[..size], &mut kept);
                 assert_eq!(rt; told, Some((have, unread)));
-                assert_eq!(rt; kept.bytes(), Some(BODY));
+                assert_eq!(rt; kept.bytes(), BODY);
             }
         }
     }
@@ -100,7 +122,7 @@ fn a_body_is_had_over_two_reads(rt: HostRuntime) {
     let mut room = [0u8; 8];
     let told = pass(&mut input, b"..abcde", 2, 9, &mut room, &mut kept);
     assert_eq!(rt; told, Ok(5));
-    assert_eq!(rt; kept.bytes(), Some(b"abcdefghi".as_slice()));
+    assert_eq!(rt; kept.bytes(), b"abcdefghi".as_slice());
     assert_eq!(rt; input.bytes, b"j".as_slice());
 }
 
@@ -113,7 +135,7 @@ fn a_body_of_nothing_reads_nothing(rt: HostRuntime) {
         pass(&mut input, b"head", 4, 0, &mut room, &mut kept),
         Ok(0)
     );
-    assert_eq!(rt; kept.bytes(), Some(b"".as_slice()));
+    assert_eq!(rt; kept.bytes(), b"".as_slice());
     assert_eq!(rt; input.bytes, b"next".as_slice());
 }
 
@@ -124,7 +146,7 @@ fn a_short_body_is_cut(rt: HostRuntime) {
     let mut room = [0u8; 8];
     let told = pass(&mut input, b"..012", 2, 6, &mut room, &mut kept);
     assert_eq!(rt; told, Err(Short::Cut));
-    assert_eq!(rt; kept.bytes(), Some(b"01234".as_slice()));
+    assert_eq!(rt; kept.bytes(), b"01234".as_slice());
 }
 
 #[test]
@@ -135,37 +157,61 @@ fn a_read_fault_is_told(rt: HostRuntime) {
     let mut room = [0u8; 8];
     let told = pass(&mut input, b"..012", 2, 6, &mut room, &mut kept);
     assert_eq!(rt; told, Err(Short::Read));
-    assert_eq!(rt; kept.bytes(), Some(b"01234".as_slice()));
+    assert_eq!(rt; kept.bytes(), b"01234".as_slice());
     assert_eq!(rt; input.bytes, b"56".as_slice());
+}
+
+/// Of `..0123456789` 5 bytes are held, and the sink has room for so many: what is told, how many
+/// pieces the sink met, and how many bytes are unread.
+fn told_by_narrow(room: usize) -> (Result<usize, Short>, usize, usize) {
+    let mut sink = Narrow { room, pieces: 0 };
+    let mut input = Input::of(b"3456789", 4);
+    let mut chunk = [0u8; 2];
+    let told = pass(&mut input, b"..012", 2, 10, &mut chunk, &mut sink);
+    (told, sink.pieces, input.bytes.len())
+}
+
+#[test]
+fn a_refused_piece_ends_the_body(rt: HostRuntime) {
+    for room in [0usize, 1, 2] {
+        assert_eq!(rt; told_by_narrow(room), (Err(Short::NoRoom), 1, 7));
+    }
+    assert_eq!(rt; told_by_narrow(3), (Err(Short::NoRoom), 2, 5));
+    assert_eq!(rt; told_by_narrow(4), (Err(Short::NoRoom), 2, 5));
+    assert_eq!(rt; told_by_narrow(5), (Err(Short::NoRoom), 3, 3));
+    assert_eq!(rt; told_by_narrow(9), (Err(Short::NoRoom), 5, 0));
+    assert_eq!(rt; told_by_narrow(10), (Ok(3), 5, 0));
 }
 
 #[test]
 fn a_body_takes_the_place_of_the_one_before(rt: HostRuntime) {
     let mut kept = KeptBody::new(rt.alloc());
-    kept.feed(b"01234");
+    assert_eq!(rt; kept.feed(b"01234"), Ok(()));
     let mut input = Input::of(b"56", 1);
     let mut room = [0u8; 8];
     let told = pass(&mut input, b"", 0, 2, &mut room, &mut kept);
     assert_eq!(rt; told, Ok(0));
-    assert_eq!(rt; kept.bytes(), Some(b"56".as_slice()));
+    assert_eq!(rt; kept.bytes(), b"56".as_slice());
 }
 
 #[test]
 fn no_room_for_all_at_once_is_no_fault(rt: HostRuntime) {
     let mut kept = KeptBody::new(rt.alloc());
     kept.start(usize::MAX);
-    kept.feed(b"ab");
-    kept.feed(b"");
-    kept.feed(b"c");
-    assert_eq!(rt; kept.bytes(), Some(b"abc".as_slice()));
+    assert_eq!(rt; kept.feed(b"ab"), Ok(()));
+    assert_eq!(rt; kept.feed(b""), Ok(()));
+    assert_eq!(rt; kept.feed(b"c"), Ok(()));
+    assert_eq!(rt; kept.bytes(), b"abc".as_slice());
 }
 
 #[test]
 fn a_fault_has_its_text(rt: HostRuntime) -> Result<(), Fail> {
     let cut = format!(in rt.alloc(); "{}", Short::Cut)?;
     let read = format!(in rt.alloc(); "{}", Short::Read)?;
+    let room = format!(in rt.alloc(); "{}", Short::NoRoom)?;
     assert_eq!(rt; cut.as_str(), "the input ended within a body");
     assert_eq!(rt; read.as_str(), "a read failed within a body");
+    assert_eq!(rt; room.as_str(), "no memory for a body");
     Ok(())
 }
 
@@ -245,7 +291,7 @@ fn the_rest_behind_a_fault_is_dropped(rt: HostRuntime) -> Result<(), Fail> {
         let mut room = [0u8; 1024];
         let told = told_in_pieces(&mut ret, &wrong, 150, &mut room[..size]);
         assert_eq!(rt; told, Some(Err(fault)));
-        ret.feed(b"more");
+        assert_eq!(rt; ret.feed(b"more"), Ok(()));
         assert_eq!(rt; ret.finish().err(), Some(fault));
         assert_eq!(rt; ret.file().err(), Some(fault));
     }
