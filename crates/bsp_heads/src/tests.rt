@@ -1,7 +1,8 @@
-use crate::*;
-use httparse::spans::Span;
-use std::alloc::Global;
-use std::test::Fail;
+mod ends;
+mod limits;
+mod parts;
+
+use crate::{HeadFault, Wanted, read_head};
 
 /// A head with one fault.
 const FAULTS: [(&[u8], HeadFault); 18] = [
@@ -226,41 +227,6 @@ const HEADS: [(&[u8], Wanted); 23] = [
     ),
 ];
 
-/// Heads, and the token of each.
-const TOKENS: [(&[u8], Option<&[u8]>); 5] = [
-    (b"PUT /a?b HTTP/1.1\r\nHost: a\r\n\r\n", None),
-    (
-        b"PUT /a?b HTTP/1.1\r\nHost: a\r\nBsp-Token: secret\r\n\r\n",
-        Some(b"secret"),
-    ),
-    (
-        b"PUT /a?b HTTP/1.1\r\nbSP-tOKEN:\t se cret \r\nHost: a\r\n\r\n",
-        Some(b"se cret"),
-    ),
-    (
-        b"PUT /a?b HTTP/1.1\r\nHost: a\r\nBsp-Token:\r\n\r\n",
-        Some(b""),
-    ),
-    (
-        b"PUT /a?b HTTP/1.1\r\nHost: a\r\nBsp-Token: a\r\nBsp-Token: a\r\n\r\n",
-        None,
-    ),
-];
-
-/// Texts, and how many bytes the head at the front of each takes.
-const ENDS: [(&[u8], Option<usize>); 10] = [
-    (b"", None),
-    (b"\r\n\r\n\n\n", None),
-    (b"GET / HTTP/1.1\r\nHost: a\r\n\r", None),
-    (b"GET / HTTP/1.1\r\nHost: a\r\n\r\n", Some(27)),
-    (b"GET / HTTP/1.1\r\nHost: a\r\n\r\n\r\n", Some(27)),
-    (b"GET / HTTP/1.1\nHost: a\n\nbody\n\n", Some(24)),
-    (b"\r\n\nGET / HTTP/1.1\nHost: a\r\n\n", Some(28)),
-    (b"a\n\r\r\n\n", Some(6)),
-    (b"a\n \n\r\n", Some(6)),
-    (b"\r\r\n\n", Some(4)),
-];
-
 /// Refused heads, and whether the answer leaves its body out.
 const REFUSED: [(&[u8], bool); 4] = [
     (
@@ -274,56 +240,6 @@ const REFUSED: [(&[u8], bool); 4] = [
 
 fn has_fault(text: &[u8], fault: HeadFault) -> bool {
     read_head(text).is_err_and(|refused| refused.fault == fault)
-}
-
-fn covers(text: &[u8], span: Span, wanted: &[u8]) -> bool {
-    text.get(span.start..span.end)
-        .is_some_and(|bytes| bytes == wanted)
-}
-
-fn has_token(text: &[u8], token: Option<&[u8]>) -> bool {
-    let Ok(parts) = read_head(text) else {
-        return false;
-    };
-    let same = match (parts.token, token) {
-        (Some(span), Some(wanted)) => covers(text, span, wanted),
-        (None, None) => true,
-        _ => false,
-    };
-    same && covers(text, parts.method, b"PUT") && covers(text, parts.target, b"/a?b")
-}
-
-/// Where the head ends for a search that is given the text a byte at a time.
-fn end_by_bytes(text: &[u8]) -> Option<usize> {
-    let mut scan = Scan::start();
-    for (i, byte) in text.iter().enumerate() {
-        if scan.go_on(&[*byte]).is_some() {
-            return Some(i + 1);
-        }
-    }
-    None
-}
-
-/// A head with that many fields.
-fn head_of_fields(alloc: Global, count: usize) -> Result<Vec<u8>, Fail> {
-    let mut text = Vec::new(alloc);
-    text.extend_from_slice(b"GET / HTTP/1.1\r\nHost: a\r\n")?;
-    for _ in 1..count {
-        text.extend_from_slice(b"A: b\r\n")?;
-    }
-    text.extend_from_slice(b"\r\n")?;
-    Ok(text)
-}
-
-/// A head of that many bytes, at least 32.
-fn head_of_bytes(alloc: Global, len: usize) -> Result<Vec<u8>, Fail> {
-    let mut text = Vec::new(alloc);
-    text.extend_from_slice(b"GET / HTTP/1.1\r\nHost: a\r\nB: ")?;
-    for _ in 32..len {
-        text.push(b'b')?;
-    }
-    text.extend_from_slice(b"\r\n\r\n")?;
-    Ok(text)
 }
 
 #[test]
@@ -351,47 +267,9 @@ fn heads_ask_for_what_they_say(rt: HostRuntime) {
 }
 
 #[test]
-fn parts_are_found(rt: HostRuntime) {
-    assert!(rt; TOKENS.iter().all(|(text, token)| has_token(text, *token)));
-}
-
-#[test]
 fn answers_to_head_are_bare_where_the_head_was_read(rt: HostRuntime) {
     assert!(rt;
         REFUSED.iter().all(|(text, bare)| read_head(text).is_err_and(|refused| refused.bare
             == *bare))
     );
-}
-
-#[test]
-fn ends_are_found_in_one_piece(rt: HostRuntime) {
-    for (i, (text, end)) in ENDS.iter().enumerate() {
-        assert_eq!(rt; Scan::start().go_on(text), *end, "{i}");
-    }
-}
-
-#[test]
-fn ends_are_found_byte_by_byte(rt: HostRuntime) {
-    for (i, (text, end)) in ENDS.iter().enumerate() {
-        assert_eq!(rt; end_by_bytes(text), *end, "{i}");
-    }
-}
-
-#[test]
-fn fields_have_a_limit(rt: HostRuntime) -> Result<(), Fail> {
-    let within = head_of_fields(rt.alloc(), 64)?;
-    let beyond = head_of_fields(rt.alloc(), 65)?;
-    assert!(rt; read_head(&within).is_ok() && has_fault(&beyond, HeadFault::HeadTooLarge));
-    Ok(())
-}
-
-#[test]
-fn bytes_have_a_limit(rt: HostRuntime) -> Result<(), Fail> {
-    let within = head_of_bytes(rt.alloc(), 16384)?;
-    let beyond = head_of_bytes(rt.alloc(), 16385)?;
-    let lengths = within.len() == 16384 && beyond.len() == 16385;
-    assert!(rt;
-        lengths && read_head(&within).is_ok() && has_fault(&beyond, HeadFault::HeadTooLarge)
-    );
-    Ok(())
 }
