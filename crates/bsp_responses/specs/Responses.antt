@@ -6,8 +6,8 @@ use Rattle.bsp_responses.specs.declared.status.Status.TheVariants as status
 use Rattle.bsp_responses.specs.declared.status.Media.{Media}
 use Rattle.bsp_responses.specs.declared.status.Media.TheVariants as media
 use Rattle.bsp_responses.specs.declared.head.ResponseHead.{ResponseHead}
-use Rattle.bsp_responses.specs.declared.refusal.HeadRefusal.{HeadRefusal}
-use Rattle.bsp_responses.specs.declared.refusal.HeadRefusal.TheVariants.{Malformed, NoLength, BodyTooLarge, HeadTooLarge, TransferCoding}
+use Rattle.bsp_heads.specs.declared.fault.HeadFault.{HeadFault}
+use Rattle.bsp_heads.specs.declared.fault.HeadFault.TheVariants.{Malformed, LengthRequired, BodyTooLarge, HeadTooLarge, TransferCoding}
 use Rattle.bsp_responses.specs.declared.response.Reply.{Reply}
 use Rattle.bsp_responses.specs.Heads.{head_text}
 
@@ -36,9 +36,9 @@ continue_text = codes "HTTP/1.1 100 Continue\r\n\r\n"
 abbrev pub code_reply : Status → List ℕ → ReplyText
 code_reply s body = record { status = s; media = media.Json; allow = None; body = body }
 
-abbrev pub refusal_reply : HeadRefusal → ReplyText
+abbrev pub refusal_reply : HeadFault → ReplyText
 refusal_reply Malformed = code_reply status.BadRequest (codes "{\"code\":\"T01\"}")
-refusal_reply NoLength = code_reply status.LengthRequired (codes "{\"code\":\"T02\"}")
+refusal_reply LengthRequired = code_reply status.LengthRequired (codes "{\"code\":\"T02\"}")
 refusal_reply BodyTooLarge = code_reply status.PayloadTooLarge (codes "{\"code\":\"T03\"}")
 refusal_reply HeadTooLarge = code_reply status.RequestHeaderFieldsTooLarge (codes "{\"code\":\"T04\"}")
 refusal_reply TransferCoding = code_reply status.NotImplemented (codes "{\"code\":\"T05\"}")

@@ -1,4 +1,5 @@
-use super::{HeadRefusal, Media, Methods, Reply, Response, Status, interim};
+use super::{Media, Methods, Reply, Response, Status, interim, refusal};
+use bsp_heads::HeadFault;
 use std::alloc::Global;
 use std::test::Fail;
 
@@ -127,30 +128,30 @@ fn statuses_have_their_phrases(rt: HostRuntime) -> Result<(), Fail> {
     Ok(())
 }
 
-const REFUSALS: [(HeadRefusal, &str, &str); 5] = [
-    (HeadRefusal::Malformed, "400 Bad Request", "T01"),
-    (HeadRefusal::NoLength, "411 Length Required", "T02"),
-    (HeadRefusal::BodyTooLarge, "413 Payload Too Large", "T03"),
+const REFUSALS: [(HeadFault, &str, &str); 5] = [
+    (HeadFault::Malformed, "400 Bad Request", "T01"),
+    (HeadFault::LengthRequired, "411 Length Required", "T02"),
+    (HeadFault::BodyTooLarge, "413 Payload Too Large", "T03"),
     (
-        HeadRefusal::HeadTooLarge,
+        HeadFault::HeadTooLarge,
         "431 Request Header Fields Too Large",
         "T04",
     ),
-    (HeadRefusal::TransferCoding, "501 Not Implemented", "T05"),
+    (HeadFault::TransferCoding, "501 Not Implemented", "T05"),
 ];
 
 /// A refused head is answered by its code, to a HEAD without the body.
 #[test]
 fn refusals_have_their_codes(rt: HostRuntime) -> Result<(), Fail> {
     let alloc = rt.alloc();
-    for (refusal, line, code) in REFUSALS {
+    for (fault, line, code) in REFUSALS {
         let head = format!(in alloc;
             "HTTP/1.1 {line}\r\nContent-Type: application/json\r\nContent-Length: 14\r\nConnection: close\r\n\r\n"
         )?;
         let text = format!(in alloc; "{head}{{\"code\":\"{code}\"}}")?;
-        let is_told = is_sent(alloc, refusal.reply(), false, true, &text)?;
+        let is_told = is_sent(alloc, refusal(fault), false, true, &text)?;
         assert_eq!(rt; (code, is_told), (code, true));
-        let is_told_bare = is_sent(alloc, refusal.reply(), true, true, &head)?;
+        let is_told_bare = is_sent(alloc, refusal(fault), true, true, &head)?;
         assert_eq!(rt; (code, is_told_bare), (code, true));
     }
     Ok(())
