@@ -41,7 +41,11 @@ impl KeptBody {
 }
 
 impl BodySink for KeptBody {
+    ghost use Rattle.std.specs.Prelude.{true};
+
     ghost has = { λ body bytes. body ≡ bytes };
+
+    ghost takes_memory = { true };
 
     /// Asks for room for the whole body. Where it is refused, each piece asks for its own.
     fn start(&mut self, length: usize) {

@@ -1,6 +1,6 @@
 //! A body passed on to a sink.
 
-ghost use Rattle.std.specs.Prelude.{◌≡◌, ◌≢◌, ℕ, ◌<◌, ◌≤◌, List, [], length, take, Err, IfOk, IfErr, OnErr};
+ghost use Rattle.std.specs.Prelude.{◌≡◌, ◌≢◌, ℕ, ◌<◌, ◌≤◌, true, List, [], length, take, Err, IfOk, IfErr, OnErr};
 ghost use Rattle.std.specs.Io.KnownBytes.{Consumes, IsAtEnd};
 ghost use Rattle.bsp_bodies.specs.Bodies.{Passed, PassedRest};
 
@@ -44,6 +44,7 @@ pub fn pass<R: Read, S: BodySink>(
     ensures read { (got : List ℕ) × Consumes (R.remaining reader.old) (R.remaining reader.new) got × Passed (S.has sink.new) (length chunk.old) head body held.now got result }
     ensures len { length chunk.new ≡ length chunk.old }
     ensures end { result ≡ Err Short.Cut → IsAtEnd (R.remaining reader.new) }
+    ensures memory { result ≡ Err Short.NoRoom → S.takes_memory ≡ true }
 {
     let have = (held.len() - head).min(body);
     sink.start(body);
@@ -67,6 +68,7 @@ fn pass_rest<R: Read, S: BodySink>(
     ensures read { (got : List ℕ) × Consumes (R.remaining reader.old) (R.remaining reader.new) got × PassedRest (S.has sink.old) (S.has sink.new) (length chunk.old) rest got result }
     ensures len { length chunk.new ≡ length chunk.old }
     ensures end { result ≡ Err Short.Cut → IsAtEnd (R.remaining reader.new) }
+    ensures memory { result ≡ Err Short.NoRoom → S.takes_memory ≡ true }
 {
     let mut left = rest;
     'more: while left > 0 {

@@ -76,7 +76,11 @@ impl RetBody {
 }
 
 impl BodySink for RetBody {
+    ghost use Rattle.std.specs.Prelude.{true};
+
     ghost has = { HasRet };
+
+    ghost takes_memory = { true };
 
     fn start(&mut self, _length: usize) {
         self.reader = RetReader::new(self.alloc);

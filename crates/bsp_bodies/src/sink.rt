@@ -1,6 +1,6 @@
 //! What takes a body, and a sink that drops it.
 
-ghost use Rattle.std.specs.Prelude.{◌<◌, ℕ, List, [], ◌++◌, length, OnOk, OnErr};
+ghost use Rattle.std.specs.Prelude.{◌≡◌, ◌<◌, ℕ, Bool, true, List, [], ◌++◌, length, OnOk, OnErr};
 
 use bsp_fields::NoRoom;
 
@@ -8,6 +8,9 @@ use bsp_fields::NoRoom;
 pub trait BodySink {
     // The sink has what it makes of these bytes.
     ghost has: { Self → List ℕ → Type 0 };
+
+    // Whether it keeps bytes, so that it may want memory.
+    ghost takes_memory: { Bool };
 
     /// Begins a body of so many bytes. What the sink had of the one before is dropped.
     fn start(&mut self, length: usize)
@@ -21,7 +24,7 @@ pub trait BodySink {
     /// what it had.
     fn feed(&mut self, piece: &[u8]) -> Result<(), NoRoom>
         ensures taken { OnOk result ((bytes : List ℕ) → Self.has self.old bytes → Self.has self.new (bytes ++ piece.now)) }
-        ensures refused { OnErr result ((0 < length piece.now) × ((bytes : List ℕ) → Self.has self.old bytes → Self.has self.new bytes)) };
+        ensures refused { OnErr result ((Self.takes_memory ≡ true) × (0 < length piece.now) × ((bytes : List ℕ) → Self.has self.old bytes → Self.has self.new bytes)) };
 }
 
 /// Drops a body, as that of a message without a route (RFC 9112, section 6.3, has it read all the
@@ -30,7 +33,11 @@ pub trait BodySink {
 pub struct IgnoredBody;
 
 impl BodySink for IgnoredBody {
+    ghost use Rattle.std.specs.Prelude.{false};
+
     ghost has = { λ _ _. Unit {0} };
+
+    ghost takes_memory = { false };
 
     fn start(&mut self, _length: usize) {}
 

@@ -60,7 +60,11 @@ struct Narrow {
 }
 
 impl BodySink for Narrow {
+    ghost use Rattle.std.specs.Prelude.{true};
+
     ghost has = { λ _ _. Unit {0} };
+
+    ghost takes_memory = { true };
 
     fn start(&mut self, _length: usize) {
         self.pieces = 0;

@@ -5,8 +5,8 @@ use Rattle.bsp_bodies.proofs.passing.pass.Goals as goal
 
 pub returns-in_default-clause-read : goal.returns-in_default-clause-read
 returns-in_default-clause-read g c =
-    let some = cut_part (λ (l : List ℕ). 0 < length l) c.args.held.now c.args.head c.min-have.result c.in_default.ensures.refused.0 in
-    ([], Consumes-nil _, refused_held (g.S.BodySink.has c.start.new.self) (g.S.BodySink.has c.feed.new.self) (length c.args.chunk.now) c.args.held.now c.args.head c.args.body c.min-have.result c.min-have.ensures c.start.ensures c.in_default.ensures.refused.1 some)
+    let some = cut_part (λ (l : List ℕ). 0 < length l) c.args.held.now c.args.head c.min-have.result c.in_default.ensures.refused.1 in
+    ([], Consumes-nil _, refused_held (g.S.BodySink.has c.start.new.self) (g.S.BodySink.has c.feed.new.self) (length c.args.chunk.now) c.args.held.now c.args.head c.args.body c.min-have.result c.min-have.ensures c.start.ensures c.in_default.ensures.refused.2 some)
 
 pub returns-in-Err-clause-read : goal.returns-in-Err-clause-read
 returns-in-Err-clause-read g c =

@@ -18,7 +18,7 @@ returns-in_default-clause-read g c =
     let one : length (take n room) ≤ length c.args.chunk.now = grind (arith, common_steps, long, bound.1, c.read_piece.ensures.len, c.min-room.ensures, c.more.invariant.long) in (
       inv.0 ++ take n room,
       Consumes-trans _ _ _ inv.0 (take n room) inv.1 c.in_ok-count.ensures.ok,
-      refused_piece (g.S.BodySink.has c.args.sink.now) (g.S.BodySink.has c.more.sink) (g.S.BodySink.has c.feed.new.self) (length c.args.chunk.now) c.args.rest c.more.left inv.0 (take n room) inv.3 c.in_default.ensures.refused.1 some one small inv.2,
+      refused_piece (g.S.BodySink.has c.args.sink.now) (g.S.BodySink.has c.more.sink) (g.S.BodySink.has c.feed.new.self) (length c.args.chunk.now) c.args.rest c.more.left inv.0 (take n room) inv.3 c.in_default.ensures.refused.2 some one small inv.2,
     )
 
 pub more-preserved : goal.more-preserved

@@ -1,4 +1,4 @@
-use Rattle.std.proofs.Common.{rules, ◌<◌, inl, inr, sym, subst, length}
+use Rattle.std.proofs.Common.{refl, rules, ◌<◌, inl, inr, sym, subst, length}
 use Rattle.bsp_ret.specs.Pieces.{Fed}
 use Rattle.bsp_bodies.specs.Bodies.{HasRet}
 use Rattle.bsp_bodies.proofs.RetLemmas.{fed_before, same_fault}
@@ -7,6 +7,7 @@ use Rattle.bsp_bodies.proofs.ret_body.RetBodyBodySink.feed.Goals as goal
 pub returns-then-fault-eq0-clause-refused : goal.returns-then-fault-eq0-clause-refused
 returns-then-fault-eq0-clause-refused c =
     let some : 0 < length c.args.piece.now = search rules in (
+      refl,
       some,
       λ bytes fed.
           fed_before c.self.inside.reader c.feed.new.self bytes c.args.piece.now c.in-Err.fault (subst (λ (f : Fed). HasRet f bytes) (sym c.self.view_is) fed) c.if-fault-eq0.true
