@@ -1,0 +1,5 @@
+-- Lemmas of this crate.
+pub mod WriteLemmas
+pub mod TurnLemmas
+pub mod RunLemmas
+pub mod ServeLemmas
