@@ -1,4 +1,5 @@
 -- Lemmas of this crate.
+pub mod FileLemmas
 pub mod WriteLemmas
 pub mod TurnLemmas
 pub mod RunLemmas

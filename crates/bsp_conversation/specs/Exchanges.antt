@@ -1,9 +1,14 @@
 -- Requests and replies as their bytes, and what of a body is answered.
-use Rattle.std.specs.Prelude.{◌≡◌, ℕ, Bool, List, [], ◌++◌, if◌then◌else◌, Option, Result, Ok, Err}
+use Rattle.std.specs.Prelude.{◌≡◌, ℕ, Bool, List, [], ◌++◌, if◌then◌else◌, Option, Some, Result, Ok, Err}
+use Rattle.std.specs.Borrow.{Bor}
 use Rattle.std.specs.Option.{option_map}
 use Rattle.std.specs.Io.KnownBytes.{Appends}
 use Rattle.std.specs.Cow.{cow_slice_items}
+use Rattle.bsp_records.specs.Lines.{lines}
 use Rattle.bsp_responses.specs.Responses.{ReplyText, continue_text}
+use Rattle.bsp_ret.specs.Ret.{File, Ret}
+use Rattle.bsp_ret.specs.Table.{first_fault}
+use Rattle.bsp_ret.specs.declared.model.RetFault.{RetFault}
 use Rattle.bsp_conversation.specs.declared.service.BodyUse.{BodyUse}
 use Rattle.bsp_conversation.specs.declared.service.BodyUse.TheVariants.{Ignored, Kept, RetFile}
 use Rattle.bsp_conversation.specs.declared.service.Message.{Message}
@@ -27,6 +32,11 @@ abbrev pub used : BodyUse → List ℕ → List ℕ
 used Ignored body = []
 used Kept body = body
 used RetFile body = body
+
+-- the bytes are the RET file, or have that first fault
+abbrev pub IsFileRead : List ℕ → Result (Bor File) RetFault → Type 0
+IsFileRead bytes (Ok file) = Ret (lines bytes) file.now
+IsFileRead bytes (Err fault) = first_fault (lines bytes) ≡ Some fault
 
 -- a request and its reply
 pub record Exchange : Type 0 where

@@ -1,12 +1,15 @@
 //! Reading the body of a message, and asking the service.
 
-ghost use Rattle.std.specs.Prelude.{◌≡◌, ℕ, ◌≤◌, List, length, Err};
+ghost use Rattle.std.specs.Prelude.{◌≡◌, ℕ, ◌<◌, ◌≤◌, List, length, Err, IfOk, OnErr};
 ghost use Rattle.std.specs.Io.KnownBytes.{Consumes, IsAtEnd};
+ghost use Rattle.bsp_bodies.specs.Bodies.{HasRet};
 ghost use Rattle.bsp_conversation.specs.Arrivals.{IsAsked};
+ghost use Rattle.bsp_conversation.specs.Exchanges.{answer_text, request_of};
 
 use crate::room::Bodies;
 use crate::service::{Answer, BodyUse, Message, Service};
-use bsp_bodies::{IgnoredBody, Short, pass};
+use bsp_bodies::{IgnoredBody, RetBody, Short, pass};
+use bsp_fields::NoRoom;
 use std::io::Read;
 
 /// Where a message is in what was received.
@@ -72,6 +75,29 @@ fn ask_keeping<R: Read, D, S: Service<D>>(
     Ok((have, service.answer(desk, message, bodies.kept.bytes())))
 }
 
+/// Asks the service with the RET file that the body is, or its first fault.
+///
+/// # Errors
+///
+/// `NoRoom` where there was no memory for the file. The desk is then as it was.
+fn answer_read<D, S: Service<D>>(
+    body: &mut RetBody,
+    service: &S,
+    desk: &mut D,
+    message: &Message<'_>,
+) -> Result<Answer, NoRoom>
+    ensures answered { IfOk result (λ answer. (bytes : List ℕ) → HasRet body.old bytes → S.means.steps desk.old (request_of message.now bytes) (answer_text answer) desk.new) }
+    ensures refused { OnErr result ((desk.new ≡ desk.old) × ((bytes : List ℕ) → HasRet body.old bytes → 0 < length bytes)) }
+{
+    if let Err(fault) = body.finish() {
+        return Ok(service.answer_file(desk, message, Err(fault)));
+    }
+    match body.file() {
+        Ok(file) => Ok(service.answer_file(desk, message, Ok(&file))),
+        Err(_) => Err(NoRoom),
+    }
+}
+
 /// Reads the body as a RET file, and asks the service.
 fn ask_reading<R: Read, D, S: Service<D>>(
     reader: &mut R,
@@ -95,7 +121,10 @@ fn ask_reading<R: Read, D, S: Service<D>>(
         &mut bodies.chunk,
         &mut bodies.file,
     )?;
-    Ok((have, service.answer_file(desk, message, &mut bodies.file)))
+    match answer_read(&mut bodies.file, service, desk, message) {
+        Ok(answer) => Ok((have, answer)),
+        Err(_) => Err(Short::NoRoom),
+    }
 }
 
 /// Reads the body of the message, as the service uses it, and asks the service once it is whole. Answers how many

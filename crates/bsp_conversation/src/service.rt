@@ -1,12 +1,11 @@
 //! What answers the messages of a connection.
 
 ghost use Rattle.std.specs.Prelude.{◌≡◌, ℕ, List};
-ghost use Rattle.bsp_bodies.specs.Bodies.{HasRet};
 ghost use Rattle.bsp_responses.specs.Responses.{reply_text};
-ghost use Rattle.bsp_conversation.specs.Exchanges.{Meaning, answer_text, request_of};
+ghost use Rattle.bsp_conversation.specs.Exchanges.{IsFileRead, Meaning, answer_text, request_of};
 
-use bsp_bodies::RetBody;
 use bsp_responses::{Media, Methods, Reply, Status};
+use bsp_ret::{RetFault, RetFile};
 use std::alloc::Global;
 use std::borrow::CowSlice;
 
@@ -80,7 +79,12 @@ pub trait Service<D> {
     fn answer(&self, desk: &mut D, message: &Message<'_>, body: &[u8]) -> Answer
         ensures { Self.means.steps desk.old (request_of message.now body.now) (answer_text result) desk.new };
 
-    /// Answers a request whose body was read as a RET file.
-    fn answer_file(&self, desk: &mut D, message: &Message<'_>, file: &mut RetBody) -> Answer
-        ensures { (bytes : List ℕ) → HasRet file.old bytes → Self.means.steps desk.old (request_of message.now bytes) (answer_text result) desk.new };
+    /// Answers a request whose body was read as a RET file: with the file, or its first fault.
+    fn answer_file(
+        &self,
+        desk: &mut D,
+        message: &Message<'_>,
+        file: Result<&RetFile<'_>, RetFault>,
+    ) -> Answer
+        ensures { (bytes : List ℕ) → IsFileRead bytes file.entry → Self.means.steps desk.old (request_of message.now bytes) (answer_text result) desk.new };
 }

@@ -6,8 +6,8 @@ ghost use Rattle.bsp_responses.specs.Responses.{code_reply};
 ghost use Rattle.bsp_responses.specs.declared.status.Status.TheVariants as status;
 
 use crate::{Answer, BodyUse, Message, Service};
-use bsp_bodies::RetBody;
 use bsp_responses::{Media, Methods, Status};
+use bsp_ret::{RetFault, RetFile};
 use std::borrow::CowSlice;
 
 /// Counts the requests that it was asked.
@@ -39,7 +39,7 @@ fn text(status: Status, allow: Option<Methods>, body: &'static [u8]) -> Answer {
 }
 
 impl Echo {
-    fn tell(&self, desk: &mut Counter, message: &Message<'_>, body: &'static [u8]) -> Answer {
+    fn reply(&self, desk: &mut Counter, message: &Message<'_>, body: &'static [u8]) -> Answer {
         desk.asked = desk.asked.saturating_add(1);
         let known = message.target == b"/kept".as_slice() || message.target == b"/file".as_slice();
         if !known {
@@ -77,14 +77,19 @@ impl Service<Counter> for Echo {
     }
 
     fn answer(&self, desk: &mut Counter, message: &Message<'_>, body: &[u8]) -> Answer {
-        self.tell(desk, message, DIGITS[body.len() % 10])
+        self.reply(desk, message, DIGITS[body.len() % 10])
     }
 
-    fn answer_file(&self, desk: &mut Counter, message: &Message<'_>, file: &mut RetBody) -> Answer {
-        let told: &'static [u8] = match file.finish() {
-            Ok(()) => b"file",
+    fn answer_file(
+        &self,
+        desk: &mut Counter,
+        message: &Message<'_>,
+        file: Result<&RetFile<'_>, RetFault>,
+    ) -> Answer {
+        let text: &'static [u8] = match file {
+            Ok(_) => b"file",
             Err(_) => b"fault",
         };
-        self.tell(desk, message, told)
+        self.reply(desk, message, text)
     }
 }
