@@ -20,7 +20,7 @@ module _ {D : Type 0} (m : Meaning D) where
 
   pub closes_run : (p q : Connection D) (xs : List Exchange) → Closes m p xs q → IsRun m p.desk xs q.desk
   closes_run p q xs (refused r why none desk count text) = subst (λ (l : List Exchange). IsRun m p.desk l q.desk) (sym none) (sym desk)
-  closes_run p q xs (unroomed len h wanted has some kept none desk count text) = subst (λ (l : List Exchange). IsRun m p.desk l q.desk) (sym none) (sym desk)
+  closes_run p q xs (unroomed len h wanted has some kind use_is kept none desk count text) = subst (λ (l : List Exchange). IsRun m p.desk l q.desk) (sym none) (sym desk)
   closes_run p q xs (answered x one a) = subst (λ (l : List Exchange). IsRun m p.desk l q.desk) (sym one) (q.desk, a.step, refl)
 
   ends_run : (p q : Connection D) (end : End) (xs : List Exchange) → EndsBy m p end xs q → IsRun m p.desk xs q.desk

@@ -32,6 +32,7 @@ use Rattle.bsp_conversation.specs.declared.end.ServeFault.{ServeFault}
 use Rattle.bsp_conversation.specs.declared.end.ServeFault.TheVariants.{Read, Write, Memory}
 use Rattle.bsp_conversation.specs.declared.sending.WriteFault.{WriteFault}
 use Rattle.bsp_conversation.specs.declared.service.Answer.{Answer}
+use Rattle.bsp_conversation.specs.declared.service.BodyUse.{BodyUse}
 use Rattle.bsp_conversation.specs.declared.service.BodyUse.TheVariants.{Ignored}
 use Rattle.bsp_conversation.specs.declared.service.Message.{Message}
 
@@ -77,12 +78,12 @@ keeps_all (Some x) (Some y) same = same ∙ sym (append-nil x)
 module _ {D : Type 0} (m : Meaning D) where
   -- ---- a message that was answered
 
-  abbrev pub request : RequestHead → List ℕ → RequestText
-  request h body = record { method = h.method; target = h.target; token = token_of (headers_of h); body = used (m.body_use h.method h.target) body }
+  abbrev pub request : RequestHead → BodyUse → List ℕ → RequestText
+  request h kind body = record { method = h.method; target = h.target; token = token_of (headers_of h); body = used kind body }
 
-  has_message : (received got rest body more : List ℕ) (len : ℕ) (h : RequestHead) (wanted : Wanted) → Received received len h wanted → received ++ got ≡ take len received ++ (body ++ rest) → length body ≡ wanted.body
-      → HasMessage m ((received ++ got) ++ more) (request h body) wanted (rest ++ more)
-  has_message received got rest body more len h wanted r whole sized =
+  has_message : (received got rest body more : List ℕ) (len : ℕ) (h : RequestHead) (kind : BodyUse) (wanted : Wanted) → Received received len h wanted → m.uses h.method h.target kind → received ++ got ≡ take len received ++ (body ++ rest) → length body ≡ wanted.body
+      → HasMessage m ((received ++ got) ++ more) (request h kind body) wanted (rest ++ more)
+  has_message received got rest body more len h kind wanted r use_is whole sized =
       let front = take len received in
       let long : length front ≡ len = length-take-le len received (head_len-le received len r.ends) in
       let all : (received ++ got) ++ more ≡ front ++ (body ++ (rest ++ more)) =
@@ -94,8 +95,10 @@ module _ {D : Type 0} (m : Meaning D) where
         len = len;
         head = h;
         has = subst (λ (l : List ℕ). HasHead l len h wanted) (sym (append_assoc received got more)) (has_head received (got ++ more) len h wanted r);
+        kind = kind;
+        use_is = use_is;
         whole = omega (arith, ap length all, length-append front (body ++ (rest ++ more)), length-append body (rest ++ more), long, sized);
-        request_is = ap (request h) (sym (ap (take wanted.body) after ∙ front_of body (rest ++ more) wanted.body sized));
+        request_is = ap (request h kind) (sym (ap (take wanted.body) after ∙ front_of body (rest ++ more) wanted.body sized));
         rest_is = sym both;
       }
 
@@ -104,21 +107,23 @@ module _ {D : Type 0} (m : Meaning D) where
     pub len : ℕ
     pub h : RequestHead
     pub has : Received received len h wanted
+    pub kind : BodyUse
+    pub use_is : m.uses h.method h.target kind
     pub body : List ℕ
     pub whole : received ++ got ≡ take len received ++ (body ++ rest)
     pub sized : length body ≡ wanted.body
-    pub step : m.steps old (request h body) reply new
+    pub step : m.steps old (request h kind body) reply new
     pub closes_is : closes ≡ (wanted.closes || count + 1 == 65536)
 
   abbrev pub exchange : (count : ℕ) (received got rest : List ℕ) (wanted : Wanted) (closes : Bool) (reply : ReplyText) (old new : D) → Replied count received got rest wanted closes reply old new → Exchange
-  exchange count received got rest wanted closes reply old new a = record { request = request a.h a.body; reply = reply }
+  exchange count received got rest wanted closes reply old new a = record { request = request a.h a.kind a.body; reply = reply }
 
   answers : (count : ℕ) (received got rest : List ℕ) (wanted : Wanted) (closes : Bool) (reply : ReplyText) (old new : D) (a : Replied count received got rest wanted closes reply old new) (more written : List ℕ)
       → AnswersMessage m closes (connection count ((received ++ got) ++ more) old written) (exchange count received got rest wanted closes reply old new a)
       (connection (count + 1) (rest ++ more) new (written ++ (interim wanted.expects ++ response wanted.bare closes reply)))
   answers count received got rest wanted closes reply old new a more written = record {
     wanted = wanted;
-    message = has_message received got rest a.body more a.len a.h wanted a.has a.whole a.sized;
+    message = has_message received got rest a.body more a.len a.h a.kind wanted a.has a.use_is a.whole a.sized;
     step = a.step;
     counted = refl;
     closes_is = a.closes_is;
@@ -164,13 +169,18 @@ module _ {D : Type 0} (m : Meaning D) where
   received_parts received len parts ends short are = record { ends = ends; short = short; head = are.1; judged = are.2 }
 
   -- the service was asked the message that the head is
-  same_request : (text body : List ℕ) (parts : HeadParts) (message : Message) (are : AreParts text parts) → message.method.now ≡ span_bytes text parts.method → message.target.now ≡ span_bytes text parts.target
-      → option_map (λ t. t.now) message.token ≡ option_map (span_bytes text) parts.token → request_of message (used (m.body_use message.method.now message.target.now) body) ≡ request are.0 body
-  same_request text body parts message are method target token =
+  same_request : (text body : List ℕ) (kind : BodyUse) (parts : HeadParts) (message : Message) (are : AreParts text parts) → message.method.now ≡ span_bytes text parts.method → message.target.now ≡ span_bytes text parts.target
+      → option_map (λ t. t.now) message.token ≡ option_map (span_bytes text) parts.token → request_of message (used kind body) ≡ request are.0 kind body
+  same_request text body kind parts message are method target token =
       let a : message.method.now ≡ (are.0).method = method ∙ are.3 in
       let b : message.target.now ≡ (are.0).target = target ∙ are.4 in
       let c : option_map (λ t. t.now) message.token ≡ token_of (headers_of are.0) = token ∙ are.5 in
-      λ i. record { method = a i; target = b i; token = c i; body = used (m.body_use (a i) (b i)) body }
+      λ i. record { method = a i; target = b i; token = c i; body = used kind body }
+
+  uses_same : (text : List ℕ) (kind : BodyUse) (parts : HeadParts) (message : Message) (are : AreParts text parts) → message.method.now ≡ span_bytes text parts.method → message.target.now ≡ span_bytes text parts.target
+      → m.uses message.method.now message.target.now kind → m.uses (are.0).method (are.0).target kind
+  uses_same text kind parts message are method target u =
+      subst (λ (t : List ℕ). m.uses (are.0).method t kind) (target ∙ are.4) (subst (λ (t : List ℕ). m.uses t message.target.now kind) (method ∙ are.3) u)
 
   pub asked : (count len have : ℕ) (received got rest : List ℕ) (parts : HeadParts) (closes : Bool) (message : Message) (answer : Answer) (old new : D)
       → (are : AreParts (take len received) parts) → head_len received ≡ Some len → length received ≤ 16384
@@ -182,17 +192,19 @@ module _ {D : Type 0} (m : Meaning D) where
     len = len;
     h = are.0;
     has = received_parts received len parts ends short are;
-    body = told.0;
-    whole = subst (λ (l : List ℕ). received ++ got ≡ take len received ++ (told.0 ++ l)) (sym left) ((told.1).2);
-    sized = (told.1).0;
-    step = subst (λ (q : RequestText). m.steps old q (answer_text answer) new) (same_request (take len received) told.0 parts message are method target token) told.2;
+    kind = told.0;
+    use_is = uses_same (take len received) told.0 parts message are method target told.1;
+    body = told.2.0;
+    whole = subst (λ (l : List ℕ). received ++ got ≡ take len received ++ (told.2.0 ++ l)) (sym left) ((told.2.1).2);
+    sized = (told.2.1).0;
+    step = subst (λ (q : RequestText). m.steps old q (answer_text answer) new) (same_request (take len received) told.2.0 told.0 parts message are method target token) told.2.2;
     closes_is = closes_is;
   }
 
-  unroomed_by : (count len : ℕ) (received got : List ℕ) (h : RequestHead) (wanted : Wanted) (rows : D) → Received received len h wanted → 0 < wanted.body → m.body_use h.method h.target ≢ Ignored
+  unroomed_by : (count len : ℕ) (received got : List ℕ) (h : RequestHead) (wanted : Wanted) (rows : D) → Received received len h wanted → 0 < wanted.body → (kind : BodyUse) → m.uses h.method h.target kind → kind ≢ Ignored
       → ClosesBy m [] count (received ++ got) rows rows (interim wanted.expects ++ response wanted.bare true m.no_room)
-  unroomed_by count len received got h wanted rows r some kept more written =
-      ([], unroomed len h wanted (subst (λ (l : List ℕ). HasHead l len h wanted) (sym (append_assoc received got more)) (has_head received (got ++ more) len h wanted r)) some kept refl refl refl refl)
+  unroomed_by count len received got h wanted rows r some kind use_is kept more written =
+      ([], unroomed len h wanted (subst (λ (l : List ℕ). HasHead l len h wanted) (sym (append_assoc received got more)) (has_head received (got ++ more) len h wanted r)) some kind use_is kept refl refl refl refl)
 
   -- the body did not come whole
   pub stopped : (count len : ℕ) (received got rest : List ℕ) (parts : HeadParts) (message : Message) (why : Short) (old new : D) (before after : Option (List ℕ)) (result : Result (Option End) ServeFault)
@@ -206,11 +218,10 @@ module _ {D : Type 0} (m : Meaning D) where
   stopped count len received got rest parts message short.Read old new before after result are ends short method target (less, same) (is, wrote) =
       subst (IsTurn m count (interim parts.wanted.expects) (received ++ got) rest old new before after) (sym is)
       ([], inr (subst (IsBegun (received ++ got)) (sym (append-nil (interim parts.wanted.expects))) (begun_body received got len are.0 parts.wanted (received_parts received len parts ends short are) less)), keeps_all before after wrote, same)
-  stopped count len received got rest parts message short.NoRoom old new before after result are ends short method target (some, kept, same) responded =
-      let in_use : m.body_use (are.0).method (are.0).target ≢ Ignored = λ e. kept (ap (λ (t : List ℕ). m.body_use t message.target.now) (method ∙ are.3) ∙ ap (m.body_use (are.0).method) (target ∙ are.4) ∙ e) in
+  stopped count len received got rest parts message short.NoRoom old new before after result are ends short method target (some, same, kept) responded =
       subst (λ (d : D). IsTurn m count (interim parts.wanted.expects) (received ++ got) rest old d before after result) (sym same)
       (closed count (interim parts.wanted.expects) (received ++ got) rest old old [] before after (response parts.wanted.bare true m.no_room) result responded
-      (unroomed_by count len received got are.0 parts.wanted old (received_parts received len parts ends short are) some in_use))
+      (unroomed_by count len received got are.0 parts.wanted old (received_parts received len parts ends short are) some kept.0 (uses_same (take len received) kept.0 parts message are method target kept.1) kept.2))
 
   -- ---- before the message
 

@@ -8,6 +8,7 @@ use Rattle.bsp_conversation.specs.Exchanges.{Meaning, answer_text, request_of, u
 use Rattle.bsp_conversation.specs.declared.arriving.Arrived.{Arrived}
 use Rattle.bsp_conversation.specs.declared.arriving.Arrived.TheVariants.{Head, TooLong, Ended}
 use Rattle.bsp_conversation.specs.declared.service.Answer.{Answer}
+use Rattle.bsp_conversation.specs.declared.service.BodyUse.{BodyUse}
 use Rattle.bsp_conversation.specs.declared.service.BodyUse.TheVariants.{Ignored}
 use Rattle.bsp_conversation.specs.declared.service.Message.{Message}
 
@@ -21,7 +22,8 @@ module _ {D : Type 0} (m : Meaning D) where
   -- was received; or the desk is as it was, since the body did not come whole, or since there was no memory for it
   abbrev pub IsAsked : Message → ℕ → ℕ → List ℕ → List ℕ → D → D → Result (ℕ × Answer) Short → Type 0
   IsAsked message head body received got old new (Ok told) =
-      (bytes : List ℕ) × IsPassed head body received got bytes told.0 × m.steps old (request_of message (used (m.body_use message.method.now message.target.now) bytes)) (answer_text told.1) new
+      (kind : BodyUse) × m.uses message.method.now message.target.now kind
+      × ((bytes : List ℕ) × IsPassed head body received got bytes told.0 × m.steps old (request_of message (used kind bytes)) (answer_text told.1) new)
   IsAsked message head body received got old new (Err short.Cut) = (length received + length got < head + body) × (new ≡ old)
   IsAsked message head body received got old new (Err short.Read) = (length received + length got < head + body) × (new ≡ old)
-  IsAsked message head body received got old new (Err short.NoRoom) = (0 < body) × (m.body_use message.method.now message.target.now ≢ Ignored) × (new ≡ old)
+  IsAsked message head body received got old new (Err short.NoRoom) = (0 < body) × (new ≡ old) × ((kind : BodyUse) × m.uses message.method.now message.target.now kind × (kind ≢ Ignored))

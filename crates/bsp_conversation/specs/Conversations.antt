@@ -12,6 +12,7 @@ use Rattle.bsp_responses.specs.Responses.{ReplyText, refusal_reply, response}
 use Rattle.bsp_conversation.specs.Exchanges.{Exchange, Meaning, RequestText, interim, used}
 use Rattle.bsp_conversation.specs.declared.end.End.{End}
 use Rattle.bsp_conversation.specs.declared.end.End.TheVariants.{Clean, Cut, Closed}
+use Rattle.bsp_conversation.specs.declared.service.BodyUse.{BodyUse}
 use Rattle.bsp_conversation.specs.declared.service.BodyUse.TheVariants.{Ignored}
 
 abbrev pub message_limit : ℕ
@@ -62,12 +63,14 @@ module _ {D : Type 0} (m : Meaning D) where
     pub len : ℕ
     pub head : RequestHead
     pub has : HasHead unread len head wanted
+    pub kind : BodyUse
+    pub use_is : m.uses head.method head.target kind
     pub whole : len + wanted.body ≤ length unread
     pub request_is : request ≡ record {
       method = head.method;
       target = head.target;
       token = token_of (headers_of head);
-      body = used (m.body_use head.method head.target) (take wanted.body (drop len unread));
+      body = used kind (take wanted.body (drop len unread));
     }
     pub rest_is : rest ≡ drop (len + wanted.body) unread
 
@@ -88,7 +91,7 @@ module _ {D : Type 0} (m : Meaning D) where
   pub data Closes (p : Connection D) (xs : List Exchange) (q : Connection D) : Type 0 where
     refused : (refused : Refused) → HasRefusal p.unread refused → xs ≡ [] → q.desk ≡ p.desk → q.count ≡ p.count + 1
         → q.written ≡ p.written ++ response refused.bare true (refusal_reply refused.fault) → Closes p xs q
-    unroomed : (len : ℕ) (h : RequestHead) (wanted : Wanted) → HasHead p.unread len h wanted → 0 < wanted.body → m.body_use h.method h.target ≢ Ignored
+    unroomed : (len : ℕ) (h : RequestHead) (wanted : Wanted) → HasHead p.unread len h wanted → 0 < wanted.body → (kind : BodyUse) → m.uses h.method h.target kind → kind ≢ Ignored
         → xs ≡ [] → q.desk ≡ p.desk → q.count ≡ p.count + 1
         → q.written ≡ p.written ++ (interim wanted.expects ++ response wanted.bare true m.no_room) → Closes p xs q
     answered : (x : Exchange) → xs ≡ x ∷ [] → AnswersMessage true p x q → Closes p xs q

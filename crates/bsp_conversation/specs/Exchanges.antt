@@ -45,8 +45,8 @@ pub record Exchange : Type 0 where
 
 -- what a service answers at desks of a type
 pub record Meaning (D : Type 0) : Type 1 where
-  -- what of a body is answered, by the method and the target
-  pub body_use : List ℕ → List ℕ → BodyUse
+  -- what of the body of a request is answered, by its method and its target
+  pub uses : List ℕ → List ℕ → BodyUse → Type 0
   -- the reply where there was no memory for a body
   pub no_room : ReplyText
   -- `steps old request reply new`: at the desk the request may have that reply, and leave the desk so

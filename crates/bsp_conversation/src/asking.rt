@@ -33,7 +33,7 @@ fn ask_ignoring<R: Read, D, S: Service<D>>(
     message: &Message<'_>,
 ) -> Result<(usize, Answer), Short>
     requires within { place.head ≤ length place.received.now }
-    requires use_is { S.means.body_use message.now.method.now message.now.target.now ≡ BodyUse.Ignored }
+    requires use_is { S.means.uses message.now.method.now message.now.target.now BodyUse.Ignored }
     ensures asked { (got : List ℕ) × Consumes (R.remaining reader.old) (R.remaining reader.new) got
         × IsAsked S.means message.now place.entry.head place.entry.body place.entry.received.now got desk.old desk.new result }
     ensures end { result ≡ Err Short.Cut → IsAtEnd (R.remaining reader.new) }
@@ -59,7 +59,7 @@ fn ask_keeping<R: Read, D, S: Service<D>>(
     message: &Message<'_>,
 ) -> Result<(usize, Answer), Short>
     requires within { place.head ≤ length place.received.now }
-    requires use_is { S.means.body_use message.now.method.now message.now.target.now ≡ BodyUse.Kept }
+    requires use_is { S.means.uses message.now.method.now message.now.target.now BodyUse.Kept }
     ensures asked { (got : List ℕ) × Consumes (R.remaining reader.old) (R.remaining reader.new) got
         × IsAsked S.means message.now place.entry.head place.entry.body place.entry.received.now got desk.old desk.new result }
     ensures end { result ≡ Err Short.Cut → IsAtEnd (R.remaining reader.new) }
@@ -108,7 +108,7 @@ fn ask_reading<R: Read, D, S: Service<D>>(
     message: &Message<'_>,
 ) -> Result<(usize, Answer), Short>
     requires within { place.head ≤ length place.received.now }
-    requires use_is { S.means.body_use message.now.method.now message.now.target.now ≡ BodyUse.RetFile }
+    requires use_is { S.means.uses message.now.method.now message.now.target.now BodyUse.RetFile }
     ensures asked { (got : List ℕ) × Consumes (R.remaining reader.old) (R.remaining reader.new) got
         × IsAsked S.means message.now place.entry.head place.entry.body place.entry.received.now got desk.old desk.new result }
     ensures end { result ≡ Err Short.Cut → IsAtEnd (R.remaining reader.new) }

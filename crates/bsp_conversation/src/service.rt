@@ -69,7 +69,7 @@ pub trait Service<D> {
 
     /// What of the body of a request with this method and this target is answered.
     fn body_use(&self, method: &[u8], target: &[u8]) -> BodyUse
-        ensures { result ≡ Self.means.body_use method.now target.now };
+        ensures { Self.means.uses method.now target.now result };
 
     /// What is answered to a request for whose body there was no memory. Takes no memory.
     fn no_room(&self) -> Answer

@@ -1,7 +1,6 @@
 //! A service that answers with what it was asked.
 
 ghost use Rattle.std.specs.Prelude.{[]};
-ghost use Rattle.bsp_conversation.specs.declared.service.BodyUse.TheVariants.{Ignored};
 ghost use Rattle.bsp_responses.specs.Responses.{code_reply};
 ghost use Rattle.bsp_responses.specs.declared.status.Status.TheVariants as status;
 
@@ -56,7 +55,7 @@ impl Echo {
 }
 
 impl Service<Counter> for Echo {
-    ghost means = { record { body_use = λ _ _. Ignored; no_room = code_reply status.ServiceUnavailable []; steps = λ _ _ _ _. Unit {0} } };
+    ghost means = { record { uses = λ _ _ _. Unit {0}; no_room = code_reply status.ServiceUnavailable []; steps = λ _ _ _ _. Unit {0} } };
 
     fn body_use(&self, method: &[u8], target: &[u8]) -> BodyUse {
         if method != b"POST".as_slice() {
