@@ -86,6 +86,7 @@ fn answer_read<D, S: Service<D>>(
     desk: &mut D,
     message: &Message<'_>,
 ) -> Result<Answer, NoRoom>
+    requires { S.means.uses message.now.method.now message.now.target.now BodyUse.RetFile }
     ensures answered { IfOk result (λ answer. (bytes : List ℕ) → HasRet body.old bytes → S.means.steps desk.old (request_of message.now bytes) (answer_text answer) desk.new) }
     ensures refused { OnErr result ((desk.new ≡ desk.old) × ((bytes : List ℕ) → HasRet body.old bytes → 0 < length bytes)) }
 {

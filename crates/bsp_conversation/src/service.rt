@@ -86,5 +86,5 @@ pub trait Service<D> {
         message: &Message<'_>,
         file: Result<&RetFile<'_>, RetFault>,
     ) -> Answer
-        ensures { (bytes : List ℕ) → IsFileRead bytes file.entry → Self.means.steps desk.old (request_of message.now bytes) (answer_text result) desk.new };
+        ensures { Self.means.uses message.now.method.now message.now.target.now BodyUse.RetFile → (bytes : List ℕ) → IsFileRead bytes file.entry → Self.means.steps desk.old (request_of message.now bytes) (answer_text result) desk.new };
 }
