@@ -1,5 +1,5 @@
 -- The exchanges of a conversation are a run of the desk.
-use Rattle.std.proofs.Common.{◌≡◌, ℕ, List, [], ◌∷◌, ◌++◌, refl, sym, ap, subst}
+use Rattle.std.proofs.Common.{ℕ, List, [], ◌∷◌, ◌++◌, refl, sym, ap, subst}
 use Rattle.std.specs.List.{FoldsTo}
 use Rattle.bsp_conversation.specs.Conversations.{Closes, Connection, Conversation, EndsBy, IsRun, KeepsOpen, at_start}
 use Rattle.bsp_conversation.specs.Conversations.Closes.{refused, unroomed, answered}

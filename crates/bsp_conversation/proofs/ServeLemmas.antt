@@ -1,15 +1,15 @@
 -- A whole connection, from its turns.
-use Rattle.std.proofs.Common.{◌≡◌, ◌≢◌, ℕ, ◌+◌, ◌⊎◌, inl, inr, List, [], ◌∷◌, ◌++◌, refl, sym, ap, ◌∙◌, subst, append_assoc, append-nil, Option, Some, None, Bool, Result, Ok, Err}
+use Rattle.std.proofs.Common.{◌≡◌, ℕ, ◌+◌, ◌⊎◌, inl, inr, List, [], ◌∷◌, ◌++◌, refl, sym, ap, ◌∙◌, subst, append_assoc, append-nil, Option, Some, Ok, Err}
 use Rattle.std.specs.List.{FoldsTo}
 use Rattle.std.proofs.lemmas.Fn.{FoldsTo-push}
-use Rattle.std.specs.Io.KnownBytes.{Appends, Consumes, Keeps}
-use Rattle.std.proofs.KnownBytes.{Appends-trans, Consumes-trans, Appends-kept}
-use Rattle.bsp_conversation.specs.Conversations.{Closes, Connection, Conversation, EndsBy, IsBegun, IsRun, KeepsOpen, at_start, connection}
+use Rattle.std.specs.Io.KnownBytes.{Appends}
+use Rattle.std.proofs.KnownBytes.{Appends-trans}
+use Rattle.bsp_conversation.specs.Conversations.{Conversation, IsBegun, IsRun, KeepsOpen, at_start, connection}
 use Rattle.bsp_conversation.specs.Ends.{IsInputEnd, served_until}
 use Rattle.bsp_conversation.specs.Exchanges.{Exchange, Meaning}
-use Rattle.bsp_conversation.specs.Serving.{Lasts, Reaches, Serves}
+use Rattle.bsp_conversation.specs.Serving.{Reaches, Serves}
 use Rattle.bsp_conversation.specs.Serving.Lasts.{keeps, closes, waits}
-use Rattle.bsp_conversation.specs.Turns.{ClosesBy, IsInterim, IsTextFor, IsTurn, KeepsBy}
+use Rattle.bsp_conversation.specs.Turns.{ClosesBy, IsInterim, IsTurn, KeepsBy}
 use Rattle.bsp_conversation.specs.declared.end.End.{End}
 use Rattle.bsp_conversation.specs.declared.end.End.TheVariants.{Clean, Cut, Closed}
 use Rattle.bsp_conversation.specs.declared.end.ServeFault.{ServeFault}

@@ -8,7 +8,6 @@ use Rattle.std.specs.Option.{option_map}
 use Rattle.std.proofs.KnownBytes.{Appends-trans, Keeps-refl}
 use Rattle.httparse.specs.Grammar.{RequestHead}
 use Rattle.httparse.specs.Spans.{span_bytes}
-use Rattle.bsp_bodies.specs.Bodies.{IsPassed}
 use Rattle.bsp_bodies.specs.declared.passing.Short.{Short}
 use Rattle.bsp_bodies.specs.declared.passing.Short.TheVariants as short
 use Rattle.bsp_heads.proofs.ScanLemmas.{head_len-more, head_len-le}
@@ -21,16 +20,15 @@ use Rattle.bsp_heads.specs.declared.parts.HeadParts.{HeadParts}
 use Rattle.bsp_heads.specs.declared.parts.Wanted.{Wanted}
 use Rattle.bsp_responses.specs.Responses.{ReplyText, refusal_reply, response}
 use Rattle.bsp_conversation.specs.Arrivals.{IsAsked}
-use Rattle.bsp_conversation.specs.Conversations.{AnswersMessage, Closes, HasHead, HasMessage, IsBegun, connection}
+use Rattle.bsp_conversation.specs.Conversations.{AnswersMessage, HasHead, HasMessage, IsBegun, connection}
 use Rattle.bsp_conversation.specs.Conversations.Closes.{refused, unroomed, answered}
-use Rattle.bsp_conversation.specs.Exchanges.{Exchange, IsWritten, Meaning, RequestText, answer_text, interim, request_of, used}
+use Rattle.bsp_conversation.specs.Exchanges.{Exchange, Meaning, RequestText, answer_text, interim, request_of, used}
 use Rattle.bsp_conversation.specs.Responding.{IsResponded, IsStopped, behind}
-use Rattle.bsp_conversation.specs.Turns.{ClosesBy, EndsInput, IsInterim, IsTextFor, IsTurn, KeepsBy}
+use Rattle.bsp_conversation.specs.Turns.{ClosesBy, IsTurn, KeepsBy}
 use Rattle.bsp_conversation.specs.declared.end.End.{End}
 use Rattle.bsp_conversation.specs.declared.end.End.TheVariants.{Clean, Cut, Closed}
 use Rattle.bsp_conversation.specs.declared.end.ServeFault.{ServeFault}
 use Rattle.bsp_conversation.specs.declared.end.ServeFault.TheVariants.{Read, Write, Memory}
-use Rattle.bsp_conversation.specs.declared.sending.WriteFault.{WriteFault}
 use Rattle.bsp_conversation.specs.declared.service.Answer.{Answer}
 use Rattle.bsp_conversation.specs.declared.service.BodyUse.{BodyUse}
 use Rattle.bsp_conversation.specs.declared.service.BodyUse.TheVariants.{Ignored}

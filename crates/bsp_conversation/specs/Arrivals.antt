@@ -1,5 +1,5 @@
 -- What is received of a message: its head, and then its body.
-use Rattle.std.specs.Prelude.{◌≡◌, ◌≢◌, ℕ, ◌+◌, ◌<◌, List, length, Option, Some, None, Result, Ok, Err}
+use Rattle.std.specs.Prelude.{◌≡◌, ◌≢◌, ℕ, ◌+◌, ◌<◌, List, length, Some, None, Result, Ok, Err}
 use Rattle.bsp_bodies.specs.Bodies.{IsPassed}
 use Rattle.bsp_bodies.specs.declared.passing.Short.{Short}
 use Rattle.bsp_bodies.specs.declared.passing.Short.TheVariants as short

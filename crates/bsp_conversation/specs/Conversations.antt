@@ -1,5 +1,5 @@
 -- A conversation: what is read, what the desk is asked and what is written.
-use Rattle.std.specs.Prelude.{◌≡◌, ◌≢◌, ℕ, ◌+◌, ◌<◌, ◌≤◌, ◌⊎◌, Bool, true, false, ◌||◌, List, [], ◌∷◌, ◌++◌, length, take, drop, ◌==◌, Option, Some, None, Ok}
+use Rattle.std.specs.Prelude.{◌≡◌, ◌≢◌, ℕ, ◌+◌, ◌<◌, ◌≤◌, ◌⊎◌, Bool, true, false, ◌||◌, List, [], ◌∷◌, ◌++◌, length, take, drop, ◌==◌, Some, None, Ok}
 use Rattle.std.specs.List.{FoldsTo}
 use Rattle.httparse.specs.Grammar.{RequestHead}
 use Rattle.bsp_heads.specs.Fields.{token_of}
@@ -8,7 +8,7 @@ use Rattle.bsp_heads.specs.Scan.{head_len}
 use Rattle.bsp_heads.specs.declared.fault.HeadFault.TheVariants.{HeadTooLarge}
 use Rattle.bsp_heads.specs.declared.fault.Refused.{Refused}
 use Rattle.bsp_heads.specs.declared.parts.Wanted.{Wanted}
-use Rattle.bsp_responses.specs.Responses.{ReplyText, refusal_reply, response}
+use Rattle.bsp_responses.specs.Responses.{refusal_reply, response}
 use Rattle.bsp_conversation.specs.Exchanges.{Exchange, Meaning, RequestText, interim, used}
 use Rattle.bsp_conversation.specs.declared.end.End.{End}
 use Rattle.bsp_conversation.specs.declared.end.End.TheVariants.{Clean, Cut, Closed}

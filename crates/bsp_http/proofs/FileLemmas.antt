@@ -4,7 +4,6 @@ use Rattle.std.specs.Borrow.{Bor}
 use Rattle.std.specs.Option.{option_map}
 use Rattle.bsp_desk.specs.Reading.{token_text}
 use Rattle.bsp_conversation.specs.Exchanges.{IsFileRead}
-use Rattle.bsp_conversation.specs.declared.service.BodyUse.{BodyUse}
 use Rattle.bsp_conversation.specs.declared.service.BodyUse.TheVariants.{RetFile}
 use Rattle.bsp_records.specs.Lines.{lines}
 use Rattle.bsp_ret.proofs.AnswerLemmas.{faulty}

@@ -1,6 +1,5 @@
 -- The messages of a connection are requests of a run.
 use Rattle.std.proofs.Common.{◌≡◌, ℕ, List, [], ◌∷◌, ◌++◌, None, refl, sym, subst, ◌∙◌, append_assoc, append-nil}
-use Rattle.std.specs.List.{FoldsTo}
 use Rattle.bsp_book.specs.Calls.{Meaning}
 use Rattle.bsp_conversation.specs.Conversations.{IsRun}
 use Rattle.bsp_conversation.specs.Exchanges.{Exchange, RequestText}
@@ -17,7 +16,7 @@ use Rattle.bsp_rows.specs.Rows.{Rows}
 use Rattle.bsp_rows.specs.Sound.{Sound}
 use Rattle.bsp_step.specs.Requests.{IsAsked, Request as Reading}
 use Rattle.bsp_http.specs.Laws.{AreMessagesRead, AreWrittenFor, IsMessageRead, MessagesRun}
-use Rattle.bsp_http.specs.Messages.{IsRequestOf, Steps, at_desk}
+use Rattle.bsp_http.specs.Messages.{IsRequestOf, at_desk}
 
 -- however the message is read, so is the request that the desk was asked for it
 message_read : (text : RequestText) (request : Request) (reading : Reading) → IsRequestOf text request → IsMessageRead text reading → IsRead request reading
@@ -42,19 +41,24 @@ module _ {B : Type 0} (m : Meaning B Rows) where
   reached : (office : List ℕ) (rows : Rows) (old new : Desk B) (xs : List Exchange) (before readings : List Reading) (sent : List Reply)
       → IsRun (at_desk m) old xs new → AreMessagesRead xs readings → m.trusts new.book → old.office ≡ office → At office rows old before sent
       → (replies : List Reply) × AreWrittenFor xs replies × At office rows new (before ++ readings) (sent ++ replies)
-  reached office rows old new [] before [] sent h read t same at =
-      ([], tt, subst (λ (d : Desk B). At office rows d (before ++ []) (sent ++ [])) h
-        (subst (λ (l : List Reading). At office rows old l (sent ++ [])) (sym (append-nil before)) (subst (λ (l : List Reply). At office rows old before l) (sym (append-nil sent)) at)))
+  reached office rows old new [] before [] sent h read t same at = (
+    [],
+    tt,
+    subst (λ (d : Desk B). At office rows d (before ++ []) (sent ++ [])) h
+        (subst (λ (l : List Reading). At office rows old l (sent ++ [])) (sym (append-nil before)) (subst (λ (l : List Reply). At office rows old before l) (sym (append-nil sent)) at)),
+  )
   reached office rows old new [] before (r ∷ rs) sent h read t same at = elim read [ ]
   reached office rows old new (x ∷ xs) before [] sent h read t same at = elim read [ ]
   reached office rows old new (x ∷ xs) before (r ∷ rs) sent h read t same at =
       let step = h.1 in
       let answered = subst (λ (o : List ℕ). Answers m old.book h.0.book step.request o step.reply) same step.answered in
       let one = reach_more m old.book h.0.book step.request office rows step.reply before sent r answered (message_read x.request step.request r step.is read.0) (kept_trust h.0 new xs h.2 t) at in
-      let others = reached office rows h.0 new xs (before ++ r ∷ []) rs (sent ++ step.reply ∷ []) h.2 read.1 t (step.office ∙ same) one in
-      (step.reply ∷ others.0, ((asking_text step.request.call, step.is.asks, step.written_is), others.1),
+      let others = reached office rows h.0 new xs (before ++ r ∷ []) rs (sent ++ step.reply ∷ []) h.2 read.1 t (step.office ∙ same) one in (
+        step.reply ∷ others.0,
+        ((asking_text step.request.call, step.is.asks, step.written_is), others.1),
         subst (λ (l : List Reading). At office rows new l (sent ++ (step.reply ∷ others.0))) (append_assoc before (r ∷ []) rs)
-          (subst (λ (l : List Reply). At office rows new ((before ++ r ∷ []) ++ rs) l) (append_assoc sent (step.reply ∷ []) others.0) others.2))
+            (subst (λ (l : List Reply). At office rows new ((before ++ r ∷ []) ++ rs) l) (append_assoc sent (step.reply ∷ []) others.0) others.2),
+      )
 
   pub messages_run : MessagesRun m
   messages_run old new xs h = (kept_office old new xs h, kept_trust old new xs h, runs)

@@ -47,4 +47,4 @@ MessagesRun {B} m =
     (old new : Desk B) (xs : List Exchange) → IsRun (at_desk m) old xs new
     → (new.office ≡ old.office) × (m.trusts new.book → m.trusts old.book)
     × ((readings : List Reading) → AreMessagesRead xs readings → m.trusts new.book → (rows : Rows) → Sound rows → m.holds old.book rows None
-      → (replies : List Reply) × AreWrittenFor xs replies × RanOver m new.book old.office rows readings replies)
+    → (replies : List Reply) × AreWrittenFor xs replies × RanOver m new.book old.office rows readings replies)

@@ -1,4 +1,4 @@
-use Rattle.std.proofs.Common.{◌≡◌, ◌≢◌, ℕ, List, ◌++◌, ◌≤◌}
+use Rattle.std.proofs.Common.{◌≢◌, ℕ, List}
 use Rattle.std.specs.Io.KnownBytes.{Appends, Consumes}
 use Rattle.bsp_conversation.specs.Exchanges.{Exchange}
 use Rattle.bsp_conversation.proofs.ServeLemmas.{Runs}

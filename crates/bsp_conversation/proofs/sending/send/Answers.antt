@@ -1,4 +1,4 @@
-use Rattle.std.proofs.Common.{◌≡◌, ℕ, ◌≤◌, ◌+◌, length, arith}
+use Rattle.std.proofs.Common.{ℕ, arith}
 use Rattle.std.proofs.lemmas.List.{length-drop}
 use Rattle.bsp_conversation.proofs.WriteLemmas.{appends_more, kept_part, took_none}
 use Rattle.bsp_conversation.proofs.sending.send.Goals as goal

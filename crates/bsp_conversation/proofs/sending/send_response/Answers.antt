@@ -1,4 +1,4 @@
-use Rattle.std.proofs.Common.{List, ℕ, ◌∙◌, ◌++◌, subst}
+use Rattle.std.proofs.Common.{List, ℕ, ◌∙◌, subst}
 use Rattle.bsp_conversation.specs.Exchanges.{IsWritten}
 use Rattle.bsp_conversation.proofs.WriteLemmas.{both_parts, first_part}
 use Rattle.bsp_conversation.proofs.sending.send_response.Goals as goal

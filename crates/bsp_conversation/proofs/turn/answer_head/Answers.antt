@@ -1,11 +1,9 @@
-use Rattle.std.proofs.Common.{◌≤◌, List, ℕ, [], length, take, sym, subst, append-nil, Err}
+use Rattle.std.proofs.Common.{◌≤◌, List, ℕ, [], length, take, sym, subst, append-nil}
 use Rattle.std.proofs.KnownBytes.{Consumes-nil}
 use Rattle.std.proofs.lemmas.List.{length-take-le}
 use Rattle.bsp_heads.proofs.ScanLemmas.{head_len-le}
 use Rattle.bsp_heads.specs.Head.{AreParts, Refuses}
 use Rattle.bsp_conversation.specs.Exchanges.{interim}
-use Rattle.bsp_conversation.specs.Turns.{IsTurn}
-use Rattle.bsp_conversation.specs.declared.end.ServeFault.TheVariants.{Write}
 use Rattle.bsp_conversation.proofs.TurnLemmas.{after_front, refused_head, unwritten}
 use Rattle.bsp_conversation.proofs.turn.answer_head.Goals as goal
 
