@@ -1,6 +1,6 @@
 //! A service that answers with what it was asked.
 
-ghost use Rattle.std.specs.Prelude.{[]};
+ghost use Rattle.std.specs.Prelude.{codes};
 ghost use Rattle.bsp_responses.specs.Responses.{code_reply};
 ghost use Rattle.bsp_responses.specs.declared.status.Status.TheVariants as status;
 
@@ -23,8 +23,6 @@ pub(crate) struct Echo;
 const NOT_FOUND: &[u8] = b"{\"code\":\"N02\"}";
 
 const OTHER_METHOD: &[u8] = b"{\"code\":\"N03\"}";
-
-const NO_ROOM: &[u8] = b"{\"code\":\"B01\"}";
 
 const DIGITS: [&[u8]; 10] = [b"0", b"1", b"2", b"3", b"4", b"5", b"6", b"7", b"8", b"9"];
 
@@ -55,7 +53,7 @@ impl Echo {
 }
 
 impl Service<Counter> for Echo {
-    ghost means = { record { uses = λ _ _ _. Unit {0}; no_room = code_reply status.ServiceUnavailable []; steps = λ _ _ _ _. Unit {0} } };
+    ghost means = { record { uses = λ _ _ _. Unit {0}; no_room = code_reply status.ServiceUnavailable (codes "{\"code\":\"B01\"}"); steps = λ _ _ _ _. Unit {0} } };
 
     fn body_use(&self, method: &[u8], target: &[u8]) -> BodyUse {
         if method != b"POST".as_slice() {
@@ -72,7 +70,12 @@ impl Service<Counter> for Echo {
     }
 
     fn no_room(&self) -> Answer {
-        text(Status::ServiceUnavailable, None, NO_ROOM)
+        Answer {
+            status: Status::ServiceUnavailable,
+            media: Media::Json,
+            allow: None,
+            body: CowSlice::Borrowed(b"{\"code\":\"B01\"}"),
+        }
     }
 
     fn answer(&self, desk: &mut Counter, message: &Message<'_>, body: &[u8]) -> Answer {
