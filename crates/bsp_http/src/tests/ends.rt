@@ -83,7 +83,11 @@ fn a_failed_write_leaves_what_was_done(rt: HostRuntime) -> Result<(), Fail> {
                 b"{\"results\":[{\"n\":1,\"period\":\"24011\",\"verdict\":\"held\"}]}"
             )
         );
-        assert!(rt; !again.written.starts_with(&replies[..140]));
+        assert!(rt;
+            !again
+                .written
+                .starts_with(&replies[..replies.len().min(140)])
+        );
     }
     Ok(())
 }

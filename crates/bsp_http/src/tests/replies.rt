@@ -86,7 +86,13 @@ fn a_sale_is_accepted_once(rt: HostRuntime) -> Result<(), Fail> {
     push_post(&mut input, alloc, ret, "agenttoken000001", &sale)?;
     push_get(&mut input, alloc, period, "agenttoken000001")?;
     push_post(&mut input, alloc, ret, "agenttoken000001", &sale)?;
-    push_post(&mut input, alloc, ret, "agenttoken000001", &sale[..600])?;
+    push_post(
+        &mut input,
+        alloc,
+        ret,
+        "agenttoken000001",
+        &sale[..sale.len().min(600)],
+    )?;
     push_post(&mut input, alloc, ret, "officetoken00001", &sale)?;
     let mut output = Vec::new(alloc);
     for _ in 0..4 {
