@@ -1,4 +1,0 @@
-mod desk;
-mod ends;
-mod peers;
-mod talks;

@@ -1,3 +1,0 @@
--- Lemmas of this crate.
-pub mod FileLemmas
-pub mod RunLemmas

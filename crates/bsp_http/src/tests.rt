@@ -1,6 +1,0 @@
-//! Connections of an office whose book is a list.
-
-mod ends;
-mod example;
-mod peers;
-mod replies;
