@@ -1,0 +1,4 @@
+mod desk;
+mod ends;
+mod peers;
+mod talks;

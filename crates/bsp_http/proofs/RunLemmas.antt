@@ -1,0 +1,73 @@
+-- The messages of a connection are requests of a run.
+use Rattle.std.proofs.Common.{◌≡◌, ℕ, List, [], ◌∷◌, ◌++◌, None, refl, sym, subst, ◌∙◌, append_assoc, append-nil}
+use Rattle.bsp_book.specs.Calls.{Meaning}
+use Rattle.bsp_conversation.specs.Conversations.{IsRun}
+use Rattle.bsp_conversation.specs.Exchanges.{Exchange, RequestText}
+use Rattle.bsp_desk.proofs.Reach.{Reached, ran, reach_more, reach_none}
+use Rattle.bsp_desk.specs.Reading.{IsRead}
+use Rattle.bsp_desk.specs.Runs.{RanOver, RunReplied}
+use Rattle.bsp_desk.specs.Steps.{Answers}
+use Rattle.bsp_desk.specs.declared.desk.Desk.{Desk}
+use Rattle.bsp_desk.specs.declared.request.Request.{Request}
+use Rattle.bsp_messages.specs.declared.reply.Reply.{Reply}
+use Rattle.bsp_routes.specs.Calls.{asking_text}
+use Rattle.bsp_routes.specs.declared.asking.Asking.{Asking}
+use Rattle.bsp_rows.specs.Rows.{Rows}
+use Rattle.bsp_rows.specs.Sound.{Sound}
+use Rattle.bsp_step.specs.Requests.{IsAsked, Request as Reading}
+use Rattle.bsp_http.specs.Laws.{AreMessagesRead, AreWrittenFor, IsMessageRead, MessagesRun}
+use Rattle.bsp_http.specs.Messages.{IsRequestOf, at_desk}
+
+-- however the message is read, so is the request that the desk was asked for it
+message_read : (text : RequestText) (request : Request) (reading : Reading) → IsRequestOf text request → IsMessageRead text reading → IsRead request reading
+message_read text request reading is read = record {
+  token = read.token ∙ sym is.token;
+  asked = is.reads reading.asked (subst (λ (a : Asking (List ℕ)). IsAsked a text.body reading.asked) (sym (is.only read.asking read.asks)) read.asked);
+}
+
+module _ {B : Type 0} (m : Meaning B Rows) where
+  kept_office : (old new : Desk B) (xs : List Exchange) → IsRun (at_desk m) old xs new → new.office ≡ old.office
+  kept_office old new [] h = subst (λ (d : Desk B). d.office ≡ old.office) h refl
+  kept_office old new (x ∷ xs) h = kept_office h.0 new xs h.2 ∙ h.1.office
+
+  kept_trust : (old new : Desk B) (xs : List Exchange) → IsRun (at_desk m) old xs new → m.trusts new.book → m.trusts old.book
+  kept_trust old new [] h t = subst (λ (d : Desk B). m.trusts d.book) (sym h) t
+  kept_trust old new (x ∷ xs) h t = h.1.answered.trust (kept_trust h.0 new xs h.2 t)
+
+  -- what was reached before some messages, and is reached behind them
+  abbrev At : List ℕ → Rows → Desk B → List Reading → List Reply → Type 0
+  At office rows desk readings replies = Reached office rows (m.has_failed desk.book) (λ r. m.holds desk.book r None) readings replies
+
+  reached : (office : List ℕ) (rows : Rows) (old new : Desk B) (xs : List Exchange) (before readings : List Reading) (sent : List Reply)
+      → IsRun (at_desk m) old xs new → AreMessagesRead xs readings → m.trusts new.book → old.office ≡ office → At office rows old before sent
+      → (replies : List Reply) × AreWrittenFor xs replies × At office rows new (before ++ readings) (sent ++ replies)
+  reached office rows old new [] before [] sent h read t same at = (
+    [],
+    tt,
+    subst (λ (d : Desk B). At office rows d (before ++ []) (sent ++ [])) h
+        (subst (λ (l : List Reading). At office rows old l (sent ++ [])) (sym (append-nil before)) (subst (λ (l : List Reply). At office rows old before l) (sym (append-nil sent)) at)),
+  )
+  reached office rows old new [] before (r ∷ rs) sent h read t same at = elim read [ ]
+  reached office rows old new (x ∷ xs) before [] sent h read t same at = elim read [ ]
+  reached office rows old new (x ∷ xs) before (r ∷ rs) sent h read t same at =
+      let step = h.1 in
+      let answered = subst (λ (o : List ℕ). Answers m old.book h.0.book step.request o step.reply) same step.answered in
+      let one = reach_more m old.book h.0.book step.request office rows step.reply before sent r answered (message_read x.request step.request r step.is read.0) (kept_trust h.0 new xs h.2 t) at in
+      let others = reached office rows h.0 new xs (before ++ r ∷ []) rs (sent ++ step.reply ∷ []) h.2 read.1 t (step.office ∙ same) one in (
+        step.reply ∷ others.0,
+        ((asking_text step.request.call, step.is.asks, step.written_is), others.1),
+        subst (λ (l : List Reading). At office rows new l (sent ++ (step.reply ∷ others.0))) (append_assoc before (r ∷ []) rs)
+            (subst (λ (l : List Reply). At office rows new ((before ++ r ∷ []) ++ rs) l) (append_assoc sent (step.reply ∷ []) others.0) others.2),
+      )
+
+  pub messages_run : MessagesRun m
+  messages_run old new xs h = (kept_office old new xs h, kept_trust old new xs h, runs)
+    where
+      runs : (readings : List Reading) → AreMessagesRead xs readings → m.trusts new.book → (rows : Rows) → Sound rows → m.holds old.book rows None
+          → (replies : List Reply) × AreWrittenFor xs replies × RanOver m new.book old.office rows readings replies
+      runs readings read t rows sound holds =
+          let start = reach_none old.office rows (m.has_failed old.book) (λ r. m.holds old.book r None) [] [] tt refl sound holds in
+          let k = reached old.office rows old new xs [] readings [] h read t refl start in
+          let at = k.2 in
+          let run : RunReplied old.office rows readings k.0 = record { begun = sound; exchanges = at.0; left = at.1; sent = at.2; laws = ran old.office rows at.0 at.1 at.3 at.4 sound at.5 } in
+          (k.0, k.1, (run, at.6))

@@ -1,0 +1,4 @@
+-- What the contracts of the office over HTTP cite.
+pub mod Replies
+pub mod Messages
+pub mod Laws

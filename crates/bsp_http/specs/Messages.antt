@@ -1,0 +1,70 @@
+-- What an office answers to the messages of a connection.
+use Rattle.std.specs.Prelude.{◌≡◌, ℕ, List, Result, Ok, Err}
+use Rattle.std.specs.Borrow.{Bor}
+use Rattle.bsp_book.specs.Calls.{Meaning}
+use Rattle.bsp_conversation.specs.Exchanges.{Meaning as Answering, RequestText}
+use Rattle.bsp_conversation.specs.declared.service.BodyUse.{BodyUse}
+use Rattle.bsp_conversation.specs.declared.service.BodyUse.TheVariants.{Ignored, Kept, RetFile}
+use Rattle.bsp_desk.specs.Reading.{token_text}
+use Rattle.bsp_desk.specs.Steps.{Answers}
+use Rattle.bsp_desk.specs.declared.desk.Desk.{Desk}
+use Rattle.bsp_desk.specs.declared.request.Request.{Request}
+use Rattle.bsp_messages.specs.declared.reply.Reply.{Reply}
+use Rattle.bsp_responses.specs.Responses.{ReplyText}
+use Rattle.bsp_ret.specs.Ret.{File}
+use Rattle.bsp_ret.specs.declared.model.RetFault.{RetFault}
+use Rattle.bsp_routes.specs.Calls.{Asks, asking_text, body_of}
+use Rattle.bsp_routes.specs.declared.asking.Asking.{Asking}
+use Rattle.bsp_routes.specs.declared.asking.Asking.TheVariants as asking
+use Rattle.bsp_routes.specs.declared.body.BodyKind.{BodyKind}
+use Rattle.bsp_routes.specs.declared.body.BodyKind.TheVariants as body
+use Rattle.bsp_rows.specs.Rows.{Rows}
+use Rattle.bsp_serving.specs.Contents.{IsAskedWith}
+use Rattle.bsp_serving.specs.declared.content.Content.{Content}
+use Rattle.bsp_serving.specs.declared.content.Content.TheVariants as content
+use Rattle.bsp_step.specs.Requests.{Asked, IsAsked}
+use Rattle.bsp_http.specs.Replies.{no_room, reply_as}
+
+-- ---- bodies
+
+abbrev pub use_by : BodyKind → BodyUse
+use_by body.NoBody = Ignored
+use_by body.Ret = RetFile
+use_by body.PlanText = Kept
+use_by body.Json = Kept
+
+-- a body of no call is ignored
+abbrev pub use_of : Asking (List ℕ) → BodyUse
+use_of (asking.Call call) = use_by (body_of call)
+use_of asked = Ignored
+
+-- a message with that method and that target has its body used so
+abbrev pub Uses : List ℕ → List ℕ → BodyUse → Type 0
+Uses method target kind = (asked : Asking (List ℕ)) × Asks method target asked × (kind ≡ use_of asked)
+
+-- a body that was read as a RET file
+abbrev pub content_of : Result (Bor File) RetFault → Content
+content_of (Ok file) = content.File file
+content_of (Err fault) = content.Fault fault
+
+-- ---- the desk
+
+-- the request is that of the message: it has its token, asks for what its method and its target ask for, and is read as the message is
+pub record IsRequestOf (text : RequestText) (request : Request) : Type 0 where
+  pub token : token_text request.token ≡ text.token
+  pub asks : Asks text.method text.target (asking_text request.call)
+  pub only : (other : Asking (List ℕ)) → Asks text.method text.target other → asking_text request.call ≡ other
+  pub reads : (asked : Asked) → IsAsked (asking_text request.call) text.body asked → IsAskedWith (asking_text request.call) request.content asked
+
+module _ {B : Type 0} (m : Meaning B Rows) where
+  -- the desk answers the request of the message, and its reply is written
+  pub record Steps (old : Desk B) (text : RequestText) (written : ReplyText) (new : Desk B) : Type 0 where
+    pub request : Request
+    pub is : IsRequestOf text request
+    pub reply : Reply
+    pub answered : Answers m old.book new.book request old.office reply
+    pub office : new.office ≡ old.office
+    pub written_is : written ≡ reply_as (asking_text request.call) reply
+
+  abbrev pub at_desk : Answering (Desk B)
+  at_desk = record { uses = Uses; no_room = no_room; steps = Steps }

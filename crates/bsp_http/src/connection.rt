@@ -1,0 +1,39 @@
+//! Serving one connection at the office's desk.
+
+ghost use Rattle.std.specs.Prelude.{ℕ, List, IfOk};
+ghost use Rattle.std.specs.Io.KnownBytes.{Consumes, IsAtEnd};
+ghost use Rattle.bsp_conversation.specs.Ends.{IsInputEnd};
+ghost use Rattle.bsp_conversation.specs.Serving.{Serves};
+ghost use Rattle.bsp_http.specs.Messages.{at_desk};
+
+use crate::office::Office;
+use bsp_book::Book;
+use bsp_conversation::{ServeFault, Served};
+use bsp_desk::Desk;
+use bsp_routes::Routes;
+use std::alloc::Global;
+use std::io::{Read, Write};
+
+/// Serves one connection to its end: answers its messages at the desk, one behind the other, and writes the
+/// responses.
+///
+/// It takes memory for the connection, of a fixed size, for bodies, and for what the desk answers.
+///
+/// # Errors
+///
+/// `Memory` before anything was read or written. `Read` where a read failed: exactly the messages that were
+/// complete were answered. `Write` where a write failed, or took no byte: a first part of the responses was
+/// written, and the changes that were committed stay.
+pub fn serve<R: Read, W: Write, B: Book>(
+    alloc: Global,
+    routes: &Routes,
+    reader: &mut R,
+    writer: &mut W,
+    desk: &mut Desk<B>,
+) -> Result<Served, ServeFault>
+    ensures conversation { (got : List ℕ) × Consumes (R.remaining reader.old) (R.remaining reader.new) got
+        × Serves (at_desk B.means) got desk.old desk.new (W.contents writer.old) (W.contents writer.new) result }
+    ensures end { IfOk result (λ served. IsInputEnd served.end → IsAtEnd (R.remaining reader.new)) }
+{
+    bsp_conversation::serve(alloc, reader, writer, &Office { routes }, desk)
+}

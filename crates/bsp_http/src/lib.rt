@@ -1,0 +1,18 @@
+//! The office over HTTP: a connection is served at its desk, by its routes.
+//!
+//! [`serve`] cuts messages from what a peer sends, has the desk answer them, and writes the responses, as
+//! `docs/HTTP.md` has it. [`messages_are_run`] is the law that what a connection asks of a desk is a run of requests,
+//! so that all that holds of a run holds of a connection.
+#![tactic(auto)]
+
+mod connection;
+mod laws;
+mod office;
+mod replies;
+#[cfg(test)]
+mod tests;
+
+pub use bsp_conversation::{End, ServeFault, Served};
+pub use bsp_routes::Routes;
+pub use connection::serve;
+pub use laws::{messages_are_read, messages_are_run};

@@ -1,0 +1,6 @@
+//! Connections of an office whose book is a list.
+
+mod ends;
+mod example;
+mod peers;
+mod replies;
