@@ -1,13 +1,14 @@
 //! Waiting for a head.
 
 ghost use Rattle.std.specs.Prelude.{◌≡◌, ℕ, ◌<◌, ◌≤◌, List, ◌++◌, length, Ok, None, IfOk, OnErr};
-ghost use Rattle.std.specs.Io.KnownBytes.{Consumes, IsAtEnd};
+ghost use Rattle.std.specs.Io.KnownBytes.{Consumes, IsAtEnd, Keeps};
 ghost use Rattle.bsp_heads.specs.Scan.{head_len};
 ghost use Rattle.bsp_conversation.specs.Arrivals.{HasArrived};
 
+use crate::sending::send_on;
 use bsp_heads::Scan;
 use bsp_received::{ReadFault, Received};
-use std::io::Read;
+use std::io::{Read, Write};
 
 /// What came while a head was waited for.
 #[derive(Clone, Copy, Debug, PartialEq, Eq)]
@@ -20,9 +21,11 @@ pub(crate) enum Arrived {
     Ended,
 }
 
-/// Reads until a head is received, no more can be received, or the input ends. Each byte is looked at once.
-pub(crate) fn await_head<R: Read>(
+/// Reads until a head is received, no more can be received, or the input ends. Each byte is looked at once. Before
+/// the peer is waited for, it is sent what the writer holds back.
+pub(crate) fn await_head<R: Read, W: Write>(
     reader: &mut R,
+    writer: &mut W,
     received: &mut Received,
 ) -> Result<Arrived, ReadFault>
     ensures read { (got : List ℕ) × Consumes (R.remaining reader.old) (R.remaining reader.new) got × (received.new ≡ received.old ++ got) }
@@ -30,6 +33,7 @@ pub(crate) fn await_head<R: Read>(
     ensures end { result ≡ Ok Arrived.Ended → IsAtEnd (R.remaining reader.new) }
     ensures err { OnErr result ((head_len received.new ≡ None) × (length received.new < 16384)) }
     ensures room { length received.new ≤ 16384 }
+    ensures kept { Keeps (W.contents writer.old) (W.contents writer.new) }
 {
     let mut scan = Scan::start();
     let mut seen = 0;
@@ -42,6 +46,7 @@ pub(crate) fn await_head<R: Read>(
         if received.is_full() {
             return Ok(Arrived::TooLong);
         }
+        send_on(writer);
         if received.fill(reader)? == 0 {
             return Ok(Arrived::Ended);
         }

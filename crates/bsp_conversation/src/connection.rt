@@ -18,6 +18,9 @@ pub const MESSAGE_LIMIT: usize = 65_536;
 /// Serves one connection to its end: reads its messages, one behind the other, has each answered at the desk, and
 /// writes the responses.
 ///
+/// A writer that holds bytes back, as a `BufWriter` does, is flushed before the peer is waited for; who passes one
+/// flushes it in the end.
+///
 /// It takes memory for the connection, of a fixed size, and for bodies.
 ///
 /// # Errors

@@ -1,6 +1,7 @@
 //! Writing, with what a fault leaves written.
 
 ghost use Rattle.std.specs.Prelude.{true};
+ghost use Rattle.std.specs.Io.KnownBytes.{Keeps};
 ghost use Rattle.bsp_conversation.specs.Exchanges.{IsWritten};
 ghost use Rattle.bsp_responses.specs.Responses.{reply_text, response};
 
@@ -39,4 +40,11 @@ pub(crate) fn send_response<W: Write>(
     let (head, body) = response.parts();
     send(writer, head)?;
     send(writer, body)
+}
+
+/// Has a writer that holds bytes back send them. A writer that cannot has them still, and fails later.
+pub(crate) fn send_on<W: Write>(writer: &mut W)
+    ensures { Keeps (W.contents writer.old) (W.contents writer.new) }
+{
+    let _ = writer.flush();
 }

@@ -2,7 +2,7 @@
 
 ghost use Rattle.std.specs.Prelude.{◌≡◌, ◌≢◌, ◌⊎◌, ◌||◌, ◌==◌, ℕ, ◌+◌, ◌<◌, ◌≤◌, List, [], ◌++◌, length, take, Some, None, IfOk, IfSome, if◌then◌else◌};
 ghost use Rattle.std.specs.Option.{option_map};
-ghost use Rattle.std.specs.Io.KnownBytes.{Consumes, IsAtEnd};
+ghost use Rattle.std.specs.Io.KnownBytes.{Consumes, IsAtEnd, Keeps};
 ghost use Rattle.httparse.specs.Spans.{IsWithin, span_bytes};
 ghost use Rattle.bsp_heads.specs.Head.{AreParts};
 ghost use Rattle.bsp_heads.specs.Scan.{head_len};
@@ -14,7 +14,7 @@ use crate::asking::{Place, ask};
 use crate::end::{End, ServeFault};
 use crate::responding::{refuse, respond, stop};
 use crate::room::Room;
-use crate::sending::send;
+use crate::sending::{send, send_on};
 use crate::service::{Message, Service};
 use bsp_heads::{HeadFault, HeadParts, Refused, read_head};
 use bsp_responses::interim;
@@ -96,6 +96,15 @@ fn answer_message<R: Read, W: Write, D, S: Service<D>>(
     respond(writer, &answer, wanted.bare, closes)
 }
 
+/// Where a body is waited for, sends the peer what the writer holds back.
+fn send_before_body<W: Write>(writer: &mut W, has_come: bool)
+    ensures { Keeps (W.contents writer.old) (W.contents writer.new) }
+{
+    if !has_come {
+        send_on(writer);
+    }
+}
+
 /// Reads the head that was received, and answers its message.
 fn answer_head<R: Read, W: Write, D, S: Service<D>>(
     count: usize,
@@ -121,6 +130,7 @@ fn answer_head<R: Read, W: Write, D, S: Service<D>>(
     let Ok(()) = send(writer, interim(parts.wanted.expects)) else {
         return Err(ServeFault::Write);
     };
+    send_before_body(writer, room.received.len() - head >= parts.wanted.body);
     answer_message(count, head, parts, room, reader, writer, service, desk)
 }
 
@@ -139,7 +149,7 @@ pub(crate) fn turn<R: Read, W: Write, D, S: Service<D>>(
     ensures end { IfOk result (λ end. (end ≡ Some End.Clean) ⊎ (end ≡ Some End.Cut) → IsAtEnd (R.remaining reader.new)) }
     ensures last { IfOk result (λ end. end ≡ None → count + 1 ≢ 65536) }
 {
-    let arrived = match await_head(reader, &mut room.received) {
+    let arrived = match await_head(reader, writer, &mut room.received) {
         Ok(arrived) => arrived,
         Err(_) => return Err(ServeFault::Read),
     };

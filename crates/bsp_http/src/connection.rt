@@ -17,6 +17,9 @@ use std::io::{Read, Write};
 /// Serves one connection to its end: answers its messages at the desk, one behind the other, and writes the
 /// responses.
 ///
+/// A writer that holds bytes back, as a `BufWriter` does, is flushed before the peer is waited for; who passes one
+/// flushes it in the end.
+///
 /// It takes memory for the connection, of a fixed size, for bodies, and for what the desk answers.
 ///
 /// # Errors

@@ -3,4 +3,6 @@
 mod ends;
 mod example;
 mod peers;
+mod pieces;
+mod refusals;
 mod replies;

@@ -1,15 +1,65 @@
 -- Lemmas on the words of a command line.
-use Rattle.std.proofs.Common.{◌≡◌, Bool, true, false, List, [], ◌∷◌, Option, Some, None, refl, sym, arith}
-use Rattle.std.specs.Prelude.{is_some, option_map}
-use Rattle.std.specs.Option.{ok_or}
-use Rattle.clap.specs.Words.{App, Row, Shape, Text, built, fault_of, subcommand_of}
+use Rattle.std.proofs.Common.{◌≡◌, ◌∙◌, ◌^◌, ◌&&◌, Bool, true, false, ℕ, List, [], ◌∷◌, length, Option, Some, None, ap, refl, sym, arith, lt-ltb, ltb-true}
+use Rattle.std.specs.Prelude.{Result, Ok, Err, is_some, nat_lt, option_and_then}
+use Rattle.std.specs.Result.{result_ok}
+use Rattle.std.specs.Char.{digit_value}
+use Rattle.std.specs.List.{list_all}
+use Rattle.std.specs.Str.Parse.{AllDigits, ParsesUnsigned, digits_value, without_leading_plus}
+use Rattle.clap.proofs.WalkLemmas.{both, one_text-rows}
+use Rattle.clap.specs.ValueTests.{is_numeral}
+use Rattle.clap.specs.Matches.{ReadsOne, one_text}
+use Rattle.clap.specs.declared.parser.matches.Found.{Found}
+use Rattle.clap.specs.Words.{App, Row, Rule, Shape, Text, built, fault_of, rows_of, subcommand_of, with_rule}
 use Rattle.clap.specs.Simple.{argument_words, entered, names_of}
 use Rattle.clap.specs.Kinds.{Kinds, or_else}
 use Rattle.clap.specs.Faults.{check_fault, defaults_fault, level_fault, settle_fault, entered_fault, walk_fault}
 use Rattle.clap.specs.Walk.{Held, Names, finished, nothing_held, settled, walk, walk_from}
 use Rattle.bsp_office.specs.declared.words.Work.{Work}
 use Rattle.bsp_office.specs.declared.words.WordsFault.TheVariants.{OutOfForm}
-use Rattle.bsp_office.specs.CommandLine.{AnswersWords, office, work_from, work_in, work_of}
+use Rattle.bsp_office.specs.CommandLine.{AnswersWords, number_in, number_read, office, work_from, work_in, work_of}
+
+-- ---- numbers
+
+digits_pass : (ds : Text) → AllDigits 10 ds → list_all (λ d. nat_lt (digit_value d) 10) ds ≡ true
+digits_pass [] digits = refl
+digits_pass (d ∷ ds) digits = rw (lt-ltb (digit_value d) 10 digits.0) (digits_pass ds digits.1)
+
+passing_digits : (ds : Text) → list_all (λ d. nat_lt (digit_value d) 10) ds ≡ true → AllDigits 10 ds
+passing_digits [] pass = tt
+passing_digits (d ∷ ds) pass =
+    let parts = both _ _ pass in
+    (ltb-true _ _ parts.0, passing_digits ds parts.1)
+
+-- what `parse` reads from a text as an unsigned number of k bits
+read_is : {E : Type 0} (k : ℕ) (t : Text) (r : Result ℕ E) → ParsesUnsigned k 10 t r → result_ok r ≡ number_read k t
+read_is k t (Ok n) parses =
+    let ds = without_leading_plus t in
+    rw (lt-ltb 0 (length ds) parses.0.0.0, digits_pass ds parses.0.0.1, lt-ltb (digits_value 10 ds) (2 ^ k) parses.0.1) (ap Some parses.1)
+read_is k t (Err e) parses = go (is_numeral (without_leading_plus t) && nat_lt (digits_value 10 (without_leading_plus t)) (2 ^ k)) refl
+  where
+    go : (b : Bool) → (is_numeral (without_leading_plus t) && nat_lt (digits_value 10 (without_leading_plus t)) (2 ^ k)) ≡ b → None ≡ number_read k t
+    go false is = rw is refl
+    go true is =
+        let parts = both _ _ is in
+        let digits = both _ _ parts.0 in
+        absurd (parses ((ltb-true _ _ digits.0, passing_digits (without_leading_plus t) digits.1), ltb-true _ _ parts.1))
+
+-- and what `get_one` gives of the text
+pub one_read : (E : Type 0) (G : Text → Result ℕ E → Type 0) (k : ℕ) (t : Text) (r : Option ℕ) → ReadsOne G t r → ((u : Text) (x : Result ℕ E) → G u x → ParsesUnsigned k 10 u x) → r ≡ number_read k t
+one_read E G k t (Some n) reads parses = read_is {E = E} k t (Ok n) (parses t (Ok n) reads)
+one_read E G k t None reads parses = read_is {E = E} k t (Err reads.0) (parses t (Err reads.0) reads.1)
+
+pub found_number : (k : ℕ) (id : Text) (f : Found) (r : Option ℕ) → (one_text f id ≡ None → r ≡ None) → ((t : Text) → one_text f id ≡ Some t → r ≡ number_read k t) → r ≡ number_in k id (rows_of f)
+found_number k id f r none some = go (one_text f id) refl
+  where
+    go : (o : Option Text) → one_text f id ≡ o → r ≡ number_in k id (rows_of f)
+    go None is = none is ∙ ap (option_and_then (number_read k)) (sym is ∙ one_text-rows f id)
+    go (Some t) is = some t is ∙ ap (option_and_then (number_read k)) (sym is ∙ one_text-rows f id)
+
+-- ---- words
+
+pub ruled : (a b : App) (r s : Rule) → a ≡ b → r ≡ s → with_rule a r ≡ with_rule b s
+ruled a b r s same_app same_rule = rw (same_app, same_rule) refl
 
 last_none : (a b c d last : Kinds) → or_else a (or_else b (or_else c (or_else d last))) ≡ [] → last ≡ []
 last_none [] [] [] [] last none = none
@@ -41,7 +91,9 @@ out_of_form : (sub : Option (Text × List Row)) → is_some sub ≡ true → Non
 out_of_form (Some p) some none = (p, refl, sym none)
 out_of_form None some none = cc
 
--- the answer to words without fault
-pub found_answers : (words : List Text) (found : Option Work) → fault_of office words ≡ [] → option_map work_of found ≡ work_from (subcommand_of office words) → AnswersWords words (ok_or found OutOfForm)
-found_answers words (Some work) none is = (none, sym is)
-found_answers words None none is = (none, out_of_form _ (names_one office words refl none) is)
+-- the answer to words without fault, by the work that is found in them
+pub work_answers : (words : List Text) (work : Work) → fault_of office words ≡ [] → Some (work_of work) ≡ work_from (subcommand_of office words) → AnswersWords words (Ok work)
+work_answers words work none is = (none, sym is)
+
+pub none_answers : (words : List Text) → fault_of office words ≡ [] → None ≡ work_from (subcommand_of office words) → AnswersWords words (Err OutOfForm)
+none_answers words none is = (none, out_of_form _ (names_one office words refl none) is)

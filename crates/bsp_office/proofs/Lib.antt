@@ -4,3 +4,4 @@ pub mod Pieces
 pub mod RetReports
 pub mod Reports
 pub mod CommandLines
+pub mod Visits

@@ -1,10 +1,16 @@
 -- The command line of the office, and the work that its words ask for.
-use Rattle.std.specs.Prelude.{◌≡◌, List, [], Option, Some, None, Result, Ok, Err, true, codes, if◌then◌else◌, option_map, option_and_then}
+use Rattle.std.specs.Prelude.{◌≡◌, ℕ, ◌^◌, ◌&&◌, pos, nat_lt, List, [], ◌∷◌, Option, Some, None, Result, Ok, Err, true, codes, if◌then◌else◌, option_map, option_and_then}
 use Rattle.std.specs.Str.{bytes_eq}
-use Rattle.clap.specs.Words.{App, HasKind, Row, Rule, Shape, Text, fault_of, first_of, new_app, new_rule, subcommand_of, with_rule, with_subcommand}
+use Rattle.std.specs.Str.Parse.{digits_value, without_leading_plus}
+use Rattle.clap.specs.Words.{App, HasKind, Row, Rule, Shape, Text, fault_of, first_of, new_app, new_rule, one_of, subcommand_of, with_rule, with_subcommand}
 use Rattle.clap.specs.Simple.{on_top}
+use Rattle.clap.specs.ValueTests.{is_numeral}
+use Rattle.clap.specs.declared.builder.value_parser.ValueParser.TheVariants.{Signed}
+use Rattle.bsp_fields.specs.Tokens.{token_reading}
+use Rattle.bsp_office.specs.declared.words.TokenSource.{TokenSource}
+use Rattle.bsp_office.specs.declared.words.TokenSource.TheVariants as source
 use Rattle.bsp_office.specs.declared.words.Work.{Work}
-use Rattle.bsp_office.specs.declared.words.Work.TheVariants.{Check, Hotcheck}
+use Rattle.bsp_office.specs.declared.words.Work.TheVariants.{Check, Hotcheck, Run, Serve}
 use Rattle.bsp_office.specs.declared.words.WordsFault.{WordsFault}
 use Rattle.bsp_office.specs.declared.words.WordsFault.TheVariants.{Refused, OutOfForm}
 
@@ -18,6 +24,30 @@ wanted_word id = record (new_rule id) { required = true }
 abbrev pub file_app : Text → App
 file_app name = with_rule (new_app name) (wanted_word (codes "FILE"))
 
+-- an option with a value behind it: --ID VALUE
+abbrev pub named_option : Text → Rule
+named_option id = record (new_rule id) { long = Some id; value_names = 1 }
+
+-- and the value is a number from the least to the most
+abbrev pub number_option : Text → ℕ → ℕ → Rule
+number_option id least most = record (named_option id) { parser = Some (Signed (pos least) (pos most)) }
+
+-- --token T and --token-file FILE
+abbrev pub with_tokens : App → App
+with_tokens a = with_rule (with_rule a (named_option (codes "token"))) (named_option (codes "token-file"))
+
+abbrev pub run_app : App
+run_app = with_tokens (new_app (codes "run"))
+
+abbrev pub port_rule : Rule
+port_rule = record (number_option (codes "port") 1 65535) { required = true }
+
+abbrev pub connections_rule : Rule
+connections_rule = record (number_option (codes "connections") 1 1000000) { defaults = codes "1000000" ∷ [] }
+
+abbrev pub serve_app : App
+serve_app = with_rule (with_tokens (with_rule (new_app (codes "serve")) port_rule)) connections_rule
+
 -- a subcommand must be there, and none is called help
 abbrev pub needs_subcommand : Shape → Shape
 needs_subcommand s = record s { subcommand_required = true; disable_help_subcommand = true }
@@ -25,19 +55,36 @@ needs_subcommand s = record s { subcommand_required = true; disable_help_subcomm
 abbrev pub office : App
 office =
     with_subcommand
+    (with_subcommand
+    (with_subcommand
     (with_subcommand (on_top needs_subcommand (new_app (codes "bsp_office"))) (file_app (codes "check")).top)
-    (file_app (codes "hotcheck")).top
+    (file_app (codes "hotcheck")).top)
+    run_app.top)
+    serve_app.top
 
 -- ---- the work
+
+-- the token, or the file that has it
+pub data AskedToken : Type 0 where
+  given : Text → AskedToken
+  in_file : Text → AskedToken
+
+abbrev pub token_of : TokenSource → AskedToken
+token_of (source.Given token) = given token
+token_of (source.File file) = in_file file.now
 
 -- a command with its values, as texts and numbers
 pub data AskedWork : Type 0 where
   check : Text → AskedWork
   hotcheck : Text → AskedWork
+  run : AskedToken → AskedWork
+  serve : ℕ → AskedToken → ℕ → AskedWork
 
 abbrev pub work_of : Work → AskedWork
 work_of (Check file) = check file.now
 work_of (Hotcheck file) = hotcheck file.now
+work_of (Run token) = run (token_of token)
+work_of (Serve port token connections) = serve port (token_of token) connections
 
 -- the work of each subcommand by what was found behind it, where each value is in its form
 abbrev pub check_work : List Row → Option AskedWork
@@ -46,10 +93,39 @@ check_work rows = option_map check (first_of (codes "FILE") rows)
 abbrev pub hotcheck_work : List Row → Option AskedWork
 hotcheck_work rows = option_map hotcheck (first_of (codes "FILE") rows)
 
+-- exactly one of the two options gives the token; no file is called -
+abbrev pub token_from : Option Text → Option Text → Option AskedToken
+token_from (Some text) None = option_map given (token_reading text)
+token_from None (Some file) = if bytes_eq file (codes "-") then None else Some (in_file file)
+token_from _ _ = None
+
+abbrev pub asked_token : List Row → Option AskedToken
+asked_token rows = token_from (first_of (codes "token") rows) (first_of (codes "token-file") rows)
+
+abbrev pub run_work : List Row → Option AskedWork
+run_work rows = option_map run (asked_token rows)
+
+-- the number of k bits that a text writes in digits, a plus in front of them or not
+abbrev pub number_read : ℕ → Text → Option ℕ
+number_read k text =
+    let digits = without_leading_plus text in
+    if is_numeral digits && nat_lt (digits_value 10 digits) (2 ^ k) then Some (digits_value 10 digits) else None
+
+abbrev pub number_in : ℕ → Text → List Row → Option ℕ
+number_in k id rows = option_and_then (number_read k) (one_of id rows)
+
+abbrev pub serve_work : List Row → Option AskedWork
+serve_work rows =
+    option_and_then
+    (λ port. option_and_then (λ connections. option_map (λ token. serve port token connections) (asked_token rows)) (number_in 32 (codes "connections") rows))
+    (number_in 16 (codes "port") rows)
+
 unfoldable pub work_in : Text → List Row → Option AskedWork
 work_in name rows =
     if bytes_eq name (codes "check") then check_work rows
     else if bytes_eq name (codes "hotcheck") then hotcheck_work rows
+    else if bytes_eq name (codes "run") then run_work rows
+    else if bytes_eq name (codes "serve") then serve_work rows
     else None
 
 abbrev pub work_from : Option (Text × List Row) → Option AskedWork

@@ -3,3 +3,4 @@ pub mod CommandLine
 pub mod Streams
 pub mod RetReport
 pub mod HotReport
+pub mod Listening

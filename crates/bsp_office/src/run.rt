@@ -2,17 +2,12 @@
 
 use crate::checking::{check, hotcheck};
 use crate::input::Input;
+use crate::serving::{run_office, serve_office};
+use crate::status::{DONE, FAILED, WRONG_WORDS};
 use crate::words::{WordsFault, Work, words};
 use clap::error::ErrorKind;
 use std::convert::AsStr;
 use std::{env, io};
-
-/// The program did what it was asked for.
-const DONE: u8 = 0;
-/// The words of the command line are wrong.
-const WRONG_WORDS: u8 = 2;
-/// A read or a write failed, or an allocation was refused.
-const FAILED: u8 = 3;
 
 /// Runs the work, and answers its exit status. It fails where the FILE cannot be opened.
 fn run_work(rt: &HostRuntime, work: &Work<'_>) -> io::Result<u8> {
@@ -26,15 +21,29 @@ fn run_work(rt: &HostRuntime, work: &Work<'_>) -> io::Result<u8> {
             let mut input = Input::open(rt, file)?;
             Ok(hotcheck(rt.alloc(), &mut input, &mut output))
         }
+        Work::Run { token } => Ok(run_office(rt, token)),
+        Work::Serve {
+            port,
+            token,
+            connections,
+        } => Ok(serve_office(rt, *port, token, *connections)),
     }
 }
+
+/// What is wrong with a value that `clap` takes.
+const WRONG_TOKEN: &str =
+    "error: exactly one of --token T and --token-file FILE gives the office's token, \
+    T has 16 to 64 letters and digits, and FILE is not -";
 
 /// Prints what `clap` says of the words: help on standard output, else on standard error. Wrong
 /// words are so too where their text cannot be printed.
 fn refuse(rt: &HostRuntime, fault: &WordsFault) -> u8 {
     let error = match fault {
         WordsFault::Refused(error) => error,
-        WordsFault::OutOfForm => return WRONG_WORDS,
+        WordsFault::OutOfForm => {
+            let _ = rt.eprintln(WRONG_TOKEN);
+            return WRONG_WORDS;
+        }
     };
     if error.kind() == ErrorKind::OutOfMemory {
         return FAILED;

@@ -1,6 +1,7 @@
 mod devices;
 mod files;
 mod hot_files;
+mod listening;
 mod words;
 
 use crate::{check, hotcheck};

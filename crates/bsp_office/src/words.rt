@@ -1,25 +1,48 @@
 //! From the words of a command line to the work that they ask for.
 //!
-//! A further command is a variant of [`Work`], a function that makes its [`Command`], a function
-//! that makes its work of the values found, and a row in `office_command` and in `work_in`.
+//! A further command is a variant of [`Work`], a function that makes its `Command`, a function that makes its work of
+//! the values found, and a row in `office_command` and in `work_in`.
 
-ghost use Rattle.std.specs.Prelude.{◌≡◌, IfOk, IfErr, [], codes, map, option_map, false};
-ghost use Rattle.clap.specs.Words.{HasKind, app_of, fault_of, first_of, found_of, kind_of, rows_of, shape_of, subcommand_of, subcommand_rows_of};
-ghost use Rattle.clap.specs.declared.builder.command.Command.TheViews.{out-Command as fields_of};
-ghost use Rattle.bsp_office.specs.CommandLine.{AnswersWords, check_work, file_app, hotcheck_work, office, work_from, work_in, work_of};
+ghost use Rattle.std.specs.Prelude.{◌≡◌, IfOk, IfErr, [], codes, map, option_map};
+ghost use Rattle.clap.specs.Words.{HasKind, fault_of, first_of, found_of, rows_of, subcommand_of, subcommand_rows_of};
+ghost use Rattle.bsp_office.specs.CommandLine.{AnswersWords, asked_token, check_work, hotcheck_work, number_in, office, run_work, serve_work, token_of, work_from, work_in, work_of};
 
-use clap::error::ErrorKind;
-use clap::{Arg, ArgMatches, Command, Error};
+use crate::command_line::office_command;
+use bsp_fields::Token;
+use clap::{ArgMatches, Error};
 use std::alloc::Global;
 use std::convert::AsStr;
 
+/// Where the office's token is.
+#[derive(Clone, Copy, PartialEq, Eq)]
+pub enum TokenSource<'a> {
+    /// `--token T`: in the words.
+    Given(Token),
+    /// `--token-file FILE`: it is the first line of the file. The FILE `-` is out of form.
+    File(&'a str),
+}
+
 /// What the program is asked to do: one variant for each command, with its FILE and its options.
-#[derive(Clone, Copy, Debug, PartialEq, Eq)]
+#[derive(Clone, Copy, PartialEq, Eq)]
 pub enum Work<'a> {
     /// `check FILE`: to report on a RET file. The FILE `-` is standard input.
-    Check { file: &'a str },
+    Check {
+        file: &'a str,
+    },
     /// `hotcheck FILE`: to report on a HOT file. The FILE `-` is standard input.
-    Hotcheck { file: &'a str },
+    Hotcheck {
+        file: &'a str,
+    },
+    /// `run`: to serve one connection on standard input and output.
+    Run {
+        token: TokenSource<'a>,
+    },
+    /// `serve --port N`: to serve so many connections on a port of 127.0.0.1.
+    Serve {
+        port: u16,
+        token: TokenSource<'a>,
+        connections: u32,
+    },
 }
 
 /// Why the words ask for no work.
@@ -27,57 +50,9 @@ pub enum Work<'a> {
 pub enum WordsFault {
     /// `clap` refuses the words, or was refused memory; a request for help is told so too.
     Refused(Error),
-    /// `clap` takes the words, and a value in them is out of its form.
+    /// `clap` takes the words, and a value in them is out of its form: the token, which exactly one of the two
+    /// options gives.
     OutOfForm,
-}
-
-/// A command of that name with a FILE behind it.
-fn file_command<'a>(alloc: Global, name: &'a str, about: &'a str) -> Result<Command<'a>, Error>
-    ensures ok { IfOk result (λ c. (shape_of c ≡ (file_app name.entry.now).top) × ((fields_of c).has_globals ≡ false)) }
-    ensures err { IfErr result (λ e. kind_of e ≡ ErrorKind.OutOfMemory) }
-{
-    let file = Arg::new(alloc, "FILE")
-        .help("the file, or - for standard input")
-        .required(true);
-    let command = Command::new(alloc, name).about(about).arg(file)?;
-    Ok(command)
-}
-
-fn check_command<'a>(alloc: Global) -> Result<Command<'a>, Error>
-    ensures ok { IfOk result (λ c. (shape_of c ≡ (file_app (codes "check")).top) × ((fields_of c).has_globals ≡ false)) }
-    ensures err { IfErr result (λ e. kind_of e ≡ ErrorKind.OutOfMemory) }
-{
-    file_command(
-        alloc,
-        "check",
-        "Reads a RET file and prints its transactions and their sum, or its first fault",
-    )
-}
-
-fn hotcheck_command<'a>(alloc: Global) -> Result<Command<'a>, Error>
-    ensures ok { IfOk result (λ c. (shape_of c ≡ (file_app (codes "hotcheck")).top) × ((fields_of c).has_globals ≡ false)) }
-    ensures err { IfErr result (λ e. kind_of e ≡ ErrorKind.OutOfMemory) }
-{
-    file_command(
-        alloc,
-        "hotcheck",
-        "Reads a HOT file and prints its totals, or its first record at fault",
-    )
-}
-
-fn office_command<'a>(alloc: Global) -> Result<Command<'a>, Error>
-    ensures ok { IfOk result (λ c. app_of c ≡ office) }
-    ensures err { IfErr result (λ e. kind_of e ≡ ErrorKind.OutOfMemory) }
-{
-    let check = check_command(alloc)?;
-    let hotcheck = hotcheck_command(alloc)?;
-    let office = Command::new(alloc, "bsp_office")
-        .about("The office of a billing and settlement plan")
-        .subcommand_required(true)
-        .disable_help_subcommand(true);
-    let office = office.subcommand(check)?;
-    let office = office.subcommand(hotcheck)?;
-    Ok(office)
 }
 
 /// The first value of an argument.
@@ -101,6 +76,58 @@ fn hotcheck_given<'a>(matches: &ArgMatches<'a>) -> Option<Work<'a>>
     Some(Work::Hotcheck { file })
 }
 
+/// Where the token is, which one of the two options gives.
+fn token_given<'a>(matches: &ArgMatches<'a>) -> Option<TokenSource<'a>>
+    ensures { option_map token_of result ≡ asked_token (rows_of (found_of matches.now)) }
+{
+    let given = value_of(matches, "token");
+    let file = value_of(matches, "token-file");
+    match (given, file) {
+        (Some(text), None) => {
+            let token = Token::read(text.as_bytes())?;
+            Some(TokenSource::Given(token))
+        }
+        (None, Some(file)) if file != "-" => Some(TokenSource::File(file)),
+        _ => None,
+    }
+}
+
+fn run_given<'a>(matches: &ArgMatches<'a>) -> Option<Work<'a>>
+    ensures { option_map work_of result ≡ run_work (rows_of (found_of matches.now)) }
+{
+    let Some(token) = token_given(matches) else {
+        return None;
+    };
+    Some(Work::Run { token })
+}
+
+fn port_given(matches: &ArgMatches<'_>) -> Option<u16>
+    ensures { result ≡ number_in 16 (codes "port") (rows_of (found_of matches.now)) }
+{
+    matches.get_one::<u16>("port")
+}
+
+fn connections_given(matches: &ArgMatches<'_>) -> Option<u32>
+    ensures { result ≡ number_in 32 (codes "connections") (rows_of (found_of matches.now)) }
+{
+    matches.get_one::<u32>("connections")
+}
+
+fn serve_given<'a>(matches: &ArgMatches<'a>) -> Option<Work<'a>>
+    ensures { option_map work_of result ≡ serve_work (rows_of (found_of matches.now)) }
+{
+    let port = port_given(matches)?;
+    let connections = connections_given(matches)?;
+    let Some(token) = token_given(matches) else {
+        return None;
+    };
+    Some(Work::Serve {
+        port,
+        token,
+        connections,
+    })
+}
+
 #[tactic(auto, unfolding(crate::specs::CommandLine::work_in))]
 fn work_given<'a>(name: &str, matches: &ArgMatches<'a>) -> Option<Work<'a>>
     ensures { option_map work_of result ≡ work_in name.now (rows_of (found_of matches.now)) }
@@ -108,6 +135,8 @@ fn work_given<'a>(name: &str, matches: &ArgMatches<'a>) -> Option<Work<'a>>
     match name {
         "check" => check_given(matches),
         "hotcheck" => hotcheck_given(matches),
+        "run" => run_given(matches),
+        "serve" => serve_given(matches),
         _ => None,
     }
 }
@@ -141,7 +170,10 @@ pub fn words<'a, S: AsStr>(alloc: Global, words: &'a [S]) -> Result<Work<'a>, Wo
     ensures { AnswersWords (map S.text words.entry.now) result }
 {
     match matches_found(alloc, words) {
-        Ok(matches) => work_found(&matches).ok_or(WordsFault::OutOfForm),
+        Ok(matches) => match work_found(&matches) {
+            Some(work) => Ok(work),
+            None => Err(WordsFault::OutOfForm),
+        },
         Err(error) => Err(WordsFault::Refused(error)),
     }
 }

@@ -4,6 +4,7 @@ use super::desk::{Counter, Echo};
 use super::peers::{Peer, Sink};
 use crate::{End, ServeFault, Served, serve};
 use std::alloc::Global;
+use std::io::BufWriter;
 use std::test::Fail;
 
 /// Whether the input has this output and end, however many bytes are read and written at once, with so many
@@ -38,6 +39,21 @@ fn messages_are_answered_in_turn(rt: HostRuntime) {
         end: End::Clean,
     };
     assert!(rt; is_talk(rt.alloc(), PIPELINED, PIPELINED_REPLIES, 5, Ok(end)));
+}
+
+/// What a writer holds back is sent before the peer is waited for, and not sooner.
+#[test]
+fn responses_are_sent_together(rt: HostRuntime) -> Result<(), Fail> {
+    let alloc = rt.alloc();
+    let mut peer = Peer::new(PIPELINED, 100_000);
+    let sink = Sink::new(Vec::new(alloc), 100_000);
+    let mut output = BufWriter::new(alloc, sink)?;
+    let mut desk = Counter { asked: 0 };
+    let served = serve(alloc, &mut peer, &mut output, &Echo, &mut desk);
+    assert!(rt; served.is_ok());
+    assert_eq!(rt; output.get_ref().taken.as_slice(), PIPELINED_REPLIES);
+    assert_eq!(rt; output.get_ref().writes, 1);
+    Ok(())
 }
 
 /// The element `close` closes the connection, and what is behind it is not answered.

@@ -1,5 +1,5 @@
 use Rattle.std.proofs.Common.{◌≤◌, List, ℕ, [], length, take, sym, subst, append-nil}
-use Rattle.std.proofs.KnownBytes.{Consumes-nil}
+use Rattle.std.proofs.KnownBytes.{Appends-kept, Consumes-nil}
 use Rattle.std.proofs.lemmas.List.{length-take-le}
 use Rattle.bsp_heads.proofs.ScanLemmas.{head_len-le}
 use Rattle.bsp_heads.specs.Head.{AreParts, Refuses}
@@ -9,6 +9,9 @@ use Rattle.bsp_conversation.proofs.turn.answer_head.Goals as goal
 
 pub slice_bounds-read_head-end : goal.slice_bounds-read_head-end
 slice_bounds-read_head-end g c = sym (length-take-le _ _ (subst (λ (l : List ℕ). c.args.head ≤ length l) (sym c.bytes.ensures) (head_len-le _ _ c.requires.ends)))
+
+pub overflow_sub-len : goal.overflow_sub-len
+overflow_sub-len g c = subst (λ (n : ℕ). c.args.head ≤ n) (sym c.len.ensures.value) (head_len-le _ _ c.requires.ends)
 
 pub returns-in-Err-clause-read : goal.returns-in-Err-clause-read
 returns-in-Err-clause-read g c = (
@@ -28,5 +31,9 @@ returns-in_default-clause-read g c = (
 
 pub returns-clause-read : goal.returns-clause-read
 returns-clause-read g c =
-    let later = c.answer_message.ensures.read in
-    (later.0, later.1, after_front g.S.Service.means c.args.count (interim c.in-Ok.parts.wanted.expects) _ _ _ _ _ _ _ c.answer_message.result (rw c.interim.ensures at c.in-Ok-send.ensures) later.2)
+    let later = c.answer_message.ensures.read in (
+      later.0,
+      later.1,
+      after_front g.S.Service.means c.args.count (interim c.in-Ok.parts.wanted.expects) _ _ _ _ _ _ _ c.answer_message.result
+          (Appends-kept _ _ _ _ (rw c.interim.ensures at c.in-Ok-send.ensures) c.send_before_body.ensures) later.2,
+    )

@@ -1,13 +1,8 @@
-use Rattle.std.proofs.Common.{map, ap, sym, ◌∙◌, subst}
-use Rattle.std.specs.Prelude.{Result}
-use Rattle.bsp_office.specs.declared.words.Work.{Work}
-use Rattle.bsp_office.specs.declared.words.WordsFault.{WordsFault}
-use Rattle.bsp_office.specs.CommandLine.{AnswersWords, work_from}
-use Rattle.bsp_office.proofs.CommandLines.{found_answers}
+use Rattle.std.proofs.Common.{map, ap, ◌∙◌}
+use Rattle.bsp_office.specs.CommandLine.{work_from}
+use Rattle.bsp_office.proofs.CommandLines.{none_answers}
 use Rattle.bsp_office.proofs.words.words.Goals as goal
 
 pub returns-in-Ok : goal.returns-in-Ok
 returns-in-Ok g c =
-    let words = map g.S.AsStr.text c.args.words.now in
-    let Answers : Result Work WordsFault → Type 0 = λ r. AnswersWords words r in
-    subst Answers (sym c.ok_or.ensures.value) (found_answers words c.work_found.result c.in-Ok.ensures.ok.0 (c.work_found.ensures ∙ ap work_from c.in-Ok.ensures.ok.1))
+    none_answers (map g.S.AsStr.text c.args.words.now) c.in-Ok.ensures.ok.0 (rw c.in-None.is at c.work_found.ensures ∙ ap work_from c.in-Ok.ensures.ok.1)

@@ -1,0 +1,36 @@
+-- What the desk was asked on the connections of a listener.
+use Rattle.std.proofs.Common.{◌≡◌, ℕ, ◌+◌, List, [], ◌∷◌, ◌++◌, length, length-append, arith, Option, Result, Ok, Err, sym, subst}
+use Rattle.std.proofs.lemmas.Fn.{FoldsTo-push}
+use Rattle.std.specs.List.{FoldsTo}
+use Rattle.bsp_conversation.specs.Conversations.{IsRun}
+use Rattle.bsp_conversation.specs.Exchanges.{Exchange, Meaning}
+use Rattle.bsp_conversation.specs.Serving.{Serves}
+use Rattle.bsp_conversation.specs.declared.end.ServeFault.{ServeFault}
+use Rattle.bsp_conversation.specs.declared.end.ServeFault.TheVariants.{Read, Write, Memory}
+use Rattle.bsp_conversation.specs.declared.end.Served.{Served}
+use Rattle.bsp_office.specs.Listening.{AreVisited, IsVisited, Visit}
+
+-- a fold over one list and then over another is a fold over both
+folds_on : {P A : Type 0} (R : P → A → P → Type 0) (p : P) (xs : List A) (q : P) (ys : List A) (r : P) → FoldsTo R p xs q → FoldsTo R q ys r → FoldsTo R p (xs ++ ys) r
+folds_on R p [] q ys r same more = subst (λ start. FoldsTo R start ys r) (sym same) more
+folds_on R p (x ∷ xs) q ys r first more = (first.0, first.1, folds_on R first.0 xs q ys r first.2 more)
+
+module _ {D : Type 0} (m : Meaning D) where
+  -- what the desk was asked on a connection is a run
+  served_run : (got : List ℕ) (old new : D) (before after : Option (List ℕ)) (ended : Result Served ServeFault) → Serves m got old new before after ended → (xs : List Exchange) × IsRun m old xs new
+  served_run got old new before after (Ok served) serves = (serves.1, serves.3)
+  served_run got old new before after (Err Read) serves = (serves.1, serves.3)
+  served_run got old new before after (Err Write) serves = (serves.1, serves.6)
+  served_run got old new before after (Err Memory) serves = ([], sym serves.2)
+
+  -- one connection more
+  pub one_more : (count : ℕ) (old mid new : D) (visits : List Visit) (visit : Visit) → AreVisited m old visits mid → length visits ≡ count → IsVisited m mid visit new → AreVisited m old (visits ++ visit ∷ []) new × (length (visits ++ visit ∷ []) ≡ count + 1)
+  one_more count old mid new visits visit visited counted next =
+      (FoldsTo-push (IsVisited m) old visits mid visit new visited next, omega (arith, counted, length-append visits (visit ∷ [])))
+
+  pub visits_run : (old : D) (visits : List Visit) (new : D) → AreVisited m old visits new → (xs : List Exchange) × IsRun m old xs new
+  visits_run old [] new same = ([], same)
+  visits_run old (visit ∷ visits) new visited =
+      let first = served_run visit.got old visited.0 visited.1.0 visited.1.1 visit.ended visited.1.2 in
+      let rest = visits_run visited.0 visits new visited.2 in
+      (first.0 ++ rest.0, folds_on _ old first.0 visited.0 rest.0 new first.1 rest.1)

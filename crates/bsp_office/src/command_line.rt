@@ -1,0 +1,140 @@
+//! The command line, as `clap` reads it.
+
+ghost use Rattle.std.specs.Prelude.{◌≡◌, IfOk, IfErr, codes, false};
+ghost use Rattle.clap.specs.Words.{app_of, kind_of, rule_of, shape_of};
+ghost use Rattle.clap.specs.declared.builder.command.Command.TheViews.{out-Command as fields_of};
+ghost use Rattle.bsp_office.specs.CommandLine.{connections_rule, file_app, named_option, office, port_rule, run_app, serve_app, with_tokens};
+
+use clap::error::ErrorKind;
+use clap::{Arg, Command, Error};
+use std::alloc::Global;
+
+/// A command of that name with a FILE behind it.
+fn file_command<'a>(alloc: Global, name: &'a str, about: &'a str) -> Result<Command<'a>, Error>
+    ensures ok { IfOk result (λ c. (shape_of c ≡ (file_app name.entry.now).top) × ((fields_of c).has_globals ≡ false)) }
+    ensures err { IfErr result (λ e. kind_of e ≡ ErrorKind.OutOfMemory) }
+{
+    let file = Arg::new(alloc, "FILE")
+        .help("the file, or - for standard input")
+        .required(true);
+    let command = Command::new(alloc, name).about(about).arg(file)?;
+    Ok(command)
+}
+
+fn check_command<'a>(alloc: Global) -> Result<Command<'a>, Error>
+    ensures ok { IfOk result (λ c. (shape_of c ≡ (file_app (codes "check")).top) × ((fields_of c).has_globals ≡ false)) }
+    ensures err { IfErr result (λ e. kind_of e ≡ ErrorKind.OutOfMemory) }
+{
+    file_command(
+        alloc,
+        "check",
+        "Reads a RET file and prints its transactions and their sum, or its first fault",
+    )
+}
+
+fn hotcheck_command<'a>(alloc: Global) -> Result<Command<'a>, Error>
+    ensures ok { IfOk result (λ c. (shape_of c ≡ (file_app (codes "hotcheck")).top) × ((fields_of c).has_globals ≡ false)) }
+    ensures err { IfErr result (λ e. kind_of e ≡ ErrorKind.OutOfMemory) }
+{
+    file_command(
+        alloc,
+        "hotcheck",
+        "Reads a HOT file and prints its totals, or its first record at fault",
+    )
+}
+
+/// The option `--ID VALUE`.
+fn option<'a>(alloc: Global, id: &'a str, value: &'a str, help: &'a str) -> Arg<'a>
+    ensures rule { rule_of result ≡ named_option id.entry.now }
+    ensures local { result.global ≡ false }
+{
+    Arg::new(alloc, id).long(id).value_name(value).help(help)
+}
+
+/// The command with the options that give the office's token.
+fn taking_token<'a>(alloc: Global, command: Command<'a>) -> Result<Command<'a>, Error>
+    requires { (fields_of command).has_globals ≡ false }
+    ensures ok { IfOk result (λ c. (app_of c ≡ with_tokens (app_of command.entry)) × ((fields_of c).has_globals ≡ false)) }
+    ensures err { IfErr result (λ e. kind_of e ≡ ErrorKind.OutOfMemory) }
+{
+    let token = option(
+        alloc,
+        "token",
+        "T",
+        "the office's token, of 16 to 64 letters and digits",
+    );
+    let file = option(
+        alloc,
+        "token-file",
+        "FILE",
+        "a file whose first line is the token: other users of the machine do not see it",
+    );
+    let command = command.arg(token)?;
+    let command = command.arg(file)?;
+    Ok(command)
+}
+
+fn run_command<'a>(alloc: Global) -> Result<Command<'a>, Error>
+    ensures ok { IfOk result (λ c. (shape_of c ≡ run_app.top) × ((fields_of c).has_globals ≡ false)) }
+    ensures err { IfErr result (λ e. kind_of e ≡ ErrorKind.OutOfMemory) }
+{
+    let command = Command::new(alloc, "run").about(
+        "Serves one connection of HTTP on standard input and output",
+    );
+    taking_token(alloc, command)
+}
+
+fn port_option<'a>(alloc: Global) -> Arg<'a>
+    ensures rule { rule_of result ≡ port_rule }
+    ensures local { result.global ≡ false }
+{
+    option(alloc, "port", "N", "the port, from 1 to 65535")
+        .required(true)
+        .value_parser(clap::value_parser!(u16).range(1..))
+}
+
+fn connections_option<'a>(alloc: Global) -> Arg<'a>
+    ensures rule { rule_of result ≡ connections_rule }
+    ensures local { result.global ≡ false }
+{
+    option(
+        alloc,
+        "connections",
+        "K",
+        "how many connections to serve, from 1 to 1000000",
+    )
+    .value_parser(clap::value_parser!(u32).range(1..=1_000_000))
+    .default_value("1000000")
+}
+
+fn serve_command<'a>(alloc: Global) -> Result<Command<'a>, Error>
+    ensures ok { IfOk result (λ c. (shape_of c ≡ serve_app.top) × ((fields_of c).has_globals ≡ false)) }
+    ensures err { IfErr result (λ e. kind_of e ≡ ErrorKind.OutOfMemory) }
+{
+    let command = Command::new(alloc, "serve")
+        .about("Serves HTTP on a port of 127.0.0.1, one connection after the other")
+        .arg(port_option(alloc))?;
+    let command = taking_token(alloc, command)?;
+    let command = command.arg(connections_option(alloc))?;
+    Ok(command)
+}
+
+/// The command line of the program.
+pub(crate) fn office_command<'a>(alloc: Global) -> Result<Command<'a>, Error>
+    ensures ok { IfOk result (λ c. app_of c ≡ office) }
+    ensures err { IfErr result (λ e. kind_of e ≡ ErrorKind.OutOfMemory) }
+{
+    let check = check_command(alloc)?;
+    let hotcheck = hotcheck_command(alloc)?;
+    let run = run_command(alloc)?;
+    let serve = serve_command(alloc)?;
+    let office = Command::new(alloc, "bsp_office")
+        .about("The office of a billing and settlement plan")
+        .subcommand_required(true)
+        .disable_help_subcommand(true);
+    let office = office.subcommand(check)?;
+    let office = office.subcommand(hotcheck)?;
+    let office = office.subcommand(run)?;
+    let office = office.subcommand(serve)?;
+    Ok(office)
+}

@@ -1,0 +1,27 @@
+//! The file that has the office's token.
+
+use crate::fault::Fault;
+use crate::reading::read_whole;
+use bsp_fields::Token;
+use std::fs::File;
+use std::io;
+
+/// The most bytes that such a file may have.
+const MOST: usize = 4096;
+
+/// The first line, without its line end: LF, or CR and LF.
+fn first_line(text: &[u8]) -> &[u8] {
+    let line = text.split(|byte| *byte == b'\n').next().unwrap_or(text);
+    line.strip_suffix(b"\r").unwrap_or(line)
+}
+
+/// The token that is the first line of a file of at most 4,096 bytes, or none where the line is no token or the file
+/// is longer. It fails where the file cannot be opened or read.
+pub(crate) fn read_token(rt: &HostRuntime, file: &str) -> io::Result<Option<Token>> {
+    let mut input = File::open(rt, file)?;
+    match read_whole(rt.alloc(), &mut input, MOST) {
+        Ok(bytes) => Ok(Token::read(first_line(&bytes))),
+        Err(Fault::TooLong) => Ok(None),
+        Err(_) => Err(io::ErrorKind::Other.into()),
+    }
+}
