@@ -39,21 +39,40 @@ fn receives(rt: &HostRuntime, mut stream: TcpStream, bytes: &[u8]) -> Result<boo
     Ok(received.as_slice() == bytes)
 }
 
-/// One peer asks, one leaves within a message, one is gone, and the last is answered all the same.
+/// Whether a new office serves so many connections of the listener, and then answers so.
+fn serves(
+    rt: &HostRuntime,
+    listener: &TcpListener,
+    connections: u32,
+    wanted: Result<(), ListenFault>,
+) -> Result<bool, Fail> {
+    let routes = Routes::new(rt.alloc())?;
+    let mut desk = new_desk(rt.alloc())?;
+    let served = serve_on(rt.alloc(), listener, connections, &routes, &mut desk);
+    Ok(served == wanted)
+}
+
+/// One peer asks, one leaves within a message, and the last is answered all the same.
 #[test]
 fn peers_are_answered_in_turn(rt: HostRuntime) -> Result<(), Fail> {
-    let alloc = rt.alloc();
     let listener = TcpListener::bind(&rt, "127.0.0.1:0")?;
-    let routes = Routes::new(alloc)?;
-    let mut desk = new_desk(alloc)?;
     let asking = peer(&rt, &listener, ASKED)?;
-    let leaving = peer(&rt, &listener, b"GET /agents/12345675/stock HTTP/1.1\r\n")?;
-    drop(peer(&rt, &listener, ASKED)?);
+    let leaving = peer(&rt, &listener, &ASKED[..20])?;
     let last = peer(&rt, &listener, ASKED)?;
-    let served = serve_on(alloc, &listener, 4, &routes, &mut desk);
-    assert_eq!(rt; served, Ok(()));
+    assert!(rt; serves(&rt, &listener, 3, Ok(()))?);
     assert!(rt; receives(&rt, asking, FORBIDDEN)?);
     assert!(rt; receives(&rt, leaving, b"")?);
+    assert!(rt; receives(&rt, last, FORBIDDEN)?);
+    Ok(())
+}
+
+/// A peer that is gone before it is answered counts, and the next is answered.
+#[test]
+fn a_peer_that_is_gone_counts(rt: HostRuntime) -> Result<(), Fail> {
+    let listener = TcpListener::bind(&rt, "127.0.0.1:0")?;
+    drop(peer(&rt, &listener, ASKED)?);
+    let last = peer(&rt, &listener, ASKED)?;
+    assert!(rt; serves(&rt, &listener, 2, Ok(()))?);
     assert!(rt; receives(&rt, last, FORBIDDEN)?);
     Ok(())
 }
@@ -61,29 +80,22 @@ fn peers_are_answered_in_turn(rt: HostRuntime) -> Result<(), Fail> {
 /// No more peers are answered than were asked for.
 #[test]
 fn so_many_connections_are_served(rt: HostRuntime) -> Result<(), Fail> {
-    let alloc = rt.alloc();
     let listener = TcpListener::bind(&rt, "127.0.0.1:0")?;
-    let routes = Routes::new(alloc)?;
-    let mut desk = new_desk(alloc)?;
     let first = peer(&rt, &listener, ASKED)?;
     let second = peer(&rt, &listener, ASKED)?;
-    assert_eq!(rt; serve_on(alloc, &listener, 1, &routes, &mut desk), Ok(()));
+    assert!(rt; serves(&rt, &listener, 1, Ok(()))?);
     assert!(rt; receives(&rt, first, FORBIDDEN)?);
-    assert_eq!(rt; serve_on(alloc, &listener, 1, &routes, &mut desk), Ok(()));
+    assert!(rt; serves(&rt, &listener, 1, Ok(()))?);
     assert!(rt; receives(&rt, second, FORBIDDEN)?);
     Ok(())
 }
 
 #[test]
 fn a_connection_that_cannot_be_accepted_is_a_fault(rt: HostRuntime) -> Result<(), Fail> {
-    let alloc = rt.alloc();
     let listener = TcpListener::bind(&rt, "127.0.0.1:0")?;
     listener.set_nonblocking(true)?;
-    let routes = Routes::new(alloc)?;
-    let mut desk = new_desk(alloc)?;
     let asking = peer(&rt, &listener, ASKED)?;
-    let served = serve_on(alloc, &listener, 2, &routes, &mut desk);
-    assert_eq!(rt; served, Err(ListenFault::Accept));
+    assert!(rt; serves(&rt, &listener, 2, Err(ListenFault::Accept))?);
     assert!(rt; receives(&rt, asking, FORBIDDEN)?);
     Ok(())
 }

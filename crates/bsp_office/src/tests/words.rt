@@ -1,131 +1,54 @@
 //! Words of a command line.
 
 use crate::{TokenSource, WordsFault, Work, words};
-use bsp_fields::Token;
 use clap::error::ErrorKind;
-use std::test::Fail;
-
-/// What a command line asks for, or the kind of `clap`'s refusal of it.
-type Asked<'a> = Result<Work<'a>, Option<ErrorKind>>;
-
-/// What this command line asks for.
-fn asked<'a>(rt: &HostRuntime, line: &'a [&'a str]) -> Asked<'a> {
-    match words(rt.alloc(), line) {
-        Ok(work) => Ok(work),
-        Err(WordsFault::OutOfForm) => Err(None),
-        Err(WordsFault::Refused(error)) => Err(Some(error.kind())),
-    }
-}
-
-#[test]
-fn words_ask_for_work(rt: HostRuntime) {
-    let work = |file| Ok(Work::Check { file });
-    let hot_work = |file| Ok(Work::Hotcheck { file });
-    let refused = |kind| Err(Some(kind));
-    let cases: [(&[&str], Asked<'_>); 12] = [
-        (&["bsp_office", "check", "v1.ret"], work("v1.ret")),
-        (&["bsp_office", "check", "-"], work("-")),
-        (&["bsp_office", "check", "--", "-x"], work("-x")),
-        (
-            &["bsp_office", "check", "-x"],
-            refused(ErrorKind::UnknownArgument),
-        ),
-        (
-            &["bsp_office", "check"],
-            refused(ErrorKind::MissingRequiredArgument),
-        ),
-        (
-            &["bsp_office", "check", "a", "b"],
-            refused(ErrorKind::UnknownArgument),
-        ),
-        (
-            &["bsp_office", "check", "--help"],
-            refused(ErrorKind::DisplayHelp),
-        ),
-        (&["bsp_office", "hotcheck", "v3.hot"], hot_work("v3.hot")),
-        (
-            &["bsp_office", "hotcheck"],
-            refused(ErrorKind::MissingRequiredArgument),
-        ),
-        (
-            &["bsp_office", "hot", "a"],
-            refused(ErrorKind::InvalidSubcommand),
-        ),
-        (
-            &["bsp_office", "report", "a"],
-            refused(ErrorKind::InvalidSubcommand),
-        ),
-        (&["bsp_office"], refused(ErrorKind::MissingSubcommand)),
-    ];
-    for (line, wanted) in cases {
-        assert!(rt; asked(&rt, line) == wanted);
-    }
-}
 
 /// The office's token in these tests.
 const TOKEN: &str = "officetoken00001";
 
-#[test]
-fn words_ask_to_run(rt: HostRuntime) -> Result<(), Fail> {
-    let given = TokenSource::Given(Token::read(TOKEN.as_bytes()).ok_or("a token")?);
-    let run = |token| Ok(Work::Run { token });
-    let refused = |kind| Err(Some(kind));
-    let cases: [(&[&str], Asked<'_>); 10] = [
-        (&["bsp_office", "run", "--token", TOKEN], run(given)),
-        (
-            &["bsp_office", "run", "--token=officetoken00001"],
-            run(given),
-        ),
-        (
-            &["bsp_office", "run", "--token-file", "token"],
-            run(TokenSource::File("token")),
-        ),
-        (&["bsp_office", "run", "--token-file", "-"], Err(None)),
-        (&["bsp_office", "run", "--token", "short"], Err(None)),
-        (&["bsp_office", "run"], Err(None)),
-        (
-            &[
-                "bsp_office",
-                "run",
-                "--token",
-                TOKEN,
-                "--token-file",
-                "token",
-            ],
-            Err(None),
-        ),
-        (
-            &["bsp_office", "run", "--token", TOKEN, "--token", TOKEN],
-            refused(ErrorKind::ArgumentConflict),
-        ),
-        (
-            &["bsp_office", "run", "--token", TOKEN, "--port", "80"],
-            refused(ErrorKind::UnknownArgument),
-        ),
-        (
-            &["bsp_office", "run", "--token", TOKEN, "--db", "book"],
-            refused(ErrorKind::UnknownArgument),
-        ),
-    ];
-    for (line, wanted) in cases {
-        assert!(rt; asked(&rt, line) == wanted);
+/// Whether the words ask for a report on this RET file.
+fn ask_to_check(rt: &HostRuntime, line: &[&str], wanted: &str) -> bool {
+    match words(rt.alloc(), line) {
+        Ok(Work::Check { file }) => file == wanted,
+        _ => false,
     }
-    Ok(())
 }
 
-/// What `serve` is asked for with these values of its options.
-fn serve_asked<'a>(rt: &HostRuntime, port: &'a str, connections: &'a str) -> Option<(u16, u32)> {
-    let line = [
-        "bsp_office",
-        "serve",
-        "--port",
-        port,
-        "--token",
-        TOKEN,
-        "--connections",
-        connections,
-    ];
-    match asked(rt, &line) {
+/// Whether the words ask for a report on this HOT file.
+fn ask_to_hotcheck(rt: &HostRuntime, line: &[&str], wanted: &str) -> bool {
+    match words(rt.alloc(), line) {
+        Ok(Work::Hotcheck { file }) => file == wanted,
+        _ => false,
+    }
+}
+
+/// Whether the token is this one, or is in this file.
+fn is_from(source: &TokenSource<'_>, wanted: &str) -> bool {
+    match source {
+        TokenSource::Given(token) => token.as_bytes() == wanted.as_bytes(),
+        TokenSource::File(file) => *file == wanted,
+    }
+}
+
+/// Whether the work is one connection, at such an office.
+fn is_run(work: &Work<'_>, wanted: &str) -> bool {
+    match work {
+        Work::Run { token } => is_from(token, wanted),
+        _ => false,
+    }
+}
+
+/// Whether the words ask for one connection, at an office with this token, or with that of this file.
+fn ask_to_run(rt: &HostRuntime, line: &[&str], wanted: &str) -> bool {
+    let Ok(work) = words(rt.alloc(), line) else {
+        return false;
+    };
+    is_run(&work, wanted)
+}
+
+/// The port and the number of connections that the words ask for.
+fn serve_asked(rt: &HostRuntime, line: &[&str]) -> Option<(u16, u32)> {
+    match words(rt.alloc(), line) {
         Ok(
             Work::Serve {
                 port,
@@ -137,10 +60,111 @@ fn serve_asked<'a>(rt: &HostRuntime, port: &'a str, connections: &'a str) -> Opt
     }
 }
 
+/// The kind of `clap`'s refusal of the words.
+fn refusal(rt: &HostRuntime, line: &[&str]) -> Option<ErrorKind> {
+    match words(rt.alloc(), line) {
+        Err(WordsFault::Refused(error)) => Some(error.kind()),
+        _ => None,
+    }
+}
+
+/// Whether `clap` takes the words, and a value in them is out of its form.
+fn is_out_of_form(rt: &HostRuntime, line: &[&str]) -> bool {
+    match words(rt.alloc(), line) {
+        Err(WordsFault::OutOfForm) => true,
+        _ => false,
+    }
+}
+
+#[test]
+fn words_ask_for_reports(rt: HostRuntime) {
+    let cases: [(&[&str], &str); 3] = [
+        (&["bsp_office", "check", "v1.ret"], "v1.ret"),
+        (&["bsp_office", "check", "-"], "-"),
+        (&["bsp_office", "check", "--", "-x"], "-x"),
+    ];
+    for (line, file) in cases {
+        assert!(rt; ask_to_check(&rt, line, file));
+    }
+    let line = ["bsp_office", "hotcheck", "v3.hot"];
+    assert!(rt; ask_to_hotcheck(&rt, &line, "v3.hot"));
+}
+
+#[test]
+fn words_are_refused(rt: HostRuntime) {
+    let cases: [(&[&str], ErrorKind); 12] = [
+        (&["bsp_office", "check", "-x"], ErrorKind::UnknownArgument),
+        (&["bsp_office", "check"], ErrorKind::MissingRequiredArgument),
+        (
+            &["bsp_office", "check", "a", "b"],
+            ErrorKind::UnknownArgument,
+        ),
+        (&["bsp_office", "check", "--help"], ErrorKind::DisplayHelp),
+        (
+            &["bsp_office", "hotcheck"],
+            ErrorKind::MissingRequiredArgument,
+        ),
+        (&["bsp_office", "hot", "a"], ErrorKind::InvalidSubcommand),
+        (&["bsp_office", "report", "a"], ErrorKind::InvalidSubcommand),
+        (&["bsp_office"], ErrorKind::MissingSubcommand),
+        (
+            &["bsp_office", "run", "--token", TOKEN, "--token", TOKEN],
+            ErrorKind::ArgumentConflict,
+        ),
+        (
+            &["bsp_office", "run", "--token", TOKEN, "--port", "80"],
+            ErrorKind::UnknownArgument,
+        ),
+        (
+            &["bsp_office", "run", "--token", TOKEN, "--db", "book"],
+            ErrorKind::UnknownArgument,
+        ),
+        (
+            &["bsp_office", "serve", "--token", TOKEN],
+            ErrorKind::MissingRequiredArgument,
+        ),
+    ];
+    for (line, kind) in cases {
+        assert!(rt; refusal(&rt, line) == Some(kind));
+    }
+}
+
+#[test]
+fn words_ask_to_run(rt: HostRuntime) {
+    let cases: [(&[&str], &str); 3] = [
+        (&["bsp_office", "run", "--token", TOKEN], TOKEN),
+        (&["bsp_office", "run", "--token=officetoken00001"], TOKEN),
+        (&["bsp_office", "run", "--token-file", "token"], "token"),
+    ];
+    for (line, token) in cases {
+        assert!(rt; ask_to_run(&rt, line, token));
+    }
+}
+
+#[test]
+fn one_token_is_given(rt: HostRuntime) {
+    let cases: [&[&str]; 4] = [
+        &["bsp_office", "run", "--token-file", "-"],
+        &["bsp_office", "run", "--token", "short"],
+        &["bsp_office", "run"],
+        &[
+            "bsp_office",
+            "run",
+            "--token",
+            TOKEN,
+            "--token-file",
+            "token",
+        ],
+    ];
+    for line in cases {
+        assert!(rt; is_out_of_form(&rt, line));
+    }
+}
+
 #[test]
 fn words_ask_to_serve(rt: HostRuntime) {
     let cases = [
-        ("8080", "1", Some((8080, 1))),
+        ("8080", "1", Some((8080u16, 1u32))),
         ("1", "1000000", Some((1, 1_000_000))),
         ("65535", "0999999", Some((65_535, 999_999))),
         ("0", "1", None),
@@ -153,21 +177,22 @@ fn words_ask_to_serve(rt: HostRuntime) {
         ("8080", "many", None),
     ];
     for (port, connections, wanted) in cases {
-        assert_eq!(rt;
-            (port, connections, serve_asked(&rt, port, connections)),
-            (port, connections, wanted)
-        );
+        let line = [
+            "bsp_office",
+            "serve",
+            "--port",
+            port,
+            "--token",
+            TOKEN,
+            "--connections",
+            connections,
+        ];
+        assert!(rt; serve_asked(&rt, &line) == wanted);
     }
 }
 
 #[test]
 fn a_million_connections_are_served_where_no_number_is_given(rt: HostRuntime) {
     let line = ["bsp_office", "serve", "--token", TOKEN, "--port", "8080"];
-    let connections = match asked(&rt, &line) {
-        Ok(Work::Serve { connections, .. }) => connections,
-        _ => 0,
-    };
-    assert_eq!(rt; connections, 1_000_000);
-    let line = ["bsp_office", "serve", "--token", TOKEN];
-    assert!(rt; asked(&rt, &line) == Err(Some(ErrorKind::MissingRequiredArgument)));
+    assert!(rt; serve_asked(&rt, &line) == Some((8080, 1_000_000)));
 }
