@@ -10,8 +10,10 @@ use Rattle.bsp_step.proofs.ClosedKept.{closed_stays}
 use Rattle.bsp_step.proofs.Held.{one_owner, repeats_are_held}
 use Rattle.bsp_step.proofs.HeldInRuns.{runs_hold}
 use Rattle.bsp_step.proofs.Isolated.{isolated}
+use Rattle.bsp_step.proofs.NetLemmas.{nets_add_up}
 use Rattle.bsp_step.proofs.Reports.{reports_stay}
 use Rattle.bsp_step.proofs.ShownInRuns.{runs_show}
+use Rattle.bsp_step.proofs.Values.{runs_agree}
 use Rattle.bsp_step.specs.Requests.{Request as Reading}
 use Rattle.bsp_step.specs.Step.{Fits, answer_of}
 use Rattle.bsp_step.specs.View.{AllFit, Exchange, IsAnswered, Run, rows_replied}
@@ -126,6 +128,8 @@ ran office rows es new run fits sound after = record {
   fits = fits;
   sound = after;
   owners = λ k l i j. one_owner new k l i j after;
+  values = runs_agree office rows es new run fits sound;
+  nets = λ code. nets_add_up new code after;
   agents = λ agent. isolated office agent rows es new run;
   airlines = λ airline. airline_isolated office airline rows es new run fits sound;
   repeats = λ agent t period has. (

@@ -13,7 +13,7 @@ use Rattle.bsp_rules.specs.declared.rows.Item.{Item}
 use Rattle.bsp_step.specs.AirlineLedger.{airline_ledger_of, hot_answer}
 use Rattle.bsp_step.specs.AirlineView.{airline_all, airline_ledger_answers, airline_told, airline_view}
 use Rattle.bsp_step.specs.Answers.{Answer}
-use Rattle.bsp_step.specs.Laws.{HasAccepted, IsHeldIn, IsPeriodKept, RepeatsHeld, ShownReportsStay}
+use Rattle.bsp_step.specs.Laws.{HasAccepted, IsHeldIn, IsPeriodKept, NetsAddUp, NewAgreeWithTickets, RepeatsHeld, ShownReportsStay}
 use Rattle.bsp_step.specs.Ledger.{ledger_of, own_verdicts, statement_answer}
 use Rattle.bsp_step.specs.Requests.{Request as Reading}
 use Rattle.bsp_step.specs.Step.{AreGroups, office_verdicts, settlement_answer}
@@ -83,6 +83,10 @@ module _ (rows : Rows) (exchanges : List Exchange) (new : Rows) where
     pub sound : Sound new
     -- where the accepted transactions of a document number are of one agent
     pub owners : (k l : ItemKey) (i j : Item) → item_at k new ≡ Some i → item_at l new ≡ Some j → k.number ≡ l.number → k.agent ≡ l.agent
+    -- what the run has accepted agrees with its tickets, so that no value is given back twice
+    pub values : NewAgreeWithTickets rows new
+    -- the agents' nets and the airlines' nets of each period have one sum
+    pub nets : (code : ℕ) → NetsAddUp code new
     pub agents : (agent : ℕ) → AgentAlone agent
     pub airlines : (airline : ℕ) → AirlineAlone airline
     pub repeats : (agent : ℕ) (t : Transaction) (period : ℕ) → RepeatHeld agent t period

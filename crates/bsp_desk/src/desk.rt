@@ -76,7 +76,8 @@ impl<B: Book> Desk<B> {
     ///
     /// However the requests are read, what their replies send is a run of `bsp_step` from sound rows, in which a
     /// 503 changes nothing. So each agent's and each airline's answers are those of its own ledger, what was
-    /// accepted is held, and a closed period stays.
+    /// accepted is held, and a closed period stays. A number has one owner, what is accepted agrees with its
+    /// tickets, and the agents' and the airlines' nets of a period have one sum.
     ///
     /// # Errors
     ///

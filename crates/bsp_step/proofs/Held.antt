@@ -41,7 +41,7 @@ not_mapped : {A B : Type 0} (f : A → B) (found : Option A) → option_map f fo
 not_mapped f None h = refl
 not_mapped f (Some x) h = absurd (cc h)
 
-free_before : (who : Reporter) (rows : Rows) (item : Item) → Sound rows → IsAcceptance who rows item → get rows.items (key_of item) ≡ None
+pub free_before : (who : Reporter) (rows : Rows) (item : Item) → Sound rows → IsAcceptance who rows item → get rows.items (key_of item) ≡ None
 free_before who rows item s a =
     not_mapped (left (ends (is_canx item) (sale_key item) (key_of item))) (get rows.items (key_of item))
     (sym (mid_at rows (sale_key item) (key_of item) (is_canx item)) ∙ accepted_free who rows item s a)
@@ -62,7 +62,7 @@ pub record Has (agent : ℕ) (t : Transaction) (period : ℕ) (rows : Rows) : Ty
   pub has : HasAccepted rows agent t period
 
 -- rows with the same items
-as_before : (agent : ℕ) (t : Transaction) (period : ℕ) (rows new : Rows) → new.items ≡ rows.items → HasAccepted rows agent t period → HasAccepted new agent t period
+pub as_before : (agent : ℕ) (t : Transaction) (period : ℕ) (rows new : Rows) → new.items ≡ rows.items → HasAccepted rows agent t period → HasAccepted new agent t period
 as_before agent t period rows new same h = record { key = h.key; own = h.own; item = h.item; there = ap (λ (m : FinMap item_cmp Item). get m h.key) same ∙ h.there; content = h.content; period_is = h.period_is }
 
 pub has_is_kept : (agent : ℕ) (t : Transaction) (period : ℕ) → IsKept (Has agent t period)

@@ -22,3 +22,5 @@ pub mod ShownInRuns
 pub mod AirlineLemmas
 pub mod AirlineSeen
 pub mod AirlineIsolated
+pub mod NetLemmas
+pub mod Values

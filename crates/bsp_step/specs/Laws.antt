@@ -1,5 +1,6 @@
 -- What holds of every request, of every run, and of what one agent is answered.
-use Rattle.std.specs.Prelude.{◌≡◌, ◌⊎◌, ℕ, ◌==◌, Bool, true, false, List, [], ◌∷◌, ◌++◌, Option, Some, None, Ok, if◌then◌else◌}
+use Rattle.std.specs.Prelude.{◌≡◌, ◌⊎◌, ℕ, ℤ, ◌==◌, Bool, true, false, List, [], ◌∷◌, ◌++◌, map, Option, Some, None, option_map, is_some, Ok, if◌then◌else◌}
+use Rattle.std.specs.List.{Contains, list_any}
 use Rattle.bsp_routes.specs.declared.asking.Asking.{Asking}
 use Rattle.bsp_messages.specs.Values.{airline_in}
 use Rattle.bsp_messages.specs.declared.refusal.RequestRefusal.TheVariants.{Forbidden}
@@ -7,20 +8,28 @@ use Rattle.bsp_ret_records.specs.declared.transactions.Transaction.{Transaction}
 use Rattle.bsp_rules.specs.declared.rows.Item.{Item}
 use Rattle.bsp_rules.specs.declared.verdict.Verdict.{Verdict}
 use Rattle.bsp_rules.specs.declared.verdict.Verdict.TheVariants as verdict
-use Rattle.std.specs.FinMap.{FinMap}
+use Rattle.std.specs.FinMap.{FinMap, values}
+use Rattle.bsp_rules.specs.Amounts.{sum_of}
+use Rattle.bsp_rules.specs.Meanings.{ends_tickets}
+use Rattle.bsp_rules.specs.Rows.{is_ticket}
+use Rattle.bsp_rules.specs.Tickets.{disagrees_with_tickets}
+use Rattle.bsp_rules.specs.Verdicts.{is_missing}
+use Rattle.bsp_rules.specs.declared.facts.RelatedDocument.{RelatedDocument}
+use Rattle.bsp_postings.specs.Nets.{net_of_rows}
+use Rattle.bsp_postings.specs.Sides.{AreOnce, HaveAgents, HaveAirlines}
 use Rattle.bsp_calendar.specs.Published.{closed_period}
 use Rattle.bsp_calendar.specs.declared.entries.Period.{Period}
 use Rattle.bsp_memos.specs.Owed.{is_billed_in}
 use Rattle.bsp_memos.specs.declared.fields.MemoFields.{MemoFields}
 use Rattle.bsp_rows.specs.Part.{kept}
 use Rattle.bsp_rows.specs.Rows.{Rows, item_at, item_cmp, memo_cmp}
-use Rattle.bsp_step.specs.AirlineLedger.{airline_answer, airline_ledger_of, hot_answer}
+use Rattle.bsp_step.specs.AirlineLedger.{AirlineLedger, airline_answer, airline_ledger_of, hot_answer}
 use Rattle.bsp_rows.specs.declared.keys.ItemKey.{ItemKey}
 use Rattle.bsp_rows.specs.Sound.{Sound}
 use Rattle.bsp_step.specs.AirlineView.{airline_all, airline_ledger_answers, airline_sights, airline_told, airline_view}
 use Rattle.bsp_step.specs.Answers.{Answer, is_done, verdicts_in}
 use Rattle.bsp_step.specs.Answers.Answer.{Verdicts, Statement, Settlement, Hot, Refused}
-use Rattle.bsp_step.specs.Ledger.{agent_of, ledger_answer, ledger_of, own_verdicts, statement_answer}
+use Rattle.bsp_step.specs.Ledger.{Ledger, agent_of, ledger_answer, ledger_of, own_verdicts, statement_answer}
 use Rattle.bsp_step.specs.Requests.{AgentRequest, AirlineRequest, Asked, FileRead, IsAsked, IsFileOf, IsInMemory, Request}
 use Rattle.bsp_step.specs.Requests.AgentRequest.{AgentFile, AskStatement}
 use Rattle.bsp_step.specs.Requests.AirlineRequest.{AskHot}
@@ -219,6 +228,48 @@ RunsHoldRepeats = (office : List ℕ) (rows : Rows) (exchanges : List Exchange) 
 abbrev pub NumbersHaveOneOwner : Type 0
 NumbersHaveOneOwner =
     (rows : Rows) (k l : ItemKey) (i j : Item) → Sound rows → item_at k rows ≡ Some i → item_at l rows ≡ Some j → k.number ≡ l.number → k.agent ≡ l.agent
+
+-- ---- values
+
+-- the tickets that a transaction of the agent names are accepted, and its amounts agree with theirs: of an RFND the fare and each tax are at most the ticket's in size, of an exchange EX is the tickets' fares and taxes
+pub record AgreesWithTickets (rows : Rows) (agent : ℕ) (t : Transaction) : Type 0 where
+  pub related : List (Option RelatedDocument)
+  pub places : map (option_map (λ r. r.document)) related ≡ t.related
+  -- each ticket is an accepted TKTT of the agent
+  pub tickets : (r : RelatedDocument) (i : Item) → Contains related (Some r) → r.ticket ≡ Some i → (is_ticket r.document i ≡ true) × HasAccepted rows agent i.transaction i.period
+  -- an RFND or an exchange names one, and none is missing
+  pub none_missing : ends_tickets t.code (is_some t.exchange) ≡ true → (list_any is_some related ≡ true) × (list_any (is_missing t.document.airline) related ≡ false)
+  pub agreed : disagrees_with_tickets t related ≡ false
+
+-- the transaction was accepted before
+abbrev pub WasThere : Rows → ItemKey → Item → Type 0
+WasThere rows k i = (j : Item) × (item_at k rows ≡ Some j) × (j.transaction ≡ i.transaction)
+
+-- what a run has accepted agrees with its tickets, so that no value is given back twice
+abbrev pub NewAgreeWithTickets : Rows → Rows → Type 0
+NewAgreeWithTickets rows new = (k : ItemKey) (i : Item) → item_at k new ≡ Some i → WasThere rows k i ⊎ AgreesWithTickets new k.agent i.transaction
+
+abbrev pub RunsAgreeWithTickets : Type 0
+RunsAgreeWithTickets = (office : List ℕ) (rows : Rows) (exchanges : List Exchange) (new : Rows) → Run office rows exchanges new → AllFit exchanges → Sound rows → NewAgreeWithTickets rows new
+
+-- ---- nets
+
+-- the net of a period that a ledger gives: of its living items and the memos billed in it
+abbrev pub ledger_net : ℕ → Ledger → ℤ
+ledger_net code l = net_of_rows code (values l.own.items) (values l.own.memos)
+
+abbrev pub airline_ledger_net : ℕ → AirlineLedger → ℤ
+airline_ledger_net code l = net_of_rows code (values l.own.items) (values l.own.memos)
+
+-- the agents' nets of a period, each of its own ledger, and the airlines' have one sum: over any lists of agents and of airlines, none twice, that have those of each row of the period
+abbrev pub NetsAddUp : ℕ → Rows → Type 0
+NetsAddUp code rows =
+    (agents airlines : List ℕ) → AreOnce agents → AreOnce airlines →
+    HaveAgents code (values rows.items) (values rows.memos) agents → HaveAirlines code (values rows.items) (values rows.memos) airlines →
+    sum_of (map (λ a. ledger_net code (ledger_of a rows)) agents) ≡ sum_of (map (λ c. airline_ledger_net code (airline_ledger_of c rows)) airlines)
+
+abbrev pub NetsAlwaysAddUp : Type 0
+NetsAlwaysAddUp = (rows : Rows) (code : ℕ) → Sound rows → NetsAddUp code rows
 
 -- ---- closed periods
 

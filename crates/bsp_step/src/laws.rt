@@ -1,6 +1,6 @@
 //! Laws of requests and their answers.
 
-ghost use Rattle.bsp_step.specs.Laws.{AgentIsIsolated, AgentsAreAlike, AirlineIsAnsweredByLedger, AirlineIsIsolated, AirlineLedgerIsOfSights, AirlinesAreAlike, ClosedPeriodsStay, EachFileIsRead, EachRequestIsRead, FilesAreTaken, LedgerIsOfSights, NumbersHaveOneOwner, OthersAreForbidden, OwnIsAnsweredByLedger, ReadRequestsFit, RefusalsChangeNothing, RepeatsAreHeld, ReportsStay, RunIsSound, RunsHoldRepeats, RunsShowTheSame, StepIsSound};
+ghost use Rattle.bsp_step.specs.Laws.{AgentIsIsolated, AgentsAreAlike, AirlineIsAnsweredByLedger, AirlineIsIsolated, AirlineLedgerIsOfSights, AirlinesAreAlike, ClosedPeriodsStay, EachFileIsRead, EachRequestIsRead, FilesAreTaken, LedgerIsOfSights, NetsAlwaysAddUp, NumbersHaveOneOwner, OthersAreForbidden, OwnIsAnsweredByLedger, ReadRequestsFit, RefusalsChangeNothing, RepeatsAreHeld, ReportsStay, RunIsSound, RunsAgreeWithTickets, RunsHoldRepeats, RunsShowTheSame, StepIsSound};
 ghost use Rattle.bsp_step.specs.Texts.{AnswersAreOneText};
 
 /// Each body has a reading as a RET file, its transactions or its first fault; and so each method, target and
@@ -51,6 +51,18 @@ pub fn repeats_are_held()
 /// In sound rows the accepted transactions of a document number are of one agent.
 pub fn numbers_have_one_owner()
     ensures { NumbersHaveOneOwner }
+{}
+
+/// What a run has accepted agrees with its tickets, which are accepted of the same agent: of an RFND the fare and each
+/// tax are at most the ticket's in size, and EX of an exchange is the tickets' fares and taxes. So no value is given
+/// back twice.
+pub fn values_agree()
+    ensures { RunsAgreeWithTickets }
+{}
+
+/// In sound rows the nets of a period, each agent's of its own ledger and each airline's of its own, have one sum.
+pub fn nets_add_up()
+    ensures { NetsAlwaysAddUp }
 {}
 
 /// An airline's requests are answered by its ledger: its own rows, the codes of the registered agents and the

@@ -37,11 +37,11 @@ const TO_B: Body = Body::Text(
     b"{\"agent\":\"76543213\",\"amount\":5000,\"document\":\"6000000005\",\"kind\":\"ADMA\",\"reason\":\"fare\"}",
 );
 
-const MEMO_1: Body = Body::Text(b"{\"airline\":\"125\",\"document\":\"6000000001\"}");
+pub(super) const MEMO_1: Body = Body::Text(b"{\"airline\":\"125\",\"document\":\"6000000001\"}");
 
 const MEMO_2: Body = Body::Text(b"{\"airline\":\"125\",\"document\":\"6000000002\"}");
 
-const MEMO_9: Body = Body::Text(b"{\"airline\":\"125\",\"document\":\"6000000009\"}");
+pub(super) const MEMO_9: Body = Body::Text(b"{\"airline\":\"125\",\"document\":\"6000000009\"}");
 
 const MEMO_3: Body = Body::Text(b"{\"airline\":\"125\",\"document\":\"6000000003\"}");
 
@@ -61,9 +61,9 @@ const UPHOLD: &[u8] = b"/airlines/125/memos/uphold";
 
 const WITHDRAW: &[u8] = b"/airlines/125/memos/withdraw";
 
-const DISPUTE: &[u8] = b"/agents/12345675/memos/dispute";
+pub(super) const DISPUTE: &[u8] = b"/agents/12345675/memos/dispute";
 
-const DISPUTE_OF_B: &[u8] = b"/agents/76543213/memos/dispute";
+pub(super) const DISPUTE_OF_B: &[u8] = b"/agents/76543213/memos/dispute";
 
 /// Example 13.
 static DISPUTED: [Row; 9] = [

@@ -1,8 +1,9 @@
 //! An agent's replies are the same whatever another agent holds.
 
 use super::files::{REFUND_OF_B, REFUND_OF_NOBODY, SALE_OF_B, V1, V1_OF_B};
-use super::opening::{A, B, OPENED, PLANNED};
-use super::replies::{ACCEPTED, D01, E05, E08, N01, NO_MEMOS, NONE_COUNTED, ONE_SOLD};
+use super::memos::{DISPUTE, DISPUTE_OF_B, MEMO_1, MEMO_9};
+use super::opening::{A, AIRLINE_125, B, DEBIT_1, OPENED, PLANNED};
+use super::replies::{ACCEPTED, D01, DONE, E05, E08, M01, N01, NO_MEMOS, NONE_COUNTED, ONE_SOLD};
 use super::{Body, Row, Wanted, follows};
 
 const RET: &[u8] = b"/agents/76543213/ret";
@@ -49,8 +50,16 @@ const UNUSED: Wanted = Wanted::Json(
     b"{\"ranges\":[{\"first\":\"1400000000\",\"last\":\"1400000099\",\"used\":0}]}",
 );
 
-/// Example 36: all that B asks.
-static ASKED_BY_B: [Row; 10] = [
+/// What A alone has: a memo that it disputes.
+static MEMO_OF_A: [Row; 2] = [
+    Row(AIRLINE_125, b"/airlines/125/memos", DEBIT_1, DONE),
+    Row(A, DISPUTE, MEMO_1, DONE),
+];
+
+/// Examples 36 and 48: all that B asks.
+static ASKED_BY_B: [Row; 12] = [
+    Row(B, DISPUTE_OF_B, MEMO_1, M01),
+    Row(B, DISPUTE_OF_B, MEMO_9, M01),
     Row(B, RET, V1_OF_B, E05),
     Row(B, RET, REFUND_OF_B, E08),
     Row(B, RET, REFUND_OF_NOBODY, E08),
@@ -86,7 +95,10 @@ static ASKED_BY_B: [Row; 10] = [
 #[test]
 fn an_agent_has_the_same_replies_where_another_holds_the_ticket(rt: HostRuntime) {
     assert_eq!(rt;
-        follows(rt.alloc(), &[&PLANNED, &OPENED, &REPORTED, &ASKED_BY_B]),
+        follows(
+            rt.alloc(),
+            &[&PLANNED, &OPENED, &REPORTED, &MEMO_OF_A, &ASKED_BY_B]
+        ),
         Ok(())
     );
 }
