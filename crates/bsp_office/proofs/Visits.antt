@@ -1,7 +1,7 @@
 -- What the desk was asked on the connections of a listener.
-use Rattle.std.proofs.Common.{◌≡◌, ℕ, ◌+◌, List, [], ◌∷◌, ◌++◌, length, length-append, arith, Option, Result, Ok, Err, sym, subst}
+use Rattle.std.proofs.Common.{◌≡◌, ℕ, ◌+◌, List, [], ◌∷◌, ◌++◌, length, length-append, arith, Option, Result, Ok, Err, sym}
 use Rattle.std.proofs.lemmas.Fn.{FoldsTo-push}
-use Rattle.std.specs.List.{FoldsTo}
+use Rattle.bsp_conversation.proofs.RunLemmas.{run_on}
 use Rattle.bsp_conversation.specs.Conversations.{IsRun}
 use Rattle.bsp_conversation.specs.Exchanges.{Exchange, Meaning}
 use Rattle.bsp_conversation.specs.Serving.{Serves}
@@ -9,11 +9,6 @@ use Rattle.bsp_conversation.specs.declared.end.ServeFault.{ServeFault}
 use Rattle.bsp_conversation.specs.declared.end.ServeFault.TheVariants.{Read, Write, Memory}
 use Rattle.bsp_conversation.specs.declared.end.Served.{Served}
 use Rattle.bsp_office.specs.Listening.{AreVisited, IsVisited, Visit}
-
--- a fold over one list and then over another is a fold over both
-folds_on : {P A : Type 0} (R : P → A → P → Type 0) (p : P) (xs : List A) (q : P) (ys : List A) (r : P) → FoldsTo R p xs q → FoldsTo R q ys r → FoldsTo R p (xs ++ ys) r
-folds_on R p [] q ys r same more = subst (λ start. FoldsTo R start ys r) (sym same) more
-folds_on R p (x ∷ xs) q ys r first more = (first.0, first.1, folds_on R first.0 xs q ys r first.2 more)
 
 module _ {D : Type 0} (m : Meaning D) where
   -- what the desk was asked on a connection is a run
@@ -33,4 +28,4 @@ module _ {D : Type 0} (m : Meaning D) where
   visits_run old (visit ∷ visits) new visited =
       let first = served_run visit.got old visited.0 visited.1.0 visited.1.1 visit.ended visited.1.2 in
       let rest = visits_run visited.0 visits new visited.2 in
-      (first.0 ++ rest.0, folds_on _ old first.0 visited.0 rest.0 new first.1 rest.1)
+      (first.0 ++ rest.0, run_on m old visited.0 new first.0 rest.0 first.1 rest.1)

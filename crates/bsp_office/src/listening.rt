@@ -35,8 +35,8 @@ fn visit<R: Read, W: Write, B: Book>(
     serve(alloc, routes, reader, writer, desk)
 }
 
-/// Serves one connection of TCP. The responses to messages that came together are sent together, and none is kept back for
-/// more to come (RFC 9293, 3.7.4).
+/// Serves one connection of TCP. The responses to messages that came together are sent together, and none is kept
+/// back for more to come (RFC 9293, 3.7.4).
 fn serve_stream<B: Book>(
     alloc: Global,
     stream: &TcpStream,

@@ -39,8 +39,10 @@ pub enum Work<'a> {
     },
     /// `serve --port N`: to serve so many connections on a port of 127.0.0.1.
     Serve {
+        /// From 1 to 65,535.
         port: u16,
         token: TokenSource<'a>,
+        /// From 1 to 1,000,000.
         connections: u32,
     },
 }
