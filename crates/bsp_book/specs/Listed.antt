@@ -3,6 +3,7 @@ use Rattle.std.specs.Prelude.{◌≡◌, Bool, false, Option, unwrap_or, is_some
 use Rattle.bsp_rows.specs.Rows.{Rows}
 use Rattle.bsp_rows.specs.Sound.{AreApart}
 use Rattle.bsp_list_tables.specs.Tables.{IsDerived, WasDerived, committed_rows, rows_of}
+use Rattle.bsp_list_tables.specs.declared.tables.Tables.{Tables}
 use Rattle.bsp_book.specs.Calls.{Meaning}
 use Rattle.bsp_book.specs.declared.list.ListBook.{ListBook}
 
@@ -33,3 +34,10 @@ pub record IsUndone (old new : ListBook) : Type 0 where
   pub shut : new.is_open ≡ false
   pub derived : WasDerived old.tables → IsDerived new.tables
   pub was_derived : WasDerived old.tables → WasDerived new.tables
+
+-- tables in which nothing is written since the last commit, whose ranges are apart
+pub record AreCommitted (tables : Tables) : Type 0 where
+  pub same : committed_rows tables ≡ rows_of tables
+  pub apart : AreApart (rows_of tables).ranges
+  pub derived : IsDerived tables
+  pub was_derived : WasDerived tables

@@ -5,7 +5,7 @@ ghost use Rattle.std.specs.Bool.{Decides};
 ghost use Rattle.bsp_rows.specs.Rows.{Rows, no_rows};
 ghost use Rattle.bsp_rows.specs.Sound.{Sound};
 ghost use Rattle.bsp_list_tables.specs.Tables.{rows_of};
-ghost use Rattle.bsp_book.specs.Listed.{IsUndone, meaning};
+ghost use Rattle.bsp_book.specs.Listed.{AreCommitted, IsUndone, meaning};
 
 use crate::book::Book;
 use crate::fault::BookFault;
@@ -42,6 +42,26 @@ impl ListBook {
             tables: Tables::new(alloc),
             is_open: false,
         }
+    }
+
+    /// A book of tables, in which no transaction is open.
+    pub fn over(alloc: Global, tables: Tables) -> Self
+        requires { AreCommitted tables }
+        ensures tables { result.tables ≡ tables }
+        ensures holds { meaning.holds result (rows_of tables) None }
+    {
+        ListBook {
+            alloc,
+            tables,
+            is_open: false,
+        }
+    }
+
+    /// The tables of the rows.
+    pub fn tables(&self) -> &Tables
+        ensures { result.now ≡ self.now.tables }
+    {
+        &self.tables
     }
 
     /// Whether the rows are sound. It takes time and memory in proportion to the rows, and a logarithm.

@@ -36,6 +36,16 @@ impl Planned {
         &self.plan
     }
 
+    /// The plan at the last commit.
+    pub(crate) fn saved(&self) -> &Plan
+        ensures { result.now ≡ saved_plan self.now }
+    {
+        match &self.saved {
+            Some(plan) => plan,
+            None => &self.plan,
+        }
+    }
+
     /// Forgets the plan of the last commit: the changes so far are kept.
     pub(crate) fn commit(&mut self)
         ensures now { self.new.plan ≡ self.old.plan }

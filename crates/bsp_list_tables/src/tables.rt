@@ -91,6 +91,55 @@ impl Tables {
         self.plan.plan()
     }
 
+    /// The plan at the last commit.
+    pub fn committed_plan(&self) -> &Plan
+        ensures { result.now ≡ (committed_rows self.now).published }
+    {
+        self.plan.saved()
+    }
+
+    /// The tokens of the registered agents, and which were written.
+    pub fn agent_tokens(&self) -> &Logged<AgentCode, Token>
+        ensures { result.now ≡ self.now.agents }
+    {
+        &self.agents
+    }
+
+    /// The tokens of the registered airlines, and which were written.
+    pub fn airline_tokens(&self) -> &Logged<AirlineCode, Token>
+        ensures { result.now ≡ self.now.airlines }
+    {
+        &self.airlines
+    }
+
+    /// The table of ranges.
+    pub fn range_table(&self) -> &RangeTable
+        ensures { result.now ≡ self.now.ranges }
+    {
+        &self.ranges
+    }
+
+    /// The table of items.
+    pub fn item_table(&self) -> &ItemTable
+        ensures { result.now ≡ self.now.items }
+    {
+        &self.items
+    }
+
+    /// The table of memos.
+    pub fn memo_table(&self) -> &MemoTable
+        ensures { result.now ≡ self.now.memos }
+    {
+        &self.memos
+    }
+
+    /// The table of tallies.
+    pub fn tally_table(&self) -> &TallyTable
+        ensures { result.now ≡ self.now.tallies }
+    {
+        &self.tallies
+    }
+
     /// Keeps what was written.
     pub fn commit(&mut self)
         ensures rows { rows_of self.new ≡ rows_of self.old }

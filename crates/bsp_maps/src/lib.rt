@@ -18,7 +18,7 @@ mod tests;
 mod windows;
 
 pub use counts::are_within;
-pub use logged::Logged;
+pub use logged::{Logged, Old};
 pub use picks::picked;
 pub use present::{commit_present, present_entries};
 pub use rules::{Every, Rule, Test, all_hold, any_holds};

@@ -12,6 +12,15 @@ pub struct Old<K: Copy + Drop, V: Copy + Drop> {
     value: Option<V>,
 }
 
+impl<K: Copy + Drop, V: Copy + Drop> Old<K, V> {
+    /// The key.
+    pub fn key(&self) -> K
+        ensures { result ≡ self.now.key }
+    {
+        self.key
+    }
+}
+
 /// Entries by their keys, and what was at each key that was written since the last commit.
 #[derive(Drop)]
 pub struct Logged<K: Ord + Copy + Drop, V: Copy + Drop> {
@@ -36,6 +45,14 @@ impl<K: Ord + Copy + Drop, V: Copy + Drop> Logged<K, V> {
         ensures { result.now ≡ self.now.map }
     {
         &self.map
+    }
+
+    /// The keys that were written since the last commit, in the order of the writes. A key that was written twice is
+    /// there twice.
+    pub fn written(&self) -> &[Old<K, V>]
+        ensures { result.now ≡ self.now.undo.items }
+    {
+        &self.undo
     }
 
     /// The value at a key, if there is one.

@@ -53,6 +53,34 @@ fn a_roll_back_puts_back_each_entry(rt: HostRuntime) -> Result<(), Fail> {
     Ok(())
 }
 
+/// The key of a write since the last commit.
+fn written_at(map: &Logged<u32, u32>, at: usize) -> Option<u32> {
+    match map.written().get(at) {
+        Some(old) => Some(old.key()),
+        None => None,
+    }
+}
+
+/// The keys that were written after a commit, and the first after another.
+fn written(alloc: Global) -> Result<[Option<u32>; 4], Fail> {
+    let mut map = kept(alloc)?;
+    map.put(3, 30)?;
+    map.put(1, 6)?;
+    let [first, second, third] = [
+        written_at(&map, 0),
+        written_at(&map, 1),
+        written_at(&map, 2),
+    ];
+    map.commit();
+    Ok([first, second, third, written_at(&map, 0)])
+}
+
+#[test]
+fn what_was_written_since_the_commit_is_remembered(rt: HostRuntime) -> Result<(), Fail> {
+    assert_eq!(rt; written(rt.alloc())?, [Some(3), Some(1), None, None]);
+    Ok(())
+}
+
 /// The keys from a lowest one on.
 struct From(u32);
 

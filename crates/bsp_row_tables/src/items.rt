@@ -14,7 +14,7 @@ use crate::numbers::{Bearing, Numbers, add_numbers, keys_bearing};
 use crate::places::{AirlinePeriod, item_place};
 use bsp_fields::{AgentCode, AirlineCode, PeriodCode};
 use bsp_indexes::Index;
-use bsp_maps::{Logged, Rule, Test};
+use bsp_maps::{Logged, Old, Rule, Test};
 use bsp_ret_records::Transaction;
 use bsp_rows::ItemKey;
 use bsp_rules::{Item, Range};
@@ -64,6 +64,13 @@ impl ItemTable {
         ensures { result.now ≡ self.now.rows.map }
     {
         self.rows.map()
+    }
+
+    /// The keys that were written since the last commit, in the order of the writes.
+    pub fn written(&self) -> &[Old<ItemKey, Item>]
+        ensures { result.now ≡ self.now.rows.undo.items }
+    {
+        self.rows.written()
     }
 
     /// Keeps what was written.

@@ -13,7 +13,7 @@ use crate::keys::{MemosOf, least_memo};
 use crate::places::{Parties, agent_place, old_parties, parties_of, unbilled_place};
 use bsp_fields::{AgentCode, AirlineCode};
 use bsp_indexes::{Counts, Index};
-use bsp_maps::{Logged, Rule, Test};
+use bsp_maps::{Logged, Old, Rule, Test};
 use bsp_memos::Memo;
 use bsp_rows::MemoKey;
 use std::alloc::{AllocError, Global};
@@ -76,6 +76,13 @@ impl MemoTable {
         ensures { result.now ≡ self.now.rows.map }
     {
         self.rows.map()
+    }
+
+    /// The keys that were written since the last commit, in the order of the writes.
+    pub fn written(&self) -> &[Old<MemoKey, Memo>]
+        ensures { result.now ≡ self.now.rows.undo.items }
+    {
+        self.rows.written()
     }
 
     /// Keeps what was written.

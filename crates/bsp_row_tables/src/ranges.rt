@@ -10,7 +10,7 @@ ghost use Rattle.bsp_row_tables.specs.RangeTables.{AreRangesKept, WereRangesKept
 use crate::keys::{RangesOf, least_range};
 use bsp_fields::{AgentCode, DocNumber};
 use bsp_indexes::Index;
-use bsp_maps::{Logged, commit_present};
+use bsp_maps::{Logged, Old, commit_present};
 use bsp_rows::RangeKey;
 use bsp_rules::Range;
 use std::alloc::{AllocError, Global};
@@ -59,6 +59,13 @@ impl RangeTable {
         ensures { result.now ≡ self.now.rows.map }
     {
         self.rows.map()
+    }
+
+    /// The keys that were written since the last commit, in the order of the writes.
+    pub fn written(&self) -> &[Old<RangeKey, Option<DocNumber>>]
+        ensures { result.now ≡ self.now.rows.undo.items }
+    {
+        self.rows.written()
     }
 
     /// Keeps what was written. Ranges that were withdrawn leave the table.

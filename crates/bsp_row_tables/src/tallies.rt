@@ -12,10 +12,11 @@ use crate::keys::{TalliesOf, least_tally};
 use crate::places::{AirlinePeriod, tally_airline_place, tally_period_place};
 use bsp_fields::{AgentCode, AirlineCode, PeriodCode};
 use bsp_indexes::Index;
-use bsp_maps::{Logged, Rule};
+use bsp_maps::{Logged, Old, Rule};
 use bsp_postings::Tally;
 use bsp_rows::TallyKey;
 use std::alloc::{AllocError, Global};
+use std::collections::BTreeMap;
 
 /// The tallies that are kept, by their keys, by their airlines and periods, and by their periods.
 #[derive(Drop)]
@@ -38,6 +39,20 @@ impl TallyTable {
             by_airline: Index::new(alloc),
             by_period: Index::new(alloc),
         }
+    }
+
+    /// The tallies that are kept.
+    pub fn map(&self) -> &BTreeMap<TallyKey, Tally>
+        ensures { result.now ≡ self.now.rows.map }
+    {
+        self.rows.map()
+    }
+
+    /// The keys that were written since the last commit, in the order of the writes.
+    pub fn written(&self) -> &[Old<TallyKey, Tally>]
+        ensures { result.now ≡ self.now.rows.undo.items }
+    {
+        self.rows.written()
     }
 
     /// Keeps what was written.
