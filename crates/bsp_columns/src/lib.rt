@@ -1,0 +1,2 @@
+//! What the book keeps, as rows of tables.
+#![tactic(auto)]

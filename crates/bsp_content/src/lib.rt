@@ -1,0 +1,2 @@
+//! What the tables of a book's store keep.
+#![tactic(auto)]

@@ -1,0 +1,5 @@
+pub mod Keys
+pub mod Sharing
+pub mod TallyTable
+pub mod MemoTable
+pub mod OtherTexts

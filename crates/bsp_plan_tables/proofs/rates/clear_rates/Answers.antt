@@ -1,0 +1,12 @@
+use Rattle.std.proofs.Common.{[]}
+use Rattle.bsp_plan_tables.proofs.Sharing.{always}
+use Rattle.bsp_plan_tables.proofs.RateTable.{clearing, with}
+use Rattle.bsp_plan_tables.proofs.rates.clear_rates.Goals as goal
+
+pub returns-clause-ok : goal.returns-clause-ok
+returns-clause-ok g c =
+    let after = with [] in
+    always g.S.Store c.args.conn.now c.execute.new.self c.execute.result after (clearing g.S.Store c.args.conn.now c.execute.new.self c.execute.result c.execute.ensures.survives c.execute.ensures.runs)
+
+pub returns-clause-err : goal.returns-clause-err
+returns-clause-err g c = (clearing g.S.Store c.args.conn.now c.execute.new.self c.execute.result c.execute.ensures.survives c.execute.ensures.runs).1

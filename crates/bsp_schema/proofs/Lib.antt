@@ -1,0 +1,3 @@
+pub mod SchemaLemmas
+pub mod Texts
+pub mod Ordered

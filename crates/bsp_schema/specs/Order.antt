@@ -1,0 +1,17 @@
+-- The order of the rows of the tables.
+use Rattle.std.specs.Prelude.{ℕ, List, [], ◌∷◌, IsTrue}
+use Rattle.std.specs.List.{AllByRecursion}
+use Rattle.sqlite_trees.specs.Tree.{Trees, IsTable, rowid}
+use Rattle.sqlite_trees.specs.View.{is_int}
+
+-- the trees of the eleven tables
+abbrev pub table_trees : List ℕ
+table_trees = 0 ∷ 1 ∷ 2 ∷ 4 ∷ 6 ∷ 8 ∷ 10 ∷ 12 ∷ 14 ∷ 16 ∷ 18 ∷ []
+
+-- the rows of the tree ascend by their rowids, which are integers
+abbrev pub IsInOrder : Trees → ℕ → Type 0
+IsInOrder trees t = IsTable (trees t) × AllByRecursion (λ r. IsTrue (is_int (rowid r))) (trees t)
+
+-- so do those of each table
+abbrev pub AreInOrder : Trees → Type 0
+AreInOrder trees = AllByRecursion (IsInOrder trees) table_trees

@@ -1,0 +1,3 @@
+pub mod KeyedLemmas
+pub mod SavingLemmas
+pub mod PlanLemmas

@@ -1,0 +1,13 @@
+//! The rows of a book in memory, made from all rows of its tables.
+#![tactic(auto)]
+
+mod callers;
+mod equal;
+mod items;
+mod listed;
+mod puts;
+mod stored;
+
+pub use equal::is_row;
+pub use listed::{Each, RowOf, are_placed_rows_of, are_rows_of};
+pub use stored::StoredRows;

@@ -1,0 +1,9 @@
+pub mod Reading
+pub mod Ends
+pub mod Ending
+pub mod Writing
+pub mod Parts
+pub mod Held
+pub mod Values
+pub mod Syncing
+pub mod Opening
