@@ -1,2 +1,0 @@
-pub mod Callers
-pub mod Reading

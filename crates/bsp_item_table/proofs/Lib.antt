@@ -1,8 +1,0 @@
-pub mod Back
-pub mod Calls
-pub mod Days
-pub mod Keys
-pub mod Putting
-pub mod Statements
-pub mod Texts
-pub mod Written

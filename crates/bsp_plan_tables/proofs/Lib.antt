@@ -1,6 +1,0 @@
-pub mod Sharing
-pub mod MetaTable
-pub mod TermsTable
-pub mod AirlineTable
-pub mod RateTable
-pub mod PeriodTable

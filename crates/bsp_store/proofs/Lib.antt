@@ -1,3 +1,0 @@
-pub mod KeyedLemmas
-pub mod SavingLemmas
-pub mod PlanLemmas
