@@ -1,0 +1,5 @@
+pub mod AgentWrites
+pub mod AirlineTokenWrites
+pub mod Back
+pub mod RangeWrites
+pub mod Texts

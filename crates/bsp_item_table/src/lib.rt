@@ -1,0 +1,13 @@
+//! The table of the items: each item of the book is one row of it.
+#![tactic(auto)]
+
+mod columns;
+mod reading;
+mod row;
+#[cfg(test)]
+mod tests;
+mod writing;
+
+pub use reading::{all_items, read_item};
+pub use row::ItemRow;
+pub use writing::put_item;

@@ -1,0 +1,3 @@
+pub mod TallyTable
+pub mod MemoTable
+pub mod OtherTexts

@@ -1,0 +1,54 @@
+ghost use Rattle.std.specs.Prelude.{◌≡◌};
+ghost use Rattle.bsp_memo_tables.specs.Reading.{tally_in, tally_key_in, tally_of};
+
+use crate::columns::{agent_at, airline_at, count_at, period_at, sum_at};
+use bsp_postings::Tally;
+use bsp_rows::TallyKey;
+use sqlite::Row;
+
+fn key_of(row: &Row) -> Option<TallyKey>
+    ensures { result ≡ tally_key_in row.now }
+{
+    let agent = agent_at(row, 0)?;
+    let airline = airline_at(row, 1)?;
+    let period = period_at(row, 2)?;
+    Some(TallyKey {
+        agent,
+        airline,
+        period,
+    })
+}
+
+fn tally_of(key: TallyKey, row: &Row) -> Option<Tally>
+    ensures { result ≡ tally_of key row.now }
+{
+    let accepted = count_at(row, 3)?;
+    let living = count_at(row, 4)?;
+    let canx = count_at(row, 5)?;
+    let memo_count = count_at(row, 6)?;
+    let cash = sum_at(row, 7)?;
+    let credit = sum_at(row, 8)?;
+    let commission = sum_at(row, 9)?;
+    let memos = sum_at(row, 10)?;
+    Some(Tally {
+        agent: key.agent,
+        airline: key.airline,
+        period: key.period,
+        accepted,
+        living,
+        canx,
+        memo_count,
+        cash,
+        credit,
+        commission,
+        memos,
+    })
+}
+
+/// The key and the tally that a row of the table reads as, and none of a row that is no tally's.
+pub fn read_tally(row: &Row) -> Option<(TallyKey, Tally)>
+    ensures { result ≡ tally_in row.now }
+{
+    let key = key_of(row)?;
+    Some((key, tally_of(key, row)?))
+}

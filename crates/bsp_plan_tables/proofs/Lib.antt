@@ -1,0 +1,6 @@
+pub mod Sharing
+pub mod MetaTable
+pub mod TermsTable
+pub mod AirlineTable
+pub mod RateTable
+pub mod PeriodTable

@@ -1,0 +1,95 @@
+//! The entries of the plan, read back from rows that any program may have written.
+
+ghost use Rattle.std.specs.Prelude.{◌≡◌, ◌≢◌, ◌<◌, ◌^◌, ℕ, IsTrue, MatchOption};
+ghost use Rattle.sqlite_value.specs.Order.{column};
+ghost use Rattle.bsp_fields.specs.CivilDay.{CivilDay, is_day};
+ghost use Rattle.bsp_calendar.specs.declared.entries.Period.{Period as PeriodEntry};
+ghost use Rattle.bsp_calendar.specs.declared.entries.Rate.{Rate as RateEntry};
+ghost use Rattle.bsp_calendar.specs.declared.entries.Terms.{Terms as TermsEntry};
+ghost use Rattle.bsp_columns.specs.Columns.{airline_text};
+ghost use Rattle.bsp_plan_tables.specs.Reading.{int_in, IsMetaRow, IsTermsRow, IsRateRow, IsPeriodRow, AreTerms, IsRate, IsPeriod};
+
+use crate::columns::{airline_at, currency_at, day_at, int_at, number_at, period_at};
+use bsp_calendar::{Period, Rate, Terms};
+use bsp_fields::{AirlineCode, Day};
+use sqlite::Row;
+
+/// The version of the tables that a row of `meta` has.
+pub fn read_version(row: &Row) -> Option<i64>
+    ensures { result ≡ int_in (column row.now 0) }
+{
+    int_at(row, 0)
+}
+
+/// The business day and the number of closed periods of a row of `meta` of this version.
+pub fn read_meta(row: &Row) -> Option<(Day, u64)>
+    ensures { MatchOption result
+        ((day : CivilDay) (closed : ℕ) → IsTrue (is_day day) → closed < 2 ^ 63 → ¬ IsMetaRow row.now day closed)
+        (λ m. IsMetaRow row.now m.0 m.1) }
+{
+    if read_version(row)? != 1 {
+        return None;
+    }
+    let day = day_at(row, 1)?;
+    let closed = number_at(row, 2, 1 << 63)?;
+    Some((day, closed))
+}
+
+/// The terms of a row of `terms`.
+pub fn read_terms(row: &Row) -> Option<Terms>
+    ensures { MatchOption result
+        ((terms : TermsEntry) → AreTerms terms → ¬ IsTermsRow row.now terms)
+        (IsTermsRow row.now) }
+{
+    let currency = currency_at(row, 0)?;
+    let review_days = number_at(row, 1, 1 << 8)? as u8;
+    let documents_limit = number_at(row, 2, 1 << 32)? as u32;
+    Some(Terms {
+        currency,
+        review_days,
+        documents_limit,
+    })
+}
+
+/// The airline of a row of `airline`.
+pub fn read_airline(row: &Row) -> Option<AirlineCode>
+    ensures { MatchOption result
+        ((n : ℕ) → n < 10 ^ 3 → column row.now 0 ≢ airline_text n)
+        (λ n. column row.now 0 ≡ airline_text n) }
+{
+    airline_at(row, 0)
+}
+
+/// The rate of a row of `rate`.
+pub fn read_rate(row: &Row) -> Option<Rate>
+    ensures { MatchOption result
+        ((rate : RateEntry) → IsRate rate → ¬ IsRateRow row.now rate)
+        (IsRateRow row.now) }
+{
+    let airline = airline_at(row, 0)?;
+    let from = day_at(row, 1)?;
+    let hundredths = number_at(row, 3, 1 << 16)? as u16;
+    Some(Rate {
+        airline,
+        from,
+        hundredths,
+    })
+}
+
+/// The period of a row of `period`.
+pub fn read_period(row: &Row) -> Option<Period>
+    ensures { MatchOption result
+        ((period : PeriodEntry) → IsPeriod period → ¬ IsPeriodRow row.now period)
+        (IsPeriodRow row.now) }
+{
+    let code = period_at(row, 0)?;
+    let first = day_at(row, 2)?;
+    let last = day_at(row, 3)?;
+    let remittance = day_at(row, 4)?;
+    Some(Period {
+        code,
+        first,
+        last,
+        remittance,
+    })
+}

@@ -1,0 +1,28 @@
+-- The rows of all tables.
+use Rattle.std.specs.Prelude.{◌≡◌, map}
+use Rattle.std.specs.FinMap.{entries}
+use Rattle.bsp_columns.specs.Columns.{airline_row, airline_token_row, agent_row, item_row, memo_row, meta_rows, period_row, placed, rate_row, stock_row, tally_row, terms_rows}
+use Rattle.bsp_content.specs.Content.{Content}
+use Rattle.bsp_list_tables.specs.declared.tables.Tables.{Tables}
+use Rattle.bsp_list_tables.specs.Tables.{IsDerived, WasDerived, committed_rows, rows_of}
+use Rattle.bsp_stored_rows.specs.declared.stored.StoredRows.{StoredRows}
+
+-- they are the rows of the content, table by table, each in the order of its entries
+pub record AreRowsOf (c : Content) (rows : StoredRows) : Type 0 where
+  pub meta : rows.meta.items ≡ meta_rows c.meta
+  pub terms : rows.terms.items ≡ terms_rows c.terms
+  pub airlines : rows.airlines.items ≡ map airline_row (placed 0 c.published)
+  pub rates : rows.rates.items ≡ map rate_row (placed 0 c.rates)
+  pub periods : rows.periods.items ≡ map period_row (placed 0 c.periods)
+  pub agents : rows.agents.items ≡ map agent_row (entries c.agents)
+  pub airline_tokens : rows.airline_tokens.items ≡ map airline_token_row (entries c.airlines)
+  pub ranges : rows.ranges.items ≡ map stock_row (entries c.ranges)
+  pub items : rows.items.items ≡ map item_row (entries c.items)
+  pub memos : rows.memos.items ≡ map memo_row (entries c.memos)
+  pub tallies : rows.tallies.items ≡ map tally_row (entries c.tallies)
+
+-- the tables as a commit leaves them
+pub record AreCommitted (tables : Tables) : Type 0 where
+  pub committed : committed_rows tables ≡ rows_of tables
+  pub derived : IsDerived tables
+  pub was_derived : WasDerived tables
