@@ -4,7 +4,6 @@
 //! `run` and `serve` are the office over HTTP, on standard input and output or on a port.
 #![tactic(auto)]
 
-mod book_file;
 mod checking;
 mod command_line;
 mod fault;
@@ -27,7 +26,7 @@ pub use checking::{check, check_within, hotcheck, hotcheck_within};
 pub use fault::Fault;
 pub use listening::{ListenFault, serve_on};
 use std::process::ExitCode;
-pub use words::{BookSource, TokenSource, WordsFault, Work, words};
+pub use words::{TokenSource, WordsFault, Work, words};
 
 fn main(rt: HostRuntime) -> ExitCode {
     ExitCode::from(run::run(&rt))

@@ -1,4 +1,0 @@
-pub mod Calls
-pub mod Meanings
-pub mod Saving
-pub mod Opening
