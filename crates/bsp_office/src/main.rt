@@ -4,6 +4,7 @@
 //! `run` and `serve` are the office over HTTP, on standard input and output or on a port.
 #![tactic(auto)]
 
+mod book_file;
 mod checking;
 mod command_line;
 mod fault;
@@ -26,7 +27,7 @@ pub use checking::{check, check_within, hotcheck, hotcheck_within};
 pub use fault::Fault;
 pub use listening::{ListenFault, serve_on};
 use std::process::ExitCode;
-pub use words::{TokenSource, WordsFault, Work, words};
+pub use words::{BookSource, TokenSource, WordsFault, Work, words};
 
 fn main(rt: HostRuntime) -> ExitCode {
     ExitCode::from(run::run(&rt))

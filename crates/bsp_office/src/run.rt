@@ -21,19 +21,20 @@ fn run_work(rt: &HostRuntime, work: &Work<'_>) -> io::Result<u8> {
             let mut input = Input::open(rt, file)?;
             Ok(hotcheck(rt.alloc(), &mut input, &mut output))
         }
-        Work::Run { token } => Ok(run_office(rt, token)),
+        Work::Run { token, book } => Ok(run_office(rt, token, book)),
         Work::Serve {
             port,
             token,
+            book,
             connections,
-        } => Ok(serve_office(rt, *port, token, *connections)),
+        } => Ok(serve_office(rt, *port, token, book, *connections)),
     }
 }
 
 /// What is wrong with a value that `clap` takes.
-const WRONG_TOKEN: &str =
+const WRONG_VALUE: &str =
     "error: exactly one of --token T and --token-file FILE gives the office's token, \
-    T has 16 to 64 letters and digits, and FILE is not -";
+    T has 16 to 64 letters and digits, and no FILE is -";
 
 /// Prints what `clap` says of the words: help on standard output, else on standard error. Wrong
 /// words are so too where their text cannot be printed.
@@ -41,7 +42,7 @@ fn refuse(rt: &HostRuntime, fault: &WordsFault) -> u8 {
     let error = match fault {
         WordsFault::Refused(error) => error,
         WordsFault::OutOfForm => {
-            let _ = rt.eprintln(WRONG_TOKEN);
+            let _ = rt.eprintln(WRONG_VALUE);
             return WRONG_WORDS;
         }
     };

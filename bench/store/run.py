@@ -1,0 +1,129 @@
+#!/usr/bin/env python3
+"""Measures the office over a book in a file against one in memory: the requests of bench/desk, over HTTP on one connection,
+their files of sales cut to what a body may have. Prints, for each request, the median of its microseconds over both, and
+their ratio; then what an opening of the file takes.
+
+usage: bench/store/run.py [PROGRAM [ITEMS..]]     (by default the one that is built, 10,000 and 100,000 items)
+"""
+import http.client
+import os
+import pathlib
+import socket
+import statistics
+import subprocess
+import sys
+import tempfile
+import time
+
+TOP = pathlib.Path(__file__).resolve().parents[2]
+sys.dont_write_bytecode = True
+sys.path.append(str(TOP / "bench" / "desk"))
+import make_requests
+
+PROGRAM = os.path.abspath(sys.argv[1]) if len(sys.argv) > 1 else f"{TOP}/crates/bsp_office/out/bsp_office"
+SIZES = [int(it) for it in sys.argv[2:]] or [10_000, 100_000]
+# a body has at most 4 MiB, about 7,600 sales
+MOST = 5_000
+
+
+class Market(make_requests.Market):
+    """The requests of bench/desk, with no file of more sales than a body may have."""
+
+    def post(self, name, path, token, file, sales):
+        for at in range(0, len(sales), MOST):
+            super().post(name, path, token, f"{file}-{at}", sales[at:at + MOST])
+
+
+def free_port():
+    with socket.socket() as it:
+        it.bind(("127.0.0.1", 0))
+        return it.getsockname()[1]
+
+
+class Office:
+    """The program as it serves, over a book in the file, or in memory where there is none."""
+
+    def __init__(self, file=None):
+        port, begun = free_port(), time.perf_counter()
+        words = ["serve", "--port", str(port), "--token", make_requests.OFFICE, *(["--db", file] if file else [])]
+        self.it = subprocess.Popen([PROGRAM, *words], stderr=subprocess.PIPE, text=True)
+        if "listening" not in self.it.stderr.readline():
+            sys.exit("the program does not listen")
+        self.opening = time.perf_counter() - begun
+        self.peer = http.client.HTTPConnection("127.0.0.1", port, timeout=600)
+
+    def ask(self, method, path, token, body):
+        """The status of the reply and its microseconds."""
+        begun = time.perf_counter()
+        self.peer.request(method, path, body or None, {"Bsp-Token": token})
+        reply = self.peer.getresponse()
+        reply.read()
+        return reply.status, (time.perf_counter() - begun) * 1e6
+
+    def most_memory(self):
+        """The most megabytes that it has had."""
+        text = pathlib.Path(f"/proc/{self.it.pid}/status").read_text()
+        return int(text.split("VmHWM:")[1].split()[0]) / 1024
+
+    def end(self):
+        self.peer.close()
+        self.it.kill()
+        self.it.wait()
+
+
+def make(items, folder):
+    """Writes the requests, and gives them."""
+    market = Market(folder)
+    market.open()
+    first = market.fill(items)
+    market.issue_memos()
+    market.office("day", '{"day":"2024-01-16"}')
+    market.office("close", '{"period":"24011"}', name="close")
+    market.ask_agents(first)
+    market.ask_reports()
+    market.post_mixed(first, market.post_sales())
+    return [it.split("\t") for it in market.lines]
+
+
+def served(folder, lines, file=None):
+    """By name, the microseconds of the requests and the statuses of their replies; and the most memory."""
+    office, times, statuses = Office(file), {}, []
+    for name, method, path, token, body in lines:
+        data = (folder / body[1:]).read_bytes() if body.startswith("@") else body
+        status, took = office.ask(method, path, token, data)
+        times.setdefault(name, []).append(took)
+        statuses.append(status)
+    memory = office.most_memory()
+    office.end()
+    return times, statuses, memory
+
+
+def measure(items, folder):
+    lines = make(items, folder)
+    file = str(folder / "office.db")
+    memory, wanted, least = served(folder, lines)
+    stored, found, most = served(folder, lines, file)
+    if wanted != found:
+        sys.exit("the statuses differ")
+    print(f"\n{items:,} items\n\n| Request | Requests | In memory | In a file | Ratio |\n|---|---|---|---|---|")
+    for name, times in memory.items():
+        ours, theirs = statistics.median(stored[name]), statistics.median(times)
+        print(f"| {name} | {len(times)} | {theirs:,.0f} | {ours:,.0f} | {ours / theirs:.2f} |")
+    openings = []
+    for _ in range(3):
+        office = Office(file)
+        openings.append(office.opening)
+        peak = office.most_memory()
+        office.end()
+    sizes = [os.path.getsize(it) / 1e6 for it in (file, f"{file}-wal")]
+    print(f"\nan opening: {min(openings):.2f} s, {peak:.0f} MB; the file {sizes[0]:.1f} MB, its log {sizes[1]:.1f} MB;")
+    print(f"the most memory over all requests: {most:.0f} MB in a file, {least:.0f} MB in memory")
+
+
+def main():
+    for items in SIZES:
+        with tempfile.TemporaryDirectory() as folder:
+            measure(items, pathlib.Path(folder))
+
+
+main()

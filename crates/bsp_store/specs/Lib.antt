@@ -1,0 +1,4 @@
+pub mod Calls
+pub mod Meanings
+pub mod Saving
+pub mod Opening

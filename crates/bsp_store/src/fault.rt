@@ -1,0 +1,51 @@
+//! Why a store is not opened as a book.
+
+use bsp_list_tables::NoRoom;
+use sqlite::{Error as StoreError, ErrorCode};
+use std::alloc::AllocError;
+use thiserror::Error;
+
+/// Why a store is not opened as a book.
+#[derive(Clone, Copy, Debug, PartialEq, Eq, Hash, Error)]
+pub enum OpenFault {
+    /// An allocation was refused, or a row is too big. (B01.)
+    #[error("B01 no room")]
+    NoRoom,
+    /// The tables are not those of a book, or have rows that are not sound. (B02.)
+    #[error("B02 damaged")]
+    Damaged,
+    /// The store is not opened, or failed, for another cause. (B03.)
+    #[error("B03 the store failed")]
+    Failed,
+    /// The tables are of another version. (B04.)
+    #[error("B04 another version")]
+    OtherVersion,
+}
+
+/// What an error of `sqlite` means at an opening. A statement that does not fit the tables, or a value that is not of
+/// its kind, is damage.
+pub(crate) fn fault_of(error: StoreError) -> OpenFault {
+    match error {
+        StoreError::SqliteFailure(ErrorCode::OutOfMemory | ErrorCode::TooBig) => OpenFault::NoRoom,
+        StoreError::SqliteFailure(_) => OpenFault::Failed,
+        _ => OpenFault::Damaged,
+    }
+}
+
+impl From<StoreError> for OpenFault {
+    fn from(error: StoreError) -> OpenFault {
+        fault_of(error)
+    }
+}
+
+impl From<NoRoom> for OpenFault {
+    fn from(_: NoRoom) -> OpenFault {
+        OpenFault::NoRoom
+    }
+}
+
+impl From<AllocError> for OpenFault {
+    fn from(_: AllocError) -> OpenFault {
+        OpenFault::NoRoom
+    }
+}

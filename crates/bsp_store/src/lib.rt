@@ -1,0 +1,18 @@
+//! The book in tables of `sqlite`.
+#![tactic(auto)]
+
+mod book;
+mod ends;
+mod fault;
+mod keyed;
+mod opening;
+mod parts;
+mod plans;
+mod reading;
+mod saving;
+#[cfg(test)]
+mod tests;
+mod written;
+
+pub use book::SqlBook;
+pub use fault::OpenFault;

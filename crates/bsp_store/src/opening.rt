@@ -1,0 +1,202 @@
+//! A store opened as a book.
+
+ghost use Rattle.std.specs.Prelude.{◌≡◌, false, IfOk, None, OnOk, IsTrue};
+ghost use Rattle.sqlite.specs.Held.{state};
+ghost use Rattle.sqlite.specs.Steps.{over_memory};
+ghost use Rattle.sqlite.specs.Start.{FindsIn};
+ghost use Rattle.sqlite.specs.State.{HasCleanDisk};
+ghost use Rattle.sqlite_wal.specs.Files.{image_at};
+ghost use Rattle.sqlite.specs.Files.{file_state, over_files};
+ghost use Rattle.bsp_rows.specs.Rows.{no_rows};
+ghost use Rattle.bsp_rows.specs.Sound.{Sound};
+ghost use Rattle.bsp_list_tables.specs.Tables.{rows_of};
+ghost use Rattle.bsp_content.specs.Contents.{content_now};
+ghost use Rattle.bsp_stored_rows.specs.Stored.{AreCommitted, AreRowsOf};
+ghost use Rattle.bsp_schema.specs.Schema.{no_schema, our_schema};
+ghost use Rattle.bsp_store.specs.Meanings.{Holds};
+ghost use Rattle.bsp_store.specs.Opening.{Adopts, IsFoundIn, IsRead, IsOrdered, Reopens};
+
+use crate::book::SqlBook;
+use crate::ends::{close_transaction, open_transaction};
+use crate::fault::OpenFault;
+use crate::reading::{refusal, stored_rows};
+use bsp_book::ListBook;
+use bsp_fields::Day;
+use bsp_list_tables::Tables;
+use bsp_plan_tables::put_meta;
+use bsp_schema::{is_bare, is_ours, make_tables, reopen};
+use bsp_stored_rows::{StoredRows, are_rows, tables_of};
+use sqlite::{Alter, Connection, Error, FileFrom, FileStore, MemStore, Start};
+use std::alloc::Global;
+
+/// Refuses a connection on which a transaction is open.
+fn expect_rest<S: Alter>(conn: &Connection<S>) -> Result<(), OpenFault>
+    ensures outside { OnOk result (conn.now.in_transaction ≡ false) }
+    ensures settled { OnOk result (IsTrue (state S.Store conn.now).is_open → (state S.Store conn.now).now ≡ (state S.Store conn.now).committed) }
+{
+    if conn.is_autocommit() {
+        Ok(())
+    } else {
+        Err(OpenFault::Failed)
+    }
+}
+
+/// The tables in memory whose rows these are, if they are sound.
+fn sound_tables(alloc: Global, rows: &StoredRows) -> Result<Tables, OpenFault>
+    ensures committed { IfOk result AreCommitted }
+    ensures rows { IfOk result (λ tables. AreRowsOf (content_now tables) rows.now) }
+    ensures sound { IfOk result (λ tables. Sound (rows_of tables)) }
+{
+    let Some(tables) = tables_of(alloc, rows)? else {
+        return Err(OpenFault::Damaged);
+    };
+    if !tables.are_sound(alloc)? {
+        return Err(OpenFault::Damaged);
+    }
+    Ok(tables)
+}
+
+/// The book in memory that the tables of a store keep.
+fn kept_list<S: Alter>(alloc: Global, conn: &mut Connection<S>) -> Result<ListBook, OpenFault>
+    ensures { IfOk result (λ list. IsOrdered S.Store conn.old → IsRead S.Store conn.old conn.new list (rows_of list.tables)) }
+{
+    let rows = stored_rows(conn)?;
+    let tables = sound_tables(alloc, &rows)?;
+    expect_rest(conn)?;
+    Ok(ListBook::over(alloc, tables))
+}
+
+/// An empty book in memory, which the tables of a store keep.
+fn empty_list<S: Alter>(alloc: Global, conn: &mut Connection<S>) -> Result<ListBook, OpenFault>
+    ensures { IfOk result (λ list. IsOrdered S.Store conn.old → IsRead S.Store conn.old conn.new list no_rows) }
+{
+    let rows = stored_rows(conn)?;
+    let list = ListBook::new(alloc);
+    if !are_rows(&rows, list.tables()) {
+        return Err(OpenFault::Failed);
+    }
+    expect_rest(conn)?;
+    Ok(list)
+}
+
+/// Makes the tables of an empty book, in one transaction. After an error the caller rolls back.
+fn make_book<S: Alter>(conn: &mut Connection<S>) -> Result<(), Error> {
+    open_transaction(conn)?;
+    make_tables(conn)?;
+    put_meta(conn, Day::first(), 0)?;
+    close_transaction(conn)?;
+    Ok(())
+}
+
+/// Opens a connection again over its own store.
+fn again<S: Alter + Drop>(
+    alloc: Global,
+    conn: Connection<S>,
+) -> Result<Connection<S>, (OpenFault, S)>
+    ensures { IfOk result (Reopens S.Store conn) }
+{
+    match reopen(alloc, conn) {
+        Ok(conn) => Ok(conn),
+        Err((error, store)) => Err((OpenFault::from(error), store)),
+    }
+}
+
+/// Opens the book that a store with tables keeps.
+fn kept_book<S: Alter + Drop>(
+    alloc: Global,
+    mut conn: Connection<S>,
+) -> Result<SqlBook<S>, (OpenFault, S)>
+    ensures { IfOk result (λ book. IsOrdered S.Store conn → IsFoundIn S.Store conn book) }
+{
+    if !is_ours(conn.schema()) {
+        return Err((refusal(&mut conn), conn.into_store()));
+    }
+    match kept_list(alloc, &mut conn) {
+        Ok(list) => Ok(SqlBook::of(list, conn)),
+        Err(fault) => Err((fault, conn.into_store())),
+    }
+}
+
+/// Makes an empty book in a store that has no tables.
+fn new_book<S: Alter + Drop>(
+    alloc: Global,
+    mut conn: Connection<S>,
+) -> Result<SqlBook<S>, (OpenFault, S)>
+    ensures { IfOk result (λ book. Holds S.Store book no_rows None) }
+{
+    if let Err(error) = make_book(&mut conn) {
+        return Err((OpenFault::from(error), conn.into_store()));
+    }
+    let mut conn = again(alloc, conn)?;
+    match empty_list(alloc, &mut conn) {
+        Ok(list) => Ok(SqlBook::of(list, conn)),
+        Err(fault) => Err((fault, conn.into_store())),
+    }
+}
+
+impl<S: Alter + Drop> SqlBook<S> {
+    /// Opens the book that a store keeps, and tests that its rows are sound. A store without any table gets those of an
+    /// empty book, in one transaction.
+    ///
+    /// The connection is opened again over its store, which rolls back a transaction that is open on it and tests the
+    /// whole store once more.
+    ///
+    /// # Errors
+    ///
+    /// Each comes with the store. `OtherVersion`, where `meta` has another version than 1. `Damaged`, where the tables
+    /// are not those of a book, a row is no row of a book, or the rows are not sound. `NoRoom`, where an allocation is
+    /// refused. `Failed`, where the store fails for another cause.
+    pub fn adopt(alloc: Global, conn: Connection<S>) -> Result<SqlBook<S>, (OpenFault, S)>
+        ensures { IfOk result (Adopts S.Store conn) }
+    {
+        let conn = again(alloc, conn)?;
+        if is_bare(&conn) {
+            new_book(alloc, conn)
+        } else {
+            kept_book(alloc, conn)
+        }
+    }
+}
+
+impl SqlBook<MemStore> {
+    /// An empty book over tables in memory.
+    ///
+    /// # Errors
+    ///
+    /// `NoRoom`, where an allocation is refused.
+    pub fn open_memory(alloc: Global) -> Result<SqlBook<MemStore>, OpenFault>
+        ensures { IfOk result (λ book. Holds over_memory book no_rows None) }
+    {
+        let conn = Connection::open_in_memory(alloc)?;
+        match new_book(alloc, conn) {
+            Ok(book) => Ok(book),
+            Err((fault, _)) => Err(fault),
+        }
+    }
+}
+
+impl<T: Start> SqlBook<FileStore<FileFrom<T>>> {
+    /// Opens the book in the file at a path, with its log beside it, or makes both. `start` says what a torn write may
+    /// leave: with `Wary` each commit syncs twice.
+    ///
+    /// # Errors
+    ///
+    /// As those of [`SqlBook::adopt`]. A file that is not opened is `Failed`, memory apart. No clause ties what the files
+    /// hold to the path.
+    pub fn open_path(
+        rt: &HostRuntime,
+        path: &str,
+        start: T,
+    ) -> Result<SqlBook<FileStore<FileFrom<T>>>, OpenFault>
+        ensures { IfOk result (λ book. (conn : _) × (HasCleanDisk (file_state conn) → FindsIn (image_at T.Start) (file_state conn)) × Adopts over_files conn book) }
+    {
+        let conn = match Connection::open_from(rt, path, false, start) {
+            Ok(conn) => conn,
+            Err((error, _)) => return Err(OpenFault::from(error)),
+        };
+        match SqlBook::adopt(rt.alloc(), conn) {
+            Ok(book) => Ok(book),
+            Err((fault, _)) => Err(fault),
+        }
+    }
+}

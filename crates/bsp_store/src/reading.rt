@@ -1,0 +1,229 @@
+//! All rows of a store.
+
+ghost use Rattle.std.specs.Prelude.{◌≡◌, IfOk, OnOk};
+ghost use Rattle.sqlite.specs.Held.{state};
+ghost use Rattle.bsp_schema.specs.Schema.{our_schema};
+ghost use Rattle.bsp_store.specs.Opening.{AreAll, AreAllRows, AreCallerRows, AreDocumentRows, ArePlanRows, Finds};
+
+use crate::fault::OpenFault;
+use bsp_caller_tables::{all_agents, all_airline_tokens, all_ranges};
+use bsp_item_table::all_items;
+use bsp_memo_tables::{all_memos, all_tallies};
+use bsp_plan_tables::{all_airlines, all_meta, all_periods, all_rates, all_terms, read_version};
+use bsp_schema::is_ours;
+use bsp_stored_rows::StoredRows;
+use sqlite::{Alter, Connection, Row};
+
+/// The version of the tables.
+const VERSION: i64 = 1;
+
+/// The rows of the plan's tables.
+#[derive(Debug, Drop)]
+struct PlanRows {
+    meta: Vec<Row>,
+    terms: Vec<Row>,
+    airlines: Vec<Row>,
+    rates: Vec<Row>,
+    periods: Vec<Row>,
+}
+
+/// The rows of the tables of callers.
+#[derive(Debug, Drop)]
+struct CallerRows {
+    agents: Vec<Row>,
+    airline_tokens: Vec<Row>,
+    ranges: Vec<Row>,
+}
+
+/// The rows of the tables of items, memos and tallies.
+#[derive(Debug, Drop)]
+struct DocumentRows {
+    items: Vec<Row>,
+    memos: Vec<Row>,
+    tallies: Vec<Row>,
+}
+
+/// Refuses a store that has other tables than a book. A query says nothing of the tables after it on a disk that gave
+/// wrong bytes, so each is preceded by this test.
+fn expect_tables<S: Alter>(conn: &Connection<S>) -> Result<(), OpenFault>
+    ensures { OnOk result (conn.now.schema ≡ our_schema) }
+{
+    if is_ours(conn.schema()) {
+        Ok(())
+    } else {
+        Err(OpenFault::Damaged)
+    }
+}
+
+/// Refuses rows of `meta` that have another version, or none.
+fn expect_version(rows: &[Row]) -> Result<(), OpenFault> {
+    let Some(row) = rows.first() else {
+        return Err(OpenFault::Damaged);
+    };
+    match read_version(row) {
+        Some(VERSION) => Ok(()),
+        Some(_) => Err(OpenFault::OtherVersion),
+        None => Err(OpenFault::Damaged),
+    }
+}
+
+fn meta<S: Alter>(conn: &mut Connection<S>) -> Result<Vec<Row>, OpenFault>
+    ensures { IfOk result (λ rows. Finds S.Store conn.old conn.new (λ trees. AreAll trees 0 rows.items)) }
+{
+    expect_tables(conn)?;
+    Ok(all_meta(conn)?)
+}
+
+fn terms<S: Alter>(conn: &mut Connection<S>) -> Result<Vec<Row>, OpenFault>
+    ensures { IfOk result (λ rows. Finds S.Store conn.old conn.new (λ trees. AreAll trees 1 rows.items)) }
+{
+    expect_tables(conn)?;
+    Ok(all_terms(conn)?)
+}
+
+fn airlines<S: Alter>(conn: &mut Connection<S>) -> Result<Vec<Row>, OpenFault>
+    ensures { IfOk result (λ rows. Finds S.Store conn.old conn.new (λ trees. AreAll trees 2 rows.items)) }
+{
+    expect_tables(conn)?;
+    Ok(all_airlines(conn)?)
+}
+
+fn rates<S: Alter>(conn: &mut Connection<S>) -> Result<Vec<Row>, OpenFault>
+    ensures { IfOk result (λ rows. Finds S.Store conn.old conn.new (λ trees. AreAll trees 4 rows.items)) }
+{
+    expect_tables(conn)?;
+    Ok(all_rates(conn)?)
+}
+
+fn periods<S: Alter>(conn: &mut Connection<S>) -> Result<Vec<Row>, OpenFault>
+    ensures { IfOk result (λ rows. Finds S.Store conn.old conn.new (λ trees. AreAll trees 6 rows.items)) }
+{
+    expect_tables(conn)?;
+    Ok(all_periods(conn)?)
+}
+
+fn agents<S: Alter>(conn: &mut Connection<S>) -> Result<Vec<Row>, OpenFault>
+    ensures { IfOk result (λ rows. Finds S.Store conn.old conn.new (λ trees. AreAll trees 8 rows.items)) }
+{
+    expect_tables(conn)?;
+    Ok(all_agents(conn)?)
+}
+
+fn airline_tokens<S: Alter>(conn: &mut Connection<S>) -> Result<Vec<Row>, OpenFault>
+    ensures { IfOk result (λ rows. Finds S.Store conn.old conn.new (λ trees. AreAll trees 10 rows.items)) }
+{
+    expect_tables(conn)?;
+    Ok(all_airline_tokens(conn)?)
+}
+
+fn ranges<S: Alter>(conn: &mut Connection<S>) -> Result<Vec<Row>, OpenFault>
+    ensures { IfOk result (λ rows. Finds S.Store conn.old conn.new (λ trees. AreAll trees 12 rows.items)) }
+{
+    expect_tables(conn)?;
+    Ok(all_ranges(conn)?)
+}
+
+fn items<S: Alter>(conn: &mut Connection<S>) -> Result<Vec<Row>, OpenFault>
+    ensures { IfOk result (λ rows. Finds S.Store conn.old conn.new (λ trees. AreAll trees 14 rows.items)) }
+{
+    expect_tables(conn)?;
+    Ok(all_items(conn)?)
+}
+
+fn memos<S: Alter>(conn: &mut Connection<S>) -> Result<Vec<Row>, OpenFault>
+    ensures { IfOk result (λ rows. Finds S.Store conn.old conn.new (λ trees. AreAll trees 16 rows.items)) }
+{
+    expect_tables(conn)?;
+    Ok(all_memos(conn)?)
+}
+
+fn tallies<S: Alter>(conn: &mut Connection<S>) -> Result<Vec<Row>, OpenFault>
+    ensures { IfOk result (λ rows. Finds S.Store conn.old conn.new (λ trees. AreAll trees 18 rows.items)) }
+{
+    expect_tables(conn)?;
+    Ok(all_tallies(conn)?)
+}
+
+/// The rows of the plan, where the tables are of this version.
+fn plan_rows<S: Alter>(conn: &mut Connection<S>) -> Result<PlanRows, OpenFault>
+    ensures { IfOk result (λ rows. Finds S.Store conn.old conn.new (λ trees. ArePlanRows trees rows)) }
+{
+    let meta = meta(conn)?;
+    expect_version(&meta)?;
+    let terms = terms(conn)?;
+    let airlines = airlines(conn)?;
+    let rates = rates(conn)?;
+    let periods = periods(conn)?;
+    Ok(PlanRows {
+        meta,
+        terms,
+        airlines,
+        rates,
+        periods,
+    })
+}
+
+fn caller_rows<S: Alter>(conn: &mut Connection<S>) -> Result<CallerRows, OpenFault>
+    ensures { IfOk result (λ rows. Finds S.Store conn.old conn.new (λ trees. AreCallerRows trees rows)) }
+{
+    let agents = agents(conn)?;
+    let airline_tokens = airline_tokens(conn)?;
+    let ranges = ranges(conn)?;
+    Ok(CallerRows {
+        agents,
+        airline_tokens,
+        ranges,
+    })
+}
+
+fn document_rows<S: Alter>(conn: &mut Connection<S>) -> Result<DocumentRows, OpenFault>
+    ensures { IfOk result (λ rows. Finds S.Store conn.old conn.new (λ trees. AreDocumentRows trees rows)) }
+{
+    let items = items(conn)?;
+    let memos = memos(conn)?;
+    let tallies = tallies(conn)?;
+    Ok(DocumentRows {
+        items,
+        memos,
+        tallies,
+    })
+}
+
+/// All rows of the tables of a book.
+///
+/// # Errors
+///
+/// `OtherVersion`, where the tables are of another version. `Damaged`, where they are not those of a book. Those of the
+/// store.
+pub(crate) fn stored_rows<S: Alter>(conn: &mut Connection<S>) -> Result<StoredRows, OpenFault>
+    ensures { IfOk result (λ rows. Finds S.Store conn.old conn.new (λ trees. AreAllRows trees rows)) }
+{
+    let plan = plan_rows(conn)?;
+    let callers = caller_rows(conn)?;
+    let documents = document_rows(conn)?;
+    Ok(StoredRows {
+        meta: plan.meta,
+        terms: plan.terms,
+        airlines: plan.airlines,
+        rates: plan.rates,
+        periods: plan.periods,
+        agents: callers.agents,
+        airline_tokens: callers.airline_tokens,
+        ranges: callers.ranges,
+        items: documents.items,
+        memos: documents.memos,
+        tallies: documents.tallies,
+    })
+}
+
+/// Why tables that are not those of a book are refused: they are of another version, or damaged, or the store fails.
+pub(crate) fn refusal<S: Alter>(conn: &mut Connection<S>) -> OpenFault {
+    let rows = match conn.query_all("SELECT version FROM meta", &[]) {
+        Ok(rows) => rows,
+        Err(error) => return OpenFault::from(error),
+    };
+    match expect_version(&rows) {
+        Ok(()) => OpenFault::Damaged,
+        Err(fault) => fault,
+    }
+}
