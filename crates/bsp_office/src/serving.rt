@@ -1,16 +1,20 @@
 //! The commands `run` and `serve`: an office over a book in memory, or over one that a file keeps.
 
-use crate::book_file::{FileBook, open_book};
 use crate::listening::serve_on;
-use crate::status::{DONE, FAILED, WRONG_WORDS};
+use crate::status::{DONE, FAILED, REFUSED, WRONG_WORDS};
 use crate::token_file::read_token;
 use crate::words::{BookSource, TokenSource};
 use bsp_book::{Book, ListBook};
 use bsp_desk::Desk;
 use bsp_fields::Token;
 use bsp_http::{Routes, serve};
+use bsp_store::{OpenFault, SqlBook};
+use sqlite::{FileFrom, FileStore, Wary};
 use std::io;
 use std::net::{Ipv4Addr, SocketAddr, TcpListener};
+
+/// The book in a file. A commit does not rest on what a torn write leaves.
+type FileBook = SqlBook<FileStore<FileFrom<Wary>>>;
 
 /// Where an office answers.
 #[derive(Clone, Copy)]
@@ -64,12 +68,20 @@ fn token_from(rt: &HostRuntime, source: &TokenSource<'_>) -> Result<Token, u8> {
 
 /// The book that a file keeps. Where it is not opened it says so on standard error, and answers the exit status.
 fn book_in(rt: &HostRuntime, file: &str) -> Result<FileBook, u8> {
-    match open_book(rt, file) {
+    match SqlBook::open_path(rt, file, Wary) {
         Ok(book) => Ok(book),
         Err(fault) => {
             let _ = eprintln!(rt; "bsp_office: {file}: {fault}");
-            Err(FAILED)
+            Err(opening_status(&fault))
         }
+    }
+}
+
+/// The exit status where a file is not opened as a book for this cause.
+fn opening_status(fault: &OpenFault) -> u8 {
+    match fault {
+        OpenFault::Damaged | OpenFault::OtherVersion => REFUSED,
+        OpenFault::NoRoom | OpenFault::Failed(_) => FAILED,
     }
 }
 

@@ -6,19 +6,19 @@ use std::alloc::AllocError;
 use thiserror::Error;
 
 /// Why a store is not opened as a book.
-#[derive(Clone, Copy, Debug, PartialEq, Eq, Hash, Error)]
+#[derive(Clone, Copy, Debug, PartialEq, Eq, Error)]
 pub enum OpenFault {
     /// An allocation was refused, or a row is too big. (B01.)
-    #[error("B01 no room")]
+    #[error("B01 out of memory")]
     NoRoom,
     /// The tables are not those of a book, or have rows that are not sound. (B02.)
-    #[error("B02 damaged")]
+    #[error("B02 no book, or a damaged one")]
     Damaged,
     /// The store is not opened, or failed, for another cause. (B03.)
-    #[error("B03 the store failed")]
-    Failed,
+    #[error("B03 {0}")]
+    Failed(StoreError),
     /// The tables are of another version. (B04.)
-    #[error("B04 another version")]
+    #[error("B04 a book of another version")]
     OtherVersion,
 }
 
@@ -27,7 +27,7 @@ pub enum OpenFault {
 pub(crate) fn fault_of(error: StoreError) -> OpenFault {
     match error {
         StoreError::SqliteFailure(ErrorCode::OutOfMemory | ErrorCode::TooBig) => OpenFault::NoRoom,
-        StoreError::SqliteFailure(_) => OpenFault::Failed,
+        StoreError::SqliteFailure(_) => OpenFault::Failed(error),
         _ => OpenFault::Damaged,
     }
 }

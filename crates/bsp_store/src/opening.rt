@@ -26,7 +26,7 @@ use bsp_list_tables::Tables;
 use bsp_plan_tables::put_meta;
 use bsp_schema::{is_bare, is_ours, make_tables, reopen};
 use bsp_stored_rows::{StoredRows, are_rows, tables_of};
-use sqlite::{Alter, Connection, Error, FileFrom, FileStore, MemStore, Start};
+use sqlite::{Alter, Connection, Error, ErrorCode, FileFrom, FileStore, MemStore, Start};
 use std::alloc::Global;
 
 /// Refuses a connection on which a transaction is open.
@@ -37,7 +37,9 @@ fn expect_rest<S: Alter>(conn: &Connection<S>) -> Result<(), OpenFault>
     if conn.is_autocommit() {
         Ok(())
     } else {
-        Err(OpenFault::Failed)
+        Err(OpenFault::Failed(Error::SqliteFailure(
+            ErrorCode::TransactionState,
+        )))
     }
 }
 
@@ -73,7 +75,7 @@ fn empty_list<S: Alter>(alloc: Global, conn: &mut Connection<S>) -> Result<ListB
     let rows = stored_rows(conn)?;
     let list = ListBook::new(alloc);
     if !are_rows(&rows, list.tables()) {
-        return Err(OpenFault::Failed);
+        return Err(OpenFault::Damaged);
     }
     expect_rest(conn)?;
     Ok(list)
@@ -145,7 +147,7 @@ impl<S: Alter + Drop> SqlBook<S> {
     ///
     /// Each comes with the store. `OtherVersion`, where `meta` has another version than 1. `Damaged`, where the tables
     /// are not those of a book, a row is no row of a book, or the rows are not sound. `NoRoom`, where an allocation is
-    /// refused. `Failed`, where the store fails for another cause.
+    /// refused. `Failed` with the error of the store, where it fails for another cause.
     pub fn adopt(alloc: Global, conn: Connection<S>) -> Result<SqlBook<S>, (OpenFault, S)>
         ensures { IfOk result (Adopts S.Store conn) }
     {
