@@ -1,14 +1,18 @@
 #!/usr/bin/env python3
 """Measures the office over a book in a file against one in memory: the requests of bench/desk, over HTTP on one connection,
 their files of sales cut to what a body may have. Prints, for each request, the median of its microseconds over both, and
-their ratio; then what an opening of the file takes.
+their ratio; what an opening of the file takes; and what the file adds to a sale against twin.c, which has SQLite's own
+library run the same statements on the same book. It needs gcc, libsqlite3-dev and a disk whose syncs both can share.
 
 usage: bench/store/run.py [PROGRAM [ITEMS..]]     (by default the one that is built, 10,000 and 100,000 items)
 """
+import contextlib
 import http.client
 import os
 import pathlib
+import shutil
 import socket
+import sqlite3
 import statistics
 import subprocess
 import sys
@@ -72,7 +76,7 @@ class Office:
 
 
 def make(items, folder):
-    """Writes the requests, and gives them."""
+    """Writes the requests, and gives them, with the sales that are posted one by one."""
     market = Market(folder)
     market.open()
     first = market.fill(items)
@@ -81,8 +85,9 @@ def make(items, folder):
     market.office("close", '{"period":"24011"}', name="close")
     market.ask_agents(first)
     market.ask_reports()
-    market.post_mixed(first, market.post_sales())
-    return [it.split("\t") for it in market.lines]
+    ones = market.post_sales()
+    market.post_mixed(first, ones)
+    return [it.split("\t") for it in market.lines], ones
 
 
 def served(folder, lines, file=None):
@@ -98,8 +103,37 @@ def served(folder, lines, file=None):
     return times, statuses, memory
 
 
+def as_text(value):
+    """A value as twin.c reads it."""
+    return "n" if value is None else f"i{value}" if isinstance(value, int) else f"t{value}"
+
+
+def rows_of(book, sale):
+    """The values of the row of a sale and of that of its tally."""
+    item, = book.execute(
+        "SELECT * FROM item WHERE agent = ? AND number = ? AND canx = 0", (sale.agent, str(sale.number)))
+    tally, = book.execute(
+        "SELECT * FROM tally WHERE agent = ? AND airline = ? AND period = ?", (item[0], item[4], item[7]))
+    return "\t".join(map(as_text, item + tally)) + "\n"
+
+
+def twin_of(folder, ones):
+    """The microseconds of SQLite's own library for the rows of the sales, in a copy of the book without them."""
+    for end in "", "-wal":
+        shutil.copy(folder / f"office.db{end}", folder / f"twin.db{end}")
+    with contextlib.closing(sqlite3.connect(folder / "twin.db", isolation_level=None)) as book:
+        (folder / "rows").write_text("".join(rows_of(book, it) for it in ones))
+        book.execute("BEGIN")
+        for it in ones:
+            book.execute("DELETE FROM item WHERE agent = ? AND number = ?", (it.agent, str(it.number)))
+        book.execute("COMMIT")
+    subprocess.run(["gcc", "-O2", "-o", folder / "twin", TOP / "bench/store/twin.c", "-lsqlite3"], check=True)
+    ended = subprocess.run([folder / "twin", folder / "twin.db", folder / "rows"], check=True, capture_output=True)
+    return [int(it) / 1000 for it in ended.stdout.split()]
+
+
 def measure(items, folder):
-    lines = make(items, folder)
+    lines, ones = make(items, folder)
     file = str(folder / "office.db")
     memory, wanted, least = served(folder, lines)
     stored, found, most = served(folder, lines, file)
@@ -109,6 +143,9 @@ def measure(items, folder):
     for name, times in memory.items():
         ours, theirs = statistics.median(stored[name]), statistics.median(times)
         print(f"| {name} | {len(times)} | {theirs:,.0f} | {ours:,.0f} | {ours / theirs:.2f} |")
+    added = statistics.median(stored["one"]) - statistics.median(memory["one"])
+    twin = statistics.median(twin_of(folder, ones))
+    print(f"\na sale: the file adds {added:,.0f} microseconds, {added / twin:.2f} times the {twin:,.0f} of SQLite's library")
     openings = []
     for _ in range(3):
         office = Office(file)
