@@ -37,9 +37,7 @@ fn expect_rest<S: Alter>(conn: &Connection<S>) -> Result<(), OpenFault>
     if conn.is_autocommit() {
         Ok(())
     } else {
-        Err(OpenFault::Failed(Error::SqliteFailure(
-            ErrorCode::TransactionState,
-        )))
+        Err(OpenFault::Failed(Error::SqliteFailure(ErrorCode::TransactionState)))
     }
 }
 
