@@ -1,0 +1,12 @@
+-- Why the bodies meet their contracts.
+pub mod Finding
+pub mod Cutting
+pub mod TaxLemmas
+pub mod RetLemmas
+pub mod HotLemmas
+pub mod RowLemmas
+pub mod HotRows
+pub mod TrailerLemmas
+pub mod BeforeLemmas
+pub mod FaultLemmas
+pub mod WidthLemmas

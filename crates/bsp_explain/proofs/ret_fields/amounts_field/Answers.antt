@@ -1,0 +1,15 @@
+use Rattle.bsp_explain.specs.TaxFields.{tax_fields}
+use Rattle.bsp_explain.specs.RetFields.{fare_fields, commission_fields}
+use Rattle.bsp_explain.proofs.Finding.{none_of_three, some_of_three}
+use Rattle.bsp_explain.proofs.RetLemmas.{amounts_is}
+use Rattle.bsp_explain.proofs.ret_fields.amounts_field.Goals as goal
+
+pub returns-clause-none : goal.returns-clause-none
+returns-clause-none c =
+    let line = c.args.line.now in
+    rw (c.or-2.ensures, c.or.ensures, amounts_is line) (none_of_three line fare_fields (tax_fields 19 line) commission_fields c.first_unfit-fare.result c.tax_field-tax.result c.first_unfit-commission.result c.first_unfit-fare.ensures.none c.tax_field-tax.ensures.none c.first_unfit-commission.ensures.none)
+
+pub returns-clause-some : goal.returns-clause-some
+returns-clause-some c =
+    let line = c.args.line.now in
+    rw (c.or-2.ensures, c.or.ensures, amounts_is line) (some_of_three line fare_fields (tax_fields 19 line) commission_fields c.first_unfit-fare.result c.tax_field-tax.result c.first_unfit-commission.result c.first_unfit-fare.ensures.none c.tax_field-tax.ensures.none c.first_unfit-fare.ensures.some c.tax_field-tax.ensures.some c.first_unfit-commission.ensures.some)

@@ -1,0 +1,20 @@
+-- What is counted in lines of a RET file.
+use Rattle.std.specs.Prelude.{◌≡◌, ℕ, ◌+◌, ◌+ℤ◌, List, ◌∷◌, drop, if◌then◌else◌}
+use Rattle.std.specs.List.{count_by}
+use Rattle.bsp_ret.specs.Table.{is_sale, paid, total_paid}
+use Rattle.bsp_explain.specs.declared.before.Before.{Before}
+
+-- the transactions and the sum of the forms of payment
+abbrev pub counted : List (List ℕ) → Before
+counted ls = record { transactions = count_by is_sale ls; sum = total_paid ls }
+
+-- with one more line
+abbrev pub added : Before → List ℕ → Before
+added before line = record {
+  transactions = if is_sale line then before.transactions + 1 else before.transactions;
+  sum = before.sum +ℤ paid line;
+}
+
+-- the line follows so many lines
+abbrev pub IsLine : ℕ → List (List ℕ) → List ℕ → Type 0
+IsLine n ls line = (more : List (List ℕ)) × (drop n ls ≡ line ∷ more)

@@ -1,0 +1,9 @@
+-- What the contracts of explanations cite.
+pub mod Fields
+pub mod TaxFields
+pub mod RetFields
+pub mod HotFields
+pub mod Reasons
+pub mod Before
+pub mod RetReasons
+pub mod HotReasons

@@ -1,0 +1,233 @@
+//! What is wrong with a record of a RET file, found again from the record and from what was counted
+//! before it.
+
+ghost use Rattle.std.specs.Prelude.{◌≡◌, ◌==◌, ◌||◌, ◌-◌, ◌<◌, ◌^◌, ℕ, not, length, true, false, IfSome, IfNone};
+ghost use Rattle.bsp_fields.specs.Zoned.{zoned_reading};
+ghost use Rattle.bsp_records.specs.Columns.{is_wide};
+ghost use Rattle.bsp_ret_records.specs.Records.{IsFit, trailer_fits, total};
+ghost use Rattle.bsp_ret.specs.Table.{has_value};
+ghost use Rattle.bsp_explain.specs.Fields.{first_unfit, IsAtFault};
+ghost use Rattle.bsp_explain.specs.RetReasons.{record_fits, record_fields, wanted_number, has_number, has_next_number, Says, is_reason_of, has_stated, is_without};
+
+use crate::before::Before;
+use crate::field::Field;
+use crate::money::Money;
+use crate::reason::Reason;
+use crate::ret_fields::{
+    amounts_field, header_field, payment_field, related_field, sale_field, trailer_field,
+};
+use crate::width::width_reason;
+use bsp_records::{number_of, spells};
+use bsp_ret::{FaultCode, RetFault};
+use bsp_ret_records::{
+    record_count, told_records, told_sum, trailer_fits, transaction_count, transaction_number,
+};
+
+/// The first field of a record that is not in its form: of a header, or of another record by its
+/// identifier.
+#[tactic(auto, using(crate::proofs::Finding::no_fields))]
+pub fn record_field(is_first: bool, line: &[u8]) -> Option<Field>
+    requires { length line.now ≡ 136 }
+    ensures first { result ≡ first_unfit line.now (record_fields is_first line.now) }
+    ensures none { IfNone result (record_fits is_first line.now ≡ true) }
+    ensures some { IfSome result (λ field. IsAtFault line.now field × (record_fits is_first line.now ≡ false)) }
+{
+    if is_first {
+        return header_field(line);
+    }
+    match line[0] {
+        b'2' => sale_field(line),
+        b'3' => related_field(line),
+        b'5' => amounts_field(line),
+        b'8' => payment_field(line),
+        b'Z' => trailer_field(line),
+        _ => None,
+    }
+}
+
+/// The number of the transaction that a record has to have after so many transactions.
+fn wanted_number(line: &[u8], transactions: usize) -> usize
+    requires wide { length line.now ≡ 136 }
+    requires room { transactions < 2 ^ 64 - 1 }
+    ensures { result ≡ wanted_number line.now transactions }
+{
+    if line[0] == b'2' {
+        transactions + 1
+    } else {
+        transactions
+    }
+}
+
+/// Whether a record is one of a transaction, which has its number.
+fn has_number(line: &[u8]) -> bool
+    requires { length line.now ≡ 136 }
+    ensures { result ≡ has_number line.now }
+{
+    line[0] == b'2' || line[0] == b'3' || line[0] == b'5' || line[0] == b'8'
+}
+
+/// Whether a record has the number of the next or the last transaction, where it has to have one.
+fn has_next_number(line: &[u8], transactions: usize) -> bool
+    requires wide { length line.now ≡ 136 }
+    requires room { transactions < 2 ^ 64 - 1 }
+    ensures { result ≡ has_next_number transactions line.now }
+{
+    !has_number(line) || spells(wanted_number(line, transactions), transaction_number(line))
+}
+
+/// Why a record may not follow those before it, where it may not.
+fn place_reason(line: &[u8], before: Before) -> Reason
+    requires wide { length line.now ≡ 136 }
+    requires room { before.transactions < 2 ^ 64 - 1 }
+    ensures says { (n : ℕ) → Says n before line.now result }
+    ensures row { is_reason_of FaultCode.F03 result ≡ true }
+{
+    if !has_next_number(line, before.transactions) {
+        return Reason::TransactionNumber(wanted_number(line, before.transactions));
+    }
+    match line[0] {
+        b'8' => Reason::Payment,
+        b'2' | b'3' | b'5' | b'Z' => Reason::Place(line[0] as char),
+        _ => Reason::Identifier(line[0] as char),
+    }
+}
+
+/// Which field of a record is not in its form.
+fn field_reason(number: usize, line: &[u8]) -> Option<Reason>
+    requires { length line.now ≡ 136 }
+    ensures says { (before : Before) → IfSome result (Says number before line.now) }
+    ensures row_two { IfSome result (λ reason. is_reason_of FaultCode.F02 reason ≡ true) }
+    ensures row_four { IfSome result (λ reason. is_reason_of FaultCode.F04 reason ≡ true) }
+    ensures row_five { IfSome result (λ reason. is_reason_of FaultCode.F05 reason ≡ true) }
+    ensures none { IfNone result (record_fits (number == 1) line.now ≡ true) }
+{
+    match record_field(number == 1, line) {
+        Some(field) => Some(Reason::Unfit(field)),
+        None => None,
+    }
+}
+
+/// Which count of a trailer differs from its number and the transactions before it.
+#[tactic(auto, using(crate::proofs::TrailerLemmas::stated_both, crate::proofs::TrailerLemmas::stated_digits))]
+fn count_reason(line: &[u8], number: usize, before: Before) -> Option<Reason>
+    requires { IsFit trailer_fits line.now }
+    ensures says { IfSome result (Says number before line.now) }
+    ensures row { IfSome result (λ reason. is_reason_of FaultCode.F06 reason ≡ true) }
+    ensures none { IfNone result (has_stated number before.transactions line.now ≡ true) }
+{
+    let stated = told_records(line) as u64;
+    if stated != number as u64 {
+        let counted = number;
+        return Some(Reason::RecordCount { stated, counted });
+    }
+    let stated = number_of(transaction_count(line));
+    if stated != before.transactions as u64 {
+        let counted = before.transactions;
+        return Some(Reason::TransactionCount { stated, counted });
+    }
+    None
+}
+
+/// Whether the sum of a trailer differs from that of the forms before it.
+#[tactic(auto, using(crate::proofs::TrailerLemmas::stated_same))]
+fn sum_reason(line: &[u8], before: Before) -> Option<Reason>
+    requires { IsFit trailer_fits line.now }
+    ensures says { (n : ℕ) → IfSome result (Says n before line.now) }
+    ensures row { IfSome result (λ reason. is_reason_of FaultCode.F07 reason ≡ true) }
+    ensures none { IfNone result (has_value before.sum (zoned_reading 15 (total line.now)) ≡ true) }
+{
+    let stated = told_sum(line).get();
+    if stated == before.sum {
+        return None;
+    }
+    Some(Reason::Sum {
+        stated: Money { units: stated },
+        summed: Money { units: before.sum },
+    })
+}
+
+/// Which field is not in its form, of a record of the right width.
+fn field_fault(number: usize, line: &[u8]) -> Option<Reason>
+    ensures says { (before : Before) → IfSome result (Says number before line.now) }
+    ensures row_two { IfSome result (λ reason. is_reason_of FaultCode.F02 reason ≡ true) }
+    ensures row_four { IfSome result (λ reason. is_reason_of FaultCode.F04 reason ≡ true) }
+    ensures row_five { IfSome result (λ reason. is_reason_of FaultCode.F05 reason ≡ true) }
+    ensures none { IfNone result ((not (is_wide line.now) || record_fits (number == 1) line.now) ≡ true) }
+{
+    if line.len() != 136 {
+        return None;
+    }
+    field_reason(number, line)
+}
+
+/// Why a record of the right width may not follow those before it.
+fn place_fault(line: &[u8], before: Before) -> Option<Reason>
+    requires { before.transactions < 2 ^ 64 - 1 }
+    ensures says { (n : ℕ) → IfSome result (Says n before line.now) }
+    ensures row { IfSome result (λ reason. is_reason_of FaultCode.F03 reason ≡ true) }
+    ensures none { IfNone result (not (is_wide line.now) ≡ true) }
+{
+    if line.len() != 136 {
+        return None;
+    }
+    Some(place_reason(line, before))
+}
+
+/// Which count differs, of a trailer whose fields fit.
+fn count_fault(line: &[u8], number: usize, before: Before) -> Option<Reason>
+    ensures says { IfSome result (Says number before line.now) }
+    ensures row { IfSome result (λ reason. is_reason_of FaultCode.F06 reason ≡ true) }
+    ensures none { IfNone result (is_without FaultCode.F06 number before line.now ≡ true) }
+{
+    if line.len() != 136 {
+        return None;
+    }
+    if !trailer_fits(line) {
+        return None;
+    }
+    count_reason(line, number, before)
+}
+
+/// Whether the sum differs, of a trailer whose fields fit.
+fn sum_fault(line: &[u8], before: Before) -> Option<Reason>
+    ensures says { (n : ℕ) → IfSome result (Says n before line.now) }
+    ensures row { IfSome result (λ reason. is_reason_of FaultCode.F07 reason ≡ true) }
+    ensures none { (n : ℕ) → IfNone result (is_without FaultCode.F07 n before line.now ≡ true) }
+{
+    if line.len() != 136 {
+        return None;
+    }
+    if !trailer_fits(line) {
+        return None;
+    }
+    sum_reason(line, before)
+}
+
+/// What is wrong with a line of a RET file that the reader refused with that fault, from what was
+/// counted before it. `None` where the line has no such fault.
+pub fn ret_reason(fault: RetFault, line: &[u8], before: Before) -> Option<Reason>
+    requires { before.transactions < 2 ^ 64 - 1 }
+    // The reason is true of the line, and is one of the fault's row.
+    ensures says { IfSome result (Says fault.at before line.now) }
+    ensures row { IfSome result (λ reason. is_reason_of fault.code reason ≡ true) }
+    // There is a reason for each line that is at fault in that row.
+    ensures none { IfNone result (is_without fault.code fault.at before line.now ≡ true) }
+{
+    let width = width_reason(line);
+    let field = field_fault(fault.at, line);
+    let place = place_fault(line, before);
+    let count = count_fault(line, fault.at, before);
+    let sum = sum_fault(line, before);
+    match fault.code {
+        FaultCode::F01 => width,
+        FaultCode::F02 => field,
+        FaultCode::F03 => place,
+        FaultCode::F04 => field,
+        FaultCode::F05 => field,
+        FaultCode::F06 => count,
+        FaultCode::F07 => sum,
+        FaultCode::F08 => Some(Reason::NoTrailer),
+        FaultCode::F09 => Some(Reason::AfterTrailer),
+        FaultCode::F10 => Some(Reason::NoMemory),
+    }
+}

@@ -1,0 +1,54 @@
+//! The width and the characters of a record.
+
+ghost use Rattle.std.specs.Prelude.{◌≡◌, ℕ, length, true, false, IfSome, IfNone};
+ghost use Rattle.std.specs.List.{list_all};
+ghost use Rattle.bsp_records.specs.Columns.{is_printable, is_wide};
+ghost use Rattle.bsp_explain.specs.declared.before.Before.{Before};
+ghost use Rattle.bsp_explain.specs.Reasons.{SaysOfWidth};
+ghost use Rattle.bsp_explain.specs.RetReasons.{Says, is_reason_of};
+ghost use Rattle.bsp_explain.specs.HotReasons.{SaysOfHot};
+ghost use Rattle.bsp_ret.specs.declared.model.FaultCode.TheVariants.{F01};
+
+use crate::reason::Reason;
+
+/// Whether a character lies from 0x20 to 0x7E.
+fn is_printable(character: u8) -> bool
+    ensures { result ≡ is_printable character }
+{
+    b' ' <= character && character <= b'~'
+}
+
+/// The first character outside 0x20 to 0x7E, with its column.
+fn unprintable(line: &[u8]) -> Option<(u8, u8)>
+    requires { length line.now ≡ 136 }
+    ensures some { IfSome result (λ found. SaysOfWidth line.now (Reason.Character found.0 found.1) × (list_all is_printable line.now ≡ false)) }
+    ensures none { IfNone result (list_all is_printable line.now ≡ true) }
+{
+    for index in 0..136u8 {
+        let character = line[index as usize];
+        if !is_printable(character) {
+            return Some((index + 1, character));
+        }
+    }
+    None
+}
+
+/// Why a line is no record of 136 characters from 0x20 to 0x7E.
+#[tactic(auto, unfolding(bsp_records::specs::Columns::is_wide))]
+pub(crate) fn width_reason(line: &[u8]) -> Option<Reason>
+    ensures says { (n : ℕ) (before : Before) → IfSome result (Says n before line.now) }
+    ensures row { IfSome result (λ reason. is_reason_of F01 reason ≡ true) }
+    ensures says_of_hot { (n : ℕ) → IfSome result (SaysOfHot n line.now) }
+    ensures narrow { IfSome result (λ reason. is_wide line.now ≡ false) }
+    ensures wide { IfNone result (is_wide line.now ≡ true) }
+    ensures long { IfNone result (length line.now ≡ 136) }
+{
+    let width = line.len();
+    if width != 136 {
+        return Some(Reason::Width(width));
+    }
+    match unprintable(line) {
+        Some((column, character)) => Some(Reason::Character { column, character }),
+        None => None,
+    }
+}
