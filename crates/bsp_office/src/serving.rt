@@ -9,7 +9,7 @@ use bsp_desk::Desk;
 use bsp_fields::Token;
 use bsp_http::{Routes, serve};
 use bsp_store::{OpenFault, SqlBook};
-use sqlite::{FileFrom, FileStore, Wary};
+use sqlite::{Alter, FileFrom, FileStore, Wary};
 use std::io;
 use std::net::{Ipv4Addr, SocketAddr, TcpListener};
 
@@ -156,6 +156,16 @@ fn serve_book<B: Book + Drop>(
     }
 }
 
+/// Serves at a place, over a book in a store.
+fn serve_stored<S: Alter + Drop>(
+    rt: &HostRuntime,
+    place: &Place,
+    token: Token,
+    book: SqlBook<S>,
+) -> Result<(), u8> {
+    serve_book(rt, place, token, book)
+}
+
 fn serve_at(
     rt: &HostRuntime,
     place: &Place,
@@ -165,7 +175,7 @@ fn serve_at(
     let token = token_from(rt, token)?;
     match book {
         BookSource::Memory => serve_book(rt, place, token, ListBook::new(rt.alloc())),
-        BookSource::File(file) => serve_book(rt, place, token, book_in(rt, file)?),
+        BookSource::File(file) => serve_stored(rt, place, token, book_in(rt, file)?),
     }
 }
 
