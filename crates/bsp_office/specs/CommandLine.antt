@@ -7,8 +7,6 @@ use Rattle.clap.specs.Simple.{on_top}
 use Rattle.clap.specs.ValueTests.{is_numeral}
 use Rattle.clap.specs.declared.builder.value_parser.ValueParser.TheVariants.{Signed}
 use Rattle.bsp_fields.specs.Tokens.{token_reading}
-use Rattle.bsp_office.specs.declared.words.BookSource.{BookSource}
-use Rattle.bsp_office.specs.declared.words.BookSource.TheVariants as kept
 use Rattle.bsp_office.specs.declared.words.TokenSource.{TokenSource}
 use Rattle.bsp_office.specs.declared.words.TokenSource.TheVariants as source
 use Rattle.bsp_office.specs.declared.words.Work.{Work}
@@ -38,12 +36,8 @@ number_option id least most = record (named_option id) { parser = Some (Signed (
 abbrev pub with_tokens : App → App
 with_tokens a = with_rule (with_rule a (named_option (codes "token"))) (named_option (codes "token-file"))
 
--- --db FILE
-abbrev pub with_db : App → App
-with_db a = with_rule a (named_option (codes "db"))
-
 abbrev pub run_app : App
-run_app = with_db (with_tokens (new_app (codes "run")))
+run_app = with_tokens (new_app (codes "run"))
 
 abbrev pub port_rule : Rule
 port_rule = record (number_option (codes "port") 1 65535) { required = true }
@@ -52,7 +46,7 @@ abbrev pub connections_rule : Rule
 connections_rule = record (number_option (codes "connections") 1 1000000) { defaults = codes "1000000" ∷ [] }
 
 abbrev pub serve_app : App
-serve_app = with_rule (with_db (with_tokens (with_rule (new_app (codes "serve")) port_rule))) connections_rule
+serve_app = with_rule (with_tokens (with_rule (new_app (codes "serve")) port_rule)) connections_rule
 
 -- a subcommand must be there, and none is called help
 abbrev pub needs_subcommand : Shape → Shape
@@ -79,27 +73,18 @@ abbrev pub token_of : TokenSource → AskedToken
 token_of (source.Given token) = given token
 token_of (source.File file) = in_file file.now
 
--- the book in memory, or the file that has it
-pub data AskedBook : Type 0 where
-  in_memory : AskedBook
-  stored_in : Text → AskedBook
-
-abbrev pub book_of : BookSource → AskedBook
-book_of kept.Memory = in_memory
-book_of (kept.File file) = stored_in file.now
-
 -- a command with its values, as texts and numbers
 pub data AskedWork : Type 0 where
   check : Text → AskedWork
   hotcheck : Text → AskedWork
-  run : AskedToken → AskedBook → AskedWork
-  serve : ℕ → AskedToken → AskedBook → ℕ → AskedWork
+  run : AskedToken → AskedWork
+  serve : ℕ → AskedToken → ℕ → AskedWork
 
 abbrev pub work_of : Work → AskedWork
 work_of (Check file) = check file.now
 work_of (Hotcheck file) = hotcheck file.now
-work_of (Run token book) = run (token_of token) (book_of book)
-work_of (Serve port token book connections) = serve port (token_of token) (book_of book) connections
+work_of (Run token) = run (token_of token)
+work_of (Serve port token connections) = serve port (token_of token) connections
 
 -- the work of each subcommand by what was found behind it, where each value is in its form
 abbrev pub check_work : List Row → Option AskedWork
@@ -117,16 +102,8 @@ token_from _ _ = None
 abbrev pub asked_token : List Row → Option AskedToken
 asked_token rows = token_from (first_of (codes "token") rows) (first_of (codes "token-file") rows)
 
--- the book is in memory where no file is named; no file is called -
-abbrev pub book_from : Option Text → Option AskedBook
-book_from None = Some in_memory
-book_from (Some file) = if bytes_eq file (codes "-") then None else Some (stored_in file)
-
-abbrev pub asked_book : List Row → Option AskedBook
-asked_book rows = book_from (first_of (codes "db") rows)
-
 abbrev pub run_work : List Row → Option AskedWork
-run_work rows = option_and_then (λ token. option_map (λ book. run token book) (asked_book rows)) (asked_token rows)
+run_work rows = option_map run (asked_token rows)
 
 -- the number of k bits that a text writes in digits, a plus in front of them or not
 abbrev pub number_read : ℕ → Text → Option ℕ
@@ -140,9 +117,7 @@ number_in k id rows = option_and_then (number_read k) (one_of id rows)
 abbrev pub serve_work : List Row → Option AskedWork
 serve_work rows =
     option_and_then
-    (λ port. option_and_then
-    (λ connections. option_and_then (λ token. option_map (λ book. serve port token book connections) (asked_book rows)) (asked_token rows))
-    (number_in 32 (codes "connections") rows))
+    (λ port. option_and_then (λ connections. option_map (λ token. serve port token connections) (asked_token rows)) (number_in 32 (codes "connections") rows))
     (number_in 16 (codes "port") rows)
 
 unfoldable pub work_in : Text → List Row → Option AskedWork

@@ -3,7 +3,7 @@
 ghost use Rattle.std.specs.Prelude.{◌≡◌, IfOk, IfErr, codes, false};
 ghost use Rattle.clap.specs.Words.{app_of, kind_of, rule_of, shape_of};
 ghost use Rattle.clap.specs.declared.builder.command.Command.TheViews.{out-Command as fields_of};
-ghost use Rattle.bsp_office.specs.CommandLine.{connections_rule, file_app, named_option, office, port_rule, run_app, serve_app, with_db, with_tokens};
+ghost use Rattle.bsp_office.specs.CommandLine.{connections_rule, file_app, named_option, office, port_rule, run_app, serve_app, with_tokens};
 
 use clap::error::ErrorKind;
 use clap::{Arg, Command, Error};
@@ -74,22 +74,6 @@ fn taking_token<'a>(alloc: Global, command: Command<'a>) -> Result<Command<'a>, 
     Ok(command)
 }
 
-/// The command with the option that names the file of the book.
-fn taking_book<'a>(alloc: Global, command: Command<'a>) -> Result<Command<'a>, Error>
-    requires { (fields_of command).has_globals ≡ false }
-    ensures ok { IfOk result (λ c. (app_of c ≡ with_db (app_of command.entry)) × ((fields_of c).has_globals ≡ false)) }
-    ensures err { IfErr result (λ e. kind_of e ≡ ErrorKind.OutOfMemory) }
-{
-    let file = option(
-        alloc,
-        "db",
-        "FILE",
-        "the file that keeps the book, made where it is not there; without it the book is in memory",
-    );
-    let command = command.arg(file)?;
-    Ok(command)
-}
-
 fn run_command<'a>(alloc: Global) -> Result<Command<'a>, Error>
     ensures ok { IfOk result (λ c. (shape_of c ≡ run_app.top) × ((fields_of c).has_globals ≡ false)) }
     ensures err { IfErr result (λ e. kind_of e ≡ ErrorKind.OutOfMemory) }
@@ -97,8 +81,7 @@ fn run_command<'a>(alloc: Global) -> Result<Command<'a>, Error>
     let command = Command::new(alloc, "run").about(
         "Serves one connection of HTTP on standard input and output",
     );
-    let command = taking_token(alloc, command)?;
-    taking_book(alloc, command)
+    taking_token(alloc, command)
 }
 
 fn port_option<'a>(alloc: Global) -> Arg<'a>
@@ -132,7 +115,6 @@ fn serve_command<'a>(alloc: Global) -> Result<Command<'a>, Error>
         .about("Serves HTTP on a port of 127.0.0.1, one connection after the other")
         .arg(port_option(alloc))?;
     let command = taking_token(alloc, command)?;
-    let command = taking_book(alloc, command)?;
     let command = command.arg(connections_option(alloc))?;
     Ok(command)
 }

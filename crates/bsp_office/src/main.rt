@@ -26,7 +26,7 @@ pub use checking::{check, check_within, hotcheck, hotcheck_within};
 pub use fault::Fault;
 pub use listening::{ListenFault, serve_on};
 use std::process::ExitCode;
-pub use words::{BookSource, TokenSource, WordsFault, Work, words};
+pub use words::{TokenSource, WordsFault, Work, words};
 
 fn main(rt: HostRuntime) -> ExitCode {
     ExitCode::from(run::run(&rt))

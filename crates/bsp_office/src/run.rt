@@ -21,20 +21,19 @@ fn run_work(rt: &HostRuntime, work: &Work<'_>) -> io::Result<u8> {
             let mut input = Input::open(rt, file)?;
             Ok(hotcheck(rt.alloc(), &mut input, &mut output))
         }
-        Work::Run { token, book } => Ok(run_office(rt, token, book)),
+        Work::Run { token } => Ok(run_office(rt, token)),
         Work::Serve {
             port,
             token,
-            book,
             connections,
-        } => Ok(serve_office(rt, *port, token, book, *connections)),
+        } => Ok(serve_office(rt, *port, token, *connections)),
     }
 }
 
 /// What is wrong with a value that `clap` takes.
-const WRONG_VALUE: &str =
+const WRONG_TOKEN: &str =
     "error: exactly one of --token T and --token-file FILE gives the office's token, \
-    T has 16 to 64 letters and digits, and no FILE is -";
+    T has 16 to 64 letters and digits, and FILE is not -";
 
 /// Prints what `clap` says of the words: help on standard output, else on standard error. Wrong
 /// words are so too where their text cannot be printed.
@@ -42,7 +41,7 @@ fn refuse(rt: &HostRuntime, fault: &WordsFault) -> u8 {
     let error = match fault {
         WordsFault::Refused(error) => error,
         WordsFault::OutOfForm => {
-            let _ = rt.eprintln(WRONG_VALUE);
+            let _ = rt.eprintln(WRONG_TOKEN);
             return WRONG_WORDS;
         }
     };

@@ -2,8 +2,6 @@
 
 /// The program did what it was asked for.
 pub(crate) const DONE: u8 = 0;
-/// The file of the book has no sound book of this version.
-pub(crate) const REFUSED: u8 = 1;
 /// The words of the command line are wrong, or the token is none.
 pub(crate) const WRONG_WORDS: u8 = 2;
 /// A file, a device, a port or a connection failed, or an allocation was refused.

@@ -5,7 +5,7 @@
 
 ghost use Rattle.std.specs.Prelude.{◌≡◌, IfOk, IfErr, [], codes, map, option_map};
 ghost use Rattle.clap.specs.Words.{HasKind, fault_of, first_of, found_of, rows_of, subcommand_of, subcommand_rows_of};
-ghost use Rattle.bsp_office.specs.CommandLine.{AnswersWords, asked_book, asked_token, book_of, check_work, hotcheck_work, number_in, office, run_work, serve_work, token_of, work_from, work_in, work_of};
+ghost use Rattle.bsp_office.specs.CommandLine.{AnswersWords, asked_token, check_work, hotcheck_work, number_in, office, run_work, serve_work, token_of, work_from, work_in, work_of};
 
 use crate::command_line::office_command;
 use bsp_fields::Token;
@@ -19,15 +19,6 @@ pub enum TokenSource<'a> {
     /// `--token T`: in the words.
     Given(Token),
     /// `--token-file FILE`: it is the first line of the file. The FILE `-` is out of form.
-    File(&'a str),
-}
-
-/// Where the book is.
-#[derive(Clone, Copy, PartialEq, Eq)]
-pub enum BookSource<'a> {
-    /// In memory: it begins empty, and ends with the program.
-    Memory,
-    /// `--db FILE`: in this file, which is made where it is not there. The FILE `-` is out of form.
     File(&'a str),
 }
 
@@ -45,14 +36,12 @@ pub enum Work<'a> {
     /// `run`: to serve one connection on standard input and output.
     Run {
         token: TokenSource<'a>,
-        book: BookSource<'a>,
     },
     /// `serve --port N`: to serve so many connections on a port of 127.0.0.1.
     Serve {
         /// From 1 to 65,535.
         port: u16,
         token: TokenSource<'a>,
-        book: BookSource<'a>,
         /// From 1 to 1,000,000.
         connections: u32,
     },
@@ -64,7 +53,7 @@ pub enum WordsFault {
     /// `clap` refuses the words, or was refused memory; a request for help is told so too.
     Refused(Error),
     /// `clap` takes the words, and a value in them is out of its form: the token, which exactly one of the two
-    /// options gives, or the file of the book.
+    /// options gives.
     OutOfForm,
 }
 
@@ -105,27 +94,13 @@ fn token_given<'a>(matches: &ArgMatches<'a>) -> Option<TokenSource<'a>>
     }
 }
 
-/// Where the book is: in memory, unless a file is named.
-fn book_given<'a>(matches: &ArgMatches<'a>) -> Option<BookSource<'a>>
-    ensures { option_map book_of result ≡ asked_book (rows_of (found_of matches.now)) }
-{
-    match value_of(matches, "db") {
-        None => Some(BookSource::Memory),
-        Some(file) if file != "-" => Some(BookSource::File(file)),
-        Some(_) => None,
-    }
-}
-
 fn run_given<'a>(matches: &ArgMatches<'a>) -> Option<Work<'a>>
     ensures { option_map work_of result ≡ run_work (rows_of (found_of matches.now)) }
 {
     let Some(token) = token_given(matches) else {
         return None;
     };
-    let Some(book) = book_given(matches) else {
-        return None;
-    };
-    Some(Work::Run { token, book })
+    Some(Work::Run { token })
 }
 
 fn port_given(matches: &ArgMatches<'_>) -> Option<u16>
@@ -148,13 +123,9 @@ fn serve_given<'a>(matches: &ArgMatches<'a>) -> Option<Work<'a>>
     let Some(token) = token_given(matches) else {
         return None;
     };
-    let Some(book) = book_given(matches) else {
-        return None;
-    };
     Some(Work::Serve {
         port,
         token,
-        book,
         connections,
     })
 }

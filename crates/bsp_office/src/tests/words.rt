@@ -1,6 +1,6 @@
 //! Words of a command line.
 
-use crate::{BookSource, TokenSource, WordsFault, Work, words};
+use crate::{TokenSource, WordsFault, Work, words};
 use clap::error::ErrorKind;
 
 /// The office's token in these tests.
@@ -33,7 +33,7 @@ fn is_from(source: &TokenSource<'_>, wanted: &str) -> bool {
 /// Whether the work is one connection, at such an office.
 fn is_run(work: &Work<'_>, wanted: &str) -> bool {
     match work {
-        Work::Run { token, .. } => is_from(token, wanted),
+        Work::Run { token } => is_from(token, wanted),
         _ => false,
     }
 }
@@ -44,14 +44,6 @@ fn ask_to_run(rt: &HostRuntime, line: &[&str], wanted: &str) -> bool {
         return false;
     };
     is_run(&work, wanted)
-}
-
-/// Whether the words ask for one connection, at an office whose book is there.
-fn ask_for_book(rt: &HostRuntime, line: &[&str], wanted: &BookSource<'_>) -> bool {
-    match words(rt.alloc(), line) {
-        Ok(Work::Run { book, .. }) => book == *wanted,
-        _ => false,
-    }
 }
 
 /// The port and the number of connections that the words ask for.
@@ -100,7 +92,7 @@ fn words_ask_for_reports(rt: HostRuntime) {
 
 #[test]
 fn words_are_refused(rt: HostRuntime) {
-    let cases: [(&[&str], ErrorKind); 11] = [
+    let cases: [(&[&str], ErrorKind); 12] = [
         (&["bsp_office", "check", "-x"], ErrorKind::UnknownArgument),
         (&["bsp_office", "check"], ErrorKind::MissingRequiredArgument),
         (
@@ -121,6 +113,10 @@ fn words_are_refused(rt: HostRuntime) {
         ),
         (
             &["bsp_office", "run", "--token", TOKEN, "--port", "80"],
+            ErrorKind::UnknownArgument,
+        ),
+        (
+            &["bsp_office", "run", "--token", TOKEN, "--db", "book"],
             ErrorKind::UnknownArgument,
         ),
         (
@@ -146,17 +142,8 @@ fn words_ask_to_run(rt: HostRuntime) {
 }
 
 #[test]
-fn the_book_is_in_memory_or_in_a_file(rt: HostRuntime) {
-    let line = ["bsp_office", "run", "--token", TOKEN];
-    assert!(rt; ask_for_book(&rt, &line, &BookSource::Memory));
-    let line = ["bsp_office", "run", "--token", TOKEN, "--db", "office.db"];
-    assert!(rt; ask_for_book(&rt, &line, &BookSource::File("office.db")));
-}
-
-#[test]
 fn one_token_is_given(rt: HostRuntime) {
-    let cases: [&[&str]; 5] = [
-        &["bsp_office", "run", "--token", TOKEN, "--db", "-"],
+    let cases: [&[&str]; 4] = [
         &["bsp_office", "run", "--token-file", "-"],
         &["bsp_office", "run", "--token", "short"],
         &["bsp_office", "run"],
