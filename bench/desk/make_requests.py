@@ -228,20 +228,25 @@ class Market:
         self.office("day", '{"day":"2024-02-01"}')
         self.post("mixed", "/office/ret", OFFICE, "late", [self.sale("240201")])
 
+    def ask_all(self, items):
+        """All requests of a market of so many items. Gives the sales that are posted one by one."""
+        self.open()
+        first = self.fill(items)
+        self.issue_memos()
+        self.office("day", '{"day":"2024-01-16"}')
+        self.office("close", '{"period":"24011"}', name="close")
+        self.ask_agents(first)
+        self.ask_reports()
+        ones = self.post_sales()
+        self.post_mixed(first, ones)
+        return ones
+
 
 def main():
     items, folder = int(sys.argv[1]), pathlib.Path(sys.argv[2])
     folder.mkdir()
     market = Market(folder)
-    market.open()
-    first = market.fill(items)
-    market.issue_memos()
-    market.office("day", '{"day":"2024-01-16"}')
-    market.office("close", '{"period":"24011"}', name="close")
-    market.ask_agents(first)
-    market.ask_reports()
-    ones = market.post_sales()
-    market.post_mixed(first, ones)
+    market.ask_all(items)
     (folder / "requests").write_text("\n".join(market.lines) + "\n")
 
 

@@ -29,8 +29,8 @@ pub enum Short {
 /// # Errors
 ///
 /// `Cut` where the input ends before the body does, `Read` where a read fails: the sink then has
-/// the bytes that came. `NoRoom` at once where the sink refuses a piece for want of memory: it
-/// then has what came before the piece, and the input is at the end of the piece.
+/// the bytes that came. `NoRoom` at once where the sink is out of memory for a piece. The sink then
+/// has what came before the piece, and the input is at the end of the piece.
 pub fn pass<R: Read, S: BodySink>(
     reader: &mut R,
     held: &[u8],

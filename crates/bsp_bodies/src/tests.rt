@@ -165,8 +165,8 @@ fn a_read_fault_is_told(rt: HostRuntime) {
     assert_eq!(rt; input.bytes, b"56".as_slice());
 }
 
-/// Of `..0123456789` 5 bytes are held, and the sink has room for so many: what is told, how many
-/// pieces the sink met, and how many bytes are unread.
+/// Of `..0123456789` 5 bytes are held, and the sink has room for so many: what is answered, how
+/// many pieces the sink met, and how many bytes are unread.
 fn told_by_narrow(room: usize) -> (Result<usize, Short>, usize, usize) {
     let mut sink = Narrow { room, pieces: 0 };
     let mut input = Input::of(b"3456789", 4);
@@ -237,12 +237,12 @@ fn counts(file: &RetFile<'_>) -> (usize, usize, i128) {
 
 type Told = Result<(usize, usize, i128), RetFault>;
 
-/// What is told of a text that is a whole.
+/// The answer for a text that is a whole.
 fn told_whole(rt: &HostRuntime, bytes: &[u8]) -> Told {
     Ok(counts(&read_ret(rt.alloc(), bytes)?))
 }
 
-/// What is told of a text that was passed on, `held` bytes of it at once and the others in chunks.
+/// The answer for a text that was passed on, `held` bytes of it at once and the others in chunks.
 fn told_in_pieces(ret: &mut RetBody, bytes: &[u8], held: usize, chunk: &mut [u8]) -> Option<Told> {
     if chunk.is_empty() || held > bytes.len() {
         return None;

@@ -24,8 +24,8 @@ use bsp_rules::{Item, Range};
 /// `roll_back` undoes it. A call that finds no room undoes what the open transaction wrote, and none is open
 /// then. From its first `Failed` on a book answers `Failed` to each call.
 ///
-/// A look-up by a key takes time that grows with the rows that it gives, and with the logarithm of the rows
-/// of the book; those that read more say so.
+/// A look-up by a key takes time that grows with the rows that it gives, and with the logarithm of
+/// the rows of the book. Those that read more say so.
 pub trait Book {
     ghost means: { Meaning Self Rows };
 
@@ -162,7 +162,8 @@ pub trait Book {
     fn bill(&mut self, key: MemoKey, period: PeriodCode) -> Result<(), BookFault>
         ensures { Makes means self.old self.new result (λ now. MayBeBilled (memo_at key now)) (with_billing key period) };
 
-    /// Publishes the entries of a text that are new. The answer is the plan's, and never want of memory.
+    /// Publishes the entries of a text that are new. The answer is the plan's, and never out of
+    /// memory.
     fn publish(&mut self, text: &PlanText) -> Result<Result<Change, PlanFault>, BookFault>
         ensures { Answers means self.old self.new result (request_answer (Publish text.now)) (after_request (Publish text.now)) };
 

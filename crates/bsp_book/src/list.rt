@@ -21,10 +21,10 @@ use std::alloc::Global;
 
 /// A book in memory. It never answers `Failed`.
 ///
-/// It keeps the tallies and indexes of the rows: ranges by their last numbers; items by their numbers, and by their
-/// airlines and periods; memos by their agents, the unbilled ones, and how many each airline has issued to each
-/// agent; tallies by their airlines and periods, and
-/// by their periods.
+/// It keeps the tallies and indexes of the rows. Ranges go by their last numbers. Items go by their
+/// numbers, and by their airlines and periods. Memos go by their agents, and the unbilled ones have
+/// an index too. So has the number of memos that each airline has issued to each agent. Tallies go
+/// by their airlines and periods, and by their periods.
 #[derive(Drop)]
 pub struct ListBook {
     alloc: Global,

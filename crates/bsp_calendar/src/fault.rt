@@ -4,8 +4,9 @@ ghost use Rattle.bsp_calendar.specs.Faults.{code_text};
 use std::alloc::{AllocError, AllocFailed};
 use thiserror::Error;
 
-/// Why a plan text or a request on the plan is refused, in the order in which faults are told: where
-/// several apply, the first of this list is told. Want of memory may be told in place of any other.
+/// Why a plan text or a request on the plan is refused, in the order in which faults are answered.
+/// Where several apply, the first of this list is answered. Out of memory may be answered in place
+/// of any other but a number out of its bounds.
 #[derive(Clone, Copy, Debug, PartialEq, Eq, Hash, Error)]
 pub enum PlanFault {
     /// The bytes are no TOML text.

@@ -4,9 +4,9 @@ ghost use Rattle.bsp_calendar.specs.History.{ClosedStays, HistoryHolds, SoundKep
 ghost use Rattle.bsp_calendar.specs.Published.{opening};
 ghost use Rattle.bsp_calendar.specs.SoundPlan.{IsSoundPlan};
 
-/// After any accepted requests, begun with a plan that meets the rules, the plan has the entries of
-/// the start and of all texts, each once, in the order of their first publication, the last day that
-/// was set, and the periods that were closed.
+/// What a plan has after any accepted requests, begun with a plan that meets the rules. It has the
+/// entries of the start and of all texts, each once, in the order of their first publication. It
+/// also has the last day that was set and the periods that were closed.
 pub fn published_history()
     ensures { HistoryHolds }
 {}

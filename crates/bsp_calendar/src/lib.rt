@@ -12,8 +12,6 @@ mod keys;
 mod listed;
 mod plan;
 mod reading;
-#[cfg(test)]
-mod samples;
 
 pub use currency::Currency;
 pub use entries::{Period, PlanText, Rate, Terms};

@@ -7,8 +7,6 @@ mod answers;
 mod entries;
 mod periods;
 mod target;
-#[cfg(test)]
-mod tests;
 
 use crate::checks::{
     are_in_order, are_within_bounds, differ_in_terms, has_late_rate, has_none_beyond, have_airlines,
@@ -101,9 +99,10 @@ impl Plan {
     ///
     /// # Errors
     ///
-    /// The first of `WrongKey` (a value out of its bounds, or a rate of an airline that neither the
-    /// plan nor the text has), `Differs`, `OutOfOrder` and `LateRate` that applies, or `NoMemory`, but
-    /// not in place of a value out of its bounds. The plan is then as it was.
+    /// The first of `WrongKey`, `Differs`, `OutOfOrder` and `LateRate` that applies, or `NoMemory`.
+    /// `WrongKey` is for a value out of its bounds, or a rate of an airline that neither the plan
+    /// nor the text has. `NoMemory` is not answered in place of a value out of its bounds. The plan
+    /// is then as it was.
     pub fn extend(&mut self, text: &PlanText) -> Result<Change, PlanFault>
         ensures answers { AnswersOrLacksMemory (extended self.old text.now) (holds_already self.old text.now) self.old result self.new }
         ensures bounds { are_within_bounds text.now ≡ false → result ≡ Err PlanFault.WrongKey }

@@ -6,8 +6,6 @@ ghost use Rattle.bsp_calendar.specs.PlanDocument.{Reads, document_of, plan_data,
 mod entries;
 mod lists;
 mod tables;
-#[cfg(test)]
-mod tests;
 mod values;
 
 use crate::entries::{PlanText, Terms};
@@ -84,7 +82,7 @@ fn document_of(alloc: Global, text: &[u8]) -> Result<Table, PlanFault>
 /// # Errors
 ///
 /// `NotToml` where the bytes are not UTF-8 or no TOML text; else `WrongKey` where a key is missing,
-/// unknown or has a wrong value; `NoMemory` where an allocation was refused.
+/// unknown or has a wrong value. `NoMemory` where an allocation was refused.
 pub fn read_plan(alloc: Global, text: &[u8]) -> Result<PlanText, PlanFault>
     ensures { Reads (plan_reading text.now) plan_data result }
 {

@@ -1,5 +1,6 @@
 pub mod AgentWrites
 pub mod AirlineTokenWrites
 pub mod Back
+pub mod Orders
 pub mod RangeWrites
 pub mod Texts

@@ -1,15 +1,16 @@
 //! The table of agents.
 
 ghost use Rattle.std.specs.Prelude.{◌≡◌, ℕ, List, map, None, false, OnOk, OnErr, IfOk, IsPermutation};
-ghost use Rattle.std.specs.FinMap.{get};
+ghost use Rattle.std.specs.FinMap.{get, entries};
 ghost use Rattle.sqlite.specs.Held.{state};
 ghost use Rattle.sqlite.specs.State.{HasCleanDisk};
 ghost use Rattle.sqlite.specs.Values.{bound};
-ghost use Rattle.bsp_tables.specs.Kept.{Stands, Falls, IsInside, Reads, columns_of};
+ghost use Rattle.bsp_tables.specs.Kept.{Stands, Falls, IsInside, Reads, columns_of, KeepsRows, Spares};
 ghost use Rattle.bsp_schema.specs.Schema.{our_schema};
 ghost use Rattle.bsp_columns.specs.Columns.{agent_row};
 ghost use Rattle.bsp_content.specs.Content.{Content, form};
 ghost use Rattle.bsp_caller_tables.specs.Callers.{agent_texts, without_agent, and_agent, with_agent};
+ghost use Rattle.bsp_content.specs.Forms.{IsFormed};
 
 use bsp_columns::agent_digits;
 use bsp_fields::{AgentCode, Token};
@@ -98,6 +99,8 @@ pub fn all_agents<S: Alter>(conn: &mut Connection<S>) -> Result<Vec<Row>, Error>
     ensures rows { HasCleanDisk (state S.Store conn.new) → IfOk result (λ found. (state S.Store conn.old).now.schema ≡ our_schema → IsPermutation (map (columns_of 2) ((state S.Store conn.old).now.trees 8)) found.items) }
     ensures read { OnOk result (conn.old.schema ≡ our_schema → Reads S.Store conn.old conn.new) }
     ensures mode { conn.old.in_transaction ≡ false → conn.new.in_transaction ≡ false }
+    ensures order { HasCleanDisk (state S.Store conn.new) → IfOk result (λ found. (state S.Store conn.old).now.schema ≡ our_schema → (c : Content) → IsFormed c → KeepsRows form c (state S.Store conn.old).now.trees → found.items ≡ map agent_row (entries c.agents)) }
+    ensures spares { conn.old.schema ≡ our_schema → Spares S.Store conn.old conn.new }
 {
     conn.query_all("SELECT code, token FROM agent ORDER BY code", &[])
 }

@@ -1,15 +1,16 @@
 //! The table of airlines' tokens.
 
 ghost use Rattle.std.specs.Prelude.{◌≡◌, ℕ, List, map, None, false, OnOk, OnErr, IfOk, IsPermutation};
-ghost use Rattle.std.specs.FinMap.{get};
+ghost use Rattle.std.specs.FinMap.{get, entries};
 ghost use Rattle.sqlite.specs.Held.{state};
 ghost use Rattle.sqlite.specs.State.{HasCleanDisk};
 ghost use Rattle.sqlite.specs.Values.{bound};
-ghost use Rattle.bsp_tables.specs.Kept.{Stands, Falls, IsInside, Reads, columns_of};
+ghost use Rattle.bsp_tables.specs.Kept.{Stands, Falls, IsInside, Reads, columns_of, KeepsRows, Spares};
 ghost use Rattle.bsp_schema.specs.Schema.{our_schema};
 ghost use Rattle.bsp_columns.specs.Columns.{airline_token_row};
 ghost use Rattle.bsp_content.specs.Content.{Content, form};
 ghost use Rattle.bsp_caller_tables.specs.Callers.{airline_texts, without_airline, and_airline, with_airline};
+ghost use Rattle.bsp_content.specs.Forms.{IsFormed};
 
 use bsp_columns::airline_digits;
 use bsp_fields::{AirlineCode, Token};
@@ -104,6 +105,8 @@ pub fn all_airline_tokens<S: Alter>(conn: &mut Connection<S>) -> Result<Vec<Row>
     ensures rows { HasCleanDisk (state S.Store conn.new) → IfOk result (λ found. (state S.Store conn.old).now.schema ≡ our_schema → IsPermutation (map (columns_of 2) ((state S.Store conn.old).now.trees 10)) found.items) }
     ensures read { OnOk result (conn.old.schema ≡ our_schema → Reads S.Store conn.old conn.new) }
     ensures mode { conn.old.in_transaction ≡ false → conn.new.in_transaction ≡ false }
+    ensures order { HasCleanDisk (state S.Store conn.new) → IfOk result (λ found. (state S.Store conn.old).now.schema ≡ our_schema → (c : Content) → IsFormed c → KeepsRows form c (state S.Store conn.old).now.trees → found.items ≡ map airline_token_row (entries c.airlines)) }
+    ensures spares { conn.old.schema ≡ our_schema → Spares S.Store conn.old conn.new }
 {
     conn.query_all(
         "SELECT airline, token FROM airline_token ORDER BY airline",

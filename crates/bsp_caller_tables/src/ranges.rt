@@ -1,15 +1,16 @@
 //! The table of ranges of stock.
 
 ghost use Rattle.std.specs.Prelude.{◌≡◌, ℕ, List, map, None, false, OnOk, OnErr, IfOk, IsPermutation};
-ghost use Rattle.std.specs.FinMap.{get};
+ghost use Rattle.std.specs.FinMap.{get, entries};
 ghost use Rattle.sqlite.specs.Held.{state};
 ghost use Rattle.sqlite.specs.State.{HasCleanDisk};
 ghost use Rattle.sqlite.specs.Values.{bound};
-ghost use Rattle.bsp_tables.specs.Kept.{Stands, Falls, IsInside, Reads, columns_of};
+ghost use Rattle.bsp_tables.specs.Kept.{Stands, Falls, IsInside, Reads, columns_of, KeepsRows, Spares};
 ghost use Rattle.bsp_schema.specs.Schema.{our_schema};
 ghost use Rattle.bsp_columns.specs.Columns.{stock_row};
 ghost use Rattle.bsp_content.specs.Content.{Content, form};
 ghost use Rattle.bsp_caller_tables.specs.Callers.{range_texts, without_range, and_range, with_range};
+ghost use Rattle.bsp_content.specs.Forms.{IsFormed};
 
 use bsp_columns::{agent_digits, number_digits};
 use bsp_fields::DocNumber;
@@ -106,6 +107,8 @@ pub fn all_ranges<S: Alter>(conn: &mut Connection<S>) -> Result<Vec<Row>, Error>
     ensures rows { HasCleanDisk (state S.Store conn.new) → IfOk result (λ found. (state S.Store conn.old).now.schema ≡ our_schema → IsPermutation (map (columns_of 3) ((state S.Store conn.old).now.trees 12)) found.items) }
     ensures read { OnOk result (conn.old.schema ≡ our_schema → Reads S.Store conn.old conn.new) }
     ensures mode { conn.old.in_transaction ≡ false → conn.new.in_transaction ≡ false }
+    ensures order { HasCleanDisk (state S.Store conn.new) → IfOk result (λ found. (state S.Store conn.old).now.schema ≡ our_schema → (c : Content) → IsFormed c → KeepsRows form c (state S.Store conn.old).now.trees → found.items ≡ map stock_row (entries c.ranges)) }
+    ensures spares { conn.old.schema ≡ our_schema → Spares S.Store conn.old conn.new }
 {
     conn.query_all("SELECT agent, lo, hi FROM stock ORDER BY agent, lo", &[])
 }

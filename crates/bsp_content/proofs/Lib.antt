@@ -1,2 +1,4 @@
+pub mod Days
 pub mod Keys
+pub mod Orders
 pub mod Writes

@@ -1,2 +1,3 @@
 pub mod Content
 pub mod Contents
+pub mod Forms

@@ -12,8 +12,6 @@ mod responding;
 mod room;
 mod sending;
 mod service;
-#[cfg(test)]
-mod tests;
 mod turn;
 
 pub use connection::{MESSAGE_LIMIT, serve};

@@ -12,8 +12,6 @@ mod laws;
 mod office;
 mod request;
 mod serve;
-#[cfg(test)]
-mod tests;
 mod token;
 mod transaction;
 

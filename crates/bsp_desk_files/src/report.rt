@@ -41,7 +41,7 @@ fn report_file<B: Book>(
     Ok(Answer::Verdicts(verdicts))
 }
 
-/// A fault of a file is answered; want of memory, F10, ends the transaction.
+/// A fault of a file is answered; out of memory, F10, ends the transaction.
 fn report_fault<B: Book>(book: &mut B, fault: RetFault) -> Result<Answer, BookFault>
     requires { B.means.has_failed book.old ≡ false }
     ensures served { (who : Reporter) → ServesFile B.means book.old book.new result who (Err fault) }

@@ -10,8 +10,6 @@ mod actions;
 mod bodies;
 mod issues;
 mod shown;
-#[cfg(test)]
-mod tests;
 
 pub use actions::{agree, dispute, reduce, uphold, withdraw};
 pub use issues::issue;

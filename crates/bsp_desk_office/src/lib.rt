@@ -1,7 +1,7 @@
 //! The requests of the office but for RET files and the settlement: the plan, registrations, stock and closes.
 //!
-//! Each function reads the body of one request and serves it inside the open transaction of a book: it answers
-//! what `bsp_step` defines over the rows, and leaves the rows after that answer.
+//! Each function reads the body of one request and serves it inside the open transaction of a book.
+//! It answers what `bsp_step` defines over the rows, and leaves the rows after that answer.
 #![tactic(auto)]
 
 mod bodies;
@@ -9,8 +9,6 @@ mod callers;
 mod closes;
 mod plan;
 mod stock;
-#[cfg(test)]
-mod tests;
 
 pub use callers::{register_agent, register_airline};
 pub use closes::close;

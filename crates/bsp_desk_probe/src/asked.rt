@@ -45,7 +45,12 @@ impl Caller {
     }
 
     /// Posts a body to a path.
-    pub fn posts<'r>(self, path: &'static str, body: &'r [u8], wanted: &'static [u8]) -> Asked<'r> {
+    pub(crate) fn posts<'r>(
+        self,
+        path: &'static str,
+        body: &'r [u8],
+        wanted: &'static [u8],
+    ) -> Asked<'r> {
         Asked {
             token: self.token(),
             path,
@@ -55,14 +60,14 @@ impl Caller {
     }
 
     /// Gets what a path shows.
-    pub fn gets(self, path: &'static str, wanted: &'static [u8]) -> Asked<'static> {
+    pub(crate) fn gets(self, path: &'static str, wanted: &'static [u8]) -> Asked<'static> {
         self.posts(path, b"", wanted)
     }
 }
 
 impl<'r> Asked<'r> {
     /// The request.
-    pub fn request(&self, routes: &Routes) -> Request<'r> {
+    pub(crate) fn request(&self, routes: &Routes) -> Request<'r> {
         let method = if self.body.is_empty() {
             b"GET".as_slice()
         } else {

@@ -30,7 +30,7 @@ fn close(body: &'static [u8], wanted: &'static [u8]) -> Asked<'static> {
 }
 
 /// The requests, after those of the setup.
-pub fn requests() -> [Asked<'static>; 14] {
+pub(crate) fn requests() -> [Asked<'static>; 14] {
     [
         issue(FIRST),
         issue(SECOND),

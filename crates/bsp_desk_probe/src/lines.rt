@@ -35,7 +35,7 @@ fn push_record(text: &mut Vec<u8>, line: &[u8]) -> Result<(), AllocError> {
 }
 
 /// The text of these records.
-pub fn text(alloc: Global, lines: &[&[u8]]) -> Option<Vec<u8>> {
+pub(crate) fn text(alloc: Global, lines: &[&[u8]]) -> Option<Vec<u8>> {
     let mut text = Vec::with_capacity(alloc, 1024).ok()?;
     for line in lines {
         push_record(&mut text, line).ok()?;

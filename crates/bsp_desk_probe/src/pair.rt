@@ -24,7 +24,7 @@ pub struct Pair<B: Book> {
 }
 
 /// Opens a desk.
-pub fn open<B: Book + Drop>(alloc: Global, book: B) -> Option<Desk<B>> {
+pub(crate) fn open<B: Book + Drop>(alloc: Global, book: B) -> Option<Desk<B>> {
     Desk::open(alloc, book, Token::read(OFFICE)?).ok()
 }
 
@@ -44,7 +44,7 @@ fn last_reply<B: Book>(desk: &mut Desk<B>, request: &Request<'_>, room: &mut Roo
 
 impl<B: Book + Drop> Pair<B> {
     /// Two new desks of an example.
-    pub fn new(first: Desk<B>, second: Desk<B>, example: &'static str) -> Self {
+    pub(crate) fn new(first: Desk<B>, second: Desk<B>, example: &'static str) -> Self {
         Pair {
             first,
             second,
@@ -55,12 +55,16 @@ impl<B: Book + Drop> Pair<B> {
     }
 
     /// Whether a reply was 503 B01.
-    pub fn room(&self) -> Room {
+    pub(crate) fn room(&self) -> Room {
         self.room
     }
 
     /// Asks both desks each request.
-    pub fn ask_all(&mut self, routes: &Routes, requests: &[Asked<'_>]) -> Result<(), Mistake> {
+    pub(crate) fn ask_all(
+        &mut self,
+        routes: &Routes,
+        requests: &[Asked<'_>],
+    ) -> Result<(), Mistake> {
         for asked in requests {
             self.number = self.number.saturating_add(1);
             self.ask(routes, asked)?;
@@ -69,7 +73,7 @@ impl<B: Book + Drop> Pair<B> {
     }
 
     /// Compares all that the desks show.
-    pub fn compare_reports(&mut self, routes: &Routes) -> Result<(), Mistake> {
+    pub(crate) fn compare_reports(&mut self, routes: &Routes) -> Result<(), Mistake> {
         self.compare(routes, &reports::of_office())?;
         self.compare(routes, &reports::of_agents())?;
         self.compare(routes, &reports::of_airlines())

@@ -3,7 +3,7 @@
 use crate::asked::{Asked, Caller};
 
 /// What the office is shown.
-pub fn of_office() -> [Asked<'static>; 2] {
+pub(crate) fn of_office() -> [Asked<'static>; 2] {
     [
         Caller::Office.gets("/office/settlement/24011", b""),
         Caller::Office.gets("/office/settlement/24012", b""),
@@ -11,7 +11,7 @@ pub fn of_office() -> [Asked<'static>; 2] {
 }
 
 /// What the agents are shown.
-pub fn of_agents() -> [Asked<'static>; 14] {
+pub(crate) fn of_agents() -> [Asked<'static>; 14] {
     let (a, b) = (Caller::AgentA, Caller::AgentB);
     [
         a.gets("/agents/12345675/statements/24011", b""),
@@ -32,7 +32,7 @@ pub fn of_agents() -> [Asked<'static>; 14] {
 }
 
 /// What the airlines are shown.
-pub fn of_airlines() -> [Asked<'static>; 6] {
+pub(crate) fn of_airlines() -> [Asked<'static>; 6] {
     [
         Caller::Airline125.gets("/airlines/125/hot/24011", b""),
         Caller::Airline125.gets("/airlines/125/hot/24012", b""),

@@ -41,7 +41,7 @@ fn report(sale: &[u8]) -> Asked<'_> {
 }
 
 /// The requests, after those of the setup.
-pub fn requests<'r>(sale: &'r [u8], card_sale: &'r [u8]) -> [Asked<'r>; 12] {
+pub(crate) fn requests<'r>(sale: &'r [u8], card_sale: &'r [u8]) -> [Asked<'r>; 12] {
     [
         report(sale),
         report(card_sale),

@@ -40,12 +40,12 @@ const RANGE_OF_A: &[u8] = br#"{"agent":"12345675","first":"1300000000","last":"1
 pub const RANGE_OF_B: &[u8] = br#"{"agent":"76543213","first":"1400000000","last":"1400000099"}"#;
 
 /// Sets the business day.
-pub fn day(body: &'static [u8]) -> Asked<'static> {
+pub(crate) fn day(body: &'static [u8]) -> Asked<'static> {
     Caller::Office.posts("/office/day", body, DONE)
 }
 
 /// The plan, the day, two agents with a range each, and two airlines.
-pub fn requests() -> [Asked<'static>; 8] {
+pub(crate) fn requests() -> [Asked<'static>; 8] {
     [
         Caller::Office.posts("/office/plan", PLAN, DONE),
         day(br#"{"day":"2024-01-05"}"#),

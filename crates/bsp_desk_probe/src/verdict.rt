@@ -18,7 +18,7 @@ pub enum Room {
 
 impl Room {
     /// Whether a reply of either was 503 B01.
-    pub fn and(self, other: Room) -> Room
+    pub(crate) fn and(self, other: Room) -> Room
         ensures { result ≡ room_of_both self other }
     {
         match self {
@@ -41,7 +41,7 @@ pub struct Mistake {
 
 impl Mistake {
     /// A mistake before the first request.
-    pub fn before(example: &'static str) -> Mistake
+    pub(crate) fn before(example: &'static str) -> Mistake
         ensures named { result.example.now ≡ example.now }
         ensures place { result.number ≡ 0 }
     {
@@ -54,7 +54,7 @@ impl Mistake {
 }
 
 /// Whether a reply is 503 B01.
-pub fn is_no_room(reply: &Reply) -> bool
+pub(crate) fn is_no_room(reply: &Reply) -> bool
     ensures { Decides result (read_of reply.now ≡ no_room) }
 {
     reply.status == Status::ServiceUnavailable
@@ -63,7 +63,7 @@ pub fn is_no_room(reply: &Reply) -> bool
 }
 
 /// Whether two replies have the same status, media type and bytes.
-pub fn are_same(reply: &Reply, other: &Reply) -> bool
+pub(crate) fn are_same(reply: &Reply, other: &Reply) -> bool
     ensures { Decides result (read_of reply.now ≡ read_of other.now) }
 {
     reply.status == other.status
@@ -71,9 +71,9 @@ pub fn are_same(reply: &Reply, other: &Reply) -> bool
         && reply.body.as_bytes() == other.body.as_bytes()
 }
 
-/// The status that the program ends with: 0 where each reply was that of ample memory at once, 2 where one was
-/// 503 B01 before, and 1 after a mistake.
-pub fn status(played: &Result<Room, Mistake>) -> u8
+/// The status that the program ends with. It is 0 where each reply was that of ample memory at
+/// once, 2 where one was 503 B01 before, and 1 after a mistake.
+pub(crate) fn status(played: &Result<Room, Mistake>) -> u8
     ensures { result ≡ status_of played.now }
 {
     match played {

@@ -15,7 +15,7 @@ fn withdraw(range: &'static [u8], wanted: &'static [u8]) -> Asked<'static> {
 }
 
 /// The requests, after those of the setup.
-pub fn requests(sale: &[u8]) -> [Asked<'_>; 5] {
+pub(crate) fn requests(sale: &[u8]) -> [Asked<'_>; 5] {
     [
         Caller::Office.posts("/office/stock/allot", MEETING, br#"{"code":"K03"}"#),
         Caller::Office.posts(

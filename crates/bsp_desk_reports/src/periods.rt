@@ -63,8 +63,8 @@ fn shown_over(period: PeriodCode, closed: bool, tallies: &[Tally]) -> PeriodShow
     }
 }
 
-/// Shows a period of an agent: whether it is closed, how many living TKTT and RFND the agent has in it, and what
-/// the agent owes for it, billed memos included.
+/// Shows a period of an agent: whether it is closed, and how many living TKTT and RFND the agent
+/// has in it. It also shows what the agent owes for it, billed memos included.
 ///
 /// The answer is S01 where the period is unknown. The rows stay as they are.
 ///

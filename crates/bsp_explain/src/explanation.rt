@@ -17,8 +17,8 @@ use bsp_records::first_line;
 use bsp_ret::RetFault;
 use std::fmt;
 
-/// What is wrong with a record of a file. It is displayed as `record 3, columns 32-44: tax place 2 has a
-/// code that is not above the one before it`; in a HOT file the record's name follows its
+/// What is wrong with a record of a file. It is displayed as `record 3, columns 32-33: tax place 2
+/// has a code that is not above the one before it`. In a HOT file the record's name follows its
 /// number.
 #[derive(Clone, Copy)]
 pub struct Explanation {
@@ -115,30 +115,22 @@ pub fn explain_hot(text: &[u8], fault: RecordFault) -> Explanation
     }
 }
 
-/// The text of a name, as `BKS24`.
-fn name_text(name: RecordName) -> &'static str {
-    match name {
-        RecordName::Bfh01 => "BFH01",
-        RecordName::Bch02 => "BCH02",
-        RecordName::Boh03 => "BOH03",
-        RecordName::Bkt06 => "BKT06",
-        RecordName::Bks24 => "BKS24",
-        RecordName::Bks30 => "BKS30",
-        RecordName::Bks39 => "BKS39",
-        RecordName::Bks45 => "BKS45",
-        RecordName::Bkp84 => "BKP84",
-        RecordName::Bot93 => "BOT93",
-        RecordName::Bot94 => "BOT94",
-        RecordName::Bct95 => "BCT95",
-        RecordName::Bft99 => "BFT99",
+/// Writes the letters and the digits of a name, as `BKS24`.
+fn write_name<W: fmt::Write>(f: &mut fmt::Formatter<W>, name: RecordName) -> fmt::Result {
+    let (letters, digits) = (name.letters(), name.digits());
+    for character in letters.iter().chain(&digits) {
+        f.write_char(char::from(*character))?;
     }
+    Ok(())
 }
 
 impl fmt::Display for Explanation {
     fn fmt<W: fmt::Write>(&self, f: &mut fmt::Formatter<W>) -> fmt::Result {
         write!(f, "record {}", self.record)?;
         if let Some(name) = self.name {
-            write!(f, " ({})", name_text(name))?;
+            f.write_str(" (")?;
+            write_name(f, name)?;
+            f.write_str(")")?;
         }
         match self.reason.columns() {
             Some((first, last)) if first == last => write!(f, ", column {first}")?,

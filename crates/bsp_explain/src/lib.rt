@@ -14,8 +14,6 @@ mod reason;
 mod ret_fields;
 mod ret_reasons;
 mod taxes;
-#[cfg(test)]
-mod tests;
 mod width;
 
 pub use before::Before;

@@ -47,8 +47,8 @@ impl Amount {
 }
 
 /// Reads an amount of 11 characters (DISH signed zoned decimal): ten digits and a last character
-/// that carries a digit and the sign, `{` and `A` to `I` for plus, `}` and `J` to `R` for minus. A
-/// last digit `0` to `9` is taken as plus, and minus zero as zero.
+/// that carries a digit and the sign. The sign is plus for `{` and `A` to `I`, minus for `}` and
+/// `J` to `R`. A last digit `0` to `9` is taken as plus, and minus zero as zero.
 ///
 /// # Errors
 ///
@@ -60,7 +60,7 @@ pub fn read_amount(text: &[u8]) -> Result<Amount, FieldFault>
     Ok(Amount { units })
 }
 
-/// Writes an amount in its one spelling of 11 characters (DISH signed zoned decimal): it ends in
+/// Writes an amount in its one spelling of 11 characters (DISH signed zoned decimal). It ends in
 /// `{` or `A` to `I` for zero and above, and in `}` or `J` to `R` below zero.
 pub fn write_amount(amount: Amount) -> [u8; 11]
     ensures text { result ≡ spelling 11 amount }

@@ -38,7 +38,7 @@ impl Model for DocNumber {
 }
 
 impl DocNumber {
-    /// Reads ten digits, beside the value 0 to 9 of the check digit that stands with them.
+    /// Reads ten digits, beside the value 0 to 9 of the check digit that comes with them.
     ///
     /// # Errors
     ///

@@ -1,7 +1,7 @@
 use thiserror::Error;
 
 /// Why characters are no field, in the order in which a reader looks: where several faults are
-/// there, the first of this list is told.
+/// there, the first of this list is answered.
 #[derive(Clone, Copy, Debug, PartialEq, Eq, Hash, Error)]
 pub enum FieldFault {
     /// The text has another number of characters than the field.

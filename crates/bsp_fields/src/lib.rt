@@ -1,8 +1,8 @@
 //! The fields of a billing and settlement plan's records: amounts, document numbers, codes, days
-//! and money, each read from its characters to a value or to its first fault, and written in one
+//! and money. Each is read from its characters to a value or to its first fault, and written in one
 //! spelling.
 //!
-//! A reader answers a value exactly where the definition of `specs/` has one, and otherwise the
+//! A reader answers a value if and only if the definition of `specs/` has one, and otherwise the
 //! first fault in the order of [`FieldFault`]. Only [`write_money`] takes memory.
 #![tactic(auto)]
 
@@ -14,8 +14,6 @@ mod digits;
 mod document_number;
 mod fault;
 mod money;
-#[cfg(test)]
-mod tests;
 mod token;
 mod total;
 mod zoned;

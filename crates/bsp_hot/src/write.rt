@@ -85,8 +85,9 @@ fn write_over<'a>(
     write_file(Output::with_room(alloc, room), &file, &rows)
 }
 
-/// The HOT file of an airline for a closed period, over the airline's rows among those handed in, in
-/// any order: its living TKTT and RFND of the period, its CANX of the period, and its memos billed in it.
+/// The HOT file of an airline for a closed period, over the airline's rows among those passed, in
+/// any order. The rows are its living TKTT and RFND of the period, its CANX of the period, and its
+/// memos billed in it.
 ///
 /// Each record has 136 characters and ends by LF (DISH handbook, BSP data interchange). Its records and
 /// their columns are those of docs/FORMATS.md, HOT. Amounts are in minor units.
@@ -114,8 +115,8 @@ pub fn write_hot<'a>(
     write_over(alloc, 0, airline, period, items, memos, plan)
 }
 
-/// About as many bytes as the file of these tallies has: six records for each TKTT and RFND, two for
-/// each CANX, four for each memo, seven more for each agent, and four.
+/// About as many bytes as the file of these tallies has. It has six records for each TKTT and RFND,
+/// two for each CANX, four for each memo, seven more for each agent, and four.
 fn room_for(airline: AirlineCode, period: PeriodCode, tallies: &[Tally]) -> usize {
     let mut records = 4_usize;
     for tally in tallies {

@@ -10,7 +10,7 @@ ghost use Rattle.bsp_hot_check.specs.Checked.{HasTotals};
 use crate::model::{HotTotals, RecordFault, Standing};
 use bsp_records::first_record;
 
-/// How the lines stand, or the number of the first that those before do not allow.
+/// The state after the lines, or the number of the first that those before do not allow.
 fn judge(bytes: &[u8]) -> Result<Standing, usize>
     ensures judged { result ≡ judge_from start (lines bytes.now) }
     ensures small { IfOk result (λ standing. IsSmall standing × (standing.records ≤ length bytes.now)) }
@@ -54,7 +54,7 @@ pub fn check_hot(bytes: &[u8]) -> Result<HotTotals, RecordFault>
     }
 }
 
-/// Some record is at fault exactly where no file has the lines, one record at most is the first at
+/// Some record is at fault if and only if no file has the lines. One record at most is the first at
 /// fault, and files of the same lines have the same totals.
 pub fn hot_or_fault()
     ensures { (lines : List (List ℕ)) → HotOrFault lines }

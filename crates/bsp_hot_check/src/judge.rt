@@ -1,4 +1,4 @@
-//! Each record behind those before it: whether they allow it, and how they stand with it.
+//! Each record after those before it: whether they allow it, and the state with it.
 
 ghost use Rattle.std.specs.Prelude.{◌≡◌, ◌<◌, ◌^◌, length, true, false, Some, None};
 ghost use Rattle.bsp_records.specs.Columns.{is_wide};
@@ -308,7 +308,7 @@ impl Standing {
     }
 
     /// Takes one more line of a record's width, where it is a record that those before allow, and
-    /// answers whether it is. After a refusal the lines stand as no file's do.
+    /// answers whether it is. After a refusal the state is that of no file.
     pub(crate) fn take_line(&mut self, line: &[u8]) -> bool
         requires wide { is_wide line.now ≡ true }
         requires long { length line.now ≡ 136 }

@@ -1,5 +1,5 @@
-//! HOT files, by which the office reports an airline's documents of one period to it: judged exactly
-//! by their definition, to their totals or to the first record at fault.
+//! HOT files, by which the office reports an airline's documents of one period to it. They are
+//! judged exactly by their definition, to their totals or to the first record at fault.
 #![tactic(auto)]
 
 mod check;
@@ -8,8 +8,6 @@ mod model;
 mod places;
 mod standing;
 mod sums;
-#[cfg(test)]
-mod tests;
 
 pub use bsp_hot_records::{DocumentCode, RecordName, Sums};
 pub use check::{check_hot, hot_or_fault};

@@ -1,4 +1,4 @@
-//! How the records before a place stand.
+//! The state of the records before a place.
 
 use bsp_fields::DocNumber;
 use bsp_hot_records::{AgentDigits, DocumentCode, Heading, Sums};
@@ -88,7 +88,7 @@ pub struct DocumentKey {
     pub number: DocNumber,
 }
 
-/// What stands of the office so far: its sums by code and in all, and its last document.
+/// What there is of the office so far: its sums by code and in all, and its last document.
 #[derive(Clone, Copy)]
 pub struct OfficeSums {
     pub codes: CodeSums,
@@ -96,9 +96,10 @@ pub struct OfficeSums {
     pub latest: Option<DocumentKey>,
 }
 
-/// How the records before a place stand: how many they are, the place, the heading where BFH01 is
-/// among them, the number of complete offices, of transactions, the sums of all documents, the last office's agent, and what
-/// stands of an office that is not complete.
+/// The state of the records before a place. It has how many they are, the place, the heading where
+/// BFH01 is among them, and the numbers of complete offices and of transactions. It also has the
+/// sums of all documents, the last office's agent, and what there is of an office that is not
+/// complete.
 #[derive(Clone, Copy)]
 pub struct Standing {
     pub records: usize,

@@ -1,4 +1,4 @@
-//! What may stand behind what.
+//! What may follow what.
 
 ghost use Rattle.std.specs.Prelude.{◌≡◌, IfSome, IfNone};
 ghost use Rattle.std.specs.List.{find};
@@ -153,21 +153,21 @@ impl Place {
 }
 
 impl CodeSums {
-    /// Whether a document of the code stands.
+    /// Whether there is a document of the code.
     fn stands_in(self, code: DocumentCode) -> bool
         ensures { result ≡ stands_in self code }
     {
         self.of(code).documents > 0
     }
 
-    /// The first of the codes of which a document stands.
+    /// The first of the codes that have a document.
     fn first_of<'a>(self, codes: &'a [DocumentCode]) -> Option<&'a DocumentCode>
         ensures { option_copied result ≡ find (stands_in self) codes.now }
     {
         codes.iter().find(|code| self.stands_in(**code))
     }
 
-    /// The code whose BOT93 comes next: the first with a document whose BOT93 does not stand yet.
+    /// The code whose BOT93 comes next: the first with a document whose BOT93 is not there yet.
     pub(crate) fn next_code(self, place: Place) -> Option<DocumentCode>
         ensures { result ≡ next_code self place }
     {

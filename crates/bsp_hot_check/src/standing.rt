@@ -1,4 +1,4 @@
-//! How the records before a place stand, and how they stand with one more.
+//! The state of the records before a place, and the state with one more.
 
 ghost use Rattle.std.specs.Prelude.{◌≡◌, ◌<◌, ◌^◌};
 ghost use Rattle.bsp_hot_records.specs.Sums.{AreSmall};
@@ -8,7 +8,7 @@ use crate::model::{HotTotals, OfficeSums, Place, Progress, Standing};
 use bsp_hot_records::Sums;
 
 impl Standing {
-    /// How no records stand.
+    /// The state before any record.
     pub(crate) fn start() -> Standing
         ensures { result ≡ start }
     {
@@ -48,7 +48,7 @@ impl Standing {
         self.office.codes.add(progress.code, sums);
     }
 
-    /// The totals of a file that stands so.
+    /// The totals of a file in this state.
     pub(crate) fn totals(self) -> HotTotals
         requires room { self.records < 2 ^ 63 }
         requires small { IsSmall self }

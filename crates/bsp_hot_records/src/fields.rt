@@ -40,7 +40,7 @@ pub(crate) fn form_fits(form: &[u8], vendor: &[u8]) -> bool
     }
 }
 
-/// The six tax places, which stand as in record 5 of a RET file, 14 columns further on.
+/// The six tax places, which lie as in record 5 of a RET file, 14 columns further on.
 #[tactic(auto, unfolding(crate::specs::Records::tax_places_fit))]
 #[inline]
 pub(crate) fn tax_places_fit(line: &[u8]) -> bool

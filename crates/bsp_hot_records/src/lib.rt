@@ -1,5 +1,5 @@
 //! The records of a HOT file, by which the office reports an airline's documents of one period to
-//! it: their names and codes, and what each says, by its columns.
+//! it. Here are their names and codes, and what each says, by its columns.
 #![tactic(auto)]
 
 mod agent;
@@ -9,8 +9,6 @@ mod model;
 mod name;
 mod reading;
 mod records;
-#[cfg(test)]
-mod tests;
 mod totals;
 
 pub use agent::AgentDigits;

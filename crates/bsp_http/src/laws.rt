@@ -10,9 +10,9 @@ pub fn messages_are_read()
     ensures { EachMessageIsRead }
 {}
 
-/// What a connection asks of a desk is a run of requests, one behind the other: however the messages are read, what
-/// their replies send is a run of `bsp_step` from sound rows. So an agent's replies depend on its own items alone, and
-/// an airline's on those bearing its code, a 503 apart.
+/// What a connection asks of a desk is a run of requests, one after the other. However the messages
+/// are read, what their replies send is a run of `bsp_step` from sound rows. So an agent's replies
+/// depend on its own items alone, and an airline's on those bearing its code, a 503 apart.
 pub fn messages_are_run<B: Book>()
     ensures { MessagesRun B.means }
 {}

@@ -9,8 +9,6 @@ mod connection;
 mod laws;
 mod office;
 mod replies;
-#[cfg(test)]
-mod tests;
 
 pub use bsp_conversation::{End, ServeFault, Served};
 pub use bsp_routes::Routes;

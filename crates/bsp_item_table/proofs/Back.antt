@@ -1,5 +1,5 @@
 -- What is read back of an item's row is the item.
-use Rattle.std.proofs.Common.{[], ◌∷◌, ◌++◌, ◌==◌, ◌+◌, ◌≤◌, ◌*◌, ◌&&◌, not, false, ℤ, is_none, length-append, arith, ◌≡◌, ℕ, ◌<◌, ◌^◌, ◌%◌, ◌/◌, List, length, map, Bool, true, Some, None, Option, Ok, refl, sym, ap, ◌∙◌, subst}
+use Rattle.std.proofs.Common.{[], ◌∷◌, ◌++◌, ◌==◌, ◌≤◌, ◌*◌, ◌&&◌, not, false, ℤ, is_none, length-append, arith, ◌≡◌, ℕ, ◌<◌, ◌^◌, ◌%◌, ◌/◌, List, length, map, Bool, true, Some, None, Option, Ok, refl, sym, ap, ◌∙◌, subst}
 use Rattle.std.specs.Prelude.{IfSome, unsigned_abs, nat_lt, nat_le, slice_index, slice_index_or}
 use Rattle.std.specs.List.{concat, list_all}
 use Rattle.std.specs.Result.{result_ok}

@@ -1,6 +1,6 @@
 pub mod Back
 pub mod Calls
-pub mod Days
+pub mod Orders
 pub mod Statements
 pub mod Texts
 pub mod Written

@@ -4,8 +4,6 @@
 mod columns;
 mod reading;
 mod row;
-#[cfg(test)]
-mod tests;
 mod writing;
 
 pub use reading::{all_items, read_item};

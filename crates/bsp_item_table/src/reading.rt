@@ -8,8 +8,12 @@ ghost use Rattle.sqlite_value.specs.declared.value.Value.TheVariants.{Int};
 ghost use Rattle.bsp_fields.specs.CivilDay.{CivilDay, is_day};
 ghost use Rattle.bsp_fields.specs.Days.{day_number};
 ghost use Rattle.bsp_schema.specs.Schema.{our_schema};
-ghost use Rattle.bsp_tables.specs.Kept.{Reads, columns_of};
+ghost use Rattle.bsp_tables.specs.Kept.{Reads, columns_of, KeepsRows, Spares};
 ghost use Rattle.bsp_item_table.specs.Reading.{amount_in, amounts_in, card_in, document_in, entry_in, if_there, item_in, key_in, related_in, transaction_in};
+ghost use Rattle.std.specs.FinMap.{entries};
+ghost use Rattle.bsp_content.specs.Content.{Content, form};
+ghost use Rattle.bsp_content.specs.Forms.{IsFormed};
+ghost use Rattle.bsp_columns.specs.Columns.{item_row};
 
 use crate::columns::{
     is_null, read_agent, read_airline, read_amount, read_byte, read_day, read_flag, read_kind,
@@ -30,6 +34,8 @@ pub fn all_items<S: Alter>(conn: &mut Connection<S>) -> Result<Vec<Row>, Error>
     ensures rows { HasCleanDisk (state S.Store conn.new) → IfOk result (λ found. (state S.Store conn.old).now.schema ≡ our_schema → IsPermutation (map (columns_of 21) ((state S.Store conn.old).now.trees 14)) found.items) }
     ensures read { OnOk result (conn.old.schema ≡ our_schema → Reads S.Store conn.old conn.new) }
     ensures mode { conn.old.in_transaction ≡ false → conn.new.in_transaction ≡ false }
+    ensures order { HasCleanDisk (state S.Store conn.new) → IfOk result (λ found. (state S.Store conn.old).now.schema ≡ our_schema → (c : Content) → IsFormed c → KeepsRows form c (state S.Store conn.old).now.trees → found.items ≡ map item_row (entries c.items)) }
+    ensures spares { conn.old.schema ≡ our_schema → Spares S.Store conn.old conn.new }
 {
     conn.query_all(
         "SELECT agent, number, canx, check_digit, airline, code, issued, period, alive, name, fare, taxes, \

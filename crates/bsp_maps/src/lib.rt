@@ -13,8 +13,6 @@ mod picks;
 mod present;
 mod rules;
 mod spans;
-#[cfg(test)]
-mod tests;
 mod windows;
 
 pub use counts::are_within;

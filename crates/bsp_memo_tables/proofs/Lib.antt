@@ -1,3 +1,5 @@
+pub mod Back
+pub mod Orders
 pub mod TallyTable
 pub mod MemoTable
 pub mod OtherTexts

@@ -1,7 +1,7 @@
 -- The table of the memos.
-use Rattle.std.proofs.Common.{◌≡◌, ◌≢◌, ℕ, List, [], ◌∷◌, codes, map, filter, not, ◌&&◌, false, Option, Some, None, Ok, Err, Result, OnOk, OnErr, refl, ap, ap₂, ◌∙◌, subst, IsPermutation, nat_cmp}
+use Rattle.std.proofs.Common.{◌≡◌, ℕ, List, [], ◌∷◌, codes, map, false, Option, Some, None, Ok, refl, ap₂, nat_cmp}
 use Rattle.std.specs.List.{range_with_len}
-use Rattle.std.specs.Ordering.{eq_by_cmp, ordering_then}
+use Rattle.std.specs.Ordering.{eq_by_cmp}
 use Rattle.std.specs.FinMap.{get, insert, remove, entries}
 use Rattle.std.specs.Prelude.{option_map}
 use Rattle.sqlite.specs.Values.{or_null}
@@ -17,20 +17,19 @@ use Rattle.sqlite_schema.specs.declared.command.Source.TheVariants.{Values}
 use Rattle.sqlite_schema.specs.declared.command.Command.TheVariants.{Insert, Delete, Select}
 use Rattle.sqlite_schema.specs.declared.schema.Column.{Column}
 use Rattle.sqlite_tied.specs.Compute.{everything}
-use Rattle.sqlite.specs.declared.error.Error.{Error}
 use Rattle.sqlite.specs.Listing.{understood, reads_listing}
 use Rattle.sqlite.specs.State.{State, Executes}
 use Rattle.sqlite.specs.Held.{Held, state}
 use Rattle.sqlite.proofs.Callers.{IsPlain, command_of}
 use Rattle.std.specs.List.{list_all}
-use Rattle.bsp_tables.specs.Kept.{Keeps, Stands, IsInside}
+use Rattle.bsp_tables.specs.Kept.{Keeps}
 use Rattle.bsp_tables.specs.Simple.{simple}
 use Rattle.bsp_tables.specs.Synced.{with_value}
 use Rattle.bsp_tables.proofs.Writing.{inserts, deletes}
 use Rattle.bsp_tables.proofs.Parts.{wrote}
-use Rattle.bsp_tables.proofs.Held.{writes, fallen_from}
-use Rattle.bsp_tables.proofs.Syncing.{rows_added, rows_removed, put_again, gone}
-use Rattle.bsp_tables.proofs.Values.{cast_int, cast_maybe_text, cast_null, cast_same, same_text, and_true}
+use Rattle.bsp_tables.proofs.Held.{writes}
+use Rattle.bsp_tables.proofs.Syncing.{rows_added, rows_removed}
+use Rattle.bsp_tables.proofs.Values.{cast_int, cast_maybe_text, cast_null, cast_same}
 use Rattle.bsp_schema.specs.Schema.{our_schema, memo_table, memo_columns}
 use Rattle.bsp_columns.specs.Columns.{airline_text, number_text, period_text, code_digits, memo_row}
 use Rattle.bsp_content.specs.Content.{Content, form}

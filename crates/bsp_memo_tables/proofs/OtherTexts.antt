@@ -1,5 +1,5 @@
 -- A text that is no UTF-8 is no word of a memo.
-use Rattle.std.proofs.Common.{◌≡◌, ℕ, List, codes, Bool, true, false, None, refl, sym, ◌∙◌, subst, nat_cmp, is_eq}
+use Rattle.std.proofs.Common.{◌≡◌, ℕ, List, codes, Bool, true, false, None, refl, sym, ◌∙◌, subst, nat_cmp}
 use Rattle.std.specs.Str.{IsUtf8, bytes_eq}
 use Rattle.std.specs.Cmp.{Equal-is}
 use Rattle.std.specs.Cmp.Lexicographic.{slice_cmp}

@@ -63,7 +63,7 @@ reason_in _ = None
 
 -- the day with this number, and none where no day has it
 abbrev pub IsDayIn : Value → Option CivilDay → Type 0
-IsDayIn v (Some d) = Int (day_number d) ≡ v
+IsDayIn v (Some d) = (Int (day_number d) ≡ v) × IsTrue (is_day d)
 IsDayIn v None = (d : CivilDay) → IsTrue (is_day d) → Int (day_number d) ≢ v
 
 abbrev pub is_null : Value → Bool

@@ -1,5 +1,5 @@
 -- What is written of a tally and of a memo, as a row of its table.
-use Rattle.std.specs.Prelude.{List, [], ◌∷◌}
+use Rattle.std.specs.Prelude.{[], ◌∷◌}
 use Rattle.sqlite_value.specs.declared.value.Value.TheVariants.{Int, Text}
 use Rattle.sqlite_value.specs.Order.{Row}
 use Rattle.bsp_columns.specs.Columns.{count}

@@ -9,8 +9,6 @@ mod memo_rows;
 mod memos;
 mod tallies;
 mod tally_rows;
-#[cfg(test)]
-mod tests;
 mod words;
 
 pub use memo_rows::read_memo;

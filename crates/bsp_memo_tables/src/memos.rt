@@ -1,5 +1,5 @@
 ghost use Rattle.std.specs.Prelude.{◌≡◌, false, map, None, OnOk, OnErr, IfOk, IsPermutation, List, ℕ, option_map};
-ghost use Rattle.std.specs.FinMap.{get, insert, remove};
+ghost use Rattle.std.specs.FinMap.{get, insert, remove, entries};
 ghost use Rattle.sqlite_value.specs.Value.{owned};
 ghost use Rattle.sqlite_value.specs.declared.value.Value.TheVariants.{Text};
 ghost use Rattle.sqlite.specs.Held.{state};
@@ -8,9 +8,10 @@ ghost use Rattle.sqlite.specs.Values.{bound, bound_value, or_null};
 ghost use Rattle.bsp_columns.specs.Columns.{code_digits, memo_row};
 ghost use Rattle.bsp_content.specs.Content.{Content, form};
 ghost use Rattle.bsp_schema.specs.Schema.{our_schema};
-ghost use Rattle.bsp_tables.specs.Kept.{Stands, Falls, IsInside, Reads, columns_of};
+ghost use Rattle.bsp_tables.specs.Kept.{Stands, Falls, IsInside, Reads, columns_of, KeepsRows, Spares};
 ghost use Rattle.bsp_tables.specs.Synced.{with_value};
 ghost use Rattle.bsp_memo_tables.specs.Written.{memo_written};
+ghost use Rattle.bsp_content.specs.Forms.{IsFormed};
 
 use bsp_columns::{agent_digits, airline_digits, number_digits, period_digits};
 use bsp_fields::PeriodCode;
@@ -151,6 +152,8 @@ pub fn all_memos<S: Alter>(conn: &mut Connection<S>) -> Result<Vec<Row>, Error>
     ensures rows { HasCleanDisk (state S.Store conn.new) → IfOk result (λ found. (state S.Store conn.old).now.schema ≡ our_schema → IsPermutation (map (columns_of 10) ((state S.Store conn.old).now.trees 16)) found.items) }
     ensures read { OnOk result (conn.old.schema ≡ our_schema → Reads S.Store conn.old conn.new) }
     ensures mode { conn.old.in_transaction ≡ false → conn.new.in_transaction ≡ false }
+    ensures order { HasCleanDisk (state S.Store conn.new) → IfOk result (λ found. (state S.Store conn.old).now.schema ≡ our_schema → (c : Content) → IsFormed c → KeepsRows form c (state S.Store conn.old).now.trees → found.items ≡ map memo_row (entries c.memos)) }
+    ensures spares { conn.old.schema ≡ our_schema → Spares S.Store conn.old conn.new }
 {
     conn.query_all(
         "SELECT airline, number, agent, kind, amount, first_amount, reason, issued, state, billed FROM memo \

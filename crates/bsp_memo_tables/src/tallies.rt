@@ -1,14 +1,15 @@
 ghost use Rattle.std.specs.Prelude.{◌≡◌, false, map, None, OnOk, OnErr, IfOk, IsPermutation};
-ghost use Rattle.std.specs.FinMap.{get, insert, remove};
+ghost use Rattle.std.specs.FinMap.{get, insert, remove, entries};
 ghost use Rattle.sqlite.specs.Held.{state};
 ghost use Rattle.sqlite.specs.State.{HasCleanDisk};
 ghost use Rattle.sqlite.specs.Values.{bound};
 ghost use Rattle.bsp_columns.specs.Columns.{tally_row};
 ghost use Rattle.bsp_content.specs.Content.{Content, form};
 ghost use Rattle.bsp_schema.specs.Schema.{our_schema};
-ghost use Rattle.bsp_tables.specs.Kept.{Stands, Falls, IsInside, Reads, columns_of};
+ghost use Rattle.bsp_tables.specs.Kept.{Stands, Falls, IsInside, Reads, columns_of, KeepsRows, Spares};
 ghost use Rattle.bsp_tables.specs.Synced.{with_value};
 ghost use Rattle.bsp_memo_tables.specs.Written.{tally_written};
+ghost use Rattle.bsp_content.specs.Forms.{IsFormed};
 
 use bsp_columns::{agent_digits, airline_digits, period_digits};
 use bsp_postings::Tally;
@@ -137,6 +138,8 @@ pub fn all_tallies<S: Alter>(conn: &mut Connection<S>) -> Result<Vec<Row>, Error
     ensures rows { HasCleanDisk (state S.Store conn.new) → IfOk result (λ found. (state S.Store conn.old).now.schema ≡ our_schema → IsPermutation (map (columns_of 11) ((state S.Store conn.old).now.trees 18)) found.items) }
     ensures read { OnOk result (conn.old.schema ≡ our_schema → Reads S.Store conn.old conn.new) }
     ensures mode { conn.old.in_transaction ≡ false → conn.new.in_transaction ≡ false }
+    ensures order { HasCleanDisk (state S.Store conn.new) → IfOk result (λ found. (state S.Store conn.old).now.schema ≡ our_schema → (c : Content) → IsFormed c → KeepsRows form c (state S.Store conn.old).now.trees → found.items ≡ map tally_row (entries c.tallies)) }
+    ensures spares { conn.old.schema ≡ our_schema → Spares S.Store conn.old conn.new }
 {
     conn.query_all(
         "SELECT agent, airline, period, accepted, living, canx, memo_count, cash, credit, commission, memos \

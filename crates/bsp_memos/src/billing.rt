@@ -23,8 +23,8 @@ fn is_due(fields: &MemoFields, day: Day, review_days: u32) -> bool
     }
 }
 
-/// The amount that a close on a business day bills: that of an unbilled memo which is a credit memo,
-/// or agreed, upheld, reduced, or open with its last review day before the day.
+/// The amount that a close on a business day bills. It is that of an unbilled memo which is a
+/// credit memo, or agreed, upheld, reduced, or open with its last review day before the day.
 pub fn billed_now(memo: &Memo, day: Day, review_days: u32) -> Option<Amount>
     ensures amount { result ≡ amount_due memo.now day review_days }
     ensures may_be_billed { OnSome result (IsTrue (may_be_billed memo.now)) }

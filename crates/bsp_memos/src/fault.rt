@@ -3,7 +3,7 @@ ghost use Rattle.bsp_memos.specs.Texts.{fault_text};
 
 use thiserror::Error;
 
-/// Why an issue of a memo or an action on one is refused. Of several, an issue tells the first of
+/// Why an issue of a memo or an action on one is refused. Of several, an issue answers the first of
 /// M08, M04, M05, M07, and an action the first of M01, M06, M03, M02, M04.
 #[derive(Clone, Copy, Debug, PartialEq, Eq, Hash, Error)]
 pub enum MemoFault {

@@ -11,9 +11,9 @@ pub fn billed_once()
     ensures credit { IsCreditBilledFirst }
 {}
 
-/// What actions and closes keep of a memo, over every list of them: its fields fit together, once it is
-/// billed it stays as it is, and on each day from its billing on a close would bill it, were it unbilled.
-/// The contract is the law; the body has nothing to do.
+/// What actions and closes keep of a memo, over every list of them. Its fields fit together, and
+/// once it is billed it stays as it is. On each day from its billing on a close would bill it, were
+/// it unbilled. The contract is the law; the body has nothing to do.
 pub fn billing_kept()
     ensures issue { IsIssueSound }
     ensures fit { IsFitKept }

@@ -1,5 +1,5 @@
-//! Debit and credit memos of airlines to agents, in the manner of IATA Resolution 850m: what an agent
-//! and an airline may do about one, and the billing of each in one period.
+//! Debit and credit memos of airlines to agents, in the manner of IATA Resolution 850m. The crate
+//! has what an agent and an airline may do about one, and the billing of each in one period.
 //!
 //! A [`Memo`] satisfies the rules of its fields at all times. The actions answer by `MemoStep` of
 //! `specs/`; after a refusal the memo is as it was. No call takes memory.
@@ -16,8 +16,6 @@ mod memo;
 mod reason;
 mod review;
 mod state;
-#[cfg(test)]
-mod tests;
 
 pub use actions::{agree, dispute, reduce, uphold, withdraw};
 pub use billing::{bill, billed_now, is_rightly_billed};

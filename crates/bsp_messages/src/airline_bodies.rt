@@ -83,9 +83,10 @@ fn reduction_in(value: &Value) -> Option<Reduction>
     Some(Reduction { amount, document })
 }
 
-/// Reads the body of an airline's issue of a memo: `agent`, a text of eight digits, `amount`, a whole
-/// number of minor units that fits an `i64`, `document`, a text of ten digits, `kind`, `ADMA` or
-/// `ACMA`, and `reason`, a text of 1 to 40 characters from 0x20 to 0x7E.
+/// Reads the body of an airline's issue of a memo. It has `agent`, a text of eight digits;
+/// `amount`, a whole number of minor units that fits an `i64`; and `document`, a text of ten
+/// digits. It also has `kind`, `ADMA` or `ACMA`, and `reason`, a text of 1 to 40 characters from
+/// 0x20 to 0x7E.
 ///
 /// # Errors
 ///

@@ -84,7 +84,7 @@ pub enum Answer {
     Report(String),
     /// 200: a HOT file.
     Hot(Vec<u8>),
-    /// 422: the first fault of a RET file; its want of memory, F10, is 503 B01.
+    /// 422: the first fault of a RET file; out of memory, F10, is 503 B01.
     FileFault(RetFault),
     /// Any other refusal.
     Refused(RequestRefusal),

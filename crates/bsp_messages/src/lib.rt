@@ -18,8 +18,6 @@ mod office_bodies;
 mod refusal;
 mod reply;
 mod status;
-#[cfg(test)]
-mod tests;
 mod values;
 mod verdicts;
 

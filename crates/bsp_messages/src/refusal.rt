@@ -36,7 +36,7 @@ pub enum RequestRefusal {
     WrongAgentCode,
     /// The airline is not in the plan: 409 N06.
     AirlineNotInPlan,
-    /// Of the plan: 400 P01 and P02, 409 P03 to P08; its want of memory is 503 B01.
+    /// Of the plan: 400 P01 and P02, 409 P03 to P08; out of memory is 503 B01.
     Plan(PlanFault),
     /// Of an agent's stock: 409 K01 to K05.
     Stock(StockFault),

@@ -97,9 +97,9 @@ fn fault_reply(alloc: Global, fault: RetFault) -> Result<Reply, NoRoom>
     })
 }
 
-/// The reply of an answer: its status, its media type and its text. Results and refusals have fixed texts,
-/// but that of a RET file's fault other than want of memory, and the texts of statements, settlements and
-/// HOT files are those of the answer: they take no memory.
+/// The reply of an answer: its status, its media type and its text. Results and refusals have fixed
+/// texts, but that of a RET file's fault other than out of memory. The texts of statements,
+/// settlements and HOT files are those of the answer. Both take no memory.
 ///
 /// # Errors
 ///

@@ -1,6 +1,6 @@
 -- Lemmas on the words of a command line.
 use Rattle.std.proofs.Common.{◌≡◌, ◌∙◌, ◌^◌, ◌&&◌, Bool, true, false, ℕ, List, [], ◌∷◌, length, Option, Some, None, ap, refl, sym, arith, lt-ltb, ltb-true}
-use Rattle.std.specs.Prelude.{Result, Ok, Err, is_some, nat_lt, option_and_then}
+use Rattle.std.specs.Prelude.{Result, Ok, Err, IfOk, IfErr, is_some, nat_lt, option_and_then}
 use Rattle.std.specs.Result.{result_ok}
 use Rattle.std.specs.Char.{digit_value}
 use Rattle.std.specs.List.{list_all}
@@ -9,7 +9,9 @@ use Rattle.clap.proofs.WalkLemmas.{both, one_text-rows}
 use Rattle.clap.specs.ValueTests.{is_numeral}
 use Rattle.clap.specs.Matches.{ReadsOne, one_text}
 use Rattle.clap.specs.declared.parser.matches.Found.{Found}
-use Rattle.clap.specs.Words.{App, Row, Rule, Shape, Text, built, fault_of, rows_of, subcommand_of, with_rule}
+use Rattle.clap.specs.Words.{App, FailsBy, HasKind, HasMatchesOf, Row, Rule, Shape, Text, built, fault_of, is_simple, is_simple_and_free, rows_of, subcommand_of, subcommand_rows_of, with_rule}
+use Rattle.clap.specs.declared.error.Error.{Error}
+use Rattle.clap.specs.declared.parser.matches.ArgMatches.{ArgMatches}
 use Rattle.clap.specs.Simple.{argument_words, entered, names_of}
 use Rattle.clap.specs.Kinds.{Kinds, or_else}
 use Rattle.clap.specs.Faults.{check_fault, defaults_fault, level_fault, settle_fault, entered_fault, walk_fault}
@@ -90,6 +92,21 @@ names_one a words needs none =
 out_of_form : (sub : Option (Text × List Row)) → is_some sub ≡ true → None ≡ work_from sub → (p : Text × List Row) × (sub ≡ Some p) × (work_in p.0 p.1 ≡ None)
 out_of_form (Some p) some none = (p, refl, sym none)
 out_of_form None some none = cc
+
+-- the command line is of the form for which `clap` says what it finds, and why it fails
+simple : is_simple office ≡ true
+simple = refl
+
+simple_and_free : is_simple_and_free office ≡ true
+simple_and_free = refl
+
+pub found_in_words : (a : App) (words : List Text) (r : Result ArgMatches Error) → a ≡ office → (is_simple_and_free a ≡ true → FailsBy (fault_of a words) r) → IfOk r (HasMatchesOf a words) → IfOk r (λ m. (fault_of office words ≡ []) × (subcommand_rows_of m ≡ subcommand_of office words))
+found_in_words a words (Ok m) same kinds matches = ((rw same at kinds) simple_and_free, ((rw same at matches) simple).1)
+found_in_words a words (Err e) same kinds matches = tt
+
+pub refused_words : (a : App) (words : List Text) (r : Result ArgMatches Error) → a ≡ office → (is_simple_and_free a ≡ true → FailsBy (fault_of a words) r) → IfErr r (HasKind (fault_of office words))
+refused_words a words (Ok m) same kinds = tt
+refused_words a words (Err e) same kinds = (rw same at kinds) simple_and_free
 
 -- the answer to words without fault, by the work that is found in them
 pub work_answers : (words : List Text) (work : Work) → fault_of office words ≡ [] → Some (work_of work) ≡ work_from (subcommand_of office words) → AnswersWords words (Ok work)

@@ -1,12 +1,16 @@
 -- The command line of the office, and the work that its words ask for.
-use Rattle.std.specs.Prelude.{◌≡◌, ℕ, ◌^◌, ◌&&◌, pos, nat_lt, List, [], ◌∷◌, Option, Some, None, Result, Ok, Err, true, codes, if◌then◌else◌, option_map, option_and_then}
+use Rattle.std.specs.Prelude.{◌≡◌, ℕ, ◌^◌, ◌&&◌, pos, nat_lt, Bool, List, [], ◌∷◌, Option, Some, None, Result, Ok, Err, true, false, codes, if◌then◌else◌, option_map, option_and_then}
+use Rattle.std.specs.Option.{option_map_or}
 use Rattle.std.specs.Str.{bytes_eq}
 use Rattle.std.specs.Str.Parse.{digits_value, without_leading_plus}
 use Rattle.clap.specs.Words.{App, HasKind, Row, Rule, Shape, Text, fault_of, first_of, new_app, new_rule, one_of, subcommand_of, with_rule, with_subcommand}
 use Rattle.clap.specs.Simple.{on_top}
 use Rattle.clap.specs.ValueTests.{is_numeral}
+use Rattle.clap.specs.declared.builder.action.ArgAction.TheVariants.{SetTrue}
 use Rattle.clap.specs.declared.builder.value_parser.ValueParser.TheVariants.{Signed}
 use Rattle.bsp_fields.specs.Tokens.{token_reading}
+use Rattle.bsp_office.specs.declared.words.BookSource.{BookSource}
+use Rattle.bsp_office.specs.declared.words.BookSource.TheVariants as kept
 use Rattle.bsp_office.specs.declared.words.TokenSource.{TokenSource}
 use Rattle.bsp_office.specs.declared.words.TokenSource.TheVariants as source
 use Rattle.bsp_office.specs.declared.words.Work.{Work}
@@ -20,9 +24,13 @@ use Rattle.bsp_office.specs.declared.words.WordsFault.TheVariants.{Refused, OutO
 abbrev pub wanted_word : Text → Rule
 wanted_word id = record (new_rule id) { required = true }
 
--- a command with a FILE behind it: check FILE, hotcheck FILE
+-- the flag --quiet
+abbrev pub quiet_rule : Rule
+quiet_rule = record (new_rule (codes "quiet")) { long = Some (codes "quiet"); action = Some SetTrue }
+
+-- a command with a FILE behind it, and --quiet: check FILE, hotcheck FILE
 abbrev pub file_app : Text → App
-file_app name = with_rule (new_app name) (wanted_word (codes "FILE"))
+file_app name = with_rule (with_rule (new_app name) quiet_rule) (wanted_word (codes "FILE"))
 
 -- an option with a value behind it: --ID VALUE
 abbrev pub named_option : Text → Rule
@@ -36,8 +44,12 @@ number_option id least most = record (named_option id) { parser = Some (Signed (
 abbrev pub with_tokens : App → App
 with_tokens a = with_rule (with_rule a (named_option (codes "token"))) (named_option (codes "token-file"))
 
+-- --db FILE
+abbrev pub with_db : App → App
+with_db a = with_rule a (named_option (codes "db"))
+
 abbrev pub run_app : App
-run_app = with_tokens (new_app (codes "run"))
+run_app = with_db (with_tokens (new_app (codes "run")))
 
 abbrev pub port_rule : Rule
 port_rule = record (number_option (codes "port") 1 65535) { required = true }
@@ -46,11 +58,11 @@ abbrev pub connections_rule : Rule
 connections_rule = record (number_option (codes "connections") 1 1000000) { defaults = codes "1000000" ∷ [] }
 
 abbrev pub serve_app : App
-serve_app = with_rule (with_tokens (with_rule (new_app (codes "serve")) port_rule)) connections_rule
+serve_app = with_rule (with_db (with_tokens (with_rule (new_app (codes "serve")) port_rule))) connections_rule
 
--- a subcommand must be there, and none is called help
+-- a subcommand must be there, or --version is asked for; and none is called help
 abbrev pub needs_subcommand : Shape → Shape
-needs_subcommand s = record s { subcommand_required = true; disable_help_subcommand = true }
+needs_subcommand s = record s { has_version = true; subcommand_required = true; disable_help_subcommand = true }
 
 abbrev pub office : App
 office =
@@ -73,25 +85,38 @@ abbrev pub token_of : TokenSource → AskedToken
 token_of (source.Given token) = given token
 token_of (source.File file) = in_file file.now
 
+-- the book in memory, or the file that has it
+pub data AskedBook : Type 0 where
+  in_memory : AskedBook
+  stored_in : Text → AskedBook
+
+abbrev pub book_of : BookSource → AskedBook
+book_of kept.Memory = in_memory
+book_of (kept.File file) = stored_in file.now
+
 -- a command with its values, as texts and numbers
 pub data AskedWork : Type 0 where
-  check : Text → AskedWork
-  hotcheck : Text → AskedWork
-  run : AskedToken → AskedWork
-  serve : ℕ → AskedToken → ℕ → AskedWork
+  check : Text → Bool → AskedWork
+  hotcheck : Text → Bool → AskedWork
+  run : AskedToken → AskedBook → AskedWork
+  serve : ℕ → AskedToken → AskedBook → ℕ → AskedWork
 
 abbrev pub work_of : Work → AskedWork
-work_of (Check file) = check file.now
-work_of (Hotcheck file) = hotcheck file.now
-work_of (Run token) = run (token_of token)
-work_of (Serve port token connections) = serve port (token_of token) connections
+work_of (Check file quiet) = check file.now quiet
+work_of (Hotcheck file quiet) = hotcheck file.now quiet
+work_of (Run token book) = run (token_of token) (book_of book)
+work_of (Serve port token book connections) = serve port (token_of token) (book_of book) connections
+
+-- the flag --quiet is there: `clap` then finds the value true
+abbrev pub is_quiet : List Row → Bool
+is_quiet rows = option_map_or (λ text. bytes_eq text (codes "true")) (first_of (codes "quiet") rows) false
 
 -- the work of each subcommand by what was found behind it, where each value is in its form
 abbrev pub check_work : List Row → Option AskedWork
-check_work rows = option_map check (first_of (codes "FILE") rows)
+check_work rows = option_map (λ file. check file (is_quiet rows)) (first_of (codes "FILE") rows)
 
 abbrev pub hotcheck_work : List Row → Option AskedWork
-hotcheck_work rows = option_map hotcheck (first_of (codes "FILE") rows)
+hotcheck_work rows = option_map (λ file. hotcheck file (is_quiet rows)) (first_of (codes "FILE") rows)
 
 -- exactly one of the two options gives the token; no file is called -
 abbrev pub token_from : Option Text → Option Text → Option AskedToken
@@ -102,8 +127,16 @@ token_from _ _ = None
 abbrev pub asked_token : List Row → Option AskedToken
 asked_token rows = token_from (first_of (codes "token") rows) (first_of (codes "token-file") rows)
 
+-- the book is in memory where no file is named; no file is called -
+abbrev pub book_from : Option Text → Option AskedBook
+book_from None = Some in_memory
+book_from (Some file) = if bytes_eq file (codes "-") then None else Some (stored_in file)
+
+abbrev pub asked_book : List Row → Option AskedBook
+asked_book rows = book_from (first_of (codes "db") rows)
+
 abbrev pub run_work : List Row → Option AskedWork
-run_work rows = option_map run (asked_token rows)
+run_work rows = option_and_then (λ token. option_map (λ book. run token book) (asked_book rows)) (asked_token rows)
 
 -- the number of k bits that a text writes in digits, a plus in front of them or not
 abbrev pub number_read : ℕ → Text → Option ℕ
@@ -117,7 +150,9 @@ number_in k id rows = option_and_then (number_read k) (one_of id rows)
 abbrev pub serve_work : List Row → Option AskedWork
 serve_work rows =
     option_and_then
-    (λ port. option_and_then (λ connections. option_map (λ token. serve port token connections) (asked_token rows)) (number_in 32 (codes "connections") rows))
+    (λ port. option_and_then
+    (λ connections. option_and_then (λ token. option_map (λ book. serve port token book connections) (asked_book rows)) (asked_token rows))
+    (number_in 32 (codes "connections") rows))
     (number_in 16 (codes "port") rows)
 
 unfoldable pub work_in : Text → List Row → Option AskedWork

@@ -3,11 +3,25 @@
 ghost use Rattle.std.specs.Prelude.{◌≡◌, IfOk, IfErr, codes, false};
 ghost use Rattle.clap.specs.Words.{app_of, kind_of, rule_of, shape_of};
 ghost use Rattle.clap.specs.declared.builder.command.Command.TheViews.{out-Command as fields_of};
-ghost use Rattle.bsp_office.specs.CommandLine.{connections_rule, file_app, named_option, office, port_rule, run_app, serve_app, with_tokens};
+ghost use Rattle.bsp_office.specs.CommandLine.{connections_rule, file_app, named_option, office, port_rule, quiet_rule, run_app, serve_app, with_db, with_tokens};
 
 use clap::error::ErrorKind;
-use clap::{Arg, Command, Error};
+use clap::{Arg, ArgAction, Command, Error};
 use std::alloc::Global;
+
+/// The version of the program.
+const VERSION: &str = "1.0.0";
+
+/// The flag `--quiet`.
+fn quiet_flag<'a>(alloc: Global) -> Arg<'a>
+    ensures rule { rule_of result ≡ quiet_rule }
+    ensures local { result.global ≡ false }
+{
+    Arg::new(alloc, "quiet")
+        .long("quiet")
+        .action(ArgAction::SetTrue)
+        .help("says nothing of the file on standard error")
+}
 
 /// A command of that name with a FILE behind it.
 fn file_command<'a>(alloc: Global, name: &'a str, about: &'a str) -> Result<Command<'a>, Error>
@@ -17,7 +31,10 @@ fn file_command<'a>(alloc: Global, name: &'a str, about: &'a str) -> Result<Comm
     let file = Arg::new(alloc, "FILE")
         .help("the file, or - for standard input")
         .required(true);
-    let command = Command::new(alloc, name).about(about).arg(file)?;
+    let command = Command::new(alloc, name)
+        .about(about)
+        .arg(quiet_flag(alloc))?;
+    let command = command.arg(file)?;
     Ok(command)
 }
 
@@ -74,6 +91,22 @@ fn taking_token<'a>(alloc: Global, command: Command<'a>) -> Result<Command<'a>, 
     Ok(command)
 }
 
+/// The command with the option that names the file of the book.
+fn taking_book<'a>(alloc: Global, command: Command<'a>) -> Result<Command<'a>, Error>
+    requires { (fields_of command).has_globals ≡ false }
+    ensures ok { IfOk result (λ c. (app_of c ≡ with_db (app_of command.entry)) × ((fields_of c).has_globals ≡ false)) }
+    ensures err { IfErr result (λ e. kind_of e ≡ ErrorKind.OutOfMemory) }
+{
+    let file = option(
+        alloc,
+        "db",
+        "FILE",
+        "the file that keeps the book, made where it is not there; without it the book is in memory",
+    );
+    let command = command.arg(file)?;
+    Ok(command)
+}
+
 fn run_command<'a>(alloc: Global) -> Result<Command<'a>, Error>
     ensures ok { IfOk result (λ c. (shape_of c ≡ run_app.top) × ((fields_of c).has_globals ≡ false)) }
     ensures err { IfErr result (λ e. kind_of e ≡ ErrorKind.OutOfMemory) }
@@ -81,7 +114,8 @@ fn run_command<'a>(alloc: Global) -> Result<Command<'a>, Error>
     let command = Command::new(alloc, "run").about(
         "Serves one connection of HTTP on standard input and output",
     );
-    taking_token(alloc, command)
+    let command = taking_token(alloc, command)?;
+    taking_book(alloc, command)
 }
 
 fn port_option<'a>(alloc: Global) -> Arg<'a>
@@ -115,6 +149,7 @@ fn serve_command<'a>(alloc: Global) -> Result<Command<'a>, Error>
         .about("Serves HTTP on a port of 127.0.0.1, one connection after the other")
         .arg(port_option(alloc))?;
     let command = taking_token(alloc, command)?;
+    let command = taking_book(alloc, command)?;
     let command = command.arg(connections_option(alloc))?;
     Ok(command)
 }
@@ -130,6 +165,7 @@ pub(crate) fn office_command<'a>(alloc: Global) -> Result<Command<'a>, Error>
     let serve = serve_command(alloc)?;
     let office = Command::new(alloc, "bsp_office")
         .about("The office of a billing and settlement plan")
+        .version(VERSION)
         .subcommand_required(true)
         .disable_help_subcommand(true);
     let office = office.subcommand(check)?;

@@ -2,8 +2,11 @@
 
 ghost use Rattle.std.specs.Prelude.{◌≡◌, IfOk, string_bytes};
 ghost use Rattle.bsp_office.specs.HotReport.{totals_text, fault_text, IsHotReport};
+ghost use Rattle.bsp_office.specs.Verdicts.{verdict_status, IsExplained, IsHotExplanation};
 
 use crate::report::Report;
+use crate::verdict::Verdict;
+use bsp_explain::explain_hot;
 use bsp_fields::{NoRoom, write_money};
 use bsp_hot_check::{HotTotals, check_hot};
 use std::alloc::Global;
@@ -28,17 +31,18 @@ fn fault_line(alloc: Global, number: usize) -> Result<String, NoRoom>
     Ok(format!(in alloc; "H04 record {number}\n")?)
 }
 
-/// The report on the bytes of a HOT file: status 0 for a file, 1 for a fault.
+/// The report on the bytes of a HOT file.
 pub(crate) fn hot_report(alloc: Global, bytes: &[u8]) -> Result<Report, NoRoom>
-    ensures { IfOk result (λ report. IsHotReport bytes.now report.status report.text.items) }
+    ensures report { IfOk result (λ report. IsHotReport bytes.now (verdict_status report.verdict) report.text.items) }
+    ensures explained { IfOk result (λ report. IsExplained IsHotExplanation bytes.now report.verdict) }
 {
     match check_hot(bytes) {
         Ok(totals) => Ok(Report {
-            status: 0,
+            verdict: Verdict::Passed,
             text: totals_line(alloc, totals)?.into_bytes(),
         }),
         Err(fault) => Ok(Report {
-            status: 1,
+            verdict: Verdict::Refused(explain_hot(bytes, fault)),
             text: fault_line(alloc, fault.number)?.into_bytes(),
         }),
     }

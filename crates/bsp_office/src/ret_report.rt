@@ -5,8 +5,11 @@ ghost use Rattle.bsp_ret.specs.Table.{total_paid};
 ghost use Rattle.bsp_ret.specs.Ret.{flatten, file_lines};
 ghost use Rattle.bsp_ret_records.specs.declared.transactions.PaidSale.{PaidSale as Paid};
 ghost use Rattle.bsp_office.specs.RetReport.{document_text, sale_text, transaction_text, total_text, file_report, fault_report, HaveSales, AreReported, IsRetReport};
+ghost use Rattle.bsp_office.specs.Verdicts.{verdict_status, IsExplained, IsRetExplanation};
 
 use crate::report::Report;
+use crate::verdict::Verdict;
+use bsp_explain::explain_ret;
 use bsp_fields::{NoRoom, push_money, write_digits, write_money};
 use bsp_ret::{FaultCode, PaidSale, ReportedDocument, RetFault, RetFile, Sale, read_ret};
 use std::alloc::{AllocError, Global};
@@ -113,18 +116,19 @@ fn fault_report(alloc: Global, fault: RetFault) -> Result<Vec<u8>, NoRoom>
     Ok(out)
 }
 
-/// The report on the bytes of a RET file: status 0 for a file, 1 for a fault.
+/// The report on the bytes of a RET file.
 pub(crate) fn ret_report(alloc: Global, bytes: &[u8]) -> Result<Report, NoRoom>
-    ensures { IfOk result (λ report. IsRetReport bytes.now report.status report.text.items) }
+    ensures report { IfOk result (λ report. IsRetReport bytes.now (verdict_status report.verdict) report.text.items) }
+    ensures explained { IfOk result (λ report. IsExplained IsRetExplanation bytes.now report.verdict) }
 {
     match read_ret(alloc, bytes) {
         Ok(file) => Ok(Report {
-            status: 0,
+            verdict: Verdict::Passed,
             text: file_report(alloc, &file)?,
         }),
         Err(fault) if fault.code == FaultCode::F10 => Err(NoRoom),
         Err(fault) => Ok(Report {
-            status: 1,
+            verdict: Verdict::Refused(explain_ret(bytes, fault)),
             text: fault_report(alloc, fault)?,
         }),
     }

@@ -1,67 +1,107 @@
 //! Runs the work that the command line asks for.
 
 use crate::checking::{check, hotcheck};
+use crate::fault::Fault;
 use crate::input::Input;
+use crate::remarks::{say_answer, say_unopened};
 use crate::serving::{run_office, serve_office};
 use crate::status::{DONE, FAILED, WRONG_WORDS};
+use crate::verdict::{Verdict, exit_status};
 use crate::words::{WordsFault, Work, words};
 use clap::error::ErrorKind;
 use std::convert::AsStr;
 use std::{env, io};
 
-/// Runs the work, and answers its exit status. It fails where the FILE cannot be opened.
-fn run_work(rt: &HostRuntime, work: &Work<'_>) -> io::Result<u8> {
-    let mut output = io::writer(rt);
+/// Opens the FILE of a command. Where that fails it says so, unless it is to be quiet.
+fn opened(rt: &HostRuntime, file: &str, quiet: bool) -> Option<Input> {
+    match Input::open(rt, file) {
+        Ok(input) => Some(input),
+        Err(error) => {
+            if !quiet {
+                say_unopened(rt, file, &error);
+            }
+            None
+        }
+    }
+}
+
+/// The exit status of an answer on a FILE. It says what is wrong, unless it is to be quiet.
+fn ended(rt: &HostRuntime, file: &str, quiet: bool, answer: &Result<Verdict, Fault>) -> u8 {
+    if !quiet {
+        say_answer(rt, file, answer);
+    }
+    exit_status(answer)
+}
+
+/// Reports on a RET file, and answers the exit status.
+fn run_check(rt: &HostRuntime, file: &str, quiet: bool) -> u8 {
+    let Some(mut input) = opened(rt, file, quiet) else {
+        return FAILED;
+    };
+    let answer = check(rt.alloc(), &mut input, &mut io::writer(rt));
+    ended(rt, file, quiet, &answer)
+}
+
+/// Reports on a HOT file, and answers the exit status.
+fn run_hotcheck(rt: &HostRuntime, file: &str, quiet: bool) -> u8 {
+    let Some(mut input) = opened(rt, file, quiet) else {
+        return FAILED;
+    };
+    let answer = hotcheck(rt.alloc(), &mut input, &mut io::writer(rt));
+    ended(rt, file, quiet, &answer)
+}
+
+/// Runs the work, and answers its exit status.
+fn run_work(rt: &HostRuntime, work: &Work<'_>) -> u8 {
     match work {
-        Work::Check { file } => {
-            let mut input = Input::open(rt, file)?;
-            Ok(check(rt.alloc(), &mut input, &mut output))
-        }
-        Work::Hotcheck { file } => {
-            let mut input = Input::open(rt, file)?;
-            Ok(hotcheck(rt.alloc(), &mut input, &mut output))
-        }
-        Work::Run { token } => Ok(run_office(rt, token)),
+        Work::Check { file, quiet } => run_check(rt, file, *quiet),
+        Work::Hotcheck { file, quiet } => run_hotcheck(rt, file, *quiet),
+        Work::Run { token, book } => run_office(rt, token, book),
         Work::Serve {
             port,
             token,
+            book,
             connections,
-        } => Ok(serve_office(rt, *port, token, *connections)),
+        } => serve_office(rt, *port, token, book, *connections),
     }
 }
 
 /// What is wrong with a value that `clap` takes.
-const WRONG_TOKEN: &str =
+const WRONG_VALUE: &str =
     "error: exactly one of --token T and --token-file FILE gives the office's token, \
-    T has 16 to 64 letters and digits, and FILE is not -";
+    T has 16 to 64 letters and digits, and no FILE is -";
 
-/// Prints what `clap` says of the words: help on standard output, else on standard error. Wrong
-/// words are so too where their text cannot be printed.
+/// Prints what `clap` says of the words: help and the version on standard output, else on standard error.
+/// Wrong words are so too where their text cannot be printed.
 fn refuse(rt: &HostRuntime, fault: &WordsFault) -> u8 {
     let error = match fault {
         WordsFault::Refused(error) => error,
         WordsFault::OutOfForm => {
-            let _ = rt.eprintln(WRONG_TOKEN);
+            let _ = rt.eprintln(WRONG_VALUE);
             return WRONG_WORDS;
         }
     };
     if error.kind() == ErrorKind::OutOfMemory {
+        let _ = rt.eprintln("bsp_office: out of memory");
         return FAILED;
     }
     let printed = error.print(rt);
     if error.use_stderr() {
-        WRONG_WORDS
-    } else if printed.is_ok() {
-        DONE
-    } else {
-        FAILED
+        return WRONG_WORDS;
+    }
+    match printed {
+        Ok(()) => DONE,
+        Err(error) => {
+            let _ = eprintln!(rt; "bsp_office: standard output: {error}");
+            FAILED
+        }
     }
 }
 
 /// Runs the work that these words ask for, the first being the program's name.
 fn run_line<S: AsStr>(rt: &HostRuntime, line: &[S]) -> u8 {
     match words(rt.alloc(), line) {
-        Ok(work) => run_work(rt, &work).unwrap_or(FAILED),
+        Ok(work) => run_work(rt, &work),
         Err(fault) => refuse(rt, &fault),
     }
 }
@@ -76,6 +116,9 @@ pub fn run(rt: &HostRuntime) -> u8 {
     match line_given(rt) {
         Ok(line) => run_line(rt, &line),
         Err(error) if error.kind() == io::ErrorKind::InvalidData => WRONG_WORDS,
-        Err(_) => FAILED,
+        Err(error) => {
+            let _ = eprintln!(rt; "bsp_office: {error}");
+            FAILED
+        }
     }
 }

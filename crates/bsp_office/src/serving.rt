@@ -1,28 +1,41 @@
-//! The commands `run` and `serve`: an office that begins with an empty book in memory.
+//! The commands `run` and `serve`: an office over a book in memory, or over one that a file keeps.
+
+ghost use Rattle.std.specs.Prelude.{◌≡◌, true, false};
+ghost use Rattle.bsp_store.specs.Faults.{is_refusal};
 
 use crate::listening::serve_on;
-use crate::status::{DONE, FAILED, WRONG_WORDS};
+use crate::status::{DONE, FAILED, REFUSED, WRONG_WORDS};
 use crate::token_file::read_token;
-use crate::words::TokenSource;
-use bsp_book::ListBook;
+use crate::words::{BookSource, TokenSource};
+use bsp_book::{Book, ListBook};
 use bsp_desk::Desk;
 use bsp_fields::Token;
 use bsp_http::{Routes, serve};
+use bsp_store::{OpenFault, SqlBook};
+use sqlite::{Alter, Start, Wary};
 use std::io;
 use std::net::{Ipv4Addr, SocketAddr, TcpListener};
 
-/// An office: its routes, and its desk.
-#[derive(Drop)]
-struct Office {
-    routes: Routes,
-    desk: Desk<ListBook>,
+/// Where an office answers.
+#[derive(Clone, Copy)]
+enum Place {
+    /// Standard input and output: one connection.
+    Standard,
+    /// A port of 127.0.0.1: so many connections.
+    Port { port: u16, connections: u32 },
 }
 
-impl Office {
-    /// The office with this token, over an empty book. None where an allocation was refused.
-    fn open(rt: &HostRuntime, token: Token) -> Option<Office> {
+/// An office: its routes, and its desk.
+#[derive(Drop)]
+struct Office<B: Book> {
+    routes: Routes,
+    desk: Desk<B>,
+}
+
+impl<B: Book + Drop> Office<B> {
+    /// The office with this token over this book. None where an allocation was refused.
+    fn open(rt: &HostRuntime, token: Token, book: B) -> Option<Office<B>> {
         let routes = Routes::new(rt.alloc()).ok()?;
-        let book = ListBook::new(rt.alloc());
         let desk = Desk::open(rt.alloc(), book, token).ok()?;
         Some(Office { routes, desk })
     }
@@ -45,19 +58,34 @@ fn token_in(rt: &HostRuntime, file: &str) -> Result<Token, u8> {
     }
 }
 
-/// The office whose token is there, or the exit status.
-fn office_with(rt: &HostRuntime, source: &TokenSource<'_>) -> Result<Office, u8> {
-    let token = match source {
-        TokenSource::Given(token) => *token,
-        TokenSource::File(file) => token_in(rt, file)?,
-    };
-    Office::open(rt, token).ok_or(FAILED)
+/// The token that is there, or the exit status.
+fn token_from(rt: &HostRuntime, source: &TokenSource<'_>) -> Result<Token, u8> {
+    match source {
+        TokenSource::Given(token) => Ok(*token),
+        TokenSource::File(file) => token_in(rt, file),
+    }
 }
 
-fn serve_standard(rt: &HostRuntime, source: &TokenSource<'_>) -> Result<(), u8> {
-    let Office { routes, mut desk } = office_with(rt, source)?;
+/// The exit status where a file is not opened as a book for this cause.
+fn opening_status(fault: &OpenFault) -> u8
+    ensures refused { is_refusal fault.now ≡ true → result ≡ 1 }
+    ensures failed { is_refusal fault.now ≡ false → result ≡ 3 }
+{
+    match fault {
+        OpenFault::Damaged | OpenFault::OtherVersion => REFUSED,
+        OpenFault::NoRoom | OpenFault::Failed(_) => FAILED,
+    }
+}
+
+fn serve_standard<B: Book>(rt: &HostRuntime, office: &mut Office<B>) -> Result<(), u8> {
     let (mut input, mut output) = (rt.stdin(), rt.stdout());
-    match serve(rt.alloc(), &routes, &mut input, &mut output, &mut desk) {
+    match serve(
+        rt.alloc(),
+        &office.routes,
+        &mut input,
+        &mut output,
+        &mut office.desk,
+    ) {
         Ok(_) => Ok(()),
         Err(_) => Err(FAILED),
     }
@@ -82,17 +110,83 @@ fn listen(rt: &HostRuntime, port: u16) -> Option<TcpListener> {
     }
 }
 
-fn serve_connections(
+fn serve_connections<B: Book>(
     rt: &HostRuntime,
     port: u16,
-    source: &TokenSource<'_>,
     connections: u32,
+    office: &mut Office<B>,
 ) -> Result<(), u8> {
-    let Office { routes, mut desk } = office_with(rt, source)?;
     let listener = listen(rt, port).ok_or(FAILED)?;
-    match serve_on(rt.alloc(), &listener, connections, &routes, &mut desk) {
+    match serve_on(
+        rt.alloc(),
+        &listener,
+        connections,
+        &office.routes,
+        &mut office.desk,
+    ) {
         Ok(()) => Ok(()),
         Err(_) => Err(FAILED),
+    }
+}
+
+/// Serves at a place, over this book. Each request that was answered is in the book by then, so it ends as it is.
+fn serve_book<B: Book + Drop>(
+    rt: &HostRuntime,
+    place: &Place,
+    token: Token,
+    book: B,
+) -> Result<(), u8> {
+    let mut office = Office::open(rt, token, book).ok_or(FAILED)?;
+    match place {
+        Place::Standard => serve_standard(rt, &mut office),
+        Place::Port { port, connections } => serve_connections(
+            rt,
+            *port,
+            *connections,
+            &mut office,
+        ),
+    }
+}
+
+/// Serves at a place, over a book in a store.
+fn serve_stored<S: Alter + Drop>(
+    rt: &HostRuntime,
+    place: &Place,
+    token: Token,
+    book: SqlBook<S>,
+) -> Result<(), u8> {
+    serve_book(rt, place, token, book)
+}
+
+/// Serves at a place, over the book that a file keeps. Where it is not opened it says so on standard error, and answers
+/// the exit status.
+fn serve_file<T: Start>(
+    rt: &HostRuntime,
+    place: &Place,
+    token: Token,
+    file: &str,
+    start: T,
+) -> Result<(), u8> {
+    match SqlBook::open_path(rt, file, start) {
+        Ok(book) => serve_stored(rt, place, token, book),
+        Err(fault) => {
+            let _ = eprintln!(rt; "bsp_office: {file}: {fault}");
+            Err(opening_status(&fault))
+        }
+    }
+}
+
+/// A book in a file is opened with `Wary`: a commit does not rest on what a torn write leaves.
+fn serve_at(
+    rt: &HostRuntime,
+    place: &Place,
+    token: &TokenSource<'_>,
+    book: &BookSource<'_>,
+) -> Result<(), u8> {
+    let token = token_from(rt, token)?;
+    match book {
+        BookSource::Memory => serve_book(rt, place, token, ListBook::new(rt.alloc())),
+        BookSource::File(file) => serve_file(rt, place, token, file, Wary),
     }
 }
 
@@ -104,8 +198,8 @@ fn status_of(done: Result<(), u8>) -> u8 {
 }
 
 /// Serves one connection on standard input and output, and answers the exit status.
-pub(crate) fn run_office(rt: &HostRuntime, token: &TokenSource<'_>) -> u8 {
-    status_of(serve_standard(rt, token))
+pub(crate) fn run_office(rt: &HostRuntime, token: &TokenSource<'_>, book: &BookSource<'_>) -> u8 {
+    status_of(serve_at(rt, &Place::Standard, token, book))
 }
 
 /// Serves so many connections on a port of 127.0.0.1, and answers the exit status.
@@ -113,7 +207,9 @@ pub(crate) fn serve_office(
     rt: &HostRuntime,
     port: u16,
     token: &TokenSource<'_>,
+    book: &BookSource<'_>,
     connections: u32,
 ) -> u8 {
-    status_of(serve_connections(rt, port, token, connections))
+    let place = Place::Port { port, connections };
+    status_of(serve_at(rt, &place, token, book))
 }

@@ -1,7 +1,9 @@
-//! The exit statuses of the program, beside 1 for refused content.
+//! The exit statuses of the program.
 
 /// The program did what it was asked for.
 pub(crate) const DONE: u8 = 0;
+/// An input has a fault, or the file of the book has no sound book of this version.
+pub(crate) const REFUSED: u8 = 1;
 /// The words of the command line are wrong, or the token is none.
 pub(crate) const WRONG_WORDS: u8 = 2;
 /// A file, a device, a port or a connection failed, or an allocation was refused.

@@ -4,8 +4,9 @@ mod hot_files;
 mod listening;
 mod words;
 
-use crate::{check, hotcheck};
+use crate::{Fault, Verdict, check, exit_status, hotcheck};
 use std::io::{Read, Write};
+use std::test::Fail;
 
 /// A command that reports on an input.
 #[derive(Clone, Copy, Debug, PartialEq, Eq)]
@@ -14,16 +15,42 @@ enum Command {
     Hotcheck,
 }
 
-/// The status that the command answers.
+/// What the command answers.
+fn answer_of<R: Read, W: Write>(
+    rt: &HostRuntime,
+    command: Command,
+    input: &mut R,
+    output: &mut W,
+) -> Result<Verdict, Fault> {
+    match command {
+        Command::Check => check(rt.alloc(), input, output),
+        Command::Hotcheck => hotcheck(rt.alloc(), input, output),
+    }
+}
+
+/// The exit status of the command.
 fn status_of<R: Read, W: Write>(
     rt: &HostRuntime,
     command: Command,
     input: &mut R,
     output: &mut W,
 ) -> u8 {
-    match command {
-        Command::Check => check(rt.alloc(), input, output),
-        Command::Hotcheck => hotcheck(rt.alloc(), input, output),
+    let answer = answer_of(rt, command, input, output);
+    exit_status(&answer)
+}
+
+/// Whether the command explains the fault of these bytes by this text.
+fn explains(
+    rt: &HostRuntime,
+    command: Command,
+    bytes: &[u8],
+    explanation: &str,
+) -> Result<bool, Fail> {
+    let mut input = bytes;
+    let mut written = Vec::new(rt.alloc());
+    match answer_of(rt, command, &mut input, &mut written) {
+        Ok(Verdict::Refused(told)) => Ok(told.to_string(rt.alloc())?.as_str() == explanation),
+        _ => Ok(false),
     }
 }
 

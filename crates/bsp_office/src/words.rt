@@ -1,11 +1,11 @@
 //! From the words of a command line to the work that they ask for.
 //!
-//! A further command is a variant of [`Work`], a function that makes its `Command`, a function that makes its work of
-//! the values found, and a row in `office_command` and in `work_in`.
+//! A further command is a variant of [`Work`], a function that makes its `Command`, and a function
+//! that makes its work of the values found. It also has a row in `office_command` and in `work_in`.
 
 ghost use Rattle.std.specs.Prelude.{◌≡◌, IfOk, IfErr, [], codes, map, option_map};
 ghost use Rattle.clap.specs.Words.{HasKind, fault_of, first_of, found_of, rows_of, subcommand_of, subcommand_rows_of};
-ghost use Rattle.bsp_office.specs.CommandLine.{AnswersWords, asked_token, check_work, hotcheck_work, number_in, office, run_work, serve_work, token_of, work_from, work_in, work_of};
+ghost use Rattle.bsp_office.specs.CommandLine.{AnswersWords, asked_book, asked_token, book_of, check_work, hotcheck_work, is_quiet, number_in, office, run_work, serve_work, token_of, work_from, work_in, work_of};
 
 use crate::command_line::office_command;
 use bsp_fields::Token;
@@ -22,26 +22,41 @@ pub enum TokenSource<'a> {
     File(&'a str),
 }
 
+/// Where the book is.
+#[derive(Clone, Copy, PartialEq, Eq)]
+pub enum BookSource<'a> {
+    /// In memory: it begins empty, and ends with the program.
+    Memory,
+    /// `--db FILE`: in this file, which is made where it is not there. The FILE `-` is out of form.
+    File(&'a str),
+}
+
 /// What the program is asked to do: one variant for each command, with its FILE and its options.
 #[derive(Clone, Copy, PartialEq, Eq)]
 pub enum Work<'a> {
     /// `check FILE`: to report on a RET file. The FILE `-` is standard input.
     Check {
         file: &'a str,
+        /// `--quiet`: standard error says nothing of the file.
+        quiet: bool,
     },
     /// `hotcheck FILE`: to report on a HOT file. The FILE `-` is standard input.
     Hotcheck {
         file: &'a str,
+        /// As of `Check`.
+        quiet: bool,
     },
     /// `run`: to serve one connection on standard input and output.
     Run {
         token: TokenSource<'a>,
+        book: BookSource<'a>,
     },
     /// `serve --port N`: to serve so many connections on a port of 127.0.0.1.
     Serve {
         /// From 1 to 65,535.
         port: u16,
         token: TokenSource<'a>,
+        book: BookSource<'a>,
         /// From 1 to 1,000,000.
         connections: u32,
     },
@@ -50,10 +65,10 @@ pub enum Work<'a> {
 /// Why the words ask for no work.
 #[derive(Drop)]
 pub enum WordsFault {
-    /// `clap` refuses the words, or was refused memory; a request for help is told so too.
+    /// `clap` refuses the words, or was refused memory; a request for help is reported so too.
     Refused(Error),
-    /// `clap` takes the words, and a value in them is out of its form: the token, which exactly one of the two
-    /// options gives.
+    /// `clap` takes the words, and a value in them is out of its form. It is the token, which
+    /// exactly one of the two options gives, or the file of the book.
     OutOfForm,
 }
 
@@ -64,18 +79,26 @@ fn value_of<'a>(matches: &ArgMatches<'a>, id: &str) -> Option<&'a str>
     matches.get_str(id)
 }
 
+fn quiet_given(matches: &ArgMatches<'_>) -> bool
+    ensures { result ≡ is_quiet (rows_of (found_of matches.now)) }
+{
+    matches!(value_of(matches, "quiet"), Some("true"))
+}
+
 fn check_given<'a>(matches: &ArgMatches<'a>) -> Option<Work<'a>>
     ensures { option_map work_of result ≡ check_work (rows_of (found_of matches.now)) }
 {
     let file = value_of(matches, "FILE")?;
-    Some(Work::Check { file })
+    let quiet = quiet_given(matches);
+    Some(Work::Check { file, quiet })
 }
 
 fn hotcheck_given<'a>(matches: &ArgMatches<'a>) -> Option<Work<'a>>
     ensures { option_map work_of result ≡ hotcheck_work (rows_of (found_of matches.now)) }
 {
     let file = value_of(matches, "FILE")?;
-    Some(Work::Hotcheck { file })
+    let quiet = quiet_given(matches);
+    Some(Work::Hotcheck { file, quiet })
 }
 
 /// Where the token is, which one of the two options gives.
@@ -94,13 +117,27 @@ fn token_given<'a>(matches: &ArgMatches<'a>) -> Option<TokenSource<'a>>
     }
 }
 
+/// Where the book is: in memory, unless a file is named.
+fn book_given<'a>(matches: &ArgMatches<'a>) -> Option<BookSource<'a>>
+    ensures { option_map book_of result ≡ asked_book (rows_of (found_of matches.now)) }
+{
+    match value_of(matches, "db") {
+        None => Some(BookSource::Memory),
+        Some(file) if file != "-" => Some(BookSource::File(file)),
+        Some(_) => None,
+    }
+}
+
 fn run_given<'a>(matches: &ArgMatches<'a>) -> Option<Work<'a>>
     ensures { option_map work_of result ≡ run_work (rows_of (found_of matches.now)) }
 {
     let Some(token) = token_given(matches) else {
         return None;
     };
-    Some(Work::Run { token })
+    let Some(book) = book_given(matches) else {
+        return None;
+    };
+    Some(Work::Run { token, book })
 }
 
 fn port_given(matches: &ArgMatches<'_>) -> Option<u16>
@@ -123,9 +160,13 @@ fn serve_given<'a>(matches: &ArgMatches<'a>) -> Option<Work<'a>>
     let Some(token) = token_given(matches) else {
         return None;
     };
+    let Some(book) = book_given(matches) else {
+        return None;
+    };
     Some(Work::Serve {
         port,
         token,
+        book,
         connections,
     })
 }
@@ -166,7 +207,7 @@ fn matches_found<'a, S: AsStr>(alloc: Global, words: &'a [S]) -> Result<ArgMatch
 /// # Errors
 ///
 /// [`WordsFault::Refused`] where `clap` refuses the words, with a reason that it has for them, or
-/// where an allocation was refused; [`WordsFault::OutOfForm`] where `clap` takes the words and a
+/// where an allocation was refused. [`WordsFault::OutOfForm`] where `clap` takes the words and a
 /// value in them is out of its form.
 pub fn words<'a, S: AsStr>(alloc: Global, words: &'a [S]) -> Result<Work<'a>, WordsFault>
     ensures { AnswersWords (map S.text words.entry.now) result }

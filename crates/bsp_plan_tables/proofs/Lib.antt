@@ -1,3 +1,4 @@
+pub mod Orders
 pub mod Sharing
 pub mod MetaTable
 pub mod TermsTable

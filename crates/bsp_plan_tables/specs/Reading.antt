@@ -1,11 +1,10 @@
 -- Which entry a row is read as.
-use Rattle.std.specs.Prelude.{◌≡◌, ℕ, ◌<◌, ◌^◌, ℤ, pos, nat_lt, if◌then◌else◌, IsTrue, Option, Some, None}
+use Rattle.std.specs.Prelude.{◌≡◌, ℕ, ℤ, pos, nat_lt, if◌then◌else◌, Option, Some, None}
 use Rattle.sqlite_value.specs.declared.value.Value.{Value}
 use Rattle.sqlite_value.specs.declared.value.Value.TheVariants.{Int, Text}
 use Rattle.sqlite_value.specs.Order.{Row, column}
-use Rattle.bsp_fields.specs.CivilDay.{CivilDay, is_day}
+use Rattle.bsp_fields.specs.CivilDay.{CivilDay}
 use Rattle.bsp_fields.specs.Days.{day_number}
-use Rattle.bsp_calendar.specs.Letters.{currency_reading}
 use Rattle.bsp_calendar.specs.declared.entries.Period.{Period}
 use Rattle.bsp_calendar.specs.declared.entries.Rate.{Rate}
 use Rattle.bsp_calendar.specs.declared.entries.Terms.{Terms}
@@ -41,21 +40,3 @@ pub record IsPeriodRow (r : Row) (period : Period) : Type 0 where
   pub bears_first : column r 2 ≡ Int (day_number period.first)
   pub bears_last : column r 3 ≡ Int (day_number period.last)
   pub bears_remittance : column r 4 ≡ Int (day_number period.remittance)
-
--- ---- entries that Rust has
-
-pub record AreTerms (terms : Terms) : Type 0 where
-  pub has_letters : currency_reading terms.currency ≡ Some terms.currency
-  pub has_review : terms.review_days < 2 ^ 8
-  pub has_limit : terms.documents_limit < 2 ^ 32
-
-pub record IsRate (rate : Rate) : Type 0 where
-  pub has_airline : rate.airline < 10 ^ 3
-  pub has_day : IsTrue (is_day rate.from)
-  pub has_hundredths : rate.hundredths < 2 ^ 16
-
-pub record IsPeriod (period : Period) : Type 0 where
-  pub has_code : period.code < 10 ^ 5
-  pub has_first : IsTrue (is_day period.first)
-  pub has_last : IsTrue (is_day period.last)
-  pub has_remittance : IsTrue (is_day period.remittance)

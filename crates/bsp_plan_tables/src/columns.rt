@@ -1,6 +1,6 @@
 //! One column of a row, as a value of the plan.
 
-ghost use Rattle.std.specs.Prelude.{◌≡◌, ◌≢◌, ◌<◌, ◌^◌, ℕ, List, Some, IsTrue, MatchOption};
+ghost use Rattle.std.specs.Prelude.{◌≡◌, ◌≢◌, ◌<◌, ◌^◌, ℕ, List, IfSome, IsTrue, MatchOption};
 ghost use Rattle.sqlite_value.specs.Order.{column};
 ghost use Rattle.sqlite_value.specs.declared.value.Value.TheVariants.{Int, Text};
 ghost use Rattle.bsp_fields.specs.CivilDay.{CivilDay, is_day};
@@ -35,21 +35,27 @@ pub(crate) fn number_at(row: &Row, at: usize, most: u64) -> Option<u64>
     Some(number as u64)
 }
 
-/// The day whose number is in a column.
-pub(crate) fn day_at(row: &Row, at: usize) -> Option<Day>
+fn day_in(row: &Row, at: usize) -> Option<Day>
     ensures { MatchOption result
         ((d : CivilDay) → IsTrue (is_day d) → column row.now at ≢ Int (day_number d))
-        (λ d. column row.now at ≡ Int (day_number d)) }
+        (λ d. (column row.now at ≡ Int (day_number d)) × IsTrue (is_day d)) }
 {
     let number = int_at(row, at)?;
     Day::of_number(number).ok()
 }
 
+/// The day whose number is in a column.
+pub(crate) fn day_at(row: &Row, at: usize) -> Option<Day>
+    ensures row { IfSome result (λ d. column row.now at ≡ Int (day_number d)) }
+    ensures back { (d : CivilDay) → IsTrue (is_day d) → column row.now at ≡ Int (day_number d) → result ≡ Some d }
+{
+    day_in(row, at)
+}
+
 /// The airline whose digits are in a column.
 pub(crate) fn airline_at(row: &Row, at: usize) -> Option<AirlineCode>
-    ensures { MatchOption result
-        ((n : ℕ) → n < 10 ^ 3 → column row.now at ≢ airline_text n)
-        (λ n. column row.now at ≡ airline_text n) }
+    ensures row { IfSome result (λ n. column row.now at ≡ airline_text n) }
+    ensures back { (n : ℕ) → n < 10 ^ 3 → column row.now at ≡ airline_text n → result ≡ Some n }
 {
     match row.get_ref(at) {
         Ok(ValueRef::Text(text)) => AirlineCode::read(text).ok(),
@@ -59,9 +65,8 @@ pub(crate) fn airline_at(row: &Row, at: usize) -> Option<AirlineCode>
 
 /// The period whose digits are in a column.
 pub(crate) fn period_at(row: &Row, at: usize) -> Option<PeriodCode>
-    ensures { MatchOption result
-        ((n : ℕ) → n < 10 ^ 5 → column row.now at ≢ period_text n)
-        (λ n. column row.now at ≡ period_text n) }
+    ensures row { IfSome result (λ n. column row.now at ≡ period_text n) }
+    ensures back { (n : ℕ) → n < 10 ^ 5 → column row.now at ≡ period_text n → result ≡ Some n }
 {
     match row.get_ref(at) {
         Ok(ValueRef::Text(text)) => PeriodCode::read(text).ok(),
@@ -71,9 +76,8 @@ pub(crate) fn period_at(row: &Row, at: usize) -> Option<PeriodCode>
 
 /// The currency whose letters are in a column.
 pub(crate) fn currency_at(row: &Row, at: usize) -> Option<Currency>
-    ensures { MatchOption result
-        ((c : List ℕ) → currency_reading c ≡ Some c → column row.now at ≢ Text c)
-        (λ c. column row.now at ≡ Text c) }
+    ensures row { IfSome result (λ c. column row.now at ≡ Text c) }
+    ensures back { (c : List ℕ) → currency_reading c ≡ Some c → column row.now at ≡ Text c → result ≡ Some c }
 {
     match row.get_ref(at) {
         Ok(ValueRef::Text(text)) => Currency::read(text),

@@ -8,8 +8,6 @@ mod periods;
 mod rates;
 mod reading;
 mod terms;
-#[cfg(test)]
-mod tests;
 
 pub use airlines::{AirlineRow, all_airlines, put_airlines};
 pub use meta::{MetaRow, all_meta, put_meta};

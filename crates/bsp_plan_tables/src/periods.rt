@@ -2,11 +2,12 @@ ghost use Rattle.std.specs.Prelude.{◌≡◌, ◌<◌, ◌^◌, ◌+◌, ◌++�
 ghost use Rattle.sqlite.specs.Values.{bound};
 ghost use Rattle.sqlite.specs.Held.{state};
 ghost use Rattle.sqlite.specs.State.{HasCleanDisk};
-ghost use Rattle.bsp_tables.specs.Kept.{columns_of, Stands, Falls, IsInside, Reads};
+ghost use Rattle.bsp_tables.specs.Kept.{columns_of, Stands, Falls, IsInside, Reads, KeepsRows, Spares};
 ghost use Rattle.bsp_schema.specs.Schema.{our_schema};
-ghost use Rattle.bsp_columns.specs.Columns.{period_row};
+ghost use Rattle.bsp_columns.specs.Columns.{period_row, placed};
 ghost use Rattle.bsp_content.specs.Content.{Content, form};
 ghost use Rattle.bsp_plan_tables.specs.Values.{period_values};
+ghost use Rattle.bsp_content.specs.Forms.{IsFormed};
 
 use bsp_calendar::Period;
 use bsp_columns::period_digits;
@@ -100,6 +101,8 @@ pub fn all_periods<S: Alter>(conn: &mut Connection<S>) -> Result<Vec<Row>, Error
     ensures rows { HasCleanDisk (state S.Store conn.new) → IfOk result (λ found. (state S.Store conn.old).now.schema ≡ our_schema → IsPermutation (map (columns_of 5) ((state S.Store conn.old).now.trees 6)) found.items) }
     ensures read { OnOk result (conn.old.schema ≡ our_schema → Reads S.Store conn.old conn.new) }
     ensures mode { conn.old.in_transaction ≡ false → conn.new.in_transaction ≡ false }
+    ensures order { HasCleanDisk (state S.Store conn.new) → IfOk result (λ found. (state S.Store conn.old).now.schema ≡ our_schema → (c : Content) → IsFormed c → KeepsRows form c (state S.Store conn.old).now.trees → found.items ≡ map period_row (placed 0 c.periods)) }
+    ensures spares { conn.old.schema ≡ our_schema → Spares S.Store conn.old conn.new }
 {
     conn.query_all(
         "SELECT code, place, begins, ends, remit FROM period ORDER BY place",

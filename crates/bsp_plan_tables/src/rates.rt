@@ -2,11 +2,12 @@ ghost use Rattle.std.specs.Prelude.{◌≡◌, ◌<◌, ◌^◌, ◌+◌, ◌++�
 ghost use Rattle.sqlite.specs.Values.{bound};
 ghost use Rattle.sqlite.specs.Held.{state};
 ghost use Rattle.sqlite.specs.State.{HasCleanDisk};
-ghost use Rattle.bsp_tables.specs.Kept.{columns_of, Stands, Falls, IsInside, Reads};
+ghost use Rattle.bsp_tables.specs.Kept.{columns_of, Stands, Falls, IsInside, Reads, KeepsRows, Spares};
 ghost use Rattle.bsp_schema.specs.Schema.{our_schema};
-ghost use Rattle.bsp_columns.specs.Columns.{rate_row};
+ghost use Rattle.bsp_columns.specs.Columns.{rate_row, placed};
 ghost use Rattle.bsp_content.specs.Content.{Content, form};
 ghost use Rattle.bsp_plan_tables.specs.Values.{rate_values};
+ghost use Rattle.bsp_content.specs.Forms.{IsFormed};
 
 use bsp_calendar::Rate;
 use bsp_columns::airline_digits;
@@ -93,6 +94,8 @@ pub fn all_rates<S: Alter>(conn: &mut Connection<S>) -> Result<Vec<Row>, Error>
     ensures rows { HasCleanDisk (state S.Store conn.new) → IfOk result (λ found. (state S.Store conn.old).now.schema ≡ our_schema → IsPermutation (map (columns_of 4) ((state S.Store conn.old).now.trees 4)) found.items) }
     ensures read { OnOk result (conn.old.schema ≡ our_schema → Reads S.Store conn.old conn.new) }
     ensures mode { conn.old.in_transaction ≡ false → conn.new.in_transaction ≡ false }
+    ensures order { HasCleanDisk (state S.Store conn.new) → IfOk result (λ found. (state S.Store conn.old).now.schema ≡ our_schema → (c : Content) → IsFormed c → KeepsRows form c (state S.Store conn.old).now.trees → found.items ≡ map rate_row (placed 0 c.rates)) }
+    ensures spares { conn.old.schema ≡ our_schema → Spares S.Store conn.old conn.new }
 {
     conn.query_all(
         "SELECT airline, begins, place, hundredths FROM rate ORDER BY place",

@@ -1,13 +1,14 @@
 //! The entries of the plan, read back from rows that any program may have written.
 
-ghost use Rattle.std.specs.Prelude.{◌≡◌, ◌≢◌, ◌<◌, ◌^◌, ℕ, IsTrue, MatchOption};
+ghost use Rattle.std.specs.Prelude.{◌≡◌, ◌<◌, ◌^◌, ℕ, IfSome, IsTrue};
 ghost use Rattle.sqlite_value.specs.Order.{column};
 ghost use Rattle.bsp_fields.specs.CivilDay.{CivilDay, is_day};
 ghost use Rattle.bsp_calendar.specs.declared.entries.Period.{Period as PeriodEntry};
 ghost use Rattle.bsp_calendar.specs.declared.entries.Rate.{Rate as RateEntry};
 ghost use Rattle.bsp_calendar.specs.declared.entries.Terms.{Terms as TermsEntry};
 ghost use Rattle.bsp_columns.specs.Columns.{airline_text};
-ghost use Rattle.bsp_plan_tables.specs.Reading.{int_in, IsMetaRow, IsTermsRow, IsRateRow, IsPeriodRow, AreTerms, IsRate, IsPeriod};
+ghost use Rattle.bsp_plan_tables.specs.Reading.{int_in, IsMetaRow, IsTermsRow, IsRateRow, IsPeriodRow};
+ghost use Rattle.bsp_content.specs.Forms.{AreTerms, IsRate, IsPeriod};
 
 use crate::columns::{airline_at, currency_at, day_at, int_at, number_at, period_at};
 use bsp_calendar::{Period, Rate, Terms};
@@ -23,9 +24,8 @@ pub fn read_version(row: &Row) -> Option<i64>
 
 /// The business day and the number of closed periods of a row of `meta` of this version.
 pub fn read_meta(row: &Row) -> Option<(Day, u64)>
-    ensures { MatchOption result
-        ((day : CivilDay) (closed : ℕ) → IsTrue (is_day day) → closed < 2 ^ 63 → ¬ IsMetaRow row.now day closed)
-        (λ m. IsMetaRow row.now m.0 m.1) }
+    ensures row { IfSome result (λ m. IsMetaRow row.now m.0 m.1) }
+    ensures back { (day : CivilDay) (closed : ℕ) → IsTrue (is_day day) → closed < 2 ^ 63 → IsMetaRow row.now day closed → result ≡ Some (day, closed) }
 {
     if read_version(row)? != 1 {
         return None;
@@ -37,9 +37,8 @@ pub fn read_meta(row: &Row) -> Option<(Day, u64)>
 
 /// The terms of a row of `terms`.
 pub fn read_terms(row: &Row) -> Option<Terms>
-    ensures { MatchOption result
-        ((terms : TermsEntry) → AreTerms terms → ¬ IsTermsRow row.now terms)
-        (IsTermsRow row.now) }
+    ensures row { IfSome result (IsTermsRow row.now) }
+    ensures back { (terms : TermsEntry) → AreTerms terms → IsTermsRow row.now terms → result ≡ Some terms }
 {
     let currency = currency_at(row, 0)?;
     let review_days = number_at(row, 1, 1 << 8)? as u8;
@@ -53,18 +52,16 @@ pub fn read_terms(row: &Row) -> Option<Terms>
 
 /// The airline of a row of `airline`.
 pub fn read_airline(row: &Row) -> Option<AirlineCode>
-    ensures { MatchOption result
-        ((n : ℕ) → n < 10 ^ 3 → column row.now 0 ≢ airline_text n)
-        (λ n. column row.now 0 ≡ airline_text n) }
+    ensures row { IfSome result (λ n. column row.now 0 ≡ airline_text n) }
+    ensures back { (n : ℕ) → n < 10 ^ 3 → column row.now 0 ≡ airline_text n → result ≡ Some n }
 {
     airline_at(row, 0)
 }
 
 /// The rate of a row of `rate`.
 pub fn read_rate(row: &Row) -> Option<Rate>
-    ensures { MatchOption result
-        ((rate : RateEntry) → IsRate rate → ¬ IsRateRow row.now rate)
-        (IsRateRow row.now) }
+    ensures row { IfSome result (IsRateRow row.now) }
+    ensures back { (rate : RateEntry) → IsRate rate → IsRateRow row.now rate → result ≡ Some rate }
 {
     let airline = airline_at(row, 0)?;
     let from = day_at(row, 1)?;
@@ -78,9 +75,8 @@ pub fn read_rate(row: &Row) -> Option<Rate>
 
 /// The period of a row of `period`.
 pub fn read_period(row: &Row) -> Option<Period>
-    ensures { MatchOption result
-        ((period : PeriodEntry) → IsPeriod period → ¬ IsPeriodRow row.now period)
-        (IsPeriodRow row.now) }
+    ensures row { IfSome result (IsPeriodRow row.now) }
+    ensures back { (period : PeriodEntry) → IsPeriod period → IsPeriodRow row.now period → result ≡ Some period }
 {
     let code = period_at(row, 0)?;
     let first = day_at(row, 2)?;

@@ -2,11 +2,12 @@ ghost use Rattle.std.specs.Prelude.{◌≡◌, ◌<◌, ◌^◌, map, None, Some
 ghost use Rattle.sqlite.specs.Values.{bound};
 ghost use Rattle.sqlite.specs.Held.{state};
 ghost use Rattle.sqlite.specs.State.{HasCleanDisk};
-ghost use Rattle.bsp_tables.specs.Kept.{columns_of, Stands, Falls, IsInside, Reads};
+ghost use Rattle.bsp_tables.specs.Kept.{columns_of, Stands, Falls, IsInside, Reads, KeepsRows, Spares};
 ghost use Rattle.bsp_schema.specs.Schema.{our_schema};
-ghost use Rattle.bsp_columns.specs.Columns.{terms_row};
+ghost use Rattle.bsp_columns.specs.Columns.{terms_row, terms_rows};
 ghost use Rattle.bsp_content.specs.Content.{Content, form};
 ghost use Rattle.bsp_plan_tables.specs.Values.{terms_values};
+ghost use Rattle.bsp_content.specs.Forms.{IsFormed};
 
 use bsp_calendar::Terms;
 use sqlite::{Alter, Connection, Error, Row};
@@ -88,6 +89,8 @@ pub fn all_terms<S: Alter>(conn: &mut Connection<S>) -> Result<Vec<Row>, Error>
     ensures rows { HasCleanDisk (state S.Store conn.new) → IfOk result (λ found. (state S.Store conn.old).now.schema ≡ our_schema → IsPermutation (map (columns_of 3) ((state S.Store conn.old).now.trees 1)) found.items) }
     ensures read { OnOk result (conn.old.schema ≡ our_schema → Reads S.Store conn.old conn.new) }
     ensures mode { conn.old.in_transaction ≡ false → conn.new.in_transaction ≡ false }
+    ensures order { HasCleanDisk (state S.Store conn.new) → IfOk result (λ found. (state S.Store conn.old).now.schema ≡ our_schema → (c : Content) → IsFormed c → KeepsRows form c (state S.Store conn.old).now.trees → found.items ≡ terms_rows c.terms) }
+    ensures spares { conn.old.schema ≡ our_schema → Spares S.Store conn.old conn.new }
 {
     conn.query_all("SELECT currency, review, documents FROM terms", &[])
 }

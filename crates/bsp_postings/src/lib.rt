@@ -9,8 +9,6 @@ mod posting;
 mod removal;
 mod rows;
 mod tally;
-#[cfg(test)]
-mod tests;
 
 pub use law::{tallies_grow, tallies_shrink, two_sides};
 pub use posting::Posting;

@@ -5,7 +5,7 @@
 pub enum Answer {
     /// What it answers with ample memory.
     Ample,
-    /// Want of memory, by its name.
+    /// Out of memory, by its name.
     NoMemory,
     /// Anything else.
     Wrong,

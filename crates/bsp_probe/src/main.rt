@@ -1,6 +1,6 @@
-//! Makes each public call of the libraries that takes memory, on the worked examples, and judges the
-//! answer. A call has to answer as with ample memory, or to name the want of memory and to leave what it
-//! changes as it was. Then it is made again, and has to answer as with ample memory.
+//! Makes each public call of the libraries that takes memory, on the worked examples, and judges
+//! the answer. A call has to answer as with ample memory, or to say that it is out of memory and to
+//! leave what it changes as it was. Then it is made again, and has to answer as with ample memory.
 //!
 //! The status is 0 where each call does so. Else it is 1, and the name of the call is printed.
 //!

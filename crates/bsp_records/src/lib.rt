@@ -1,5 +1,5 @@
-//! What the records of RET and HOT files have in common: the lines of a text, kinds of characters,
-//! fields that are numbers, amounts, totals or days, and tax places.
+//! What the records of RET and HOT files have in common. These are the lines of a text, kinds of
+//! characters, fields that are numbers, amounts, totals or days, and tax places.
 #![tactic(auto)]
 
 mod characters;
@@ -7,8 +7,6 @@ mod fields;
 mod lines;
 mod numbers;
 mod taxes;
-#[cfg(test)]
-mod tests;
 
 pub use characters::{all_digits, all_letters, all_letters_or_digits, all_printable, all_spaces};
 pub use fields::{is_amount, is_record_day, is_total, is_wide};

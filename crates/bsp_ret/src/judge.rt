@@ -1,4 +1,4 @@
-//! The fault table over one record, behind records that stand so, and what the record says.
+//! The fault table over one record, after records in this state, and what the record says.
 
 ghost use Rattle.std.specs.Prelude.{◌≡◌, ◌+◌, ◌^◌, ◌<◌, ◌≤◌, length, true, false, Ok, Err, IfOk, IfErr};
 ghost use Rattle.bsp_fields.specs.FirstFault.{first_fault_or};
@@ -150,7 +150,7 @@ fn later_record(at: Standing, line: &[u8]) -> Result<Record, FaultCode>
     }
 }
 
-/// What a record says that is no fault behind records that stand so and have not ended, or the
+/// What a record says that is no fault after records in this state that have not ended, or the
 /// first row of the fault table that applies to it.
 pub(crate) fn judge_record(at: Standing, line: &[u8]) -> Result<Record, FaultCode>
     requires wide { is_wide line.now ≡ true }
@@ -169,8 +169,8 @@ pub(crate) fn judge_record(at: Standing, line: &[u8]) -> Result<Record, FaultCod
     }
 }
 
-/// What a line says that is a record without fault behind records that stand so, or the first row
-/// of the fault table that applies to it.
+/// What a line says that is a record without fault after records in this state, or the first row of
+/// the fault table that applies to it.
 #[tactic(auto, using(crate::proofs::SaidLemmas::ended_row, crate::proofs::SaidLemmas::narrow_row))]
 pub(crate) fn judge_line(at: Standing, line: &[u8]) -> Result<Record, FaultCode>
     requires room { at.records < 2 ^ 63 }

@@ -1,4 +1,5 @@
-//! RET files, in which agents report: read exactly where the grammar has them, or to their first fault.
+//! RET files, in which agents report: read if and only if the grammar has them, else to their first
+//! fault.
 #![tactic(auto)]
 
 mod building;
@@ -10,8 +11,6 @@ mod reader;
 mod reading;
 mod records;
 mod standing;
-#[cfg(test)]
-mod tests;
 mod values;
 
 pub use bsp_ret_records::{

@@ -26,14 +26,14 @@ pub enum FaultCode {
     F07,
     /// The file ends without a trailer.
     F08,
-    /// A line stands behind the trailer.
+    /// A line follows the trailer.
     F09,
     /// An allocation was refused.
     F10,
 }
 
-/// The first fault of a RET file, and the number of its record, counted from 1; F10, want of
-/// memory, has record 0.
+/// The first fault of a RET file, and the number of its record, counted from 1; F10, out of memory,
+/// has record 0.
 #[derive(Clone, Copy, Debug, PartialEq, Eq, Hash, Error)]
 #[error("{code:?} record {at}")]
 pub struct RetFault {
@@ -80,7 +80,7 @@ pub enum LastRecord {
     Trailer,
 }
 
-/// How the records before a place stand.
+/// The state of the records before a place.
 #[derive(Clone, Copy, Debug, PartialEq, Eq)]
 pub struct Standing {
     /// How many there are.
@@ -91,7 +91,7 @@ pub struct Standing {
     pub sum: i128,
     /// The code of the last record 2, TKTT where there is none.
     pub code: TransactionCode,
-    /// Whether a record 3 stands behind it.
+    /// Whether a record 3 follows it.
     pub related: bool,
     /// The kind of the last record.
     pub last: LastRecord,
@@ -109,7 +109,7 @@ pub enum Progress {
 }
 
 impl FaultCode {
-    /// The code as it is told: `F01` to `F10`.
+    /// The code as it is reported: `F01` to `F10`.
     pub fn text(self) -> [u8; 3]
         ensures { result ≡ fault_text self }
     {

@@ -10,8 +10,8 @@ use crate::judge::judge_line;
 use crate::model::{FaultCode, RetFault, Standing};
 use bsp_records::ended_line;
 
-/// Judges the lines that have an end, and whether a line begins behind a trailer. Answers how the
-/// records stand then, and the bytes that are left.
+/// Judges the lines that have an end, and whether a line begins behind a trailer. Answers the state
+/// of the records then, and the bytes that are left.
 pub(crate) fn judge_lines(at: Standing, bytes: &[u8]) -> Result<(Standing, &[u8]), RetFault>
     requires { FitsIn at (2 ^ 63 - length bytes.now) }
     ensures left { IfOk result (λ x. Leaves at bytes.now x.0 x.1.now) }
@@ -35,7 +35,7 @@ pub(crate) fn judge_lines(at: Standing, bytes: &[u8]) -> Result<(Standing, &[u8]
     Ok((now, rest))
 }
 
-/// Judges a last line without an end, if there is one. Answers how the records stand then.
+/// Judges a last line without an end, if there is one. Answers the state of the records then.
 fn judge_last(at: Standing, rest: &[u8]) -> Result<Standing, RetFault>
     requires fits { FitsIn at (2 ^ 63 - length rest.now) }
     requires unended { has_end rest.now ≡ false }
@@ -53,7 +53,7 @@ fn judge_last(at: Standing, rest: &[u8]) -> Result<Standing, RetFault>
     }
 }
 
-/// Judges the bytes that are left when no more come. Answers how the records stand then.
+/// Judges the bytes that are left when no more come. Answers the state of the records then.
 pub(crate) fn judge_rest(at: Standing, rest: &[u8]) -> Result<Standing, RetFault>
     requires fits { FitsIn at (2 ^ 63 - length rest.now) }
     requires unended { has_end rest.now ≡ false }

@@ -51,9 +51,9 @@ fn read(alloc: Global, bytes: &[u8]) -> Result<Building<'_>, RetFault>
 /// The first record at fault with the first row F01 to F09 of the fault table that applies to it;
 /// F10 with record 0 where an allocation was refused.
 pub fn read_ret(alloc: Global, bytes: &[u8]) -> Result<RetFile<'_>, RetFault>
-    // What is read stands in the relation.
+    // What is read is in the relation.
     ensures found { IfOk result (λ file. Ret (lines bytes.now) file) }
-    // What stands in the relation is read, unless memory runs out.
+    // What is in the relation is read, unless memory runs out.
     ensures only { (file : File) → Ret (lines bytes.now) file → (result ≡ Ok file) ⊎ (result ≡ Err no_memory) }
     // Which fault it is.
     ensures fault { IfErr result (λ e. (e ≡ no_memory) ⊎ (first_fault (lines bytes.now) ≡ Some e)) }
@@ -64,7 +64,7 @@ pub fn read_ret(alloc: Global, bytes: &[u8]) -> Result<RetFile<'_>, RetFault>
     }
 }
 
-/// No record is at fault exactly where some file stands in the relation, and no two files do.
+/// No record is at fault if and only if some file is in the relation, and no two files are.
 pub fn fault_or_file()
     ensures { (lines : List (List ℕ)) → FaultOrFile lines }
 {}

@@ -1,4 +1,4 @@
-//! What may stand behind a record of each kind.
+//! What may follow a record of each kind.
 
 ghost use Rattle.std.specs.Prelude.{◌≡◌, ◌+◌, ◌*◌, ◌^◌, ◌<◌, ◌≤◌, [], unsigned_abs};
 ghost use Rattle.bsp_ret.specs.Standings.{standing_with};
@@ -7,7 +7,7 @@ ghost use Rattle.bsp_ret.specs.Table.{kind, standing, has_ended, is_start, is_co
 use crate::model::{FaultCode, LastRecord, Record, RetFault, Standing};
 use bsp_ret_records::{FormOfPayment, TransactionCode};
 
-/// Whether the form may stand in a group with the code, which has a record 3 or none.
+/// Whether the form may be in a group with the code, which has a record 3 or none.
 fn has_form(code: TransactionCode, related: bool, form: FormOfPayment) -> bool
     ensures { result ≡ has_form code related form }
 {
@@ -26,7 +26,7 @@ fn is_later(before: FormOfPayment, form: FormOfPayment) -> bool
 }
 
 impl Standing {
-    /// How no records stand.
+    /// The state before any record.
     pub(crate) fn start() -> Standing
         ensures { result ≡ standing [] }
     {
@@ -40,7 +40,7 @@ impl Standing {
         }
     }
 
-    /// How they stand with one more record, which says this.
+    /// The state with one more record, which says this.
     pub(crate) fn with(self, next: &Record) -> Standing
         requires room { self.records < 2 ^ 63 }
         requires counted { self.transactions ≤ self.records }
@@ -142,7 +142,7 @@ impl LastRecord {
         }
     }
 
-    /// Whether the form, or one that is none of the three, may stand here.
+    /// Whether the form, or one that is none of the three, may come here.
     pub(crate) fn takes_form(
         self,
         code: TransactionCode,

@@ -26,7 +26,7 @@ pub enum FormOfPayment {
 }
 
 impl TransactionCode {
-    /// The code as it stands in columns 8 to 11 of record 2.
+    /// The code as it is in columns 8 to 11 of record 2.
     pub fn text(self) -> [u8; 4]
         ensures { result ≡ code_text self }
     {

@@ -8,8 +8,6 @@ mod header;
 mod payment;
 mod related;
 mod sale;
-#[cfg(test)]
-mod tests;
 mod trailer;
 mod transactions;
 

@@ -8,7 +8,7 @@ ghost use Rattle.bsp_ret_records.specs.Records.{IsFit, record_count, transaction
 use bsp_fields::{Total, read_total};
 use bsp_records::{all_digits, all_spaces, is_total, number_of};
 
-/// The number of records that a trailer tells, in seven characters.
+/// The number of records that a trailer reports, in seven characters.
 #[inline]
 pub fn record_count(line: &[u8]) -> &[u8]
     requires { length line.now ≡ 136 }
@@ -18,7 +18,7 @@ pub fn record_count(line: &[u8]) -> &[u8]
     &line[1..8]
 }
 
-/// The number of transactions that a trailer tells, in seven characters.
+/// The number of transactions that a trailer reports, in seven characters.
 #[inline]
 pub fn transaction_count(line: &[u8]) -> &[u8]
     requires { length line.now ≡ 136 }
@@ -28,7 +28,7 @@ pub fn transaction_count(line: &[u8]) -> &[u8]
     &line[8..15]
 }
 
-/// The sum that a trailer tells, in fifteen characters.
+/// The sum that a trailer reports, in fifteen characters.
 #[inline]
 fn total(line: &[u8]) -> &[u8]
     requires { length line.now ≡ 136 }
@@ -49,7 +49,7 @@ pub fn trailer_fits(line: &[u8]) -> bool
         && all_spaces(&line[30..136])
 }
 
-/// The number of records that a trailer tells.
+/// The number of records that a trailer reports.
 #[tactic(auto, using(crate::proofs::ValueLemmas::trailer_fields))]
 pub fn told_records(line: &[u8]) -> usize
     requires { IsFit trailer_fits line.now }
@@ -58,7 +58,7 @@ pub fn told_records(line: &[u8]) -> usize
     number_of(record_count(line)) as usize
 }
 
-/// The sum that a trailer tells.
+/// The sum that a trailer reports.
 pub fn told_sum(line: &[u8]) -> Total
     requires { IsFit trailer_fits line.now }
     ensures { zoned_reading 15 (total line.now) ≡ Ok result }

@@ -103,11 +103,11 @@ pub(crate) fn stored(transaction: Transaction)
     }
 }
 
-/// The values are those of a group in this profile: digits are digits, the passenger's name is
-/// printable, tax codes and the vendor are letters and digits, used tax places come first and
-/// their codes rise by bytes, the rate is at most 10,000, and there is no second related document;
-/// a TKTT has amounts, a form of payment, and a related document exactly where it has an exchange,
-/// an RFND has a related document, amounts, cash or credit, and no exchange, and a CANX has nothing
+/// The values are those of a group in this profile. Digits are digits, the passenger's name is
+/// printable, and tax codes and the vendor are letters and digits. Used tax places come first and
+/// their codes rise by bytes. The rate is at most 10,000, and there is no second related document.
+/// A TKTT has amounts, a form of payment, and a related document if and only if it has an exchange.
+/// An RFND has a related document, amounts, cash or credit, and no exchange. A CANX has nothing
 /// else.
 pub fn is_group(transaction: &Transaction) -> bool
     ensures value { result ≡ is_group_values transaction.now }

@@ -3,8 +3,6 @@
 
 mod content;
 mod file_text;
-#[cfg(test)]
-mod tests;
 mod writing;
 
 pub use content::is_group;

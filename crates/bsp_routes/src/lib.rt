@@ -14,8 +14,6 @@ mod patterns;
 mod resource;
 mod routes;
 mod target;
-#[cfg(test)]
-mod tests;
 mod values;
 
 pub use asking::Asking;

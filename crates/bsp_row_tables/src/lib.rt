@@ -1,6 +1,7 @@
-//! The tables of rows in memory, each with the indexes by which its rows are found: ranges by their last number,
-//! items by number and by airline and period, memos by agent and while they are not billed, tallies by airline
-//! and period and by period. What was written since the last commit can be taken back.
+//! The tables of rows in memory, each with the indexes by which its rows are found. Ranges are
+//! found by their last number, and items by number and by airline and period. Memos are found by
+//! agent and while they are not billed, tallies by airline and period and by period. What was
+//! written since the last commit can be taken back.
 #![tactic(auto)]
 
 mod items;
@@ -10,8 +11,6 @@ mod numbers;
 mod places;
 mod ranges;
 mod tallies;
-#[cfg(test)]
-mod tests;
 
 pub use items::ItemTable;
 pub use memos::MemoTable;

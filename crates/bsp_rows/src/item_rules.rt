@@ -49,8 +49,8 @@ fn bears_agent(item: &Item) -> bool
     }
 }
 
-/// An item is at its own key, is of the agent that its transaction bears, and its transaction is a group of
-/// the RET format with the right check digit.
+/// An item is at its own key, and is of the agent that its transaction bears. Its transaction is a
+/// group of the RET format with the right check digit.
 #[derive(Clone, Copy)]
 pub(crate) struct Right;
 
@@ -116,7 +116,7 @@ fn should_live(items: &BTreeMap<ItemKey, Item>, key: &ItemKey) -> bool
     key.is_canx || at(items, key.canx()).is_none()
 }
 
-/// An item lives exactly where it is a CANX or no CANX of its number is there.
+/// An item lives if and only if it is a CANX or no CANX of its number is there.
 #[derive(Clone, Copy)]
 pub(crate) struct Marked<'a>(pub(crate) &'a BTreeMap<ItemKey, Item>);
 

@@ -4,10 +4,11 @@ ghost use Rattle.bsp_rows.specs.Laws.{AcceptedIsFree, AcceptedIsSound, ActionIsS
 ghost use Rattle.bsp_rows.specs.Rows.{no_rows};
 ghost use Rattle.bsp_rows.specs.Sound.{Sound};
 
-/// No rows are sound, and each change of a desk keeps sound rows so: a transaction that the verdict accepts
-/// (whose key is free), a request for the plan, a close with its billings, a single billing in a closed
-/// period, an issue, an action on a memo, a range more or less, and a registration. The contract is the
-/// law; the body has nothing to do.
+/// To have no rows is sound, and each change of a desk keeps sound rows so. The changes are a
+/// transaction that the verdict accepts (whose key is free), a request for the plan, and a close
+/// with its billings. Further changes are a single billing in a closed period, an issue, an action
+/// on a memo, a range more or less, and a registration. The contract is the law; the body has
+/// nothing to do.
 pub fn sound_is_kept()
     ensures no_rows { Sound no_rows }
     ensures accepted { AcceptedIsSound }
@@ -24,8 +25,9 @@ pub fn sound_is_kept()
     ensures airline { AirlineIsSound }
 {}
 
-/// Of sound rows the facts on a transaction are found by key: over the items of the agent that share a
-/// number with it, with the count of the tally of its agent, airline and target period.
+/// Of sound rows the facts on a transaction are found by key. They are those over the items of the
+/// agent that share a number with it, with the count of the tally of its agent, airline and target
+/// period.
 pub fn facts_from_rows()
     ensures facts { FactsAreByKey }
     ensures no_target { FactsAreWithoutTarget }

@@ -10,8 +10,6 @@ mod laws;
 mod limits;
 mod questions;
 mod rules;
-#[cfg(test)]
-mod tests;
 
 pub use audit::are_sound;
 pub use keys::{ItemKey, MemoKey, RangeKey, TallyKey};

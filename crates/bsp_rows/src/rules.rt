@@ -83,8 +83,8 @@ fn is_keyed(key: &MemoKey, memo: &Memo) -> bool
     MemoKey::of(memo.fields()) == *key
 }
 
-/// A memo is at its own key, to a registered agent, issued on the business day or before, and not billed
-/// but in a closed period and as a close would bill it.
+/// A memo is at its own key, to a registered agent, and issued on the business day or before. It is
+/// not billed but in a closed period and as a close would bill it.
 #[derive(Clone, Copy)]
 pub(crate) struct SoundMemo<'a> {
     pub(crate) plan: &'a Plan,

@@ -13,16 +13,16 @@ pub struct Facts {
     pub held: Option<PeriodCode>,
     /// Whether the number is in a range of the agent.
     pub in_range: bool,
-    /// What stands under the transaction's own number.
+    /// What is there under the transaction's own number.
     pub own: OwnNumber,
-    /// What stands under each related document, in the places of the transaction.
+    /// What is there under each related document, in the places of the transaction.
     pub related: [Option<RelatedDocument>; 2],
     /// How many transactions of the airline have been accepted in the target period, cancelled ones
     /// and CANX too; 0 where there is no target.
     pub count: usize,
 }
 
-/// What stands under a transaction's own number.
+/// What is there under a transaction's own number.
 #[derive(Clone, Copy, Debug, PartialEq, Eq)]
 pub struct OwnNumber {
     /// Whether a transaction of any code has been accepted with it.
@@ -37,7 +37,7 @@ pub struct OwnNumber {
     pub is_related_to: bool,
 }
 
-/// What stands under a related document.
+/// What is there under a related document.
 #[derive(Clone, Copy, Debug, PartialEq, Eq)]
 pub struct RelatedDocument {
     /// The document, as the transaction reports it.

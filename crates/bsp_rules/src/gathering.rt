@@ -16,7 +16,7 @@ use bsp_calendar::Plan;
 use bsp_fields::{AirlineCode, PeriodCode};
 use bsp_ret_records::{ReportedDocument, Transaction};
 
-/// What stands under a transaction's own number.
+/// What is there under a transaction's own number.
 #[tactic(auto, unfolding(crate::specs::FactsOf::own_number))]
 fn own_number(items: &[Item], transaction: &Transaction, plan: &Plan) -> OwnNumber
     ensures { result ≡ own_number items.now transaction.now plan.now }
@@ -35,7 +35,7 @@ fn own_number(items: &[Item], transaction: &Transaction, plan: &Plan) -> OwnNumb
     }
 }
 
-/// What stands under a related document.
+/// What is there under a related document.
 #[tactic(auto, unfolding(crate::specs::FactsOf::related_document))]
 fn related_document(items: &[Item], place: &Option<ReportedDocument>) -> Option<RelatedDocument>
     ensures { result ≡ option_map (related_document items.now) place.now }
@@ -89,9 +89,10 @@ fn gathered(
     }
 }
 
-/// What of an agent's own rows bears on one transaction: whether the agent is registered, its ranges
-/// and its accepted items. The count apart, the facts are the same over those of the items alone whose
-/// number, or a related number, is the transaction's number or one of its related numbers.
+/// What of an agent's own rows bears on one transaction: whether the agent is registered, its
+/// ranges and its accepted items. The count apart, the facts are the same over some of the items
+/// alone. These are the items whose number, or a related number, is the transaction's number or one
+/// of its related numbers.
 pub fn facts_of(
     registered: bool,
     ranges: &[Range],

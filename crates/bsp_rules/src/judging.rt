@@ -69,7 +69,7 @@ fn ruled(
 }
 
 /// The verdict on a transaction, by what of its agent's own rows bears on it ([`facts_of`]) and by
-/// the plan: that of the first row of the table of verdicts that applies.
+/// the plan. It is that of the first row of the table of verdicts that applies.
 ///
 /// [`facts_of`]: crate::facts_of
 #[tactic(auto, unfolding(crate::specs::Verdicts::verdict_on))]

@@ -13,8 +13,6 @@ mod searching;
 mod sharing;
 mod stock;
 mod sums;
-#[cfg(test)]
-mod tests;
 mod tickets;
 mod verdict;
 

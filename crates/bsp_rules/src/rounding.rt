@@ -24,8 +24,8 @@ pub(crate) fn rounded(rate: u16, basis: i64) -> i128
 }
 
 /// The commission on a basis, in minor units, at a rate in hundredths of a percent of at most
-/// 10,000: the whole number nearest to `rate * basis / 10,000`, and of two such the one of greater
-/// size.
+/// 10,000. It is the whole number nearest to `rate * basis / 10,000`, and of two such the one of
+/// greater size.
 pub fn commission(rate: u16, basis: i64) -> i64
     requires { rate ≤ 10_000 }
     ensures value { IsCommission rate basis result }

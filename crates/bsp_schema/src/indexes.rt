@@ -1,6 +1,6 @@
 //! Tests of the indexes of the keys.
 
-ghost use Rattle.std.specs.Prelude.{◌≡◌, IsTrue};
+ghost use Rattle.std.specs.Prelude.{◌≡◌, ◌↔◌, IsTrue};
 ghost use Rattle.bsp_schema.specs.Schema.{our_indexes};
 
 use crate::plain::are_key_indexes;
@@ -21,7 +21,7 @@ const INDEXES: [(&[u8], u32, u32, &[usize]); 9] = [
 
 /// Whether the indexes are those of the nine keys, in this order.
 pub(crate) fn are_our_indexes(indexes: &[Index]) -> bool
-    ensures { IsTrue result → indexes.now ≡ our_indexes }
+    ensures { IsTrue result ↔ (indexes.now ≡ our_indexes) }
 {
     are_key_indexes(indexes, &INDEXES)
 }

@@ -10,10 +10,8 @@ mod made;
 mod openings;
 mod plain;
 mod tables;
-#[cfg(test)]
-mod tests;
 
-ghost use Rattle.std.specs.Prelude.{◌≡◌, IsTrue};
+ghost use Rattle.std.specs.Prelude.{◌≡◌, ◌↔◌, IsTrue};
 ghost use Rattle.bsp_schema.specs.Schema.{our_schema};
 
 pub use made::{is_bare, make_tables};
@@ -22,7 +20,7 @@ use sqlite_schema::schema::Schema;
 
 /// Whether the tables are the eleven of this crate, and nothing else is in the store.
 pub fn is_ours(schema: &Schema) -> bool
-    ensures { IsTrue result → schema.now ≡ our_schema }
+    ensures { IsTrue result ↔ (schema.now ≡ our_schema) }
 {
     tables::are_our_tables(schema.tables.as_slice())
         && indexes::are_our_indexes(schema.indexes.as_slice())

@@ -1,6 +1,6 @@
 //! Tests of the eleven tables.
 
-ghost use Rattle.std.specs.Prelude.{◌≡◌, [], ◌∷◌, IsTrue};
+ghost use Rattle.std.specs.Prelude.{◌≡◌, ◌↔◌, [], ◌∷◌, IsTrue};
 ghost use Rattle.bsp_schema.specs.Schema.{meta_table, terms_table, airline_table, rate_table, period_table, agent_table, airline_token_table, stock_table, item_table, memo_table, tally_table, our_tables};
 
 use crate::plain::{is_keyless, is_strict};
@@ -103,74 +103,74 @@ const TALLY: [(&[u8], Kind, bool); 11] = [
 ];
 
 fn is_meta(table: &Table) -> bool
-    ensures { IsTrue result → table.now ≡ meta_table }
+    ensures { IsTrue result ↔ (table.now ≡ meta_table) }
 {
     is_keyless(table, b"meta", 0, &META)
 }
 
 fn is_terms(table: &Table) -> bool
-    ensures { IsTrue result → table.now ≡ terms_table }
+    ensures { IsTrue result ↔ (table.now ≡ terms_table) }
 {
     is_keyless(table, b"terms", 1, &TERMS)
 }
 
 fn is_airline(table: &Table) -> bool
-    ensures { IsTrue result → table.now ≡ airline_table }
+    ensures { IsTrue result ↔ (table.now ≡ airline_table) }
 {
     is_strict(table, b"airline", 2, &AIRLINE, &[1])
 }
 
 fn is_rate(table: &Table) -> bool
-    ensures { IsTrue result → table.now ≡ rate_table }
+    ensures { IsTrue result ↔ (table.now ≡ rate_table) }
 {
     is_strict(table, b"rate", 4, &RATE, &[1, 2])
 }
 
 fn is_period(table: &Table) -> bool
-    ensures { IsTrue result → table.now ≡ period_table }
+    ensures { IsTrue result ↔ (table.now ≡ period_table) }
 {
     is_strict(table, b"period", 6, &PERIOD, &[1])
 }
 
 fn is_agent(table: &Table) -> bool
-    ensures { IsTrue result → table.now ≡ agent_table }
+    ensures { IsTrue result ↔ (table.now ≡ agent_table) }
 {
     is_strict(table, b"agent", 8, &AGENT, &[1])
 }
 
 fn is_airline_token(table: &Table) -> bool
-    ensures { IsTrue result → table.now ≡ airline_token_table }
+    ensures { IsTrue result ↔ (table.now ≡ airline_token_table) }
 {
     is_strict(table, b"airline_token", 10, &AIRLINE_TOKEN, &[1])
 }
 
 fn is_stock(table: &Table) -> bool
-    ensures { IsTrue result → table.now ≡ stock_table }
+    ensures { IsTrue result ↔ (table.now ≡ stock_table) }
 {
     is_strict(table, b"stock", 12, &STOCK, &[1, 2])
 }
 
 fn is_item(table: &Table) -> bool
-    ensures { IsTrue result → table.now ≡ item_table }
+    ensures { IsTrue result ↔ (table.now ≡ item_table) }
 {
     is_strict(table, b"item", 14, &ITEM, &[1, 2, 3])
 }
 
 fn is_memo(table: &Table) -> bool
-    ensures { IsTrue result → table.now ≡ memo_table }
+    ensures { IsTrue result ↔ (table.now ≡ memo_table) }
 {
     is_strict(table, b"memo", 16, &MEMO, &[1, 2])
 }
 
 fn is_tally(table: &Table) -> bool
-    ensures { IsTrue result → table.now ≡ tally_table }
+    ensures { IsTrue result ↔ (table.now ≡ tally_table) }
 {
     is_strict(table, b"tally", 18, &TALLY, &[1, 2, 3])
 }
 
 /// Whether the tables are the last three.
 fn are_records(tables: &[Table]) -> bool
-    ensures { IsTrue result → tables.now ≡ item_table ∷ memo_table ∷ tally_table ∷ [] }
+    ensures { IsTrue result ↔ (tables.now ≡ item_table ∷ memo_table ∷ tally_table ∷ []) }
 {
     match tables {
         [item, memo, tally] => is_item(item) && is_memo(memo) && is_tally(tally),
@@ -180,7 +180,7 @@ fn are_records(tables: &[Table]) -> bool
 
 /// Whether the tables are those from the agents on.
 fn are_holders(tables: &[Table]) -> bool
-    ensures { IsTrue result → tables.now ≡ agent_table ∷ airline_token_table ∷ stock_table ∷ item_table ∷ memo_table ∷ tally_table ∷ [] }
+    ensures { IsTrue result ↔ (tables.now ≡ agent_table ∷ airline_token_table ∷ stock_table ∷ item_table ∷ memo_table ∷ tally_table ∷ []) }
 {
     match tables {
         [agent, airline_token, stock, more @ ..] => is_agent(agent)
@@ -193,7 +193,7 @@ fn are_holders(tables: &[Table]) -> bool
 
 /// Whether the tables are those from the airlines on.
 fn are_calendar(tables: &[Table]) -> bool
-    ensures { IsTrue result → tables.now ≡ airline_table ∷ rate_table ∷ period_table ∷ agent_table ∷ airline_token_table ∷ stock_table ∷ item_table ∷ memo_table ∷ tally_table ∷ [] }
+    ensures { IsTrue result ↔ (tables.now ≡ airline_table ∷ rate_table ∷ period_table ∷ agent_table ∷ airline_token_table ∷ stock_table ∷ item_table ∷ memo_table ∷ tally_table ∷ []) }
 {
     match tables {
         [airline, rate, period, more @ ..] => is_airline(airline)
@@ -206,7 +206,7 @@ fn are_calendar(tables: &[Table]) -> bool
 
 /// Whether the tables are the eleven, in this order.
 pub(crate) fn are_our_tables(tables: &[Table]) -> bool
-    ensures { IsTrue result → tables.now ≡ our_tables }
+    ensures { IsTrue result ↔ (tables.now ≡ our_tables) }
 {
     match tables {
         [meta, terms, more @ ..] => is_meta(meta) && is_terms(terms) && are_calendar(more),

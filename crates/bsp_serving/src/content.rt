@@ -10,7 +10,7 @@ pub enum Content<'r> {
     Bytes(&'r [u8]),
     /// A RET file without fault.
     File(&'r RetFile<'r>),
-    /// The first fault of a RET file, or want of memory, F10.
+    /// The first fault of a RET file, or out of memory, F10.
     Fault(RetFault),
 }
 
@@ -26,8 +26,9 @@ impl<'r> Content<'r> {
     }
 }
 
-/// Each call with its content is read as some request of `bsp_step`. What a reader gave as a file is to be one, as
-/// each [`RetFile`] is, and of a plan text no list may have 2^63 entries, more than any memory holds.
+/// Each call with its content is read as some request of `bsp_step`. What a reader gave as a file
+/// is to be one, as each [`RetFile`] is. Of a plan text no list may have 2^63 entries, more than
+/// any memory holds.
 pub fn contents_are_read()
     ensures { EachContentIsRead }
 {}

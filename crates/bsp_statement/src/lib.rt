@@ -1,7 +1,7 @@
 //! The billing statement of an agent and the settlement of a period, whose two sides add up.
 //!
-//! Both are made of rows handed in, in any order: items, memos and the plan, or the tallies that the
-//! rows add up to.
+//! Both are made of the rows passed, in any order: items, memos and the plan, or the tallies that
+//! the rows add up to.
 #![tactic(auto)]
 
 mod columns;
@@ -11,8 +11,6 @@ mod nets;
 mod period;
 mod settlements;
 mod statements;
-#[cfg(test)]
-mod tests;
 
 pub use fault::StatementFault;
 pub use nets::{AgentNet, AirlineNet, Settlement};

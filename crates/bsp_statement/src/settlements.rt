@@ -131,12 +131,13 @@ fn write_settlement(
     })
 }
 
-/// The settlement of a closed period over the rows handed in, in any order.
+/// The settlement of a closed period over the rows passed, in any order.
 ///
-/// An agent or an airline stands in it where it has a living TKTT or RFND of the period or a memo billed
-/// in it. The first line of the report is `SETTLEMENT`, `PERIOD`, the period, `REMIT`, its remittance day
-/// and the currency. Then come a line `AGENT` for each agent, `TOTAL AGENTS`, a line `AIRLINE` for each
-/// airline and `TOTAL AIRLINES`: a label and a name in 8 places each, and the net in 16. Lines end by LF.
+/// An agent or an airline is in it where it has a living TKTT or RFND of the period or a memo
+/// billed in it. The first line of the report is `SETTLEMENT`, `PERIOD`, the period, `REMIT`, its
+/// remittance day and the currency. Then come a line `AGENT` for each agent, `TOTAL AGENTS`, a line
+/// `AIRLINE` for each airline and `TOTAL AIRLINES`. Such a line has a label and a name in 8 places
+/// each, and the net in 16. Lines end by LF.
 ///
 /// # Errors
 ///
@@ -164,8 +165,8 @@ pub fn settlement(
     Ok(settlement)
 }
 
-/// The settlement of a closed period over the tallies handed in, in any order. Where the tallies are the
-/// sums of rows, it is the settlement over these rows.
+/// The settlement of a closed period over the tallies passed, in any order. Where the tallies are
+/// the sums of rows, it is the settlement over these rows.
 ///
 /// # Errors
 ///

@@ -72,14 +72,15 @@ fn keep_agent(postings: &mut Vec<Posting>, agent: AgentCode)
     postings.retain(|posting| posting.agent == agent);
 }
 
-/// The statement of an agent for a closed period, over the agent's rows among those handed in, in any
+/// The statement of an agent for a closed period, over the agent's rows among those passed, in any
 /// order.
 ///
-/// The first line is `STATEMENT`, the agent, `PERIOD`, the period, `REMIT`, its remittance day and the
-/// currency. Then come the heading, a line for each airline that has a living TKTT or RFND of the
-/// period or a memo billed in it, rising by code, and the line `TOT` over all of them. A line has a name
-/// in 3 places, the number of TKTT and RFND in 8, and CASH, CREDIT, COMMISSION, MEMOS (ADMA less ACMA)
-/// and NET (CASH less COMMISSION plus MEMOS) in 16 places each. Lines end by LF.
+/// The first line is `STATEMENT`, the agent, `PERIOD`, the period, `REMIT`, its remittance day and
+/// the currency. Then come the heading, a line for each airline, rising by code, and the line `TOT`
+/// over all of them. An airline has a line where it has a living TKTT or RFND of the period or a
+/// memo billed in it. A line has a name in 3 places and the number of TKTT and RFND in 8. Then it
+/// has CASH, CREDIT, COMMISSION, MEMOS (ADMA less ACMA) and NET (CASH less COMMISSION plus MEMOS)
+/// in 16 places each. Lines end by LF.
 ///
 /// # Errors
 ///
@@ -108,8 +109,8 @@ pub fn statement(
     Ok(text)
 }
 
-/// The statement of an agent for a closed period, over the agent's tallies among those handed in, in any
-/// order. Where the tallies are the sums of rows, it is the statement over these rows.
+/// The statement of an agent for a closed period, over the agent's tallies among those passed, in
+/// any order. Where the tallies are the sums of rows, it is the statement over these rows.
 ///
 /// # Errors
 ///

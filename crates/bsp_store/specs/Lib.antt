@@ -1,3 +1,4 @@
+pub mod Faults
 pub mod Calls
 pub mod Meanings
 pub mod Saving

@@ -50,7 +50,7 @@ impl<S: Alter> SqlBook<S> {
         }
     }
 
-    /// Gives the connection back as it stands, also after a failure.
+    /// Gives the connection back as it is, also after a failure.
     pub fn release(self) -> Connection<S>
         ensures { result ≡ self.conn }
     {

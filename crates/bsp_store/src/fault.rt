@@ -1,5 +1,8 @@
 //! Why a store is not opened as a book.
 
+ghost use Rattle.std.specs.Prelude.{◌≡◌, false};
+ghost use Rattle.bsp_store.specs.Faults.{is_refusal};
+
 use bsp_list_tables::NoRoom;
 use sqlite::{Error as StoreError, ErrorCode};
 use std::alloc::AllocError;
@@ -22,29 +25,44 @@ pub enum OpenFault {
     OtherVersion,
 }
 
-/// What an error of `sqlite` means at an opening. A statement that does not fit the tables, or a value that is not of
-/// its kind, is damage.
-pub(crate) fn fault_of(error: StoreError) -> OpenFault {
+/// What an error of `sqlite` means at an opening.
+pub(crate) fn fault_of(error: StoreError) -> OpenFault
+    ensures { is_refusal result ≡ false }
+{
     match error {
         StoreError::SqliteFailure(ErrorCode::OutOfMemory | ErrorCode::TooBig) => OpenFault::NoRoom,
-        StoreError::SqliteFailure(_) => OpenFault::Failed(error),
-        _ => OpenFault::Damaged,
+        _ => OpenFault::Failed(error),
     }
 }
 
 impl From<StoreError> for OpenFault {
+    ghost use Rattle.std.specs.Prelude.{◌≡◌, false};
+    ghost use Rattle.bsp_store.specs.Faults.{is_refusal};
+
+    ghost from_gives = { λ _ fault. is_refusal fault ≡ false };
+
     fn from(error: StoreError) -> OpenFault {
         fault_of(error)
     }
 }
 
 impl From<NoRoom> for OpenFault {
+    ghost use Rattle.std.specs.Prelude.{◌≡◌};
+    ghost use Rattle.bsp_store.specs.declared.fault.OpenFault.TheVariants.{NoRoom};
+
+    ghost from_gives = { λ _ fault. fault ≡ NoRoom };
+
     fn from(_: NoRoom) -> OpenFault {
         OpenFault::NoRoom
     }
 }
 
 impl From<AllocError> for OpenFault {
+    ghost use Rattle.std.specs.Prelude.{◌≡◌};
+    ghost use Rattle.bsp_store.specs.declared.fault.OpenFault.TheVariants.{NoRoom};
+
+    ghost from_gives = { λ _ fault. fault ≡ NoRoom };
+
     fn from(_: AllocError) -> OpenFault {
         OpenFault::NoRoom
     }

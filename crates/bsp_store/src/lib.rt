@@ -10,8 +10,6 @@ mod parts;
 mod plans;
 mod reading;
 mod saving;
-#[cfg(test)]
-mod tests;
 mod written;
 
 pub use book::SqlBook;

@@ -1,6 +1,8 @@
 //! A store opened as a book.
 
-ghost use Rattle.std.specs.Prelude.{◌≡◌, false, IfOk, None, OnOk, IsTrue};
+ghost use Rattle.std.specs.Prelude.{◌≡◌, ◌⊎◌, true, false, IfErr, IfOk, None, OnOk, IsTrue, MatchResult};
+ghost use Rattle.sqlite_trees.specs.Tree.{Trees};
+ghost use Rattle.sqlite_trees.specs.View.{IsClean};
 ghost use Rattle.sqlite.specs.Held.{state};
 ghost use Rattle.sqlite.specs.Steps.{over_memory};
 ghost use Rattle.sqlite.specs.Start.{FindsIn};
@@ -11,10 +13,12 @@ ghost use Rattle.bsp_rows.specs.Rows.{no_rows};
 ghost use Rattle.bsp_rows.specs.Sound.{Sound};
 ghost use Rattle.bsp_list_tables.specs.Tables.{rows_of};
 ghost use Rattle.bsp_content.specs.Contents.{content_now};
-ghost use Rattle.bsp_stored_rows.specs.Stored.{AreCommitted, AreRowsOf};
+ghost use Rattle.bsp_stored_rows.specs.Stored.{AreCommitted, AreNoBook, AreRowsOf};
+ghost use Rattle.bsp_tables.specs.Kept.{Spares};
+ghost use Rattle.bsp_store.specs.Faults.{is_refusal};
 ghost use Rattle.bsp_schema.specs.Schema.{no_schema, our_schema};
 ghost use Rattle.bsp_store.specs.Meanings.{Holds};
-ghost use Rattle.bsp_store.specs.Opening.{Adopts, IsFoundIn, IsRead, IsOrdered, Reopens};
+ghost use Rattle.bsp_store.specs.Opening.{Adopts, HasNoBook, IfRefused, IsFoundIn, IsNoBook, IsOrdered, IsRead, LeavesCommitted, Refuses, Reopens, SparesStore, WasForeign, WasNoBook};
 
 use crate::book::SqlBook;
 use crate::ends::{close_transaction, open_transaction};
@@ -33,6 +37,7 @@ use std::alloc::Global;
 fn expect_rest<S: Alter>(conn: &Connection<S>) -> Result<(), OpenFault>
     ensures outside { OnOk result (conn.now.in_transaction ≡ false) }
     ensures settled { OnOk result (IsTrue (state S.Store conn.now).is_open → (state S.Store conn.now).now ≡ (state S.Store conn.now).committed) }
+    ensures refused { IfErr result (λ fault. is_refusal fault ≡ false) }
 {
     if conn.is_autocommit() {
         Ok(())
@@ -46,6 +51,8 @@ fn sound_tables(alloc: Global, rows: &StoredRows) -> Result<Tables, OpenFault>
     ensures committed { IfOk result AreCommitted }
     ensures rows { IfOk result (λ tables. AreRowsOf (content_now tables) rows.now) }
     ensures sound { IfOk result (λ tables. Sound (rows_of tables)) }
+    ensures refused { IfErr result (λ fault. is_refusal fault ≡ true → AreNoBook rows.now) }
+    ensures fault { IfErr result (λ fault. (fault ≡ OpenFault.NoRoom) ⊎ (fault ≡ OpenFault.Damaged)) }
 {
     let Some(tables) = tables_of(alloc, rows)? else {
         return Err(OpenFault::Damaged);
@@ -58,7 +65,9 @@ fn sound_tables(alloc: Global, rows: &StoredRows) -> Result<Tables, OpenFault>
 
 /// The book in memory that the tables of a store keep.
 fn kept_list<S: Alter>(alloc: Global, conn: &mut Connection<S>) -> Result<ListBook, OpenFault>
-    ensures { IfOk result (λ list. IsOrdered S.Store conn.old → IsRead S.Store conn.old conn.new list (rows_of list.tables)) }
+    ensures read { IfOk result (λ list. IsOrdered S.Store conn.old → IsRead S.Store conn.old conn.new list (rows_of list.tables)) }
+    ensures refused { IfErr result (λ fault. is_refusal fault ≡ true → HasNoBook S.Store fault conn.old conn.new) }
+    ensures spares { Spares S.Store conn.old conn.new }
 {
     let rows = stored_rows(conn)?;
     let tables = sound_tables(alloc, &rows)?;
@@ -93,7 +102,9 @@ fn again<S: Alter + Drop>(
     alloc: Global,
     conn: Connection<S>,
 ) -> Result<Connection<S>, (OpenFault, S)>
-    ensures { IfOk result (Reopens S.Store conn) }
+    ensures ok { IfOk result (Reopens S.Store conn) }
+    ensures refused { IfErr result (λ e. is_refusal e.0 ≡ false) }
+    ensures left { IfErr result (λ e. LeavesCommitted S.Store conn e.1) }
 {
     match reopen(alloc, conn) {
         Ok(conn) => Ok(conn),
@@ -106,7 +117,9 @@ fn kept_book<S: Alter + Drop>(
     alloc: Global,
     mut conn: Connection<S>,
 ) -> Result<SqlBook<S>, (OpenFault, S)>
-    ensures { IfOk result (λ book. IsOrdered S.Store conn → IsFoundIn S.Store conn book) }
+    ensures found { IfOk result (λ book. IsOrdered S.Store conn → IsFoundIn S.Store conn book) }
+    ensures refused { IfErr result (λ e. is_refusal e.0 ≡ true → IsClean (S.Store.view e.1) → IsNoBook e.0 (state S.Store conn).now) }
+    ensures left { IfErr result (λ e. (conn.schema ≡ our_schema → ⊥) ⊎ SparesStore S.Store conn e.1) }
 {
     if !is_ours(conn.schema()) {
         return Err((refusal(&mut conn), conn.into_store()));
@@ -147,7 +160,9 @@ impl<S: Alter + Drop> SqlBook<S> {
     /// are not those of a book, a row is no row of a book, or the rows are not sound. `NoRoom`, where an allocation is
     /// refused. `Failed` with the error of the store, where it fails for another cause.
     pub fn adopt(alloc: Global, conn: Connection<S>) -> Result<SqlBook<S>, (OpenFault, S)>
-        ensures { IfOk result (Adopts S.Store conn) }
+        ensures ok { IfOk result (Adopts S.Store conn) }
+        ensures refused { IfErr result (λ e. is_refusal e.0 ≡ true → WasNoBook S.Store e.0 conn e.1) }
+        ensures left { IfErr result (λ e. WasForeign S.Store conn ⊎ LeavesCommitted S.Store conn e.1) }
     {
         let conn = again(alloc, conn)?;
         if is_bare(&conn) {
@@ -188,7 +203,8 @@ impl<T: Start> SqlBook<FileStore<FileFrom<T>>> {
         path: &str,
         start: T,
     ) -> Result<SqlBook<FileStore<FileFrom<T>>>, OpenFault>
-        ensures { IfOk result (λ book. (conn : _) × (HasCleanDisk (file_state conn) → FindsIn (image_at T.Start) (file_state conn)) × Adopts over_files conn book) }
+        ensures ok { IfOk result (λ book. (conn : _) × (HasCleanDisk (file_state conn) → FindsIn (image_at T.Start) (file_state conn)) × Adopts over_files conn book) }
+        ensures refused { IfRefused result (λ fault conn left. (HasCleanDisk (file_state conn) → FindsIn (image_at T.Start) (file_state conn)) × Refuses over_files fault conn left) }
     {
         let conn = match Connection::open_from(rt, path, false, start) {
             Ok(conn) => conn,

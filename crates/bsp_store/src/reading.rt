@@ -1,18 +1,21 @@
 //! All rows of a store.
 
-ghost use Rattle.std.specs.Prelude.{◌≡◌, IfOk, OnOk};
+ghost use Rattle.std.specs.Prelude.{◌≡◌, true, IfErr, IfOk, MatchResult, OnOk};
 ghost use Rattle.sqlite.specs.Held.{state};
 ghost use Rattle.bsp_schema.specs.Schema.{our_schema};
-ghost use Rattle.bsp_store.specs.Opening.{AreAll, AreAllRows, AreCallerRows, AreDocumentRows, ArePlanRows, Finds};
+ghost use Rattle.bsp_tables.specs.Kept.{Spares};
+ghost use Rattle.bsp_content.specs.Content.{agent_part, airline_part, airline_token_part, item_part, memo_part, meta_part, period_part, rate_part, stock_part, tally_part, terms_part};
+ghost use Rattle.bsp_store.specs.Faults.{is_refusal};
+ghost use Rattle.bsp_store.specs.Opening.{AreAllOf, AreAllRows, AreCallerRows, AreDocumentRows, ArePlanRows, Finds, HasNoBook, IsOfVersion, Reports};
 
-use crate::fault::OpenFault;
+use crate::fault::{OpenFault, fault_of};
 use bsp_caller_tables::{all_agents, all_airline_tokens, all_ranges};
 use bsp_item_table::all_items;
 use bsp_memo_tables::{all_memos, all_tallies};
 use bsp_plan_tables::{all_airlines, all_meta, all_periods, all_rates, all_terms, read_version};
 use bsp_schema::is_ours;
 use bsp_stored_rows::StoredRows;
-use sqlite::{Alter, Connection, Row};
+use sqlite::{Alter, Connection, Error as StoreError, Row};
 
 /// The version of the tables.
 const VERSION: i64 = 1;
@@ -46,7 +49,7 @@ struct DocumentRows {
 /// Refuses a store that has other tables than a book. A query says nothing of the tables after it on a disk that gave
 /// wrong bytes, so each is preceded by this test.
 fn expect_tables<S: Alter>(conn: &Connection<S>) -> Result<(), OpenFault>
-    ensures { OnOk result (conn.now.schema ≡ our_schema) }
+    ensures { MatchResult result (λ done. conn.now.schema ≡ our_schema) (λ fault. ¬ (conn.now.schema ≡ our_schema)) }
 {
     if is_ours(conn.schema()) {
         Ok(())
@@ -56,7 +59,11 @@ fn expect_tables<S: Alter>(conn: &Connection<S>) -> Result<(), OpenFault>
 }
 
 /// Refuses rows of `meta` that have another version, or none.
-fn expect_version(rows: &[Row]) -> Result<(), OpenFault> {
+fn expect_version(rows: &[Row]) -> Result<(), OpenFault>
+    ensures ok { OnOk result (IsOfVersion rows.now) }
+    ensures refused { IfErr result (λ fault. ¬ IsOfVersion rows.now) }
+    ensures reported { IfErr result (λ fault. Reports fault rows.now) }
+{
     let Some(row) = rows.first() else {
         return Err(OpenFault::Damaged);
     };
@@ -68,77 +75,99 @@ fn expect_version(rows: &[Row]) -> Result<(), OpenFault> {
 }
 
 fn meta<S: Alter>(conn: &mut Connection<S>) -> Result<Vec<Row>, OpenFault>
-    ensures { IfOk result (λ rows. Finds S.Store conn.old conn.new (λ trees. AreAll trees 0 rows.items)) }
+    ensures found { IfOk result (λ rows. Finds S.Store conn.old conn.new (λ trees. AreAllOf meta_part trees rows.items)) }
+    ensures spares { Spares S.Store conn.old conn.new }
+    ensures refused { IfErr result (λ fault. is_refusal fault ≡ true → HasNoBook S.Store fault conn.old conn.new) }
 {
     expect_tables(conn)?;
     Ok(all_meta(conn)?)
 }
 
 fn terms<S: Alter>(conn: &mut Connection<S>) -> Result<Vec<Row>, OpenFault>
-    ensures { IfOk result (λ rows. Finds S.Store conn.old conn.new (λ trees. AreAll trees 1 rows.items)) }
+    ensures found { IfOk result (λ rows. Finds S.Store conn.old conn.new (λ trees. AreAllOf terms_part trees rows.items)) }
+    ensures spares { Spares S.Store conn.old conn.new }
+    ensures refused { IfErr result (λ fault. is_refusal fault ≡ true → HasNoBook S.Store fault conn.old conn.new) }
 {
     expect_tables(conn)?;
     Ok(all_terms(conn)?)
 }
 
 fn airlines<S: Alter>(conn: &mut Connection<S>) -> Result<Vec<Row>, OpenFault>
-    ensures { IfOk result (λ rows. Finds S.Store conn.old conn.new (λ trees. AreAll trees 2 rows.items)) }
+    ensures found { IfOk result (λ rows. Finds S.Store conn.old conn.new (λ trees. AreAllOf airline_part trees rows.items)) }
+    ensures spares { Spares S.Store conn.old conn.new }
+    ensures refused { IfErr result (λ fault. is_refusal fault ≡ true → HasNoBook S.Store fault conn.old conn.new) }
 {
     expect_tables(conn)?;
     Ok(all_airlines(conn)?)
 }
 
 fn rates<S: Alter>(conn: &mut Connection<S>) -> Result<Vec<Row>, OpenFault>
-    ensures { IfOk result (λ rows. Finds S.Store conn.old conn.new (λ trees. AreAll trees 4 rows.items)) }
+    ensures found { IfOk result (λ rows. Finds S.Store conn.old conn.new (λ trees. AreAllOf rate_part trees rows.items)) }
+    ensures spares { Spares S.Store conn.old conn.new }
+    ensures refused { IfErr result (λ fault. is_refusal fault ≡ true → HasNoBook S.Store fault conn.old conn.new) }
 {
     expect_tables(conn)?;
     Ok(all_rates(conn)?)
 }
 
 fn periods<S: Alter>(conn: &mut Connection<S>) -> Result<Vec<Row>, OpenFault>
-    ensures { IfOk result (λ rows. Finds S.Store conn.old conn.new (λ trees. AreAll trees 6 rows.items)) }
+    ensures found { IfOk result (λ rows. Finds S.Store conn.old conn.new (λ trees. AreAllOf period_part trees rows.items)) }
+    ensures spares { Spares S.Store conn.old conn.new }
+    ensures refused { IfErr result (λ fault. is_refusal fault ≡ true → HasNoBook S.Store fault conn.old conn.new) }
 {
     expect_tables(conn)?;
     Ok(all_periods(conn)?)
 }
 
 fn agents<S: Alter>(conn: &mut Connection<S>) -> Result<Vec<Row>, OpenFault>
-    ensures { IfOk result (λ rows. Finds S.Store conn.old conn.new (λ trees. AreAll trees 8 rows.items)) }
+    ensures found { IfOk result (λ rows. Finds S.Store conn.old conn.new (λ trees. AreAllOf agent_part trees rows.items)) }
+    ensures spares { Spares S.Store conn.old conn.new }
+    ensures refused { IfErr result (λ fault. is_refusal fault ≡ true → HasNoBook S.Store fault conn.old conn.new) }
 {
     expect_tables(conn)?;
     Ok(all_agents(conn)?)
 }
 
 fn airline_tokens<S: Alter>(conn: &mut Connection<S>) -> Result<Vec<Row>, OpenFault>
-    ensures { IfOk result (λ rows. Finds S.Store conn.old conn.new (λ trees. AreAll trees 10 rows.items)) }
+    ensures found { IfOk result (λ rows. Finds S.Store conn.old conn.new (λ trees. AreAllOf airline_token_part trees rows.items)) }
+    ensures spares { Spares S.Store conn.old conn.new }
+    ensures refused { IfErr result (λ fault. is_refusal fault ≡ true → HasNoBook S.Store fault conn.old conn.new) }
 {
     expect_tables(conn)?;
     Ok(all_airline_tokens(conn)?)
 }
 
 fn ranges<S: Alter>(conn: &mut Connection<S>) -> Result<Vec<Row>, OpenFault>
-    ensures { IfOk result (λ rows. Finds S.Store conn.old conn.new (λ trees. AreAll trees 12 rows.items)) }
+    ensures found { IfOk result (λ rows. Finds S.Store conn.old conn.new (λ trees. AreAllOf stock_part trees rows.items)) }
+    ensures spares { Spares S.Store conn.old conn.new }
+    ensures refused { IfErr result (λ fault. is_refusal fault ≡ true → HasNoBook S.Store fault conn.old conn.new) }
 {
     expect_tables(conn)?;
     Ok(all_ranges(conn)?)
 }
 
 fn items<S: Alter>(conn: &mut Connection<S>) -> Result<Vec<Row>, OpenFault>
-    ensures { IfOk result (λ rows. Finds S.Store conn.old conn.new (λ trees. AreAll trees 14 rows.items)) }
+    ensures found { IfOk result (λ rows. Finds S.Store conn.old conn.new (λ trees. AreAllOf item_part trees rows.items)) }
+    ensures spares { Spares S.Store conn.old conn.new }
+    ensures refused { IfErr result (λ fault. is_refusal fault ≡ true → HasNoBook S.Store fault conn.old conn.new) }
 {
     expect_tables(conn)?;
     Ok(all_items(conn)?)
 }
 
 fn memos<S: Alter>(conn: &mut Connection<S>) -> Result<Vec<Row>, OpenFault>
-    ensures { IfOk result (λ rows. Finds S.Store conn.old conn.new (λ trees. AreAll trees 16 rows.items)) }
+    ensures found { IfOk result (λ rows. Finds S.Store conn.old conn.new (λ trees. AreAllOf memo_part trees rows.items)) }
+    ensures spares { Spares S.Store conn.old conn.new }
+    ensures refused { IfErr result (λ fault. is_refusal fault ≡ true → HasNoBook S.Store fault conn.old conn.new) }
 {
     expect_tables(conn)?;
     Ok(all_memos(conn)?)
 }
 
 fn tallies<S: Alter>(conn: &mut Connection<S>) -> Result<Vec<Row>, OpenFault>
-    ensures { IfOk result (λ rows. Finds S.Store conn.old conn.new (λ trees. AreAll trees 18 rows.items)) }
+    ensures found { IfOk result (λ rows. Finds S.Store conn.old conn.new (λ trees. AreAllOf tally_part trees rows.items)) }
+    ensures spares { Spares S.Store conn.old conn.new }
+    ensures refused { IfErr result (λ fault. is_refusal fault ≡ true → HasNoBook S.Store fault conn.old conn.new) }
 {
     expect_tables(conn)?;
     Ok(all_tallies(conn)?)
@@ -146,7 +175,10 @@ fn tallies<S: Alter>(conn: &mut Connection<S>) -> Result<Vec<Row>, OpenFault>
 
 /// The rows of the plan, where the tables are of this version.
 fn plan_rows<S: Alter>(conn: &mut Connection<S>) -> Result<PlanRows, OpenFault>
-    ensures { IfOk result (λ rows. Finds S.Store conn.old conn.new (λ trees. ArePlanRows trees rows)) }
+    ensures found { IfOk result (λ rows. Finds S.Store conn.old conn.new (λ trees. ArePlanRows trees rows)) }
+    ensures version { IfOk result (λ rows. IsOfVersion rows.meta.items) }
+    ensures spares { Spares S.Store conn.old conn.new }
+    ensures refused { IfErr result (λ fault. is_refusal fault ≡ true → HasNoBook S.Store fault conn.old conn.new) }
 {
     let meta = meta(conn)?;
     expect_version(&meta)?;
@@ -164,7 +196,9 @@ fn plan_rows<S: Alter>(conn: &mut Connection<S>) -> Result<PlanRows, OpenFault>
 }
 
 fn caller_rows<S: Alter>(conn: &mut Connection<S>) -> Result<CallerRows, OpenFault>
-    ensures { IfOk result (λ rows. Finds S.Store conn.old conn.new (λ trees. AreCallerRows trees rows)) }
+    ensures found { IfOk result (λ rows. Finds S.Store conn.old conn.new (λ trees. AreCallerRows trees rows)) }
+    ensures spares { Spares S.Store conn.old conn.new }
+    ensures refused { IfErr result (λ fault. is_refusal fault ≡ true → HasNoBook S.Store fault conn.old conn.new) }
 {
     let agents = agents(conn)?;
     let airline_tokens = airline_tokens(conn)?;
@@ -177,7 +211,9 @@ fn caller_rows<S: Alter>(conn: &mut Connection<S>) -> Result<CallerRows, OpenFau
 }
 
 fn document_rows<S: Alter>(conn: &mut Connection<S>) -> Result<DocumentRows, OpenFault>
-    ensures { IfOk result (λ rows. Finds S.Store conn.old conn.new (λ trees. AreDocumentRows trees rows)) }
+    ensures found { IfOk result (λ rows. Finds S.Store conn.old conn.new (λ trees. AreDocumentRows trees rows)) }
+    ensures spares { Spares S.Store conn.old conn.new }
+    ensures refused { IfErr result (λ fault. is_refusal fault ≡ true → HasNoBook S.Store fault conn.old conn.new) }
 {
     let items = items(conn)?;
     let memos = memos(conn)?;
@@ -196,7 +232,10 @@ fn document_rows<S: Alter>(conn: &mut Connection<S>) -> Result<DocumentRows, Ope
 /// `OtherVersion`, where the tables are of another version. `Damaged`, where they are not those of a book. Those of the
 /// store.
 pub(crate) fn stored_rows<S: Alter>(conn: &mut Connection<S>) -> Result<StoredRows, OpenFault>
-    ensures { IfOk result (λ rows. Finds S.Store conn.old conn.new (λ trees. AreAllRows trees rows)) }
+    ensures found { IfOk result (λ rows. Finds S.Store conn.old conn.new (λ trees. AreAllRows trees rows)) }
+    ensures version { IfOk result (λ rows. IsOfVersion rows.meta.items) }
+    ensures spares { Spares S.Store conn.old conn.new }
+    ensures refused { IfErr result (λ fault. is_refusal fault ≡ true → HasNoBook S.Store fault conn.old conn.new) }
 {
     let plan = plan_rows(conn)?;
     let callers = caller_rows(conn)?;
@@ -220,7 +259,8 @@ pub(crate) fn stored_rows<S: Alter>(conn: &mut Connection<S>) -> Result<StoredRo
 pub(crate) fn refusal<S: Alter>(conn: &mut Connection<S>) -> OpenFault {
     let rows = match conn.query_all("SELECT version FROM meta", &[]) {
         Ok(rows) => rows,
-        Err(error) => return OpenFault::from(error),
+        Err(StoreError::SqliteFailure(code)) => return fault_of(StoreError::SqliteFailure(code)),
+        Err(_) => return OpenFault::Damaged,
     };
     match expect_version(&rows) {
         Ok(()) => OpenFault::Damaged,

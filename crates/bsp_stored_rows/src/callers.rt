@@ -1,6 +1,6 @@
 //! The tables of callers: each row against the tables in memory.
 
-ghost use Rattle.std.specs.Prelude.{◌≡◌, map, IsTrue};
+ghost use Rattle.std.specs.Prelude.{◌≡◌, ◌↔◌, map, IsTrue};
 ghost use Rattle.std.specs.FinMap.{entries};
 ghost use Rattle.bsp_columns.specs.Columns.{agent_row, airline_token_row, stock_row};
 ghost use Rattle.bsp_list_tables.specs.Tables.{rows_of};
@@ -50,8 +50,11 @@ pub(crate) struct Ranges;
 
 impl RowOf<RangeKey, Option<DocNumber>> for Ranges {
     ghost use Rattle.bsp_stored_rows.specs.Ranges.{row_up_to};
+    ghost use Rattle.std.specs.Prelude.{IsSome};
 
     ghost row_of = { λ e. row_up_to e.0 e.1 };
+
+    ghost has_row = { λ e. IsSome e.1 };
 
     fn is_row_of(&self, row: &Row, key: &RangeKey, last: &Option<DocNumber>) -> bool {
         match *last {
@@ -77,21 +80,21 @@ impl Rule<RangeKey, Option<DocNumber>> for Present {
 
 /// Whether the rows are those of the tokens of agents.
 pub(crate) fn are_agents(rows: &[Row], tables: &Tables) -> bool
-    ensures { IsTrue result → rows.now ≡ map agent_row (entries (rows_of tables.now).agents) }
+    ensures { IsTrue result ↔ (rows.now ≡ map agent_row (entries (rows_of tables.now).agents)) }
 {
     are_rows_of(&Agents, &Each, rows, tables.agent_tokens().map())
 }
 
 /// Whether the rows are those of the tokens of airlines.
 pub(crate) fn are_airline_tokens(rows: &[Row], tables: &Tables) -> bool
-    ensures { IsTrue result → rows.now ≡ map airline_token_row (entries (rows_of tables.now).airlines) }
+    ensures { IsTrue result ↔ (rows.now ≡ map airline_token_row (entries (rows_of tables.now).airlines)) }
 {
     are_rows_of(&AirlineTokens, &Each, rows, tables.airline_tokens().map())
 }
 
 /// Whether the rows are those of the ranges that are not withdrawn.
 pub(crate) fn are_ranges(rows: &[Row], table: &RangeTable) -> bool
-    ensures { IsTrue result → rows.now ≡ map stock_row (entries (range_rows table.now)) }
+    ensures { IsTrue result ↔ (rows.now ≡ map stock_row (entries (range_rows table.now))) }
 {
     are_rows_of(&Ranges, &Present, rows, table.map())
 }

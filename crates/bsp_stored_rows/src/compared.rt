@@ -2,6 +2,7 @@
 
 ghost use Rattle.std.specs.Prelude.{IsTrue};
 ghost use Rattle.bsp_content.specs.Contents.{content_now};
+ghost use Rattle.bsp_content.specs.Forms.{IsFormed};
 ghost use Rattle.bsp_stored_rows.specs.Stored.{AreRowsOf};
 
 use crate::callers::{are_agents, are_airline_tokens, are_ranges};
@@ -14,7 +15,8 @@ use bsp_list_tables::Tables;
 /// Whether the rows are those of the tables in memory, table by table and in the same order. It takes no
 /// memory, and time in proportion to the rows.
 pub fn are_rows(rows: &StoredRows, tables: &Tables) -> bool
-    ensures { IsTrue result → AreRowsOf (content_now tables.now) rows.now }
+    ensures same { IsTrue result → AreRowsOf (content_now tables.now) rows.now }
+    ensures whole { IsFormed (content_now tables.now) → AreRowsOf (content_now tables.now) rows.now → IsTrue result }
 {
     let plan = tables.plan();
     are_meta(&rows.meta, plan)

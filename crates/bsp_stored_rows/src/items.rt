@@ -1,6 +1,6 @@
 //! The table of items: each row against the items in memory.
 
-ghost use Rattle.std.specs.Prelude.{◌≡◌, map, IsTrue};
+ghost use Rattle.std.specs.Prelude.{◌≡◌, ◌↔◌, map, IsTrue};
 ghost use Rattle.std.specs.FinMap.{entries};
 ghost use Rattle.bsp_columns.specs.Columns.{item_row};
 ghost use Rattle.bsp_row_tables.specs.ItemTables.{item_rows};
@@ -29,7 +29,7 @@ impl RowOf<ItemKey, Item> for StoredItems {
 
 /// Whether the rows are those of the items.
 pub(crate) fn are_items(rows: &[Row], table: &ItemTable) -> bool
-    ensures { IsTrue result → rows.now ≡ map item_row (entries (item_rows table.now)) }
+    ensures { IsTrue result ↔ (rows.now ≡ map item_row (entries (item_rows table.now))) }
 {
     are_rows_of(&StoredItems, &Each, rows, table.map())
 }

@@ -12,8 +12,6 @@ mod plan;
 mod published;
 mod puts;
 mod stored;
-#[cfg(test)]
-mod tests;
 
 pub use compared::are_rows;
 pub use equal::is_row;

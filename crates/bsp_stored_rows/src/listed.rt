@@ -2,7 +2,7 @@
 
 ghost use Rattle.std.specs.Prelude.{◌≡◌, map, IsTrue};
 ghost use Rattle.std.specs.BTreeMap.{IsOrdered};
-ghost use Rattle.std.specs.List.{filter};
+ghost use Rattle.std.specs.List.{AllByRecursion, filter};
 ghost use Rattle.bsp_columns.specs.Columns.{placed};
 
 use bsp_maps::Rule;
@@ -16,9 +16,13 @@ pub trait RowOf<K, V> {
 
     ghost row_of: { K × V → Values };
 
+    // the entries that have a row
+    ghost has_row: { K × V → Type 0 } = { λ _. Unit {0} };
+
     /// Whether a row is that of an entry.
     fn is_row_of(&self, row: &Row, key: &K, value: &V) -> bool
-        ensures { IsTrue result → row.now ≡ row_of (key.now, value.now) };
+        ensures same { IsTrue result → row.now ≡ row_of (key.now, value.now) }
+        ensures whole { has_row (key.now, value.now) → row.now ≡ row_of (key.now, value.now) → IsTrue result };
 }
 
 /// Each entry has a row.
@@ -44,6 +48,7 @@ pub fn are_rows_of<K: Ord + Copy + Drop, V: Copy + Drop, T: RowOf<K, V>, H: Rule
 ) -> bool
     ensures ordered { IsOrdered K.cmp entries.now }
     ensures same { IsTrue result → rows.now ≡ map T.row_of (filter (λ e. H.holds rule.now e.0 e.1) entries.now.entries) }
+    ensures whole { AllByRecursion T.has_row (filter (λ e. H.holds rule.now e.0 e.1) entries.now.entries) → rows.now ≡ map T.row_of (filter (λ e. H.holds rule.now e.0 e.1) entries.now.entries) → IsTrue result }
 {
     let _count = entries.len();
     let mut rest = rows;
@@ -68,7 +73,8 @@ pub fn are_placed_rows_of<V: Copy + Drop, T: RowOf<usize, V>>(
     rows: &[Row],
     values: &[V],
 ) -> bool
-    ensures { IsTrue result → rows.now ≡ map T.row_of (placed 0 values.now) }
+    ensures same { IsTrue result → rows.now ≡ map T.row_of (placed 0 values.now) }
+    ensures whole { AllByRecursion T.has_row (placed 0 values.now) → rows.now ≡ map T.row_of (placed 0 values.now) → IsTrue result }
 {
     let mut rest = rows;
     for at in 0..values.len() {

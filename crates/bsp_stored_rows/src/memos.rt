@@ -1,6 +1,6 @@
 //! The tables of memos and of tallies: each row against those in memory.
 
-ghost use Rattle.std.specs.Prelude.{◌≡◌, map, IsTrue};
+ghost use Rattle.std.specs.Prelude.{◌≡◌, ◌↔◌, map, IsTrue};
 ghost use Rattle.std.specs.FinMap.{entries};
 ghost use Rattle.bsp_columns.specs.Columns.{memo_row, tally_row};
 ghost use Rattle.bsp_content.specs.Contents.{used_tallies};
@@ -61,14 +61,14 @@ impl Rule<TallyKey, Tally> for Used {
 
 /// Whether the rows are those of the memos.
 pub(crate) fn are_memos(rows: &[Row], table: &MemoTable) -> bool
-    ensures { IsTrue result → rows.now ≡ map memo_row (entries (memo_rows table.now)) }
+    ensures { IsTrue result ↔ (rows.now ≡ map memo_row (entries (memo_rows table.now))) }
 {
     are_rows_of(&StoredMemos, &Each, rows, table.map())
 }
 
 /// Whether the rows are those of the tallies to which some row adds.
 pub(crate) fn are_tallies(rows: &[Row], table: &TallyTable) -> bool
-    ensures { IsTrue result → rows.now ≡ map tally_row (entries (used_tallies (tally_rows table.now))) }
+    ensures { IsTrue result ↔ (rows.now ≡ map tally_row (entries (used_tallies (tally_rows table.now)))) }
 {
     are_rows_of(&StoredTallies, &Used, rows, table.map())
 }

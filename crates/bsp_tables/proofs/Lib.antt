@@ -1,4 +1,5 @@
 pub mod Reading
+pub mod Rising
 pub mod Ends
 pub mod Ending
 pub mod Writing

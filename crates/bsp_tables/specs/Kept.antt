@@ -67,3 +67,8 @@ pub record Reads {S : Type 0} (g : Ghosts S) (old new : Held S) : Type 0 where
   pub earlier : HasCleanDisk (state g new) → HasCleanDisk (state g old)
   pub same : HasCleanDisk (state g new) → (state g new).now ≡ (state g old).now
   pub is_open : HasCleanDisk (state g new) → IsTrue (state g new).is_open
+
+-- a query, whatever it answers, leaves to a stop no more than there was
+pub record Spares {S : Type 0} (g : Ghosts S) (old new : Held S) : Type 0 where
+  pub earlier : HasCleanDisk (state g new) → HasCleanDisk (state g old)
+  pub leaves : HasCleanDisk (state g new) → (db : Trees) → (state g new).may_leave db → (state g old).may_leave db

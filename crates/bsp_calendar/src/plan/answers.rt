@@ -9,8 +9,8 @@ use crate::plan::Plan;
 use bsp_fields::{AirlineCode, Day};
 
 impl Plan {
-    /// The rate of an airline on a day, in hundredths of a percent: that of its entry with the latest
-    /// first day not after the day, and 0 where there is none.
+    /// The rate of an airline on a day, in hundredths of a percent. It is that of the airline's
+    /// entry with the latest first day not after the day, and 0 where there is none.
     pub fn rate(&self, airline: AirlineCode, day: Day) -> u16
         ensures value { result ≡ rate_on self.now airline day }
         ensures latest { IsLatestRate self.now.rates airline day result }

@@ -3,7 +3,7 @@
 use super::files::{V1, front, text};
 use super::hot_files::{NO_DOCUMENTS, V3};
 use super::{Command, status_of};
-use crate::{Fault, check_within, hotcheck_within};
+use crate::{Fault, Verdict, check_within, hotcheck_within};
 use std::io;
 use std::io::{ErrorKind, Read, Write};
 use std::test::Fail;
@@ -210,14 +210,14 @@ fn writes_on_hot_files_are_followed(rt: HostRuntime) -> Result<(), Fail> {
     Ok(())
 }
 
-/// The status that the command answers within a limit.
-fn status_within(
+/// What the command answers within a limit.
+fn answer_within(
     rt: &HostRuntime,
     command: Command,
     input: &mut &[u8],
     written: &mut Vec<u8>,
     limit: u32,
-) -> Result<u8, Fault> {
+) -> Result<Verdict, Fault> {
     let limit = limit as usize;
     match command {
         Command::Check => check_within(rt.alloc(), input, written, limit),
@@ -235,10 +235,10 @@ fn follows_limit(
 ) -> bool {
     let mut input = bytes;
     let mut written = Vec::new(rt.alloc());
-    match status_within(rt, command, &mut input, &mut written, limit) {
-        Ok(status) => status == 0 && wanted == Ok(written.as_slice()) && input.is_empty(),
+    match answer_within(rt, command, &mut input, &mut written, limit) {
+        Ok(Verdict::Passed) => wanted == Ok(written.as_slice()) && input.is_empty(),
         Err(Fault::TooLong) => written.is_empty() && wanted == Err(input.len()),
-        Err(_) => false,
+        _ => false,
     }
 }
 

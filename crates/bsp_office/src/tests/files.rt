@@ -1,6 +1,6 @@
 //! Reports on RET files.
 
-use super::{Command, reports};
+use super::{Command, explains, reports};
 use std::test::Fail;
 
 const HEADER: &[u8] = b"1TSTA2401050930DE000001PROD001";
@@ -68,6 +68,23 @@ fn files_are_reported(rt: HostRuntime) -> Result<(), Fail> {
     ];
     for (bytes, status, report) in cases {
         assert!(rt; reports(&rt, Command::Check, bytes, status, report));
+    }
+    Ok(())
+}
+
+#[test]
+fn faults_are_explained(rt: HostRuntime) -> Result<(), Fail> {
+    let v1 = text(&rt, &V1, b"\n")?;
+    let cases: [(&[u8], &str); 3] = [
+        (
+            front(&v1, 272),
+            "record 2: it has 135 characters, and not 136",
+        ),
+        (front(&v1, 137), "record 2: the file ends without a trailer"),
+        (b"\x00\xff\n", "record 1: it has 2 characters, and not 136"),
+    ];
+    for (bytes, explanation) in cases {
+        assert!(rt; explains(&rt, Command::Check, bytes, explanation)?);
     }
     Ok(())
 }

@@ -1,7 +1,7 @@
 //! Reports on HOT files.
 
 use super::files::{front, text};
-use super::{Command, reports};
+use super::{Command, explains, reports};
 use std::test::Fail;
 
 const FILE: &[u8] = b"BFH000000010122024012240229EURPROD001";
@@ -54,6 +54,26 @@ fn hot_files_are_reported(rt: HostRuntime) -> Result<(), Fail> {
     ];
     for (bytes, status, report) in cases {
         assert!(rt; reports(&rt, Command::Hotcheck, bytes, status, report));
+    }
+    Ok(())
+}
+
+#[test]
+fn faults_of_hot_files_are_explained(rt: HostRuntime) -> Result<(), Fail> {
+    let v3 = text(&rt, &V3, b"\n")?;
+    let wrong_net = text(&rt, &[FILE, PERIOD, PERIOD_TOTALS, WRONG_TOTALS], b"\n")?;
+    let cases: [(&[u8], &str); 2] = [
+        (
+            front(&v3, 411),
+            "record 4: the file ends before this record",
+        ),
+        (
+            &wrong_net,
+            "record 4 (BFT99): the record is not allowed here, or a number or a total in it differs",
+        ),
+    ];
+    for (bytes, explanation) in cases {
+        assert!(rt; explains(&rt, Command::Hotcheck, bytes, explanation)?);
     }
     Ok(())
 }

@@ -1,6 +1,6 @@
 //! Words of a command line.
 
-use crate::{TokenSource, WordsFault, Work, words};
+use crate::{BookSource, TokenSource, WordsFault, Work, words};
 use clap::error::ErrorKind;
 
 /// The office's token in these tests.
@@ -9,7 +9,7 @@ const TOKEN: &str = "officetoken00001";
 /// Whether the words ask for a report on this RET file.
 fn ask_to_check(rt: &HostRuntime, line: &[&str], wanted: &str) -> bool {
     match words(rt.alloc(), line) {
-        Ok(Work::Check { file }) => file == wanted,
+        Ok(Work::Check { file, .. }) => file == wanted,
         _ => false,
     }
 }
@@ -17,7 +17,15 @@ fn ask_to_check(rt: &HostRuntime, line: &[&str], wanted: &str) -> bool {
 /// Whether the words ask for a report on this HOT file.
 fn ask_to_hotcheck(rt: &HostRuntime, line: &[&str], wanted: &str) -> bool {
     match words(rt.alloc(), line) {
-        Ok(Work::Hotcheck { file }) => file == wanted,
+        Ok(Work::Hotcheck { file, .. }) => file == wanted,
+        _ => false,
+    }
+}
+
+/// Whether the words ask for a report that is to be quiet.
+fn ask_for_quiet(rt: &HostRuntime, line: &[&str]) -> bool {
+    match words(rt.alloc(), line) {
+        Ok(Work::Check { quiet, .. } | Work::Hotcheck { quiet, .. }) => quiet,
         _ => false,
     }
 }
@@ -33,7 +41,7 @@ fn is_from(source: &TokenSource<'_>, wanted: &str) -> bool {
 /// Whether the work is one connection, at such an office.
 fn is_run(work: &Work<'_>, wanted: &str) -> bool {
     match work {
-        Work::Run { token } => is_from(token, wanted),
+        Work::Run { token, .. } => is_from(token, wanted),
         _ => false,
     }
 }
@@ -44,6 +52,14 @@ fn ask_to_run(rt: &HostRuntime, line: &[&str], wanted: &str) -> bool {
         return false;
     };
     is_run(&work, wanted)
+}
+
+/// Whether the words ask for one connection, at an office whose book is there.
+fn ask_for_book(rt: &HostRuntime, line: &[&str], wanted: &BookSource<'_>) -> bool {
+    match words(rt.alloc(), line) {
+        Ok(Work::Run { book, .. }) => book == *wanted,
+        _ => false,
+    }
 }
 
 /// The port and the number of connections that the words ask for.
@@ -91,8 +107,22 @@ fn words_ask_for_reports(rt: HostRuntime) {
 }
 
 #[test]
+fn words_ask_for_quiet(rt: HostRuntime) {
+    let cases: [(&[&str], bool); 4] = [
+        (&["bsp_office", "check", "--quiet", "v1.ret"], true),
+        (&["bsp_office", "hotcheck", "v3.hot", "--quiet"], true),
+        (&["bsp_office", "check", "v1.ret"], false),
+        (&["bsp_office", "check", "--", "--quiet"], false),
+    ];
+    for (line, quiet) in cases {
+        assert!(rt; ask_for_quiet(&rt, line) == quiet);
+    }
+}
+
+#[test]
 fn words_are_refused(rt: HostRuntime) {
     let cases: [(&[&str], ErrorKind); 12] = [
+        (&["bsp_office", "--version"], ErrorKind::DisplayVersion),
         (&["bsp_office", "check", "-x"], ErrorKind::UnknownArgument),
         (&["bsp_office", "check"], ErrorKind::MissingRequiredArgument),
         (
@@ -113,10 +143,6 @@ fn words_are_refused(rt: HostRuntime) {
         ),
         (
             &["bsp_office", "run", "--token", TOKEN, "--port", "80"],
-            ErrorKind::UnknownArgument,
-        ),
-        (
-            &["bsp_office", "run", "--token", TOKEN, "--db", "book"],
             ErrorKind::UnknownArgument,
         ),
         (
@@ -142,8 +168,17 @@ fn words_ask_to_run(rt: HostRuntime) {
 }
 
 #[test]
+fn the_book_is_in_memory_or_in_a_file(rt: HostRuntime) {
+    let line = ["bsp_office", "run", "--token", TOKEN];
+    assert!(rt; ask_for_book(&rt, &line, &BookSource::Memory));
+    let line = ["bsp_office", "run", "--token", TOKEN, "--db", "office.db"];
+    assert!(rt; ask_for_book(&rt, &line, &BookSource::File("office.db")));
+}
+
+#[test]
 fn one_token_is_given(rt: HostRuntime) {
-    let cases: [&[&str]; 4] = [
+    let cases: [&[&str]; 5] = [
+        &["bsp_office", "run", "--token", TOKEN, "--db", "-"],
         &["bsp_office", "run", "--token-file", "-"],
         &["bsp_office", "run", "--token", "short"],
         &["bsp_office", "run"],

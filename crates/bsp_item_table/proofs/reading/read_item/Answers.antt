@@ -1,7 +1,7 @@
 use Rattle.std.proofs.Common.{ap, ◌∙◌}
 use Rattle.sqlite_value.specs.Order.{column}
 use Rattle.bsp_item_table.specs.Reading.{entry_in}
-use Rattle.bsp_item_table.proofs.Days.{same_day}
+use Rattle.bsp_content.proofs.Days.{same_day}
 use Rattle.bsp_item_table.proofs.reading.read_item.Goals as goal
 
 pub returns-clause-day : goal.returns-clause-day

@@ -1,4 +1,4 @@
-use Rattle.std.proofs.Common.{◌≡◌, true, false, IsTrue, rules}
+use Rattle.std.proofs.Common.{◌≡◌, false, IsTrue, rules}
 use Rattle.bsp_content.specs.Content.{form}
 use Rattle.bsp_tables.proofs.Held.{undoes_on, nothing_to_undo}
 use Rattle.bsp_store.proofs.ends.undo.Goals as goal

@@ -1,5 +1,10 @@
-use Rattle.bsp_stored_rows.proofs.Maps.{used_kept}
+use Rattle.std.proofs.Common.{sym, ◌∙◌}
+use Rattle.std.specs.List.{filter}
+use Rattle.bsp_list_tables.specs.Lookups.{has_rows}
+use Rattle.bsp_stored_rows.proofs.Maps.{all_have, used_are}
 use Rattle.bsp_stored_rows.proofs.memos.are_tallies.Goals as goal
 
 pub returns : goal.returns
-returns c = λ t. used_kept c.args.table.now.rows c.map.result.now c.args.rows.now c.map.ensures c.are_rows_of.ensures.ordered (c.are_rows_of.ensures.same t)
+returns c =
+    let same = used_are c.args.table.now.rows c.map.result.now c.map.ensures c.are_rows_of.ensures.ordered in
+    (λ t. c.are_rows_of.ensures.same t ∙ same, λ is. c.are_rows_of.ensures.whole (all_have (filter (λ e. has_rows e.1) c.map.result.now.entries)) (is ∙ sym same))

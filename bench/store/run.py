@@ -1,0 +1,158 @@
+#!/usr/bin/env python3
+"""Measures the office over a book in a file against one in memory: the requests of bench/desk, over HTTP on one connection,
+their files of sales cut to what a body may have. Prints, for each request, the median of its microseconds over both, and
+their ratio; what an opening of the file takes; and what the file adds to a sale against twin.c, which has SQLite's own
+library run the same statements on the same book. It needs gcc, libsqlite3-dev and a disk whose syncs both can share.
+
+usage: bench/store/run.py [PROGRAM [ITEMS..]]     (by default the one that is built, 10,000 and 100,000 items)
+"""
+import contextlib
+import http.client
+import os
+import pathlib
+import shutil
+import socket
+import sqlite3
+import statistics
+import subprocess
+import sys
+import tempfile
+import time
+
+TOP = pathlib.Path(__file__).resolve().parents[2]
+sys.dont_write_bytecode = True
+sys.path.append(str(TOP / "bench" / "desk"))
+import make_requests
+
+PROGRAM = os.path.abspath(sys.argv[1]) if len(sys.argv) > 1 else f"{TOP}/crates/bsp_office/out/bsp_office"
+SIZES = [int(it) for it in sys.argv[2:]] or [10_000, 100_000]
+# a body has at most 4 MiB, about 7,600 sales
+MOST = 5_000
+
+
+class Market(make_requests.Market):
+    """The requests of bench/desk, with no file of more sales than a body may have."""
+
+    def post(self, name, path, token, file, sales):
+        for at in range(0, len(sales), MOST):
+            super().post(name, path, token, f"{file}-{at}", sales[at:at + MOST])
+
+
+def free_port():
+    with socket.socket() as it:
+        it.bind(("127.0.0.1", 0))
+        return it.getsockname()[1]
+
+
+class Office:
+    """The program as it serves, over a book in the file, or in memory where there is none."""
+
+    def __init__(self, file=None):
+        port, begun = free_port(), time.perf_counter()
+        words = ["serve", "--port", str(port), "--token", make_requests.OFFICE, *(["--db", file] if file else [])]
+        self.it = subprocess.Popen([PROGRAM, *words], stderr=subprocess.PIPE, text=True)
+        if "listening" not in self.it.stderr.readline():
+            sys.exit("the program does not listen")
+        self.opening = time.perf_counter() - begun
+        self.peer = http.client.HTTPConnection("127.0.0.1", port, timeout=600)
+
+    def ask(self, method, path, token, body):
+        """The status of the reply and its microseconds."""
+        begun = time.perf_counter()
+        self.peer.request(method, path, body or None, {"Bsp-Token": token})
+        reply = self.peer.getresponse()
+        reply.read()
+        return reply.status, (time.perf_counter() - begun) * 1e6
+
+    def most_memory(self):
+        """The most megabytes that it has had."""
+        text = pathlib.Path(f"/proc/{self.it.pid}/status").read_text()
+        return int(text.split("VmHWM:")[1].split()[0]) / 1024
+
+    def end(self):
+        self.peer.close()
+        self.it.kill()
+        self.it.wait()
+
+
+def make(items, folder):
+    """Writes the requests, and gives them, with the sales that are posted one by one."""
+    market = Market(folder)
+    ones = market.ask_all(items)
+    return [it.split("\t") for it in market.lines], ones
+
+
+def served(folder, lines, file=None):
+    """By name, the microseconds of the requests and the statuses of their replies; and the most memory."""
+    office, times, statuses = Office(file), {}, []
+    for name, method, path, token, body in lines:
+        data = (folder / body[1:]).read_bytes() if body.startswith("@") else body
+        status, took = office.ask(method, path, token, data)
+        times.setdefault(name, []).append(took)
+        statuses.append(status)
+    memory = office.most_memory()
+    office.end()
+    return times, statuses, memory
+
+
+def as_text(value):
+    """A value as twin.c reads it."""
+    return "n" if value is None else f"i{value}" if isinstance(value, int) else f"t{value}"
+
+
+def rows_of(book, sale):
+    """The values of the row of a sale and of that of its tally."""
+    item, = book.execute(
+        "SELECT * FROM item WHERE agent = ? AND number = ? AND canx = 0", (sale.agent, str(sale.number)))
+    tally, = book.execute(
+        "SELECT * FROM tally WHERE agent = ? AND airline = ? AND period = ?", (item[0], item[4], item[7]))
+    return "\t".join(map(as_text, item + tally)) + "\n"
+
+
+def twin_of(folder, ones):
+    """The microseconds of SQLite's own library for the rows of the sales, in a copy of the book without them."""
+    for end in "", "-wal":
+        shutil.copy(folder / f"office.db{end}", folder / f"twin.db{end}")
+    with contextlib.closing(sqlite3.connect(folder / "twin.db", isolation_level=None)) as book:
+        (folder / "rows").write_text("".join(rows_of(book, it) for it in ones))
+        book.execute("BEGIN")
+        for it in ones:
+            book.execute("DELETE FROM item WHERE agent = ? AND number = ?", (it.agent, str(it.number)))
+        book.execute("COMMIT")
+    subprocess.run(["gcc", "-O2", "-o", folder / "twin", TOP / "bench/store/twin.c", "-lsqlite3"], check=True)
+    ended = subprocess.run([folder / "twin", folder / "twin.db", folder / "rows"], check=True, capture_output=True)
+    return [int(it) / 1000 for it in ended.stdout.split()]
+
+
+def measure(items, folder):
+    lines, ones = make(items, folder)
+    file = str(folder / "office.db")
+    memory, wanted, least = served(folder, lines)
+    stored, found, most = served(folder, lines, file)
+    if wanted != found:
+        sys.exit("the statuses differ")
+    print(f"\n{items:,} items\n\n| Request | Requests | In memory | In a file | Ratio |\n|---|---|---|---|---|")
+    for name, times in memory.items():
+        ours, theirs = statistics.median(stored[name]), statistics.median(times)
+        print(f"| {name} | {len(times)} | {theirs:,.0f} | {ours:,.0f} | {ours / theirs:.2f} |")
+    added = statistics.median(stored["one"]) - statistics.median(memory["one"])
+    twin = statistics.median(twin_of(folder, ones))
+    print(f"\na sale: the file adds {added:,.0f} microseconds, {added / twin:.2f} times the {twin:,.0f} of SQLite's library")
+    openings = []
+    for _ in range(3):
+        office = Office(file)
+        openings.append(office.opening)
+        peak = office.most_memory()
+        office.end()
+    sizes = [os.path.getsize(it) / 1e6 for it in (file, f"{file}-wal")]
+    print(f"\nan opening: {min(openings):.2f} s, {peak:.0f} MB; the file {sizes[0]:.1f} MB, its log {sizes[1]:.1f} MB;")
+    print(f"the most memory over all requests: {most:.0f} MB in a file, {least:.0f} MB in memory")
+
+
+def main():
+    for items in SIZES:
+        with tempfile.TemporaryDirectory() as folder:
+            measure(items, pathlib.Path(folder))
+
+
+main()

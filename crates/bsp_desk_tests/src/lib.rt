@@ -1,0 +1,5 @@
+//! The tests of the desk.
+#![tactic(auto)]
+
+#[cfg(test)]
+mod examples;

@@ -1,0 +1,9 @@
+//! The tests of HTTP: conversations, the office over connections, and responses.
+#![tactic(auto)]
+
+#[cfg(test)]
+mod conversation;
+#[cfg(test)]
+mod http;
+#[cfg(test)]
+mod responses;

@@ -1,0 +1,41 @@
+//! What standard error says about the FILE of a command: one line, where something is wrong.
+
+use crate::fault::Fault;
+use crate::verdict::Verdict;
+use std::fmt::Display;
+use std::io;
+
+/// How a line names a FILE.
+fn named(file: &str) -> &str {
+    if file == "-" { "standard input" } else { file }
+}
+
+/// What a line says of a fault. The limit is that of `check` and `hotcheck`.
+fn cause(fault: Fault) -> &'static str {
+    match fault {
+        Fault::Read => "a read failed",
+        Fault::TooLong => "longer than 1,073,741,824 bytes",
+        Fault::Write => "a write failed",
+        Fault::Memory => "out of memory",
+    }
+}
+
+/// Says what is wrong at a place.
+fn say<D: Display>(rt: &HostRuntime, place: &str, what: &D) {
+    let _ = eprintln!(rt; "bsp_office: {place}: {what}");
+}
+
+/// Says why a FILE cannot be opened.
+pub(crate) fn say_unopened(rt: &HostRuntime, file: &str, error: &io::Error) {
+    say(rt, named(file), error);
+}
+
+/// Says which fault a FILE has, or why no whole report on it was written.
+pub(crate) fn say_answer(rt: &HostRuntime, file: &str, answer: &Result<Verdict, Fault>) {
+    match answer {
+        Ok(Verdict::Passed) => {}
+        Ok(Verdict::Refused(explanation)) => say(rt, named(file), explanation),
+        Err(Fault::Write) => say(rt, "standard output", &cause(Fault::Write)),
+        Err(fault) => say(rt, named(file), &cause(*fault)),
+    }
+}
