@@ -10,7 +10,7 @@ pub enum Name {
     Identifier,
     #[error("the profile")]
     Profile,
-    #[error("the mark of a file that is no test")]
+    #[error("the production status")]
     Production,
     /// The system that wrote a RET file.
     #[error("the system id")]

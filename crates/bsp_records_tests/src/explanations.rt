@@ -83,7 +83,7 @@ const RET: [Mistake; 46] = [
 const RET_EXPLAINED: &str = "\
 record 1, column 1: the identifier is not `1`
 record 1, columns 28-30: the profile is not `001`
-record 1, columns 24-27: the mark of a file that is no test is not `PROD`
+record 1, columns 24-27: the production status is not `PROD`
 record 1, columns 2-5: the system id has a character that is neither a digit nor a letter from A to Z
 record 1, columns 6-11: the date is not a day YYMMDD of the years 2000 to 2099
 record 1, columns 12-13: the hour is not a number in digits up to 23
@@ -159,7 +159,7 @@ const HOT: [HotMistake; 11] = [
 
 const HOT_EXPLAINED: &str = "\
 record 1 (BFH01), columns 14-16: the airline has a character that is not a digit
-record 1 (BFH01), columns 31-37: the mark of a file that is no test is not `PROD001`
+record 1 (BFH01), columns 31-37: the production status is not `PROD001`
 record 2 (BFH01), columns 4-11: the sequence number is not 00000002
 record 1, columns 12-13: no record has these digits in its name
 record 1, columns 1-3: the letters are not those of the name with these digits
