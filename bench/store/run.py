@@ -2,7 +2,8 @@
 """Measures the office over a book in a file against one in memory: the requests of bench/desk, over HTTP on one connection,
 their files of sales cut to what a body may have. Prints, for each request, the median of its microseconds over both, and
 their ratio; what an opening of the file takes; and what the file adds to a sale against twin.c, which has SQLite's own
-library run the same statements on the same book. It needs gcc, libsqlite3-dev and a disk whose syncs both can share.
+library run the same statements on the same book. For the last the sales are sent one behind another to `run`, as twin.c
+runs its transactions: neither waits for a peer. It needs gcc, libsqlite3-dev and a disk whose syncs both can share.
 
 usage: bench/store/run.py [PROGRAM [ITEMS..]]     (by default the one that is built, 10,000 and 100,000 items)
 """
@@ -17,6 +18,7 @@ import statistics
 import subprocess
 import sys
 import tempfile
+import threading
 import time
 
 TOP = pathlib.Path(__file__).resolve().parents[2]
@@ -28,6 +30,8 @@ PROGRAM = os.path.abspath(sys.argv[1]) if len(sys.argv) > 1 else f"{TOP}/crates/
 SIZES = [int(it) for it in sys.argv[2:]] or [10_000, 100_000]
 # a body has at most 4 MiB, about 7,600 sales
 MOST = 5_000
+# of what the file adds to a sale
+ROUNDS = 3
 
 
 class Market(make_requests.Market):
@@ -82,12 +86,63 @@ def make(items, folder):
     return [it.split("\t") for it in market.lines], ones
 
 
+def body_of(folder, body):
+    """The bytes of a body, which may be those of a file."""
+    return (folder / body[1:]).read_bytes() if body.startswith("@") else body.encode()
+
+
+class Stream:
+    """The program as it runs on standard input and output, over a book in the file, or in memory where there is none."""
+
+    def __init__(self, file=None):
+        words = ["run", "--token", make_requests.OFFICE, *(["--db", file] if file else [])]
+        self.it = subprocess.Popen([PROGRAM, *words], stdin=subprocess.PIPE, stdout=subprocess.PIPE)
+
+    def seconds(self, texts):
+        """The seconds from the first of these requests to the reply to the last, none waiting for a reply."""
+        def write():
+            self.it.stdin.write(b"".join(texts))
+            self.it.stdin.flush()
+
+        writer, begun, replies, rest = threading.Thread(target=write), time.perf_counter(), 0, b""
+        writer.start()
+        while replies < len(texts):
+            piece = os.read(self.it.stdout.fileno(), 1 << 20)
+            if not piece:
+                sys.exit("the program has ended")
+            text = rest + piece
+            replies += text.count(b"HTTP/1.1 ")
+            rest = text[-8:]
+        writer.join()
+        return time.perf_counter() - begun
+
+    def end(self):
+        self.it.kill()
+        self.it.wait()
+
+
+def text_of(folder, method, path, token, body):
+    """A request as it is sent."""
+    data = body_of(folder, body)
+    return f"{method} {path} HTTP/1.1\r\nHost: bsp\r\nBsp-Token: {token}\r\nContent-Length: {len(data)}\r\n\r\n".encode() + data
+
+
+def sale_in(folder, lines, file=None):
+    """The microseconds of a sale, all of them sent one behind another, after the requests that come before them."""
+    first = next(at for at, it in enumerate(lines) if it[0] == "one")
+    ones = [text_of(folder, *it[1:]) for it in lines if it[0] == "one"]
+    stream = Stream(file)
+    stream.seconds([text_of(folder, *it[1:]) for it in lines[:first]])
+    took = stream.seconds(ones)
+    stream.end()
+    return took / len(ones) * 1e6
+
+
 def served(folder, lines, file=None):
     """By name, the microseconds of the requests and the statuses of their replies; and the most memory."""
     office, times, statuses = Office(file), {}, []
     for name, method, path, token, body in lines:
-        data = (folder / body[1:]).read_bytes() if body.startswith("@") else body
-        status, took = office.ask(method, path, token, data)
+        status, took = office.ask(method, path, token, body_of(folder, body))
         times.setdefault(name, []).append(took)
         statuses.append(status)
     memory = office.most_memory()
@@ -135,9 +190,14 @@ def measure(items, folder):
     for name, times in memory.items():
         ours, theirs = statistics.median(stored[name]), statistics.median(times)
         print(f"| {name} | {len(times)} | {theirs:,.0f} | {ours:,.0f} | {ours / theirs:.2f} |")
-    added = statistics.median(stored["one"]) - statistics.median(memory["one"])
-    twin = statistics.median(twin_of(folder, ones))
-    print(f"\na sale: the file adds {added:,.0f} microseconds, {added / twin:.2f} times the {twin:,.0f} of SQLite's library")
+    sales = []
+    for at in range(ROUNDS):
+        added = sale_in(folder, lines, str(folder / f"sale-{at}.db")) - sale_in(folder, lines)
+        twin = statistics.mean(twin_of(folder, ones))
+        sales.append((added / twin, added, twin))
+    ratio, added, twin = statistics.median_low(sales)
+    print(f"\na sale, one behind another: the file adds {added:,.0f} microseconds, {ratio:.2f} times the {twin:,.0f} of")
+    print(f"SQLite's library; the {ROUNDS} rounds: {', '.join(f'{it[0]:.2f}' for it in sales)}")
     openings = []
     for _ in range(3):
         office = Office(file)

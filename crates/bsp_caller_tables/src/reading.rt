@@ -2,39 +2,13 @@
 
 ghost use Rattle.std.specs.Prelude.{◌≡◌, ℕ, List};
 ghost use Rattle.sqlite_value.specs.Order.{column};
-ghost use Rattle.bsp_caller_tables.specs.Reading.{agent_code_in, airline_code_in, number_in, token_in, agent_in, airline_token_in, range_in};
+ghost use Rattle.bsp_caller_tables.specs.Reading.{token_in, agent_in, airline_token_in, range_in};
 
+use bsp_columns::{agent_at, airline_at, number_at};
 use bsp_fields::{AgentCode, AirlineCode, DocNumber, Token};
 use bsp_rows::RangeKey;
 use sqlite::Row;
 use sqlite_value::value::ValueRef;
-
-fn agent_at(row: &Row, at: usize) -> Option<AgentCode>
-    ensures { result ≡ agent_code_in (column row.now at) }
-{
-    match row.get_ref(at) {
-        Ok(ValueRef::Text(text)) => AgentCode::read(text).ok(),
-        _ => None,
-    }
-}
-
-fn airline_at(row: &Row, at: usize) -> Option<AirlineCode>
-    ensures { result ≡ airline_code_in (column row.now at) }
-{
-    match row.get_ref(at) {
-        Ok(ValueRef::Text(text)) => AirlineCode::read(text).ok(),
-        _ => None,
-    }
-}
-
-fn number_at(row: &Row, at: usize) -> Option<DocNumber>
-    ensures { result ≡ number_in (column row.now at) }
-{
-    match row.get_ref(at) {
-        Ok(ValueRef::Text(text)) => DocNumber::read_unchecked(text).ok(),
-        _ => None,
-    }
-}
 
 fn token_at(row: &Row, at: usize) -> Option<Token>
     ensures { result ≡ token_in (column row.now at) }

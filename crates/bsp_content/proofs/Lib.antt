@@ -1,4 +1,5 @@
 pub mod Days
 pub mod Keys
 pub mod Orders
+pub mod Tallies
 pub mod Writes

@@ -39,8 +39,9 @@ use Rattle.bsp_rules.specs.declared.rows.Item.{Item}
 use Rattle.bsp_rows.specs.Sound.{IsRight}
 use Rattle.bsp_rows.specs.declared.keys.ItemKey.{ItemKey}
 use Rattle.bsp_columns.specs.Columns.{code_digits, airline_text, flag, taxes_text, count, item_row}
+use Rattle.bsp_columns.specs.Reading.{agent_in, amount_in, below, code_in, if_there}
 use Rattle.bsp_content.proofs.Keys.{code_digits-fits}
-use Rattle.bsp_item_table.specs.Reading.{agent_in, amount_in, amounts_in, below, card_in, code_in, document_in, entry_in, flag_in, if_there, item_in, key_in, kind_in, related_in, tax_in, taxes_in, transaction_in, wide_in}
+use Rattle.bsp_item_table.specs.Reading.{amounts_in, card_in, document_in, entry_in, flag_in, item_in, key_in, kind_in, related_in, tax_in, taxes_in, transaction_in, wide_in}
 
 abbrev places_text : List (Option Tax) → List ℕ
 places_text taxes = concat (map tax_text taxes)

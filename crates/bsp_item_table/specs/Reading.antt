@@ -1,14 +1,13 @@
 -- What an item's row reads as, whatever another program wrote there.
-use Rattle.std.specs.Prelude.{ℕ, zero, suc, ℤ, pos, ◌^◌, Bool, true, false, if◌then◌else◌, ◌==◌, nat_lt, List, [], ◌∷◌, codes, length, take, drop, slice_index, Option, Some, None, option_map, option_and_then}
+use Rattle.std.specs.Prelude.{ℕ, zero, suc, pos, ◌^◌, Bool, false, if◌then◌else◌, ◌==◌, List, [], ◌∷◌, codes, length, take, drop, slice_index, Option, Some, None, option_map, option_and_then}
 use Rattle.std.specs.Result.{result_ok}
 use Rattle.std.specs.Str.{bytes_eq}
 use Rattle.sqlite_value.specs.declared.value.Value.{Value}
-use Rattle.sqlite_value.specs.declared.value.Value.TheVariants.{Null, Int, Text}
+use Rattle.sqlite_value.specs.declared.value.Value.TheVariants.{Int, Text}
 use Rattle.sqlite_value.specs.Order.{Row, column}
 use Rattle.bsp_fields.specs.CivilDay.{CivilDay}
-use Rattle.bsp_fields.specs.Codes.{agent_reading, code_reading}
 use Rattle.bsp_fields.specs.Decimal.{fixed_digits}
-use Rattle.bsp_fields.specs.Zoned.{zoned_reading, within}
+use Rattle.bsp_fields.specs.Zoned.{zoned_reading}
 use Rattle.bsp_records.specs.Columns.{columns}
 use Rattle.bsp_ret_records.specs.declared.codes.TransactionCode.{TransactionCode}
 use Rattle.bsp_ret_records.specs.declared.codes.TransactionCode.TheVariants.{Tktt, Rfnd, Canx}
@@ -19,54 +18,24 @@ use Rattle.bsp_ret_records.specs.declared.transactions.Tax.{Tax}
 use Rattle.bsp_ret_records.specs.declared.transactions.Transaction.{Transaction}
 use Rattle.bsp_rows.specs.declared.keys.ItemKey.{ItemKey}
 use Rattle.bsp_rules.specs.declared.rows.Item.{Item}
+use Rattle.bsp_columns.specs.Reading.{agent_in, amount_in, below, code_in, if_there, text_in}
 
 -- ---- a column
-
-abbrev pub int_in : Value → Option ℤ
-int_in (Int n) = Some n
-int_in _ = None
-
-abbrev pub text_in : Value → Option (List ℕ)
-text_in (Text t) = Some t
-text_in _ = None
-
-abbrev pub is_null : Value → Bool
-is_null Null = true
-is_null _ = false
 
 -- a text of that many characters
 abbrev pub wide_in : ℕ → Value → Option (List ℕ)
 wide_in width (Text t) = if length t == width then Some t else None
 wide_in width _ = None
 
--- a number from 0 to below this
-abbrev pub below : ℕ → Value → Option ℕ
-below most (Int (pos n)) = if nat_lt n most then Some n else None
-below most _ = None
-
 abbrev pub flag_in : Value → Bool
 flag_in (Int (pos n)) = n == 1
 flag_in _ = false
-
-abbrev pub agent_in : Value → Option ℕ
-agent_in v = option_and_then (λ t. result_ok (agent_reading t)) (text_in v)
-
--- a code of that many digits
-abbrev pub code_in : ℕ → Value → Option ℕ
-code_in width v = option_and_then (λ t. result_ok (code_reading width t)) (text_in v)
-
-abbrev pub amount_in : Value → Option ℤ
-amount_in v = option_and_then (λ n. result_ok (within 99_999_999_999 n)) (int_in v)
 
 abbrev pub kind_of : List ℕ → Option TransactionCode
 kind_of t = if bytes_eq t (codes "TKTT") then Some Tktt else (if bytes_eq t (codes "RFND") then Some Rfnd else (if bytes_eq t (codes "CANX") then Some Canx else None))
 
 abbrev pub kind_in : Value → Option TransactionCode
 kind_in v = option_and_then kind_of (text_in v)
-
--- what several columns have, the first of which is NULL where there is nothing
-abbrev pub if_there : {A : Type 0} → Value → Option A → Option (Option A)
-if_there v read = if is_null v then Some None else option_map Some read
 
 -- ---- taxes
 

@@ -1,29 +1,16 @@
-//! Reading a column of a row.
+//! Reading the columns that only an item's row has.
 
-ghost use Rattle.std.specs.Prelude.{◌≡◌, ◌≢◌, ◌≤◌, ◌+◌, ◌^◌, length, take, drop, IsTrue, MatchOption, option_and_then};
+ghost use Rattle.std.specs.Prelude.{◌≡◌, ◌≤◌, ◌+◌, ◌^◌, length, take, drop, option_and_then};
 ghost use Rattle.sqlite_value.specs.Order.{column};
-ghost use Rattle.sqlite_value.specs.declared.value.Value.TheVariants.{Int};
-ghost use Rattle.bsp_fields.specs.CivilDay.{CivilDay, is_day};
-ghost use Rattle.bsp_fields.specs.Days.{day_number};
 ghost use Rattle.bsp_records.specs.Columns.{columns};
-ghost use Rattle.bsp_item_table.specs.Reading.{agent_in, amount_in, below, code_in, flag_in, is_null, kind_in, kind_of, tax_in, taxes_in, wide_in};
+ghost use Rattle.bsp_columns.specs.Reading.{below};
+ghost use Rattle.bsp_item_table.specs.Reading.{flag_in, kind_in, kind_of, tax_in, taxes_in, wide_in};
 
-use bsp_fields::{
-    AgentCode, AirlineCode, Amount, Day, DocNumber, PeriodCode, read_amount as read_zoned,
-};
+use bsp_columns::below_at;
+use bsp_fields::read_amount as read_zoned;
 use bsp_ret_records::{Tax, TransactionCode};
 use sqlite::Row;
 use sqlite_value::value::ValueRef;
-
-/// Whether a column is NULL or missing.
-pub(crate) fn is_null(row: &Row, at: usize) -> bool
-    ensures { result ≡ is_null (column row.now at) }
-{
-    match row.get_ref(at) {
-        Ok(ValueRef::Null) | Err(_) => true,
-        Ok(_) => false,
-    }
-}
 
 /// Whether a column is 1.
 pub(crate) fn read_flag(row: &Row, at: usize) -> bool
@@ -49,90 +36,14 @@ pub(crate) fn read_wide<const N: usize>(row: &Row, at: usize) -> Option<[u8; N]>
 pub(crate) fn read_byte(row: &Row, at: usize) -> Option<u8>
     ensures { result ≡ below (2 ^ 8) (column row.now at) }
 {
-    let number = match row.get_ref(at) {
-        Ok(ValueRef::Int(number)) => number,
-        _ => return None,
-    };
-    if number < 0 || number >= 256 {
-        return None;
-    }
-    Some(number as u8)
+    Some(below_at(row, at, 1 << 8)? as u8)
 }
 
 /// Reads a rate.
 pub(crate) fn read_rate(row: &Row, at: usize) -> Option<u16>
     ensures { result ≡ below (2 ^ 16) (column row.now at) }
 {
-    let number = match row.get_ref(at) {
-        Ok(ValueRef::Int(number)) => number,
-        _ => return None,
-    };
-    if number < 0 || number >= 65_536 {
-        return None;
-    }
-    Some(number as u16)
-}
-
-/// Reads an agent's code.
-pub(crate) fn read_agent(row: &Row, at: usize) -> Option<AgentCode>
-    ensures { result ≡ agent_in (column row.now at) }
-{
-    match row.get_ref(at) {
-        Ok(ValueRef::Text(text)) => AgentCode::read(text).ok(),
-        _ => None,
-    }
-}
-
-/// Reads a document number.
-pub(crate) fn read_number(row: &Row, at: usize) -> Option<DocNumber>
-    ensures { result ≡ code_in 10 (column row.now at) }
-{
-    match row.get_ref(at) {
-        Ok(ValueRef::Text(text)) => DocNumber::read_unchecked(text).ok(),
-        _ => None,
-    }
-}
-
-/// Reads an airline's code.
-pub(crate) fn read_airline(row: &Row, at: usize) -> Option<AirlineCode>
-    ensures { result ≡ code_in 3 (column row.now at) }
-{
-    match row.get_ref(at) {
-        Ok(ValueRef::Text(text)) => AirlineCode::read(text).ok(),
-        _ => None,
-    }
-}
-
-/// Reads a period's code.
-pub(crate) fn read_period(row: &Row, at: usize) -> Option<PeriodCode>
-    ensures { result ≡ code_in 5 (column row.now at) }
-{
-    match row.get_ref(at) {
-        Ok(ValueRef::Text(text)) => PeriodCode::read(text).ok(),
-        _ => None,
-    }
-}
-
-/// Reads the number of a day.
-pub(crate) fn read_day(row: &Row, at: usize) -> Option<Day>
-    ensures { MatchOption result
-        ((d : CivilDay) → IsTrue (is_day d) → column row.now at ≢ Int (day_number d))
-        (λ d. (column row.now at ≡ Int (day_number d)) × IsTrue (is_day d)) }
-{
-    match row.get_ref(at) {
-        Ok(ValueRef::Int(number)) => Day::of_number(number).ok(),
-        _ => None,
-    }
-}
-
-/// Reads an amount in minor units.
-pub(crate) fn read_amount(row: &Row, at: usize) -> Option<Amount>
-    ensures { result ≡ amount_in (column row.now at) }
-{
-    match row.get_ref(at) {
-        Ok(ValueRef::Int(units)) => Amount::new(units).ok(),
-        _ => None,
-    }
+    Some(below_at(row, at, 1 << 16)? as u16)
 }
 
 fn kind_of(text: &[u8]) -> Option<TransactionCode>

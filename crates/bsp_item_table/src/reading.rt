@@ -9,16 +9,15 @@ ghost use Rattle.bsp_fields.specs.CivilDay.{CivilDay, is_day};
 ghost use Rattle.bsp_fields.specs.Days.{day_number};
 ghost use Rattle.bsp_schema.specs.Schema.{our_schema};
 ghost use Rattle.bsp_tables.specs.Kept.{Reads, columns_of, KeepsRows, Spares};
-ghost use Rattle.bsp_item_table.specs.Reading.{amount_in, amounts_in, card_in, document_in, entry_in, if_there, item_in, key_in, related_in, transaction_in};
+ghost use Rattle.bsp_item_table.specs.Reading.{amounts_in, card_in, document_in, entry_in, item_in, key_in, related_in, transaction_in};
 ghost use Rattle.std.specs.FinMap.{entries};
 ghost use Rattle.bsp_content.specs.Content.{Content, form};
 ghost use Rattle.bsp_content.specs.Forms.{IsFormed};
 ghost use Rattle.bsp_columns.specs.Columns.{item_row};
+ghost use Rattle.bsp_columns.specs.Reading.{amount_in, if_there};
 
-use crate::columns::{
-    is_null, read_agent, read_airline, read_amount, read_byte, read_day, read_flag, read_kind,
-    read_number, read_period, read_rate, read_taxes, read_wide,
-};
+use crate::columns::{read_byte, read_flag, read_kind, read_rate, read_taxes, read_wide};
+use bsp_columns::{agent_at, airline_at, amount_at, day_at, is_null, number_at, period_at};
 use bsp_fields::{Amount, Day, DocNumber};
 use bsp_ret_records::{Amounts, CardPayment, ReportedDocument, Transaction};
 use bsp_rows::ItemKey;
@@ -50,7 +49,7 @@ pub fn read_item(row: &Row) -> Option<(ItemKey, Item)>
     ensures day { (d : CivilDay) → IsTrue (is_day d) → column row.now 6 ≡ Int (day_number d) → result ≡ entry_in d row.now }
     ensures none { ((d : CivilDay) → IsTrue (is_day d) → column row.now 6 ≢ Int (day_number d)) → result ≡ None }
 {
-    let issued = read_day(row, 6)?;
+    let issued = day_at(row, 6)?;
     entry_of(row, issued)
 }
 
@@ -65,7 +64,7 @@ fn entry_of(row: &Row, issued: Day) -> Option<(ItemKey, Item)>
 fn item_of(row: &Row, key: &ItemKey, issued: Day) -> Option<Item>
     ensures { result ≡ item_in key.now issued row.now }
 {
-    let period = read_period(row, 7)?;
+    let period = period_at(row, 7)?;
     let transaction = read_transaction(row, key, issued)?;
     Some(Item {
         agent: key.agent,
@@ -78,8 +77,8 @@ fn item_of(row: &Row, key: &ItemKey, issued: Day) -> Option<Item>
 fn read_key(row: &Row) -> Option<ItemKey>
     ensures { result ≡ key_in row.now }
 {
-    let agent = read_agent(row, 0)?;
-    let number = read_number(row, 1)?;
+    let agent = agent_at(row, 0)?;
+    let number = number_at(row, 1)?;
     Some(ItemKey {
         agent,
         number,
@@ -117,7 +116,7 @@ fn read_transaction(row: &Row, key: &ItemKey, issued: Day) -> Option<Transaction
 fn read_document(row: &Row, number: DocNumber) -> Option<ReportedDocument>
     ensures { result ≡ document_in number row.now }
 {
-    let airline = read_airline(row, 4)?;
+    let airline = airline_at(row, 4)?;
     let check_digit = read_byte(row, 3)?;
     Some(ReportedDocument {
         airline,
@@ -129,7 +128,7 @@ fn read_document(row: &Row, number: DocNumber) -> Option<ReportedDocument>
 fn read_related(row: &Row) -> Option<ReportedDocument>
     ensures { result ≡ related_in row.now }
 {
-    let airline = read_airline(row, 14)?;
+    let airline = airline_at(row, 14)?;
     let number = read_wide::<10>(row, 15)?;
     let check_digit = read_byte(row, 16)?;
     Some(ReportedDocument {
@@ -151,10 +150,10 @@ fn maybe_related(row: &Row) -> Option<Option<ReportedDocument>>
 fn read_amounts(row: &Row) -> Option<Amounts>
     ensures { result ≡ amounts_in row.now }
 {
-    let fare = read_amount(row, 10)?;
+    let fare = amount_at(row, 10)?;
     let taxes = read_taxes(row, 11)?;
     let rate = read_rate(row, 12)?;
-    let commission = read_amount(row, 13)?;
+    let commission = amount_at(row, 13)?;
     Some(Amounts {
         fare,
         taxes,
@@ -175,7 +174,7 @@ fn maybe_amounts(row: &Row) -> Option<Option<Amounts>>
 fn read_card(row: &Row) -> Option<CardPayment>
     ensures { result ≡ card_in row.now }
 {
-    let amount = read_amount(row, 18)?;
+    let amount = amount_at(row, 18)?;
     let vendor = read_wide::<2>(row, 20)?;
     Some(CardPayment { amount, vendor })
 }
@@ -195,5 +194,5 @@ fn maybe_amount(row: &Row, at: usize) -> Option<Option<Amount>>
     if is_null(row, at) {
         return Some(None);
     }
-    Some(Some(read_amount(row, at)?))
+    Some(Some(amount_at(row, at)?))
 }

@@ -1,11 +1,11 @@
 -- What is read back of a memo's row is the memo.
-use Rattle.std.proofs.Common.{◌≡◌, IsTrue, ℕ, ℤ, ◌<◌, ◌/◌, ◌%◌, ◌^◌, List, true, ◌&&◌, Option, Some, None, refl, sym, ap, ◌∙◌}
+use Rattle.std.proofs.Common.{◌≡◌, ℕ, ℤ, ◌<◌, ◌/◌, ◌%◌, ◌^◌, List, true, ◌&&◌, Option, Some, None, refl, sym, ap, ◌∙◌}
 use Rattle.std.specs.Prelude.{pos, negsuc, IfSome, nat_le, unsigned_abs}
 use Rattle.std.proofs.lemmas.Bool.{and_parts}
 use Rattle.sqlite_value.specs.declared.value.Value.TheVariants.{Int, Text}
 use Rattle.sqlite_value.specs.Order.{Row, column}
 use Rattle.sqlite.specs.Values.{or_null}
-use Rattle.bsp_fields.specs.CivilDay.{CivilDay, is_day}
+use Rattle.bsp_fields.specs.CivilDay.{CivilDay}
 use Rattle.bsp_fields.specs.Codes.{check_digit_of}
 use Rattle.bsp_fields.specs.Days.{day_number}
 use Rattle.bsp_fields.proofs.CodeLemmas.{agent_reading-fixed_digits, code_reading-fixed_digits}
@@ -20,23 +20,24 @@ use Rattle.bsp_memos.specs.Texts.{kind_text, state_text}
 use Rattle.bsp_rows.specs.declared.keys.MemoKey.{MemoKey}
 use Rattle.bsp_rows.specs.Rows.{memo_key}
 use Rattle.bsp_columns.specs.Columns.{agent_text, airline_text, number_text, period_text, memo_row}
+use Rattle.bsp_columns.specs.Reading.{agent_in, amount_in, code_in, if_there}
 use Rattle.bsp_content.specs.Forms.{IsMemoEntry}
 use Rattle.bsp_content.proofs.Days.{same_day}
 use Rattle.bsp_content.proofs.Keys.{code_digits-fits}
-use Rattle.bsp_memo_tables.specs.Reading.{IsMemoIn, agent_in, airline_in, amount_in, if_there, kind_in, memo_in, memo_key_in, memo_of, number_in, period_in, reason_in, restored, state_in}
+use Rattle.bsp_memo_tables.specs.Reading.{IsMemoIn, kind_in, memo_in, memo_key_in, memo_of, reason_in, restored, state_in}
 
 -- ---- single columns
 
 agent_back : (agent : ℕ) → agent < 10 ^ 8 → agent % 10 ≡ check_digit_of (agent / 10) → agent_in (agent_text agent) ≡ Some agent
 agent_back agent fits checked = rw (code_digits-fits 8 agent fits, agent_reading-fixed_digits agent fits checked) refl
 
-airline_back : (airline : ℕ) → airline < 10 ^ 3 → airline_in (airline_text airline) ≡ Some airline
+airline_back : (airline : ℕ) → airline < 10 ^ 3 → code_in 3 (airline_text airline) ≡ Some airline
 airline_back airline fits = rw (code_digits-fits 3 airline fits, code_reading-fixed_digits 3 airline fits) refl
 
-number_back : (number : ℕ) → number < 10 ^ 10 → number_in (number_text number) ≡ Some number
+number_back : (number : ℕ) → number < 10 ^ 10 → code_in 10 (number_text number) ≡ Some number
 number_back number fits = rw (code_digits-fits 10 number fits, code_reading-fixed_digits 10 number fits) refl
 
-period_back : (period : ℕ) → period < 10 ^ 5 → period_in (period_text period) ≡ Some period
+period_back : (period : ℕ) → period < 10 ^ 5 → code_in 5 (period_text period) ≡ Some period
 period_back period fits = rw (code_digits-fits 5 period fits, code_reading-fixed_digits 5 period fits) refl
 
 kind_back : (kind : MemoKind) → kind_in (Text (kind_text kind)) ≡ Some kind
@@ -62,7 +63,7 @@ few_digits (negsuc n) fits = absurd (cc fits)
 amount_back : (n : ℤ) → is_amount n ≡ true → amount_in (Int n) ≡ Some n
 amount_back n fits = rw (few_digits n fits) refl
 
-billed_back : (o : Option ℕ) → IfSome o (λ period. period < 10 ^ 5) → if_there (or_null period_text o) (period_in (or_null period_text o)) ≡ Some o
+billed_back : (o : Option ℕ) → IfSome o (λ period. period < 10 ^ 5) → if_there (or_null period_text o) (code_in 5 (or_null period_text o)) ≡ Some o
 billed_back None fits = refl
 billed_back (Some period) fits = rw (period_back period fits) refl
 
@@ -76,11 +77,11 @@ abbrev on : CivilDay → MemoFields → MemoFields
 on day m = record m { issued = day }
 
 memo_from : (key : MemoKey) (day : CivilDay) (r : Row) (m : MemoFields) → memo_key m ≡ key → agent_in (column r 2) ≡ Some m.agent → kind_in (column r 3) ≡ Some m.kind → amount_in (column r 4) ≡ Some m.amount → amount_in (column r 5) ≡ Some m.issued_amount
-    → reason_in (column r 6) ≡ Some m.reason → state_in (column r 8) ≡ Some m.state → if_there (column r 9) (period_in (column r 9)) ≡ Some m.billed → is_memo m ≡ true → memo_of key day r ≡ Some (on day m)
+    → reason_in (column r 6) ≡ Some m.reason → state_in (column r 8) ≡ Some m.state → if_there (column r 9) (code_in 5 (column r 9)) ≡ Some m.billed → is_memo m ≡ true → memo_of key day r ≡ Some (on day m)
 memo_from key day r m keyed agent kind amount issued reason state billed fits =
     rw (agent, kind, amount, issued, reason, state, billed) (restored_is _ (on day m) (λ i. record m { airline = (sym keyed i).airline; document = (sym keyed i).document; issued = day }) fits)
 
-key_from : (r : Row) (key : MemoKey) → airline_in (column r 0) ≡ Some key.airline → number_in (column r 1) ≡ Some key.document → memo_key_in r ≡ Some key
+key_from : (r : Row) (key : MemoKey) → code_in 3 (column r 0) ≡ Some key.airline → code_in 10 (column r 1) ≡ Some key.document → memo_key_in r ≡ Some key
 key_from r key airline document = rw (airline, document) refl
 
 -- the amounts of a memo fit
@@ -106,4 +107,4 @@ module _ (key : MemoKey) (m : MemoFields) (formed : IsMemoEntry (key, m)) (keyed
   -- and so it does where the day of issue is read of its number
   pub memo_seen : (o : Option (MemoKey × MemoFields)) → IsMemoIn (memo_row (key, m)) o → o ≡ Some (key, m)
   memo_seen o (None, none, same) = absurd (none m.issued formed.issued refl)
-  memo_seen o (Some day, is, same) = same ∙ back_on day ∙ ap (λ (d : CivilDay). Some (key, on d m)) (same_day (Int (day_number m.issued)) day m.issued is.1 formed.issued (sym is.0) refl)
+  memo_seen o (Some day, is, same) = same ∙ back_on day ∙ ap (λ (d : CivilDay). Some (key, on d m)) (same_day (Int (day_number m.issued)) day m.issued is.1 formed.issued is.0 refl)

@@ -1,13 +1,9 @@
 -- What a row of the tables reads as, whatever its form.
-use Rattle.std.specs.Prelude.{◌≡◌, ◌≢◌, ℕ, ℤ, pos, ◌^◌, nat_lt, Bool, true, false, IsTrue, if◌then◌else◌, List, Option, Some, None, option_map, option_and_then}
-use Rattle.std.specs.Result.{result_ok}
+use Rattle.std.specs.Prelude.{◌≡◌, ◌^◌, if◌then◌else◌, List, ℕ, Option, Some, None, option_map, option_and_then}
 use Rattle.sqlite_value.specs.declared.value.Value.{Value}
-use Rattle.sqlite_value.specs.declared.value.Value.TheVariants.{Null, Int, Text}
+use Rattle.sqlite_value.specs.declared.value.Value.TheVariants.{Text}
 use Rattle.sqlite_value.specs.Order.{Row, column}
-use Rattle.bsp_fields.specs.CivilDay.{CivilDay, is_day}
-use Rattle.bsp_fields.specs.Codes.{agent_reading, code_reading}
-use Rattle.bsp_fields.specs.Days.{day_number}
-use Rattle.bsp_fields.specs.Zoned.{within}
+use Rattle.bsp_fields.specs.CivilDay.{CivilDay}
 use Rattle.bsp_memos.specs.declared.fields.MemoFields.{MemoFields}
 use Rattle.bsp_memos.specs.declared.kind.MemoKind.{MemoKind}
 use Rattle.bsp_memos.specs.declared.state.MemoState.{MemoState}
@@ -17,37 +13,9 @@ use Rattle.bsp_memos.specs.Texts.{kind_reading, state_reading}
 use Rattle.bsp_postings.specs.declared.tally.Tally.{Tally}
 use Rattle.bsp_rows.specs.declared.keys.MemoKey.{MemoKey}
 use Rattle.bsp_rows.specs.declared.keys.TallyKey.{TallyKey}
+use Rattle.bsp_columns.specs.Reading.{IsDayIn, agent_in, amount_in, below, code_in, if_there, int_in}
 
--- ---- columns
-
-abbrev pub agent_in : Value → Option ℕ
-agent_in (Text t) = result_ok (agent_reading t)
-agent_in _ = None
-
-abbrev pub airline_in : Value → Option ℕ
-airline_in (Text t) = result_ok (code_reading 3 t)
-airline_in _ = None
-
-abbrev pub period_in : Value → Option ℕ
-period_in (Text t) = result_ok (code_reading 5 t)
-period_in _ = None
-
--- a count below 2 ^ 32
-abbrev pub count_in : Value → Option ℕ
-count_in (Int (pos n)) = if nat_lt n (2 ^ 32) then Some n else None
-count_in _ = None
-
-abbrev pub sum_in : Value → Option ℤ
-sum_in (Int n) = Some n
-sum_in _ = None
-
-abbrev pub number_in : Value → Option ℕ
-number_in (Text t) = result_ok (code_reading 10 t)
-number_in _ = None
-
-abbrev pub amount_in : Value → Option ℤ
-amount_in (Int n) = result_ok (within 99_999_999_999 n)
-amount_in _ = None
+-- ---- words
 
 abbrev pub kind_in : Value → Option MemoKind
 kind_in (Text t) = kind_reading t
@@ -61,25 +29,12 @@ abbrev pub reason_in : Value → Option (List ℕ)
 reason_in (Text t) = reason_reading t
 reason_in _ = None
 
--- the day with this number, and none where no day has it
-abbrev pub IsDayIn : Value → Option CivilDay → Type 0
-IsDayIn v (Some d) = (Int (day_number d) ≡ v) × IsTrue (is_day d)
-IsDayIn v None = (d : CivilDay) → IsTrue (is_day d) → Int (day_number d) ≢ v
-
-abbrev pub is_null : Value → Bool
-is_null Null = true
-is_null _ = false
-
--- what stands there, unless the column is NULL
-abbrev pub if_there : {A : Type 0} → Value → Option A → Option (Option A)
-if_there v read = if is_null v then Some None else option_map Some read
-
 -- ---- tallies
 
 abbrev pub tally_key_in : Row → Option TallyKey
 tally_key_in r =
     option_and_then (λ agent. option_and_then (λ airline. option_map (λ period. record { agent = agent; airline = airline; period = period })
-    (period_in (column r 2))) (airline_in (column r 1))) (agent_in (column r 0))
+    (code_in 5 (column r 2))) (code_in 3 (column r 1))) (agent_in (column r 0))
 
 abbrev pub tally_of : TallyKey → Row → Option Tally
 tally_of key r =
@@ -96,8 +51,8 @@ tally_of key r =
       credit = credit;
       commission = commission;
       memos = memos;
-    }) (sum_in (column r 10))) (sum_in (column r 9))) (sum_in (column r 8))) (sum_in (column r 7)))
-    (count_in (column r 6))) (count_in (column r 5))) (count_in (column r 4))) (count_in (column r 3))
+    }) (int_in (column r 10))) (int_in (column r 9))) (int_in (column r 8))) (int_in (column r 7)))
+    (below (2 ^ 32) (column r 6))) (below (2 ^ 32) (column r 5))) (below (2 ^ 32) (column r 4))) (below (2 ^ 32) (column r 3))
 
 abbrev pub tally_in : Row → Option (TallyKey × Tally)
 tally_in r = option_and_then (λ key. option_map (λ tally. (key, tally)) (tally_of key r)) (tally_key_in r)
@@ -105,7 +60,7 @@ tally_in r = option_and_then (λ key. option_map (λ tally. (key, tally)) (tally
 -- ---- memos
 
 abbrev pub memo_key_in : Row → Option MemoKey
-memo_key_in r = option_and_then (λ airline. option_map (λ document. record { airline = airline; document = document }) (number_in (column r 1))) (airline_in (column r 0))
+memo_key_in r = option_and_then (λ airline. option_map (λ document. record { airline = airline; document = document }) (code_in 10 (column r 1))) (code_in 3 (column r 0))
 
 -- the memo with these fields, where they fit together
 abbrev pub restored : MemoFields → Option MemoFields
@@ -125,7 +80,7 @@ memo_of key issued r =
       issued = issued;
       state = state;
       billed = billed;
-    })) (if_there (column r 9) (period_in (column r 9)))) (state_in (column r 8))) (reason_in (column r 6)))
+    })) (if_there (column r 9) (code_in 5 (column r 9)))) (state_in (column r 8))) (reason_in (column r 6)))
     (amount_in (column r 5))) (amount_in (column r 4))) (kind_in (column r 3))) (agent_in (column r 2))
 
 abbrev pub memo_in : Option CivilDay → Row → Option (MemoKey × MemoFields)

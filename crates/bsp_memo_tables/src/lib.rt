@@ -4,7 +4,6 @@
 //! [`all_memos`] show every row, and [`read_tally`] and [`read_memo`] read one back.
 #![tactic(auto)]
 
-mod columns;
 mod memo_rows;
 mod memos;
 mod tallies;

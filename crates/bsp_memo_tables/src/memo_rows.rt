@@ -1,10 +1,13 @@
+//! A memo, read out of a row.
+
 ghost use Rattle.std.specs.Prelude.{◌≡◌};
 ghost use Rattle.sqlite_value.specs.Order.{column};
 ghost use Rattle.bsp_fields.specs.CivilDay.{CivilDay};
-ghost use Rattle.bsp_memo_tables.specs.Reading.{IsMemoIn, if_there, memo_key_in, memo_in, memo_of, period_in};
+ghost use Rattle.bsp_columns.specs.Reading.{code_in, if_there};
+ghost use Rattle.bsp_memo_tables.specs.Reading.{IsMemoIn, memo_key_in, memo_in, memo_of};
 
-use crate::columns::{agent_at, airline_at, amount_at, day_at, is_null, number_at, period_at};
 use crate::words::{kind_at, reason_at, state_at};
+use bsp_columns::{agent_at, airline_at, amount_at, day_at, is_null, number_at, period_at};
 use bsp_fields::{Day, PeriodCode};
 use bsp_memos::{Memo, MemoFields};
 use bsp_rows::MemoKey;
@@ -19,7 +22,7 @@ fn key_of(row: &Row) -> Option<MemoKey>
 }
 
 fn billed_of(row: &Row) -> Option<Option<PeriodCode>>
-    ensures { result ≡ if_there (column row.now 9) (period_in (column row.now 9)) }
+    ensures { result ≡ if_there (column row.now 9) (code_in 5 (column row.now 9)) }
 {
     if is_null(row, 9) {
         return Some(None);

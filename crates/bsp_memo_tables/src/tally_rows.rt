@@ -1,10 +1,20 @@
-ghost use Rattle.std.specs.Prelude.{◌≡◌};
+//! A tally, read out of a row.
+
+ghost use Rattle.std.specs.Prelude.{◌≡◌, ◌^◌};
+ghost use Rattle.sqlite_value.specs.Order.{column};
+ghost use Rattle.bsp_columns.specs.Reading.{below};
 ghost use Rattle.bsp_memo_tables.specs.Reading.{tally_in, tally_key_in, tally_of};
 
-use crate::columns::{agent_at, airline_at, count_at, period_at, sum_at};
+use bsp_columns::{agent_at, airline_at, below_at, int_at, period_at};
 use bsp_postings::Tally;
 use bsp_rows::TallyKey;
 use sqlite::Row;
+
+fn count_at(row: &Row, at: usize) -> Option<u32>
+    ensures { result ≡ below (2 ^ 32) (column row.now at) }
+{
+    Some(below_at(row, at, 1 << 32)? as u32)
+}
 
 fn key_of(row: &Row) -> Option<TallyKey>
     ensures { result ≡ tally_key_in row.now }
@@ -26,10 +36,10 @@ fn tally_of(key: TallyKey, row: &Row) -> Option<Tally>
     let living = count_at(row, 4)?;
     let canx = count_at(row, 5)?;
     let memo_count = count_at(row, 6)?;
-    let cash = sum_at(row, 7)?;
-    let credit = sum_at(row, 8)?;
-    let commission = sum_at(row, 9)?;
-    let memos = sum_at(row, 10)?;
+    let cash = int_at(row, 7)?;
+    let credit = int_at(row, 8)?;
+    let commission = int_at(row, 9)?;
+    let memos = int_at(row, 10)?;
     Some(Tally {
         agent: key.agent,
         airline: key.airline,

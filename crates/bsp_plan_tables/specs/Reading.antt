@@ -1,6 +1,5 @@
 -- Which entry a row is read as.
-use Rattle.std.specs.Prelude.{◌≡◌, ℕ, ℤ, pos, nat_lt, if◌then◌else◌, Option, Some, None}
-use Rattle.sqlite_value.specs.declared.value.Value.{Value}
+use Rattle.std.specs.Prelude.{◌≡◌, ℕ}
 use Rattle.sqlite_value.specs.declared.value.Value.TheVariants.{Int, Text}
 use Rattle.sqlite_value.specs.Order.{Row, column}
 use Rattle.bsp_fields.specs.CivilDay.{CivilDay}
@@ -9,14 +8,6 @@ use Rattle.bsp_calendar.specs.declared.entries.Period.{Period}
 use Rattle.bsp_calendar.specs.declared.entries.Rate.{Rate}
 use Rattle.bsp_calendar.specs.declared.entries.Terms.{Terms}
 use Rattle.bsp_columns.specs.Columns.{version, count, airline_text, period_text}
-
-abbrev pub int_in : Value → Option ℤ
-int_in (Int n) = Some n
-int_in _ = None
-
-abbrev pub below : ℕ → Value → Option ℕ
-below most (Int (pos n)) = if nat_lt n most then Some n else None
-below most _ = None
 
 -- ---- what the columns of a row say, its place apart
 

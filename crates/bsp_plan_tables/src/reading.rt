@@ -7,11 +7,13 @@ ghost use Rattle.bsp_calendar.specs.declared.entries.Period.{Period as PeriodEnt
 ghost use Rattle.bsp_calendar.specs.declared.entries.Rate.{Rate as RateEntry};
 ghost use Rattle.bsp_calendar.specs.declared.entries.Terms.{Terms as TermsEntry};
 ghost use Rattle.bsp_columns.specs.Columns.{airline_text};
-ghost use Rattle.bsp_plan_tables.specs.Reading.{int_in, IsMetaRow, IsTermsRow, IsRateRow, IsPeriodRow};
+ghost use Rattle.bsp_columns.specs.Reading.{int_in};
+ghost use Rattle.bsp_plan_tables.specs.Reading.{IsMetaRow, IsTermsRow, IsRateRow, IsPeriodRow};
 ghost use Rattle.bsp_content.specs.Forms.{AreTerms, IsRate, IsPeriod};
 
-use crate::columns::{airline_at, currency_at, day_at, int_at, number_at, period_at};
+use crate::columns::{airline_at, currency_at, day_at, period_at};
 use bsp_calendar::{Period, Rate, Terms};
+use bsp_columns::{below_at, int_at};
 use bsp_fields::{AirlineCode, Day};
 use sqlite::Row;
 
@@ -31,7 +33,7 @@ pub fn read_meta(row: &Row) -> Option<(Day, u64)>
         return None;
     }
     let day = day_at(row, 1)?;
-    let closed = number_at(row, 2, 1 << 63)?;
+    let closed = below_at(row, 2, 1 << 63)?;
     Some((day, closed))
 }
 
@@ -41,8 +43,8 @@ pub fn read_terms(row: &Row) -> Option<Terms>
     ensures back { (terms : TermsEntry) → AreTerms terms → IsTermsRow row.now terms → result ≡ Some terms }
 {
     let currency = currency_at(row, 0)?;
-    let review_days = number_at(row, 1, 1 << 8)? as u8;
-    let documents_limit = number_at(row, 2, 1 << 32)? as u32;
+    let review_days = below_at(row, 1, 1 << 8)? as u8;
+    let documents_limit = below_at(row, 2, 1 << 32)? as u32;
     Some(Terms {
         currency,
         review_days,
@@ -65,7 +67,7 @@ pub fn read_rate(row: &Row) -> Option<Rate>
 {
     let airline = airline_at(row, 0)?;
     let from = day_at(row, 1)?;
-    let hundredths = number_at(row, 3, 1 << 16)? as u16;
+    let hundredths = below_at(row, 3, 1 << 16)? as u16;
     Some(Rate {
         airline,
         from,

@@ -34,7 +34,7 @@ use Rattle.bsp_store.specs.declared.fault.OpenFault.TheVariants.{NoRoom, Damaged
 use Rattle.bsp_store.specs.Meanings.{Holds, KeepsAtRest}
 use Rattle.bsp_store.specs.Opening.{Adopts, AreAllOf, AreAllRows, Finds, HasNoBook, IsFoundIn, IsNoBook, IsOfOther, IsOfVersion, IsOrdered, IsRead, LeavesCommitted, Reopens, Reports, SparesStore, WasForeign, WasNoBook}
 use Rattle.bsp_store.specs.declared.book.SqlBook.{SqlBook}
-use Rattle.bsp_store.proofs.SavingLemmas.{content_is}
+use Rattle.bsp_content.proofs.Tallies.{content_is}
 
 -- ---- one query after another
 

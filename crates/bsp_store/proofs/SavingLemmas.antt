@@ -1,32 +1,24 @@
 -- The tables of the store after each key that was written is brought up to date.
 use Rattle.std.proofs.Common.{◌≡◌, ℕ, Bool, true, false, cond, List, [], ◌∷◌, map, Option, Some, None, refl, sym, ap, subst, ◌∙◌, Ordering}
-use Rattle.std.specs.Prelude.{unwrap_or}
 use Rattle.std.specs.Cmp.{IsTotalOrder}
 use Rattle.std.specs.Option.{option_flatten}
 use Rattle.std.specs.FinMap.{FinMap, IsAntisymmetric, get, entries, entries_sorted, get-entries, get-from_entries, same_map, values}
-use Rattle.std.specs.FinMap.Entries.{find}
 use Rattle.bsp_maps.specs.Undo.{undone}
 use Rattle.bsp_maps.specs.declared.logged.Old.{Old}
-use Rattle.bsp_maps.proofs.PickLemmas.{find_passing, wanted}
 use Rattle.bsp_maps.proofs.PresentLemmas.{flat, get-present}
 use Rattle.bsp_maps.specs.Present.{present}
-use Rattle.bsp_postings.specs.declared.tally.Tally.{Tally}
 use Rattle.bsp_rows.specs.Rows.{Rows}
-use Rattle.bsp_rows.specs.Tallies.{key_tally, tally_cmp, tally_of}
-use Rattle.bsp_rows.specs.declared.keys.TallyKey.{TallyKey}
-use Rattle.bsp_rows.proofs.KeyOrders.{tally_exact, tally_total}
-use Rattle.bsp_list_tables.specs.Kept.{AreAddedUp, tally_at}
-use Rattle.bsp_list_tables.specs.Lookups.{has_rows}
 use Rattle.bsp_tables.specs.Synced.{synced, with_value}
 use Rattle.bsp_tables.proofs.Syncing.{up_to_date}
-use Rattle.bsp_content.specs.Content.{Content, content_with}
+use Rattle.bsp_content.specs.Content.{Content}
 use Rattle.sqlite_trees.specs.declared.store.Store.{Ghosts}
 use Rattle.bsp_list_tables.specs.Tables.{committed_rows, rows_of}
 use Rattle.bsp_store.specs.Calls.{IsKept}
 use Rattle.bsp_store.specs.Meanings.{Holds}
 use Rattle.bsp_store.specs.declared.book.SqlBook.{SqlBook}
 use Rattle.bsp_store.specs.Calls.{with_each, written_keys}
-use Rattle.bsp_content.specs.Contents.{IsContentOf, content_before, content_now, used, used_at, used_tallies}
+use Rattle.bsp_content.specs.Contents.{IsContentOf, content_before, content_now}
+use Rattle.bsp_content.proofs.Tallies.{content_is, one_content}
 
 -- a table of a content, each of whose keys is set to what is seen of it in memory
 module _ {K V W : Type 0} {R : K → K → Ordering} (o : IsTotalOrder R) (exact : IsAntisymmetric R) (f : FinMap R V → FinMap R W) (h : Option V → Option W) (sees : (m : FinMap R V) (q : K) → get (f m) q ≡ h (get m q))
@@ -48,35 +40,6 @@ module _ {K V W : Type 0} {R : K → K → Ordering} (o : IsTotalOrder R) (exact
 pub same_present : {V : Type 0} (found : Option (Option V)) → flat found ≡ option_flatten found
 same_present None = refl
 same_present (Some v) = refl
-
--- ---- tallies
-
-abbrev adds : TallyKey → Tally → Bool
-adds k t = has_rows t
-
-same_used : (k : TallyKey) (found : Option Tally) → wanted tally_cmp tally_total tally_exact adds k found ≡ used_at found
-same_used k None = refl
-same_used k (Some t) = refl
-
-pub get-used : (m : FinMap tally_cmp Tally) (k : TallyKey) → get (used_tallies m) k ≡ used_at (get m k)
-get-used m k =
-    get-from_entries tally_total _ k
-    ∙ find_passing tally_cmp tally_total tally_exact adds k (entries m) (entries_sorted m)
-    ∙ same_used k (find tally_cmp k (entries m))
-    ∙ ap used_at (sym (get-entries m k))
-
-module _ (rows : Rows) where
-  there : (kept : FinMap tally_cmp Tally) (k : TallyKey) (found : Option Tally) → get kept k ≡ found → tally_at kept k ≡ tally_of k rows → used_at found ≡ used (tally_of k rows)
-  there kept k None is at = ap used (sym (ap (λ o. unwrap_or o (key_tally k)) is) ∙ at)
-  there kept k (Some t) is at = ap used (sym (ap (λ o. unwrap_or o (key_tally k)) is) ∙ at)
-
-  -- tallies that add up, less those to which no row adds
-  pub content_is : (kept : FinMap tally_cmp Tally) → AreAddedUp (values rows.items) (values rows.memos) kept → IsContentOf rows (content_with rows (used_tallies kept))
-  content_is kept are = record { same = refl; tallies = λ k. get-used kept k ∙ there kept k (get kept k) refl (are k) }
-
-  -- rows have one content
-  pub one_content : (c d : Content) → IsContentOf rows c → IsContentOf rows d → c ≡ d
-  one_content c d a b = a.same ∙ ap (content_with rows) (same_map tally_total tally_exact c.tallies d.tallies (λ k. a.tallies k ∙ sym (b.tallies k))) ∙ sym b.same
 
 -- ---- what the store has, and is to have
 

@@ -35,7 +35,8 @@ use Rattle.bsp_tables.specs.Synced.{with_value}
 use Rattle.bsp_content.specs.Content.{Content}
 use Rattle.bsp_content.specs.Contents.{used_at, used_tallies}
 use Rattle.bsp_store.specs.Calls.{Changes, Updates, with_each, written_keys}
-use Rattle.bsp_store.proofs.SavingLemmas.{all_set, get-used, same_present}
+use Rattle.bsp_content.proofs.Tallies.{get-used}
+use Rattle.bsp_store.proofs.SavingLemmas.{all_set, same_present}
 
 module _ {S : Type 0} (g : Ghosts S) (old new : Held S) where
   -- a call that brings up to date what is at the keys that were written

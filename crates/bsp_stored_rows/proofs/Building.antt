@@ -1,24 +1,15 @@
 -- The rows of a sound book, put into tables that have none.
-use Rattle.std.proofs.Common.{◌≡◌, Bool, true, Option, Some, None, refl, sym, ap, subst, ◌∙◌}
-use Rattle.std.specs.Prelude.{unwrap_or}
-use Rattle.std.specs.FinMap.{FinMap, entries, entries_sorted, get, get-entries, get-from_entries, same_map, values}
-use Rattle.std.specs.FinMap.Entries.{find}
-use Rattle.bsp_maps.proofs.PickLemmas.{find_passing, wanted}
+use Rattle.std.proofs.Common.{◌≡◌, Bool, true, sym, ap, subst, ◌∙◌}
 use Rattle.bsp_calendar.specs.Published.{Published, opening}
 use Rattle.bsp_calendar.specs.SoundPlan.{IsSoundPlan}
-use Rattle.bsp_postings.specs.declared.tally.Tally.{Tally}
 use Rattle.bsp_rows.specs.Rows.{Rows, no_rows}
 use Rattle.bsp_rows.specs.Sound.{Sound}
-use Rattle.bsp_rows.specs.Tallies.{key_tally, tally_cmp, tally_of}
-use Rattle.bsp_rows.specs.declared.keys.TallyKey.{TallyKey}
-use Rattle.bsp_rows.proofs.KeyOrders.{tally_exact, tally_total}
-use Rattle.bsp_list_tables.specs.Kept.{AreAddedUp, tally_at}
-use Rattle.bsp_list_tables.specs.Lookups.{has_rows}
 use Rattle.bsp_list_tables.specs.Tables.{rows_of}
 use Rattle.bsp_list_tables.specs.declared.tables.Tables.{Tables}
 use Rattle.bsp_content.specs.Content.{Content, content_with}
-use Rattle.bsp_content.specs.Contents.{IsContentOf, content_now, used, used_at, used_tallies}
+use Rattle.bsp_content.specs.Contents.{IsContentOf, content_now}
 use Rattle.bsp_content.specs.Forms.{IsFormed}
+use Rattle.bsp_content.proofs.Tallies.{content_is, one_content}
 use Rattle.bsp_stored_rows.specs.Stored.{AreCommitted, AreRowsOf, AreRowsOfPlan, IsFormedPlan}
 use Rattle.bsp_stored_rows.specs.declared.stored.StoredRows.{StoredRows}
 use Rattle.bsp_stored_rows.proofs.Puttings.{CallersPut, SalesPut}
@@ -62,33 +53,6 @@ module _ (book : Rows) (c : Content) (sound : Sound book) (of : IsContentOf book
       let with_sales : Rows → Rows = λ r. record r { items = book.items; memos = book.memos } in
       let it = put whole formed_whole (items_right book sound) (memos_fit book sound) are_whole (ap (λ (r : Rows). r.items) is) (ap (λ (r : Rows). r.memos) is) in
       (it.0, it.1 ∙ ap with_sales is)
-
--- ---- rows have one content
-
-abbrev adds : TallyKey → Tally → Bool
-adds k t = has_rows t
-
-same_used : (k : TallyKey) (found : Option Tally) → wanted tally_cmp tally_total tally_exact adds k found ≡ used_at found
-same_used k None = refl
-same_used k (Some t) = refl
-
-get-used : (m : FinMap tally_cmp Tally) (k : TallyKey) → get (used_tallies m) k ≡ used_at (get m k)
-get-used m k =
-    get-from_entries tally_total _ k
-    ∙ find_passing tally_cmp tally_total tally_exact adds k (entries m) (entries_sorted m)
-    ∙ same_used k (find tally_cmp k (entries m))
-    ∙ ap used_at (sym (get-entries m k))
-
-module _ (rows : Rows) where
-  there : (kept : FinMap tally_cmp Tally) (k : TallyKey) (found : Option Tally) → get kept k ≡ found → tally_at kept k ≡ tally_of k rows → used_at found ≡ used (tally_of k rows)
-  there kept k None is at = ap used (sym (ap (λ o. unwrap_or o (key_tally k)) is) ∙ at)
-  there kept k (Some t) is at = ap used (sym (ap (λ o. unwrap_or o (key_tally k)) is) ∙ at)
-
-  content_is : (kept : FinMap tally_cmp Tally) → AreAddedUp (values rows.items) (values rows.memos) kept → IsContentOf rows (content_with rows (used_tallies kept))
-  content_is kept add = record { same = refl; tallies = λ k. get-used kept k ∙ there kept k (get kept k) refl (add k) }
-
-  one_content : (c d : Content) → IsContentOf rows c → IsContentOf rows d → c ≡ d
-  one_content c d a b = a.same ∙ ap (content_with rows) (same_map tally_total tally_exact c.tallies d.tallies (λ k. a.tallies k ∙ sym (b.tallies k))) ∙ sym b.same
 
 -- the content of committed tables is that of their rows
 pub content_of : (tables : Tables) (book : Rows) (c : Content) → AreCommitted tables → rows_of tables ≡ book → IsContentOf book c → c ≡ content_now tables
