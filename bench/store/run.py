@@ -196,8 +196,10 @@ def measure(items, folder):
         twin = statistics.mean(twin_of(folder, ones))
         sales.append((added / twin, added, twin))
     ratio, added, twin = statistics.median_low(sales)
+    waited = statistics.median(stored["one"]) - statistics.median(memory["one"])
     print(f"\na sale, one behind another: the file adds {added:,.0f} microseconds, {ratio:.2f} times the {twin:,.0f} of")
     print(f"SQLite's library; the {ROUNDS} rounds: {', '.join(f'{it[0]:.2f}' for it in sales)}")
+    print(f"a sale whose reply a peer waits for: the file adds {waited:,.0f} microseconds, {waited / twin:.2f} times as much")
     openings = []
     for _ in range(3):
         office = Office(file)
