@@ -10,14 +10,14 @@ use Rattle.bsp_rows.specs.Rows.{Rows, item_at}
 use Rattle.bsp_rows.specs.declared.keys.ItemKey.{ItemKey}
 use Rattle.bsp_rows.specs.Sound.{Sound}
 use Rattle.bsp_rules.specs.declared.rows.Item.{Item}
-use Rattle.bsp_step.specs.AirlineLedger.{airline_ledger_of, hot_answer}
-use Rattle.bsp_step.specs.AirlineView.{airline_all, airline_ledger_answers, airline_told, airline_view}
-use Rattle.bsp_step.specs.Answers.{Answer}
-use Rattle.bsp_step.specs.Laws.{HasAccepted, IsHeldIn, IsPeriodKept, NetsAddUp, NewAgreeWithTickets, RepeatsHeld, ShownReportsStay}
-use Rattle.bsp_step.specs.Ledger.{ledger_of, own_verdicts, statement_answer}
-use Rattle.bsp_step.specs.Requests.{Request as Reading}
-use Rattle.bsp_step.specs.Step.{AreGroups, office_verdicts, settlement_answer}
-use Rattle.bsp_step.specs.View.{AllFit, Exchange, Run, ledger_all, ledger_answers, told, view}
+use Rattle.bsp_office_spec.specs.AirlineLedger.{airline_ledger_of, hot_answer}
+use Rattle.bsp_office_spec.specs.AirlineView.{airline_all, airline_ledger_answers, airline_told, airline_view}
+use Rattle.bsp_office_spec.specs.Answers.{Answer}
+use Rattle.bsp_office_spec.specs.Laws.{HasAccepted, IsHeldIn, IsPeriodKept, NetsAddUp, NewAgreeWithTickets, RepeatsHeld, ShownReportsStay}
+use Rattle.bsp_office_spec.specs.Ledger.{ledger_of, own_verdicts, statement_answer}
+use Rattle.bsp_office_spec.specs.Requests.{Request as Reading}
+use Rattle.bsp_office_spec.specs.Step.{AreGroups, office_verdicts, settlement_answer}
+use Rattle.bsp_office_spec.specs.View.{AllFit, Exchange, Run, ledger_all, ledger_answers, told, view}
 use Rattle.bsp_desk.specs.Replies.{IsSent, Refuses, is_unavailable}
 use Rattle.bsp_desk.specs.Steps.{Answers}
 use Rattle.bsp_desk.specs.declared.request.Request.{Request}

@@ -1,6 +1,6 @@
 ghost use Rattle.std.specs.Prelude.{◌≡◌, Some};
 ghost use Rattle.bsp_desk.specs.Reading.{token_text};
-ghost use Rattle.bsp_step.specs.Step.{is_token};
+ghost use Rattle.bsp_office_spec.specs.Step.{is_token};
 
 use bsp_fields::Token;
 

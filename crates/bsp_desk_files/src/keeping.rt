@@ -6,8 +6,8 @@ ghost use Rattle.bsp_rows.specs.Changes.{after_accepted, ended_by};
 ghost use Rattle.bsp_rows.specs.Rows.{HasNumberKey, item_at, key_of};
 ghost use Rattle.bsp_rows.specs.Writes.{IsFree};
 ghost use Rattle.bsp_rules.specs.declared.verdict.Verdict.TheVariants.{Accepted};
-ghost use Rattle.bsp_step.specs.Ledger.{new_item};
-ghost use Rattle.bsp_step.specs.Step.{reporter, rows_judged};
+ghost use Rattle.bsp_office_spec.specs.Ledger.{new_item};
+ghost use Rattle.bsp_office_spec.specs.Step.{reporter, rows_judged};
 
 use bsp_book::{Book, BookFault};
 use bsp_fields::AgentCode;

@@ -1,6 +1,6 @@
 ghost use Rattle.std.specs.Prelude.{◌≡◌};
 ghost use Rattle.bsp_memos.specs.Steps.{MemoStep};
-ghost use Rattle.bsp_step.specs.Ledger.{review_of};
+ghost use Rattle.bsp_office_spec.specs.Ledger.{review_of};
 ghost use Rattle.bsp_desk_memos.specs.Actions.{meaning_of};
 
 use bsp_calendar::Plan;

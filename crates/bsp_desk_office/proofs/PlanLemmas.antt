@@ -23,13 +23,13 @@ use Rattle.bsp_rows.specs.Changes.{each}
 use Rattle.bsp_rows.specs.Rows.{Rows}
 use Rattle.bsp_rows.specs.Sound.{Sound}
 use Rattle.bsp_rows.specs.Writes.{after_request, change_or_fault, is_held, plan_left, request_answer}
-use Rattle.bsp_serving.specs.After.{office_after}
-use Rattle.bsp_step.specs.Answers.{is_done}
-use Rattle.bsp_step.specs.Ledger.{review_of}
-use Rattle.bsp_step.specs.Requests.{IsPlanOf, PlanRead}
-use Rattle.bsp_step.specs.Requests.OfficeRequest.{ClosePeriod, PublishPlan, SetBusinessDay}
-use Rattle.bsp_step.specs.Step.{office_answer, outcome_answer, with_close}
-use Rattle.bsp_step.specs.Texts.{Says}
+use Rattle.bsp_desk_base.specs.After.{office_after}
+use Rattle.bsp_office_spec.specs.Answers.{is_done}
+use Rattle.bsp_office_spec.specs.Ledger.{review_of}
+use Rattle.bsp_office_spec.specs.Requests.{IsPlanOf, PlanRead}
+use Rattle.bsp_office_spec.specs.Requests.OfficeRequest.{ClosePeriod, PublishPlan, SetBusinessDay}
+use Rattle.bsp_office_spec.specs.Step.{office_answer, outcome_answer, with_close}
+use Rattle.bsp_office_spec.specs.Texts.{Says}
 use Rattle.bsp_desk_office.specs.Billings.{with_billings}
 
 -- ---- what is held leaves the plan

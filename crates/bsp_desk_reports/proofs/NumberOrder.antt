@@ -11,8 +11,8 @@ use Rattle.bsp_calendar.proofs.ListedLemmas.{contains_any, once_push}
 use Rattle.bsp_calendar.specs.Requests.{once}
 use Rattle.bsp_postings.proofs.ListLemmas.{filter_filter}
 use Rattle.bsp_rows.proofs.ItemTies.{any_true}
-use Rattle.bsp_step.specs.Ledger.{same_number}
-use Rattle.bsp_step.specs.Step.{is_last}
+use Rattle.bsp_office_spec.specs.Ledger.{same_number}
+use Rattle.bsp_office_spec.specs.Step.{is_last}
 
 -- the last of numbers that never fall
 abbrev pub IsLatest : Option ℕ → List ℕ → Type 0

@@ -9,7 +9,7 @@ use Rattle.bsp_rows.specs.Rows.{HasNumberKey}
 use Rattle.bsp_rules.specs.Rows.{contains}
 use Rattle.bsp_rules.specs.declared.rows.Item.{Item}
 use Rattle.bsp_rules.specs.declared.rows.Range.{Range}
-use Rattle.bsp_step.specs.Ledger.{same_number}
+use Rattle.bsp_office_spec.specs.Ledger.{same_number}
 
 abbrev pub item_number : Item → ℕ
 item_number i = number_of i.transaction.document.number

@@ -6,8 +6,8 @@ ghost use Rattle.bsp_postings.specs.Nets.{net_of_postings};
 ghost use Rattle.bsp_postings.specs.Sides.{AreOnce};
 ghost use Rattle.bsp_postings.specs.Tallies.{tally_posting, tally_postings};
 ghost use Rattle.bsp_desk_reports.specs.Sums.{shown_over};
-ghost use Rattle.bsp_serving.specs.Serves.{EndsOnFault, ServesAgent};
-ghost use Rattle.bsp_step.specs.Requests.AgentRequest.{AskPeriod};
+ghost use Rattle.bsp_desk_base.specs.Serves.{EndsOnFault, ServesAgent};
+ghost use Rattle.bsp_office_spec.specs.Requests.AgentRequest.{AskPeriod};
 
 use bsp_book::{Book, BookFault};
 use bsp_fields::{AgentCode, PeriodCode};

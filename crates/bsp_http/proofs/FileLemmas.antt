@@ -3,8 +3,8 @@ use Rattle.std.proofs.Common.{◌≡◌, ℕ, List, Option, Some, None, Result, 
 use Rattle.std.specs.Borrow.{Bor}
 use Rattle.std.specs.Option.{option_map}
 use Rattle.bsp_desk.specs.Reading.{token_text}
-use Rattle.bsp_conversation.specs.Exchanges.{IsFileRead}
-use Rattle.bsp_conversation.specs.declared.service.BodyUse.TheVariants.{RetFile}
+use Rattle.bsp_connection.specs.Exchanges.{IsFileRead}
+use Rattle.bsp_connection.specs.declared.service.BodyUse.TheVariants.{RetFile}
 use Rattle.bsp_records.specs.Lines.{lines}
 use Rattle.bsp_ret.proofs.AnswerLemmas.{faulty}
 use Rattle.bsp_ret.proofs.LawLemmas.{is_read}
@@ -20,9 +20,9 @@ use Rattle.bsp_routes.specs.declared.call.AirlineCall.TheVariants as airline
 use Rattle.bsp_routes.specs.declared.call.Call.TheVariants as call
 use Rattle.bsp_routes.specs.declared.call.OfficeCall.{OfficeCall}
 use Rattle.bsp_routes.specs.declared.call.OfficeCall.TheVariants as office
-use Rattle.bsp_serving.specs.Contents.{IsAgentCall, IsAskedWith, IsFileIn, IsOfficeCall}
-use Rattle.bsp_serving.specs.declared.content.Content.TheVariants as content
-use Rattle.bsp_step.specs.Requests.{AgentRequest, Asked, FileRead, IsAgentRequest, IsAsked, IsFileOf, IsOfficeRequest, OfficeRequest}
+use Rattle.bsp_desk_base.specs.Contents.{IsAgentCall, IsAskedWith, IsFileIn, IsOfficeCall}
+use Rattle.bsp_desk_base.specs.declared.content.Content.TheVariants as content
+use Rattle.bsp_office_spec.specs.Requests.{AgentRequest, Asked, FileRead, IsAgentRequest, IsAsked, IsFileOf, IsOfficeRequest, OfficeRequest}
 use Rattle.bsp_http.specs.Messages.{content_of, use_of}
 
 pub same_token : (token : Option (Bor (List ℕ))) → token_text token ≡ option_map (λ t. t.now) token

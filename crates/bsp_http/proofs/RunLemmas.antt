@@ -1,8 +1,8 @@
 -- The messages of a connection are requests of a run.
 use Rattle.std.proofs.Common.{◌≡◌, ℕ, List, [], ◌∷◌, ◌++◌, None, refl, sym, subst, ◌∙◌, append_assoc, append-nil}
 use Rattle.bsp_book.specs.Calls.{Meaning}
-use Rattle.bsp_conversation.specs.Conversations.{IsRun}
-use Rattle.bsp_conversation.specs.Exchanges.{Exchange, RequestText}
+use Rattle.bsp_connection.specs.Conversations.{IsRun}
+use Rattle.bsp_connection.specs.Exchanges.{Exchange, RequestText}
 use Rattle.bsp_desk.proofs.Reach.{Reached, ran, reach_more, reach_none}
 use Rattle.bsp_desk.specs.Reading.{IsRead}
 use Rattle.bsp_desk.specs.Runs.{RanOver, RunReplied}
@@ -14,7 +14,7 @@ use Rattle.bsp_routes.specs.Calls.{asking_text}
 use Rattle.bsp_routes.specs.declared.asking.Asking.{Asking}
 use Rattle.bsp_rows.specs.Rows.{Rows}
 use Rattle.bsp_rows.specs.Sound.{Sound}
-use Rattle.bsp_step.specs.Requests.{IsAsked, Request as Reading}
+use Rattle.bsp_office_spec.specs.Requests.{IsAsked, Request as Reading}
 use Rattle.bsp_http.specs.Laws.{AreMessagesRead, AreWrittenFor, IsMessageRead, MessagesRun}
 use Rattle.bsp_http.specs.Messages.{IsRequestOf, at_desk}
 

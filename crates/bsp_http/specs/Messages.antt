@@ -2,9 +2,9 @@
 use Rattle.std.specs.Prelude.{◌≡◌, ℕ, List, Result, Ok, Err}
 use Rattle.std.specs.Borrow.{Bor}
 use Rattle.bsp_book.specs.Calls.{Meaning}
-use Rattle.bsp_conversation.specs.Exchanges.{Meaning as Answering, RequestText}
-use Rattle.bsp_conversation.specs.declared.service.BodyUse.{BodyUse}
-use Rattle.bsp_conversation.specs.declared.service.BodyUse.TheVariants.{Ignored, Kept, RetFile}
+use Rattle.bsp_connection.specs.Exchanges.{Meaning as Answering, RequestText}
+use Rattle.bsp_connection.specs.declared.service.BodyUse.{BodyUse}
+use Rattle.bsp_connection.specs.declared.service.BodyUse.TheVariants.{Ignored, Kept, RetFile}
 use Rattle.bsp_desk.specs.Reading.{token_text}
 use Rattle.bsp_desk.specs.Steps.{Answers}
 use Rattle.bsp_desk.specs.declared.desk.Desk.{Desk}
@@ -19,10 +19,10 @@ use Rattle.bsp_routes.specs.declared.asking.Asking.TheVariants as asking
 use Rattle.bsp_routes.specs.declared.body.BodyKind.{BodyKind}
 use Rattle.bsp_routes.specs.declared.body.BodyKind.TheVariants as body
 use Rattle.bsp_rows.specs.Rows.{Rows}
-use Rattle.bsp_serving.specs.Contents.{IsAskedWith}
-use Rattle.bsp_serving.specs.declared.content.Content.{Content}
-use Rattle.bsp_serving.specs.declared.content.Content.TheVariants as content
-use Rattle.bsp_step.specs.Requests.{Asked, IsAsked}
+use Rattle.bsp_desk_base.specs.Contents.{IsAskedWith}
+use Rattle.bsp_desk_base.specs.declared.content.Content.{Content}
+use Rattle.bsp_desk_base.specs.declared.content.Content.TheVariants as content
+use Rattle.bsp_office_spec.specs.Requests.{Asked, IsAsked}
 use Rattle.bsp_http.specs.Replies.{no_room, reply_as}
 
 -- ---- bodies

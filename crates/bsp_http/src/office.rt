@@ -5,11 +5,11 @@ ghost use Rattle.bsp_http.specs.Messages.{at_desk, content_of, use_by};
 
 use crate::replies::{answer_with, no_room_reply};
 use bsp_book::Book;
-use bsp_conversation::{Answer, BodyUse, Message, Service};
+use bsp_connection::{Answer, BodyUse, Message, Service};
 use bsp_desk::{Desk, Request};
+use bsp_desk_base::Content;
 use bsp_ret::{RetFault, RetFile};
 use bsp_routes::{Asking, BodyKind, Routes};
-use bsp_serving::Content;
 
 /// Answers messages at the office's desk, by the office's routes.
 #[derive(Clone, Copy)]

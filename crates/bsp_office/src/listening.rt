@@ -1,8 +1,8 @@
 //! Serving the connections of a listener.
 
 ghost use Rattle.std.specs.Prelude.{◌≡◌, List, Ok, Err};
-ghost use Rattle.bsp_conversation.specs.Conversations.{IsRun};
-ghost use Rattle.bsp_conversation.specs.Exchanges.{Exchange};
+ghost use Rattle.bsp_connection.specs.Conversations.{IsRun};
+ghost use Rattle.bsp_connection.specs.Exchanges.{Exchange};
 ghost use Rattle.bsp_http.specs.Messages.{at_desk};
 ghost use Rattle.bsp_office.specs.Listening.{AreVisited, IsVisited, Visit, counts};
 

@@ -1,9 +1,9 @@
 //! Look-ups after writes, and after these were taken back.
 
 use bsp_fields::{AgentCode, AirlineCode, Amount, Day, DocNumber, PeriodCode};
+use bsp_memory_tables::{MemoTable, RangeTable, TallyTable};
 use bsp_memos::{Memo, MemoFields, MemoKind, MemoState, Reason};
 use bsp_postings::Tally;
-use bsp_row_tables::{MemoTable, RangeTable, TallyTable};
 use bsp_rows::{MemoKey, RangeKey, TallyKey};
 use bsp_rules::Range;
 use std::alloc::Global;

@@ -3,8 +3,8 @@
 ghost use Rattle.std.specs.Prelude.{◌≡◌, IsOkUnless, OnErr, OnOk, false, true};
 ghost use Rattle.bsp_book.specs.Calls.{Commits, FallsBack};
 ghost use Rattle.bsp_book.specs.Listed.{meaning as listed};
-ghost use Rattle.bsp_content.specs.Content.{Content, form};
-ghost use Rattle.bsp_tables.specs.Kept.{Falls, Stands};
+ghost use Rattle.bsp_store_base.specs.Content.{Content, form};
+ghost use Rattle.bsp_store_base.specs.Kept.{Falls, Stands};
 ghost use Rattle.bsp_store.specs.Calls.{IsKept};
 
 use crate::ends::recover;

@@ -8,7 +8,7 @@ use Rattle.bsp_memos.specs.declared.fault.MemoFault.TheVariants.{AgentNotRegiste
 use Rattle.bsp_memos.specs.declared.fields.MemoFields.{MemoFields}
 use Rattle.bsp_calendar.specs.Published.{Published}
 use Rattle.bsp_messages.specs.declared.refusal.RequestRefusal.TheVariants as refusal
-use Rattle.bsp_step.specs.Answers.Answer.{Refused}
+use Rattle.bsp_office_spec.specs.Answers.Answer.{Refused}
 use Rattle.bsp_desk_memos.proofs.IssueLemmas.{made_of, not_registered, out_of_range, refused_of}
 use Rattle.bsp_desk_memos.proofs.ServeLemmas.{faults_after, issues, refuses}
 use Rattle.bsp_desk_memos.proofs.issues.issue_to.Goals as goal

@@ -5,7 +5,7 @@ use Rattle.bsp_messages.specs.declared.answer.DocumentShown.{DocumentShown}
 use Rattle.bsp_messages.specs.declared.answer.DocumentState.{DocumentState}
 use Rattle.bsp_rows.specs.Rows.{Rows}
 use Rattle.bsp_rules.specs.declared.rows.Item.{Item}
-use Rattle.bsp_step.specs.Ledger.{state_of}
+use Rattle.bsp_office_spec.specs.Ledger.{state_of}
 use Rattle.bsp_desk_reports.proofs.DocumentRows.{document_says, no_document}
 use Rattle.bsp_desk_reports.proofs.Shown.{same_rows}
 use Rattle.bsp_desk_reports.proofs.documents.document.Goals as goal

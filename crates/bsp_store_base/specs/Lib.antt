@@ -1,0 +1,7 @@
+pub mod Kept
+pub mod Simple
+pub mod Synced
+pub mod Columns
+pub mod Reading
+pub mod Content
+pub mod Forms
