@@ -9,14 +9,11 @@ ghost use Rattle.bsp_book.specs.Listed.{AreCommitted, IsUndone, meaning};
 
 use crate::book::Book;
 use crate::fault::BookFault;
-use bsp_calendar::{Plan, PlanFault, PlanText};
-use bsp_fields::{AgentCode, AirlineCode, Change, Day, PeriodCode, Token};
 use bsp_memory_rows::Tables;
-use bsp_memos::Memo;
-use bsp_postings::Tally;
-use bsp_ret_records::Transaction;
-use bsp_rows::{ItemKey, Items, MemoKey, Memos, Tallies, TallyKey};
-use bsp_rules::{Item, Range};
+use bsp_rows::{
+    AgentCode, AirlineCode, Change, Day, Item, ItemKey, Items, Memo, MemoKey, Memos, PeriodCode,
+    Plan, PlanFault, PlanText, Range, Tallies, Tally, TallyKey, Token, Transaction,
+};
 use std::alloc::Global;
 
 /// A book in memory. It never answers `Failed`.

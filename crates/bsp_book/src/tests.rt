@@ -3,11 +3,9 @@
 mod samples;
 
 use crate::*;
-use bsp_calendar::{PlanFault, PlanText};
-use bsp_fields::{Change, Token};
-use bsp_postings::Tally;
-use bsp_rows::{ItemKey, Items, MemoKey, Memos, Tallies};
-use bsp_rules::Item;
+use bsp_rows::{
+    Change, Item, ItemKey, Items, MemoKey, Memos, PlanFault, PlanText, Tallies, Tally, Token,
+};
 use samples::*;
 use std::alloc::Global;
 

@@ -1,6 +1,6 @@
 -- A RET file is not empty.
 use Rattle.std.proofs.Common.{◌≡◌, ℕ, ◌<◌, List, [], ◌∷◌, length, Option, Some, None, refl, sym, ◌∙◌, arith}
-use Rattle.bsp_records.specs.Lines.{lines}
+use Rattle.bsp_ret.specs.Lines.{lines}
 use Rattle.bsp_ret.specs.Table.{first_fault}
 use Rattle.bsp_ret.specs.declared.model.FaultCode.TheVariants.{F08}
 use Rattle.bsp_ret.specs.declared.model.RetFault.{RetFault}

@@ -1,7 +1,7 @@
 //! A sink that reads a RET file as its bytes come.
 
 ghost use Rattle.std.specs.Prelude.{◌≡◌, ◌⊎◌, ℕ, List, [], Ok, Err, None, Some, IfOk, IfErr, MatchResult};
-ghost use Rattle.bsp_records.specs.Lines.{lines};
+ghost use Rattle.bsp_ret.specs.Lines.{lines};
 ghost use Rattle.bsp_ret.specs.declared.model.Progress.TheVariants.{Reading, Ended, Failed};
 ghost use Rattle.bsp_ret.specs.Table.{first_fault};
 ghost use Rattle.bsp_ret.specs.Ret.{File, Ret};

@@ -6,8 +6,8 @@ use Rattle.bsp_routes.specs.declared.asking.Asking.TheVariants as asking
 use Rattle.bsp_routes.specs.declared.call.Call.{Call}
 use Rattle.bsp_rows.specs.Rows.{Rows, agent_token, airline_token}
 use Rattle.bsp_desk_base.specs.declared.content.Content.{Content}
-use Rattle.bsp_office_spec.specs.Ledger.{agent_of}
-use Rattle.bsp_office_spec.specs.Step.{is_token}
+use Rattle.bsp_desk_base.specs.Ledger.{agent_of}
+use Rattle.bsp_desk_base.specs.Step.{is_token}
 use Rattle.bsp_desk.specs.declared.request.Request.{Request}
 
 -- a caller of this kind with its token among the rows, and the token given

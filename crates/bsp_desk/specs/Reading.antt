@@ -3,7 +3,7 @@ use Rattle.std.specs.Prelude.{◌≡◌, ℕ, List, [], ◌∷◌, Option, Some,
 use Rattle.std.specs.Borrow.{Bor}
 use Rattle.bsp_routes.specs.Calls.{asking_text}
 use Rattle.bsp_desk_base.specs.Contents.{IsAskedWith, IsWhole, bytes_in}
-use Rattle.bsp_office_spec.specs.Requests.{IsInMemory, Request as Reading}
+use Rattle.bsp_desk_base.specs.Requests.{IsInMemory, Request as Reading}
 use Rattle.bsp_desk.specs.declared.request.Request.{Request}
 
 abbrev pub token_text : Option (Bor (List ℕ)) → Option (List ℕ)

@@ -2,7 +2,7 @@ ghost use Rattle.std.specs.Prelude.{◌≡◌, false};
 ghost use Rattle.bsp_desk.specs.Calls.{office_text};
 ghost use Rattle.bsp_desk_base.specs.Contents.{IsOfficeCall};
 ghost use Rattle.bsp_desk_base.specs.Serves.{EndsOnFault, ServesOffice};
-ghost use Rattle.bsp_office_spec.specs.Requests.{OfficeRequest};
+ghost use Rattle.bsp_desk_base.specs.Requests.{OfficeRequest};
 
 use bsp_book::{Book, BookFault};
 use bsp_desk_base::Content;

@@ -5,9 +5,9 @@ ghost use Rattle.bsp_desk.specs.Reading.{token_text};
 ghost use Rattle.bsp_desk.specs.Steps.{ServesRequest};
 ghost use Rattle.bsp_desk_base.specs.Contents.{IsAgentCall, IsOfficeCall, bytes_in};
 ghost use Rattle.bsp_desk_base.specs.Serves.{EndsOnFault, Serves};
-ghost use Rattle.bsp_office_spec.specs.Requests.{AgentRequest, AirlineRequest, IsAirlineRequest, OfficeRequest};
-ghost use Rattle.bsp_office_spec.specs.Requests.Asked.{ByAgent, ByAirline, ByOffice};
-ghost use Rattle.bsp_office_spec.specs.Step.{asked_after, asked_answer};
+ghost use Rattle.bsp_desk_base.specs.Requests.{AgentRequest, AirlineRequest, IsAirlineRequest, OfficeRequest};
+ghost use Rattle.bsp_desk_base.specs.Requests.Asked.{ByAgent, ByAirline, ByOffice};
+ghost use Rattle.bsp_desk_base.specs.Step.{asked_after, asked_answer};
 
 use crate::agent::serve_agent;
 use crate::airline::serve_airline;
@@ -16,9 +16,9 @@ use crate::office::serve_office;
 use crate::token::is_token_of;
 use bsp_book::{Book, BookFault};
 use bsp_desk_base::Content;
-use bsp_fields::Token;
 use bsp_messages::{Answer, RequestRefusal};
 use bsp_routes::{AgentCall, AirlineCall, Call, OfficeCall};
+use bsp_rows::Token;
 use std::alloc::Global;
 
 /// Serves a call in the open transaction: the caller and its token first, then what is asked.

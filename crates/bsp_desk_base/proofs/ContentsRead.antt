@@ -1,11 +1,11 @@
 -- Each call with its content has a reading.
 use Rattle.std.proofs.Common.{ℕ, List, Ok, Err, refl}
-use Rattle.bsp_routes.specs.declared.asking.Asking.TheVariants as asking
-use Rattle.bsp_routes.specs.declared.call.AgentCall.{AgentCall}
-use Rattle.bsp_routes.specs.declared.call.AgentCall.TheVariants as agent
-use Rattle.bsp_routes.specs.declared.call.Call.TheVariants as call
-use Rattle.bsp_routes.specs.declared.call.OfficeCall.{OfficeCall}
-use Rattle.bsp_routes.specs.declared.call.OfficeCall.TheVariants as office
+use Rattle.bsp_office_spec.specs.Asking.TheVariants as asking
+use Rattle.bsp_office_spec.specs.AgentCall.{AgentCall}
+use Rattle.bsp_office_spec.specs.AgentCall.TheVariants as agent
+use Rattle.bsp_office_spec.specs.Call.TheVariants as call
+use Rattle.bsp_office_spec.specs.OfficeCall.{OfficeCall}
+use Rattle.bsp_office_spec.specs.OfficeCall.TheVariants as office
 use Rattle.bsp_office_spec.proofs.EachIsRead.{each_file_is_read, groups_read}
 use Rattle.bsp_office_spec.proofs.RequestsRead.{each_request_is_read}
 use Rattle.bsp_office_spec.specs.Requests.{Asked, FileRead, IsInMemory}

@@ -1,6 +1,6 @@
 -- The rows after a request of a known caller, as it is answered.
 use Rattle.std.specs.Prelude.{ℕ, Some, if◌then◌else◌}
-use Rattle.bsp_rows.specs.Rows.{Rows}
+use Rattle.bsp_book.specs.Rows.{Rows}
 use Rattle.bsp_office_spec.specs.AirlineLedger.{airline_answer, airline_ledger_of}
 use Rattle.bsp_office_spec.specs.Answers.{Answer, is_done, verdicts_in}
 use Rattle.bsp_office_spec.specs.Ledger.{ledger_answer, ledger_of}

@@ -1,14 +1,14 @@
 -- How a call and the content of a request are read as a request.
 use Rattle.std.specs.Prelude.{◌≡◌, ℕ, List, [], Ok, Err}
 use Rattle.bsp_ret.specs.Ret.{HasLines}
-use Rattle.bsp_ret_writer.specs.Writing.{HaveContents}
-use Rattle.bsp_routes.specs.declared.asking.Asking.{Asking}
-use Rattle.bsp_routes.specs.declared.asking.Asking.TheVariants as asking
-use Rattle.bsp_routes.specs.declared.call.Call.TheVariants as call
-use Rattle.bsp_routes.specs.declared.call.OfficeCall.{OfficeCall}
-use Rattle.bsp_routes.specs.declared.call.OfficeCall.TheVariants as office
-use Rattle.bsp_routes.specs.declared.call.AgentCall.{AgentCall}
-use Rattle.bsp_routes.specs.declared.call.AgentCall.TheVariants as agent
+use Rattle.bsp_book.specs.Writing.{HaveContents}
+use Rattle.bsp_office_spec.specs.Asking.{Asking}
+use Rattle.bsp_office_spec.specs.Asking.TheVariants as asking
+use Rattle.bsp_office_spec.specs.Call.TheVariants as call
+use Rattle.bsp_office_spec.specs.OfficeCall.{OfficeCall}
+use Rattle.bsp_office_spec.specs.OfficeCall.TheVariants as office
+use Rattle.bsp_office_spec.specs.AgentCall.{AgentCall}
+use Rattle.bsp_office_spec.specs.AgentCall.TheVariants as agent
 use Rattle.bsp_desk_base.specs.declared.content.Content.{Content}
 use Rattle.bsp_desk_base.specs.declared.content.Content.TheVariants.{Bytes, File, Fault}
 use Rattle.bsp_office_spec.specs.Requests.{AgentRequest, Asked, FileRead, IsAgentRequest, IsAsked, IsFileOf, IsInMemory, IsOfficeRequest, OfficeRequest}

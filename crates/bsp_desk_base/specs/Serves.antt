@@ -2,9 +2,9 @@
 use Rattle.std.specs.Prelude.{ℕ, Some, None, Result, IfOk}
 use Rattle.bsp_book.specs.Calls.{Faults, Meaning}
 use Rattle.bsp_book.specs.declared.fault.BookFault.{BookFault}
-use Rattle.bsp_messages.specs.declared.answer.Answer.{Answer as Message}
-use Rattle.bsp_rows.specs.Rows.{Rows}
-use Rattle.bsp_rows.specs.Sound.{Sound}
+use Rattle.bsp_office_spec.specs.Answer.{Answer as Message}
+use Rattle.bsp_book.specs.Rows.{Rows}
+use Rattle.bsp_book.specs.Sound.{Sound}
 use Rattle.bsp_office_spec.specs.Answers.{Answer}
 use Rattle.bsp_office_spec.specs.AirlineLedger.{airline_answer, airline_ledger_of}
 use Rattle.bsp_office_spec.specs.Ledger.{ledger_answer, ledger_of}

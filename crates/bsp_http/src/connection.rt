@@ -7,10 +7,8 @@ ghost use Rattle.bsp_connection.specs.Serving.{Serves};
 ghost use Rattle.bsp_http.specs.Messages.{at_desk};
 
 use crate::office::Office;
-use bsp_book::Book;
 use bsp_connection::{ServeFault, Served};
-use bsp_desk::Desk;
-use bsp_routes::Routes;
+use bsp_desk::{Book, Desk, Routes};
 use std::alloc::Global;
 use std::io::{Read, Write};
 

@@ -2,7 +2,7 @@
 
 ghost use Rattle.bsp_http.specs.Laws.{EachMessageIsRead, MessagesRun};
 
-use bsp_book::Book;
+use bsp_desk::Book;
 
 /// Each message whose body memory can hold is read as some request of `bsp_office_spec`: of a plan text no list may have
 /// 2^63 entries.

@@ -8,12 +8,12 @@ use Rattle.std.specs.FinMap.{FinMap, IsAntisymmetric, entries, entries_sorted, e
 use Rattle.std.specs.FinMap.Entries.{below_all, find, is_sorted}
 use Rattle.std.specs.Ordering.{is_lt}
 use Rattle.std.proofs.lemmas.List.Folds.{list_any-append}
-use Rattle.bsp_calendar.proofs.ListLemmas.{contains_head, contains_tail}
-use Rattle.bsp_rules.specs.declared.rows.Item.{Item}
-use Rattle.bsp_memos.specs.declared.fields.MemoFields.{MemoFields}
-use Rattle.bsp_memos.specs.Owed.{is_period}
-use Rattle.bsp_postings.specs.declared.tally.Tally.{Tally}
-use Rattle.bsp_postings.specs.Tallies.{is_item_under, is_memo_under}
+use Rattle.bsp_rows.proofs.ListLemmas.{contains_head, contains_tail}
+use Rattle.bsp_rows.specs.Item.{Item}
+use Rattle.bsp_rows.specs.MemoFields.{MemoFields}
+use Rattle.bsp_rows.specs.Owed.{is_period}
+use Rattle.bsp_rows.specs.Tally.{Tally}
+use Rattle.bsp_rows.specs.PostingsTallies.{is_item_under, is_memo_under}
 use Rattle.bsp_maps.specs.Windows.{entries_in}
 use Rattle.bsp_maps.proofs.PickLemmas.{find_passing, sorted_filter, wanted}
 use Rattle.bsp_rows.specs.declared.keys.TallyKey.{TallyKey}

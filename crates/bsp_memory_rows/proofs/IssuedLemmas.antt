@@ -3,8 +3,8 @@ use Rattle.std.proofs.Common.{◌≡◌, ℕ, ◌==◌, ◌&&◌, Bool, true, fa
 use Rattle.std.specs.Ordering.{is_eq, ordering_then}
 use Rattle.std.specs.FinMap.{FinMap, entries}
 use Rattle.std.specs.Prelude.{Some, sum_by}
-use Rattle.bsp_calendar.proofs.KeyLemmas.{is_eq-nat_cmp}
-use Rattle.bsp_memos.specs.declared.fields.MemoFields.{MemoFields}
+use Rattle.bsp_rows.proofs.KeyLemmas.{is_eq-nat_cmp}
+use Rattle.bsp_rows.specs.MemoFields.{MemoFields}
 use Rattle.bsp_maps.specs.Counts.{row_count}
 use Rattle.bsp_maps.specs.Indexes.{is_place}
 use Rattle.bsp_rows.specs.declared.keys.MemoKey.{MemoKey}

@@ -7,20 +7,20 @@ use Rattle.std.specs.Cmp.{tied_itself}
 use Rattle.std.specs.FinMap.{FinMap, get, insert, get-insert}
 use Rattle.std.specs.Cmp.Derive.{both_true}
 use Rattle.std.proofs.lemmas.Bool.{and_parts, eqb-true}
-use Rattle.bsp_rules.specs.declared.rows.Item.{Item}
-use Rattle.bsp_memos.specs.declared.fields.MemoFields.{MemoFields}
-use Rattle.bsp_memos.specs.Owed.{is_billed_in, is_period}
-use Rattle.bsp_postings.specs.declared.posting.Posting.{Posting}
-use Rattle.bsp_postings.specs.declared.tally.Tally.{Tally}
-use Rattle.bsp_postings.specs.Postings.{is_counted, item_posting, postings}
-use Rattle.bsp_postings.specs.Nets.{cash_of, credit_of, commission_of, memos_of}
-use Rattle.bsp_postings.specs.Removal.{not_counting, without_item, without_memo, without_posting}
-use Rattle.bsp_postings.specs.Tallies.{IsTallyOf, counting, is_item_under, is_memo_under, items_under, under, with_item, with_memo, with_posting}
-use Rattle.bsp_rules.specs.Rows.{is_canx}
+use Rattle.bsp_rows.specs.Item.{Item}
+use Rattle.bsp_rows.specs.MemoFields.{MemoFields}
+use Rattle.bsp_rows.specs.Owed.{is_billed_in, is_period}
+use Rattle.bsp_rows.specs.Posting.{Posting}
+use Rattle.bsp_rows.specs.Tally.{Tally}
+use Rattle.bsp_rows.specs.Postings.{is_counted, item_posting, postings}
+use Rattle.bsp_rows.specs.Nets.{cash_of, credit_of, commission_of, memos_of}
+use Rattle.bsp_rows.specs.Removal.{not_counting, without_item, without_memo, without_posting}
+use Rattle.bsp_rows.specs.PostingsTallies.{IsTallyOf, counting, is_item_under, is_memo_under, items_under, under, with_item, with_memo, with_posting}
+use Rattle.bsp_rows.specs.RulesRows.{is_canx}
 use Rattle.std.specs.Prelude.{count_by}
-use Rattle.bsp_postings.proofs.TallyLemmas as grown
-use Rattle.bsp_postings.proofs.RemovalLemmas as shrunk
-use Rattle.bsp_postings.proofs.RemovalLemmas.{documents_and_memos}
+use Rattle.bsp_rows.proofs.TallyLemmas as grown
+use Rattle.bsp_rows.proofs.RemovalLemmas as shrunk
+use Rattle.bsp_rows.proofs.RemovalLemmas.{documents_and_memos}
 use Rattle.bsp_rows.specs.declared.keys.TallyKey.{TallyKey}
 use Rattle.bsp_rows.specs.Tallies.{added_up, item_tally_key, key_tally, memo_tally_key, tally_cmp}
 use Rattle.bsp_rows.proofs.KeyOrders.{tally_exact, tally_total}

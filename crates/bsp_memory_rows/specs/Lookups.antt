@@ -1,7 +1,7 @@
 -- What is looked up in the tables.
 use Rattle.std.specs.Prelude.{Bool, nat_lt, ◌&&◌, ◌||◌, List, map}
 use Rattle.std.specs.List.{filter}
-use Rattle.bsp_postings.specs.declared.tally.Tally.{Tally}
+use Rattle.bsp_rows.specs.Tally.{Tally}
 use Rattle.bsp_rows.specs.declared.keys.TallyKey.{TallyKey}
 use Rattle.bsp_rows.specs.declared.questions.Tallies.{Tallies}
 use Rattle.bsp_rows.specs.Tallies.{is_tally_asked}

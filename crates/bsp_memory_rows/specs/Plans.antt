@@ -1,9 +1,9 @@
 -- A plan that can be taken back to that of the last commit.
 use Rattle.std.specs.Prelude.{unwrap_or, Result}
-use Rattle.bsp_fields.specs.declared.change.Change.{Change}
-use Rattle.bsp_calendar.specs.Published.{Published}
-use Rattle.bsp_calendar.specs.History.{Request, outcome}
-use Rattle.bsp_calendar.specs.declared.fault.PlanFault.{PlanFault}
+use Rattle.bsp_rows.specs.Change.{Change}
+use Rattle.bsp_rows.specs.Published.{Published}
+use Rattle.bsp_rows.specs.History.{Request, outcome}
+use Rattle.bsp_rows.specs.PlanFault.{PlanFault}
 use Rattle.bsp_rows.specs.Writes.{change_or_fault, is_held, plan_left}
 use Rattle.bsp_memory_rows.specs.declared.planned.Planned.{Planned}
 

@@ -1,8 +1,8 @@
 -- What the tables of a book in memory contain.
 use Rattle.std.specs.FinMap.{insert}
 use Rattle.std.specs.Ordering.{nat_cmp}
-use Rattle.bsp_rules.specs.declared.rows.Item.{Item}
-use Rattle.bsp_memos.specs.declared.fields.MemoFields.{MemoFields}
+use Rattle.bsp_rows.specs.Item.{Item}
+use Rattle.bsp_rows.specs.MemoFields.{MemoFields}
 use Rattle.bsp_maps.specs.Undo.{before, content}
 use Rattle.bsp_rows.specs.declared.keys.ItemKey.{ItemKey}
 use Rattle.bsp_rows.specs.declared.keys.MemoKey.{MemoKey}

@@ -4,7 +4,7 @@ ghost use Rattle.std.specs.Prelude.{◌≡◌, ◌==◌, IfOk};
 ghost use Rattle.std.specs.FinMap.{entries};
 ghost use Rattle.bsp_memory_tables.specs.TallyTables.{tally_rows};
 ghost use Rattle.bsp_maps.specs.Windows.{entries_in};
-ghost use Rattle.bsp_memos.specs.Owed.{is_billed_in};
+ghost use Rattle.bsp_rows.specs.Owed.{is_billed_in};
 ghost use Rattle.bsp_rows.specs.Rows.{agent_token, airline_token, has_meeting, is_in, is_used_in, items_bearing, items_of, memo_at, memos_of, ranges_of, registered};
 ghost use Rattle.bsp_rows.specs.Laws.{issued_count};
 ghost use Rattle.bsp_rows.specs.Sound.{AreApart};
@@ -14,13 +14,11 @@ ghost use Rattle.bsp_memory_rows.specs.Tables.{IsDerived, rows_of};
 
 use crate::tables::Tables;
 use crate::tallies::tally_at;
-use bsp_fields::{AgentCode, AirlineCode, PeriodCode, Token};
 use bsp_maps::{Every, Rule, Test};
-use bsp_memos::Memo;
-use bsp_postings::Tally;
-use bsp_ret_records::Transaction;
-use bsp_rows::{Items, MemoKey, Memos, Tallies, TallyKey};
-use bsp_rules::{Item, Range};
+use bsp_rows::{
+    AgentCode, AirlineCode, Item, Items, Memo, MemoKey, Memos, PeriodCode, Range, Tallies, Tally,
+    TallyKey, Token, Transaction,
+};
 use std::alloc::{AllocError, Global};
 
 /// Items that were accepted in a period.

@@ -1,13 +1,12 @@
 //! A plan, and the plan at the last commit.
 
 ghost use Rattle.std.specs.Prelude.{◌≡◌, IfOk, OnOk, unwrap_or};
-ghost use Rattle.bsp_calendar.specs.Published.{Published, opening};
-ghost use Rattle.bsp_calendar.specs.History.Request.{Close, Publish, SetDay};
+ghost use Rattle.bsp_rows.specs.Published.{Published, opening};
+ghost use Rattle.bsp_rows.specs.History.Request.{Close, Publish, SetDay};
 ghost use Rattle.bsp_memory_rows.specs.Plans.{plan_after, plan_answer, saved_plan};
 
 use crate::no_room::NoRoom;
-use bsp_calendar::{Plan, PlanFault, PlanText};
-use bsp_fields::{Change, Day, PeriodCode};
+use bsp_rows::{Change, Day, PeriodCode, Plan, PlanFault, PlanText};
 use std::alloc::Global;
 
 /// A plan, and where it was changed since the last commit the plan at that commit.

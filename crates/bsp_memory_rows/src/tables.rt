@@ -1,9 +1,9 @@
 //! The tables of a book in memory, which remember what they changed.
 
 ghost use Rattle.std.specs.Prelude.{◌≡◌, IfOk, OnOk, if◌then◌else◌, Some, None};
-ghost use Rattle.bsp_calendar.specs.History.Request.{Close, Publish, SetDay};
-ghost use Rattle.bsp_memos.specs.Billing.{billed_in};
-ghost use Rattle.bsp_memos.specs.Memos.{is_memo};
+ghost use Rattle.bsp_rows.specs.History.Request.{Close, Publish, SetDay};
+ghost use Rattle.bsp_rows.specs.Billing.{billed_in};
+ghost use Rattle.bsp_rows.specs.Memos.{is_memo};
 ghost use Rattle.bsp_rows.specs.Rows.{HasNumberKey, key_of, memo_at, memo_key, no_rows};
 ghost use Rattle.bsp_rows.specs.Writes.{MayBeBilled, after_request, ended, request_answer, with_agent_token, with_airline_token, with_billing, with_end, with_item, with_memo, with_range, without_range};
 ghost use Rattle.bsp_memory_rows.specs.Tables.{IsDerived, WasDerived, committed_rows, rows_of, with_item_at, with_memo_at};
@@ -11,13 +11,12 @@ ghost use Rattle.bsp_memory_rows.specs.Tables.{IsDerived, WasDerived, committed_
 use crate::no_room::NoRoom;
 use crate::planned::Planned;
 use crate::tallies::{recount_item, recount_memo};
-use bsp_calendar::{Plan, PlanFault, PlanText};
-use bsp_fields::{AgentCode, AirlineCode, Change, Day, PeriodCode, Token};
 use bsp_maps::Logged;
 use bsp_memory_tables::{ItemTable, MemoTable, RangeTable, TallyTable};
-use bsp_memos::Memo;
-use bsp_rows::{ItemKey, MemoKey, RangeKey};
-use bsp_rules::{Item, Range};
+use bsp_rows::{
+    AgentCode, AirlineCode, Change, Day, Item, ItemKey, Memo, MemoKey, PeriodCode, Plan, PlanFault,
+    PlanText, Range, RangeKey, Token,
+};
 use std::alloc::Global;
 
 /// The rows of all callers, with their indexes, and the tallies. Each write keeps the indexes and the

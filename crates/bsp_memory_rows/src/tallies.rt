@@ -3,17 +3,14 @@
 ghost use Rattle.std.specs.Prelude.{◌≡◌, ◌∷◌, ◌++◌, List, OnOk, IfSome, IsSome};
 ghost use Rattle.std.specs.FinMap.{insert};
 ghost use Rattle.std.specs.Option.{option_to_list};
-ghost use Rattle.bsp_rules.specs.declared.rows.Item.{Item as ItemValue};
-ghost use Rattle.bsp_memos.specs.declared.fields.MemoFields.{MemoFields as MemoValue};
+ghost use Rattle.bsp_rows.specs.Item.{Item as ItemValue};
+ghost use Rattle.bsp_rows.specs.MemoFields.{MemoFields as MemoValue};
 ghost use Rattle.bsp_memory_tables.specs.TallyTables.{AreTalliesKept, WereTalliesKept, tally_rows, tally_rows_before};
 ghost use Rattle.bsp_memory_rows.specs.Kept.{AreAddedUp, tally_at};
 
 use crate::no_room::NoRoom;
 use bsp_memory_tables::TallyTable;
-use bsp_memos::{Memo, MemoFields};
-use bsp_postings::Tally;
-use bsp_rows::TallyKey;
-use bsp_rules::Item;
+use bsp_rows::{Item, Memo, MemoFields, Tally, TallyKey};
 
 /// The tally of a key. A key for which none is kept has the tally of no rows.
 pub(crate) fn tally_at(tallies: &TallyTable, key: &TallyKey) -> Tally

@@ -8,9 +8,9 @@ use Rattle.std.specs.FinMap.Entries.{find}
 use Rattle.std.specs.Str.{bytes_eq}
 use Rattle.std.proofs.lemmas.Slice.Eq.{bytes_eq-Decides}
 use Rattle.std.proofs.lemmas.List.Folds.{list_any-append}
-use Rattle.bsp_ret_records.specs.declared.transactions.Transaction.{Transaction}
-use Rattle.bsp_rules.specs.declared.rows.Item.{Item}
-use Rattle.bsp_rules.specs.Selected.{is_among, numbers_of, shares}
+use Rattle.bsp_rows.specs.Transaction.{Transaction}
+use Rattle.bsp_rows.specs.Item.{Item}
+use Rattle.bsp_rows.specs.Selected.{is_among, numbers_of, shares}
 use Rattle.bsp_maps.specs.Windows.{values_in}
 use Rattle.bsp_maps.proofs.PickLemmas.{AreAmong}
 use Rattle.bsp_rows.specs.declared.keys.ItemKey.{ItemKey}

@@ -6,7 +6,7 @@ use Rattle.std.specs.Ordering.{is_eq, is_le}
 use Rattle.std.specs.Cmp.{nat_cmp_total, tied_itself}
 use Rattle.std.proofs.lemmas.Bool.{both_ways, false_from_ne_true, leb-false, leb-true}
 use Rattle.std.proofs.lemmas.Map.Keys.{le_from_is_le}
-use Rattle.bsp_rules.specs.declared.rows.Range.{Range}
+use Rattle.bsp_rows.specs.Range.{Range}
 use Rattle.bsp_maps.specs.Present.{present_entry}
 use Rattle.bsp_maps.specs.Indexes.{IsIndex, entry_cmp, found_place, is_place}
 use Rattle.bsp_maps.proofs.EntryLemmas.{entry_exact, entry_total, tied}

@@ -2,8 +2,8 @@
 use Rattle.std.proofs.Common.{◌≡◌, ℕ, refl, sym, subst}
 use Rattle.std.specs.Ordering.{nat_cmp}
 use Rattle.std.specs.FinMap.{FinMap, empty}
-use Rattle.bsp_rules.specs.declared.rows.Item.{Item}
-use Rattle.bsp_memos.specs.declared.fields.MemoFields.{MemoFields}
+use Rattle.bsp_rows.specs.Item.{Item}
+use Rattle.bsp_rows.specs.MemoFields.{MemoFields}
 use Rattle.bsp_maps.specs.Indexes.{entry_cmp}
 use Rattle.bsp_maps.proofs.PlaceCountLemmas.{counts_same, nothing_counted}
 use Rattle.bsp_maps.proofs.IndexLemmas.{index_same}
@@ -15,7 +15,7 @@ use Rattle.bsp_memory_tables.specs.Places.{agent_place, airline_cmp, item_place,
 use Rattle.bsp_memory_tables.specs.MemoTables.{AreMemosIndexed}
 use Rattle.bsp_memory_tables.specs.ItemTables.{AreItemsIndexed}
 use Rattle.bsp_memory_tables.specs.TallyTables.{AreTalliesIndexed}
-use Rattle.bsp_postings.specs.declared.tally.Tally.{Tally}
+use Rattle.bsp_rows.specs.Tally.{Tally}
 use Rattle.bsp_rows.specs.Tallies.{tally_cmp}
 use Rattle.bsp_memory_tables.proofs.NumberLemmas.{nothing_indexed}
 

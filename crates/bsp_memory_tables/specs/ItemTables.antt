@@ -1,6 +1,6 @@
 -- What the table of items contains.
 use Rattle.std.specs.FinMap.{FinMap}
-use Rattle.bsp_rules.specs.declared.rows.Item.{Item}
+use Rattle.bsp_rows.specs.Item.{Item}
 use Rattle.bsp_maps.specs.Undo.{before, content}
 use Rattle.bsp_maps.specs.Indexes.{IsIndex, entry_cmp, members, members_before}
 use Rattle.bsp_rows.specs.declared.keys.ItemKey.{ItemKey}

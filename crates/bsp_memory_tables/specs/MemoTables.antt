@@ -2,7 +2,7 @@
 use Rattle.std.specs.Prelude.{ℕ}
 use Rattle.std.specs.FinMap.{FinMap}
 use Rattle.std.specs.Ordering.{nat_cmp}
-use Rattle.bsp_memos.specs.declared.fields.MemoFields.{MemoFields}
+use Rattle.bsp_rows.specs.MemoFields.{MemoFields}
 use Rattle.bsp_maps.specs.Undo.{before, content}
 use Rattle.bsp_maps.specs.Counts.{AreCounted, counted, counted_before}
 use Rattle.bsp_maps.specs.Indexes.{IsIndex, entry_cmp, members, members_before}

@@ -5,7 +5,7 @@ use Rattle.std.specs.List.{filter_map}
 use Rattle.std.specs.Ordering.{nat_cmp}
 use Rattle.bsp_maps.specs.Undo.{before, content}
 use Rattle.bsp_maps.specs.Present.{present}
-use Rattle.bsp_rules.specs.declared.rows.Range.{Range}
+use Rattle.bsp_rows.specs.Range.{Range}
 use Rattle.bsp_maps.specs.Indexes.{IsIndex, members, members_before}
 use Rattle.bsp_rows.specs.declared.keys.RangeKey.{RangeKey}
 use Rattle.bsp_rows.specs.Rows.{range_cmp, range_of}

@@ -1,7 +1,7 @@
 -- What the table of tallies contains.
 use Rattle.std.specs.FinMap.{FinMap}
 use Rattle.std.specs.Ordering.{nat_cmp}
-use Rattle.bsp_postings.specs.declared.tally.Tally.{Tally}
+use Rattle.bsp_rows.specs.Tally.{Tally}
 use Rattle.bsp_maps.specs.Undo.{before, content}
 use Rattle.bsp_maps.specs.Indexes.{IsIndex, entry_cmp, members, members_before}
 use Rattle.bsp_rows.specs.Tallies.{tally_cmp}

@@ -4,19 +4,16 @@ ghost use Rattle.std.specs.Prelude.{◌≡◌, ◌==◌, ◌&&◌, IfOk, OnOk};
 ghost use Rattle.std.specs.FinMap.{empty, entries, get, insert, values};
 ghost use Rattle.std.specs.List.{filter, list_any};
 ghost use Rattle.bsp_maps.specs.Windows.{values_in};
-ghost use Rattle.bsp_rules.specs.Rows.{contains};
-ghost use Rattle.bsp_rules.specs.Selected.{selected};
+ghost use Rattle.bsp_rows.specs.RulesRows.{contains};
+ghost use Rattle.bsp_rows.specs.Selected.{selected};
 ghost use Rattle.bsp_rows.specs.Rows.{is_of_airline};
 ghost use Rattle.bsp_memory_tables.specs.ItemTables.{AreItemsKept, WereItemsKept, item_rows, item_rows_before};
 
 use crate::keys::{ItemsOf, ItemsWithin, least_item};
 use crate::numbers::{Bearing, Numbers, add_numbers, keys_bearing};
 use crate::places::{AirlinePeriod, item_place};
-use bsp_fields::{AgentCode, AirlineCode, PeriodCode};
 use bsp_maps::{Index, Logged, Old, Rule, Test};
-use bsp_ret_records::Transaction;
-use bsp_rows::ItemKey;
-use bsp_rules::{Item, Range};
+use bsp_rows::{AgentCode, AirlineCode, Item, ItemKey, PeriodCode, Range, Transaction};
 use std::alloc::{AllocError, Global};
 use std::collections::BTreeMap;
 

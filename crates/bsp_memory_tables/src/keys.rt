@@ -4,10 +4,10 @@ ghost use Rattle.std.specs.Prelude.{◌≡◌, ◌==◌};
 ghost use Rattle.bsp_memory_tables.specs.Numbers.{is_of_number, number_key};
 ghost use Rattle.bsp_memory_tables.specs.Windows.{first_at, first_item, first_memo, first_range, first_tally, first_within, is_within, items_from, items_together, memos_from, memos_together, numbers_from, numbers_together, ranges_from, ranges_together, tallies_from, tallies_together, within_from, within_together};
 
-use bsp_fields::{AgentCode, AirlineCode, DocNumber, PeriodCode};
 use bsp_maps::Window;
-use bsp_rows::{ItemKey, MemoKey, RangeKey, TallyKey};
-use bsp_rules::Range;
+use bsp_rows::{
+    AgentCode, AirlineCode, DocNumber, ItemKey, MemoKey, PeriodCode, Range, RangeKey, TallyKey,
+};
 
 /// A number that an item of an agent bears, as it was reported, and the item's key.
 #[derive(Clone, Copy, Debug, PartialEq, Eq, PartialOrd, Ord)]

@@ -11,10 +11,8 @@ ghost use Rattle.bsp_memory_tables.specs.Places.{parties_cmp, parties_of};
 
 use crate::keys::{MemosOf, least_memo};
 use crate::places::{Parties, agent_place, old_parties, parties_of, unbilled_place};
-use bsp_fields::{AgentCode, AirlineCode};
 use bsp_maps::{Counts, Index, Logged, Old, Rule, Test};
-use bsp_memos::Memo;
-use bsp_rows::MemoKey;
+use bsp_rows::{AgentCode, AirlineCode, Memo, MemoKey};
 use std::alloc::{AllocError, Global};
 use std::collections::BTreeMap;
 

@@ -2,15 +2,12 @@
 
 ghost use Rattle.std.specs.Prelude.{◌≡◌, ◌++◌, IfOk, OnOk};
 ghost use Rattle.bsp_maps.specs.Undo.{before, content};
-ghost use Rattle.bsp_rules.specs.Selected.{numbers_of};
+ghost use Rattle.bsp_rows.specs.Selected.{numbers_of};
 ghost use Rattle.bsp_memory_tables.specs.Numbers.{is_bearing, keys_at, keys_at_each, number_cmp, place_numbers, with_number, with_numbers};
 
 use crate::keys::{AtNumber, NumberKey};
-use bsp_fields::AgentCode;
 use bsp_maps::{Every, Logged, Rule};
-use bsp_ret_records::{ReportedDocument, Transaction};
-use bsp_rows::ItemKey;
-use bsp_rules::Item;
+use bsp_rows::{AgentCode, Item, ItemKey, ReportedDocument, Transaction};
 use std::alloc::{AllocError, Global};
 
 /// The keys of items by their agents and the numbers that they bear.

@@ -6,11 +6,7 @@ ghost use Rattle.bsp_rows.specs.declared.keys.MemoKey.{MemoKey as MemoKeyValue};
 ghost use Rattle.bsp_maps.specs.Indexes.{found_place};
 ghost use Rattle.bsp_memory_tables.specs.Places.{agent_place, item_place, parties_of, tally_airline_place, tally_period_place, unbilled_place};
 
-use bsp_fields::{AgentCode, AirlineCode, PeriodCode};
-use bsp_memos::Memo;
-use bsp_postings::Tally;
-use bsp_rows::{MemoKey, TallyKey};
-use bsp_rules::Item;
+use bsp_rows::{AgentCode, AirlineCode, Item, Memo, MemoKey, PeriodCode, Tally, TallyKey};
 
 /// An airline and a period.
 #[derive(Clone, Copy, Debug, PartialEq, Eq, PartialOrd, Ord)]

@@ -8,10 +8,8 @@ ghost use Rattle.bsp_rows.specs.Sound.{AreApart};
 ghost use Rattle.bsp_memory_tables.specs.RangeTables.{AreRangesKept, WereRangesKept, present_ranges, range_rows, range_rows_before};
 
 use crate::keys::{RangesOf, least_range};
-use bsp_fields::{AgentCode, DocNumber};
 use bsp_maps::{Index, Logged, Old, commit_present};
-use bsp_rows::RangeKey;
-use bsp_rules::Range;
+use bsp_rows::{AgentCode, DocNumber, Range, RangeKey};
 use std::alloc::{AllocError, Global};
 use std::collections::BTreeMap;
 

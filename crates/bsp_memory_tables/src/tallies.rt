@@ -4,16 +4,14 @@ ghost use Rattle.std.specs.Prelude.{◌≡◌, ◌==◌, ◌&&◌, true, IfOk, O
 ghost use Rattle.std.specs.FinMap.{empty, entries, get, insert};
 ghost use Rattle.std.specs.List.{filter};
 ghost use Rattle.bsp_maps.specs.Windows.{entries_in};
-ghost use Rattle.bsp_postings.specs.declared.tally.Tally.{Tally as TallyValue};
+ghost use Rattle.bsp_rows.specs.Tally.{Tally as TallyValue};
 ghost use Rattle.bsp_rows.specs.declared.keys.TallyKey.{TallyKey as TallyKeyValue};
 ghost use Rattle.bsp_memory_tables.specs.TallyTables.{AreTalliesKept, WereTalliesKept, tally_rows, tally_rows_before};
 
 use crate::keys::{TalliesOf, least_tally};
 use crate::places::{AirlinePeriod, tally_airline_place, tally_period_place};
-use bsp_fields::{AgentCode, AirlineCode, PeriodCode};
 use bsp_maps::{Index, Logged, Old, Rule};
-use bsp_postings::Tally;
-use bsp_rows::TallyKey;
+use bsp_rows::{AgentCode, AirlineCode, PeriodCode, Tally, TallyKey};
 use std::alloc::{AllocError, Global};
 use std::collections::BTreeMap;
 

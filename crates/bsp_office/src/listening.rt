@@ -6,8 +6,7 @@ ghost use Rattle.bsp_connection.specs.Exchanges.{Exchange};
 ghost use Rattle.bsp_http.specs.Messages.{at_desk};
 ghost use Rattle.bsp_office.specs.Listening.{AreVisited, IsVisited, Visit, counts};
 
-use bsp_book::Book;
-use bsp_desk::Desk;
+use bsp_desk::{Book, Desk};
 use bsp_http::{Routes, ServeFault, Served, serve};
 use std::alloc::Global;
 use std::io::{BufWriter, Read, Write};

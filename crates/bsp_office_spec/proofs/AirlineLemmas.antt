@@ -5,22 +5,22 @@ use Rattle.std.specs.Cmp.{nat_cmp_total}
 use Rattle.std.specs.FinMap.{FinMap, get, insert, get-insert, nat_cmp-IsAntisymmetric, same_map}
 use Rattle.std.specs.Option.{unwrap_or}
 use Rattle.std.proofs.lemmas.Bool.{eqb-true, eq-eqb}
-use Rattle.bsp_fields.specs.Decimal.{fixed_digits}
-use Rattle.bsp_calendar.specs.History.Request.{Close}
-use Rattle.bsp_calendar.specs.Published.{Published as Plan}
-use Rattle.bsp_ret_writer.specs.GroupValues.{is_group_values}
-use Rattle.bsp_ret_records.specs.declared.transactions.Transaction.{Transaction}
-use Rattle.bsp_rules.specs.Rows.{is_canx}
-use Rattle.bsp_rules.specs.declared.rows.Item.{Item}
-use Rattle.bsp_rules.specs.declared.verdict.Reporter.{Reporter}
-use Rattle.bsp_rules.specs.declared.verdict.Reporter.TheVariants.{Office, Agent}
-use Rattle.bsp_rules.specs.declared.verdict.Verdict.{Verdict}
-use Rattle.bsp_rules.specs.declared.verdict.Verdict.TheVariants as verdict
-use Rattle.bsp_rules.proofs.MeaningLemmas.{accepted_is_passed}
-use Rattle.bsp_memos.specs.Lives.{after_action, after_event}
-use Rattle.bsp_memos.specs.Lives.Event.{Closed}
-use Rattle.bsp_memos.specs.Steps.{Action}
-use Rattle.bsp_memos.specs.declared.fields.MemoFields.{MemoFields}
+use Rattle.bsp_rows.specs.Decimal.{fixed_digits}
+use Rattle.bsp_rows.specs.History.Request.{Close}
+use Rattle.bsp_rows.specs.Published.{Published as Plan}
+use Rattle.bsp_rows.specs.GroupValues.{is_group_values}
+use Rattle.bsp_rows.specs.Transaction.{Transaction}
+use Rattle.bsp_rows.specs.RulesRows.{is_canx}
+use Rattle.bsp_rows.specs.Item.{Item}
+use Rattle.bsp_rows.specs.Reporter.{Reporter}
+use Rattle.bsp_rows.specs.Reporter.TheVariants.{Office, Agent}
+use Rattle.bsp_rows.specs.Verdict.{Verdict}
+use Rattle.bsp_rows.specs.Verdict.TheVariants as verdict
+use Rattle.bsp_rows.proofs.MeaningLemmas.{accepted_is_passed}
+use Rattle.bsp_rows.specs.Lives.{after_action, after_event}
+use Rattle.bsp_rows.specs.Lives.Event.{Closed}
+use Rattle.bsp_rows.specs.Steps.{Action}
+use Rattle.bsp_rows.specs.MemoFields.{MemoFields}
 use Rattle.bsp_messages.specs.declared.airline_bodies.MemoIssue.{MemoIssue}
 use Rattle.bsp_rows.specs.declared.keys.ItemKey.{ItemKey}
 use Rattle.bsp_rows.specs.declared.keys.MemoKey.{MemoKey}

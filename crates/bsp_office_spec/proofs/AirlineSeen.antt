@@ -1,12 +1,12 @@
 -- One airline's ledger after any request is the fold of what it sees of it.
 use Rattle.std.proofs.Common.{◌≡◌, ℕ, ◌==◌, ◌&&◌, Bool, true, false, cond, List, [], ◌∷◌, Option, Some, None, Ok, Err, refl, sym, ap, subst, ◌∙◌}
 use Rattle.std.proofs.lemmas.Bool.{eqb-true}
-use Rattle.bsp_memos.specs.Steps.{Action}
-use Rattle.bsp_memos.specs.Steps.Action.{Dispute, Agree, Uphold, Reduce, Withdraw}
+use Rattle.bsp_rows.specs.Steps.{Action}
+use Rattle.bsp_rows.specs.Steps.Action.{Dispute, Agree, Uphold, Reduce, Withdraw}
 use Rattle.bsp_messages.specs.Values.{airline_in}
 use Rattle.bsp_messages.specs.declared.airline_bodies.MemoIssue.{MemoIssue}
 use Rattle.bsp_messages.specs.declared.refusal.RequestRefusal.TheVariants.{Forbidden}
-use Rattle.bsp_rules.specs.declared.rows.Range.{Range}
+use Rattle.bsp_rows.specs.Range.{Range}
 use Rattle.bsp_rows.specs.Rows.{Rows, agent_token, airline_token}
 use Rattle.bsp_rows.specs.Sound.{Sound}
 use Rattle.bsp_rows.specs.declared.keys.MemoKey.{MemoKey}
@@ -95,7 +95,7 @@ acted_by : (c : ℕ) (action : Action) (key : MemoKey) (rows : Rows) (b : Bool) 
 acted_by c action key rows true h = action_seen c action key rows
 acted_by c action key rows false h = action_unseen c action key rows h
 
-agent_seen : (c b : ℕ) (rows : Rows) (code : List ℕ) (call : AgentRequest) → agent_of (Rattle.bsp_fields.specs.Decimal.fixed_digits 8 b) ≡ Some b → Sound rows → Fits (ByAgent code call) → let answer = ledger_answer b (ledger_of b rows) call in airline_ledger_of c (cond (is_done answer) (agent_done call rows) (filed_by_agent (Some b) call (verdicts_in answer) rows)) ≡ airline_all c (airline_ledger_of c rows) (cond (is_done answer) (agent_shows c call) (agent_files c (Some b) call (verdicts_in answer)))
+agent_seen : (c b : ℕ) (rows : Rows) (code : List ℕ) (call : AgentRequest) → agent_of (Rattle.bsp_rows.specs.Decimal.fixed_digits 8 b) ≡ Some b → Sound rows → Fits (ByAgent code call) → let answer = ledger_answer b (ledger_of b rows) call in airline_ledger_of c (cond (is_done answer) (agent_done call rows) (filed_by_agent (Some b) call (verdicts_in answer) rows)) ≡ airline_all c (airline_ledger_of c rows) (cond (is_done answer) (agent_shows c call) (agent_files c (Some b) call (verdicts_in answer)))
 agent_seen c b rows code (AgentFile (Err fault)) reads s fits = refl
 agent_seen c b rows code (AgentFile (Ok ts)) reads s fits = agent_filed c b ts rows reads s fits
 agent_seen c b rows code (AskDocument number) reads s fits = either c rows rows [] (is_done (ledger_answer b (ledger_of b rows) (AskDocument number))) refl
@@ -118,7 +118,7 @@ agent_refused c r rows (DisputeMemo body) = refl
 agent_refused c r rows (AgreeMemo body) = refl
 agent_refused c r rows (AskStatement period) = refl
 
-agent_given : (c b : ℕ) (rows : Rows) (code : List ℕ) (call : AgentRequest) (given : Bool) → agent_of (Rattle.bsp_fields.specs.Decimal.fixed_digits 8 b) ≡ Some b → Sound rows → Fits (ByAgent code call) → let answer = cond given (ledger_answer b (ledger_of b rows) call) (Refused Forbidden) in airline_ledger_of c (cond (is_done answer) (agent_done call rows) (filed_by_agent (Some b) call (verdicts_in answer) rows)) ≡ airline_all c (airline_ledger_of c rows) (cond (is_done answer) (agent_shows c call) (agent_files c (Some b) call (verdicts_in answer)))
+agent_given : (c b : ℕ) (rows : Rows) (code : List ℕ) (call : AgentRequest) (given : Bool) → agent_of (Rattle.bsp_rows.specs.Decimal.fixed_digits 8 b) ≡ Some b → Sound rows → Fits (ByAgent code call) → let answer = cond given (ledger_answer b (ledger_of b rows) call) (Refused Forbidden) in airline_ledger_of c (cond (is_done answer) (agent_done call rows) (filed_by_agent (Some b) call (verdicts_in answer) rows)) ≡ airline_all c (airline_ledger_of c rows) (cond (is_done answer) (agent_shows c call) (agent_files c (Some b) call (verdicts_in answer)))
 agent_given c b rows code call true reads s fits = agent_seen c b rows code call reads s fits
 agent_given c b rows code call false reads s fits = agent_refused c (Some b) rows call
 

@@ -2,22 +2,22 @@
 use Rattle.std.proofs.Common.{◌≡◌, ℕ, ◌≤◌, not, Bool, true, false, cond, List, [], ◌∷◌, map, Option, Some, None, is_some, Result, Ok, Err, refl, sym, ap, subst, ◌∙◌}
 use Rattle.std.specs.FinMap.{FinMap, get, insert, values}
 use Rattle.std.proofs.lemmas.Bool.{eqb-true}
-use Rattle.bsp_fields.specs.Decimal.{fixed_digits}
-use Rattle.bsp_fields.specs.Codes.{agent_reading}
-use Rattle.bsp_ret_writer.specs.GroupValues.{is_group_values}
-use Rattle.bsp_ret_records.specs.declared.transactions.Transaction.{Transaction}
-use Rattle.bsp_rules.specs.FactsOf.{facts_in}
-use Rattle.bsp_rules.specs.Verdicts.{verdict_on}
-use Rattle.bsp_rules.specs.declared.rows.Item.{Item}
-use Rattle.bsp_rules.specs.declared.rows.Range.{Range}
-use Rattle.bsp_rules.specs.declared.verdict.Reporter.{Reporter}
-use Rattle.bsp_rules.specs.declared.verdict.Reporter.TheVariants.{Office, Agent}
-use Rattle.bsp_rules.specs.declared.verdict.Verdict.{Verdict}
-use Rattle.bsp_rules.specs.declared.verdict.Verdict.TheVariants as verdict
-use Rattle.bsp_memos.specs.Lives.{after_action}
-use Rattle.bsp_memos.specs.Steps.{Action, answer_to}
-use Rattle.bsp_memos.specs.declared.fields.MemoFields.{MemoFields}
-use Rattle.bsp_memos.proofs.StepLemmas.{issue-left_by}
+use Rattle.bsp_rows.specs.Decimal.{fixed_digits}
+use Rattle.bsp_rows.specs.Codes.{agent_reading}
+use Rattle.bsp_rows.specs.GroupValues.{is_group_values}
+use Rattle.bsp_rows.specs.Transaction.{Transaction}
+use Rattle.bsp_rows.specs.FactsOf.{facts_in}
+use Rattle.bsp_rows.specs.Verdicts.{verdict_on}
+use Rattle.bsp_rows.specs.Item.{Item}
+use Rattle.bsp_rows.specs.Range.{Range}
+use Rattle.bsp_rows.specs.Reporter.{Reporter}
+use Rattle.bsp_rows.specs.Reporter.TheVariants.{Office, Agent}
+use Rattle.bsp_rows.specs.Verdict.{Verdict}
+use Rattle.bsp_rows.specs.Verdict.TheVariants as verdict
+use Rattle.bsp_rows.specs.Lives.{after_action}
+use Rattle.bsp_rows.specs.Steps.{Action, answer_to}
+use Rattle.bsp_rows.specs.MemoFields.{MemoFields}
+use Rattle.bsp_rows.proofs.StepLemmas.{issue-left_by}
 use Rattle.bsp_rows.specs.declared.keys.ItemKey.{ItemKey}
 use Rattle.bsp_rows.specs.declared.keys.MemoKey.{MemoKey}
 use Rattle.bsp_rows.specs.Rows.{Rows, agent_items, ranges_of, range_of, agent_token, memo_key, memo_cmp, range_key, range_at, has_meeting, is_used_in}
@@ -25,9 +25,9 @@ use Rattle.bsp_rows.specs.Writes.{with_memo, with_range, without_range}
 use Rattle.bsp_rows.proofs.KeyOrders.{item_total, item_exact, range_total, range_exact, memo_exact}
 use Rattle.bsp_rows.specs.Changes.{IsAcceptance, after_accepted}
 use Rattle.bsp_rows.proofs.KeyOrders.{memo_total}
-use Rattle.bsp_rules.proofs.MeaningLemmas.{accepted_is_passed, agent_is_reporters}
-use Rattle.bsp_fields.specs.declared.fault.FieldFault.{FieldFault}
-use Rattle.bsp_fields.specs.Decimal.{fixed_digits}
+use Rattle.bsp_rows.proofs.MeaningLemmas.{accepted_is_passed, agent_is_reporters}
+use Rattle.bsp_rows.specs.FieldFault.{FieldFault}
+use Rattle.bsp_rows.specs.Decimal.{fixed_digits}
 use Rattle.std.specs.Result.{result_ok}
 use Rattle.bsp_rows.proofs.MapLemmas.{same_Some}
 use Rattle.bsp_office_spec.specs.Ledger.{Ledger, ledger_of, own_verdict, own_verdicts, new_item, ranges_in, review_of}
@@ -37,7 +37,7 @@ use Rattle.bsp_office_spec.proofs.SeenLemmas.{own_item, own_range, judged_own}
 use Rattle.bsp_messages.specs.declared.refusal.RequestRefusal.TheVariants.{Forbidden}
 use Rattle.bsp_messages.specs.declared.refusal.RequestRefusal.TheVariants as refusal
 use Rattle.bsp_messages.specs.declared.refusal.StockFault.TheVariants.{NotRegistered, MeetsRange, NoSuchRange, RangeUsed}
-use Rattle.bsp_fields.specs.declared.change.Change.TheVariants.{Done, Held}
+use Rattle.bsp_rows.specs.Change.TheVariants.{Done, Held}
 use Rattle.bsp_office_spec.specs.Answers.{is_done}
 use Rattle.bsp_office_spec.specs.Answers.Answer.{Changed, Refused}
 use Rattle.bsp_office_spec.specs.Ledger.{agent_of}

@@ -6,30 +6,30 @@ use Rattle.std.specs.List.{Contains}
 use Rattle.std.specs.Ordering.{eq_by_cmp}
 use Rattle.std.proofs.lemmas.Slice.Eq.{bytes_eq-Decides}
 use Rattle.std.proofs.lemmas.Bool.{and_from, and_parts, both_ways, eqb-true}
-use Rattle.bsp_fields.specs.CivilDay.{CivilDay}
-use Rattle.bsp_calendar.specs.Published.{IsTarget, Published, is_closed, period_of, target_of}
-use Rattle.bsp_calendar.specs.declared.entries.Period.{Period}
-use Rattle.bsp_calendar.proofs.ListedLemmas.{any_false}
-use Rattle.bsp_calendar.proofs.TargetLemmas.{in_target}
-use Rattle.bsp_ret_records.specs.declared.codes.TransactionCode.{TransactionCode}
-use Rattle.bsp_ret_records.specs.declared.codes.TransactionCode.TheVariants.{Tktt, Rfnd, Canx}
-use Rattle.bsp_ret_records.specs.declared.transactions.Transaction.{Transaction}
-use Rattle.bsp_rules.specs.FactsOf.{facts_in, own_number}
-use Rattle.bsp_rules.specs.Meanings.{IsPassed}
-use Rattle.bsp_rules.specs.Rows.{has_number, is_canx, is_past}
-use Rattle.bsp_rules.specs.SameContent.{same_code}
-use Rattle.bsp_rules.specs.declared.rows.Item.{Item}
-use Rattle.bsp_rules.specs.declared.rows.Range.{Range}
-use Rattle.bsp_rules.specs.declared.verdict.Reporter.{Reporter}
-use Rattle.bsp_rules.proofs.MeaningLemmas.{accepted_is_passed, canx_free}
-use Rattle.bsp_memos.specs.Billing.{admits, billed_in, is_due}
-use Rattle.bsp_memos.specs.Lives.{after_action, after_event}
-use Rattle.bsp_memos.specs.Lives.Event.{Acted, Closed}
-use Rattle.bsp_memos.specs.Owed.{is_billed_in, is_period}
-use Rattle.bsp_memos.specs.Steps.{Action, answer_to}
-use Rattle.bsp_memos.specs.declared.fields.MemoFields.{MemoFields}
-use Rattle.bsp_memos.proofs.KeptLemmas.{billed_unchanged}
-use Rattle.bsp_memos.proofs.StepLemmas.{billed-left_by, issue-left_by}
+use Rattle.bsp_rows.specs.CivilDay.{CivilDay}
+use Rattle.bsp_rows.specs.Published.{IsTarget, Published, is_closed, period_of, target_of}
+use Rattle.bsp_rows.specs.Period.{Period}
+use Rattle.bsp_rows.proofs.ListedLemmas.{any_false}
+use Rattle.bsp_rows.proofs.TargetLemmas.{in_target}
+use Rattle.bsp_rows.specs.TransactionCode.{TransactionCode}
+use Rattle.bsp_rows.specs.TransactionCode.TheVariants.{Tktt, Rfnd, Canx}
+use Rattle.bsp_rows.specs.Transaction.{Transaction}
+use Rattle.bsp_rows.specs.FactsOf.{facts_in, own_number}
+use Rattle.bsp_rows.specs.Meanings.{IsPassed}
+use Rattle.bsp_rows.specs.RulesRows.{has_number, is_canx, is_past}
+use Rattle.bsp_rows.specs.SameContent.{same_code}
+use Rattle.bsp_rows.specs.Item.{Item}
+use Rattle.bsp_rows.specs.Range.{Range}
+use Rattle.bsp_rows.specs.Reporter.{Reporter}
+use Rattle.bsp_rows.proofs.MeaningLemmas.{accepted_is_passed, canx_free}
+use Rattle.bsp_rows.specs.Billing.{admits, billed_in, is_due}
+use Rattle.bsp_rows.specs.Lives.{after_action, after_event}
+use Rattle.bsp_rows.specs.Lives.Event.{Acted, Closed}
+use Rattle.bsp_rows.specs.Owed.{is_billed_in, is_period}
+use Rattle.bsp_rows.specs.Steps.{Action, answer_to}
+use Rattle.bsp_rows.specs.MemoFields.{MemoFields}
+use Rattle.bsp_rows.proofs.MemosKeptLemmas.{billed_unchanged}
+use Rattle.bsp_rows.proofs.StepLemmas.{billed-left_by, issue-left_by}
 use Rattle.bsp_rows.specs.declared.keys.ItemKey.{ItemKey}
 use Rattle.bsp_rows.specs.declared.keys.MemoKey.{MemoKey}
 use Rattle.bsp_rows.specs.Changes.{IsAcceptance, each, ended_where, facts_at, sale_key}
@@ -41,7 +41,7 @@ use Rattle.bsp_rows.proofs.ClearedLemmas.{IsCleared, cleared}
 use Rattle.bsp_rows.proofs.KeptLemmas.{accepted_free}
 use Rattle.bsp_rows.proofs.KeyOrders.{item_exact, item_total}
 use Rattle.bsp_rows.proofs.MapLemmas.{same_key}
-use Rattle.bsp_fields.proofs.DocumentLemmas.{one_number}
+use Rattle.bsp_rows.proofs.DocumentLemmas.{one_number}
 use Rattle.bsp_rows.proofs.PartLemmas.{changed_none, each_get, kept_changed, kept_get, passing}
 use Rattle.bsp_rows.proofs.RowLemmas.{among_items}
 use Rattle.bsp_office_spec.specs.Ledger.{ended_in, review_of, taken}

@@ -2,19 +2,19 @@
 use Rattle.std.proofs.Common.{◌≡◌, ℕ, ◌==◌, Bool, true, false, cond, List, [], Option, Some, None, Result, Ok, Err, refl, sym, ap, subst, ◌∙◌}
 use Rattle.std.specs.FinMap.{insert}
 use Rattle.std.specs.List.{find}
-use Rattle.bsp_calendar.specs.History.{Request as PlanRequest, outcome}
-use Rattle.bsp_calendar.specs.History.Request.{Close}
-use Rattle.bsp_calendar.specs.Published.{Published, closed_period, is_closed, period_of}
-use Rattle.bsp_calendar.specs.SoundPlan.{Grows, IsSoundPlan}
-use Rattle.bsp_calendar.specs.declared.entries.Period.{Period}
-use Rattle.bsp_calendar.specs.declared.entries.Terms.{Terms}
-use Rattle.bsp_calendar.specs.declared.fault.PlanFault.{PlanFault}
-use Rattle.bsp_calendar.proofs.GrowsLemmas.{grows_further, grows_itself, request_grows}
-use Rattle.bsp_memos.specs.Lives.{after_action, after_event}
-use Rattle.bsp_memos.specs.Lives.Event.{Closed}
-use Rattle.bsp_memos.specs.Memos.{issued_memo}
-use Rattle.bsp_memos.specs.Owed.{is_billed_in}
-use Rattle.bsp_memos.specs.declared.fields.MemoFields.{MemoFields}
+use Rattle.bsp_rows.specs.History.{Request as PlanRequest, outcome}
+use Rattle.bsp_rows.specs.History.Request.{Close}
+use Rattle.bsp_rows.specs.Published.{Published, closed_period, is_closed, period_of}
+use Rattle.bsp_rows.specs.SoundPlan.{Grows, IsSoundPlan}
+use Rattle.bsp_rows.specs.Period.{Period}
+use Rattle.bsp_rows.specs.Terms.{Terms}
+use Rattle.bsp_rows.specs.PlanFault.{PlanFault}
+use Rattle.bsp_rows.proofs.GrowsLemmas.{grows_further, grows_itself, request_grows}
+use Rattle.bsp_rows.specs.Lives.{after_action, after_event}
+use Rattle.bsp_rows.specs.Lives.Event.{Closed}
+use Rattle.bsp_rows.specs.Memos.{issued_memo}
+use Rattle.bsp_rows.specs.Owed.{is_billed_in}
+use Rattle.bsp_rows.specs.MemoFields.{MemoFields}
 use Rattle.bsp_rows.specs.declared.keys.MemoKey.{MemoKey}
 use Rattle.bsp_rows.specs.Part.{kept}
 use Rattle.bsp_rows.specs.Rows.{Rows, memo_key}

@@ -4,34 +4,34 @@ use Rattle.std.specs.Prelude.{◌==◌, is_ok}
 use Rattle.std.specs.List.{list_all}
 use Rattle.std.specs.Str.{all_ascii_digits}
 use Rattle.std.proofs.lemmas.Bool.{and_parts, eqb-true}
-use Rattle.bsp_fields.specs.Codes.{code_reading}
-use Rattle.bsp_fields.specs.Days.{record_reading}
-use Rattle.bsp_fields.specs.Decimal.{number_of}
-use Rattle.bsp_fields.specs.Zoned.{zoned_reading}
-use Rattle.bsp_records.specs.Columns.{columns, is_letter_or_digit, is_printable, is_space, is_wide}
-use Rattle.bsp_records.specs.Fields.{is_amount}
-use Rattle.bsp_records.specs.Lines.{lines}
-use Rattle.bsp_records.specs.Taxes.{tax_fits, tax_places}
-use Rattle.bsp_records.proofs.DigitLemmas.{digits-take}
-use Rattle.bsp_ret.specs.Content.{HasContent, InBoth, IsContent}
-use Rattle.bsp_ret.specs.Ret.{AreGroups, Group, HasBody, IsForm, IsGroup, IsRecord}
-use Rattle.bsp_ret.specs.Table.{first_fault}
-use Rattle.bsp_ret.specs.declared.model.RetFault.{RetFault}
-use Rattle.bsp_ret.proofs.BodyLemmas.{body_facts}
-use Rattle.bsp_ret.proofs.LawLemmas.{law}
-use Rattle.bsp_ret_records.specs.Records.{agent, agent_and_document, amounts_fit, code_of, commission, document, fare, issued, passenger, payment_amount, rate, related_document, related_fits, sale_fits, vendor}
-use Rattle.bsp_ret_records.specs.Values.{AreAmounts, AreTaxes, IsCardPayment, IsDocument, IsPayment, IsRelated, IsTax}
-use Rattle.bsp_ret_records.specs.declared.codes.FormOfPayment.{FormOfPayment}
-use Rattle.bsp_ret_records.specs.declared.codes.FormOfPayment.TheVariants.{Cash, Credit, Exchange}
-use Rattle.bsp_ret_records.specs.declared.codes.TransactionCode.{TransactionCode}
-use Rattle.bsp_ret_records.specs.declared.transactions.Amounts.{Amounts}
-use Rattle.bsp_ret_records.specs.declared.transactions.CardPayment.{CardPayment}
-use Rattle.bsp_ret_records.specs.declared.transactions.ReportedDocument.{ReportedDocument}
-use Rattle.bsp_ret_records.specs.declared.transactions.Tax.{Tax}
-use Rattle.bsp_ret_records.specs.declared.transactions.Transaction.{Transaction}
-use Rattle.bsp_ret_records.proofs.ReadLemmas.{related_digits, sale_fields}
-use Rattle.bsp_ret_records.proofs.ValueLemmas.{amounts_fields, form_amount_is, place_fits}
-use Rattle.bsp_ret_writer.specs.Writing.{HaveContents}
+use Rattle.bsp_rows.specs.Codes.{code_reading}
+use Rattle.bsp_rows.specs.Days.{record_reading}
+use Rattle.bsp_rows.specs.Decimal.{number_of}
+use Rattle.bsp_rows.specs.Zoned.{zoned_reading}
+use Rattle.bsp_rows.specs.Columns.{columns, is_letter_or_digit, is_printable, is_space, is_wide}
+use Rattle.bsp_rows.specs.Fields.{is_amount}
+use Rattle.bsp_rows.specs.Lines.{lines}
+use Rattle.bsp_rows.specs.Taxes.{tax_fits, tax_places}
+use Rattle.bsp_rows.proofs.DigitLemmas.{digits-take}
+use Rattle.bsp_hot.specs.Content.{HasContent, InBoth, IsContent}
+use Rattle.bsp_hot.specs.Ret.{AreGroups, Group, HasBody, IsForm, IsGroup, IsRecord}
+use Rattle.bsp_hot.specs.Table.{first_fault}
+use Rattle.bsp_hot.specs.RetFault.{RetFault}
+use Rattle.bsp_hot.proofs.BodyLemmas.{body_facts}
+use Rattle.bsp_hot.proofs.LawLemmas.{law}
+use Rattle.bsp_rows.specs.Records.{agent, agent_and_document, amounts_fit, code_of, commission, document, fare, issued, passenger, payment_amount, rate, related_document, related_fits, sale_fits, vendor}
+use Rattle.bsp_rows.specs.Values.{AreAmounts, AreTaxes, IsCardPayment, IsDocument, IsPayment, IsRelated, IsTax}
+use Rattle.bsp_rows.specs.FormOfPayment.{FormOfPayment}
+use Rattle.bsp_rows.specs.FormOfPayment.TheVariants.{Cash, Credit, Exchange}
+use Rattle.bsp_rows.specs.TransactionCode.{TransactionCode}
+use Rattle.bsp_rows.specs.Amounts.{Amounts}
+use Rattle.bsp_rows.specs.CardPayment.{CardPayment}
+use Rattle.bsp_rows.specs.ReportedDocument.{ReportedDocument}
+use Rattle.bsp_rows.specs.Tax.{Tax}
+use Rattle.bsp_rows.specs.Transaction.{Transaction}
+use Rattle.bsp_rows.proofs.ReadLemmas.{related_digits, sale_fields}
+use Rattle.bsp_rows.proofs.ValueLemmas.{amounts_fields, form_amount_is, place_fits}
+use Rattle.bsp_rows.specs.Writing.{HaveContents}
 use Rattle.bsp_office_spec.specs.Laws.{EachFileIsRead}
 use Rattle.bsp_office_spec.specs.Requests.{FileRead, IsFileOf}
 

@@ -1,8 +1,8 @@
 -- What a call is read as fits: each transaction of its file is a group.
 use Rattle.std.proofs.Common.{ℕ, List, [], ◌∷◌, suc, Ok, Err, sym, subst}
-use Rattle.bsp_ret_writer.specs.Writing.{HaveContents}
-use Rattle.bsp_ret_records.specs.declared.transactions.Transaction.{Transaction}
-use Rattle.bsp_ret_writer.proofs.ContentMakes.{content_makes}
+use Rattle.bsp_rows.specs.Writing.{HaveContents}
+use Rattle.bsp_rows.specs.Transaction.{Transaction}
+use Rattle.bsp_rows.proofs.ContentMakes.{content_makes}
 use Rattle.bsp_routes.specs.declared.asking.Asking.TheVariants as asking
 use Rattle.bsp_routes.specs.declared.call.Call.TheVariants as call
 use Rattle.bsp_routes.specs.declared.call.OfficeCall.{OfficeCall}

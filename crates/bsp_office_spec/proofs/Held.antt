@@ -3,19 +3,19 @@ use Rattle.std.proofs.Common.{◌≡◌, ℕ, ◌≢◌, true, List, [], ◌∷�
 use Rattle.std.specs.Result.{result_ok}
 use Rattle.std.specs.FinMap.{FinMap, get}
 use Rattle.std.proofs.lemmas.List.Elements.{All-contains}
-use Rattle.bsp_fields.specs.Decimal.{fixed_digits}
-use Rattle.bsp_ret_records.specs.declared.transactions.Transaction.{Transaction}
-use Rattle.bsp_ret_writer.specs.GroupValues.{is_group_values}
-use Rattle.bsp_rules.specs.FactsOf.{facts_in}
-use Rattle.bsp_rules.specs.Rows.{IsHeld, held_period, is_canx}
-use Rattle.bsp_rules.specs.Meanings.{IsReporterOf}
-use Rattle.bsp_rules.specs.declared.rows.Item.{Item}
-use Rattle.bsp_rules.specs.declared.verdict.Reporter.{Reporter}
-use Rattle.bsp_rules.specs.declared.verdict.Reporter.TheVariants.{Office, Agent}
-use Rattle.bsp_rules.specs.declared.verdict.Verdict.{Verdict}
-use Rattle.bsp_rules.specs.declared.verdict.Verdict.TheVariants as verdict
-use Rattle.bsp_rules.proofs.MeaningLemmas.{agent_is_reporters, held_is_found}
-use Rattle.bsp_rules.proofs.SameContentLemmas.{held_is}
+use Rattle.bsp_rows.specs.Decimal.{fixed_digits}
+use Rattle.bsp_rows.specs.Transaction.{Transaction}
+use Rattle.bsp_rows.specs.GroupValues.{is_group_values}
+use Rattle.bsp_rows.specs.FactsOf.{facts_in}
+use Rattle.bsp_rows.specs.RulesRows.{IsHeld, held_period, is_canx}
+use Rattle.bsp_rows.specs.Meanings.{IsReporterOf}
+use Rattle.bsp_rows.specs.Item.{Item}
+use Rattle.bsp_rows.specs.Reporter.{Reporter}
+use Rattle.bsp_rows.specs.Reporter.TheVariants.{Office, Agent}
+use Rattle.bsp_rows.specs.Verdict.{Verdict}
+use Rattle.bsp_rows.specs.Verdict.TheVariants as verdict
+use Rattle.bsp_rows.proofs.MeaningLemmas.{agent_is_reporters, held_is_found}
+use Rattle.bsp_rows.proofs.SameContentLemmas.{held_is}
 use Rattle.bsp_rows.specs.declared.keys.ItemKey.{ItemKey}
 use Rattle.bsp_rows.specs.declared.keys.RangeKey.{RangeKey}
 use Rattle.bsp_rows.specs.Changes.{IsAcceptance, after_accepted, facts_at, sale_key}

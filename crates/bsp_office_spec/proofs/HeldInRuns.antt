@@ -1,11 +1,11 @@
 -- What a reply of a run has accepted is held by each later reply, and at each later place of the same file.
 use Rattle.std.proofs.Common.{◌≡◌, ℕ, Bool, true, false, cond, List, [], ◌∷◌, ◌++◌, Option, Some, None, Ok, Err, refl, sym, ap, subst, ◌∙◌, inl, inr}
-use Rattle.bsp_fields.specs.Decimal.{fixed_digits}
+use Rattle.bsp_rows.specs.Decimal.{fixed_digits}
 use Rattle.bsp_messages.specs.declared.refusal.RequestRefusal.TheVariants.{Forbidden}
-use Rattle.bsp_ret_records.specs.declared.transactions.Transaction.{Transaction}
-use Rattle.bsp_rules.specs.declared.verdict.Reporter.TheVariants.{Agent}
-use Rattle.bsp_rules.specs.declared.verdict.Verdict.{Verdict}
-use Rattle.bsp_rules.specs.declared.verdict.Verdict.TheVariants as verdict
+use Rattle.bsp_rows.specs.Transaction.{Transaction}
+use Rattle.bsp_rows.specs.Reporter.TheVariants.{Agent}
+use Rattle.bsp_rows.specs.Verdict.{Verdict}
+use Rattle.bsp_rows.specs.Verdict.TheVariants as verdict
 use Rattle.bsp_rows.specs.Rows.{Rows, agent_token}
 use Rattle.bsp_rows.specs.Sound.{Sound}
 use Rattle.bsp_office_spec.specs.Answers.{Answer, is_done, verdicts_in}

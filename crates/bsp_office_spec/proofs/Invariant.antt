@@ -1,18 +1,18 @@
 -- What holds of rows and is kept by each change of a desk: a request keeps it, and so does a run.
 use Rattle.std.proofs.Common.{◌≡◌, ℕ, ◌<◌, ◌≤◌, false, true, ℤ, List, Some, IsSome, Ok}
-use Rattle.bsp_calendar.specs.History.{Request as PlanRequest}
-use Rattle.bsp_calendar.specs.Published.{Published, is_closed}
-use Rattle.bsp_calendar.specs.Requests.{closing}
-use Rattle.bsp_calendar.specs.declared.entries.Terms.{Terms}
-use Rattle.bsp_rules.specs.Verdicts.{limit_of}
-use Rattle.bsp_rules.specs.declared.rows.Item.{Item}
-use Rattle.bsp_rules.specs.declared.rows.Range.{Range}
-use Rattle.bsp_rules.specs.declared.verdict.Reporter.{Reporter}
-use Rattle.bsp_memos.specs.Lives.{after_action}
-use Rattle.bsp_memos.specs.Memos.{is_amount, issued_memo}
-use Rattle.bsp_memos.specs.Steps.{Action}
-use Rattle.bsp_memos.specs.declared.fields.MemoFields.{MemoFields}
-use Rattle.bsp_memos.specs.declared.kind.MemoKind.{MemoKind}
+use Rattle.bsp_rows.specs.History.{Request as PlanRequest}
+use Rattle.bsp_rows.specs.Published.{Published, is_closed}
+use Rattle.bsp_rows.specs.Requests.{closing}
+use Rattle.bsp_rows.specs.Terms.{Terms}
+use Rattle.bsp_rows.specs.Verdicts.{limit_of}
+use Rattle.bsp_rows.specs.Item.{Item}
+use Rattle.bsp_rows.specs.Range.{Range}
+use Rattle.bsp_rows.specs.Reporter.{Reporter}
+use Rattle.bsp_rows.specs.Lives.{after_action}
+use Rattle.bsp_rows.specs.Memos.{is_amount, issued_memo}
+use Rattle.bsp_rows.specs.Steps.{Action}
+use Rattle.bsp_rows.specs.MemoFields.{MemoFields}
+use Rattle.bsp_rows.specs.MemoKind.{MemoKind}
 use Rattle.bsp_rows.specs.Changes.{IsAcceptance, after_accepted, after_close}
 use Rattle.bsp_rows.specs.Laws.{issued_count}
 use Rattle.bsp_rows.specs.Rows.{Rows, agent_token, has_meeting, is_used_in, memo_at, memo_key, range_at, range_key}

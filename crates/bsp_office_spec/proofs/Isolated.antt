@@ -1,10 +1,10 @@
 -- The answers to an agent, over a whole run, are those of its ledger.
 use Rattle.std.proofs.Common.{◌≡◌, ℕ, ◌==◌, ◌&&◌, Bool, true, false, cond, List, [], ◌∷◌, ◌++◌, Option, Some, None, is_some, Ok, Err, refl, sym, ap, subst, ◌∙◌}
 use Rattle.std.proofs.lemmas.Bool.{eqb-true, and_parts}
-use Rattle.bsp_ret_records.specs.declared.transactions.Transaction.{Transaction}
-use Rattle.bsp_rules.specs.declared.verdict.Verdict.{Verdict}
-use Rattle.bsp_rules.specs.declared.verdict.Verdict.TheVariants as verdict
-use Rattle.bsp_memos.specs.Steps.Action.{Uphold, Reduce, Withdraw}
+use Rattle.bsp_rows.specs.Transaction.{Transaction}
+use Rattle.bsp_rows.specs.Verdict.{Verdict}
+use Rattle.bsp_rows.specs.Verdict.TheVariants as verdict
+use Rattle.bsp_rows.specs.Steps.Action.{Uphold, Reduce, Withdraw}
 use Rattle.bsp_rows.specs.Rows.{Rows, agent_token}
 use Rattle.bsp_office_spec.specs.Ledger.{Ledger, ledger_of, ledger_answer}
 use Rattle.bsp_office_spec.specs.Laws.{AirlineIsAnsweredByLedger}

@@ -3,15 +3,15 @@ use Rattle.std.proofs.Common.{◌≡◌, ℕ, ◌<◌, ◌==◌, not, nat_le, Bo
 use Rattle.std.specs.FinMap.{get, nat_cmp-IsAntisymmetric}
 use Rattle.std.specs.Cmp.{nat_cmp_total}
 use Rattle.std.proofs.lemmas.Bool.{leb-false}
-use Rattle.bsp_fields.specs.declared.change.Change.TheVariants.{Done}
-use Rattle.bsp_calendar.specs.Published.{Published, is_closed}
-use Rattle.bsp_calendar.specs.Requests.{closing}
-use Rattle.bsp_calendar.specs.declared.entries.Terms.{Terms}
-use Rattle.bsp_calendar.specs.declared.fault.PlanFault.{PlanFault}
-use Rattle.bsp_rules.specs.Verdicts.{limit_of}
-use Rattle.bsp_memos.specs.Memos.{is_amount}
-use Rattle.bsp_memos.specs.declared.fault.MemoFault.TheVariants.{AmountOutOfRange, AgentNotRegistered, LimitReached}
-use Rattle.bsp_memos.specs.declared.fields.MemoFields.{MemoFields}
+use Rattle.bsp_rows.specs.Change.TheVariants.{Done}
+use Rattle.bsp_rows.specs.Published.{Published, is_closed}
+use Rattle.bsp_rows.specs.Requests.{closing}
+use Rattle.bsp_rows.specs.Terms.{Terms}
+use Rattle.bsp_rows.specs.PlanFault.{PlanFault}
+use Rattle.bsp_rows.specs.Verdicts.{limit_of}
+use Rattle.bsp_rows.specs.Memos.{is_amount}
+use Rattle.bsp_rows.specs.MemoFault.TheVariants.{AmountOutOfRange, AgentNotRegistered, LimitReached}
+use Rattle.bsp_rows.specs.MemoFields.{MemoFields}
 use Rattle.bsp_messages.specs.declared.airline_bodies.MemoIssue.{MemoIssue}
 use Rattle.bsp_messages.specs.declared.refusal.RequestRefusal.TheVariants as refusal
 use Rattle.bsp_rows.specs.Changes.{after_close, each}

@@ -3,12 +3,12 @@ use Rattle.std.proofs.Common.{◌≡◌, ℕ, ℤ, ◌==◌, Bool, true, false, 
 use Rattle.std.specs.Cmp.{IsTotalOrder}
 use Rattle.std.specs.FinMap.{FinMap, IsAntisymmetric, entries, get, values}
 use Rattle.std.specs.List.{Contains, filter}
-use Rattle.bsp_calendar.proofs.ListLemmas.{contains_head, contains_tail}
-use Rattle.bsp_rules.specs.Amounts.{sum_of}
-use Rattle.bsp_rules.specs.declared.rows.Item.{Item}
-use Rattle.bsp_memos.specs.declared.fields.MemoFields.{MemoFields}
-use Rattle.bsp_postings.specs.Nets.{agent_net, airline_net, net_of_rows}
-use Rattle.bsp_postings.proofs.SideLemmas.{agents_side, airlines_side}
+use Rattle.bsp_rows.proofs.ListLemmas.{contains_head, contains_tail}
+use Rattle.bsp_rows.specs.RulesAmounts.{sum_of}
+use Rattle.bsp_rows.specs.Item.{Item}
+use Rattle.bsp_rows.specs.MemoFields.{MemoFields}
+use Rattle.bsp_rows.specs.Nets.{agent_net, airline_net, net_of_rows}
+use Rattle.bsp_rows.proofs.SideLemmas.{agents_side, airlines_side}
 use Rattle.bsp_rows.specs.Part.{kept}
 use Rattle.bsp_rows.specs.Rows.{Rows, key_of, memo_key}
 use Rattle.bsp_rows.specs.Sound.{Sound}

@@ -2,8 +2,8 @@
 use Rattle.std.proofs.Common.{◌≡◌, ℕ, ◌<◌, ◌^◌, List, length, Result, Ok, Err, refl, sym, ap, ◌∙◌, arith}
 use Rattle.std.specs.Global.{Vec}
 use Rattle.std.specs.Ptr.{null_ptr}
-use Rattle.bsp_calendar.specs.PlanDocument.{PlanData, plan_reading}
-use Rattle.bsp_calendar.specs.declared.fault.PlanFault.{PlanFault}
+use Rattle.bsp_rows.specs.PlanDocument.{PlanData, plan_reading}
+use Rattle.bsp_rows.specs.PlanFault.{PlanFault}
 use Rattle.bsp_messages.specs.Bodies.{agent_registration_form, airline_registration_form, body_of, day_form, document_form, issue_form, named_memo_form, period_form, reduction_form, stock_change_form}
 use Rattle.bsp_routes.specs.declared.asking.Asking.TheVariants as asking
 use Rattle.bsp_routes.specs.declared.call.AgentCall.{AgentCall}

@@ -5,16 +5,16 @@ use Rattle.std.specs.Cmp.{IsTotalOrder}
 use Rattle.std.specs.declared.cmp.Ordering.{Ordering}
 use Rattle.std.specs.FinMap.{FinMap, IsAntisymmetric, get, insert, get-insert, same_map}
 use Rattle.std.proofs.lemmas.Bool.{eqb-true, eq-eqb}
-use Rattle.bsp_calendar.specs.Published.{Published}
-use Rattle.bsp_fields.specs.declared.change.Change.{Change}
-use Rattle.bsp_rules.specs.declared.rows.Range.{Range}
-use Rattle.bsp_memos.specs.Lives.{after_action}
-use Rattle.bsp_memos.specs.Memos.{is_amount}
-use Rattle.bsp_memos.specs.Steps.{Action, answer_to, left_by}
-use Rattle.bsp_memos.specs.Steps.Action.{Dispute, Agree, Uphold, Reduce, Withdraw}
-use Rattle.bsp_memos.specs.declared.fault.MemoFault.{MemoFault}
-use Rattle.bsp_memos.specs.declared.fault.MemoFault.TheVariants.{AmountOutOfRange, AgentNotRegistered}
-use Rattle.bsp_memos.specs.declared.fields.MemoFields.{MemoFields}
+use Rattle.bsp_rows.specs.Published.{Published}
+use Rattle.bsp_rows.specs.Change.{Change}
+use Rattle.bsp_rows.specs.Range.{Range}
+use Rattle.bsp_rows.specs.Lives.{after_action}
+use Rattle.bsp_rows.specs.Memos.{is_amount}
+use Rattle.bsp_rows.specs.Steps.{Action, answer_to, left_by}
+use Rattle.bsp_rows.specs.Steps.Action.{Dispute, Agree, Uphold, Reduce, Withdraw}
+use Rattle.bsp_rows.specs.MemoFault.{MemoFault}
+use Rattle.bsp_rows.specs.MemoFault.TheVariants.{AmountOutOfRange, AgentNotRegistered}
+use Rattle.bsp_rows.specs.MemoFields.{MemoFields}
 use Rattle.bsp_rows.specs.declared.keys.MemoKey.{MemoKey}
 use Rattle.bsp_rows.specs.Rows.{Rows, memo_cmp, agent_token, airline_token}
 use Rattle.bsp_rows.proofs.KeyOrders.{memo_exact}
@@ -30,7 +30,7 @@ use Rattle.bsp_messages.specs.Values.{airline_in}
 use Rattle.bsp_messages.specs.declared.airline_bodies.MemoIssue.{MemoIssue}
 use Rattle.bsp_messages.specs.declared.refusal.RequestRefusal.TheVariants.{Forbidden}
 use Rattle.bsp_messages.specs.declared.refusal.RequestRefusal.TheVariants as refusal
-use Rattle.bsp_fields.specs.declared.change.Change.TheVariants.{Done, Held}
+use Rattle.bsp_rows.specs.Change.TheVariants.{Done, Held}
 use Rattle.bsp_office_spec.specs.Answers.{is_done, verdicts_in}
 use Rattle.bsp_office_spec.specs.Answers.Answer.{Changed, Refused}
 use Rattle.bsp_office_spec.specs.AirlineLedger.{is_known, AirlineLedger, airline_answer, airline_ledger_of, issue_beside, issue_key, issuing}

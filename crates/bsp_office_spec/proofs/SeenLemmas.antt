@@ -5,22 +5,22 @@ use Rattle.std.specs.Cmp.{nat_cmp_total}
 use Rattle.std.specs.FinMap.{FinMap, get, insert, remove, nat_cmp-IsAntisymmetric}
 use Rattle.std.specs.Option.{unwrap_or}
 use Rattle.std.proofs.lemmas.Bool.{eqb-true, eq-eqb, both_ways}
-use Rattle.bsp_fields.specs.CivilDay.{CivilDay}
-use Rattle.bsp_calendar.specs.Published.{Published, target_of}
-use Rattle.bsp_calendar.specs.History.Request.{Close}
-use Rattle.bsp_ret_records.specs.declared.transactions.Transaction.{Transaction}
-use Rattle.bsp_rules.specs.Rows.{is_canx}
-use Rattle.bsp_rules.specs.declared.rows.Item.{Item}
-use Rattle.bsp_rules.specs.declared.rows.Range.{Range}
-use Rattle.bsp_rules.specs.declared.verdict.Reporter.TheVariants.{Office, Agent}
-use Rattle.bsp_rules.specs.declared.verdict.Verdict.{Verdict}
-use Rattle.bsp_rules.specs.declared.verdict.Verdict.TheVariants as verdict
-use Rattle.bsp_memos.specs.Lives.{after_event, after_action}
-use Rattle.bsp_memos.specs.Lives.Event.{Closed}
-use Rattle.bsp_memos.specs.Billing.{admits, billed_in}
-use Rattle.bsp_memos.specs.Steps.{Action, answer_to}
-use Rattle.bsp_memos.specs.declared.fields.MemoFields.{MemoFields}
-use Rattle.bsp_memos.proofs.StepLemmas.{issue-left_by}
+use Rattle.bsp_rows.specs.CivilDay.{CivilDay}
+use Rattle.bsp_rows.specs.Published.{Published, target_of}
+use Rattle.bsp_rows.specs.History.Request.{Close}
+use Rattle.bsp_rows.specs.Transaction.{Transaction}
+use Rattle.bsp_rows.specs.RulesRows.{is_canx}
+use Rattle.bsp_rows.specs.Item.{Item}
+use Rattle.bsp_rows.specs.Range.{Range}
+use Rattle.bsp_rows.specs.Reporter.TheVariants.{Office, Agent}
+use Rattle.bsp_rows.specs.Verdict.{Verdict}
+use Rattle.bsp_rows.specs.Verdict.TheVariants as verdict
+use Rattle.bsp_rows.specs.Lives.{after_event, after_action}
+use Rattle.bsp_rows.specs.Lives.Event.{Closed}
+use Rattle.bsp_rows.specs.Billing.{admits, billed_in}
+use Rattle.bsp_rows.specs.Steps.{Action, answer_to}
+use Rattle.bsp_rows.specs.MemoFields.{MemoFields}
+use Rattle.bsp_rows.proofs.StepLemmas.{issue-left_by}
 use Rattle.bsp_rows.specs.declared.keys.ItemKey.{ItemKey}
 use Rattle.bsp_rows.specs.declared.keys.MemoKey.{MemoKey}
 use Rattle.bsp_rows.specs.declared.keys.RangeKey.{RangeKey}
@@ -31,7 +31,7 @@ use Rattle.bsp_rows.proofs.KeyOrders.{range_total, range_exact, item_total, item
 use Rattle.bsp_rows.specs.Changes.{sale_key, ended_where, after_accepted}
 use Rattle.bsp_rows.proofs.KeyOrders.{memo_total}
 use Rattle.bsp_rows.proofs.MapLemmas.{same_key, get_written, get_other}
-use Rattle.bsp_rules.proofs.MeaningLemmas.{accepted_is_passed}
+use Rattle.bsp_rows.proofs.MeaningLemmas.{accepted_is_passed}
 use Rattle.bsp_office_spec.specs.Ledger.{Ledger, ledger_of, ended_in, taken, with_own_item, new_item, own_verdict, own_verdicts, ledger_judged, ledger_filed, ledger_acted, review_of}
 use Rattle.bsp_office_spec.specs.Step.{joined, bearer, reporter, rows_judged, rows_filed, office_verdict, office_verdict_for, office_verdicts, with_close, with_action}
 use Rattle.bsp_office_spec.specs.View.{Sight, ledger_after, ledger_all, ledger_planned, if_own, reported_one, reported_in}

@@ -1,8 +1,8 @@
 -- A report that a run has shown stays as it was shown.
 use Rattle.std.proofs.Common.{◌≡◌, ◌⊎◌, ℕ, Bool, true, false, cond, List, ◌∷◌, ◌++◌, Option, Some, None, refl, sym, ap, subst, ◌∙◌, inl, inr}
 use Rattle.std.proofs.lemmas.Bool.{both_ways}
-use Rattle.bsp_calendar.specs.Published.{closed_period}
-use Rattle.bsp_calendar.specs.declared.entries.Period.{Period}
+use Rattle.bsp_rows.specs.Published.{closed_period}
+use Rattle.bsp_rows.specs.Period.{Period}
 use Rattle.bsp_messages.specs.Values.{airline_in, period_in}
 use Rattle.bsp_messages.specs.declared.refusal.RequestRefusal.TheVariants.{Forbidden}
 use Rattle.bsp_rows.specs.Rows.{Rows, agent_token, airline_token}

@@ -3,19 +3,19 @@ use Rattle.std.proofs.Common.{◌≡◌, ℕ, ◌≤◌, ◌==◌, not, [], ◌�
 use Rattle.std.specs.Str.{all_ascii_digits}
 use Rattle.std.specs.Prelude.{nat_lt, ◌/◌, ◌%◌}
 use Rattle.std.proofs.lemmas.Bool.{eqb-true, ltb-false}
-use Rattle.bsp_fields.specs.FirstFault.{first_fault_or}
-use Rattle.bsp_fields.specs.Decimal.{number_of, fixed_digits}
-use Rattle.bsp_fields.specs.Codes.{check_digit_of}
-use Rattle.bsp_fields.proofs.DecimalLemmas.{fixed_digits-number_of}
-use Rattle.bsp_calendar.specs.History.Request.{Publish, SetDay}
-use Rattle.bsp_memos.specs.Steps.Action.{Dispute, Agree, Uphold, Reduce, Withdraw}
-use Rattle.bsp_rules.specs.declared.rows.Range.{Range}
+use Rattle.bsp_rows.specs.FirstFault.{first_fault_or}
+use Rattle.bsp_rows.specs.Decimal.{number_of, fixed_digits}
+use Rattle.bsp_rows.specs.Codes.{check_digit_of}
+use Rattle.bsp_rows.proofs.DecimalLemmas.{fixed_digits-number_of}
+use Rattle.bsp_rows.specs.History.Request.{Publish, SetDay}
+use Rattle.bsp_rows.specs.Steps.Action.{Dispute, Agree, Uphold, Reduce, Withdraw}
+use Rattle.bsp_rows.specs.Range.{Range}
 use Rattle.bsp_rows.specs.Rows.{Rows, agent_token, airline_token}
 use Rattle.bsp_rows.proofs.MapLemmas.{same_Some}
 use Rattle.std.specs.Result.{result_ok}
-use Rattle.bsp_fields.specs.Decimal.{number_of, fixed_digits}
-use Rattle.bsp_fields.specs.Codes.{check_digit_of}
-use Rattle.bsp_fields.specs.declared.fault.FieldFault.TheVariants.{Width, NotDigit, CheckDigit}
+use Rattle.bsp_rows.specs.Decimal.{number_of, fixed_digits}
+use Rattle.bsp_rows.specs.Codes.{check_digit_of}
+use Rattle.bsp_rows.specs.FieldFault.TheVariants.{Width, NotDigit, CheckDigit}
 use Rattle.bsp_office_spec.specs.Ledger.{ledger_of, ledger_answer, memo_named}
 use Rattle.bsp_office_spec.specs.Step.{is_token, answer_of, asked_answer, office_answer, to_agent, to_airline, rows_after, asked_after, office_done, filed_by_office, filed_by_agent, agent_done, airline_done, by_airline, bearer, Fits, allotment, withdrawal}
 use Rattle.bsp_office_spec.proofs.Seen.{unfiled, agent_forbidden}

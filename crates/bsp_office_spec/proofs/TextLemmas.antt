@@ -1,7 +1,7 @@
 -- An answer is sent in one way.
 use Rattle.std.proofs.Common.{◌≡◌, ℕ, List, Option, Some, refl, sym, subst, ◌∙◌, inl, inr}
 use Rattle.std.specs.Prelude.{string_bytes}
-use Rattle.bsp_calendar.specs.declared.entries.Terms.{Terms}
+use Rattle.bsp_rows.specs.Terms.{Terms}
 use Rattle.bsp_hot.proofs.OneFile.{fits_or_not, one_text}
 use Rattle.bsp_hot.specs.Files.{IsWritten, IsTooWide}
 use Rattle.bsp_messages.specs.declared.answer.Answer.{Answer as Message}

@@ -2,16 +2,16 @@
 use Rattle.std.proofs.Common.{◌≡◌, ℕ, Bool, true, false, cond, List, [], ◌∷◌, map, Option, Some, None, option_map, refl, sym, ap, ap₂, subst, ◌∙◌, ◌⊎◌, inl, inr}
 use Rattle.std.specs.List.{Contains, find}
 use Rattle.std.specs.FinMap.{FinMap, get}
-use Rattle.bsp_calendar.proofs.ListLemmas.{contains_head, contains_none, contains_tail}
-use Rattle.bsp_ret_records.specs.declared.transactions.ReportedDocument.{ReportedDocument}
-use Rattle.bsp_ret_records.specs.declared.transactions.Transaction.{Transaction}
-use Rattle.bsp_rules.specs.FactsOf.{facts_in, related_document}
-use Rattle.bsp_rules.specs.Meanings.{IsPassed}
-use Rattle.bsp_rules.specs.Rows.{is_ticket, ticket}
-use Rattle.bsp_rules.specs.declared.facts.RelatedDocument.{RelatedDocument}
-use Rattle.bsp_rules.specs.declared.rows.Item.{Item}
-use Rattle.bsp_rules.specs.declared.verdict.Reporter.{Reporter}
-use Rattle.bsp_rules.proofs.MeaningLemmas.{accepted_is_passed, tickets_live}
+use Rattle.bsp_rows.proofs.ListLemmas.{contains_head, contains_none, contains_tail}
+use Rattle.bsp_rows.specs.ReportedDocument.{ReportedDocument}
+use Rattle.bsp_rows.specs.Transaction.{Transaction}
+use Rattle.bsp_rows.specs.FactsOf.{facts_in, related_document}
+use Rattle.bsp_rows.specs.Meanings.{IsPassed}
+use Rattle.bsp_rows.specs.RulesRows.{is_ticket, ticket}
+use Rattle.bsp_rows.specs.RelatedDocument.{RelatedDocument}
+use Rattle.bsp_rows.specs.Item.{Item}
+use Rattle.bsp_rows.specs.Reporter.{Reporter}
+use Rattle.bsp_rows.proofs.MeaningLemmas.{accepted_is_passed, tickets_live}
 use Rattle.bsp_rows.specs.declared.keys.ItemKey.{ItemKey}
 use Rattle.bsp_rows.specs.Changes.{IsAcceptance, after_accepted, facts_at}
 use Rattle.bsp_rows.specs.Rows.{Rows, agent_items, item_at, item_cmp, key_of}

@@ -3,17 +3,17 @@ use Rattle.std.specs.Prelude.{ℕ, ◌==◌, not, nat_le, Bool, List, [], count_
 use Rattle.std.specs.List.{filter}
 use Rattle.std.specs.Ordering.{nat_cmp}
 use Rattle.std.specs.FinMap.{FinMap, get, values}
-use Rattle.bsp_fields.specs.CivilDay.{CivilDay}
-use Rattle.bsp_fields.specs.declared.change.Change.TheVariants.{Done, Held}
-use Rattle.bsp_calendar.specs.Published.{Published, closed_period}
-use Rattle.bsp_calendar.specs.declared.entries.Period.{Period}
-use Rattle.bsp_rules.specs.Verdicts.{limit_of}
-use Rattle.bsp_memos.specs.Memos.{is_amount, is_same_issue, issued_memo}
-use Rattle.bsp_memos.specs.Owed.{is_billed_in}
-use Rattle.bsp_memos.specs.Steps.{Action}
-use Rattle.bsp_memos.specs.Steps.Action.{Uphold, Reduce, Withdraw}
-use Rattle.bsp_memos.specs.declared.fault.MemoFault.TheVariants.{AmountOutOfRange, OtherContent, LimitReached, AgentNotRegistered}
-use Rattle.bsp_memos.specs.declared.fields.MemoFields.{MemoFields}
+use Rattle.bsp_rows.specs.CivilDay.{CivilDay}
+use Rattle.bsp_rows.specs.Change.TheVariants.{Done, Held}
+use Rattle.bsp_rows.specs.Published.{Published, closed_period}
+use Rattle.bsp_rows.specs.Period.{Period}
+use Rattle.bsp_rows.specs.Verdicts.{limit_of}
+use Rattle.bsp_rows.specs.Memos.{is_amount, is_same_issue, issued_memo}
+use Rattle.bsp_rows.specs.Owed.{is_billed_in}
+use Rattle.bsp_rows.specs.Steps.{Action}
+use Rattle.bsp_rows.specs.Steps.Action.{Uphold, Reduce, Withdraw}
+use Rattle.bsp_rows.specs.MemoFault.TheVariants.{AmountOutOfRange, OtherContent, LimitReached, AgentNotRegistered}
+use Rattle.bsp_rows.specs.MemoFields.{MemoFields}
 use Rattle.bsp_messages.specs.Values.{period_in}
 use Rattle.bsp_messages.specs.declared.airline_bodies.MemoIssue.{MemoIssue}
 use Rattle.bsp_messages.specs.declared.airline_bodies.Reduction.{Reduction}

@@ -1,18 +1,18 @@
 -- What one airline sees of each answered request, and what it makes of the airline's ledger.
 use Rattle.std.specs.Prelude.{ℕ, ◌==◌, ◌&&◌, Bool, List, [], ◌∷◌, ◌++◌, Option, Some, None, unwrap_or, Ok, Err, if◌then◌else◌}
 use Rattle.std.specs.FinMap.{insert}
-use Rattle.bsp_calendar.specs.History.{Request as PlanRequest, outcome}
-use Rattle.bsp_calendar.specs.History.Request.{Publish, SetDay, Close}
-use Rattle.bsp_calendar.specs.Published.{target_of}
-use Rattle.bsp_ret_records.specs.declared.transactions.Transaction.{Transaction}
-use Rattle.bsp_rules.specs.declared.verdict.Verdict.{Verdict}
-use Rattle.bsp_rules.specs.declared.verdict.Verdict.TheVariants as verdict
-use Rattle.bsp_rules.specs.declared.rows.Item.{Item}
-use Rattle.bsp_memos.specs.Lives.{after_event}
-use Rattle.bsp_memos.specs.Lives.Event.{Closed}
-use Rattle.bsp_memos.specs.Steps.{Action}
-use Rattle.bsp_memos.specs.Steps.Action.{Dispute, Agree, Uphold, Reduce, Withdraw}
-use Rattle.bsp_memos.specs.declared.fields.MemoFields.{MemoFields}
+use Rattle.bsp_rows.specs.History.{Request as PlanRequest, outcome}
+use Rattle.bsp_rows.specs.History.Request.{Publish, SetDay, Close}
+use Rattle.bsp_rows.specs.Published.{target_of}
+use Rattle.bsp_rows.specs.Transaction.{Transaction}
+use Rattle.bsp_rows.specs.Verdict.{Verdict}
+use Rattle.bsp_rows.specs.Verdict.TheVariants as verdict
+use Rattle.bsp_rows.specs.Item.{Item}
+use Rattle.bsp_rows.specs.Lives.{after_event}
+use Rattle.bsp_rows.specs.Lives.Event.{Closed}
+use Rattle.bsp_rows.specs.Steps.{Action}
+use Rattle.bsp_rows.specs.Steps.Action.{Dispute, Agree, Uphold, Reduce, Withdraw}
+use Rattle.bsp_rows.specs.MemoFields.{MemoFields}
 use Rattle.bsp_messages.specs.Values.{airline_in}
 use Rattle.bsp_messages.specs.declared.airline_bodies.MemoIssue.{MemoIssue}
 use Rattle.std.specs.FinMap.{FinMap}

@@ -1,14 +1,14 @@
 -- What a request is answered, before it is a text.
 use Rattle.std.specs.Prelude.{ℕ, Bool, true, false, List, [], Option}
-use Rattle.bsp_fields.specs.declared.change.Change.{Change}
-use Rattle.bsp_fields.specs.declared.change.Change.TheVariants as change
-use Rattle.bsp_calendar.specs.declared.entries.Period.{Period}
-use Rattle.bsp_calendar.specs.declared.entries.Terms.{Terms}
-use Rattle.bsp_ret.specs.declared.model.RetFault.{RetFault}
-use Rattle.bsp_rules.specs.declared.rows.Item.{Item}
-use Rattle.bsp_rules.specs.declared.verdict.Verdict.{Verdict}
-use Rattle.bsp_memos.specs.declared.fields.MemoFields.{MemoFields}
-use Rattle.bsp_postings.specs.declared.posting.Posting.{Posting}
+use Rattle.bsp_rows.specs.Change.{Change}
+use Rattle.bsp_rows.specs.Change.TheVariants as change
+use Rattle.bsp_rows.specs.Period.{Period}
+use Rattle.bsp_rows.specs.Terms.{Terms}
+use Rattle.bsp_hot.specs.RetFault.{RetFault}
+use Rattle.bsp_rows.specs.Item.{Item}
+use Rattle.bsp_rows.specs.Verdict.{Verdict}
+use Rattle.bsp_rows.specs.MemoFields.{MemoFields}
+use Rattle.bsp_rows.specs.Posting.{Posting}
 use Rattle.bsp_messages.specs.declared.answer.DocumentShown.{DocumentShown}
 use Rattle.bsp_messages.specs.declared.answer.PeriodShown.{PeriodShown}
 use Rattle.bsp_messages.specs.declared.answer.RangeShown.{RangeShown}

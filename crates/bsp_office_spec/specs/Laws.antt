@@ -4,23 +4,23 @@ use Rattle.std.specs.List.{Contains, list_any}
 use Rattle.bsp_routes.specs.declared.asking.Asking.{Asking}
 use Rattle.bsp_messages.specs.Values.{airline_in}
 use Rattle.bsp_messages.specs.declared.refusal.RequestRefusal.TheVariants.{Forbidden}
-use Rattle.bsp_ret_records.specs.declared.transactions.Transaction.{Transaction}
-use Rattle.bsp_rules.specs.declared.rows.Item.{Item}
-use Rattle.bsp_rules.specs.declared.verdict.Verdict.{Verdict}
-use Rattle.bsp_rules.specs.declared.verdict.Verdict.TheVariants as verdict
+use Rattle.bsp_rows.specs.Transaction.{Transaction}
+use Rattle.bsp_rows.specs.Item.{Item}
+use Rattle.bsp_rows.specs.Verdict.{Verdict}
+use Rattle.bsp_rows.specs.Verdict.TheVariants as verdict
 use Rattle.std.specs.FinMap.{FinMap, values}
-use Rattle.bsp_rules.specs.Amounts.{sum_of}
-use Rattle.bsp_rules.specs.Meanings.{ends_tickets}
-use Rattle.bsp_rules.specs.Rows.{is_ticket}
-use Rattle.bsp_rules.specs.Tickets.{disagrees_with_tickets}
-use Rattle.bsp_rules.specs.Verdicts.{is_missing}
-use Rattle.bsp_rules.specs.declared.facts.RelatedDocument.{RelatedDocument}
-use Rattle.bsp_postings.specs.Nets.{net_of_rows}
-use Rattle.bsp_postings.specs.Sides.{AreOnce, HaveAgents, HaveAirlines}
-use Rattle.bsp_calendar.specs.Published.{closed_period}
-use Rattle.bsp_calendar.specs.declared.entries.Period.{Period}
-use Rattle.bsp_memos.specs.Owed.{is_billed_in}
-use Rattle.bsp_memos.specs.declared.fields.MemoFields.{MemoFields}
+use Rattle.bsp_rows.specs.RulesAmounts.{sum_of}
+use Rattle.bsp_rows.specs.Meanings.{ends_tickets}
+use Rattle.bsp_rows.specs.RulesRows.{is_ticket}
+use Rattle.bsp_rows.specs.Tickets.{disagrees_with_tickets}
+use Rattle.bsp_rows.specs.Verdicts.{is_missing}
+use Rattle.bsp_rows.specs.RelatedDocument.{RelatedDocument}
+use Rattle.bsp_rows.specs.Nets.{net_of_rows}
+use Rattle.bsp_rows.specs.Sides.{AreOnce, HaveAgents, HaveAirlines}
+use Rattle.bsp_rows.specs.Published.{closed_period}
+use Rattle.bsp_rows.specs.Period.{Period}
+use Rattle.bsp_rows.specs.Owed.{is_billed_in}
+use Rattle.bsp_rows.specs.MemoFields.{MemoFields}
 use Rattle.bsp_rows.specs.Part.{kept}
 use Rattle.bsp_rows.specs.Rows.{Rows, item_at, item_cmp, memo_cmp}
 use Rattle.bsp_office_spec.specs.AirlineLedger.{AirlineLedger, airline_answer, airline_ledger_of, hot_answer}

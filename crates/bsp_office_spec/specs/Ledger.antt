@@ -3,32 +3,32 @@ use Rattle.std.specs.Prelude.{ℕ, ◌==◌, ◌||◌, not, Bool, true, false, L
 use Rattle.std.specs.Result.{result_ok}
 use Rattle.std.specs.List.{filter, find}
 use Rattle.std.specs.FinMap.{FinMap, get, insert, entries, values}
-use Rattle.bsp_fields.specs.Codes.{agent_reading}
-use Rattle.bsp_fields.specs.declared.change.Change.{Change}
-use Rattle.bsp_calendar.specs.Published.{Published, closed_period, is_closed, period_of}
-use Rattle.bsp_calendar.specs.Requests.{once}
-use Rattle.bsp_calendar.specs.declared.entries.Period.{Period}
-use Rattle.bsp_calendar.specs.declared.entries.Terms.{Terms}
-use Rattle.bsp_ret_records.specs.declared.codes.TransactionCode.{TransactionCode}
-use Rattle.bsp_ret_records.specs.declared.codes.TransactionCode.TheVariants.{Tktt, Rfnd, Canx}
-use Rattle.bsp_ret_records.specs.declared.transactions.Transaction.{Transaction}
-use Rattle.bsp_rules.specs.FactsOf.{facts_in}
-use Rattle.bsp_rules.specs.Rows.{contains, is_canx, is_living_relation}
-use Rattle.bsp_rules.specs.Verdicts.{verdict_on}
-use Rattle.bsp_rules.specs.declared.rows.Item.{Item}
-use Rattle.bsp_rules.specs.declared.rows.Range.{Range}
-use Rattle.bsp_rules.specs.declared.verdict.Reporter.{Reporter}
-use Rattle.bsp_rules.specs.declared.verdict.Reporter.TheVariants.{Agent}
-use Rattle.bsp_rules.specs.declared.verdict.Verdict.{Verdict}
-use Rattle.bsp_rules.specs.declared.verdict.Verdict.TheVariants as verdict
-use Rattle.bsp_memos.specs.Lives.{after_action}
-use Rattle.bsp_memos.specs.Steps.{Action, answer_to}
-use Rattle.bsp_memos.specs.Steps.Action.{Dispute, Agree}
-use Rattle.bsp_memos.specs.declared.fault.MemoFault.{MemoFault}
-use Rattle.bsp_memos.specs.declared.fault.MemoFault.TheVariants.{NoSuchMemo}
-use Rattle.bsp_memos.specs.declared.fields.MemoFields.{MemoFields}
-use Rattle.bsp_postings.specs.Nets.{net_of_rows}
-use Rattle.bsp_postings.specs.Postings.{is_counted, postings}
+use Rattle.bsp_rows.specs.Codes.{agent_reading}
+use Rattle.bsp_rows.specs.Change.{Change}
+use Rattle.bsp_rows.specs.Published.{Published, closed_period, is_closed, period_of}
+use Rattle.bsp_rows.specs.Requests.{once}
+use Rattle.bsp_rows.specs.Period.{Period}
+use Rattle.bsp_rows.specs.Terms.{Terms}
+use Rattle.bsp_rows.specs.TransactionCode.{TransactionCode}
+use Rattle.bsp_rows.specs.TransactionCode.TheVariants.{Tktt, Rfnd, Canx}
+use Rattle.bsp_rows.specs.Transaction.{Transaction}
+use Rattle.bsp_rows.specs.FactsOf.{facts_in}
+use Rattle.bsp_rows.specs.RulesRows.{contains, is_canx, is_living_relation}
+use Rattle.bsp_rows.specs.Verdicts.{verdict_on}
+use Rattle.bsp_rows.specs.Item.{Item}
+use Rattle.bsp_rows.specs.Range.{Range}
+use Rattle.bsp_rows.specs.Reporter.{Reporter}
+use Rattle.bsp_rows.specs.Reporter.TheVariants.{Agent}
+use Rattle.bsp_rows.specs.Verdict.{Verdict}
+use Rattle.bsp_rows.specs.Verdict.TheVariants as verdict
+use Rattle.bsp_rows.specs.Lives.{after_action}
+use Rattle.bsp_rows.specs.Steps.{Action, answer_to}
+use Rattle.bsp_rows.specs.Steps.Action.{Dispute, Agree}
+use Rattle.bsp_rows.specs.MemoFault.{MemoFault}
+use Rattle.bsp_rows.specs.MemoFault.TheVariants.{NoSuchMemo}
+use Rattle.bsp_rows.specs.MemoFields.{MemoFields}
+use Rattle.bsp_rows.specs.Nets.{net_of_rows}
+use Rattle.bsp_rows.specs.Postings.{is_counted, postings}
 use Rattle.bsp_messages.specs.Values.{document_in, period_in}
 use Rattle.bsp_messages.specs.declared.answer.DocumentState.{DocumentState}
 use Rattle.bsp_messages.specs.declared.answer.DocumentState.TheVariants.{Alive, Refunded, Exchanged, Cancelled}

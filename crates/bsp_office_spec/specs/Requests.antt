@@ -1,16 +1,16 @@
 -- Requests with their bodies read, and how they are read from a call's path and bytes.
 use Rattle.std.specs.Prelude.{◌≡◌, ℕ, ◌<◌, ◌^◌, List, length, Option, Result, Ok, Err, Some}
 use Rattle.std.specs.Result.{result_map_both}
-use Rattle.bsp_fields.specs.CivilDay.{CivilDay}
-use Rattle.bsp_calendar.specs.PlanDocument.{PlanData, plan_data, plan_reading}
-use Rattle.bsp_calendar.specs.declared.entries.PlanText.{PlanText}
-use Rattle.bsp_calendar.specs.declared.fault.PlanFault.{PlanFault}
-use Rattle.bsp_records.specs.Lines.{lines}
-use Rattle.bsp_ret.specs.Ret.{File, Ret}
-use Rattle.bsp_ret.specs.Table.{first_fault}
-use Rattle.bsp_ret_writer.specs.Writing.{HaveContents}
-use Rattle.bsp_ret.specs.declared.model.RetFault.{RetFault}
-use Rattle.bsp_ret_records.specs.declared.transactions.Transaction.{Transaction}
+use Rattle.bsp_rows.specs.CivilDay.{CivilDay}
+use Rattle.bsp_rows.specs.PlanDocument.{PlanData, plan_data, plan_reading}
+use Rattle.bsp_rows.specs.PlanText.{PlanText}
+use Rattle.bsp_rows.specs.PlanFault.{PlanFault}
+use Rattle.bsp_rows.specs.Lines.{lines}
+use Rattle.bsp_hot.specs.Ret.{File, Ret}
+use Rattle.bsp_hot.specs.Table.{first_fault}
+use Rattle.bsp_rows.specs.Writing.{HaveContents}
+use Rattle.bsp_hot.specs.RetFault.{RetFault}
+use Rattle.bsp_rows.specs.Transaction.{Transaction}
 use Rattle.bsp_routes.specs.declared.asking.Asking.{Asking}
 use Rattle.bsp_routes.specs.declared.asking.Asking.TheVariants as asking
 use Rattle.bsp_routes.specs.declared.call.Call.TheVariants as call

@@ -2,24 +2,24 @@
 use Rattle.std.specs.Prelude.{◌≡◌, ℕ, ◌==◌, not, nat_lt, Bool, true, false, List, [], ◌∷◌, Option, Some, None, is_some, Result, Ok, Err, if◌then◌else◌}
 use Rattle.std.specs.Str.{bytes_eq}
 use Rattle.std.specs.FinMap.{values}
-use Rattle.bsp_fields.specs.CivilDay.{CivilDay}
-use Rattle.bsp_fields.specs.declared.change.Change.{Change}
-use Rattle.bsp_fields.specs.declared.change.Change.TheVariants.{Done, Held}
-use Rattle.bsp_calendar.specs.History.Request.{Publish, SetDay, Close}
-use Rattle.bsp_calendar.specs.Published.{closed_period, has_airline}
-use Rattle.bsp_calendar.specs.Requests.{closing}
-use Rattle.bsp_calendar.specs.declared.entries.Period.{Period}
-use Rattle.bsp_calendar.specs.declared.fault.PlanFault.{PlanFault}
-use Rattle.bsp_ret_writer.specs.GroupValues.{is_group_values}
-use Rattle.bsp_ret_records.specs.declared.transactions.Transaction.{Transaction}
-use Rattle.bsp_rules.specs.declared.rows.Range.{Range}
-use Rattle.bsp_rules.specs.declared.verdict.Refusal.TheVariants.{WrongAgent}
-use Rattle.bsp_rules.specs.declared.verdict.Reporter.TheVariants.{Office}
-use Rattle.bsp_rules.specs.declared.verdict.Verdict.{Verdict}
-use Rattle.bsp_rules.specs.declared.verdict.Verdict.TheVariants as verdict
-use Rattle.bsp_memos.specs.Steps.{Action}
-use Rattle.bsp_memos.specs.Steps.Action.{Dispute, Agree, Uphold, Reduce, Withdraw}
-use Rattle.bsp_postings.specs.Postings.{postings}
+use Rattle.bsp_rows.specs.CivilDay.{CivilDay}
+use Rattle.bsp_rows.specs.Change.{Change}
+use Rattle.bsp_rows.specs.Change.TheVariants.{Done, Held}
+use Rattle.bsp_rows.specs.History.Request.{Publish, SetDay, Close}
+use Rattle.bsp_rows.specs.Published.{closed_period, has_airline}
+use Rattle.bsp_rows.specs.Requests.{closing}
+use Rattle.bsp_rows.specs.Period.{Period}
+use Rattle.bsp_rows.specs.PlanFault.{PlanFault}
+use Rattle.bsp_rows.specs.GroupValues.{is_group_values}
+use Rattle.bsp_rows.specs.Transaction.{Transaction}
+use Rattle.bsp_rows.specs.Range.{Range}
+use Rattle.bsp_rows.specs.Refusal.TheVariants.{WrongAgent}
+use Rattle.bsp_rows.specs.Reporter.TheVariants.{Office}
+use Rattle.bsp_rows.specs.Verdict.{Verdict}
+use Rattle.bsp_rows.specs.Verdict.TheVariants as verdict
+use Rattle.bsp_rows.specs.Steps.{Action}
+use Rattle.bsp_rows.specs.Steps.Action.{Dispute, Agree, Uphold, Reduce, Withdraw}
+use Rattle.bsp_rows.specs.Postings.{postings}
 use Rattle.bsp_messages.specs.Values.{airline_in, period_in}
 use Rattle.bsp_messages.specs.declared.airline_bodies.MemoIssue.{MemoIssue}
 use Rattle.bsp_messages.specs.declared.office_bodies.AgentRegistration.{AgentRegistration}

@@ -1,7 +1,7 @@
 -- The message that an answer is sent as: `bsp_messages` has its status, its media type and its bytes.
 use Rattle.std.specs.Prelude.{◌≡◌, ◌⊎◌, ℕ, List, Some, String, string_bytes}
 use Rattle.std.specs.Global.{Global, Vec}
-use Rattle.bsp_calendar.specs.declared.entries.Terms.{Terms}
+use Rattle.bsp_rows.specs.Terms.{Terms}
 use Rattle.bsp_hot.specs.Files.{IsTooWide, IsWritten}
 use Rattle.bsp_hot.specs.Rows.{Entry, entries}
 use Rattle.bsp_messages.specs.Answers.{media_of, status_of, text_of}

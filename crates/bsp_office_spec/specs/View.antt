@@ -1,17 +1,17 @@
 -- What one agent sees of each answered request, and what it makes of the agent's ledger.
 use Rattle.std.specs.Prelude.{◌≡◌, ℕ, ◌==◌, ◌&&◌, Bool, false, List, [], ◌∷◌, ◌++◌, Option, Some, None, is_some, unwrap_or, Ok, Err, if◌then◌else◌}
 use Rattle.std.specs.FinMap.{get, insert, remove}
-use Rattle.bsp_calendar.specs.History.{Request as PlanRequest}
-use Rattle.bsp_calendar.specs.History.Request.{Publish, SetDay, Close}
-use Rattle.bsp_calendar.specs.Published.{target_of}
-use Rattle.bsp_ret_records.specs.declared.transactions.Transaction.{Transaction}
-use Rattle.bsp_rules.specs.declared.rows.Range.{Range}
-use Rattle.bsp_rules.specs.declared.verdict.Verdict.{Verdict}
-use Rattle.bsp_rules.specs.declared.verdict.Verdict.TheVariants as verdict
-use Rattle.bsp_memos.specs.Lives.{after_event}
-use Rattle.bsp_memos.specs.Lives.Event.{Closed}
-use Rattle.bsp_memos.specs.Steps.{Action}
-use Rattle.bsp_memos.specs.Steps.Action.{Uphold, Reduce, Withdraw}
+use Rattle.bsp_rows.specs.History.{Request as PlanRequest}
+use Rattle.bsp_rows.specs.History.Request.{Publish, SetDay, Close}
+use Rattle.bsp_rows.specs.Published.{target_of}
+use Rattle.bsp_rows.specs.Transaction.{Transaction}
+use Rattle.bsp_rows.specs.Range.{Range}
+use Rattle.bsp_rows.specs.Verdict.{Verdict}
+use Rattle.bsp_rows.specs.Verdict.TheVariants as verdict
+use Rattle.bsp_rows.specs.Lives.{after_event}
+use Rattle.bsp_rows.specs.Lives.Event.{Closed}
+use Rattle.bsp_rows.specs.Steps.{Action}
+use Rattle.bsp_rows.specs.Steps.Action.{Uphold, Reduce, Withdraw}
 use Rattle.bsp_messages.specs.Values.{airline_in}
 use Rattle.bsp_messages.specs.declared.airline_bodies.MemoIssue.{MemoIssue}
 use Rattle.bsp_rows.specs.Changes.{each}
@@ -19,7 +19,7 @@ use Rattle.bsp_rows.specs.Part.{AgentPart}
 use Rattle.bsp_rows.specs.Rows.{Rows, range_key}
 use Rattle.bsp_rows.specs.Writes.{plan_left}
 use Rattle.bsp_rows.specs.declared.keys.MemoKey.{MemoKey}
-use Rattle.bsp_calendar.specs.History.{outcome}
+use Rattle.bsp_rows.specs.History.{outcome}
 use Rattle.bsp_office_spec.specs.AirlineLedger.{issue_key, new_memo}
 use Rattle.bsp_office_spec.specs.Answers.{Answer, is_done, verdicts_in}
 use Rattle.bsp_office_spec.specs.Ledger.{Ledger, agent_of, ledger_acted, ledger_after_request, ledger_answer, new_item, review_of, with_own_item, with_own_memos}

@@ -2,11 +2,11 @@
 use Rattle.std.proofs.Common.{◌≡◌, ℕ, List, length, Option, Some, refl, sym, ap, ◌∙◌, subst, nat_cmp}
 use Rattle.sqlite.specs.Held.{Held}
 use Rattle.sqlite_trees.specs.declared.store.Store.{Ghosts}
-use Rattle.bsp_fields.specs.CivilDay.{CivilDay}
-use Rattle.bsp_calendar.specs.Published.{Published}
-use Rattle.bsp_calendar.specs.declared.entries.Period.{Period}
-use Rattle.bsp_calendar.specs.declared.entries.Rate.{Rate}
-use Rattle.bsp_calendar.specs.declared.entries.Terms.{Terms}
+use Rattle.bsp_rows.specs.CivilDay.{CivilDay}
+use Rattle.bsp_rows.specs.Published.{Published}
+use Rattle.bsp_rows.specs.Period.{Period}
+use Rattle.bsp_rows.specs.Rate.{Rate}
+use Rattle.bsp_rows.specs.Terms.{Terms}
 use Rattle.bsp_maps.specs.declared.logged.Logged.{Logged}
 use Rattle.bsp_memory_tables.specs.declared.items.ItemTable.{ItemTable}
 use Rattle.bsp_memory_tables.specs.declared.memos.MemoTable.{MemoTable}

@@ -13,15 +13,15 @@ use Rattle.bsp_maps.specs.declared.logged.Logged.{Logged}
 use Rattle.bsp_maps.specs.declared.logged.Old.{Old}
 use Rattle.bsp_maps.specs.Present.{present}
 use Rattle.bsp_maps.proofs.PresentLemmas.{get-present}
-use Rattle.bsp_rules.specs.declared.rows.Item.{Item}
-use Rattle.bsp_memos.specs.declared.fields.MemoFields.{MemoFields}
+use Rattle.bsp_rows.specs.Item.{Item}
+use Rattle.bsp_rows.specs.MemoFields.{MemoFields}
 use Rattle.bsp_rows.specs.Rows.{item_cmp, memo_cmp, range_cmp}
 use Rattle.bsp_rows.specs.Tallies.{tally_cmp}
 use Rattle.bsp_rows.specs.declared.keys.ItemKey.{ItemKey}
 use Rattle.bsp_rows.specs.declared.keys.MemoKey.{MemoKey}
 use Rattle.bsp_rows.specs.declared.keys.RangeKey.{RangeKey}
 use Rattle.bsp_rows.specs.declared.keys.TallyKey.{TallyKey}
-use Rattle.bsp_postings.specs.declared.tally.Tally.{Tally}
+use Rattle.bsp_rows.specs.Tally.{Tally}
 use Rattle.bsp_rows.proofs.KeyOrders.{item_exact, item_total, memo_exact, memo_total, range_exact, range_total, tally_exact, tally_total}
 use Rattle.bsp_memory_tables.specs.ItemTables.{item_rows, item_rows_before}
 use Rattle.bsp_memory_tables.specs.MemoTables.{memo_rows, memo_rows_before}

@@ -1,7 +1,7 @@
 -- What a commit writes to the tables of the store.
 use Rattle.std.specs.Prelude.{◌≡◌, length, Some}
 use Rattle.std.specs.Ordering.{nat_cmp}
-use Rattle.bsp_calendar.specs.Published.{Published}
+use Rattle.bsp_rows.specs.Published.{Published}
 use Rattle.bsp_maps.specs.Undo.{before, content}
 use Rattle.bsp_memory_tables.specs.ItemTables.{item_rows, item_rows_before}
 use Rattle.bsp_memory_tables.specs.MemoTables.{memo_rows, memo_rows_before}

@@ -10,13 +10,10 @@ ghost use Rattle.bsp_store.specs.Calls.{IsKept};
 use crate::ends::recover;
 use crate::saving::save;
 use bsp_book::{Book, BookFault, ListBook};
-use bsp_calendar::{Plan, PlanFault, PlanText};
-use bsp_fields::{AgentCode, AirlineCode, Change, Day, PeriodCode, Token};
-use bsp_memos::Memo;
-use bsp_postings::Tally;
-use bsp_ret_records::Transaction;
-use bsp_rows::{ItemKey, Items, MemoKey, Memos, Tallies, TallyKey};
-use bsp_rules::{Item, Range};
+use bsp_rows::{
+    AgentCode, AirlineCode, Change, Day, Item, ItemKey, Items, Memo, MemoKey, Memos, PeriodCode,
+    Plan, PlanFault, PlanText, Range, Tallies, Tally, TallyKey, Token, Transaction,
+};
 use sqlite::{Alter, Connection, Error, ErrorCode};
 
 /// A book in tables of `sqlite`.

@@ -7,11 +7,10 @@ ghost use Rattle.bsp_store.specs.Calls.{Changes, GivesUp};
 ghost use Rattle.bsp_store_load.specs.Contents.{used_at};
 
 use crate::keyed::Keyed;
-use bsp_fields::{AgentCode, AirlineCode, DocNumber, Token};
-use bsp_memos::Memo;
-use bsp_postings::Tally;
-use bsp_rows::{ItemKey, MemoKey, RangeKey, TallyKey};
-use bsp_rules::Item;
+use bsp_rows::{
+    AgentCode, AirlineCode, DocNumber, Item, ItemKey, Memo, MemoKey, RangeKey, Tally, TallyKey,
+    Token,
+};
 use bsp_store_callers::{put_agent, put_airline_token, put_range};
 use bsp_store_items::put_item;
 use bsp_store_memos::{put_memo, put_tally};

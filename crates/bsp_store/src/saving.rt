@@ -12,8 +12,8 @@ use crate::plans::are_alike;
 use crate::written::{
     save_agents, save_airlines, save_items, save_memos, save_ranges, save_tallies,
 };
-use bsp_calendar::Plan;
 use bsp_memory_rows::Tables;
+use bsp_rows::Plan;
 use bsp_store_plan::{put_airlines, put_meta, put_periods, put_rates, put_terms};
 use sqlite::{Alter, Connection, Error};
 

@@ -12,9 +12,9 @@ ghost use Rattle.bsp_store.specs.Calls.{GivesUp, Updates};
 
 use crate::keyed::put_written;
 use crate::parts::{Agents, Airlines, ItemRows, MemoRows, Ranges, TallyRows};
-use bsp_fields::{AgentCode, AirlineCode, Token};
 use bsp_maps::Logged;
 use bsp_memory_tables::{ItemTable, MemoTable, RangeTable, TallyTable};
+use bsp_rows::{AgentCode, AirlineCode, Token};
 use sqlite::{Alter, Connection, Error};
 
 /// Writes the tokens of agents that were written in memory.

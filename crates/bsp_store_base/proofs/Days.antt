@@ -4,9 +4,9 @@ use Rattle.std.specs.Prelude.{◌≢◌, MatchOption}
 use Rattle.std.specs.Int.Signed.{◌<ℤ◌, <ℤ_irrefl}
 use Rattle.sqlite_value.specs.declared.value.Value.{Value}
 use Rattle.sqlite_value.specs.declared.value.Value.TheVariants.{Int}
-use Rattle.bsp_fields.specs.CivilDay.{CivilDay, is_day}
-use Rattle.bsp_fields.specs.Days.{day_number}
-use Rattle.bsp_fields.proofs.DayOrderLemmas.{cases_days}
+use Rattle.bsp_rows.specs.CivilDay.{CivilDay, is_day}
+use Rattle.bsp_rows.specs.Days.{day_number}
+use Rattle.bsp_rows.proofs.DayOrderLemmas.{cases_days}
 
 one_day : (a b : CivilDay) → IsTrue (is_day a) → IsTrue (is_day b) → day_number a ≡ day_number b → a ≡ b
 one_day a b ha hb same = elim (cases_days a b ha hb) [

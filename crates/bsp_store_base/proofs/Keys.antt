@@ -16,8 +16,8 @@ use Rattle.sqlite_value.specs.declared.keys.Collation.TheVariants.{Binary}
 use Rattle.sqlite_sql.specs.declared.ops.BinaryOp.TheVariants.{Compare}
 use Rattle.sqlite_sql.specs.declared.ops.CompareOp.TheVariants.{Eq}
 use Rattle.sqlite_sql.specs.Ops.{binary, is_true}
-use Rattle.bsp_fields.specs.Decimal.{number_of, fixed_digits}
-use Rattle.bsp_fields.proofs.DecimalLemmas.{number_of-fixed_digits}
+use Rattle.bsp_rows.specs.Decimal.{number_of, fixed_digits}
+use Rattle.bsp_rows.proofs.DecimalLemmas.{number_of-fixed_digits}
 use Rattle.bsp_store_base.specs.Columns.{code_digits, flag}
 use Rattle.bsp_store_base.proofs.Values.{same_text, same_int, and_true}
 

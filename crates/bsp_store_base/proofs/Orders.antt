@@ -13,8 +13,8 @@ use Rattle.sqlite_value.proofs.OrderLemmas.{value_cmp-Text, value_cmp-Int, then-
 use Rattle.sqlite_trees.specs.Tree.{IsAscending}
 use Rattle.sqlite_trees.proofs.ListLemmas.{all_of}
 use Rattle.sqlite_sql.specs.Term.{Term}
-use Rattle.bsp_fields.specs.Decimal.{fixed_digits}
-use Rattle.bsp_fields.proofs.DecimalLemmas.{length-fixed_digits}
+use Rattle.bsp_rows.specs.Decimal.{fixed_digits}
+use Rattle.bsp_rows.proofs.DecimalLemmas.{length-fixed_digits}
 use Rattle.bsp_store_base.specs.Columns.{code_digits, flag, count, placed}
 use Rattle.bsp_store_base.proofs.Rising.{IsBefore, rows_rise}
 use Rattle.bsp_store_base.proofs.Keys.{code_digits-fits}

@@ -5,20 +5,20 @@ use Rattle.sqlite_value.specs.declared.value.Value.{Value}
 use Rattle.sqlite_value.specs.declared.value.Value.TheVariants.{Int, Text}
 use Rattle.sqlite_value.specs.Order.{Row}
 use Rattle.sqlite.specs.Values.{or_null}
-use Rattle.bsp_fields.specs.Decimal.{fixed_digits}
-use Rattle.bsp_fields.specs.Days.{day_number}
-use Rattle.bsp_fields.specs.CivilDay.{CivilDay}
-use Rattle.bsp_calendar.specs.declared.entries.Period.{Period}
-use Rattle.bsp_calendar.specs.declared.entries.Rate.{Rate}
-use Rattle.bsp_calendar.specs.declared.entries.Terms.{Terms}
-use Rattle.bsp_ret_records.specs.declared.transactions.Amounts.{Amounts}
-use Rattle.bsp_ret_records.specs.Texts.{code_text as transaction_code_text}
-use Rattle.bsp_ret_writer.specs.Writing.{tax_text}
-use Rattle.bsp_ret_writer.specs.GroupValues.{related_of}
-use Rattle.bsp_rules.specs.declared.rows.Item.{Item}
-use Rattle.bsp_memos.specs.declared.fields.MemoFields.{MemoFields}
-use Rattle.bsp_memos.specs.Texts.{kind_text, state_text}
-use Rattle.bsp_postings.specs.declared.tally.Tally.{Tally}
+use Rattle.bsp_rows.specs.Decimal.{fixed_digits}
+use Rattle.bsp_rows.specs.Days.{day_number}
+use Rattle.bsp_rows.specs.CivilDay.{CivilDay}
+use Rattle.bsp_rows.specs.Period.{Period}
+use Rattle.bsp_rows.specs.Rate.{Rate}
+use Rattle.bsp_rows.specs.Terms.{Terms}
+use Rattle.bsp_rows.specs.Amounts.{Amounts}
+use Rattle.bsp_rows.specs.RetRecordsTexts.{code_text as transaction_code_text}
+use Rattle.bsp_rows.specs.Writing.{tax_text}
+use Rattle.bsp_rows.specs.GroupValues.{related_of}
+use Rattle.bsp_rows.specs.Item.{Item}
+use Rattle.bsp_rows.specs.MemoFields.{MemoFields}
+use Rattle.bsp_rows.specs.Texts.{kind_text, state_text}
+use Rattle.bsp_rows.specs.Tally.{Tally}
 use Rattle.bsp_rows.specs.declared.keys.RangeKey.{RangeKey}
 use Rattle.bsp_rows.specs.declared.keys.ItemKey.{ItemKey}
 use Rattle.bsp_rows.specs.declared.keys.MemoKey.{MemoKey}

@@ -5,3 +5,4 @@ pub mod Columns
 pub mod Reading
 pub mod Content
 pub mod Forms
+pub use Rattle.bsp_store_schema.specs.Schema

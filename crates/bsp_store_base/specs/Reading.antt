@@ -3,10 +3,10 @@ use Rattle.std.specs.Prelude.{◌≡◌, ◌≢◌, ℕ, ℤ, pos, nat_lt, Bool,
 use Rattle.std.specs.Result.{result_ok}
 use Rattle.sqlite_value.specs.declared.value.Value.{Value}
 use Rattle.sqlite_value.specs.declared.value.Value.TheVariants.{Null, Int, Text}
-use Rattle.bsp_fields.specs.CivilDay.{CivilDay, is_day}
-use Rattle.bsp_fields.specs.Codes.{agent_reading, code_reading}
-use Rattle.bsp_fields.specs.Days.{day_number}
-use Rattle.bsp_fields.specs.Zoned.{within}
+use Rattle.bsp_rows.specs.CivilDay.{CivilDay, is_day}
+use Rattle.bsp_rows.specs.Codes.{agent_reading, code_reading}
+use Rattle.bsp_rows.specs.Days.{day_number}
+use Rattle.bsp_rows.specs.Zoned.{within}
 
 abbrev pub is_null : Value → Bool
 is_null Null = true

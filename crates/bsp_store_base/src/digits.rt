@@ -3,7 +3,7 @@
 ghost use Rattle.std.specs.Prelude.{◌≡◌};
 ghost use Rattle.bsp_store_base.specs.Columns.{code_digits};
 
-use bsp_fields::{AgentCode, AirlineCode, DocNumber, PeriodCode};
+use bsp_rows::{AgentCode, AirlineCode, DocNumber, PeriodCode};
 
 /// The digits of an agent's code.
 pub fn agent_digits(code: AgentCode) -> [u8; 8]

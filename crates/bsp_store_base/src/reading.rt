@@ -5,7 +5,7 @@ ghost use Rattle.sqlite_value.specs.Order.{column};
 ghost use Rattle.bsp_store_base.specs.Columns.{agent_text, airline_text, number_text, period_text};
 ghost use Rattle.bsp_store_base.specs.Reading.{IsDayIn, agent_in, amount_in, below, code_in, int_in, is_null};
 
-use bsp_fields::{AgentCode, AirlineCode, Amount, Day, DocNumber, PeriodCode};
+use bsp_rows::{AgentCode, AirlineCode, Amount, Day, DocNumber, PeriodCode};
 use sqlite::Row;
 use sqlite_value::value::ValueRef;
 

@@ -14,7 +14,7 @@ use Rattle.bsp_store_base.proofs.Parts.{wrote}
 use Rattle.bsp_store_base.proofs.Syncing.{rows_added, rows_removed}
 use Rattle.bsp_store_base.proofs.Values.{cast_null}
 use Rattle.bsp_store_base.proofs.Writing.{inserts, deletes}
-use Rattle.bsp_store_schema.specs.Schema.{our_schema, agent_table}
+use Rattle.bsp_store_base.specs.Schema.{our_schema, agent_table}
 use Rattle.bsp_store_base.specs.Columns.{agent_row, agent_text}
 use Rattle.bsp_store_base.specs.Content.{Content, form}
 use Rattle.bsp_store_base.proofs.Keys.{code_is, one_column}

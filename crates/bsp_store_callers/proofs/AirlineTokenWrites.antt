@@ -14,7 +14,7 @@ use Rattle.bsp_store_base.proofs.Parts.{wrote}
 use Rattle.bsp_store_base.proofs.Syncing.{rows_added, rows_removed}
 use Rattle.bsp_store_base.proofs.Values.{cast_null}
 use Rattle.bsp_store_base.proofs.Writing.{inserts, deletes}
-use Rattle.bsp_store_schema.specs.Schema.{our_schema, airline_token_table}
+use Rattle.bsp_store_base.specs.Schema.{our_schema, airline_token_table}
 use Rattle.bsp_store_base.specs.Columns.{airline_token_row, airline_text}
 use Rattle.bsp_store_base.specs.Content.{Content, form}
 use Rattle.bsp_store_base.proofs.Keys.{code_is, one_column}

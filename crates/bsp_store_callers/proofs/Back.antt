@@ -1,8 +1,8 @@
 -- A row of an entry reads as the entry.
 use Rattle.std.proofs.Common.{◌≡◌, ℕ, ◌^◌, ◌<◌, ◌/◌, ◌%◌, List, true, Some, refl}
-use Rattle.bsp_fields.specs.Codes.{check_digit_of}
-use Rattle.bsp_fields.specs.Tokens.{is_token}
-use Rattle.bsp_fields.proofs.CodeLemmas.{agent_reading-fixed_digits, code_reading-fixed_digits}
+use Rattle.bsp_rows.specs.Codes.{check_digit_of}
+use Rattle.bsp_rows.specs.Tokens.{is_token}
+use Rattle.bsp_rows.proofs.CodeLemmas.{agent_reading-fixed_digits, code_reading-fixed_digits}
 use Rattle.bsp_rows.specs.declared.keys.RangeKey.{RangeKey}
 use Rattle.bsp_store_base.specs.Columns.{agent_row, airline_token_row, stock_row}
 use Rattle.bsp_store_base.proofs.Keys.{code_digits-fits}

@@ -14,7 +14,7 @@ use Rattle.bsp_store_base.proofs.Parts.{wrote}
 use Rattle.bsp_store_base.proofs.Syncing.{rows_added, rows_removed}
 use Rattle.bsp_store_base.proofs.Values.{cast_null}
 use Rattle.bsp_store_base.proofs.Writing.{inserts, deletes}
-use Rattle.bsp_store_schema.specs.Schema.{our_schema, stock_table}
+use Rattle.bsp_store_base.specs.Schema.{our_schema, stock_table}
 use Rattle.bsp_store_base.specs.Columns.{stock_row, agent_text, number_text}
 use Rattle.bsp_rows.specs.declared.keys.RangeKey.{RangeKey}
 use Rattle.bsp_rows.specs.Rows.{range_cmp}

@@ -14,7 +14,7 @@ use Rattle.sqlite_tied.specs.Compute.{everything}
 use Rattle.sqlite.specs.Listing.{understood, reads_listing}
 use Rattle.sqlite.proofs.Callers.{IsPlain, command_of}
 use Rattle.bsp_store_base.specs.Simple.{simple}
-use Rattle.bsp_store_schema.specs.Schema.{our_schema, agent_columns, airline_token_columns, stock_columns}
+use Rattle.bsp_store_base.specs.Schema.{our_schema, agent_columns, airline_token_columns, stock_columns}
 use Rattle.bsp_store_base.proofs.Writes.{eq}
 
 -- DELETE FROM the table of this place and tree WHERE the test

@@ -2,7 +2,7 @@
 use Rattle.std.specs.Prelude.{ℕ, List, Option, option_map, option_and_then}
 use Rattle.sqlite_value.specs.declared.value.Value.{Value}
 use Rattle.sqlite_value.specs.Order.{Row, column}
-use Rattle.bsp_fields.specs.Tokens.{token_reading}
+use Rattle.bsp_rows.specs.Tokens.{token_reading}
 use Rattle.bsp_rows.specs.declared.keys.RangeKey.{RangeKey}
 use Rattle.bsp_store_base.specs.Reading.{text_in, agent_in as agent_code_in, code_in}
 

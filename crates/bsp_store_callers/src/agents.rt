@@ -6,13 +6,13 @@ ghost use Rattle.sqlite.specs.Held.{state};
 ghost use Rattle.sqlite.specs.State.{HasCleanDisk};
 ghost use Rattle.sqlite.specs.Values.{bound};
 ghost use Rattle.bsp_store_base.specs.Kept.{Stands, Falls, IsInside, Reads, columns_of, KeepsRows, Spares};
-ghost use Rattle.bsp_store_schema.specs.Schema.{our_schema};
+ghost use Rattle.bsp_store_base.specs.Schema.{our_schema};
 ghost use Rattle.bsp_store_base.specs.Columns.{agent_row};
 ghost use Rattle.bsp_store_base.specs.Content.{Content, form};
 ghost use Rattle.bsp_store_callers.specs.Callers.{agent_texts, without_agent, and_agent, with_agent};
 ghost use Rattle.bsp_store_base.specs.Forms.{IsFormed};
 
-use bsp_fields::{AgentCode, Token};
+use bsp_rows::{AgentCode, Token};
 use bsp_store_base::agent_digits;
 use sqlite::{Alter, Connection, Error, Row};
 use sqlite_value::value::ValueRef;

@@ -6,13 +6,13 @@ ghost use Rattle.sqlite.specs.Held.{state};
 ghost use Rattle.sqlite.specs.State.{HasCleanDisk};
 ghost use Rattle.sqlite.specs.Values.{bound};
 ghost use Rattle.bsp_store_base.specs.Kept.{Stands, Falls, IsInside, Reads, columns_of, KeepsRows, Spares};
-ghost use Rattle.bsp_store_schema.specs.Schema.{our_schema};
+ghost use Rattle.bsp_store_base.specs.Schema.{our_schema};
 ghost use Rattle.bsp_store_base.specs.Columns.{airline_token_row};
 ghost use Rattle.bsp_store_base.specs.Content.{Content, form};
 ghost use Rattle.bsp_store_callers.specs.Callers.{airline_texts, without_airline, and_airline, with_airline};
 ghost use Rattle.bsp_store_base.specs.Forms.{IsFormed};
 
-use bsp_fields::{AirlineCode, Token};
+use bsp_rows::{AirlineCode, Token};
 use bsp_store_base::airline_digits;
 use sqlite::{Alter, Connection, Error, Row};
 use sqlite_value::value::ValueRef;

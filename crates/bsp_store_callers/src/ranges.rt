@@ -6,14 +6,13 @@ ghost use Rattle.sqlite.specs.Held.{state};
 ghost use Rattle.sqlite.specs.State.{HasCleanDisk};
 ghost use Rattle.sqlite.specs.Values.{bound};
 ghost use Rattle.bsp_store_base.specs.Kept.{Stands, Falls, IsInside, Reads, columns_of, KeepsRows, Spares};
-ghost use Rattle.bsp_store_schema.specs.Schema.{our_schema};
+ghost use Rattle.bsp_store_base.specs.Schema.{our_schema};
 ghost use Rattle.bsp_store_base.specs.Columns.{stock_row};
 ghost use Rattle.bsp_store_base.specs.Content.{Content, form};
 ghost use Rattle.bsp_store_callers.specs.Callers.{range_texts, without_range, and_range, with_range};
 ghost use Rattle.bsp_store_base.specs.Forms.{IsFormed};
 
-use bsp_fields::DocNumber;
-use bsp_rows::RangeKey;
+use bsp_rows::{DocNumber, RangeKey};
 use bsp_store_base::{agent_digits, number_digits};
 use sqlite::{Alter, Connection, Error, Row};
 use sqlite_value::value::ValueRef;

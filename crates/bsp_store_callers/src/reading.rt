@@ -4,8 +4,7 @@ ghost use Rattle.std.specs.Prelude.{◌≡◌, ℕ, List};
 ghost use Rattle.sqlite_value.specs.Order.{column};
 ghost use Rattle.bsp_store_callers.specs.Reading.{token_in, agent_in, airline_token_in, range_in};
 
-use bsp_fields::{AgentCode, AirlineCode, DocNumber, Token};
-use bsp_rows::RangeKey;
+use bsp_rows::{AgentCode, AirlineCode, DocNumber, RangeKey, Token};
 use bsp_store_base::{agent_at, airline_at, number_at};
 use sqlite::Row;
 use sqlite_value::value::ValueRef;

@@ -18,24 +18,24 @@ use Rattle.bsp_fields.specs.declared.fault.FieldFault.TheVariants.{Width, NotDig
 use Rattle.bsp_fields.proofs.CodeLemmas.{code_reading-fixed_digits}
 use Rattle.bsp_fields.proofs.DecimalLemmas.{number_of-lt, fixed_digits-number_of}
 use Rattle.bsp_fields.proofs.FirstFaultLemmas.{row_passed, value_told}
-use Rattle.bsp_records.specs.Columns.{columns, is_letter_or_digit}
-use Rattle.bsp_records.specs.Taxes.{tax_code}
-use Rattle.bsp_records.proofs.CharacterLemmas.{length-spelling}
-use Rattle.bsp_records.proofs.TextLemmas.{amount_reads}
-use Rattle.bsp_ret_records.specs.Texts.{code_text}
-use Rattle.bsp_ret_records.specs.Values.{none_or}
-use Rattle.bsp_ret_records.specs.declared.codes.TransactionCode.{TransactionCode}
-use Rattle.bsp_ret_records.specs.declared.codes.TransactionCode.TheVariants.{Tktt, Rfnd, Canx}
-use Rattle.bsp_ret_records.specs.declared.transactions.Amounts.{Amounts}
-use Rattle.bsp_ret_records.specs.declared.transactions.CardPayment.{CardPayment}
-use Rattle.bsp_ret_records.specs.declared.transactions.ReportedDocument.{ReportedDocument}
-use Rattle.bsp_ret_records.specs.declared.transactions.Tax.{Tax}
-use Rattle.bsp_ret_records.specs.declared.transactions.Transaction.{Transaction}
+use Rattle.bsp_ret_writer.specs.Columns.{columns, is_letter_or_digit}
+use Rattle.bsp_ret_writer.specs.Taxes.{tax_code}
+use Rattle.bsp_ret_writer.proofs.CharacterLemmas.{length-spelling}
+use Rattle.bsp_ret_writer.proofs.TextLemmas.{amount_reads}
+use Rattle.bsp_rows.specs.RetRecordsTexts.{code_text}
+use Rattle.bsp_rows.specs.Values.{none_or}
+use Rattle.bsp_rows.specs.TransactionCode.{TransactionCode}
+use Rattle.bsp_rows.specs.TransactionCode.TheVariants.{Tktt, Rfnd, Canx}
+use Rattle.bsp_rows.specs.Amounts.{Amounts}
+use Rattle.bsp_rows.specs.CardPayment.{CardPayment}
+use Rattle.bsp_rows.specs.ReportedDocument.{ReportedDocument}
+use Rattle.bsp_rows.specs.Tax.{Tax}
+use Rattle.bsp_rows.specs.Transaction.{Transaction}
 use Rattle.bsp_ret_writer.specs.GroupValues.{are_taxes, are_amounts, is_document, related_of}
 use Rattle.bsp_ret_writer.specs.Stored.{InEach, IsStored, IsStoredTax, IsStoredAmount, IsStoredAmounts, IsStoredCard, IsStoredDocument}
 use Rattle.bsp_ret_writer.specs.Writing.{tax_text}
 use Rattle.bsp_ret_writer.proofs.WrittenGroup.{facts_from}
-use Rattle.bsp_rules.specs.declared.rows.Item.{Item}
+use Rattle.bsp_rows.specs.Item.{Item}
 use Rattle.bsp_rows.specs.Sound.{IsRight}
 use Rattle.bsp_rows.specs.declared.keys.ItemKey.{ItemKey}
 use Rattle.bsp_store_base.specs.Columns.{code_digits, airline_text, flag, taxes_text, count, item_row}

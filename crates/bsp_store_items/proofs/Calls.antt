@@ -5,7 +5,7 @@ use Rattle.sqlite_trees.specs.declared.store.Store.{Ghosts}
 use Rattle.sqlite_schema.specs.declared.command.Source.TheVariants.{Values}
 use Rattle.sqlite_schema.specs.declared.command.Command.TheVariants.{Insert, Delete}
 use Rattle.sqlite.specs.Held.{Held, state}
-use Rattle.bsp_rules.specs.declared.rows.Item.{Item}
+use Rattle.bsp_rows.specs.Item.{Item}
 use Rattle.bsp_rows.specs.declared.keys.ItemKey.{ItemKey}
 use Rattle.bsp_rows.specs.Rows.{item_cmp}
 use Rattle.bsp_rows.proofs.KeyOrders.{item_total, item_exact}

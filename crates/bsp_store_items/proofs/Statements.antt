@@ -9,12 +9,12 @@ use Rattle.sqlite_trees.proofs.ListLemmas.{IsPermutation-same}
 use Rattle.sqlite_rules.specs.Cast.{cast_all}
 use Rattle.sqlite_sql.specs.Term.{holds}
 use Rattle.sqlite.specs.State.{State, Executes}
-use Rattle.bsp_rules.specs.declared.rows.Item.{Item}
+use Rattle.bsp_rows.specs.Item.{Item}
 use Rattle.bsp_rows.specs.declared.keys.ItemKey.{ItemKey}
 use Rattle.bsp_rows.specs.Rows.{item_cmp}
 use Rattle.bsp_rows.proofs.KeyOrders.{item_total, item_exact}
 use Rattle.bsp_store_base.specs.Columns.{agent_text, number_text, flag, item_row}
-use Rattle.bsp_store_schema.specs.Schema.{our_schema, item_columns, item_table}
+use Rattle.bsp_store_base.specs.Schema.{our_schema, item_columns, item_table}
 use Rattle.bsp_store_base.specs.Content.{Content, form}
 use Rattle.bsp_store_base.proofs.Keys.{code_is, flag_is, three_columns}
 use Rattle.bsp_store_base.proofs.Writes.{no_work}

@@ -13,7 +13,7 @@ use Rattle.sqlite_tied.specs.Compute.{everything}
 use Rattle.sqlite.specs.Listing.{understood, reads_listing}
 use Rattle.sqlite.proofs.Callers.{IsPlain, command_of}
 use Rattle.bsp_store_base.specs.Simple.{simple}
-use Rattle.bsp_store_schema.specs.Schema.{our_schema, item_columns}
+use Rattle.bsp_store_base.specs.Schema.{our_schema, item_columns}
 use Rattle.bsp_store_base.proofs.Writes.{eq}
 
 -- ---- a row is taken out

@@ -8,16 +8,16 @@ use Rattle.sqlite_value.specs.Order.{Row, column}
 use Rattle.bsp_fields.specs.CivilDay.{CivilDay}
 use Rattle.bsp_fields.specs.Decimal.{fixed_digits}
 use Rattle.bsp_fields.specs.Zoned.{zoned_reading}
-use Rattle.bsp_records.specs.Columns.{columns}
-use Rattle.bsp_ret_records.specs.declared.codes.TransactionCode.{TransactionCode}
-use Rattle.bsp_ret_records.specs.declared.codes.TransactionCode.TheVariants.{Tktt, Rfnd, Canx}
-use Rattle.bsp_ret_records.specs.declared.transactions.Amounts.{Amounts}
-use Rattle.bsp_ret_records.specs.declared.transactions.CardPayment.{CardPayment}
-use Rattle.bsp_ret_records.specs.declared.transactions.ReportedDocument.{ReportedDocument}
-use Rattle.bsp_ret_records.specs.declared.transactions.Tax.{Tax}
-use Rattle.bsp_ret_records.specs.declared.transactions.Transaction.{Transaction}
+use Rattle.bsp_ret_writer.specs.Columns.{columns}
+use Rattle.bsp_rows.specs.TransactionCode.{TransactionCode}
+use Rattle.bsp_rows.specs.TransactionCode.TheVariants.{Tktt, Rfnd, Canx}
+use Rattle.bsp_rows.specs.Amounts.{Amounts}
+use Rattle.bsp_rows.specs.CardPayment.{CardPayment}
+use Rattle.bsp_rows.specs.ReportedDocument.{ReportedDocument}
+use Rattle.bsp_rows.specs.Tax.{Tax}
+use Rattle.bsp_rows.specs.Transaction.{Transaction}
 use Rattle.bsp_rows.specs.declared.keys.ItemKey.{ItemKey}
-use Rattle.bsp_rules.specs.declared.rows.Item.{Item}
+use Rattle.bsp_rows.specs.Item.{Item}
 use Rattle.bsp_store_base.specs.Reading.{agent_in, amount_in, below, code_in, if_there, text_in}
 
 -- ---- a column

@@ -2,12 +2,12 @@
 
 ghost use Rattle.std.specs.Prelude.{◌≡◌, ◌≤◌, ◌+◌, ◌^◌, length, take, drop, option_and_then};
 ghost use Rattle.sqlite_value.specs.Order.{column};
-ghost use Rattle.bsp_records.specs.Columns.{columns};
+ghost use Rattle.bsp_ret_writer.specs.Columns.{columns};
 ghost use Rattle.bsp_store_base.specs.Reading.{below};
 ghost use Rattle.bsp_store_items.specs.Reading.{flag_in, kind_in, kind_of, tax_in, taxes_in, wide_in};
 
 use bsp_fields::read_amount as read_zoned;
-use bsp_ret_records::{Tax, TransactionCode};
+use bsp_rows::{Tax, TransactionCode};
 use bsp_store_base::below_at;
 use sqlite::Row;
 use sqlite_value::value::ValueRef;

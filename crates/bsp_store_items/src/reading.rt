@@ -7,7 +7,7 @@ ghost use Rattle.sqlite_value.specs.Order.{column};
 ghost use Rattle.sqlite_value.specs.declared.value.Value.TheVariants.{Int};
 ghost use Rattle.bsp_fields.specs.CivilDay.{CivilDay, is_day};
 ghost use Rattle.bsp_fields.specs.Days.{day_number};
-ghost use Rattle.bsp_store_schema.specs.Schema.{our_schema};
+ghost use Rattle.bsp_store_base.specs.Schema.{our_schema};
 ghost use Rattle.bsp_store_base.specs.Kept.{Reads, columns_of, KeepsRows, Spares};
 ghost use Rattle.bsp_store_items.specs.Reading.{amounts_in, card_in, document_in, entry_in, item_in, key_in, related_in, transaction_in};
 ghost use Rattle.std.specs.FinMap.{entries};
@@ -18,9 +18,7 @@ ghost use Rattle.bsp_store_base.specs.Reading.{amount_in, if_there};
 
 use crate::columns::{read_byte, read_flag, read_kind, read_rate, read_taxes, read_wide};
 use bsp_fields::{Amount, Day, DocNumber};
-use bsp_ret_records::{Amounts, CardPayment, ReportedDocument, Transaction};
-use bsp_rows::ItemKey;
-use bsp_rules::Item;
+use bsp_rows::{Amounts, CardPayment, Item, ItemKey, ReportedDocument, Transaction};
 use bsp_store_base::{agent_at, airline_at, amount_at, day_at, is_null, number_at, period_at};
 use sqlite::{Alter, Connection, Error, Row};
 

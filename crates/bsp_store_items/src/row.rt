@@ -5,19 +5,17 @@ ghost use Rattle.std.specs.List.{flat_map};
 ghost use Rattle.sqlite_value.specs.Value.{owned};
 ghost use Rattle.sqlite_value.specs.declared.value.Value.TheVariants.{Int, Text};
 ghost use Rattle.sqlite.specs.Values.{bound, bound_value, or_null};
-ghost use Rattle.bsp_ret_records.specs.declared.transactions.Amounts.{Amounts as Priced};
-ghost use Rattle.bsp_ret_records.specs.declared.transactions.CardPayment.{CardPayment as Card};
-ghost use Rattle.bsp_ret_records.specs.declared.transactions.ReportedDocument.{ReportedDocument as Reported};
+ghost use Rattle.bsp_rows.specs.Amounts.{Amounts as Priced};
+ghost use Rattle.bsp_rows.specs.CardPayment.{CardPayment as Card};
+ghost use Rattle.bsp_rows.specs.ReportedDocument.{ReportedDocument as Reported};
 ghost use Rattle.bsp_ret_writer.specs.Writing.{tax_text};
 ghost use Rattle.bsp_ret_writer.specs.GroupValues.{related_of};
 ghost use Rattle.bsp_store_base.specs.Columns.{code_digits, flag as flag_of, item_row};
 ghost use Rattle.bsp_store_items.specs.Written.{row_is};
 
 use bsp_fields::Amount;
-use bsp_ret_records::{Amounts, CardPayment, ReportedDocument, Tax, Transaction};
 use bsp_ret_writer::write_tax;
-use bsp_rows::ItemKey;
-use bsp_rules::Item;
+use bsp_rows::{Amounts, CardPayment, Item, ItemKey, ReportedDocument, Tax, Transaction};
 use bsp_store_base::{agent_digits, airline_digits, number_digits, period_digits};
 use sqlite_value::value::ValueRef;
 

@@ -7,8 +7,7 @@ ghost use Rattle.bsp_store_base.specs.Kept.{Falls, IsInside, Stands};
 ghost use Rattle.bsp_store_base.specs.Synced.{with_value};
 
 use crate::row::{ItemRow, flag};
-use bsp_rows::ItemKey;
-use bsp_rules::Item;
+use bsp_rows::{Item, ItemKey};
 use bsp_store_base::{agent_digits, number_digits};
 use sqlite::{Alter, Connection, Error};
 use sqlite_value::value::ValueRef;

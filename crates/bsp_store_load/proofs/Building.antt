@@ -1,7 +1,7 @@
 -- The rows of a sound book, put into tables that have none.
 use Rattle.std.proofs.Common.{◌≡◌, Bool, true, sym, ap, subst, ◌∙◌}
-use Rattle.bsp_calendar.specs.Published.{Published, opening}
-use Rattle.bsp_calendar.specs.SoundPlan.{IsSoundPlan}
+use Rattle.bsp_rows.specs.Published.{Published, opening}
+use Rattle.bsp_rows.specs.SoundPlan.{IsSoundPlan}
 use Rattle.bsp_rows.specs.Rows.{Rows, no_rows}
 use Rattle.bsp_rows.specs.Sound.{Sound}
 use Rattle.bsp_memory_rows.specs.Tables.{rows_of}

@@ -6,11 +6,11 @@ use Rattle.std.specs.List.{AllByRecursion, Contains}
 use Rattle.std.specs.declared.cmp.Ordering.{Ordering}
 use Rattle.std.specs.Cmp.{IsTotalOrder}
 use Rattle.std.specs.FinMap.{IsAntisymmetric}
-use Rattle.bsp_calendar.specs.History.{IsReached}
-use Rattle.bsp_calendar.specs.History.Request.{Close}
-use Rattle.bsp_calendar.specs.Published.{Published}
-use Rattle.bsp_calendar.proofs.ListLemmas.{contains_head, contains_tail}
-use Rattle.bsp_calendar.specs.declared.entries.Period.{Period}
+use Rattle.bsp_rows.specs.History.{IsReached}
+use Rattle.bsp_rows.specs.History.Request.{Close}
+use Rattle.bsp_rows.specs.Published.{Published}
+use Rattle.bsp_rows.proofs.ListLemmas.{contains_head, contains_tail}
+use Rattle.bsp_rows.specs.Period.{Period}
 use Rattle.bsp_rows.specs.Rows.{Rows}
 use Rattle.bsp_rows.specs.Writes.{after_request, request_answer}
 use Rattle.bsp_rows.proofs.MapLemmas.{entry_get}

@@ -3,9 +3,9 @@ use Rattle.std.proofs.Common.{◌≡◌, Bool, true, not, Option, Some, None, Is
 use Rattle.std.specs.Prelude.{SomeIff}
 use Rattle.sqlite_value.specs.declared.value.Value.TheVariants.{Int}
 use Rattle.sqlite_value.specs.Order.{Row, column}
-use Rattle.bsp_fields.specs.CivilDay.{CivilDay, is_day}
-use Rattle.bsp_fields.specs.Days.{day_number}
-use Rattle.bsp_rules.specs.declared.rows.Item.{Item}
+use Rattle.bsp_rows.specs.CivilDay.{CivilDay, is_day}
+use Rattle.bsp_rows.specs.Days.{day_number}
+use Rattle.bsp_rows.specs.Item.{Item}
 use Rattle.bsp_rows.specs.Rows.{HasNumberKey, key_of}
 use Rattle.bsp_rows.specs.Sound.{IsRight}
 use Rattle.bsp_rows.specs.declared.keys.ItemKey.{ItemKey}

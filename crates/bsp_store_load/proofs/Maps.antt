@@ -15,7 +15,7 @@ use Rattle.bsp_maps.proofs.ContentLemmas.{of_content}
 use Rattle.bsp_maps.proofs.OrderLemmas.{in_order}
 use Rattle.bsp_maps.proofs.PickLemmas.{all_pass, sorted_filter}
 use Rattle.bsp_maps.proofs.PresentLemmas.{entries-present}
-use Rattle.bsp_postings.specs.declared.tally.Tally.{Tally}
+use Rattle.bsp_rows.specs.Tally.{Tally}
 use Rattle.bsp_rows.specs.declared.keys.RangeKey.{RangeKey}
 use Rattle.bsp_rows.specs.declared.keys.TallyKey.{TallyKey}
 use Rattle.bsp_rows.specs.Rows.{range_cmp}

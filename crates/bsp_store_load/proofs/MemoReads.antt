@@ -1,8 +1,8 @@
 -- A row of a memo, read back.
 use Rattle.std.proofs.Common.{◌≡◌, true, Option, Some, None, sym, ap, subst, ◌∙◌}
 use Rattle.sqlite_value.specs.Order.{Row}
-use Rattle.bsp_memos.specs.Memos.{is_memo}
-use Rattle.bsp_memos.specs.declared.fields.MemoFields.{MemoFields}
+use Rattle.bsp_rows.specs.Memos.{is_memo}
+use Rattle.bsp_rows.specs.MemoFields.{MemoFields}
 use Rattle.bsp_rows.specs.Rows.{memo_key}
 use Rattle.bsp_rows.specs.declared.keys.MemoKey.{MemoKey}
 use Rattle.bsp_rows.proofs.MapLemmas.{same_Some}

@@ -3,16 +3,16 @@ use Rattle.std.proofs.Common.{◌≡◌, ℕ, zero, suc, ◌+◌, ◌≤◌, Boo
 use Rattle.std.specs.List.{AllByRecursion}
 use Rattle.std.proofs.lemmas.List.{length-map, take-map}
 use Rattle.sqlite_value.specs.Order.{Row}
-use Rattle.bsp_fields.specs.CivilDay.{CivilDay}
-use Rattle.bsp_fields.specs.declared.change.Change.{Change}
-use Rattle.bsp_calendar.specs.History.{IsReached}
-use Rattle.bsp_calendar.specs.History.Request.{Close, SetDay}
-use Rattle.bsp_calendar.specs.Published.{Published}
-use Rattle.bsp_calendar.specs.SoundPlan.{IsSoundPlan}
-use Rattle.bsp_calendar.specs.Standing.{first_codes}
-use Rattle.bsp_calendar.specs.declared.entries.Period.{Period}
-use Rattle.bsp_calendar.specs.declared.fault.PlanFault.{PlanFault}
-use Rattle.bsp_calendar.proofs.SoundLemmas.{closed_within}
+use Rattle.bsp_rows.specs.CivilDay.{CivilDay}
+use Rattle.bsp_rows.specs.Change.{Change}
+use Rattle.bsp_rows.specs.History.{IsReached}
+use Rattle.bsp_rows.specs.History.Request.{Close, SetDay}
+use Rattle.bsp_rows.specs.Published.{Published}
+use Rattle.bsp_rows.specs.SoundPlan.{IsSoundPlan}
+use Rattle.bsp_rows.specs.Standing.{first_codes}
+use Rattle.bsp_rows.specs.Period.{Period}
+use Rattle.bsp_rows.specs.PlanFault.{PlanFault}
+use Rattle.bsp_rows.proofs.SoundLemmas.{closed_within}
 use Rattle.bsp_store_base.specs.Columns.{Meta, meta_rows, period_row, placed}
 use Rattle.bsp_store_base.specs.Forms.{IsMeta, IsPeriod}
 use Rattle.bsp_rows.proofs.MapLemmas.{same_Some}

@@ -3,9 +3,9 @@ use Rattle.std.proofs.Common.{◌≡◌, false, refl, Option, Some, None}
 use Rattle.sqlite_value.specs.declared.value.Value.{Value}
 use Rattle.sqlite_value.specs.declared.value.Value.TheVariants.{Int, Text}
 use Rattle.sqlite.specs.Values.{or_null}
-use Rattle.bsp_ret_records.specs.declared.transactions.Amounts.{Amounts}
-use Rattle.bsp_ret_writer.specs.GroupValues.{related_of}
-use Rattle.bsp_rules.specs.declared.rows.Item.{Item}
+use Rattle.bsp_rows.specs.Amounts.{Amounts}
+use Rattle.bsp_rows.specs.GroupValues.{related_of}
+use Rattle.bsp_rows.specs.Item.{Item}
 use Rattle.bsp_rows.specs.declared.keys.ItemKey.{ItemKey}
 use Rattle.bsp_store_base.specs.Columns.{airline_text, count, item_row, taxes_text}
 use Rattle.bsp_store_load.specs.Entries.{has_real, is_real}

@@ -3,17 +3,17 @@ use Rattle.std.proofs.Common.{◌≡◌, ◌==◌, Bool, true, false, List, [], 
 use Rattle.std.specs.Prelude.{IsSomeAnd}
 use Rattle.std.proofs.lemmas.List.{nil_from_length}
 use Rattle.sqlite_value.specs.Order.{Row}
-use Rattle.bsp_fields.specs.declared.change.Change.{Change}
-use Rattle.bsp_calendar.specs.History.{IsReached, IsTextOf, outcome}
-use Rattle.bsp_calendar.specs.History.Request.{Close, Publish, SetDay}
-use Rattle.bsp_calendar.specs.Published.{Published, opening}
-use Rattle.bsp_calendar.specs.SoundPlan.{IsSoundPlan}
-use Rattle.bsp_calendar.specs.declared.entries.Period.{Period}
-use Rattle.bsp_calendar.specs.declared.entries.PlanText.{PlanText}
-use Rattle.bsp_calendar.specs.declared.entries.Terms.{Terms}
-use Rattle.bsp_calendar.specs.declared.fault.PlanFault.{PlanFault}
-use Rattle.bsp_calendar.proofs.MadeLemmas.{made_again}
-use Rattle.bsp_calendar.proofs.SoundLemmas.{closed_within}
+use Rattle.bsp_rows.specs.Change.{Change}
+use Rattle.bsp_rows.specs.History.{IsReached, IsTextOf, outcome}
+use Rattle.bsp_rows.specs.History.Request.{Close, Publish, SetDay}
+use Rattle.bsp_rows.specs.Published.{Published, opening}
+use Rattle.bsp_rows.specs.SoundPlan.{IsSoundPlan}
+use Rattle.bsp_rows.specs.Period.{Period}
+use Rattle.bsp_rows.specs.PlanText.{PlanText}
+use Rattle.bsp_rows.specs.Terms.{Terms}
+use Rattle.bsp_rows.specs.PlanFault.{PlanFault}
+use Rattle.bsp_rows.proofs.MadeLemmas.{made_again}
+use Rattle.bsp_rows.proofs.SoundLemmas.{closed_within}
 use Rattle.bsp_store_base.specs.Columns.{terms_rows}
 use Rattle.bsp_rows.specs.Rows.{Rows}
 use Rattle.bsp_rows.specs.Writes.{after_request, change_or_fault, is_held, plan_left, request_answer}

@@ -4,9 +4,9 @@ use Rattle.std.specs.Prelude.{IfOk, Option}
 use Rattle.std.specs.FinMap.{empty, entries}
 use Rattle.std.specs.List.{AllByRecursion}
 use Rattle.sqlite_value.specs.Order.{Row}
-use Rattle.bsp_rules.specs.declared.rows.Item.{Item}
-use Rattle.bsp_memos.specs.Memos.{is_memo}
-use Rattle.bsp_memos.specs.declared.fields.MemoFields.{MemoFields}
+use Rattle.bsp_rows.specs.Item.{Item}
+use Rattle.bsp_rows.specs.Memos.{is_memo}
+use Rattle.bsp_rows.specs.MemoFields.{MemoFields}
 use Rattle.bsp_rows.specs.Rows.{Rows, memo_key}
 use Rattle.bsp_rows.specs.Sound.{IsRight}
 use Rattle.bsp_rows.specs.Writes.{with_agent_token, with_airline_token, with_item, with_memo}

@@ -1,7 +1,7 @@
 -- A row of a range, read back and added.
 use Rattle.std.proofs.Common.{◌≡◌, ℕ, Option, Some, None, sym, ap, ◌∙◌}
 use Rattle.sqlite_value.specs.Order.{Row}
-use Rattle.bsp_rules.specs.declared.rows.Range.{Range}
+use Rattle.bsp_rows.specs.Range.{Range}
 use Rattle.bsp_rows.specs.Rows.{Rows, range_of}
 use Rattle.bsp_rows.specs.Writes.{with_range}
 use Rattle.bsp_rows.specs.declared.keys.RangeKey.{RangeKey}

@@ -4,7 +4,7 @@ use Rattle.std.specs.Prelude.{unwrap_or}
 use Rattle.std.specs.FinMap.{FinMap, get, entries, entries_sorted, get-entries, get-from_entries, same_map, values}
 use Rattle.std.specs.FinMap.Entries.{find}
 use Rattle.bsp_maps.proofs.PickLemmas.{find_passing, wanted}
-use Rattle.bsp_postings.specs.declared.tally.Tally.{Tally}
+use Rattle.bsp_rows.specs.Tally.{Tally}
 use Rattle.bsp_rows.specs.Rows.{Rows}
 use Rattle.bsp_rows.specs.Tallies.{key_tally, tally_cmp, tally_of}
 use Rattle.bsp_rows.specs.declared.keys.TallyKey.{TallyKey}

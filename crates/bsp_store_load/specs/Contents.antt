@@ -3,8 +3,8 @@ use Rattle.std.specs.Prelude.{◌≡◌, if◌then◌else◌, length, Option, So
 use Rattle.std.specs.FinMap.{FinMap, get, entries, from_entries}
 use Rattle.std.specs.List.{filter}
 use Rattle.sqlite_trees.specs.Tree.{Trees}
-use Rattle.bsp_calendar.specs.Published.{Published}
-use Rattle.bsp_postings.specs.declared.tally.Tally.{Tally}
+use Rattle.bsp_rows.specs.Published.{Published}
+use Rattle.bsp_rows.specs.Tally.{Tally}
 use Rattle.bsp_rows.specs.declared.keys.TallyKey.{TallyKey}
 use Rattle.bsp_rows.specs.Rows.{Rows}
 use Rattle.bsp_rows.specs.Tallies.{tally_cmp, tally_of}

@@ -2,8 +2,8 @@
 use Rattle.std.specs.Prelude.{◌≡◌, ◌<◌, ◌^◌, length, map, IfSome, IsTrue, Some}
 use Rattle.std.specs.FinMap.{entries}
 use Rattle.std.specs.List.{AllByRecursion}
-use Rattle.bsp_fields.specs.CivilDay.{is_day}
-use Rattle.bsp_calendar.specs.Published.{Published}
+use Rattle.bsp_rows.specs.CivilDay.{is_day}
+use Rattle.bsp_rows.specs.Published.{Published}
 use Rattle.bsp_rows.specs.Rows.{Rows}
 use Rattle.bsp_rows.specs.Sound.{Sound}
 use Rattle.bsp_store_base.specs.Columns.{airline_row, airline_token_row, agent_row, item_row, memo_row, meta_rows, period_row, placed, rate_row, stock_row, tally_row, terms_rows}

@@ -8,11 +8,10 @@ ghost use Rattle.bsp_memory_tables.specs.RangeTables.{range_rows};
 
 use crate::equal::is_row;
 use crate::listed::{Each, RowOf, are_rows_of};
-use bsp_fields::{AgentCode, AirlineCode, DocNumber, Token};
 use bsp_maps::Rule;
 use bsp_memory_rows::Tables;
 use bsp_memory_tables::RangeTable;
-use bsp_rows::RangeKey;
+use bsp_rows::{AgentCode, AirlineCode, DocNumber, RangeKey, Token};
 use bsp_store_callers::{AgentRow, AirlineTokenRow, RangeRow};
 use sqlite::Row;
 

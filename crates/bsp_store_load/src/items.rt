@@ -8,8 +8,7 @@ ghost use Rattle.bsp_memory_tables.specs.ItemTables.{item_rows};
 use crate::equal::is_row;
 use crate::listed::{Each, RowOf, are_rows_of};
 use bsp_memory_tables::ItemTable;
-use bsp_rows::ItemKey;
-use bsp_rules::Item;
+use bsp_rows::{Item, ItemKey};
 use bsp_store_items::ItemRow;
 use sqlite::Row;
 

@@ -3,7 +3,7 @@
 ghost use Rattle.std.specs.Prelude.{◌≡◌, true, OnOk, IfNone, IfOk, IfSome, IsSomeAnd};
 ghost use Rattle.std.specs.FinMap.{empty, entries};
 ghost use Rattle.std.specs.List.{AllByRecursion};
-ghost use Rattle.bsp_memos.specs.Memos.{is_memo};
+ghost use Rattle.bsp_rows.specs.Memos.{is_memo};
 ghost use Rattle.bsp_rows.specs.Rows.{Rows, memo_key};
 ghost use Rattle.bsp_rows.specs.Sound.{IsRight, Sound};
 ghost use Rattle.bsp_store_base.specs.Content.{Content};

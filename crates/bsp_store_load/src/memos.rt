@@ -11,9 +11,7 @@ use crate::equal::is_row;
 use crate::listed::{Each, RowOf, are_rows_of};
 use bsp_maps::Rule;
 use bsp_memory_tables::{MemoTable, TallyTable};
-use bsp_memos::Memo;
-use bsp_postings::Tally;
-use bsp_rows::{MemoKey, TallyKey};
+use bsp_rows::{Memo, MemoKey, Tally, TallyKey};
 use bsp_store_memos::{MemoRow, TallyRow};
 use sqlite::Row;
 

@@ -5,8 +5,7 @@ ghost use Rattle.bsp_store_base.specs.Columns.{airline_row, meta_rows, period_ro
 
 use crate::equal::{is_only_row, is_row};
 use crate::listed::{RowOf, are_placed_rows_of};
-use bsp_calendar::{Period, Plan, Rate};
-use bsp_fields::AirlineCode;
+use bsp_rows::{AirlineCode, Period, Plan, Rate};
 use bsp_store_plan::{AirlineRow, MetaRow, PeriodRow, RateRow, TermsRow};
 use sqlite::Row;
 

@@ -9,12 +9,10 @@ use crate::items::StoredItems;
 use crate::listed::RowOf;
 use crate::memos::StoredMemos;
 use crate::plan::Periods;
-use bsp_calendar::Period;
-use bsp_fields::{AgentCode, AirlineCode, DocNumber, Token};
 use bsp_memory_rows::{NoRoom, Tables};
-use bsp_memos::Memo;
-use bsp_rows::{ItemKey, MemoKey, RangeKey};
-use bsp_rules::Item;
+use bsp_rows::{
+    AgentCode, AirlineCode, DocNumber, Item, ItemKey, Memo, MemoKey, Period, RangeKey, Token,
+};
 use bsp_store_callers::{read_agent, read_airline_token, read_range};
 use bsp_store_items::read_item;
 use bsp_store_memos::read_memo;
@@ -111,7 +109,7 @@ impl Puts<ItemKey, Item> for StoredItems {
 }
 
 impl Puts<MemoKey, Memo> for StoredMemos {
-    ghost use Rattle.bsp_memos.specs.Memos.{is_memo};
+    ghost use Rattle.bsp_rows.specs.Memos.{is_memo};
     ghost use Rattle.bsp_rows.specs.Rows.{memo_key};
     ghost use Rattle.bsp_rows.specs.Writes.{with_memo};
     ghost use Rattle.bsp_store_base.specs.Forms.{IsMemoEntry};
@@ -132,7 +130,7 @@ impl Puts<MemoKey, Memo> for StoredMemos {
 /// The periods that are closed.
 impl Puts<usize, Period> for Periods {
     ghost use Rattle.std.specs.Prelude.{IsOk};
-    ghost use Rattle.bsp_calendar.specs.History.Request.{Close};
+    ghost use Rattle.bsp_rows.specs.History.Request.{Close};
     ghost use Rattle.bsp_rows.specs.Writes.{after_request, request_answer};
     ghost use Rattle.bsp_store_base.specs.Forms.{IsPeriod};
 

@@ -5,18 +5,18 @@ use Rattle.std.proofs.lemmas.Bool.{and_parts}
 use Rattle.sqlite_value.specs.declared.value.Value.TheVariants.{Int, Text}
 use Rattle.sqlite_value.specs.Order.{Row, column}
 use Rattle.sqlite.specs.Values.{or_null}
-use Rattle.bsp_fields.specs.CivilDay.{CivilDay}
-use Rattle.bsp_fields.specs.Codes.{check_digit_of}
-use Rattle.bsp_fields.specs.Days.{day_number}
-use Rattle.bsp_fields.proofs.CodeLemmas.{agent_reading-fixed_digits, code_reading-fixed_digits}
-use Rattle.bsp_memos.specs.declared.fields.MemoFields.{MemoFields}
-use Rattle.bsp_memos.specs.declared.kind.MemoKind.{MemoKind}
-use Rattle.bsp_memos.specs.declared.kind.MemoKind.TheVariants.{Debit, Credit}
-use Rattle.bsp_memos.specs.declared.state.MemoState.{MemoState}
-use Rattle.bsp_memos.specs.declared.state.MemoState.TheVariants.{Open, Agreed, Disputed, Upheld, Reduced, Withdrawn}
-use Rattle.bsp_memos.specs.Memos.{amount_fits, billing_fits, is_amount, is_memo, kind_fits}
-use Rattle.bsp_memos.specs.Reasons.{is_reason}
-use Rattle.bsp_memos.specs.Texts.{kind_text, state_text}
+use Rattle.bsp_rows.specs.CivilDay.{CivilDay}
+use Rattle.bsp_rows.specs.Codes.{check_digit_of}
+use Rattle.bsp_rows.specs.Days.{day_number}
+use Rattle.bsp_rows.proofs.CodeLemmas.{agent_reading-fixed_digits, code_reading-fixed_digits}
+use Rattle.bsp_rows.specs.MemoFields.{MemoFields}
+use Rattle.bsp_rows.specs.MemoKind.{MemoKind}
+use Rattle.bsp_rows.specs.MemoKind.TheVariants.{Debit, Credit}
+use Rattle.bsp_rows.specs.MemoState.{MemoState}
+use Rattle.bsp_rows.specs.MemoState.TheVariants.{Open, Agreed, Disputed, Upheld, Reduced, Withdrawn}
+use Rattle.bsp_rows.specs.Memos.{amount_fits, billing_fits, is_amount, is_memo, kind_fits}
+use Rattle.bsp_rows.specs.Reasons.{is_reason}
+use Rattle.bsp_rows.specs.Texts.{kind_text, state_text}
 use Rattle.bsp_rows.specs.declared.keys.MemoKey.{MemoKey}
 use Rattle.bsp_rows.specs.Rows.{memo_key}
 use Rattle.bsp_store_base.specs.Columns.{agent_text, airline_text, number_text, period_text, memo_row}

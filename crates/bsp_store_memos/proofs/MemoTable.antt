@@ -30,12 +30,12 @@ use Rattle.bsp_store_base.proofs.Parts.{wrote}
 use Rattle.bsp_store_base.proofs.Held.{writes}
 use Rattle.bsp_store_base.proofs.Syncing.{rows_added, rows_removed}
 use Rattle.bsp_store_base.proofs.Values.{cast_int, cast_maybe_text, cast_null, cast_same}
-use Rattle.bsp_store_schema.specs.Schema.{our_schema, memo_table, memo_columns}
+use Rattle.bsp_store_base.specs.Schema.{our_schema, memo_table, memo_columns}
 use Rattle.bsp_store_base.specs.Columns.{airline_text, number_text, period_text, code_digits, memo_row}
 use Rattle.bsp_store_base.specs.Content.{Content, form}
 use Rattle.bsp_store_base.proofs.Keys.{code_is, two_columns}
 use Rattle.bsp_store_base.proofs.Writes.{eq, no_work, Becomes, Always, Does, DoesAlways, always, put_in}
-use Rattle.bsp_memos.specs.declared.fields.MemoFields.{MemoFields}
+use Rattle.bsp_rows.specs.MemoFields.{MemoFields}
 use Rattle.bsp_rows.specs.declared.keys.MemoKey.{MemoKey}
 use Rattle.bsp_rows.specs.Rows.{memo_cmp}
 use Rattle.bsp_rows.proofs.KeyOrders.{memo_total, memo_exact}

@@ -5,7 +5,7 @@ use Rattle.std.specs.Cmp.{Equal-is}
 use Rattle.std.specs.Cmp.Lexicographic.{slice_cmp}
 use Rattle.std.specs.FinMap.{nat_cmp-IsAntisymmetric, slice_cmp-IsAntisymmetric}
 use Rattle.std.proofs.lemmas.Map.Text.{is_eq-slice_cmp}
-use Rattle.bsp_memos.specs.Texts.{kind_reading, state_reading}
+use Rattle.bsp_rows.specs.Texts.{kind_reading, state_reading}
 
 other_word : (text word : List ℕ) → IsUtf8 word → (IsUtf8 text → ⊥) → bytes_eq text word ≡ false
 other_word text word fine bad = go (bytes_eq text word) refl

@@ -28,12 +28,12 @@ use Rattle.bsp_store_base.proofs.Parts.{wrote}
 use Rattle.bsp_store_base.proofs.Held.{writes}
 use Rattle.bsp_store_base.proofs.Syncing.{rows_added, rows_removed}
 use Rattle.bsp_store_base.proofs.Values.{cast_int, cast_null, cast_same}
-use Rattle.bsp_store_schema.specs.Schema.{our_schema, tally_table, tally_columns}
+use Rattle.bsp_store_base.specs.Schema.{our_schema, tally_table, tally_columns}
 use Rattle.bsp_store_base.specs.Columns.{agent_text, airline_text, period_text, tally_row}
 use Rattle.bsp_store_base.specs.Content.{Content, form}
 use Rattle.bsp_store_base.proofs.Keys.{code_is, three_columns}
 use Rattle.bsp_store_base.proofs.Writes.{eq, no_work, Becomes, Always, Does, DoesAlways, always, put_in}
-use Rattle.bsp_postings.specs.declared.tally.Tally.{Tally}
+use Rattle.bsp_rows.specs.Tally.{Tally}
 use Rattle.bsp_rows.specs.declared.keys.TallyKey.{TallyKey}
 use Rattle.bsp_rows.specs.Tallies.{tally_cmp}
 use Rattle.bsp_rows.proofs.KeyOrders.{tally_total, tally_exact}

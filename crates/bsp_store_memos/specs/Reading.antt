@@ -3,14 +3,14 @@ use Rattle.std.specs.Prelude.{◌≡◌, ◌^◌, if◌then◌else◌, List, ℕ
 use Rattle.sqlite_value.specs.declared.value.Value.{Value}
 use Rattle.sqlite_value.specs.declared.value.Value.TheVariants.{Text}
 use Rattle.sqlite_value.specs.Order.{Row, column}
-use Rattle.bsp_fields.specs.CivilDay.{CivilDay}
-use Rattle.bsp_memos.specs.declared.fields.MemoFields.{MemoFields}
-use Rattle.bsp_memos.specs.declared.kind.MemoKind.{MemoKind}
-use Rattle.bsp_memos.specs.declared.state.MemoState.{MemoState}
-use Rattle.bsp_memos.specs.Memos.{is_memo}
-use Rattle.bsp_memos.specs.Reasons.{reason_reading}
-use Rattle.bsp_memos.specs.Texts.{kind_reading, state_reading}
-use Rattle.bsp_postings.specs.declared.tally.Tally.{Tally}
+use Rattle.bsp_rows.specs.CivilDay.{CivilDay}
+use Rattle.bsp_rows.specs.MemoFields.{MemoFields}
+use Rattle.bsp_rows.specs.MemoKind.{MemoKind}
+use Rattle.bsp_rows.specs.MemoState.{MemoState}
+use Rattle.bsp_rows.specs.Memos.{is_memo}
+use Rattle.bsp_rows.specs.Reasons.{reason_reading}
+use Rattle.bsp_rows.specs.Texts.{kind_reading, state_reading}
+use Rattle.bsp_rows.specs.Tally.{Tally}
 use Rattle.bsp_rows.specs.declared.keys.MemoKey.{MemoKey}
 use Rattle.bsp_rows.specs.declared.keys.TallyKey.{TallyKey}
 use Rattle.bsp_store_base.specs.Reading.{IsDayIn, agent_in, amount_in, below, code_in, if_there, int_in}

@@ -3,7 +3,7 @@ use Rattle.std.specs.Prelude.{[], ◌∷◌}
 use Rattle.sqlite_value.specs.declared.value.Value.TheVariants.{Int, Text}
 use Rattle.sqlite_value.specs.Order.{Row}
 use Rattle.bsp_store_base.specs.Columns.{count}
-use Rattle.bsp_memos.specs.Texts.{kind_text, state_text}
+use Rattle.bsp_rows.specs.Texts.{kind_text, state_text}
 use Rattle.sqlite.specs.Values.{or_null}
 use Rattle.bsp_store_memos.specs.declared.memos.MemoRow.{MemoRow as WrittenMemo}
 use Rattle.bsp_store_memos.specs.declared.tallies.TallyRow.{TallyRow as WrittenTally}

@@ -2,14 +2,12 @@
 
 ghost use Rattle.std.specs.Prelude.{◌≡◌};
 ghost use Rattle.sqlite_value.specs.Order.{column};
-ghost use Rattle.bsp_fields.specs.CivilDay.{CivilDay};
+ghost use Rattle.bsp_rows.specs.CivilDay.{CivilDay};
 ghost use Rattle.bsp_store_base.specs.Reading.{code_in, if_there};
 ghost use Rattle.bsp_store_memos.specs.Reading.{IsMemoIn, memo_key_in, memo_in, memo_of};
 
 use crate::words::{kind_at, reason_at, state_at};
-use bsp_fields::{Day, PeriodCode};
-use bsp_memos::{Memo, MemoFields};
-use bsp_rows::MemoKey;
+use bsp_rows::{Day, Memo, MemoFields, MemoKey, PeriodCode};
 use bsp_store_base::{agent_at, airline_at, amount_at, day_at, is_null, number_at, period_at};
 use sqlite::Row;
 

@@ -7,15 +7,13 @@ ghost use Rattle.sqlite.specs.State.{HasCleanDisk};
 ghost use Rattle.sqlite.specs.Values.{bound, bound_value, or_null};
 ghost use Rattle.bsp_store_base.specs.Columns.{code_digits, memo_row};
 ghost use Rattle.bsp_store_base.specs.Content.{Content, form};
-ghost use Rattle.bsp_store_schema.specs.Schema.{our_schema};
+ghost use Rattle.bsp_store_base.specs.Schema.{our_schema};
 ghost use Rattle.bsp_store_base.specs.Kept.{Stands, Falls, IsInside, Reads, columns_of, KeepsRows, Spares};
 ghost use Rattle.bsp_store_base.specs.Synced.{with_value};
 ghost use Rattle.bsp_store_memos.specs.Written.{memo_written};
 ghost use Rattle.bsp_store_base.specs.Forms.{IsFormed};
 
-use bsp_fields::PeriodCode;
-use bsp_memos::{Memo, MemoKind, MemoState, Reason};
-use bsp_rows::MemoKey;
+use bsp_rows::{Memo, MemoKey, MemoKind, MemoState, PeriodCode, Reason};
 use bsp_store_base::{agent_digits, airline_digits, number_digits, period_digits};
 use sqlite::{Alter, Connection, Error, Row};
 use sqlite_value::value::ValueRef;

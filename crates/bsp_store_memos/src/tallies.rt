@@ -5,14 +5,13 @@ ghost use Rattle.sqlite.specs.State.{HasCleanDisk};
 ghost use Rattle.sqlite.specs.Values.{bound};
 ghost use Rattle.bsp_store_base.specs.Columns.{tally_row};
 ghost use Rattle.bsp_store_base.specs.Content.{Content, form};
-ghost use Rattle.bsp_store_schema.specs.Schema.{our_schema};
+ghost use Rattle.bsp_store_base.specs.Schema.{our_schema};
 ghost use Rattle.bsp_store_base.specs.Kept.{Stands, Falls, IsInside, Reads, columns_of, KeepsRows, Spares};
 ghost use Rattle.bsp_store_base.specs.Synced.{with_value};
 ghost use Rattle.bsp_store_memos.specs.Written.{tally_written};
 ghost use Rattle.bsp_store_base.specs.Forms.{IsFormed};
 
-use bsp_postings::Tally;
-use bsp_rows::TallyKey;
+use bsp_rows::{Tally, TallyKey};
 use bsp_store_base::{agent_digits, airline_digits, period_digits};
 use sqlite::{Alter, Connection, Error, Row};
 use sqlite_value::value::ValueRef;

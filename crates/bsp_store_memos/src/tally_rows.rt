@@ -5,8 +5,7 @@ ghost use Rattle.sqlite_value.specs.Order.{column};
 ghost use Rattle.bsp_store_base.specs.Reading.{below};
 ghost use Rattle.bsp_store_memos.specs.Reading.{tally_in, tally_key_in, tally_of};
 
-use bsp_postings::Tally;
-use bsp_rows::TallyKey;
+use bsp_rows::{Tally, TallyKey};
 use bsp_store_base::{agent_at, airline_at, below_at, int_at, period_at};
 use sqlite::Row;
 

@@ -2,10 +2,10 @@
 
 ghost use Rattle.std.specs.Prelude.{◌≡◌};
 ghost use Rattle.sqlite_value.specs.Order.{column};
-ghost use Rattle.bsp_memos.specs.Texts.{kind_reading, state_reading};
+ghost use Rattle.bsp_rows.specs.Texts.{kind_reading, state_reading};
 ghost use Rattle.bsp_store_memos.specs.Reading.{kind_in, reason_in, state_in};
 
-use bsp_memos::{MemoKind, MemoState, Reason};
+use bsp_rows::{MemoKind, MemoState, Reason};
 use sqlite::Row;
 use sqlite_value::value::ValueRef;
 use std::str;

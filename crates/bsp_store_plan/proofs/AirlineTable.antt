@@ -20,7 +20,7 @@ use Rattle.bsp_store_base.proofs.Writing.{inserts, deletes}
 use Rattle.bsp_store_base.proofs.Parts.{wrote}
 use Rattle.bsp_store_base.proofs.Held.{writes}
 use Rattle.bsp_store_base.proofs.Values.{cast_int, cast_null, cast_same}
-use Rattle.bsp_store_schema.specs.Schema.{our_schema, airline_table, airline_columns}
+use Rattle.bsp_store_base.specs.Schema.{our_schema, airline_table, airline_columns}
 use Rattle.bsp_store_base.specs.Columns.{airline_row, placed}
 use Rattle.bsp_store_base.specs.Content.{Content, form}
 use Rattle.bsp_store_base.proofs.Writes.{no_work, Does, DoesAlways, always}

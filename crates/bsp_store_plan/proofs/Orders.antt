@@ -5,7 +5,7 @@ use Rattle.sqlite_value.specs.declared.keys.Collation.TheVariants.{Binary}
 use Rattle.sqlite_trees.specs.Tree.{IsAscending}
 use Rattle.sqlite_sql.specs.Term.{col}
 use Rattle.bsp_store_base.proofs.Rising.{IsBefore}
-use Rattle.bsp_calendar.specs.declared.entries.Terms.{Terms}
+use Rattle.bsp_rows.specs.Terms.{Terms}
 use Rattle.bsp_store_base.specs.Columns.{Meta, meta_rows, terms_rows, airline_row, rate_row, period_row, placed}
 use Rattle.bsp_store_base.specs.Content.{Content}
 use Rattle.bsp_store_base.specs.Forms.{IsFormed}

@@ -20,8 +20,8 @@ use Rattle.bsp_store_base.proofs.Writing.{inserts, deletes}
 use Rattle.bsp_store_base.proofs.Parts.{wrote}
 use Rattle.bsp_store_base.proofs.Held.{writes}
 use Rattle.bsp_store_base.proofs.Values.{cast_int, cast_null, cast_same}
-use Rattle.bsp_store_schema.specs.Schema.{our_schema, terms_table, terms_columns}
-use Rattle.bsp_calendar.specs.declared.entries.Terms.{Terms}
+use Rattle.bsp_store_base.specs.Schema.{our_schema, terms_table, terms_columns}
+use Rattle.bsp_rows.specs.Terms.{Terms}
 use Rattle.bsp_store_base.specs.Columns.{terms_row, terms_rows}
 use Rattle.bsp_store_base.specs.Content.{Content, form}
 use Rattle.bsp_store_base.proofs.Writes.{no_work, Does, DoesAlways, always}

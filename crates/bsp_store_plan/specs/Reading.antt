@@ -2,11 +2,11 @@
 use Rattle.std.specs.Prelude.{◌≡◌, ℕ}
 use Rattle.sqlite_value.specs.declared.value.Value.TheVariants.{Int, Text}
 use Rattle.sqlite_value.specs.Order.{Row, column}
-use Rattle.bsp_fields.specs.CivilDay.{CivilDay}
-use Rattle.bsp_fields.specs.Days.{day_number}
-use Rattle.bsp_calendar.specs.declared.entries.Period.{Period}
-use Rattle.bsp_calendar.specs.declared.entries.Rate.{Rate}
-use Rattle.bsp_calendar.specs.declared.entries.Terms.{Terms}
+use Rattle.bsp_rows.specs.CivilDay.{CivilDay}
+use Rattle.bsp_rows.specs.Days.{day_number}
+use Rattle.bsp_rows.specs.Period.{Period}
+use Rattle.bsp_rows.specs.Rate.{Rate}
+use Rattle.bsp_rows.specs.Terms.{Terms}
 use Rattle.bsp_store_base.specs.Columns.{version, count, airline_text, period_text}
 
 -- ---- what the columns of a row say, its place apart

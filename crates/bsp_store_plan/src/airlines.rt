@@ -3,13 +3,13 @@ ghost use Rattle.sqlite.specs.Values.{bound};
 ghost use Rattle.sqlite.specs.Held.{state};
 ghost use Rattle.sqlite.specs.State.{HasCleanDisk};
 ghost use Rattle.bsp_store_base.specs.Kept.{columns_of, Stands, Falls, IsInside, Reads, KeepsRows, Spares};
-ghost use Rattle.bsp_store_schema.specs.Schema.{our_schema};
+ghost use Rattle.bsp_store_base.specs.Schema.{our_schema};
 ghost use Rattle.bsp_store_base.specs.Columns.{airline_row, placed};
 ghost use Rattle.bsp_store_base.specs.Content.{Content, form};
 ghost use Rattle.bsp_store_plan.specs.Values.{airline_values};
 ghost use Rattle.bsp_store_base.specs.Forms.{IsFormed};
 
-use bsp_fields::AirlineCode;
+use bsp_rows::AirlineCode;
 use bsp_store_base::airline_digits;
 use sqlite::{Alter, Connection, Error, Row};
 use sqlite_value::value::ValueRef;

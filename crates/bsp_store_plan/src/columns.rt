@@ -3,13 +3,12 @@
 ghost use Rattle.std.specs.Prelude.{◌≡◌, ◌<◌, ◌^◌, ℕ, List, IfSome, IsTrue};
 ghost use Rattle.sqlite_value.specs.Order.{column};
 ghost use Rattle.sqlite_value.specs.declared.value.Value.TheVariants.{Int, Text};
-ghost use Rattle.bsp_fields.specs.CivilDay.{CivilDay, is_day};
-ghost use Rattle.bsp_fields.specs.Days.{day_number};
-ghost use Rattle.bsp_calendar.specs.Letters.{currency_reading};
+ghost use Rattle.bsp_rows.specs.CivilDay.{CivilDay, is_day};
+ghost use Rattle.bsp_rows.specs.Days.{day_number};
+ghost use Rattle.bsp_rows.specs.Letters.{currency_reading};
 ghost use Rattle.bsp_store_base.specs.Columns.{airline_text, period_text};
 
-use bsp_calendar::Currency;
-use bsp_fields::{AirlineCode, Day, PeriodCode};
+use bsp_rows::{AirlineCode, Currency, Day, PeriodCode};
 use sqlite::Row;
 use sqlite_value::value::ValueRef;
 

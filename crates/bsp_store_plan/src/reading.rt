@@ -2,18 +2,17 @@
 
 ghost use Rattle.std.specs.Prelude.{◌≡◌, ◌<◌, ◌^◌, ℕ, IfSome, IsTrue};
 ghost use Rattle.sqlite_value.specs.Order.{column};
-ghost use Rattle.bsp_fields.specs.CivilDay.{CivilDay, is_day};
-ghost use Rattle.bsp_calendar.specs.declared.entries.Period.{Period as PeriodEntry};
-ghost use Rattle.bsp_calendar.specs.declared.entries.Rate.{Rate as RateEntry};
-ghost use Rattle.bsp_calendar.specs.declared.entries.Terms.{Terms as TermsEntry};
+ghost use Rattle.bsp_rows.specs.CivilDay.{CivilDay, is_day};
+ghost use Rattle.bsp_rows.specs.Period.{Period as PeriodEntry};
+ghost use Rattle.bsp_rows.specs.Rate.{Rate as RateEntry};
+ghost use Rattle.bsp_rows.specs.Terms.{Terms as TermsEntry};
 ghost use Rattle.bsp_store_base.specs.Columns.{airline_text};
 ghost use Rattle.bsp_store_base.specs.Reading.{int_in};
 ghost use Rattle.bsp_store_plan.specs.Reading.{IsMetaRow, IsTermsRow, IsRateRow, IsPeriodRow};
 ghost use Rattle.bsp_store_base.specs.Forms.{AreTerms, IsRate, IsPeriod};
 
 use crate::columns::{airline_at, currency_at, day_at, period_at};
-use bsp_calendar::{Period, Rate, Terms};
-use bsp_fields::{AirlineCode, Day};
+use bsp_rows::{AirlineCode, Day, Period, Rate, Terms};
 use bsp_store_base::{below_at, int_at};
 use sqlite::Row;
 

@@ -1,13 +1,12 @@
 //! The rows of a plan, an agent and a sale, read into memory.
 
 use crate::tables::tables;
-use bsp_calendar::{Currency, Period, Rate, Terms};
 use bsp_fields::{AgentCode, AirlineCode, Amount, Day, PeriodCode, Token};
 use bsp_memory_rows::Tables;
-use bsp_postings::Tally;
-use bsp_ret_records::{Amounts, ReportedDocument, Transaction, TransactionCode};
-use bsp_rows::{ItemKey, TallyKey};
-use bsp_rules::Item;
+use bsp_rows::{
+    Amounts, Currency, Item, ItemKey, Period, Rate, ReportedDocument, Tally, TallyKey, Terms,
+    Transaction, TransactionCode,
+};
 use bsp_store_callers::{all_agents, all_airline_tokens, all_ranges, put_agent};
 use bsp_store_items::{all_items, put_item};
 use bsp_store_load::{StoredRows, are_rows, tables_of};

@@ -1,11 +1,10 @@
 //! The rows of two agents in January 2024: a sale for cash and its CANX, a sale by card, and a memo each.
 
-use bsp_calendar::{Currency, Period, PlanText, Rate, Terms};
-use bsp_fields::{AgentCode, AirlineCode, Amount, Day, DocNumber, PeriodCode};
-use bsp_memos::{Memo, MemoFields, MemoKind, MemoState, Reason};
-use bsp_postings::Tally;
-use bsp_ret_records::{Amounts, CardPayment, ReportedDocument, Tax, Transaction, TransactionCode};
-use bsp_rules::{Item, Range};
+use bsp_rows::{
+    AgentCode, AirlineCode, Amount, Amounts, CardPayment, Currency, Day, DocNumber, Item, Memo,
+    MemoFields, MemoKind, MemoState, Period, PeriodCode, PlanText, Range, Rate, Reason,
+    ReportedDocument, Tally, Tax, Terms, Transaction, TransactionCode,
+};
 use std::alloc::Global;
 
 pub fn agent() -> Option<AgentCode> {

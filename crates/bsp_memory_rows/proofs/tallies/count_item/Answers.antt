@@ -1,5 +1,5 @@
 use Rattle.std.proofs.Common.{◌∷◌}
-use Rattle.bsp_postings.specs.Tallies.{with_item}
+use Rattle.bsp_rows.specs.PostingsTallies.{with_item}
 use Rattle.bsp_rows.specs.Tallies.{added_up, item_tally_key, key_tally}
 use Rattle.bsp_memory_tables.specs.TallyTables.{tally_rows}
 use Rattle.bsp_memory_rows.proofs.TallySteps.{both_ok, item_counted, item_elsewhere, kept}

@@ -1,5 +1,5 @@
 use Rattle.std.proofs.Common.{◌∷◌, refl, sym, ◌∙◌}
-use Rattle.bsp_postings.specs.Tallies.{with_memo}
+use Rattle.bsp_rows.specs.PostingsTallies.{with_memo}
 use Rattle.bsp_rows.specs.Tallies.{added_up, key_tally}
 use Rattle.bsp_memory_tables.specs.TallyTables.{tally_rows}
 use Rattle.bsp_memory_rows.proofs.TallySteps.{both_ok, memo_counted, memo_elsewhere, kept}

@@ -1,5 +1,5 @@
 use Rattle.std.proofs.Common.{◌∷◌, sym}
-use Rattle.bsp_postings.specs.Removal.{without_item}
+use Rattle.bsp_rows.specs.Removal.{without_item}
 use Rattle.bsp_rows.specs.Tallies.{added_up, item_tally_key, key_tally}
 use Rattle.bsp_memory_tables.specs.TallyTables.{tally_rows}
 use Rattle.bsp_memory_rows.proofs.TallySteps.{both_ok, item_discounted, item_elsewhere, kept}

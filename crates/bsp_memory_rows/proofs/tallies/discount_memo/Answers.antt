@@ -1,5 +1,5 @@
 use Rattle.std.proofs.Common.{◌∷◌, refl, sym, ◌∙◌}
-use Rattle.bsp_postings.specs.Removal.{without_memo}
+use Rattle.bsp_rows.specs.Removal.{without_memo}
 use Rattle.bsp_rows.specs.Tallies.{added_up, key_tally}
 use Rattle.bsp_memory_tables.specs.TallyTables.{tally_rows}
 use Rattle.bsp_memory_rows.proofs.TallySteps.{both_ok, memo_discounted, memo_elsewhere, kept}

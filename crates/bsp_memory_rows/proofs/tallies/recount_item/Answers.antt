@@ -1,6 +1,6 @@
 use Rattle.std.proofs.Common.{◌++◌, subst, Option}
 use Rattle.std.specs.Option.{option_to_list}
-use Rattle.bsp_rules.specs.declared.rows.Item.{Item}
+use Rattle.bsp_rows.specs.Item.{Item}
 use Rattle.bsp_memory_tables.specs.TallyTables.{tally_rows}
 use Rattle.bsp_memory_rows.specs.Kept.{AreAddedUp}
 use Rattle.bsp_memory_rows.proofs.TallySteps.{on_ok}

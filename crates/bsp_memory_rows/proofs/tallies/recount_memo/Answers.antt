@@ -1,6 +1,6 @@
 use Rattle.std.proofs.Common.{◌∷◌, ◌++◌, sym, subst, Option}
 use Rattle.std.specs.Option.{option_to_list}
-use Rattle.bsp_memos.specs.declared.fields.MemoFields.{MemoFields}
+use Rattle.bsp_rows.specs.MemoFields.{MemoFields}
 use Rattle.bsp_memory_tables.specs.TallyTables.{tally_rows}
 use Rattle.bsp_memory_rows.specs.Kept.{AreAddedUp}
 use Rattle.bsp_memory_rows.proofs.TallySteps.{on_ok}

@@ -1,6 +1,6 @@
 use Rattle.std.proofs.Common.{refl, map}
 use Rattle.bsp_store_base.proofs.Opening.{all_rows, all_read, all_spares, all_ordered}
-use Rattle.bsp_store_schema.specs.Schema.{our_schema}
+use Rattle.bsp_store_base.specs.Schema.{our_schema}
 use Rattle.bsp_store_callers.proofs.Texts.{all_agents, all_agents_is, agent_names, by_code}
 use Rattle.sqlite.specs.Held.{state}
 use Rattle.std.specs.FinMap.{entries}

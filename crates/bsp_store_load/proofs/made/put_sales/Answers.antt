@@ -1,6 +1,6 @@
 use Rattle.std.proofs.Common.{◌≡◌, true, ap, ◌∙◌}
 use Rattle.bsp_memory_rows.specs.Tables.{rows_of}
-use Rattle.bsp_memos.specs.Memos.{is_memo}
+use Rattle.bsp_rows.specs.Memos.{is_memo}
 use Rattle.bsp_rows.specs.Rows.{memo_key}
 use Rattle.bsp_rows.specs.Writes.{with_memo}
 use Rattle.bsp_store_base.specs.Columns.{memo_row}

@@ -1,8 +1,8 @@
 use Rattle.std.proofs.Common.{◌∷◌, ◌≡◌, ◌<◌, map, length, take, true, false, is_err, ap, ◌∙◌, arith, rules}
-use Rattle.bsp_calendar.specs.History.{IsReached}
-use Rattle.bsp_calendar.specs.History.Request.{Close, SetDay}
-use Rattle.bsp_calendar.specs.Published.{Published}
-use Rattle.bsp_calendar.specs.SoundPlan.{IsSoundPlan}
+use Rattle.bsp_rows.specs.History.{IsReached}
+use Rattle.bsp_rows.specs.History.Request.{Close, SetDay}
+use Rattle.bsp_rows.specs.Published.{Published}
+use Rattle.bsp_rows.specs.SoundPlan.{IsSoundPlan}
 use Rattle.bsp_store_base.specs.Columns.{period_row}
 use Rattle.bsp_store_base.specs.Forms.{IsPeriod}
 use Rattle.bsp_store_load.specs.Stored.{AreRowsOfPlan, IsFormedPlan}

@@ -1,6 +1,6 @@
 use Rattle.std.proofs.Common.{◌≡◌, List, map, take}
 use Rattle.std.specs.List.{AllByRecursion}
-use Rattle.bsp_calendar.specs.declared.entries.Period.{Period}
+use Rattle.bsp_rows.specs.Period.{Period}
 use Rattle.bsp_store_base.specs.Columns.{period_row, placed}
 use Rattle.bsp_store_base.specs.Forms.{IsPeriod}
 use Rattle.bsp_store_load.proofs.published.periods_in.Given as goal

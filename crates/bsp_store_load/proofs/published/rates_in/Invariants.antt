@@ -1,6 +1,6 @@
 use Rattle.std.proofs.Common.{◌≡◌, List, map, take}
 use Rattle.std.specs.List.{AllByRecursion}
-use Rattle.bsp_calendar.specs.declared.entries.Rate.{Rate}
+use Rattle.bsp_rows.specs.Rate.{Rate}
 use Rattle.bsp_store_base.specs.Columns.{rate_row, placed}
 use Rattle.bsp_store_base.specs.Forms.{IsRate}
 use Rattle.bsp_store_load.proofs.published.rates_in.Given as goal

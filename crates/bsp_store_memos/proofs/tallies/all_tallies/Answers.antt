@@ -1,7 +1,7 @@
 use Rattle.std.proofs.Common.{refl, map}
 use Rattle.sqlite.specs.Held.{state}
 use Rattle.bsp_store_base.proofs.Opening.{all_rows, all_read, all_spares, all_ordered}
-use Rattle.bsp_store_schema.specs.Schema.{our_schema}
+use Rattle.bsp_store_base.specs.Schema.{our_schema}
 use Rattle.bsp_store_memos.proofs.TallyTable.{all_text, names, order, all_is}
 use Rattle.std.specs.FinMap.{entries}
 use Rattle.bsp_store_base.specs.Kept.{KeepsRows}

@@ -4,7 +4,7 @@ use Rattle.sqlite_value.specs.Keys.{ascending}
 use Rattle.sqlite_value.specs.declared.keys.Collation.TheVariants.{Binary}
 use Rattle.sqlite.specs.Held.{state}
 use Rattle.bsp_store_base.proofs.Opening.{all_rows, all_read, all_spares, all_ordered}
-use Rattle.bsp_store_schema.specs.Schema.{our_schema}
+use Rattle.bsp_store_base.specs.Schema.{our_schema}
 use Rattle.bsp_store_plan.proofs.AirlineTable.{all_text, names, all_is}
 use Rattle.bsp_store_base.specs.Kept.{KeepsRows}
 use Rattle.bsp_store_base.specs.Columns.{airline_row, placed}

@@ -1,7 +1,7 @@
 use Rattle.std.proofs.Common.{refl, []}
 use Rattle.sqlite.specs.Held.{state}
 use Rattle.bsp_store_base.proofs.Opening.{all_rows, all_read, all_spares, all_ordered}
-use Rattle.bsp_store_schema.specs.Schema.{our_schema}
+use Rattle.bsp_store_base.specs.Schema.{our_schema}
 use Rattle.bsp_store_plan.proofs.MetaTable.{all_text, names, all_is}
 use Rattle.bsp_store_base.specs.Kept.{KeepsRows}
 use Rattle.bsp_store_base.specs.Columns.{meta_rows}

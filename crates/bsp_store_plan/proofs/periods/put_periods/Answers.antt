@@ -1,6 +1,6 @@
 use Rattle.std.proofs.Common.{List, take, subst}
 use Rattle.std.proofs.lemmas.List.{take_all}
-use Rattle.bsp_calendar.specs.declared.entries.Period.{Period}
+use Rattle.bsp_rows.specs.Period.{Period}
 use Rattle.bsp_store_base.specs.Kept.{Stands, IsInside}
 use Rattle.bsp_store_base.specs.Content.{form}
 use Rattle.bsp_store_base.proofs.Writes.{on_err, second_fails}

@@ -1,5 +1,5 @@
 use Rattle.std.proofs.Common.{Option, refl, sym, subst}
-use Rattle.bsp_calendar.specs.declared.entries.Terms.{Terms}
+use Rattle.bsp_rows.specs.Terms.{Terms}
 use Rattle.bsp_store_base.specs.Kept.{Stands, IsInside}
 use Rattle.bsp_store_base.specs.Content.{form}
 use Rattle.bsp_store_base.proofs.Writes.{on_err, second_fails}

@@ -1,7 +1,7 @@
 use Rattle.std.proofs.Common.{ap, ◌∙◌}
-use Rattle.bsp_calendar.specs.Published.{is_closed}
-use Rattle.bsp_calendar.specs.History.Request.{Close}
-use Rattle.bsp_calendar.specs.Requests.{closing}
+use Rattle.bsp_rows.specs.Published.{is_closed}
+use Rattle.bsp_rows.specs.History.Request.{Close}
+use Rattle.bsp_rows.specs.Requests.{closing}
 use Rattle.bsp_memory_rows.specs.Plans.{plan_answer, plan_after}
 use Rattle.bsp_memory_rows.proofs.PlanLemmas.{answered}
 use Rattle.bsp_memory_rows.proofs.planned.Planned.close.Goals as goal

@@ -1,7 +1,7 @@
 use Rattle.std.proofs.Common.{ap, ◌∙◌}
-use Rattle.bsp_calendar.specs.History.Request.{SetDay}
-use Rattle.bsp_calendar.specs.DayOrder.{same_day}
-use Rattle.bsp_calendar.specs.Requests.{on_day}
+use Rattle.bsp_rows.specs.History.Request.{SetDay}
+use Rattle.bsp_rows.specs.DayOrder.{same_day}
+use Rattle.bsp_rows.specs.Requests.{on_day}
 use Rattle.bsp_memory_rows.specs.Plans.{plan_answer, plan_after}
 use Rattle.bsp_memory_rows.proofs.PlanLemmas.{answered}
 use Rattle.bsp_memory_rows.proofs.planned.Planned.set_day.Goals as goal

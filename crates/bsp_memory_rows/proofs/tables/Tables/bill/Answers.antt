@@ -1,7 +1,7 @@
 use Rattle.std.proofs.Common.{◌≡◌, ℕ, Bool, true, false, sym, ap, ◌∙◌, Option, Some, None, if◌then◌else◌}
-use Rattle.bsp_memos.specs.declared.fields.MemoFields.{MemoFields}
-use Rattle.bsp_memos.specs.Billing.{billed_in}
-use Rattle.bsp_memos.specs.Memos.{is_memo}
+use Rattle.bsp_rows.specs.MemoFields.{MemoFields}
+use Rattle.bsp_rows.specs.Billing.{billed_in}
+use Rattle.bsp_rows.specs.Memos.{is_memo}
 use Rattle.bsp_rows.specs.declared.keys.MemoKey.{MemoKey}
 use Rattle.bsp_rows.specs.Rows.{Rows}
 use Rattle.bsp_rows.specs.Writes.{changed_to}

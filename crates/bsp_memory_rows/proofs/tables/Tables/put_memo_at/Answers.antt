@@ -1,7 +1,7 @@
 use Rattle.std.proofs.Common.{◌++◌, refl, sym, subst, Option}
 use Rattle.std.specs.FinMap.{insert}
 use Rattle.std.specs.Option.{option_to_list}
-use Rattle.bsp_memos.specs.declared.fields.MemoFields.{MemoFields}
+use Rattle.bsp_rows.specs.MemoFields.{MemoFields}
 use Rattle.bsp_memory_tables.specs.ItemTables.{item_rows}
 use Rattle.bsp_memory_tables.specs.MemoTables.{memo_rows}
 use Rattle.bsp_memory_tables.specs.TallyTables.{tally_rows}

@@ -7,7 +7,7 @@ use Rattle.bsp_rows.specs.declared.questions.Tallies.TheVariants.{OfAgent, OfAge
 use Rattle.bsp_memory_tables.specs.ItemTables.{item_rows}
 use Rattle.bsp_memory_tables.specs.MemoTables.{memo_rows}
 use Rattle.bsp_rows.specs.Tallies.{is_tally_asked}
-use Rattle.bsp_postings.specs.declared.tally.Tally.{Tally}
+use Rattle.bsp_rows.specs.Tally.{Tally}
 use Rattle.bsp_memory_rows.specs.Lookups.{has_rows, is_asked}
 use Rattle.bsp_memory_tables.specs.TallyTables.{tally_rows}
 use Rattle.bsp_memory_rows.proofs.AskedLemmas.{asked_are, of_window}

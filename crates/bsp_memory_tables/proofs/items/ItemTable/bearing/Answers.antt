@@ -4,9 +4,9 @@ use Rattle.bsp_maps.specs.Undo.{content}
 use Rattle.bsp_maps.specs.Windows.{values_in}
 use Rattle.bsp_maps.specs.Picks.{with_keys}
 use Rattle.bsp_maps.proofs.PickLemmas.{all_found, if_ok}
-use Rattle.bsp_rules.specs.Selected.{numbers_of, selected, shares}
-use Rattle.bsp_rules.specs.declared.rows.Item.{Item}
-use Rattle.bsp_ret_records.specs.declared.transactions.Transaction.{Transaction}
+use Rattle.bsp_rows.specs.Selected.{numbers_of, selected, shares}
+use Rattle.bsp_rows.specs.Item.{Item}
+use Rattle.bsp_rows.specs.Transaction.{Transaction}
 use Rattle.std.specs.List.{filter}
 use Rattle.bsp_rows.specs.declared.keys.ItemKey.{ItemKey}
 use Rattle.bsp_rows.specs.Rows.{item_cmp}

@@ -3,7 +3,7 @@ use Rattle.std.specs.FinMap.{empty, entries, values}
 use Rattle.bsp_maps.specs.Picks.{with_keys}
 use Rattle.bsp_maps.specs.Undo.{content}
 use Rattle.bsp_maps.proofs.PickLemmas.{all_found, if_ok}
-use Rattle.bsp_rules.specs.declared.rows.Item.{Item}
+use Rattle.bsp_rows.specs.Item.{Item}
 use Rattle.bsp_maps.specs.Indexes.{IsLeast, keys_at, members}
 use Rattle.bsp_maps.proofs.IndexLemmas.{index_among, passing_values}
 use Rattle.bsp_rows.specs.declared.keys.ItemKey.{ItemKey}

@@ -4,7 +4,7 @@ use Rattle.bsp_maps.specs.Undo.{content}
 use Rattle.bsp_maps.specs.Indexes.{found_place, members}
 use Rattle.bsp_maps.proofs.EntryLemmas.{then_ok}
 use Rattle.bsp_maps.proofs.IndexLemmas.{index_written}
-use Rattle.bsp_rules.specs.Selected.{numbers_of}
+use Rattle.bsp_rows.specs.Selected.{numbers_of}
 use Rattle.bsp_rows.specs.Rows.{item_cmp}
 use Rattle.bsp_rows.proofs.KeyOrders.{item_exact, item_total}
 use Rattle.bsp_memory_tables.specs.Numbers.{number_cmp, with_numbers}
