@@ -10,6 +10,7 @@ import http.client
 import os
 import pathlib
 import select
+import signal
 import socket
 import subprocess
 import sys
@@ -54,18 +55,18 @@ def finish(line):
 
 
 class Office:
-    """The program as it serves on a free port of loopback. Any further words come behind those of the port and the token."""
+    """The program as it serves on a free port of loopback. Further words come last; with no token file they have the token."""
 
     def __init__(self, path, token_file, *words, seconds=30):
         self.port, self.seconds = free_port(), seconds
-        words = ["serve", "--port", self.port, "--token-file", token_file, *words]
+        self.peer = http.client.HTTPConnection("127.0.0.1", self.port, timeout=seconds)
+        words = ["serve", "--port", self.port, *(["--token-file", token_file] if token_file else []), *words]
         self.process = subprocess.Popen([path, *map(str, words)], stderr=subprocess.PIPE, text=True)
         readable, _, _ = select.select([self.process.stderr], [], [], seconds)
         line = self.process.stderr.readline() if readable else "nothing"
         if line != f"bsp_office: listening on 127.0.0.1:{self.port}\n":
             self.kill()
             raise RuntimeError(f"{' '.join(map(str, words))}: it does not listen, and printed {line!r}")
-        self.peer = http.client.HTTPConnection("127.0.0.1", self.port, timeout=seconds)
 
     def __enter__(self):
         return self
@@ -96,12 +97,11 @@ class Office:
 
     def end(self):
         """Ends it by SIGTERM, unless it has ended."""
+        self.kill(signal.SIGTERM)
+
+    def kill(self, by=signal.SIGKILL):
+        """Ends it by SIGKILL, or by another signal."""
         self.close()
-        self.process.terminate()
+        self.process.send_signal(by)
         self.process.wait()
         self.process.stderr.close()
-
-    def kill(self):
-        """Ends it by SIGKILL."""
-        self.process.kill()
-        self.process.wait()
