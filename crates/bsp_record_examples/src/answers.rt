@@ -6,7 +6,7 @@ use crate::page::Page;
 use crate::{codes, days, explanations, fields, hot, records, ret, transactions};
 
 /// Makes the call of a word.
-fn answer(page: Page<'_>, word: &str, rest: &str, out: &mut String) -> Result<(), Fault> {
+fn answer(page: &Page<'_>, word: &str, rest: &str, out: &mut String) -> Result<(), Fault> {
     if let Some(answered) = fields::answer(page, word, rest, out) {
         return answered;
     }
@@ -35,7 +35,7 @@ fn answer(page: Page<'_>, word: &str, rest: &str, out: &mut String) -> Result<()
 }
 
 /// Writes a line, with its answer where it is a case.
-fn write_line(page: Page<'_>, line: &str, out: &mut String) -> Result<(), Fault> {
+fn write_line(page: &Page<'_>, line: &str, out: &mut String) -> Result<(), Fault> {
     out.push_str(line)?;
     if let Line::Case(word, rest) = Line::of(line) {
         out.push_str(" = ")?;
@@ -46,8 +46,8 @@ fn write_line(page: Page<'_>, line: &str, out: &mut String) -> Result<(), Fault>
 }
 
 /// Writes the page with its answers, up to the first line that is no case.
-pub fn answer_page(page: Page<'_>, out: &mut String) -> Result<(), Fault> {
-    for line in page.lines() {
+pub fn answer_page(page: &Page<'_>, text: &str, out: &mut String) -> Result<(), Fault> {
+    for line in text.lines() {
         write_line(page, line, out)?;
     }
     Ok(())

@@ -69,7 +69,7 @@ fn hot_fault(text: &str, out: &mut String) -> Result<(), Fault> {
 }
 
 /// Gives the reason of a fault of a RET file from the record alone.
-fn reason(page: Page<'_>, text: &str, out: &mut String) -> Result<(), Fault> {
+fn reason(page: &Page<'_>, text: &str, out: &mut String) -> Result<(), Fault> {
     let (fault, parts) = first_fault(text)?;
     let text = text_of(page, parts)?;
     let reason = ret_reason(fault, line_of(&text)?, BEFORE);
@@ -82,14 +82,14 @@ fn reason(page: Page<'_>, text: &str, out: &mut String) -> Result<(), Fault> {
 }
 
 /// Explains a fault of a RET file.
-fn explain(page: Page<'_>, text: &str, out: &mut String) -> Result<(), Fault> {
+fn explain(page: &Page<'_>, text: &str, out: &mut String) -> Result<(), Fault> {
     let (fault, parts) = first_fault(text)?;
     let text = text_of(page, parts)?;
     write_explanation(out, explain_ret(&text, fault))
 }
 
 /// Explains the fault that the reader of RET files finds.
-fn explain_first(page: Page<'_>, parts: &str, out: &mut String) -> Result<(), Fault> {
+fn explain_first(page: &Page<'_>, parts: &str, out: &mut String) -> Result<(), Fault> {
     let text = text_of(page, parts)?;
     match read_ret(page.alloc(), &text) {
         Ok(_) => out.push_str("no fault")?,
@@ -99,7 +99,7 @@ fn explain_first(page: Page<'_>, parts: &str, out: &mut String) -> Result<(), Fa
 }
 
 /// Gives the reason of a fault of a HOT file from the record with that number alone.
-fn reason_of_hot(page: Page<'_>, text: &str, out: &mut String) -> Result<(), Fault> {
+fn reason_of_hot(page: &Page<'_>, text: &str, out: &mut String) -> Result<(), Fault> {
     let (record, parts) = first_count(text)?;
     let text = text_of(page, parts)?;
     let line = line_of(&text)?;
@@ -113,7 +113,7 @@ fn reason_of_hot(page: Page<'_>, text: &str, out: &mut String) -> Result<(), Fau
 }
 
 /// Explains a fault of a HOT file.
-fn explain_of_hot(page: Page<'_>, text: &str, out: &mut String) -> Result<(), Fault> {
+fn explain_of_hot(page: &Page<'_>, text: &str, out: &mut String) -> Result<(), Fault> {
     let (number, parts) = first_count(text)?;
     let text = text_of(page, parts)?;
     write_explanation(out, explain_hot(&text, RecordFault { number }))
@@ -121,7 +121,7 @@ fn explain_of_hot(page: Page<'_>, text: &str, out: &mut String) -> Result<(), Fa
 
 /// Makes the call of a word, where it is one of these.
 pub fn answer(
-    page: Page<'_>,
+    page: &Page<'_>,
     word: &str,
     rest: &str,
     out: &mut String,

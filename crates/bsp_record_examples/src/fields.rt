@@ -77,7 +77,7 @@ fn no_room(out: &mut String) -> Result<(), Fault> {
 }
 
 /// Writes minor units as money.
-fn money(page: Page<'_>, text: &str, out: &mut String) -> Result<(), Fault> {
+fn money(page: &Page<'_>, text: &str, out: &mut String) -> Result<(), Fault> {
     match write_money(page.alloc(), i128::from(number(text)?)) {
         Ok(money) => out.push_str(money.as_str())?,
         Err(NoRoom) => return Err(Fault::Memory),
@@ -99,7 +99,7 @@ fn tax(text: &str, out: &mut String) -> Result<(), Fault> {
 
 /// Makes the call of a word, where it is one of these.
 pub fn answer(
-    page: Page<'_>,
+    page: &Page<'_>,
     word: &str,
     rest: &str,
     out: &mut String,

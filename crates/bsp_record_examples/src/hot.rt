@@ -7,7 +7,7 @@ use crate::texts::text_of;
 use bsp_hot_check::{HotTotals, check_hot};
 
 /// Checks a text.
-fn hot(page: Page<'_>, parts: &str, out: &mut String) -> Result<(), Fault> {
+fn hot(page: &Page<'_>, parts: &str, out: &mut String) -> Result<(), Fault> {
     let text = text_of(page, parts)?;
     match check_hot(&text) {
         Ok(totals) => {
@@ -25,7 +25,7 @@ fn hot(page: Page<'_>, parts: &str, out: &mut String) -> Result<(), Fault> {
 
 /// Makes the call of a word, where it is one of these.
 pub fn answer(
-    page: Page<'_>,
+    page: &Page<'_>,
     word: &str,
     rest: &str,
     out: &mut String,

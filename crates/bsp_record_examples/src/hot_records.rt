@@ -51,7 +51,7 @@ pub fn codes(out: &mut String) -> Result<(), Fault> {
 }
 
 /// Reads a record with that sequence number.
-pub fn record(page: Page<'_>, text: &str, out: &mut String) -> Result<(), Fault> {
+pub fn record(page: &Page<'_>, text: &str, out: &mut String) -> Result<(), Fault> {
     let (number, parts) = first_count(text)?;
     let text = text_of(page, parts)?;
     let line = line_of(&text)?;

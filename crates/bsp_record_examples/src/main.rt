@@ -32,9 +32,9 @@ use std::process::ExitCode;
 /// Reads the page and writes it with its answers, up to the first line that is no case.
 fn run(rt: &HostRuntime) -> Result<(), Fault> {
     let text = io::read_to_string(rt.alloc(), rt.stdin())?;
-    let page = Page::new(rt.alloc(), text.as_str());
+    let page = Page::of(rt.alloc(), text.as_str())?;
     let mut out = String::new(rt.alloc());
-    let answered = answer_page(page, &mut out);
+    let answered = answer_page(&page, text.as_str(), &mut out);
     rt.print(out.as_str())?;
     answered
 }

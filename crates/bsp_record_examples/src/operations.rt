@@ -58,7 +58,7 @@ fn push_quoted(quoted: &str, text: &mut Vec<u8>) -> Result<(), Fault> {
 }
 
 /// Appends files and records.
-fn append(page: Page<'_>, names: &str, text: &mut Vec<u8>) -> Result<(), Fault> {
+fn append(page: &Page<'_>, names: &str, text: &mut Vec<u8>) -> Result<(), Fault> {
     for name in names.split_whitespace() {
         page.push_named(name, text)?;
     }
@@ -66,7 +66,7 @@ fn append(page: Page<'_>, names: &str, text: &mut Vec<u8>) -> Result<(), Fault> 
 }
 
 /// Puts CR before each LF.
-fn end_by_crlf(page: Page<'_>, text: &mut Vec<u8>) -> Result<(), Fault> {
+fn end_by_crlf(page: &Page<'_>, text: &mut Vec<u8>) -> Result<(), Fault> {
     let before = mem::replace(text, Vec::new(page.alloc()));
     for character in &before {
         if *character == b'\n' {
@@ -87,7 +87,7 @@ fn number(text: &mut [u8]) {
 }
 
 /// Puts characters into the last record.
-fn put(page: Page<'_>, text: &mut Vec<u8>, column: usize, quoted: &str) -> Result<(), Fault> {
+fn put(page: &Page<'_>, text: &mut Vec<u8>, column: usize, quoted: &str) -> Result<(), Fault> {
     let mut characters = Vec::new(page.alloc());
     push_quoted(quoted, &mut characters)?;
     let begun = text.len().saturating_sub(RECORD);
@@ -97,7 +97,7 @@ fn put(page: Page<'_>, text: &mut Vec<u8>, column: usize, quoted: &str) -> Resul
 }
 
 /// Puts a record in the place of another.
-fn replace(page: Page<'_>, text: &mut Vec<u8>, number: usize, record: &str) -> Result<(), Fault> {
+fn replace(page: &Page<'_>, text: &mut Vec<u8>, number: usize, record: &str) -> Result<(), Fault> {
     let mut characters = Vec::new(page.alloc());
     push_record(record, &mut characters)?;
     let place = number.saturating_sub(1).saturating_mul(RECORD);
@@ -130,7 +130,7 @@ impl<'a> Operation<'a> {
     }
 
     /// Does it to a text.
-    pub fn apply(self, page: Page<'_>, text: &mut Vec<u8>) -> Result<(), Fault> {
+    pub fn apply(self, page: &Page<'_>, text: &mut Vec<u8>) -> Result<(), Fault> {
         match self {
             Operation::Append(names) => append(page, names, text),
             Operation::LineEnds => end_by_crlf(page, text),

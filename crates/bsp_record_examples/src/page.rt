@@ -1,51 +1,54 @@
-//! The page, and its files and records by their names.
+//! The files and records of a page, by their names.
 
 use crate::fault::Fault;
 use crate::lines::Line;
 use crate::notation::push_record;
 use std::alloc::Global;
-use std::str::Lines;
 
-/// The page that is answered.
+/// A record of a page.
 #[derive(Clone, Copy)]
-pub struct Page<'a> {
-    alloc: Global,
-    text: &'a str,
+struct Entry<'a> {
+    /// The name of its file.
+    file: &'a str,
+    /// Its own name, or an empty one.
+    name: &'a str,
+    /// It in the notation of the page.
+    record: &'a str,
 }
 
-/// The record of a line, where it is of that name or in a file of that name.
-fn record_of<'a>(line: &'a str, name: &str, is_inside: &mut bool) -> Option<&'a str> {
-    match Line::of(line) {
-        Line::File(file) => *is_inside = file == name,
-        Line::Record(own, record) if *is_inside || own == name => return Some(record),
-        _ => {}
-    }
-    None
+/// The records of a page.
+#[derive(Drop)]
+pub struct Page<'a> {
+    alloc: Global,
+    entries: Vec<Entry<'a>>,
 }
 
 impl<'a> Page<'a> {
-    /// The page of that text.
-    pub fn new(alloc: Global, text: &'a str) -> Page<'a> {
-        Page { alloc, text }
+    /// The records of the page of that text.
+    pub fn of(alloc: Global, text: &'a str) -> Result<Page<'a>, Fault> {
+        let mut entries = Vec::new(alloc);
+        let mut file = "";
+        for line in text.lines() {
+            match Line::of(line) {
+                Line::File(name) => file = name,
+                Line::Record(name, record) => entries.push(Entry { file, name, record })?,
+                Line::Remark | Line::Case(_, _) => {}
+            }
+        }
+        Ok(Page { alloc, entries })
     }
 
     /// What memory is taken from.
-    pub fn alloc(self) -> Global {
+    pub fn alloc(&self) -> Global {
         self.alloc
     }
 
-    /// The lines of the page.
-    pub fn lines(self) -> Lines<'a> {
-        self.text.lines()
-    }
-
     /// Appends the record or the file of that name.
-    pub fn push_named(self, name: &str, text: &mut Vec<u8>) -> Result<(), Fault> {
+    pub fn push_named(&self, name: &str, text: &mut Vec<u8>) -> Result<(), Fault> {
         let before = text.len();
-        let mut is_inside = false;
-        for line in self.text.lines() {
-            if let Some(record) = record_of(line, name, &mut is_inside) {
-                push_record(record, text)?;
+        for entry in &self.entries {
+            if entry.file == name || entry.name == name {
+                push_record(entry.record, text)?;
             }
         }
         if text.len() == before {

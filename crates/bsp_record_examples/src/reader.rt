@@ -50,7 +50,7 @@ fn write_file(reader: &RetReader, out: &mut String) -> Result<(), Fault> {
 
 /// Makes a call, and writes what it gave.
 fn take(
-    page: Page<'_>,
+    page: &Page<'_>,
     step: Step<'_>,
     reader: &mut RetReader,
     out: &mut String,
@@ -66,7 +66,7 @@ fn take(
 }
 
 /// Makes the calls of a reader; `; ` is between them.
-pub fn calls(page: Page<'_>, steps: &str, out: &mut String) -> Result<(), Fault> {
+pub fn calls(page: &Page<'_>, steps: &str, out: &mut String) -> Result<(), Fault> {
     let mut reader = RetReader::new(page.alloc());
     let mut between = "";
     for step in steps.split("; ") {

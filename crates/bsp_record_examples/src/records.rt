@@ -8,13 +8,13 @@ use bsp_records::{first_record, is_wide, taxes_fit};
 use bsp_ret_records::{amounts_fit, form_of, header_fits, related_fits, sale_code, trailer_fits};
 
 /// Looks for the first record of a text.
-fn first(page: Page<'_>, parts: &str, out: &mut String) -> Result<(), Fault> {
+fn first(page: &Page<'_>, parts: &str, out: &mut String) -> Result<(), Fault> {
     let text = text_of(page, parts)?;
     if text.is_empty() {
         return Err(Fault::Record);
     }
     match first_record(&text) {
-        Some((_, rest)) => write!(out, "a record, {} bytes after it", rest.len())?,
+        Some((_, rest)) => write!(out, "a record, {} more", rest.len())?,
         None => write!(out, "none")?,
     }
     Ok(())
@@ -36,7 +36,7 @@ fn fits(kind: &str, line: &[u8]) -> Result<bool, Fault> {
 }
 
 /// Tests the fields of a record.
-fn fit(page: Page<'_>, text: &str, out: &mut String) -> Result<(), Fault> {
+fn fit(page: &Page<'_>, text: &str, out: &mut String) -> Result<(), Fault> {
     let (kind, parts) = first_word(text);
     let text = text_of(page, parts)?;
     let fits = fits(kind, line_of(&text)?)?;
@@ -45,7 +45,7 @@ fn fit(page: Page<'_>, text: &str, out: &mut String) -> Result<(), Fault> {
 }
 
 /// Reads the code of a record 2, or the form of a record 8.
-fn code(page: Page<'_>, text: &str, out: &mut String) -> Result<(), Fault> {
+fn code(page: &Page<'_>, text: &str, out: &mut String) -> Result<(), Fault> {
     let (kind, parts) = first_word(text);
     let text = text_of(page, parts)?;
     let line = line_of(&text)?;
@@ -61,7 +61,7 @@ fn code(page: Page<'_>, text: &str, out: &mut String) -> Result<(), Fault> {
 
 /// Makes the call of a word, where it is one of these.
 pub fn answer(
-    page: Page<'_>,
+    page: &Page<'_>,
     word: &str,
     rest: &str,
     out: &mut String,

@@ -54,8 +54,9 @@ fn write_range(out: &mut String, first: usize, last: usize, outcome: Outcome) ->
 }
 
 /// Reads a text at each place, and writes the ranges of places with one outcome.
-fn ranges(page: Page<'_>, way: Way, parts: &str, out: &mut String) -> Result<(), Fault> {
+fn ranges(page: &Page<'_>, way: Way, parts: &str, out: &mut String) -> Result<(), Fault> {
     let text = text_of(page, parts)?;
+    write!(out, "{} texts", text.len().saturating_add(1))?;
     let mut first = 0;
     let mut last = 0;
     let mut current = read_at(page.alloc(), way, &text, 0);
@@ -72,13 +73,13 @@ fn ranges(page: Page<'_>, way: Way, parts: &str, out: &mut String) -> Result<(),
 }
 
 /// Reads a text.
-fn ret(page: Page<'_>, parts: &str, out: &mut String) -> Result<(), Fault> {
+fn ret(page: &Page<'_>, parts: &str, out: &mut String) -> Result<(), Fault> {
     let text = text_of(page, parts)?;
     write_outcome(out, read_whole(page.alloc(), &text))
 }
 
 /// Feeds a text byte by byte.
-fn bytes(page: Page<'_>, parts: &str, out: &mut String) -> Result<(), Fault> {
+fn bytes(page: &Page<'_>, parts: &str, out: &mut String) -> Result<(), Fault> {
     let text = text_of(page, parts)?;
     write_outcome(out, read_bytes(page.alloc(), &text))
 }
@@ -95,7 +96,7 @@ fn written(alloc: Global, text: &[u8]) -> Result<Vec<u8>, Fault> {
 }
 
 /// Reads a text and writes it; `; ` is before the text that this has to be.
-fn write(page: Page<'_>, texts: &str, out: &mut String) -> Result<(), Fault> {
+fn write(page: &Page<'_>, texts: &str, out: &mut String) -> Result<(), Fault> {
     let Some((own, expected)) = texts.split_once("; ") else {
         return Err(Fault::File);
     };
@@ -110,7 +111,7 @@ fn write(page: Page<'_>, texts: &str, out: &mut String) -> Result<(), Fault> {
 
 /// Makes the call of a word, where it is one of these.
 pub fn answer(
-    page: Page<'_>,
+    page: &Page<'_>,
     word: &str,
     rest: &str,
     out: &mut String,

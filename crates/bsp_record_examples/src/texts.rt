@@ -6,7 +6,7 @@ use crate::page::Page;
 use bsp_records::first_line;
 
 /// The text that parts make one after another; a comma and a space are between them.
-pub fn text_of(page: Page<'_>, parts: &str) -> Result<Vec<u8>, Fault> {
+pub fn text_of(page: &Page<'_>, parts: &str) -> Result<Vec<u8>, Fault> {
     let mut text = Vec::new(page.alloc());
     for part in parts.split(", ") {
         let operation = Operation::of(part)?;

@@ -122,7 +122,7 @@ fn write_values(out: &mut String, transaction: &Transaction) -> Result<(), Fault
 }
 
 /// The first transaction of a file.
-fn first_transaction(page: Page<'_>, parts: &str) -> Result<Transaction, Fault> {
+fn first_transaction(page: &Page<'_>, parts: &str) -> Result<Transaction, Fault> {
     let text = text_of(page, parts)?;
     let Ok(file) = read_ret(page.alloc(), &text) else {
         return Err(Fault::File);
@@ -134,19 +134,19 @@ fn first_transaction(page: Page<'_>, parts: &str) -> Result<Transaction, Fault> 
 }
 
 /// Shows the values of a transaction.
-fn values(page: Page<'_>, parts: &str, out: &mut String) -> Result<(), Fault> {
+fn values(page: &Page<'_>, parts: &str, out: &mut String) -> Result<(), Fault> {
     write_values(out, &first_transaction(page, parts)?)
 }
 
 /// Whether the values of a transaction are those of a group.
-fn group(page: Page<'_>, parts: &str, out: &mut String) -> Result<(), Fault> {
+fn group(page: &Page<'_>, parts: &str, out: &mut String) -> Result<(), Fault> {
     let found = first_transaction(page, parts)?;
     out.push_str(if is_group(&found) { "yes" } else { "no" })?;
     Ok(())
 }
 
 /// The same with this amount as its record 8 with EX.
-fn group_with_exchange(page: Page<'_>, text: &str, out: &mut String) -> Result<(), Fault> {
+fn group_with_exchange(page: &Page<'_>, text: &str, out: &mut String) -> Result<(), Fault> {
     let (units, parts) = first_word(text);
     let Ok(amount) = Amount::new(number(units)?) else {
         return Err(Fault::Field);
@@ -169,7 +169,7 @@ fn first_sale(alloc: Global, text: &[u8]) -> Result<PaidSale, Fault> {
 }
 
 /// Shows a record 2 and what its transaction pays.
-fn sale(page: Page<'_>, parts: &str, out: &mut String) -> Result<(), Fault> {
+fn sale(page: &Page<'_>, parts: &str, out: &mut String) -> Result<(), Fault> {
     let text = text_of(page, parts)?;
     let found = first_sale(page.alloc(), &text)?;
     write_sale(out, found.sale)?;
@@ -179,7 +179,7 @@ fn sale(page: Page<'_>, parts: &str, out: &mut String) -> Result<(), Fault> {
 
 /// Makes the call of a word, where it is one of these.
 pub fn answer(
-    page: Page<'_>,
+    page: &Page<'_>,
     word: &str,
     rest: &str,
     out: &mut String,
