@@ -248,7 +248,7 @@ def ask(it, entry):
 
 
 def replies(words, entries, is_killed):
-    """The entries with their replies. Where the office fails, its words are the last reply."""
+    """The entries with their replies. Where there is none, what failed is the last reply."""
     it = None
     for entry in entries:
         try:
@@ -319,7 +319,7 @@ def checked(files):
         except Mistake as mistake:
             mistakes.append(str(mistake))
     if mistakes:
-        sys.exit("\n".join(mistakes))
+        sys.exit("\n".join(dict.fromkeys(mistakes)))
     return jobs
 
 

@@ -1,4 +1,4 @@
-# A memo that is agreed to is billed in the next close, and no later one.
+# A memo that is agreed to is billed in the next close.
 # after: opening/plan.hurl opening/callers.hurl
 
 POST {{base}}/airlines/125/memos
