@@ -4,7 +4,7 @@ the same behind nginx, with the configuration that docs/HTTP.md shows, where the
 `run` where they cannot serve, and compares the statuses and the lines on standard error.
 Exits with the number of cases that differ.
 
-usage: .ci/clients [PROGRAM]   (with no PROGRAM it takes the one that is built)
+usage: .ci/clients.py [PROGRAM]   (with no PROGRAM it takes the one that is built)
 """
 import http.client
 import os
@@ -12,136 +12,98 @@ import re
 import shutil
 import socket
 import subprocess
-import sys
 import tempfile
 import time
 
-TOP = os.path.dirname(os.path.dirname(os.path.abspath(__file__)))
-PROGRAM = os.path.abspath(sys.argv[1]) if len(sys.argv) > 1 else f"{TOP}/crates/bsp_office/out/bsp_office"
+import office
+from office import TOP, expect
+
+PROGRAM = office.program()
 SALE = f"{TOP}/samples/sale.ret"
 OFFICE = "officetoken00001"
 AGENT = "agenttoken000001"
 NOT_ALLOWED = '{"code":"N01"}'
 ASKED = b"GET /agents/12345675/stock HTTP/1.1\r\nHost: bsp\r\nBsp-Token: x\r\n\r\n"
-failures = 0
 
 
-def same(what, wanted, found):
-    global failures
-    if wanted != found:
-        failures += 1
-        print(f"{what}: wanted {wanted!r}, found {found!r}")
+def serving(connections):
+    """The program, serving so many connections, after a plan, a day, an agent and its stock on the first of them."""
+    it = office.Office(PROGRAM, None, "--token", OFFICE, "--connections", connections, seconds=10)
+    asked = {
+        "plan": office.sample("plan.toml"),
+        "day": '{"day":"2024-01-05"}',
+        "agents": '{"agent":"12345675","token":"%s"}' % AGENT,
+        "stock/allot": '{"agent":"12345675","first":"1300000000","last":"1300000099"}',
+    }
+    for path, body in asked.items():
+        wanted = (200, "application/json", b'{"result":"done"}')
+        expect(path, wanted, it.ask("POST", f"/office/{path}", OFFICE, body))
+    it.close()
+    return it
 
 
-def free_port():
-    with socket.socket() as it:
-        it.bind(("127.0.0.1", 0))
-        return it.getsockname()[1]
-
-
-class Office:
-    """The program, serving so many connections on a free port."""
-
-    def __init__(self, connections):
-        self.port = free_port()
-        words = ["serve", "--port", str(self.port), "--token", OFFICE, "--connections", str(connections)]
-        self.it = subprocess.Popen([PROGRAM, *words], stderr=subprocess.PIPE, text=True)
-        same("the first line", f"bsp_office: listening on 127.0.0.1:{self.port}\n", self.it.stderr.readline())
-
-    def ends(self, what):
-        """It has served all its connections."""
-        try:
-            status = self.it.wait(10)
-        except subprocess.TimeoutExpired:
-            self.it.kill()
-            status = "it goes on"
-        same(f"{what}: status", 0, status)
-        same(f"{what}: more on standard error", "", self.it.stderr.read())
-
-
-def curl(office, *words):
+def curl(it, *words):
     """What curl prints, with CR taken out."""
-    words = [it.replace("OFFICE", f"http://127.0.0.1:{office.port}") for it in words]
+    words = [word.replace("OFFICE", f"http://127.0.0.1:{it.port}") for word in words]
     asked = subprocess.run(["curl", "-sS", "--max-time", "10", *words], capture_output=True, text=True)
     return asked.stdout.replace("\r", "") + asked.stderr
 
 
-def set_up(office):
-    """Publishes the plan, sets a day, registers an agent and gives it stock, all on one connection."""
-    peer = http.client.HTTPConnection("127.0.0.1", office.port, timeout=10)
-    with open(f"{TOP}/samples/plan.toml", "rb") as it:
-        plan = it.read()
-    asked = [
-        ("plan", plan),
-        ("day", b'{"day":"2024-01-05"}'),
-        ("agents", b'{"agent":"12345675","token":"%s"}' % AGENT.encode()),
-        ("stock/allot", b'{"agent":"12345675","first":"1300000000","last":"1300000099"}'),
-    ]
-    for path, body in asked:
-        peer.request("POST", f"/office/{path}", body, {"Bsp-Token": OFFICE})
-        reply = peer.getresponse()
-        same(f"http.client: {path}", (200, b'{"result":"done"}'), (reply.status, reply.read()))
-    peer.close()
-
-
 def with_curl():
-    office = Office(8)
-    set_up(office)
+    it = serving(8)
     token = ["-H", f"Bsp-Token: {AGENT}"]
     form = "%{http_code} %{http_version} %{num_connects} %{content_type}\n"
     stock = '{"ranges":[{"first":"1300000000","last":"1300000099","used":0}]}'
     path = "OFFICE/agents/12345675/stock"
-    same("curl", f"{stock}200 1.1 1 application/json\n", curl(office, *token, "-w", form, path))
-    same("curl of HTTP/1.0", f"{stock}200 1.1 1 application/json\n", curl(office, "--http1.0", *token, "-w", form, path))
-    closing = curl(office, "--http1.0", "-i", *token, path)
-    same("curl of HTTP/1.0, the head", True, "\nConnection: close\n\n" in closing)
+    expect("curl", f"{stock}200 1.1 1 application/json\n", curl(it, *token, "-w", form, path))
+    expect("curl of HTTP/1.0", f"{stock}200 1.1 1 application/json\n", curl(it, "--http1.0", *token, "-w", form, path))
+    closing = curl(it, "--http1.0", "-i", *token, path)
+    expect("curl of HTTP/1.0, the head", True, "\nConnection: close\n\n" in closing)
     head = "HTTP/1.1 405 Method Not Allowed\nContent-Type: application/json\nContent-Length: 14\nAllow: GET\n\n"
-    same("curl -I", head, curl(office, "-I", *token, path))
+    expect("curl -I", head, curl(it, "-I", *token, path))
     both = f"{stock}200 1.1 1 application/json\n{stock}200 1.1 0 application/json\n"
-    same("curl, two requests on one connection", both, curl(office, *token, "-w", form, path, path))
+    expect("curl, two requests on one connection", both, curl(it, *token, "-w", form, path, path))
     results = '{"results":[{"n":1,"period":"24011","verdict":"accepted"}]}'
     words = ["-H", "Expect: 100-continue", "--data-binary", f"@{SALE}", "-i"]
-    posted = curl(office, *token, *words, "OFFICE/agents/12345675/ret")
-    same("curl, Expect", ["HTTP/1.1 100 Continue", "HTTP/1.1 200 OK"], re.findall("^HTTP.*$", posted, re.MULTILINE))
-    same("curl, Expect, the reply", results, posted.splitlines()[-1])
+    posted = curl(it, *token, *words, "OFFICE/agents/12345675/ret")
+    expect("curl, Expect", ["HTTP/1.1 100 Continue", "HTTP/1.1 200 OK"], re.findall("^HTTP.*$", posted, re.MULTILINE))
+    expect("curl, Expect, the reply", results, posted.splitlines()[-1])
     chunked = ["-H", "Transfer-Encoding: chunked", "--data-binary", f"@{SALE}", "-w", form]
-    refused = curl(office, *token, *chunked, "OFFICE/agents/12345675/ret")
-    same("curl, chunked", '{"code":"T05"}501 1.1 1 application/json\n', refused)
-    office.ends("curl")
+    refused = curl(it, *token, *chunked, "OFFICE/agents/12345675/ret")
+    expect("curl, chunked", '{"code":"T05"}501 1.1 1 application/json\n', refused)
+    expect("curl: the end", (0, ""), it.ended())
 
 
 def with_http_client():
-    office = Office(3)
-    set_up(office)
-    peer = http.client.HTTPConnection("127.0.0.1", office.port, timeout=10)
+    served = serving(3)
+    peer = http.client.HTTPConnection("127.0.0.1", served.port, timeout=10)
     token = {"Bsp-Token": AGENT}
-    with open(SALE, "rb") as it:
-        sale = it.read()
+    sale = office.sample("sale.ret")
     for verdict in "accepted", "held":
         peer.request("POST", "/agents/12345675/ret", sale, token)
         results = b'{"results":[{"n":1,"period":"24011","verdict":"%s"}]}' % verdict.encode()
-        same("http.client: a sale", results, peer.getresponse().read())
+        expect("http.client: a sale", results, peer.getresponse().read())
     peer.request("HEAD", "/agents/12345675/periods/24011", headers=token)
     reply = peer.getresponse()
-    same("http.client: HEAD", (405, "14", b""), (reply.status, reply.getheader("Content-Length"), reply.read()))
+    expect("http.client: HEAD", (405, "14", b""), (reply.status, reply.getheader("Content-Length"), reply.read()))
     peer.request("GET", "/agents/12345675/periods/24011", headers=token)
     net = b'{"closed":false,"documents":1,"net":"225.00","period":"24011"}'
-    same("http.client: the period", net, peer.getresponse().read())
+    expect("http.client: the period", net, peer.getresponse().read())
     peer.request("GET", "/agents/12345675/ret", headers=token)
     reply = peer.getresponse()
-    same("http.client: another method", (405, "POST"), (reply.status, reply.getheader("Allow")))
-    same("http.client: its code", b'{"code":"N03"}', reply.read())
+    expect("http.client: another method", (405, "POST"), (reply.status, reply.getheader("Allow")))
+    expect("http.client: its code", b'{"code":"N03"}', reply.read())
     peer.request("GET", "/agents/12345675/stock", headers={**token, "Connection": "close"})
     reply = peer.getresponse()
-    same("http.client: close", (200, "close"), (reply.status, reply.getheader("Connection")))
+    expect("http.client: close", (200, "close"), (reply.status, reply.getheader("Connection")))
     reply.read()
-    with socket.create_connection(("127.0.0.1", office.port)) as raw:
+    with socket.create_connection(("127.0.0.1", served.port)) as raw:
         raw.settimeout(10)
         raw.sendall(ASKED * 50)
         raw.shutdown(socket.SHUT_WR)
         pieces = b"".join(iter(lambda: raw.recv(65536), b""))
-    same("50 requests in one piece", 50, pieces.count(NOT_ALLOWED.encode()))
-    office.ends("http.client")
+    expect("50 requests in one piece", 50, pieces.count(NOT_ALLOWED.encode()))
+    expect("http.client: the end", (0, ""), served.ended())
 
 
 def wait_for(port):
@@ -161,40 +123,39 @@ def behind_nginx():
     if shutil.which("nginx") is None:
         print("no nginx is on the path: the configuration of docs/HTTP.md is not tried")
         return
-    with open(f"{TOP}/docs/HTTP.md", encoding="utf-8") as it:
-        text = re.search(r"^```nginx\n(.*?)^```$", it.read(), re.MULTILINE | re.DOTALL)[1]
-    office, port = Office(6), free_port()
-    set_up(office)
-    text = text.replace("8081", str(port)).replace("8080", str(office.port))
+    shown = (TOP / "docs" / "HTTP.md").read_text(encoding="utf-8")
+    text = re.search(r"^```nginx\n(.*?)^```$", shown, re.MULTILINE | re.DOTALL)[1]
+    it, port = serving(6), office.free_port()
+    text = text.replace("8081", str(port)).replace("8080", str(it.port))
     places = "pid nginx.pid; error_log error.log; "
-    with open("nginx.conf", "w", encoding="utf-8") as it:
-        it.write(places + text.replace("http {", "http { access_log off; client_body_temp_path b; proxy_temp_path p;"))
+    with open("nginx.conf", "w", encoding="utf-8") as file:
+        file.write(places + text.replace("http {", "http { access_log off; client_body_temp_path b; proxy_temp_path p;"))
     words = ["nginx", "-p", os.getcwd(), "-c", "nginx.conf", "-e", "error.log", "-g", "daemon off;"]
     proxy = subprocess.Popen(words)
     idle, half = wait_for(port), wait_for(port)
     half.sendall(b"POST /agents/12345675/ret HTTP/1.1\r\nHost: bsp\r\nContent-Length: 685\r\n\r\n1")
     at, token = f"http://127.0.0.1:{port}/agents/12345675", ["-H", f"Bsp-Token: {AGENT}"]
     stock = '{"ranges":[{"first":"1300000000","last":"1300000099","used":0}]}'
-    same("behind nginx: two requests", stock * 2, curl(office, *token, f"{at}/stock", f"{at}/stock"))
-    sent = curl(office, *token, "-H", "Transfer-Encoding: chunked", "--data-binary", f"@{SALE}", f"{at}/ret")
-    same("behind nginx: chunks", '{"results":[{"n":1,"period":"24011","verdict":"accepted"}]}', sent)
-    head = curl(office, "-I", *token, f"{at}/periods/24011")
-    same("behind nginx: HEAD", True, head.startswith("HTTP/1.1 405 Method Not Allowed\n") and "\nAllow: GET\n" in head)
-    same("behind nginx: none", '{"code":"N02"}', curl(office, f"http://127.0.0.1:{port}/x"))
+    expect("behind nginx: two requests", stock * 2, curl(it, *token, f"{at}/stock", f"{at}/stock"))
+    sent = curl(it, *token, "-H", "Transfer-Encoding: chunked", "--data-binary", f"@{SALE}", f"{at}/ret")
+    expect("behind nginx: chunks", '{"results":[{"n":1,"period":"24011","verdict":"accepted"}]}', sent)
+    head = curl(it, "-I", *token, f"{at}/periods/24011")
+    expect("behind nginx: HEAD", True, head.startswith("HTTP/1.1 405 Method Not Allowed\n") and "\nAllow: GET\n" in head)
+    expect("behind nginx: none", '{"code":"N02"}', curl(it, f"http://127.0.0.1:{port}/x"))
     idle.close()
     half.close()
     proxy.terminate()
     proxy.wait(10)
-    office.ends("behind nginx")
+    expect("behind nginx: the end", (0, ""), it.ended())
 
 
 def refusal(what, status, error, *words, text=b""):
     """Runs the program where it cannot serve. `error` is a pattern of what it prints on standard error."""
     ended = subprocess.run([PROGRAM, *words], input=text, capture_output=True, timeout=10)
-    same(f"{what}: status", status, ended.returncode)
-    same(f"{what}: standard output", b"", ended.stdout)
+    expect(f"{what}: status", status, ended.returncode)
+    expect(f"{what}: standard output", b"", ended.stdout)
     told = ended.stderr.decode()
-    same(f"{what}: {error!r} in {told!r}", True, re.fullmatch(error, told) is not None)
+    expect(f"{what}: {error!r} in {told!r}", True, re.fullmatch(error, told) is not None)
 
 
 def refused():
@@ -224,18 +185,16 @@ def run_on_standard_input():
         with open("token", "w", encoding="utf-8", newline="") as it:
             it.write(OFFICE + end)
         ended = subprocess.run([PROGRAM, "run", "--token-file", "token"], input=ASKED, capture_output=True, timeout=10)
-        same(f"run, the token file ends by {end!r}", (0, reply, b""), (ended.returncode, ended.stdout, ended.stderr))
+        expect(f"run, the token file ends by {end!r}", (0, reply, b""), (ended.returncode, ended.stdout, ended.stderr))
     for length in range(len(ASKED)):
         ended = subprocess.run([PROGRAM, "run", "--token", OFFICE], input=ASKED[:length], capture_output=True, timeout=10)
-        same(f"run of {length} bytes", (0, b"", b""), (ended.returncode, ended.stdout, ended.stderr))
+        expect(f"run of {length} bytes", (0, b"", b""), (ended.returncode, ended.stdout, ended.stderr))
     with open("/dev/full", "wb") as full:
         ended = subprocess.run([PROGRAM, "run", "--token", OFFICE], input=ASKED, stdout=full, timeout=10)
-    same("run, standard output full", 3, ended.returncode)
+    expect("run, standard output full", 3, ended.returncode)
 
 
 def main():
-    if not os.access(PROGRAM, os.X_OK):
-        sys.exit(f"{PROGRAM} is not built")
     with tempfile.TemporaryDirectory() as folder:
         os.chdir(folder)
         with_curl()
@@ -244,9 +203,7 @@ def main():
         refused()
         run_on_standard_input()
         os.chdir(TOP)
-    if failures == 0:
-        print("bsp_office: clients are answered, and statuses are, as docs/COMMANDS.md says")
-    sys.exit(min(failures, 255))
+    office.finish("bsp_office: clients are answered, and statuses are, as docs/COMMANDS.md says")
 
 
 main()

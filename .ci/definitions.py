@@ -9,11 +9,11 @@ the specs declare without a keyword, is no word.
 Each word must be bold in a section of docs/DEFINITIONS.md whose heading names the crate of its specs, and each bold word
 of a section must be a name in the specs or the types of those crates. The script lists the words that are not, and ends
 with status 1 if there are any."""
-import pathlib
 import re
 import sys
 
-TOP = pathlib.Path(__file__).resolve().parent.parent
+from office import TOP
+
 NAME = re.compile(r"[^\W\d][\w\-']*")
 COMMENT = re.compile(r"(?:--|//).*")
 WORD = re.compile(r"(?<![\w.])(?:(?:\w+)\.)?[^\W\d][\w\-']*")

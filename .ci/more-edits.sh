@@ -4,7 +4,7 @@
 # RT_JOBS says (2 where it says nothing). Exits with 1 where an edit is not refused, or is refused only because a
 # proof file names what it took away.
 #
-# usage: .ci/more-edits [CRATE..]
+# usage: .ci/more-edits.sh [CRATE..]
 set -u
 top=$(cd "$(dirname "$0")/.." && pwd) || exit 1
 room=$(mktemp -d) || exit 1

@@ -3,7 +3,7 @@
 # prints on standard output, its exit status, and its line on standard error. Exits with the number of those
 # that differ. The longest inputs take 1.1 GB of memory.
 #
-# usage: .ci/statuses [PROGRAM]   (with no PROGRAM it builds the program, where it is not built)
+# usage: .ci/statuses.sh [PROGRAM]   (with no PROGRAM it builds the program, where it is not built)
 set -u
 top=$(cd "$(dirname "$0")/.." && pwd) || exit 1
 program=$top/crates/bsp_office/out/bsp_office

@@ -7,7 +7,7 @@ of docs/EXAMPLES.md are as it says; a book of 10,000 requests, opened again, giv
 is no book, or is a damaged one, is refused with its status and one line on standard error. Exits with the number of
 cases that differ.
 
-usage: .ci/store [PROGRAM]   (with no PROGRAM it takes the one that is built)
+usage: .ci/store.py [PROGRAM]   (with no PROGRAM it takes the one that is built)
 """
 import contextlib
 import http.client
@@ -16,7 +16,6 @@ import pathlib
 import random
 import re
 import shutil
-import socket
 import sqlite3
 import subprocess
 import sys
@@ -24,30 +23,19 @@ import tempfile
 import threading
 import time
 
-TOP = pathlib.Path(__file__).resolve().parents[1]
-sys.dont_write_bytecode = True
+import office
+from office import TOP, expect, sample
+
 sys.path.append(str(TOP / "bench" / "desk"))
 import make_requests
 
-PROGRAM = os.path.abspath(sys.argv[1]) if len(sys.argv) > 1 else f"{TOP}/crates/bsp_office/out/bsp_office"
+PROGRAM = office.program()
 OFFICE = "officetoken00001"
 A, B = "12345675", "76543213"
 TOKENS = {A: "agenttoken000001", B: "agenttoken000002", "125": "airlinetoken0125", "220": "airlinetoken0220"}
-failures = 0
-
-
-def same(what, wanted, found):
-    global failures
-    if wanted != found:
-        failures += 1
-        print(f"{what}: wanted {wanted!r}, found {found!r}")
 
 
 # ---- requests
-
-
-def sample(name):
-    return (TOP / "samples" / name).read_bytes()
 
 
 def sale_of(number, name="sale.ret"):
@@ -118,37 +106,18 @@ def looking():
 # ---- the program
 
 
-def free_port():
-    with socket.socket() as it:
-        it.bind(("127.0.0.1", 0))
-        return it.getsockname()[1]
-
-
-class Program:
+def opened(file=None):
     """The program as it serves, over a book in the file, or in memory where there is none."""
+    return office.Office(PROGRAM, None, "--token", OFFICE, *(["--db", file] if file else []))
 
-    def __init__(self, file=None):
-        self.port = free_port()
-        words = ["serve", "--port", str(self.port), "--token", OFFICE, *(["--db", file] if file else [])]
-        self.it = subprocess.Popen([PROGRAM, *words], stderr=subprocess.PIPE, text=True)
-        same("the first line", f"bsp_office: listening on 127.0.0.1:{self.port}\n", self.it.stderr.readline())
-        self.peer = http.client.HTTPConnection("127.0.0.1", self.port, timeout=30)
 
-    def ask(self, request):
-        method, path, token, body = request
-        self.peer.request(method, path, body or None, {"Bsp-Token": token})
-        reply = self.peer.getresponse()
-        return reply.status, reply.read().decode()
-
-    def kill(self):
-        self.it.kill()
-        self.it.wait()
-        self.it.stderr.close()
-        self.peer.close()
+def ask(program, request):
+    status, _, body = program.ask(*request)
+    return status, body.decode()
 
 
 def answers(program, requests):
-    return [program.ask(it) for it in requests]
+    return [ask(program, it) for it in requests]
 
 
 def statement_net(text):
@@ -160,10 +129,10 @@ def statement_net(text):
 
 
 def over_memory():
-    program = Program()
+    program = opened()
     replies = answers(program, [*setting_up(), *working(), *looking()])
     program.kill()
-    same("all is answered over memory", [], [it for it in replies if it[0] == 503])
+    expect("all is answered over memory", [], [it for it in replies if it[0] == 503])
     return replies
 
 
@@ -171,8 +140,8 @@ def over_file(wanted):
     """The program is killed after each reply, and goes on over the same file."""
     requests = [*setting_up(), *working(), *looking()]
     for request, reply in zip(requests, wanted):
-        program = Program("office.db")
-        same(f"{request[:2]} over a file", reply, program.ask(request))
+        program = opened("office.db")
+        expect(f"{request[:2]} over a file", reply, ask(program, request))
         program.kill()
 
 
@@ -181,11 +150,11 @@ TALLIES = "SELECT * FROM tally WHERE period IN ('24011', '24012') ORDER BY agent
 
 def kept_tallies(file, requests, wanted):
     """A book of the requests has these tallies. The last request is accepted."""
-    program = Program(file)
+    program = opened(file)
     replies = answers(program, requests)
-    same(f"{file}: the last reply", 200, replies[-1][0])
+    expect(f"{file}: the last reply", 200, replies[-1][0])
     program.kill()
-    same(f"{file}: its tallies", wanted, rows_of(file, TALLIES))
+    expect(f"{file}: its tallies", wanted, rows_of(file, TALLIES))
 
 
 def example_42():
@@ -202,15 +171,15 @@ def example_42():
 
 def examples_26_and_27():
     """Six tickets posted by their agent, and one by another."""
-    program = Program("six.db")
+    program = opened("six.db")
     answers(program, setting_up())
-    found = program.ask(of_agent(A, "POST", "ret", sample("six-tickets.ret")))[1]
+    found = ask(program, of_agent(A, "POST", "ret", sample("six-tickets.ret")))[1]
     wanted = ["accepted", "held", "E06", "E05", "E07", "E03"]
-    same("six tickets", wanted, re.findall(r'"verdict":"(\w+)"', found))
-    reply = program.ask(of_agent(B, "POST", "ret", sample("sale.ret")))
-    same("a sale of another agent", (200, '{"results":[{"n":1,"verdict":"E02"}]}'), reply)
-    reply = program.ask(of_agent(B, "GET", "periods/24011"))
-    same("its net", (200, '{"closed":false,"documents":0,"net":"0.00","period":"24011"}'), reply)
+    expect("six tickets", wanted, re.findall(r'"verdict":"(\w+)"', found))
+    reply = ask(program, of_agent(B, "POST", "ret", sample("sale.ret")))
+    expect("a sale of another agent", (200, '{"results":[{"n":1,"verdict":"E02"}]}'), reply)
+    reply = ask(program, of_agent(B, "GET", "periods/24011"))
+    expect("its net", (200, '{"closed":false,"documents":0,"net":"0.00","period":"24011"}'), reply)
     program.kill()
 
 
@@ -264,44 +233,44 @@ def many_requests():
     folder = pathlib.Path("month")
     folder.mkdir()
     requests = list(Market(folder).month(8_946))
-    same("the requests", 10_000, len(requests))
-    program = Program("month.db")
-    same("all is answered over a file", {200}, {program.ask(it)[0] for it in requests})
+    expect("the requests", 10_000, len(requests))
+    program = opened("month.db")
+    expect("all is answered over a file", {200}, {ask(program, it)[0] for it in requests})
     wanted = answers(program, statements())
     program.kill()
-    program = Program("month.db")
-    same("statements of a book opened again", wanted, answers(program, statements()))
-    same("they are there", {200}, {it[0] for it in wanted})
+    program = opened("month.db")
+    expect("statements of a book opened again", wanted, answers(program, statements()))
+    expect("they are there", {200}, {it[0] for it in wanted})
     program.kill()
 
 
 def is_there(program, number):
-    return program.ask(of_agent(A, "GET", f"documents/{number}"))[0] == 200
+    return ask(program, of_agent(A, "GET", f"documents/{number}"))[0] == 200
 
 
 def killed_at_any_moment():
     """Sales are reported until a kill: each that was answered is there, and at most one more."""
-    program = Program("any.db")
+    program = opened("any.db")
     answers(program, setting_up())
     moments, number = random.Random(1), 1300000000
     for _ in range(8):
         first, answered = number, []
-        stop = threading.Timer(moments.uniform(0.02, 0.3), program.it.kill)
+        stop = threading.Timer(moments.uniform(0.02, 0.3), program.process.kill)
         stop.start()
         with contextlib.suppress(OSError, http.client.HTTPException):
             while number < 1300000090:
-                same("a sale", 200, program.ask(of_agent(A, "POST", "ret", sale_of(number)))[0])
+                expect("a sale", 200, ask(program, of_agent(A, "POST", "ret", sale_of(number)))[0])
                 answered.append(number)
                 number += 1
         stop.join()
         program.kill()
-        program = Program("any.db")
+        program = opened("any.db")
         there = [it for it in range(first, number + 1) if is_there(program, it)]
-        same("sales after a kill", answered, there[:len(answered)])
-        same("at most one more", True, len(there) <= len(answered) + 1)
+        expect("sales after a kill", answered, there[:len(answered)])
+        expect("at most one more", True, len(there) <= len(answered) + 1)
         number += 1
     program.kill()
-    same("integrity of any.db", [("ok",)], rows_of("any.db", "PRAGMA integrity_check"))
+    expect("integrity of any.db", [("ok",)], rows_of("any.db", "PRAGMA integrity_check"))
 
 
 def rows_of(file, query):
@@ -329,11 +298,11 @@ def written_by_sqlite(wanted):
     with contextlib.closing(sqlite3.connect("small.db", isolation_level=None)) as it:
         it.execute("VACUUM")
     for file in "copied.db", "backup.db", "small.db":
-        program = Program(file)
-        same(f"replies over {file}", wanted[-len(list(looking())):], answers(program, looking()))
-        same(f"a sale over {file}", 200, program.ask(of_agent(A, "POST", "ret", sale_of(1300000070)))[0])
+        program = opened(file)
+        expect(f"replies over {file}", wanted[-len(list(looking())):], answers(program, looking()))
+        expect(f"a sale over {file}", 200, ask(program, of_agent(A, "POST", "ret", sale_of(1300000070)))[0])
         program.kill()
-        same(f"integrity of {file}", [("ok",)], rows_of(file, "PRAGMA integrity_check"))
+        expect(f"integrity of {file}", [("ok",)], rows_of(file, "PRAGMA integrity_check"))
 
 
 def queries():
@@ -346,15 +315,15 @@ def audited(wanted):
     """The queries of an auditor against what the program replied."""
     replies = dict(zip((it[1] for it in looking()), (it[1] for it in wanted[-len(list(looking())):])))
     nets, memos, cancelled, tallies, stock = (rows_of("office.db", it) for it in queries())
-    same("nets", [(it, "24011", statement_net(replies[f"/agents/{it}/statements/24011"])) for it in (A, B)], nets)
+    expect("nets", [(it, "24011", statement_net(replies[f"/agents/{it}/statements/24011"])) for it in (A, B)], nets)
     agents = re.search(r"TOTAL +AGENTS +(\S+)", replies["/office/settlement/24011"])[1]
-    same("their sum", statement_net(agents), sum(it[2] for it in nets))
-    same("memos", [("125", "6000000002", A, "ADMA", 5000, "disputed", "2024-01-05")], memos)
-    same("cancelled tickets", [(A, "1300000005", "125", "24011", "24011")], cancelled)
-    same("tallies that differ", [], tallies)
+    expect("their sum", statement_net(agents), sum(it[2] for it in nets))
+    expect("memos", [("125", "6000000002", A, "ADMA", 5000, "disputed", "2024-01-05")], memos)
+    expect("cancelled tickets", [(A, "1300000005", "125", "24011", "24011")], cancelled)
+    expect("tallies that differ", [], tallies)
     used = [(it, *found) for it in (A, B) for found in re.findall(
         r'"first":"(\d+)","last":"(\d+)","used":(\d+)', replies[f"/agents/{it}/stock"])]
-    same("stock", [(agent, first, last, int(count)) for agent, first, last, count in used], stock)
+    expect("stock", [(agent, first, last, int(count)) for agent, first, last, count in used], stock)
 
 
 def stored_run():
@@ -363,7 +332,7 @@ def stored_run():
     words = (crate / "args").read_text(encoding="utf-8").split()
     ended = subprocess.run(
         [PROGRAM, *words, "--db", "stored.db"], input=(crate / "stdin").read_bytes(), capture_output=True, timeout=30)
-    same("the stored run", (0, (crate / "stdout").read_bytes(), b""), (ended.returncode, ended.stdout, ended.stderr))
+    expect("the stored run", (0, (crate / "stdout").read_bytes(), b""), (ended.returncode, ended.stdout, ended.stderr))
 
 
 def on_standard_input():
@@ -375,16 +344,16 @@ def on_standard_input():
             [PROGRAM, "run", "--token", OFFICE, "--db", "run.db"], input=asked, capture_output=True, timeout=30)
         reply = b"HTTP/1.1 100 Continue\r\n\r\nHTTP/1.1 200 OK\r\nContent-Type: application/json\r\n" \
             b'Content-Length: 17\r\n\r\n{"result":"%s"}' % result
-        same(f"run, {result.decode()}", (0, reply, b""), (ended.returncode, ended.stdout, ended.stderr))
+        expect(f"run, {result.decode()}", (0, reply, b""), (ended.returncode, ended.stdout, ended.stderr))
 
 
 def refusal(what, file, cause, status):
     """The program is not started over this file, and says why in one line."""
     ended = subprocess.run(
         [PROGRAM, "run", "--token", OFFICE, "--db", file], input=b"", capture_output=True, timeout=30)
-    same(f"{what}: status", status, ended.returncode)
-    same(f"{what}: standard output", b"", ended.stdout)
-    same(f"{what}: the line", f"bsp_office: {file}: {cause}\n", ended.stderr.decode())
+    expect(f"{what}: status", status, ended.returncode)
+    expect(f"{what}: standard output", b"", ended.stdout)
+    expect(f"{what}: the line", f"bsp_office: {file}: {cause}\n", ended.stderr.decode())
 
 
 OTHER_VERSION = "B04 a book of another version"
@@ -437,8 +406,8 @@ def damaged():
     changed("UPDATE meta SET version = 9")
     refusal("version 9", "copy.db", OTHER_VERSION, 1)
     changed("")
-    program = Program("copy.db")
-    same("a copy of the book", 200, program.ask(of_office("GET", "settlement/24011"))[0])
+    program = opened("copy.db")
+    expect("a copy of the book", 200, ask(program, of_office("GET", "settlement/24011"))[0])
     refusal("a held file", "copy.db", IN_USE, 3)
     program.kill()
 
@@ -459,7 +428,7 @@ def not_opened():
         refusal(what, file, NOT_OPENED, 3)
     pathlib.Path("text").write_text("no database\n" * 1000, encoding="utf-8")
     refusal("a text", "text", NO_DATABASE, 3)
-    same("the text is as it was", "no database\n" * 1000, pathlib.Path("text").read_text(encoding="utf-8"))
+    expect("the text is as it was", "no database\n" * 1000, pathlib.Path("text").read_text(encoding="utf-8"))
     with contextlib.closing(sqlite3.connect("held.db", isolation_level=None)) as it:
         it.execute("CREATE TABLE note (text TEXT)")
         it.execute("BEGIN EXCLUSIVE")
@@ -481,18 +450,16 @@ def read_only():
         ["./program", "run", "--token", OFFICE, "--db", "read-only.db"], input=b"", capture_output=True, timeout=30,
         user=65534, group=65534, extra_groups=[])
     line = f"bsp_office: read-only.db: {NOT_OPENED}\n".encode()
-    same("a read-only file", (3, b"", line), (ended.returncode, ended.stdout, ended.stderr))
+    expect("a read-only file", (3, b"", line), (ended.returncode, ended.stdout, ended.stderr))
 
 
 def main():
-    if not os.access(PROGRAM, os.X_OK):
-        sys.exit(f"{PROGRAM} is not built")
     begun = time.monotonic()
     with tempfile.TemporaryDirectory() as folder:
         os.chdir(folder)
         wanted = over_memory()
         over_file(wanted)
-        same("integrity of office.db", [("ok",)], rows_of("office.db", "PRAGMA integrity_check"))
+        expect("integrity of office.db", [("ok",)], rows_of("office.db", "PRAGMA integrity_check"))
         audited(wanted)
         written_by_sqlite(wanted)
         examples_26_and_27()
@@ -505,9 +472,7 @@ def main():
         not_opened()
         many_requests()
         os.chdir(TOP)
-    if failures == 0:
-        print(f"bsp_office: a book in a file is as docs/TABLES.md says, in {time.monotonic() - begun:.0f} seconds")
-    sys.exit(min(failures, 255))
+    office.finish(f"bsp_office: a book in a file is as docs/TABLES.md says, in {time.monotonic() - begun:.0f} seconds")
 
 
 main()

@@ -6,19 +6,20 @@ The commands are in the blocks that begin with ```console. A line that begins wi
 what it prints. Those of a file run in one shell, in a folder that has samples/ and ./bsp_office, a link to PROGRAM.
 A free port takes the place of 8080, so that two tours can run on one machine.
 
-usage: .ci/tour [PROGRAM]   (with no PROGRAM it takes the one that is built)
+usage: .ci/tour.py [PROGRAM]   (with no PROGRAM it takes the one that is built)
 """
 import os
 import re
 import shutil
 import signal
-import socket
 import subprocess
 import sys
 import tempfile
 import time
 
-TOP = os.path.dirname(os.path.dirname(os.path.abspath(__file__)))
+import office
+from office import TOP, expect
+
 BLOCK = re.compile(r"^```console\n(.*?)^```$", re.MULTILINE | re.DOTALL)
 END = "the command has ended"
 
@@ -33,12 +34,6 @@ def commands_of(text):
             else:
                 found[-1][1].append(line)
     return found
-
-
-def free_port():
-    with socket.socket() as it:
-        it.bind(("127.0.0.1", 0))
-        return str(it.getsockname()[1])
 
 
 class Shell:
@@ -88,37 +83,30 @@ class Shell:
         self.it.wait()
 
 
-def differing(name, program):
-    """How many commands of the file print something else than it shows."""
-    with open(f"{TOP}/{name}", encoding="utf-8") as it:
-        commands = commands_of(it.read())
+def compare(name, program):
+    """Runs the commands of the file, and compares what each prints."""
+    commands = commands_of((TOP / name).read_text(encoding="utf-8"))
     if not commands:
         sys.exit(f"{name} has no commands")
-    port, failures = free_port(), 0
+    port, is_same = str(office.free_port()), True
     with tempfile.TemporaryDirectory() as folder:
         shutil.copytree(f"{TOP}/samples", f"{folder}/samples")
         os.symlink(program, f"{folder}/bsp_office")
         shell = Shell(folder)
         for command, wanted in commands:
             printed = shell.run(command.replace("8080", port))
-            wanted = [it.replace("8080", port) for it in wanted]
-            if printed != wanted:
-                failures += 1
-                print(f"$ {command}\nprinted:", *printed, f"{name} has:", *wanted, sep="\n")
+            is_same &= expect(f"{name}: $ {command}", [it.replace("8080", port) for it in wanted], printed)
         shell.close()
-    if failures == 0:
+    if is_same:
         print(f"{name}: {len(commands)} commands print what it shows")
-    return failures
 
 
 def main():
-    program = f"{TOP}/crates/bsp_office/out/bsp_office"
-    if len(sys.argv) > 1:
-        program = os.path.abspath(sys.argv[1])
-    if not os.access(program, os.X_OK):
-        sys.exit(f"{program} is not built")
+    program = office.program()
     files = ["README.md", "docs/GUIDE.md", "docs/FORMATS.md", "samples/README.md"]
-    sys.exit(min(sum(differing(name, program) for name in files), 255))
+    for name in files:
+        compare(name, program)
+    office.finish(f"the commands of {len(files)} documents print what they show")
 
 
 main()
