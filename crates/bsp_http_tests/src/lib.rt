@@ -6,6 +6,8 @@ mod bodies;
 #[cfg(test)]
 mod conversation;
 #[cfg(test)]
+mod heads;
+#[cfg(test)]
 mod http;
 #[cfg(test)]
 mod received;

@@ -1,6 +1,6 @@
 //! The end of a head, in one piece and in several.
 
-use crate::Scan;
+use bsp_heads::Scan;
 
 /// Texts, and how many bytes the head at the front of each takes.
 const ENDS: [(&[u8], Option<usize>); 10] = [

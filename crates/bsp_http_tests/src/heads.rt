@@ -1,8 +1,10 @@
+//! Heads of requests: where they end, their parts, and their first fault.
+
 mod ends;
 mod limits;
 mod parts;
 
-use crate::{HeadFault, Wanted, read_head};
+use bsp_heads::{HeadFault, Wanted, read_head};
 
 /// A head with one fault.
 const FAULTS: [(&[u8], HeadFault); 18] = [

@@ -1,7 +1,7 @@
 //! The limits of a head, and what comes before another fault.
 
 use super::has_fault;
-use crate::{HeadFault, Refused, read_head};
+use bsp_heads::{HeadFault, Refused, read_head};
 use std::alloc::Global;
 use std::test::Fail;
 

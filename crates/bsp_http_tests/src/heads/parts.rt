@@ -1,6 +1,6 @@
 //! The method, the target and the token of a head.
 
-use crate::read_head;
+use bsp_heads::read_head;
 use httparse::spans::Span;
 
 /// Heads, and the token of each.

@@ -2,7 +2,7 @@
 
 mod samples;
 
-use crate::*;
+use bsp_book::{Book, ListBook};
 use bsp_rows::{
     Change, Item, ItemKey, Items, MemoKey, Memos, PlanFault, PlanText, Tallies, Tally, Token,
 };
