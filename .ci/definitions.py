@@ -9,6 +9,7 @@ the specs declare without a keyword, is no word.
 Each word must be bold in a section of docs/DEFINITIONS.md whose heading names the crate of its specs, and each bold word
 of a section must be a name in the specs or the types of those crates. The script lists the words that are not, and ends
 with status 1 if there are any."""
+import functools
 import re
 import sys
 
@@ -19,18 +20,34 @@ COMMENT = re.compile(r"(?:--|//).*")
 WORD = re.compile(r"(?<![\w.])(?:(?:\w+)\.)?[^\W\d][\w\-']*")
 LIST = re.compile(r"ghost use Rattle\.(bsp_\w+)\.specs\.([\w.]+)\.\{([^}]*)\}")
 WHOLE = re.compile(r"ghost use Rattle\.(bsp_\w+)\.specs\.([\w.]+) as (\w+);")
+GIVEN = re.compile(r"^pub use Rattle\.(bsp_\w+)\.specs\.([\w.]+)(?: as (\w+))?$", re.M)
 ITEM = re.compile(r"^(pub )?(?:trait (\w+)|(?:struct|enum) (\w+)|impl\b(.*))")
 FUNCTION = re.compile(r"^\s*(pub(?:\s*\([^)]*\))?\s+)?(?:const\s+)?fn\s+\w+")
 CLAUSE = re.compile(r"^\s*(requires|ensures|ghost (?!use\b)\w+)\b[^{]*\{")
 
 
+@functools.cache
+def given_back(crate):
+    """The modules of lower crates that the specs of a crate give back: their names there, each with its crate and its path."""
+    lib = TOP / "crates" / crate / "specs/Lib.antt"
+    found = GIVEN.findall(lib.read_text(encoding="utf-8")) if lib.exists() else []
+    return {alias or path.split(".")[-1]: (of, path) for of, path, alias in found}
+
+
+def home(crate, path):
+    """The crate whose specs have the module that this crate names so."""
+    while path.split(".")[0] in given_back(crate):
+        crate, path = given_back(crate)[path.split(".")[0]]
+    return crate
+
+
 def names_of(text):
     """The names that a file imports, each with its crate and its name there; and the modules that it imports whole."""
     names = {}
-    for crate, _, listed in LIST.findall(text):
+    for crate, path, listed in LIST.findall(text):
         for name in filter(None, (it.strip() for it in listed.split(","))):
-            names[name.split(" as ")[-1].strip()] = crate, name.split(" as ")[0].strip()
-    return names, {alias: crate for crate, _, alias in WHOLE.findall(text)}
+            names[name.split(" as ")[-1].strip()] = home(crate, path), name.split(" as ")[0].strip()
+    return names, {alias: home(crate, path) for crate, path, alias in WHOLE.findall(text)}
 
 
 def named_in(crate, files, pattern):
