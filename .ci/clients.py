@@ -205,7 +205,7 @@ def run_twice():
     for words, second in *((words, "done") for words in memory), (["--token", OFFICE, "--db", "office.db"], "held"):
         before = os.listdir()
         for result in "done", second:
-            asked = {"input": head.encode() + plan, "capture_output": True, "timeout": 10}
+            asked = {"input": head.encode() + plan, "capture_output": True, "timeout": 60}
             ended = subprocess.run([PROGRAM, "run", *words], **asked)
             wanted = (0, (reply % result).encode(), b"")
             expect(f"run {words}: a plan", wanted, (ended.returncode, ended.stdout, ended.stderr))
