@@ -166,11 +166,6 @@ def refused():
         words = ["serve", "--port", port, "--token"]
         refusal("a port in use", 3, f"bsp_office: port {port} is in use\n", *words, OFFICE)
         refusal("a wrong token before the port", 2, "error: .*\n", *words, "short")
-    refusal("port 0", 2, r"(?s)error: invalid value '0' for '--port <N>'.*", "serve", "--port", "0", "--token", OFFICE)
-    refusal("no port", 2, "(?s)error: the following required arguments.*", "serve", "--token", OFFICE)
-    refusal("no token", 2, "error: .*\n", "run")
-    refusal("two tokens", 2, "error: .*\n", "run", "--token", OFFICE, "--token-file", "token")
-    refusal("no file -", 2, "error: .*\n", "run", "--token-file", "-")
     refusal("no such file", 3, "bsp_office: missing: .*\n", "run", "--token-file", "missing")
     refusal("a directory", 3, "bsp_office: .: .*\n", "run", "--token-file", ".")
     for text in "short\n", "", f"{OFFICE} \n", f"\n{OFFICE}\n", f"{OFFICE}\n" * 1000:

@@ -78,7 +78,15 @@ PEERS = [
     ("a peer that has reset", 3, [(ASKED, RESET), (ASKED, FORBIDDEN)]),
     ("more peers than connections", 2, [(ASKED, FORBIDDEN), (ASKED, b"")]),
 ]
+# further words of `serve`, and how many connections it then serves
+CONNECTIONS = {
+    "": 1_000_000,
+    " --connections 1000000": 1_000_000,
+    " --connections 0999999": 999_999,
+    " --connections 1": 1,
+}
 INPUTS = {"check": "v1.ret", "hotcheck": "v3.hot"}
+CUT = {"check": "record 2: the file ends without a trailer", "hotcheck": "record 2: the file ends before this record"}
 REPORTS = {"check": SALE, "hotcheck": NO_DOCUMENTS}
 
 
@@ -88,15 +96,18 @@ def stepped(steps, log="log"):
     pathlib.Path(log).unlink(missing_ok=True)
     names = {"LD_PRELOAD": os.path.abspath("steps.so"), "STEPS": steps, "STEPS_LOG": log}
     os.environ.update(names)
-    yield
-    for name in names:
-        del os.environ[name]
+    try:
+        yield
+    finally:
+        for name in names:
+            del os.environ[name]
 
 
 def logged(log="log"):
-    """How many calls there were of what the steps name, and how many bytes they moved."""
+    """How many calls there were of what the steps name, and how many bytes they moved; -1 where there is no log."""
     path = pathlib.Path(log)
-    return tuple(map(int, path.read_text().split())) if path.exists() else ("no calls", "no bytes")
+    calls, moved = path.read_text().split() if path.exists() else (-1, -1)
+    return int(calls), int(moved)
 
 
 def run(steps, words, text="/dev/null"):
@@ -106,17 +117,11 @@ def run(steps, words, text="/dev/null"):
         return ended.returncode, ended.stdout, ended.stderr.decode(), os.lseek(it.fileno(), 0, os.SEEK_CUR)
 
 
-def error(status, place, what):
-    """The error text of a device that fails, where it is one."""
-    return f"bsp_office: {place}: {what} failed\n" if status == 3 else None
-
-
 def made_calls(what, steps):
-    """Whether all steps were made; behind one that fails, or moves no byte, there is no call."""
-    calls, _ = logged()
-    last = steps.split()[-1]
-    ends = last in ("fails", "0")
-    office.expect(f"{what}: calls", True, calls == len(steps.split()) - 2 if ends else calls >= len(steps.split()) - 2)
+    """All steps were made, and no call behind one that fails or moves no byte."""
+    calls, wanted = logged()[0], len(steps.split()) - 2
+    ends = steps.endswith(("fails", " 0"))
+    office.expect(f"{what}: calls", wanted if ends else max(calls, wanted), calls)
 
 
 def reads():
@@ -124,11 +129,10 @@ def reads():
         for file, descriptor in (INPUTS[command], 3), ("-", 0):
             what, all_steps = f"{command} {file}, reads {steps[:40]}", f"read {descriptor} {steps}"
             found = run(all_steps, [command, file], INPUTS[command])
-            office.expect(what, (status, output), found[:2])
             place = "standard input" if file == "-" else file
-            office.expect(f"{what}: error text", error(status, place, "a read") or found[2], found[2])
+            text = {0: "", 1: f"bsp_office: {place}: {CUT[command]}\n", 3: f"bsp_office: {place}: a read failed\n"}[status]
+            office.expect(what, (status, output, text, length if file == "-" else 0), found)
             office.expect(f"{what}: bytes read", length, logged()[1])
-            office.expect(f"{what}: standard input", length if file == "-" else 0, found[3])
             made_calls(what, all_steps)
 
 
@@ -137,7 +141,7 @@ def writes():
         for file in INPUTS[command], "-":
             what, all_steps = f"{command} {file}, writes {steps[:40]}", f"write 1 {steps}"
             found = run(all_steps, [command, file], INPUTS[command])
-            text = error(status, "standard output", "a write") or ""
+            text = "bsp_office: standard output: a write failed\n" if status == 3 else ""
             whole = pathlib.Path(INPUTS[command]).stat().st_size if file == "-" else 0
             office.expect(what, (status, REPORTS[command][:length], text, whole), found)
             made_calls(what, all_steps)
@@ -154,14 +158,15 @@ def many():
 
 def each_in_turn(words, text, function, report):
     """Each call of the function in turn moves one byte, is interrupted, or fails."""
-    office.expect(f"{words}", (0, report, ""), run(function, words, text)[:3])
+    name = f"{' '.join(words)}, {text}, {function}"
+    office.expect(name, (0, report, ""), run(function, words, text)[:3])
     calls, _ = logged()
-    office.expect(f"{words}, {function}: at least one call", True, calls > 0)
+    office.expect(f"{name}: at least one call", True, calls > 0)
     for number in range(calls):
         for kind in "1", "interrupted", "fails":
             steps = f"{function} " + "65536 " * number + kind
             status, output, _, _ = run(steps, words, text)
-            what = f"{words}, {function}: call {number + 1} {kind}"
+            what = f"{name}: call {number + 1} {kind}"
             office.expect(f"{what}: status", 3 if kind == "fails" else 0, status)
             part = b"" if function.startswith("read") else report[: logged()[1]]
             office.expect(f"{what}: output", part if kind == "fails" else report, output)
@@ -259,13 +264,12 @@ def ports():
 def connections():
     """The office ends after as many connections as the words say, or a million."""
     begun = []
-    for words, count in ([], 1_000_000), (["1000000"], 1_000_000), (["0999999"], 999_999), (["1"], 1):
-        log = f"log{len(begun)}"
-        with stepped("accept4 3 nobody", log):
-            begun.append((words, count, log, serve(*["--connections", *words][: 2 * len(words)], seconds=100)))
-    for words, count, log, it in begun:
-        office.expect(f"--connections {words}: end", (0, ""), it.ended())
-        office.expect(f"--connections {words}: how many", count, logged(log)[0])
+    for words, count in CONNECTIONS.items():
+        with stepped("accept4 3 nobody", f"log of{words}"):
+            begun.append((words, count, serve(*words.split(), seconds=100)))
+    for words, count, it in begun:
+        office.expect(f"serve{words}: end", (0, ""), it.ended())
+        office.expect(f"serve{words}: connections", count, logged(f"log of{words}")[0])
 
 
 def main():
@@ -275,7 +279,7 @@ def main():
         subprocess.run(library, check=True)
         pathlib.Path("v1.ret").write_bytes(office.sample("sale.ret"))
         pathlib.Path("v3.hot").write_bytes(office.sample("no-documents.hot"))
-        for part in reads, writes, turns, runs, peers, accepting, ports:
+        for part in reads, writes, turns, limit, runs, peers, accepting, ports, connections:
             part()
         os.chdir(office.TOP)
     office.finish("bsp_office: devices and peers that fail are followed as docs/COMMANDS.md says")
