@@ -1,6 +1,6 @@
 #!/usr/bin/env bash
-# Runs the program on files, devices and words that no test of the crate can give it, and compares what it
-# prints on standard output, its exit status, and its line on standard error. Exits with the number of those
+# Runs the program on files, devices and words, and compares what it prints on standard output, its exit
+# status, and its line on standard error. Exits with the number of those
 # that differ. The longest inputs take 1.1 GB of memory.
 #
 # usage: .ci/statuses.sh [PROGRAM]   (with no PROGRAM it builds the program, where it is not built)
