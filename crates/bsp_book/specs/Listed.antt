@@ -2,8 +2,8 @@
 use Rattle.std.specs.Prelude.{◌≡◌, Bool, false, Option, unwrap_or, is_some, ⊤}
 use Rattle.bsp_rows.specs.Rows.{Rows}
 use Rattle.bsp_rows.specs.Sound.{AreApart}
-use Rattle.bsp_list_tables.specs.Tables.{IsDerived, WasDerived, committed_rows, rows_of}
-use Rattle.bsp_list_tables.specs.declared.tables.Tables.{Tables}
+use Rattle.bsp_memory_rows.specs.Tables.{IsDerived, WasDerived, committed_rows, rows_of}
+use Rattle.bsp_memory_rows.specs.declared.tables.Tables.{Tables}
 use Rattle.bsp_book.specs.Calls.{Meaning}
 use Rattle.bsp_book.specs.declared.list.ListBook.{ListBook}
 

@@ -1,8 +1,8 @@
 //! What a book promises, however it keeps its rows.
 
 ghost use Rattle.std.specs.Prelude.{◌≡◌, OnOk, Option, None, is_some, unwrap_or, ⊤};
-ghost use Rattle.bsp_calendar.specs.History.{Request};
-ghost use Rattle.bsp_calendar.specs.History.Request.{Close, Publish, SetDay};
+ghost use Rattle.bsp_rows.specs.History.{Request};
+ghost use Rattle.bsp_rows.specs.History.Request.{Close, Publish, SetDay};
 ghost use Rattle.bsp_book.specs.Calls.{Answers, Begins, Commits, FallsBack, Faults, LeavesEither, LeavesLast, LeavesNow, LooksUp, Makes, Meaning, Stays};
 ghost use Rattle.bsp_rows.specs.Laws.{issued_count};
 ghost use Rattle.bsp_rows.specs.Rows.{HasNumberKey, Rows, agent_token, airline_token, has_meeting, is_used_in, item_at, items_bearing, items_of, key_of, memo_at, memo_key, memos_of, ranges_of, registered};
@@ -10,13 +10,10 @@ ghost use Rattle.bsp_rows.specs.Tallies.{tallies_of, tally_of};
 ghost use Rattle.bsp_rows.specs.Writes.{IsFree, IsThere, MayBeAdded, MayBeBilled, after_request, request_answer, with_agent_token, with_airline_token, with_billing, with_end, with_item, with_memo, with_range, without_range};
 
 use crate::fault::BookFault;
-use bsp_calendar::{Plan, PlanFault, PlanText};
-use bsp_fields::{AgentCode, AirlineCode, Change, Day, PeriodCode, Token};
-use bsp_memos::Memo;
-use bsp_postings::Tally;
-use bsp_ret_records::Transaction;
-use bsp_rows::{ItemKey, Items, MemoKey, Memos, Tallies, TallyKey};
-use bsp_rules::{Item, Range};
+use bsp_rows::{
+    AgentCode, AirlineCode, Change, Day, Item, ItemKey, Items, Memo, MemoKey, Memos, PeriodCode,
+    Plan, PlanFault, PlanText, Range, Tallies, Tally, TallyKey, Token, Transaction,
+};
 
 /// The rows of all callers, however they are kept, and the published plan.
 ///

@@ -4,8 +4,6 @@
 mod book;
 mod fault;
 mod list;
-#[cfg(test)]
-mod tests;
 
 pub use book::Book;
 pub use fault::BookFault;

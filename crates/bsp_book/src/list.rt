@@ -4,19 +4,16 @@ ghost use Rattle.std.specs.Prelude.{◌≡◌, IfOk, IsOkUnless, None, Option};
 ghost use Rattle.std.specs.Bool.{Decides};
 ghost use Rattle.bsp_rows.specs.Rows.{Rows, no_rows};
 ghost use Rattle.bsp_rows.specs.Sound.{Sound};
-ghost use Rattle.bsp_list_tables.specs.Tables.{rows_of};
+ghost use Rattle.bsp_memory_rows.specs.Tables.{rows_of};
 ghost use Rattle.bsp_book.specs.Listed.{AreCommitted, IsUndone, meaning};
 
 use crate::book::Book;
 use crate::fault::BookFault;
-use bsp_calendar::{Plan, PlanFault, PlanText};
-use bsp_fields::{AgentCode, AirlineCode, Change, Day, PeriodCode, Token};
-use bsp_list_tables::Tables;
-use bsp_memos::Memo;
-use bsp_postings::Tally;
-use bsp_ret_records::Transaction;
-use bsp_rows::{ItemKey, Items, MemoKey, Memos, Tallies, TallyKey};
-use bsp_rules::{Item, Range};
+use bsp_memory_rows::Tables;
+use bsp_rows::{
+    AgentCode, AirlineCode, Change, Day, Item, ItemKey, Items, Memo, MemoKey, Memos, PeriodCode,
+    Plan, PlanFault, PlanText, Range, Tallies, Tally, TallyKey, Token, Transaction,
+};
 use std::alloc::Global;
 
 /// A book in memory. It never answers `Failed`.

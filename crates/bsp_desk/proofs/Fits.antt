@@ -1,8 +1,8 @@
 -- What a request is read as fits: each transaction of its file is a group.
 use Rattle.std.proofs.Common.{ℕ, List, [], ◌∷◌, suc, Ok, Err, refl, sym, subst}
-use Rattle.bsp_ret_records.specs.declared.transactions.Transaction.{Transaction}
-use Rattle.bsp_ret_writer.proofs.ContentMakes.{content_makes}
-use Rattle.bsp_ret_writer.specs.Writing.{HaveContents}
+use Rattle.bsp_rows.specs.Transaction.{Transaction}
+use Rattle.bsp_rows.proofs.ContentMakes.{content_makes}
+use Rattle.bsp_rows.specs.Writing.{HaveContents}
 use Rattle.bsp_routes.specs.Calls.{asking_text}
 use Rattle.bsp_routes.specs.declared.asking.Asking.{Asking}
 use Rattle.bsp_routes.specs.declared.asking.Asking.TheVariants as asking
@@ -11,13 +11,13 @@ use Rattle.bsp_routes.specs.declared.call.AgentCall.TheVariants as agent
 use Rattle.bsp_routes.specs.declared.call.Call.TheVariants as call
 use Rattle.bsp_routes.specs.declared.call.OfficeCall.{OfficeCall}
 use Rattle.bsp_routes.specs.declared.call.OfficeCall.TheVariants as office
-use Rattle.bsp_serving.specs.Contents.{IsAgentCall, IsAskedWith, IsFileIn, IsOfficeCall, bytes_in}
-use Rattle.bsp_serving.specs.declared.content.Content.{Content}
-use Rattle.bsp_serving.specs.declared.content.Content.TheVariants.{Bytes, File, Fault}
-use Rattle.bsp_step.proofs.FitLemmas.{read_fits as bytes_fit}
-use Rattle.bsp_step.specs.Requests.{AgentRequest, Asked, FileRead, OfficeRequest, Request as Reading}
-use Rattle.bsp_step.specs.Requests.Asked.{ByAgent, ByOffice}
-use Rattle.bsp_step.specs.Step.{AreGroups, Fits, HasGroups}
+use Rattle.bsp_desk_base.specs.Contents.{IsAgentCall, IsAskedWith, IsFileIn, IsOfficeCall, bytes_in}
+use Rattle.bsp_desk_base.specs.declared.content.Content.{Content}
+use Rattle.bsp_desk_base.specs.declared.content.Content.TheVariants.{Bytes, File, Fault}
+use Rattle.bsp_desk_base.proofs.FitLemmas.{read_fits as bytes_fit}
+use Rattle.bsp_desk_base.specs.Requests.{AgentRequest, Asked, FileRead, OfficeRequest, Request as Reading}
+use Rattle.bsp_desk_base.specs.Requests.Asked.{ByAgent, ByOffice}
+use Rattle.bsp_desk_base.specs.Step.{AreGroups, Fits, HasGroups}
 use Rattle.bsp_desk.specs.Reading.{IsRead}
 use Rattle.bsp_desk.specs.declared.request.Request.{Request}
 

@@ -5,18 +5,18 @@ use Rattle.bsp_messages.specs.declared.refusal.RequestRefusal.TheVariants.{NoRoo
 use Rattle.bsp_messages.specs.declared.reply.Reply.{Reply}
 use Rattle.bsp_rows.specs.Rows.{Rows}
 use Rattle.bsp_rows.specs.Sound.{Sound}
-use Rattle.bsp_step.proofs.AirlineIsolated.{airline_isolated}
-use Rattle.bsp_step.proofs.ClosedKept.{closed_stays}
-use Rattle.bsp_step.proofs.Held.{one_owner, repeats_are_held}
-use Rattle.bsp_step.proofs.HeldInRuns.{runs_hold}
-use Rattle.bsp_step.proofs.Isolated.{isolated}
-use Rattle.bsp_step.proofs.NetLemmas.{nets_add_up}
-use Rattle.bsp_step.proofs.Reports.{reports_stay}
-use Rattle.bsp_step.proofs.ShownInRuns.{runs_show}
-use Rattle.bsp_step.proofs.Values.{runs_agree}
-use Rattle.bsp_step.specs.Requests.{Request as Reading}
-use Rattle.bsp_step.specs.Step.{Fits, answer_of}
-use Rattle.bsp_step.specs.View.{AllFit, Exchange, IsAnswered, Run, rows_replied}
+use Rattle.bsp_desk_base.proofs.AirlineIsolated.{airline_isolated}
+use Rattle.bsp_desk_base.proofs.ClosedKept.{closed_stays}
+use Rattle.bsp_desk_base.proofs.Held.{one_owner, repeats_are_held}
+use Rattle.bsp_desk_base.proofs.HeldInRuns.{runs_hold}
+use Rattle.bsp_desk_base.proofs.Isolated.{isolated}
+use Rattle.bsp_desk_base.proofs.NetLemmas.{nets_add_up}
+use Rattle.bsp_desk_base.proofs.Reports.{reports_stay}
+use Rattle.bsp_desk_base.proofs.ShownInRuns.{runs_show}
+use Rattle.bsp_desk_base.proofs.Values.{runs_agree}
+use Rattle.bsp_desk_base.specs.Requests.{Request as Reading}
+use Rattle.bsp_desk_base.specs.Step.{Fits, answer_of}
+use Rattle.bsp_desk_base.specs.View.{AllFit, Exchange, IsAnswered, Run, rows_replied}
 use Rattle.bsp_desk.specs.Reading.{AreRead, IsRead}
 use Rattle.bsp_desk.specs.Replies.{Refuses, is_unavailable}
 use Rattle.bsp_desk.specs.Runs.{AreAnswered, AreExchanges, IsReplied, Ran}

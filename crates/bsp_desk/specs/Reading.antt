@@ -1,9 +1,9 @@
--- How a request that comes in is read as one of `bsp_step`.
+-- How a request that comes in is read as one of `bsp_office_spec`.
 use Rattle.std.specs.Prelude.{◌≡◌, ℕ, List, [], ◌∷◌, Option, Some, None}
 use Rattle.std.specs.Borrow.{Bor}
 use Rattle.bsp_routes.specs.Calls.{asking_text}
-use Rattle.bsp_serving.specs.Contents.{IsAskedWith, IsWhole, bytes_in}
-use Rattle.bsp_step.specs.Requests.{IsInMemory, Request as Reading}
+use Rattle.bsp_desk_base.specs.Contents.{IsAskedWith, IsWhole, bytes_in}
+use Rattle.bsp_desk_base.specs.Requests.{IsInMemory, Request as Reading}
 use Rattle.bsp_desk.specs.declared.request.Request.{Request}
 
 abbrev pub token_text : Option (Bor (List ℕ)) → Option (List ℕ)

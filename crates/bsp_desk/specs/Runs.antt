@@ -1,23 +1,23 @@
 -- What a run of requests is, and what holds of all of it.
 use Rattle.std.specs.Prelude.{◌≡◌, ◌⊎◌, ℕ, false, List, [], ◌∷◌, Option, Some, None}
 use Rattle.bsp_book.specs.Calls.{Meaning}
-use Rattle.bsp_calendar.specs.Published.{closed_period}
-use Rattle.bsp_calendar.specs.declared.entries.Period.{Period}
+use Rattle.bsp_rows.specs.Published.{closed_period}
+use Rattle.bsp_rows.specs.Period.{Period}
 use Rattle.bsp_messages.specs.declared.refusal.RequestRefusal.TheVariants.{NoRoom, StoreFailed}
 use Rattle.bsp_messages.specs.declared.reply.Reply.{Reply}
-use Rattle.bsp_ret_records.specs.declared.transactions.Transaction.{Transaction}
+use Rattle.bsp_rows.specs.Transaction.{Transaction}
 use Rattle.bsp_rows.specs.Rows.{Rows, item_at}
 use Rattle.bsp_rows.specs.declared.keys.ItemKey.{ItemKey}
 use Rattle.bsp_rows.specs.Sound.{Sound}
-use Rattle.bsp_rules.specs.declared.rows.Item.{Item}
-use Rattle.bsp_step.specs.AirlineLedger.{airline_ledger_of, hot_answer}
-use Rattle.bsp_step.specs.AirlineView.{airline_all, airline_ledger_answers, airline_told, airline_view}
-use Rattle.bsp_step.specs.Answers.{Answer}
-use Rattle.bsp_step.specs.Laws.{HasAccepted, IsHeldIn, IsPeriodKept, NetsAddUp, NewAgreeWithTickets, RepeatsHeld, ShownReportsStay}
-use Rattle.bsp_step.specs.Ledger.{ledger_of, own_verdicts, statement_answer}
-use Rattle.bsp_step.specs.Requests.{Request as Reading}
-use Rattle.bsp_step.specs.Step.{AreGroups, office_verdicts, settlement_answer}
-use Rattle.bsp_step.specs.View.{AllFit, Exchange, Run, ledger_all, ledger_answers, told, view}
+use Rattle.bsp_rows.specs.Item.{Item}
+use Rattle.bsp_desk_base.specs.AirlineLedger.{airline_ledger_of, hot_answer}
+use Rattle.bsp_desk_base.specs.AirlineView.{airline_all, airline_ledger_answers, airline_told, airline_view}
+use Rattle.bsp_desk_base.specs.Answers.{Answer}
+use Rattle.bsp_desk_base.specs.Laws.{HasAccepted, IsHeldIn, IsPeriodKept, NetsAddUp, NewAgreeWithTickets, RepeatsHeld, ShownReportsStay}
+use Rattle.bsp_desk_base.specs.Ledger.{ledger_of, own_verdicts, statement_answer}
+use Rattle.bsp_desk_base.specs.Requests.{Request as Reading}
+use Rattle.bsp_desk_base.specs.Step.{AreGroups, office_verdicts, settlement_answer}
+use Rattle.bsp_desk_base.specs.View.{AllFit, Exchange, Run, ledger_all, ledger_answers, told, view}
 use Rattle.bsp_desk.specs.Replies.{IsSent, Refuses, is_unavailable}
 use Rattle.bsp_desk.specs.Steps.{Answers}
 use Rattle.bsp_desk.specs.declared.request.Request.{Request}

@@ -1,17 +1,17 @@
 ghost use Rattle.std.specs.Prelude.{◌≡◌, false};
 ghost use Rattle.bsp_desk.specs.Calls.{agent_text};
-ghost use Rattle.bsp_serving.specs.Contents.{IsAgentCall};
-ghost use Rattle.bsp_serving.specs.Serves.{EndsOnFault, ServesAgent};
-ghost use Rattle.bsp_step.specs.Requests.{AgentRequest};
+ghost use Rattle.bsp_desk_base.specs.Contents.{IsAgentCall};
+ghost use Rattle.bsp_desk_base.specs.Serves.{EndsOnFault, ServesAgent};
+ghost use Rattle.bsp_desk_base.specs.Requests.{AgentRequest};
 
 use bsp_book::{Book, BookFault};
+use bsp_desk_base::Content;
 use bsp_desk_files::report_of_agent;
 use bsp_desk_memos::{agent_memos, agree, dispute};
 use bsp_desk_reports::{document, period, statement, stock};
-use bsp_fields::AgentCode;
 use bsp_messages::Answer;
 use bsp_routes::AgentCall;
-use bsp_serving::Content;
+use bsp_rows::AgentCode;
 use std::alloc::Global;
 
 /// Serves a call of an agent in the open transaction.

@@ -1,16 +1,16 @@
 ghost use Rattle.std.specs.Prelude.{◌≡◌, false};
 ghost use Rattle.bsp_desk.specs.Calls.{airline_text};
-ghost use Rattle.bsp_serving.specs.Contents.{bytes_in};
-ghost use Rattle.bsp_serving.specs.Serves.{EndsOnFault, ServesAirline};
-ghost use Rattle.bsp_step.specs.Requests.{AirlineRequest, IsAirlineRequest};
+ghost use Rattle.bsp_desk_base.specs.Contents.{bytes_in};
+ghost use Rattle.bsp_desk_base.specs.Serves.{EndsOnFault, ServesAirline};
+ghost use Rattle.bsp_desk_base.specs.Requests.{AirlineRequest, IsAirlineRequest};
 
 use bsp_book::{Book, BookFault};
+use bsp_desk_base::Content;
 use bsp_desk_memos::{airline_memos, issue, reduce, uphold, withdraw};
 use bsp_desk_reports::hot;
-use bsp_fields::AirlineCode;
 use bsp_messages::Answer;
 use bsp_routes::AirlineCall;
-use bsp_serving::Content;
+use bsp_rows::AirlineCode;
 use std::alloc::Global;
 
 /// Serves a call of an airline in the open transaction.

@@ -5,7 +5,7 @@ ghost use Rattle.bsp_desk.specs.Reading.{token_text};
 
 use crate::token::is_token_of;
 use bsp_book::{Book, BookFault};
-use bsp_fields::{AgentCode, AirlineCode};
+use bsp_rows::{AgentCode, AirlineCode};
 
 /// The agent of this code, where it is registered and the token is its own.
 pub(crate) fn known_agent<B: Book>(

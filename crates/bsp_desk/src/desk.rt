@@ -5,15 +5,15 @@ ghost use Rattle.bsp_desk.specs.Runs.{AreAnswered, RanOver};
 ghost use Rattle.bsp_desk.specs.Steps.{Answers};
 ghost use Rattle.bsp_rows.specs.Rows.{Rows};
 ghost use Rattle.bsp_rows.specs.Sound.{Sound};
-ghost use Rattle.bsp_step.specs.Requests.{Request as Reading};
+ghost use Rattle.bsp_desk_base.specs.Requests.{Request as Reading};
 
 use crate::request::Request;
 use crate::transaction::answer_call;
 use bsp_book::{Book, BookFault};
-use bsp_fields::Token;
+use bsp_desk_base::Content;
 use bsp_messages::{Reply, RequestRefusal};
 use bsp_routes::{Asking, Call};
-use bsp_serving::Content;
+use bsp_rows::Token;
 use std::alloc::Global;
 
 /// The desk of an office over a book.
@@ -52,7 +52,7 @@ impl<B: Book> Desk<B> {
         self.book
     }
 
-    /// Answers one request: over sound rows with the answer of `bsp_step`, after which the book holds the rows
+    /// Answers one request: over sound rows with the answer of `bsp_office_spec`, after which the book holds the rows
     /// that it leaves, or with a 503. A refusal and B01 leave the rows as they are. B03 is the reply if and only
     /// if the book has failed, and then to every request.
     ///
@@ -74,7 +74,7 @@ impl<B: Book> Desk<B> {
     /// Answers requests of any callers, one after the other: each as `answer` does, over the book that the one
     /// before it left.
     ///
-    /// However the requests are read, what their replies send is a run of `bsp_step` from sound rows, in which a
+    /// However the requests are read, what their replies send is a run of `bsp_office_spec` from sound rows, in which a
     /// 503 changes nothing. So each agent's and each airline's answers are those of its own ledger, what was
     /// accepted is held, and a closed period stays. A number has one owner, what is accepted agrees with its
     /// tickets, and the agents' and the airlines' nets of a period have one sum.

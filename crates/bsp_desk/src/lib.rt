@@ -1,6 +1,6 @@
 //! The desk: it answers the requests of any callers, one after the other, over any [`Book`](bsp_book::Book).
 //!
-//! The rules are those of `docs/DESK.md`, and `bsp_step` defines them. Each request is one transaction of the
+//! The rules are those of `docs/DESK.md`, and `bsp_office_spec` defines them. Each request is one transaction of the
 //! book: its reply is made before the commit, so a refusal and a 503 B01 leave the rows as they were.
 #![tactic(auto)]
 
@@ -15,6 +15,11 @@ mod serve;
 mod token;
 mod transaction;
 
+pub use bsp_book::{Book, BookFault, ListBook};
+pub use bsp_desk_base::Content;
+pub use bsp_messages::{Body, Media, Reply, RequestRefusal, Status};
+pub use bsp_routes::{Asking, BodyKind, Routes};
+pub use bsp_rows::Token;
 pub use desk::Desk;
 pub use laws::{replies_are_alike, requests_are_read};
 pub use request::Request;

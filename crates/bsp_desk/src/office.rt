@@ -1,10 +1,11 @@
 ghost use Rattle.std.specs.Prelude.{◌≡◌, false};
 ghost use Rattle.bsp_desk.specs.Calls.{office_text};
-ghost use Rattle.bsp_serving.specs.Contents.{IsOfficeCall};
-ghost use Rattle.bsp_serving.specs.Serves.{EndsOnFault, ServesOffice};
-ghost use Rattle.bsp_step.specs.Requests.{OfficeRequest};
+ghost use Rattle.bsp_desk_base.specs.Contents.{IsOfficeCall};
+ghost use Rattle.bsp_desk_base.specs.Serves.{EndsOnFault, ServesOffice};
+ghost use Rattle.bsp_desk_base.specs.Requests.{OfficeRequest};
 
 use bsp_book::{Book, BookFault};
+use bsp_desk_base::Content;
 use bsp_desk_files::report_of_office;
 use bsp_desk_office::{
     allot, close, publish, register_agent, register_airline, set_day, withdraw_range,
@@ -12,7 +13,6 @@ use bsp_desk_office::{
 use bsp_desk_reports::settlement;
 use bsp_messages::Answer;
 use bsp_routes::OfficeCall;
-use bsp_serving::Content;
 use std::alloc::Global;
 
 /// Serves a call of the office in the open transaction.

@@ -1,5 +1,5 @@
+use bsp_desk_base::Content;
 use bsp_routes::Asking;
-use bsp_serving::Content;
 
 /// A request as it comes in.
 #[derive(Clone, Copy)]

@@ -3,11 +3,11 @@ ghost use Rattle.bsp_desk.specs.Callers.{calling};
 ghost use Rattle.bsp_desk.specs.Calls.{agent_text, airline_text, office_text};
 ghost use Rattle.bsp_desk.specs.Reading.{token_text};
 ghost use Rattle.bsp_desk.specs.Steps.{ServesRequest};
-ghost use Rattle.bsp_serving.specs.Contents.{IsAgentCall, IsOfficeCall, bytes_in};
-ghost use Rattle.bsp_serving.specs.Serves.{EndsOnFault, Serves};
-ghost use Rattle.bsp_step.specs.Requests.{AgentRequest, AirlineRequest, IsAirlineRequest, OfficeRequest};
-ghost use Rattle.bsp_step.specs.Requests.Asked.{ByAgent, ByAirline, ByOffice};
-ghost use Rattle.bsp_step.specs.Step.{asked_after, asked_answer};
+ghost use Rattle.bsp_desk_base.specs.Contents.{IsAgentCall, IsOfficeCall, bytes_in};
+ghost use Rattle.bsp_desk_base.specs.Serves.{EndsOnFault, Serves};
+ghost use Rattle.bsp_desk_base.specs.Requests.{AgentRequest, AirlineRequest, IsAirlineRequest, OfficeRequest};
+ghost use Rattle.bsp_desk_base.specs.Requests.Asked.{ByAgent, ByAirline, ByOffice};
+ghost use Rattle.bsp_desk_base.specs.Step.{asked_after, asked_answer};
 
 use crate::agent::serve_agent;
 use crate::airline::serve_airline;
@@ -15,10 +15,10 @@ use crate::caller::{known_agent, known_airline};
 use crate::office::serve_office;
 use crate::token::is_token_of;
 use bsp_book::{Book, BookFault};
-use bsp_fields::Token;
+use bsp_desk_base::Content;
 use bsp_messages::{Answer, RequestRefusal};
 use bsp_routes::{AgentCall, AirlineCall, Call, OfficeCall};
-use bsp_serving::Content;
+use bsp_rows::Token;
 use std::alloc::Global;
 
 /// Serves a call in the open transaction: the caller and its token first, then what is asked.

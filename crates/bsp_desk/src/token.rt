@@ -1,8 +1,8 @@
 ghost use Rattle.std.specs.Prelude.{◌≡◌, Some};
 ghost use Rattle.bsp_desk.specs.Reading.{token_text};
-ghost use Rattle.bsp_step.specs.Step.{is_token};
+ghost use Rattle.bsp_desk_base.specs.Step.{is_token};
 
-use bsp_fields::Token;
+use bsp_rows::Token;
 
 /// Whether the token given is this one.
 pub(crate) fn is_token_of(own: &Token, given: Option<&[u8]>) -> bool

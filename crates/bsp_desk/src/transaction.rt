@@ -5,10 +5,10 @@ ghost use Rattle.bsp_desk.specs.Steps.{Commits, EndsRequest, EndsUnsent, Sends};
 
 use crate::serve::serve;
 use bsp_book::{Book, BookFault};
-use bsp_fields::Token;
+use bsp_desk_base::{Content, give_up};
 use bsp_messages::{Reply, Status, reply_of};
 use bsp_routes::Call;
-use bsp_serving::{Content, give_up};
+use bsp_rows::Token;
 use std::alloc::Global;
 
 /// Answers a call in one transaction, whose reply is made before the commit.

@@ -5,22 +5,22 @@ use Rattle.bsp_book.specs.Calls.{Meaning}
 use Rattle.bsp_book.specs.declared.fault.BookFault.{BookFault}
 use Rattle.bsp_messages.specs.declared.answer.Answer.{Answer}
 use Rattle.bsp_messages.specs.declared.answer.Answer.TheVariants as message
-use Rattle.bsp_records.specs.Lines.{lines}
+use Rattle.bsp_ret.specs.Lines.{lines}
 use Rattle.bsp_ret.specs.Reading.{no_memory}
 use Rattle.bsp_ret.specs.Ret.{File, Ret}
 use Rattle.bsp_ret.specs.Table.{first_fault}
 use Rattle.bsp_ret.specs.declared.model.RetFault.{RetFault}
 use Rattle.bsp_ret.proofs.LawLemmas.{law}
-use Rattle.bsp_ret_records.specs.declared.transactions.Transaction.{Transaction}
-use Rattle.bsp_ret_writer.specs.Writing.{HaveContents}
+use Rattle.bsp_rows.specs.Transaction.{Transaction}
+use Rattle.bsp_rows.specs.Writing.{HaveContents}
 use Rattle.bsp_rules.specs.declared.verdict.Reporter.{Reporter}
 use Rattle.bsp_rules.specs.declared.verdict.Reporter.TheVariants.{Office, Agent}
 use Rattle.bsp_rules.specs.declared.verdict.Verdict.{Verdict}
 use Rattle.bsp_rows.specs.Rows.{Rows}
 use Rattle.bsp_rows.specs.Sound.{Sound}
 use Rattle.bsp_rows.proofs.MapLemmas.{same_Some}
-use Rattle.bsp_step.specs.Requests.{FileRead, IsFileOf}
-use Rattle.bsp_step.specs.Step.{rows_filed}
+use Rattle.bsp_desk_base.specs.Requests.{FileRead, IsFileOf}
+use Rattle.bsp_desk_base.specs.Step.{rows_filed}
 use Rattle.bsp_desk_files.specs.Judged.{AreJudged, owner_of, verdicts_of}
 use Rattle.bsp_desk_files.specs.Reported.{ServesFile}
 use Rattle.bsp_desk_files.proofs.FileLemmas.{one_list}

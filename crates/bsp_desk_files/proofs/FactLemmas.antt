@@ -1,8 +1,8 @@
 -- The facts that are read by key are those over all rows of the agent.
 use Rattle.std.proofs.Common.{◌≡◌, ℕ, Bool, List, Option, Some, None, refl, ◌∙◌}
 use Rattle.std.specs.Prelude.{is_some}
-use Rattle.bsp_calendar.specs.Published.{Published, target_of}
-use Rattle.bsp_ret_records.specs.declared.transactions.Transaction.{Transaction}
+use Rattle.bsp_rows.specs.Published.{Published, target_of}
+use Rattle.bsp_rows.specs.Transaction.{Transaction}
 use Rattle.bsp_rules.specs.FactsOf.{facts_in}
 use Rattle.bsp_rules.specs.declared.facts.Facts.{Facts}
 use Rattle.bsp_rules.specs.declared.rows.Item.{Item}

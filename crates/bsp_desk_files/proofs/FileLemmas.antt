@@ -4,18 +4,18 @@ use Rattle.std.proofs.lemmas.List.{take_more}
 use Rattle.bsp_book.specs.Calls.{Meaning}
 use Rattle.bsp_ret.specs.Content.{HasContent}
 use Rattle.bsp_ret.proofs.SameContent.{one_content}
-use Rattle.bsp_ret_records.specs.declared.transactions.Transaction.{Transaction}
-use Rattle.bsp_ret_writer.specs.Writing.{HaveContents}
-use Rattle.bsp_ret_writer.proofs.WrittenFile.{contents_more}
+use Rattle.bsp_rows.specs.Transaction.{Transaction}
+use Rattle.bsp_rows.specs.Writing.{HaveContents}
+use Rattle.bsp_rows.proofs.WrittenFile.{contents_more}
 use Rattle.bsp_rules.specs.declared.verdict.Reporter.{Reporter}
 use Rattle.bsp_rules.specs.declared.verdict.Reporter.TheVariants.{Office, Agent}
 use Rattle.bsp_rules.specs.declared.verdict.Verdict.{Verdict}
 use Rattle.bsp_rows.specs.Rows.{Rows}
 use Rattle.bsp_rows.specs.Sound.{Sound}
-use Rattle.bsp_serving.specs.Serves.{FallsBackSound, LeavesLastSound}
-use Rattle.bsp_step.specs.Ledger.{Ledger, ledger_filed, ledger_judged, ledger_of, own_verdict, own_verdicts}
-use Rattle.bsp_step.specs.Step.{Owner, bearer, office_verdict, office_verdicts, rows_filed, rows_judged}
-use Rattle.bsp_step.proofs.SeenLemmas.{filed_own}
+use Rattle.bsp_desk_base.specs.Serves.{FallsBackSound, LeavesLastSound}
+use Rattle.bsp_desk_base.specs.Ledger.{Ledger, ledger_filed, ledger_judged, ledger_of, own_verdict, own_verdicts}
+use Rattle.bsp_desk_base.specs.Step.{Owner, bearer, office_verdict, office_verdicts, rows_filed, rows_judged}
+use Rattle.bsp_desk_base.proofs.SeenLemmas.{filed_own}
 use Rattle.bsp_desk_files.specs.Judged.{AreJudged, HasJudged, IsJudged, owner_of, rows_next, verdict_of, verdicts_of}
 
 -- groups have one list of values

@@ -1,10 +1,10 @@
 -- The verdict on one transaction, and the rows after it.
 use Rattle.std.proofs.Common.{◌≡◌, ℕ, true, Some, None, Ok, refl, sym, ap, subst, ◌∙◌}
-use Rattle.bsp_calendar.specs.Published.{Published}
-use Rattle.bsp_fields.specs.Codes.{document_reading}
-use Rattle.bsp_fields.specs.Decimal.{fixed_digits, number_of}
-use Rattle.bsp_ret_records.specs.declared.transactions.Transaction.{Transaction}
-use Rattle.bsp_ret_writer.specs.GroupValues.{is_group_values}
+use Rattle.bsp_rows.specs.Published.{Published}
+use Rattle.bsp_rows.specs.Codes.{document_reading}
+use Rattle.bsp_rows.specs.Decimal.{fixed_digits, number_of}
+use Rattle.bsp_rows.specs.Transaction.{Transaction}
+use Rattle.bsp_rows.specs.GroupValues.{is_group_values}
 use Rattle.bsp_rules.specs.Verdicts.{verdict_on}
 use Rattle.bsp_rules.specs.declared.facts.Facts.{Facts}
 use Rattle.bsp_rules.specs.declared.verdict.Refusal.TheVariants.{WrongAgent}
@@ -20,10 +20,10 @@ use Rattle.bsp_rows.specs.Writes.{IsFree}
 use Rattle.bsp_rows.proofs.GroupLemmas.{own_reads}
 use Rattle.bsp_rows.proofs.KeptLemmas.{accepted_free}
 use Rattle.bsp_rows.proofs.MapLemmas.{same_Some}
-use Rattle.bsp_step.specs.Ledger.{agent_of, ledger_of, new_item, own_verdict}
-use Rattle.bsp_step.specs.Step.{Owner, joined, office_verdict, office_verdict_for, reporter, rows_judged}
-use Rattle.bsp_step.proofs.ChangeLemmas.{accepts, office_judged_keeps, own_judged_keeps, part_verdict, reported_own}
-use Rattle.bsp_step.proofs.Invariant.{sound_is_kept}
+use Rattle.bsp_desk_base.specs.Ledger.{agent_of, ledger_of, new_item, own_verdict}
+use Rattle.bsp_desk_base.specs.Step.{Owner, joined, office_verdict, office_verdict_for, reporter, rows_judged}
+use Rattle.bsp_desk_base.proofs.ChangeLemmas.{accepts, office_judged_keeps, own_judged_keeps, part_verdict, reported_own}
+use Rattle.bsp_desk_base.proofs.Invariant.{sound_is_kept}
 use Rattle.bsp_desk_files.specs.Judged.{IsJudged, owner_of, rows_next, verdict_of}
 
 -- what is accepted has a number with its check digit

@@ -1,7 +1,7 @@
 -- How many transactions count against the documents limit.
 use Rattle.std.specs.Prelude.{ℕ, Option, Some, None}
-use Rattle.bsp_calendar.specs.Published.{target_of}
-use Rattle.bsp_ret_records.specs.declared.transactions.Transaction.{Transaction}
+use Rattle.bsp_rows.specs.Published.{target_of}
+use Rattle.bsp_rows.specs.Transaction.{Transaction}
 use Rattle.bsp_rows.specs.Rows.{Rows}
 use Rattle.bsp_rows.specs.Tallies.{tally_of}
 

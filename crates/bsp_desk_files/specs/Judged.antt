@@ -1,15 +1,15 @@
 -- The verdicts of a reporter's transactions over rows, and what they make of the rows.
 use Rattle.std.specs.Prelude.{◌≡◌, ℕ, List, Some}
 use Rattle.bsp_book.specs.Calls.{Meaning}
-use Rattle.bsp_ret_records.specs.declared.transactions.Transaction.{Transaction}
-use Rattle.bsp_ret_writer.specs.Writing.{HaveContents}
+use Rattle.bsp_rows.specs.Transaction.{Transaction}
+use Rattle.bsp_rows.specs.Writing.{HaveContents}
 use Rattle.bsp_rows.specs.Rows.{Rows}
 use Rattle.bsp_rows.specs.Sound.{Sound}
 use Rattle.bsp_rules.specs.declared.verdict.Reporter.{Reporter}
 use Rattle.bsp_rules.specs.declared.verdict.Reporter.TheVariants.{Office, Agent}
 use Rattle.bsp_rules.specs.declared.verdict.Verdict.{Verdict}
-use Rattle.bsp_step.specs.Ledger.{ledger_of, own_verdict, own_verdicts}
-use Rattle.bsp_step.specs.Step.{Owner, bearer, office_verdict, office_verdicts, reporter, rows_filed, rows_judged}
+use Rattle.bsp_desk_base.specs.Ledger.{ledger_of, own_verdict, own_verdicts}
+use Rattle.bsp_desk_base.specs.Step.{Owner, bearer, office_verdict, office_verdicts, reporter, rows_filed, rows_judged}
 
 -- whose rows a transaction is judged over, and joins
 abbrev pub owner_of : Reporter → Owner

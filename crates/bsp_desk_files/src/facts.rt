@@ -3,13 +3,11 @@
 ghost use Rattle.std.specs.Prelude.{◌≡◌, OnOk, false};
 ghost use Rattle.bsp_book.specs.Calls.{FallsBack, Faults, Keeps, LeavesLast, LooksUp};
 ghost use Rattle.bsp_rows.specs.Changes.{facts_at};
-ghost use Rattle.bsp_serving.specs.Serves.{Finds};
+ghost use Rattle.bsp_desk_base.specs.Serves.{Finds};
 ghost use Rattle.bsp_desk_files.specs.Counted.{count_at};
 
 use bsp_book::{Book, BookFault};
-use bsp_fields::AgentCode;
-use bsp_ret_records::Transaction;
-use bsp_rows::TallyKey;
+use bsp_rows::{AgentCode, TallyKey, Transaction};
 use bsp_rules::{Facts, facts_of};
 
 /// How many transactions of the airline have been accepted for the agent in the target period; none without a

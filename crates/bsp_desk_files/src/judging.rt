@@ -1,18 +1,17 @@
 //! The transactions of a file, judged one after the other.
 
 ghost use Rattle.std.specs.Prelude.{◌≡◌, ◌≤◌, OnOk, Some, [], false, length, true, vec_capacity};
-ghost use Rattle.bsp_fields.specs.Decimal.{fixed_digits};
-ghost use Rattle.bsp_ret_writer.specs.GroupValues.{is_group_values};
-ghost use Rattle.bsp_serving.specs.Serves.{EndsOnFault, Finds};
-ghost use Rattle.bsp_step.specs.Ledger.{agent_of};
+ghost use Rattle.bsp_rows.specs.Decimal.{fixed_digits};
+ghost use Rattle.bsp_rows.specs.GroupValues.{is_group_values};
+ghost use Rattle.bsp_desk_base.specs.Serves.{EndsOnFault, Finds};
+ghost use Rattle.bsp_desk_base.specs.Ledger.{agent_of};
 ghost use Rattle.bsp_desk_files.specs.Judged.{AreJudged, IsJudged, owner_of, rows_next};
 
 use crate::facts::facts;
 use crate::keeping::keep_accepted;
 use bsp_book::{Book, BookFault};
-use bsp_fields::AgentCode;
 use bsp_ret::{RetFile, transaction};
-use bsp_ret_records::Transaction;
+use bsp_rows::{AgentCode, Transaction};
 use bsp_rules::{Refusal, Reporter, Verdict, judge};
 
 /// The agent over whose rows a transaction is judged: of the office's file the one that it bears, of an agent's

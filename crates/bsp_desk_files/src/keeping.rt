@@ -6,13 +6,11 @@ ghost use Rattle.bsp_rows.specs.Changes.{after_accepted, ended_by};
 ghost use Rattle.bsp_rows.specs.Rows.{HasNumberKey, item_at, key_of};
 ghost use Rattle.bsp_rows.specs.Writes.{IsFree};
 ghost use Rattle.bsp_rules.specs.declared.verdict.Verdict.TheVariants.{Accepted};
-ghost use Rattle.bsp_step.specs.Ledger.{new_item};
-ghost use Rattle.bsp_step.specs.Step.{reporter, rows_judged};
+ghost use Rattle.bsp_desk_base.specs.Ledger.{new_item};
+ghost use Rattle.bsp_desk_base.specs.Step.{reporter, rows_judged};
 
 use bsp_book::{Book, BookFault};
-use bsp_fields::AgentCode;
-use bsp_ret_records::Transaction;
-use bsp_rows::ItemKey;
+use bsp_rows::{AgentCode, ItemKey, Transaction};
 use bsp_rules::{Item, Verdict};
 
 /// A CANX ends the TKTT or RFND of its number.

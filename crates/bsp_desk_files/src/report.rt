@@ -2,24 +2,24 @@
 
 ghost use Rattle.std.specs.Prelude.{◌≡◌, ◌≢◌, Err, IfOk, List, Ok, false};
 ghost use Rattle.bsp_ret.specs.Reading.{no_memory};
-ghost use Rattle.bsp_ret_records.specs.declared.transactions.Transaction.{Transaction};
-ghost use Rattle.bsp_ret_writer.specs.Writing.{HaveContents};
+ghost use Rattle.bsp_rows.specs.Transaction.{Transaction};
+ghost use Rattle.bsp_rows.specs.Writing.{HaveContents};
 ghost use Rattle.bsp_rules.specs.declared.verdict.Reporter.{Reporter};
 ghost use Rattle.bsp_rules.specs.declared.verdict.Reporter.TheVariants.{Agent, Office};
-ghost use Rattle.bsp_serving.specs.Contents.{IsFileIn};
-ghost use Rattle.bsp_serving.specs.Serves.{EndsOnFault, ServesAgent, ServesOffice};
-ghost use Rattle.bsp_step.specs.Requests.{FileRead, IsFileOf};
-ghost use Rattle.bsp_step.specs.Requests.AgentRequest.{AgentFile};
-ghost use Rattle.bsp_step.specs.Requests.OfficeRequest.{OfficeFile};
+ghost use Rattle.bsp_desk_base.specs.Contents.{IsFileIn};
+ghost use Rattle.bsp_desk_base.specs.Serves.{EndsOnFault, ServesAgent, ServesOffice};
+ghost use Rattle.bsp_desk_base.specs.Requests.{FileRead, IsFileOf};
+ghost use Rattle.bsp_desk_base.specs.Requests.AgentRequest.{AgentFile};
+ghost use Rattle.bsp_desk_base.specs.Requests.OfficeRequest.{OfficeFile};
 ghost use Rattle.bsp_desk_files.specs.Reported.{ServesFile};
 
 use crate::judging::judge_all;
 use bsp_book::{Book, BookFault};
-use bsp_fields::AgentCode;
+use bsp_desk_base::{Content, give_up};
 use bsp_messages::Answer;
 use bsp_ret::{FaultCode, RetFault, RetFile, read_ret};
+use bsp_rows::AgentCode;
 use bsp_rules::Reporter;
-use bsp_serving::{Content, give_up};
 use std::alloc::Global;
 
 /// The verdicts on a file. Room for all of them is made first.

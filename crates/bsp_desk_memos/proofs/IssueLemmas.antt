@@ -2,8 +2,8 @@
 use Rattle.std.proofs.Common.{◌≡◌, ℕ, ◌==◌, not, nat_le, Bool, true, false, cond, map, count_by, Option, Some, None, is_some, option_map, Result, Ok, Err, refl, ap, ◌∙◌}
 use Rattle.std.specs.FinMap.{get, nat_cmp-IsAntisymmetric}
 use Rattle.std.specs.Cmp.{nat_cmp_total}
-use Rattle.bsp_fields.specs.declared.change.Change.TheVariants.{Done}
-use Rattle.bsp_rules.specs.Verdicts.{limit_of}
+use Rattle.bsp_rows.specs.Change.TheVariants.{Done}
+use Rattle.bsp_rows.specs.Verdicts.{limit_of}
 use Rattle.bsp_memos.specs.Memos.{is_amount}
 use Rattle.bsp_memos.specs.declared.fault.MemoFault.{MemoFault}
 use Rattle.bsp_memos.specs.declared.fault.MemoFault.TheVariants.{AmountOutOfRange, AgentNotRegistered, LimitReached}
@@ -14,10 +14,10 @@ use Rattle.bsp_rows.specs.Laws.{issued_count}
 use Rattle.bsp_rows.specs.Rows.{Rows, agent_token, memo_at}
 use Rattle.bsp_rows.proofs.KeyOrders.{memo_exact, memo_total}
 use Rattle.bsp_rows.proofs.PartLemmas.{each_get, kept_entries}
-use Rattle.bsp_step.specs.AirlineLedger.{airline_ledger_of, count_to, is_known, issue_beside, issue_key, issuing, new_memo, no_token}
-use Rattle.bsp_step.specs.Answers.{Answer}
-use Rattle.bsp_step.specs.Answers.Answer.{Changed, Refused}
-use Rattle.bsp_step.proofs.Seen.{of_its_airline}
+use Rattle.bsp_desk_base.specs.AirlineLedger.{airline_ledger_of, count_to, is_known, issue_beside, issue_key, issuing, new_memo, no_token}
+use Rattle.bsp_desk_base.specs.Answers.{Answer}
+use Rattle.bsp_desk_base.specs.Answers.Answer.{Changed, Refused}
+use Rattle.bsp_desk_base.proofs.Seen.{of_its_airline}
 use Rattle.bsp_desk_memos.specs.Issues.{beside, placing}
 use Rattle.bsp_desk_memos.proofs.MemoLemmas.{by_airline}
 

@@ -1,7 +1,7 @@
 -- What the issue of a memo is answered, and the rows after it.
 use Rattle.std.specs.Prelude.{ℕ, nat_le, Option, Some, None, Result, IfOk, if◌then◌else◌}
-use Rattle.bsp_fields.specs.declared.change.Change.TheVariants.{Done, Held}
-use Rattle.bsp_rules.specs.Verdicts.{limit_of}
+use Rattle.bsp_rows.specs.Change.TheVariants.{Done, Held}
+use Rattle.bsp_rows.specs.Verdicts.{limit_of}
 use Rattle.bsp_book.specs.Calls.{Meaning}
 use Rattle.bsp_book.specs.declared.fault.BookFault.{BookFault}
 use Rattle.bsp_memos.specs.Memos.{is_same_issue}
@@ -13,12 +13,12 @@ use Rattle.bsp_messages.specs.declared.refusal.RequestRefusal.TheVariants as ref
 use Rattle.bsp_rows.specs.Laws.{issued_count}
 use Rattle.bsp_rows.specs.Rows.{Rows, memo_at, memo_key}
 use Rattle.bsp_rows.specs.Writes.{IsFree, with_memo}
-use Rattle.bsp_serving.specs.Serves.{Serves}
-use Rattle.bsp_step.specs.AirlineLedger.{airline_ledger_of, issuing}
-use Rattle.bsp_step.specs.Answers.{Answer, is_done}
-use Rattle.bsp_step.specs.Answers.Answer.{Changed, Refused}
-use Rattle.bsp_step.specs.Step.{issued_to}
-use Rattle.bsp_step.specs.Texts.{Says}
+use Rattle.bsp_desk_base.specs.Serves.{Serves}
+use Rattle.bsp_desk_base.specs.AirlineLedger.{airline_ledger_of, issuing}
+use Rattle.bsp_desk_base.specs.Answers.{Answer, is_done}
+use Rattle.bsp_desk_base.specs.Answers.Answer.{Changed, Refused}
+use Rattle.bsp_desk_base.specs.Step.{issued_to}
+use Rattle.bsp_desk_base.specs.Texts.{Says}
 
 -- ---- a new memo, whose amount is in range, to an agent that is registered
 

@@ -1,11 +1,10 @@
 ghost use Rattle.std.specs.Prelude.{◌≡◌};
 ghost use Rattle.bsp_memos.specs.Steps.{MemoStep};
-ghost use Rattle.bsp_step.specs.Ledger.{review_of};
+ghost use Rattle.bsp_desk_base.specs.Ledger.{review_of};
 ghost use Rattle.bsp_desk_memos.specs.Actions.{meaning_of};
 
-use bsp_calendar::Plan;
-use bsp_fields::{Change, Day};
 use bsp_memos::{Memo, MemoFault, agree, dispute, reduce, uphold, withdraw};
+use bsp_rows::{Change, Day, Plan};
 
 /// What is done about a memo. The first two are its agent's, the others its airline's.
 #[derive(Clone, Copy)]

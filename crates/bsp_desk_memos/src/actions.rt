@@ -3,22 +3,21 @@
 ghost use Rattle.std.specs.Prelude.{◌≡◌, IfOk, OnOk, false};
 ghost use Rattle.bsp_book.specs.Calls.{FallsBack, Faults, Keeps, LeavesLast, Shows};
 ghost use Rattle.bsp_messages.specs.Bodies.{body_of, document_form, named_memo_form, reduction_form};
-ghost use Rattle.bsp_serving.specs.Serves.{EndsOnFault, ServesAgent, ServesAirline};
-ghost use Rattle.bsp_step.specs.AirlineLedger.{issue_key};
-ghost use Rattle.bsp_step.specs.Ledger.{memo_named};
-ghost use Rattle.bsp_step.specs.Requests.AgentRequest.{AgreeMemo, DisputeMemo};
-ghost use Rattle.bsp_step.specs.Requests.AirlineRequest.{ReduceMemo, UpholdMemo, WithdrawMemo};
+ghost use Rattle.bsp_desk_base.specs.Serves.{EndsOnFault, ServesAgent, ServesAirline};
+ghost use Rattle.bsp_desk_base.specs.AirlineLedger.{issue_key};
+ghost use Rattle.bsp_desk_base.specs.Ledger.{memo_named};
+ghost use Rattle.bsp_desk_base.specs.Requests.AgentRequest.{AgreeMemo, DisputeMemo};
+ghost use Rattle.bsp_desk_base.specs.Requests.AirlineRequest.{ReduceMemo, UpholdMemo, WithdrawMemo};
 ghost use Rattle.bsp_desk_memos.specs.Actions.{ActsOn, ServesAction, meaning_of, memo_by, memo_to};
 
 use crate::action::{Action, act, review_days};
 use crate::bodies::not_read;
 use bsp_book::{Book, BookFault};
-use bsp_fields::{AgentCode, AirlineCode, Change, DocNumber};
 use bsp_memos::{Memo, MemoFault};
 use bsp_messages::{
     Answer, NamedMemo, RequestRefusal, read_memo_document, read_named_memo, read_reduction,
 };
-use bsp_rows::MemoKey;
+use bsp_rows::{AgentCode, AirlineCode, Change, DocNumber, MemoKey};
 use std::alloc::Global;
 
 /// The memo of a key, if it is to the agent.

@@ -3,8 +3,8 @@ ghost use Rattle.bsp_book.specs.Calls.{FallsBack, Faults, Keeps, LeavesLast};
 ghost use Rattle.bsp_desk_memos.specs.Answered.{IsMalformed};
 
 use bsp_book::{Book, BookFault};
+use bsp_desk_base::give_up;
 use bsp_messages::{Answer, BodyFault, RequestRefusal};
-use bsp_serving::give_up;
 
 /// The answer to a body that was not read.
 ///

@@ -3,18 +3,16 @@
 ghost use Rattle.std.specs.Prelude.{◌≡◌, Some, false};
 ghost use Rattle.bsp_book.specs.Calls.{FallsBack, Faults, LeavesLast};
 ghost use Rattle.bsp_messages.specs.Bodies.{body_of, issue_form};
-ghost use Rattle.bsp_rules.specs.Verdicts.{limit_of};
-ghost use Rattle.bsp_serving.specs.Serves.{EndsOnFault, Serves, ServesAirline};
-ghost use Rattle.bsp_step.specs.Requests.AirlineRequest.{IssueMemo};
+ghost use Rattle.bsp_rows.specs.Verdicts.{limit_of};
+ghost use Rattle.bsp_desk_base.specs.Serves.{EndsOnFault, Serves, ServesAirline};
+ghost use Rattle.bsp_desk_base.specs.Requests.AirlineRequest.{IssueMemo};
 ghost use Rattle.bsp_desk_memos.specs.Issues.{Adds, ServesIssue, placed, placing};
 
 use crate::bodies::not_read;
 use bsp_book::{Book, BookFault};
-use bsp_calendar::Plan;
-use bsp_fields::{AgentCode, AirlineCode, Change};
 use bsp_memos::{Memo, MemoFault, MemoFields};
 use bsp_messages::{Answer, MemoIssue, RequestRefusal, read_issue};
-use bsp_rows::MemoKey;
+use bsp_rows::{AgentCode, AirlineCode, Change, MemoKey, Plan};
 use std::alloc::Global;
 
 /// The documents limit, and 0 before terms are published.

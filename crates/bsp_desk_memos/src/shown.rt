@@ -2,17 +2,16 @@
 
 ghost use Rattle.std.specs.Prelude.{◌≡◌, IfOk};
 ghost use Rattle.bsp_book.specs.Calls.{FallsBack, Faults, LeavesLast};
-ghost use Rattle.bsp_serving.specs.Serves.{EndsOnFault, Serves, ServesAgent, ServesAirline};
-ghost use Rattle.bsp_step.specs.Requests.AgentRequest.{AskMemos};
-ghost use Rattle.bsp_step.specs.Requests.AirlineRequest.{AskIssuedMemos};
+ghost use Rattle.bsp_desk_base.specs.Serves.{EndsOnFault, Serves, ServesAgent, ServesAirline};
+ghost use Rattle.bsp_desk_base.specs.Requests.AgentRequest.{AskMemos};
+ghost use Rattle.bsp_desk_base.specs.Requests.AirlineRequest.{AskIssuedMemos};
 ghost use Rattle.bsp_desk_memos.specs.Answered.{listed};
 
 use bsp_book::{Book, BookFault};
-use bsp_fields::{AgentCode, AirlineCode};
+use bsp_desk_base::give_up;
 use bsp_memos::{Memo, MemoFields};
 use bsp_messages::Answer;
-use bsp_rows::Memos;
-use bsp_serving::give_up;
+use bsp_rows::{AgentCode, AirlineCode, Memos};
 use std::alloc::{AllocError, Global};
 
 /// The fields of memos.

@@ -3,7 +3,7 @@ use Rattle.std.proofs.Common.{◌≡◌, ℕ, Bool, true, false, cond, ◌&&◌,
 use Rattle.std.specs.Prelude.{is_none}
 use Rattle.std.specs.FinMap.{FinMap, insert}
 use Rattle.std.proofs.lemmas.Bool.{both_ways}
-use Rattle.bsp_fields.specs.CivilDay.{CivilDay}
+use Rattle.bsp_rows.specs.CivilDay.{CivilDay}
 use Rattle.bsp_book.specs.Calls.{Meaning}
 use Rattle.bsp_memos.specs.Billing.{admits, amount_due, billed_in, is_due}
 use Rattle.bsp_memos.specs.Lives.{after_event}
@@ -16,8 +16,8 @@ use Rattle.bsp_rows.specs.Writes.{changed, with_billing}
 use Rattle.bsp_rows.specs.declared.questions.Memos.TheVariants.{Unbilled}
 use Rattle.bsp_rows.proofs.KeyOrders.{memo_exact, memo_total}
 use Rattle.bsp_rows.proofs.PartLemmas.{changed_some}
-use Rattle.bsp_step.proofs.Seen.{insert_same}
-use Rattle.bsp_step.specs.Ledger.{review_of}
+use Rattle.bsp_desk_base.proofs.Seen.{insert_same}
+use Rattle.bsp_desk_base.specs.Ledger.{review_of}
 use Rattle.bsp_desk_office.specs.Billings.{IsAsRead, with_billings, with_closed_memo}
 use Rattle.bsp_desk_office.proofs.EachLemmas.{IsLeft, changed_each, changed_left, left_there, none_left, passed_left}
 

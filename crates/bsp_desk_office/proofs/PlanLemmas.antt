@@ -3,8 +3,8 @@ use Rattle.std.proofs.Common.{◌≡◌, ℕ, ◌==◌, ◌&&◌, Bool, true, fa
 use Rattle.std.specs.Prelude.{Some}
 use Rattle.std.specs.Result.{result_map_both}
 use Rattle.std.proofs.lemmas.Bool.{and_parts, eqb-true}
-use Rattle.bsp_fields.specs.CivilDay.{CivilDay}
-use Rattle.bsp_fields.specs.declared.change.Change.{Change}
+use Rattle.bsp_rows.specs.CivilDay.{CivilDay}
+use Rattle.bsp_rows.specs.Change.{Change}
 use Rattle.bsp_calendar.specs.DayOrder.{same_day}
 use Rattle.bsp_calendar.specs.History.{Request, outcome}
 use Rattle.bsp_calendar.specs.History.Request.{Publish, SetDay, Close}
@@ -23,13 +23,13 @@ use Rattle.bsp_rows.specs.Changes.{each}
 use Rattle.bsp_rows.specs.Rows.{Rows}
 use Rattle.bsp_rows.specs.Sound.{Sound}
 use Rattle.bsp_rows.specs.Writes.{after_request, change_or_fault, is_held, plan_left, request_answer}
-use Rattle.bsp_serving.specs.After.{office_after}
-use Rattle.bsp_step.specs.Answers.{is_done}
-use Rattle.bsp_step.specs.Ledger.{review_of}
-use Rattle.bsp_step.specs.Requests.{IsPlanOf, PlanRead}
-use Rattle.bsp_step.specs.Requests.OfficeRequest.{ClosePeriod, PublishPlan, SetBusinessDay}
-use Rattle.bsp_step.specs.Step.{office_answer, outcome_answer, with_close}
-use Rattle.bsp_step.specs.Texts.{Says}
+use Rattle.bsp_desk_base.specs.After.{office_after}
+use Rattle.bsp_desk_base.specs.Answers.{is_done}
+use Rattle.bsp_desk_base.specs.Ledger.{review_of}
+use Rattle.bsp_desk_base.specs.Requests.{IsPlanOf, PlanRead}
+use Rattle.bsp_desk_base.specs.Requests.OfficeRequest.{ClosePeriod, PublishPlan, SetBusinessDay}
+use Rattle.bsp_desk_base.specs.Step.{office_answer, outcome_answer, with_close}
+use Rattle.bsp_desk_base.specs.Texts.{Says}
 use Rattle.bsp_desk_office.specs.Billings.{with_billings}
 
 -- ---- what is held leaves the plan

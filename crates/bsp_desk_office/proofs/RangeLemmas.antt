@@ -5,11 +5,11 @@ use Rattle.std.specs.FinMap.{entries, get}
 use Rattle.std.proofs.lemmas.Bool.{and_from, and_parts, both_ways, eq-eqb, eqb-true, false_from_ne_true, le-leb, ltb-false}
 use Rattle.bsp_calendar.proofs.ListLemmas.{contains_filter}
 use Rattle.bsp_calendar.proofs.ListedLemmas.{any_contains, contains_any}
-use Rattle.bsp_fields.specs.declared.change.Change.TheVariants.{Done, Held}
+use Rattle.bsp_rows.specs.Change.TheVariants.{Done, Held}
 use Rattle.bsp_messages.specs.declared.answer.Answer.TheVariants as message
 use Rattle.bsp_messages.specs.declared.refusal.RequestRefusal.TheVariants as refusal
 use Rattle.bsp_messages.specs.declared.refusal.StockFault.TheVariants.{FirstAfterLast, NotRegistered, MeetsRange}
-use Rattle.bsp_rules.specs.declared.rows.Range.{Range}
+use Rattle.bsp_rows.specs.Range.{Range}
 use Rattle.bsp_rows.specs.Rows.{Rows, has_meeting, meets, range_at, range_key, range_of, ranges_of}
 use Rattle.bsp_rows.specs.Sound.{Sound}
 use Rattle.bsp_rows.specs.Writes.{with_range}
@@ -17,13 +17,13 @@ use Rattle.bsp_rows.specs.declared.keys.RangeKey.{RangeKey}
 use Rattle.bsp_rows.proofs.KeyOrders.{range_exact, range_total}
 use Rattle.bsp_rows.proofs.MapLemmas.{get_entry}
 use Rattle.bsp_rows.proofs.RowLemmas.{mapped, range_among}
-use Rattle.bsp_serving.specs.After.{office_after, office_left}
-use Rattle.bsp_step.specs.Answers.{Answer}
-use Rattle.bsp_step.specs.Answers.Answer.{Changed, Refused}
-use Rattle.bsp_step.specs.Requests.{OfficeRequest}
-use Rattle.bsp_step.specs.Requests.OfficeRequest.{AllotRange}
-use Rattle.bsp_step.specs.Step.{has_range, is_last, is_out_of_order, is_registered, office_answer}
-use Rattle.bsp_step.specs.Texts.{Says}
+use Rattle.bsp_desk_base.specs.After.{office_after, office_left}
+use Rattle.bsp_desk_base.specs.Answers.{Answer}
+use Rattle.bsp_desk_base.specs.Answers.Answer.{Changed, Refused}
+use Rattle.bsp_desk_base.specs.Requests.{OfficeRequest}
+use Rattle.bsp_desk_base.specs.Requests.OfficeRequest.{AllotRange}
+use Rattle.bsp_desk_base.specs.Step.{has_range, is_last, is_out_of_order, is_registered, office_answer}
+use Rattle.bsp_desk_base.specs.Texts.{Says}
 use Rattle.bsp_desk_office.specs.Replies.{is_same_range}
 
 -- ---- the very range

@@ -1,13 +1,13 @@
 -- The billings of a close, memo by memo and of all rows.
 use Rattle.std.specs.Prelude.{◌≡◌, ℕ, Some}
-use Rattle.bsp_fields.specs.CivilDay.{CivilDay}
+use Rattle.bsp_rows.specs.CivilDay.{CivilDay}
 use Rattle.bsp_memos.specs.Lives.{after_event}
 use Rattle.bsp_memos.specs.Lives.Event.{Closed}
 use Rattle.bsp_memos.specs.declared.fields.MemoFields.{MemoFields}
 use Rattle.bsp_rows.specs.Changes.{each}
 use Rattle.bsp_rows.specs.Rows.{Rows, memo_at, memo_key}
 use Rattle.bsp_rows.specs.Writes.{changed}
-use Rattle.bsp_step.specs.Ledger.{review_of}
+use Rattle.bsp_desk_base.specs.Ledger.{review_of}
 
 -- the memo is at its key
 abbrev pub IsAsRead : MemoFields → Rows → Type 0

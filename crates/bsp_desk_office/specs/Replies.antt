@@ -5,7 +5,7 @@ use Rattle.bsp_messages.specs.declared.answer.Answer.TheVariants.{Refused}
 use Rattle.bsp_messages.specs.declared.fault.BodyFault.{BodyFault}
 use Rattle.bsp_messages.specs.declared.fault.BodyFault.TheVariants as body
 use Rattle.bsp_messages.specs.declared.refusal.RequestRefusal.TheVariants.{Malformed}
-use Rattle.bsp_rules.specs.declared.rows.Range.{Range}
+use Rattle.bsp_rows.specs.Range.{Range}
 
 -- a malformed body is answered so, and the book stays
 pub record IsMalformed {B : Type 0} (old new : B) (fault : BodyFault) (answer : Answer) : Type 0 where

@@ -5,8 +5,8 @@ ghost use Rattle.bsp_book.specs.Calls.{FallsBack, Faults, LeavesLast};
 ghost use Rattle.bsp_desk_office.specs.Replies.{IsMalformed};
 
 use bsp_book::{Book, BookFault};
+use bsp_desk_base::give_up;
 use bsp_messages::{Answer, BodyFault, RequestRefusal};
-use bsp_serving::give_up;
 
 /// Answers a body of which a reader gave this fault: it is malformed, or the request is given up.
 ///

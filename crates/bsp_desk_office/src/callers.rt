@@ -3,17 +3,17 @@
 ghost use Rattle.std.specs.Prelude.{◌≡◌, false, Some};
 ghost use Rattle.bsp_book.specs.Calls.{FallsBack, Faults, LeavesLast};
 ghost use Rattle.bsp_messages.specs.Bodies.{agent_registration_form, airline_registration_form, body_of};
-ghost use Rattle.bsp_serving.specs.Serves.{EndsOnFault, ServesOffice};
-ghost use Rattle.bsp_step.specs.Requests.OfficeRequest.{RegisterAgent, RegisterAirline};
-ghost use Rattle.bsp_step.specs.Step.{is_token};
+ghost use Rattle.bsp_desk_base.specs.Serves.{EndsOnFault, ServesOffice};
+ghost use Rattle.bsp_desk_base.specs.Requests.OfficeRequest.{RegisterAgent, RegisterAirline};
+ghost use Rattle.bsp_desk_base.specs.Step.{is_token};
 
 use crate::bodies::unread;
 use bsp_book::{Book, BookFault};
-use bsp_fields::{AgentCode, AirlineCode, Change, Token};
 use bsp_messages::{
     AgentRegistration, AirlineRegistration, Answer, RequestRefusal, read_agent_registration,
     read_airline_registration,
 };
+use bsp_rows::{AgentCode, AirlineCode, Change, Token};
 use std::alloc::Global;
 
 /// Whether a caller has a token, and it is this one.

@@ -4,20 +4,19 @@ ghost use Rattle.std.specs.Prelude.{◌≡◌, false, Some, ⊤};
 ghost use Rattle.bsp_book.specs.Calls.{Makes};
 ghost use Rattle.bsp_desk_office.specs.Billings.{IsAsRead, with_billings, with_closed_memo};
 ghost use Rattle.bsp_messages.specs.Bodies.{body_of, period_form};
-ghost use Rattle.bsp_serving.specs.Serves.{EndsOnFault, Finds, ServesOffice};
-ghost use Rattle.bsp_step.specs.Answers.{is_done};
-ghost use Rattle.bsp_step.specs.Ledger.{review_of};
-ghost use Rattle.bsp_step.specs.Step.{outcome_answer};
-ghost use Rattle.bsp_step.specs.Requests.OfficeRequest.{ClosePeriod};
+ghost use Rattle.bsp_desk_base.specs.Serves.{EndsOnFault, Finds, ServesOffice};
+ghost use Rattle.bsp_desk_base.specs.Answers.{is_done};
+ghost use Rattle.bsp_desk_base.specs.Ledger.{review_of};
+ghost use Rattle.bsp_desk_base.specs.Step.{outcome_answer};
+ghost use Rattle.bsp_desk_base.specs.Requests.OfficeRequest.{ClosePeriod};
 
 use crate::bodies::unread;
 use crate::plan::plan_answer;
 use bsp_book::{Book, BookFault};
 use bsp_calendar::{PlanFault, Terms};
-use bsp_fields::{Change, Day, PeriodCode};
 use bsp_memos::{Memo, billed_now};
 use bsp_messages::{Answer, read_period};
-use bsp_rows::{MemoKey, Memos};
+use bsp_rows::{Change, Day, MemoKey, Memos, PeriodCode};
 use std::alloc::Global;
 
 /// Whether a change of the plan is done.

@@ -3,18 +3,18 @@
 ghost use Rattle.std.specs.Prelude.{◌≡◌, false};
 ghost use Rattle.bsp_calendar.specs.History.Request.{Publish, SetDay};
 ghost use Rattle.bsp_messages.specs.Bodies.{body_of, day_form};
-ghost use Rattle.bsp_serving.specs.Serves.{EndsOnFault, ServesOffice};
-ghost use Rattle.bsp_step.specs.Requests.{IsPlanOf, PlanRead};
-ghost use Rattle.bsp_step.specs.Requests.OfficeRequest.{PublishPlan, SetBusinessDay};
-ghost use Rattle.bsp_step.specs.Step.{outcome_answer};
-ghost use Rattle.bsp_step.specs.Texts.{Says};
+ghost use Rattle.bsp_desk_base.specs.Serves.{EndsOnFault, ServesOffice};
+ghost use Rattle.bsp_desk_base.specs.Requests.{IsPlanOf, PlanRead};
+ghost use Rattle.bsp_desk_base.specs.Requests.OfficeRequest.{PublishPlan, SetBusinessDay};
+ghost use Rattle.bsp_desk_base.specs.Step.{outcome_answer};
+ghost use Rattle.bsp_desk_base.specs.Texts.{Says};
 
 use crate::bodies::unread;
 use bsp_book::{Book, BookFault};
 use bsp_calendar::{PlanFault, read_plan};
-use bsp_fields::Change;
+use bsp_desk_base::give_up;
 use bsp_messages::{Answer, RequestRefusal, read_day};
-use bsp_serving::give_up;
+use bsp_rows::Change;
 use std::alloc::Global;
 
 /// What the plan answers, as a message.

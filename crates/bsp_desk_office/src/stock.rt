@@ -5,15 +5,14 @@ ghost use Rattle.std.specs.List.{list_any};
 ghost use Rattle.bsp_book.specs.Calls.{FallsBack, Faults, LeavesLast, LooksUp};
 ghost use Rattle.bsp_desk_office.specs.Replies.{is_same_range};
 ghost use Rattle.bsp_messages.specs.Bodies.{body_of, stock_change_form};
-ghost use Rattle.bsp_serving.specs.Serves.{EndsOnFault, ServesOffice};
-ghost use Rattle.bsp_step.specs.Requests.OfficeRequest.{AllotRange, WithdrawRange};
-ghost use Rattle.bsp_step.specs.Step.{has_range, is_out_of_order, is_registered};
+ghost use Rattle.bsp_desk_base.specs.Serves.{EndsOnFault, ServesOffice};
+ghost use Rattle.bsp_desk_base.specs.Requests.OfficeRequest.{AllotRange, WithdrawRange};
+ghost use Rattle.bsp_desk_base.specs.Step.{has_range, is_out_of_order, is_registered};
 
 use crate::bodies::unread;
 use bsp_book::{Book, BookFault};
-use bsp_fields::{AgentCode, Change};
 use bsp_messages::{Answer, RequestRefusal, StockChange, StockFault, read_stock_change};
-use bsp_rules::Range;
+use bsp_rows::{AgentCode, Change, Range};
 use std::alloc::Global;
 
 /// The refusal of a change of stock.

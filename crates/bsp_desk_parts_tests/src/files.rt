@@ -2,12 +2,12 @@
 
 use bsp_book::{Book, BookFault, ListBook};
 use bsp_calendar::read_plan;
+use bsp_desk_base::Content;
 use bsp_desk_files::{report_of_agent, report_of_office};
 use bsp_fields::{AgentCode, Day, DocNumber, PeriodCode, Token};
 use bsp_messages::Answer;
 use bsp_ret::{FaultCode, RetFault};
 use bsp_rules::{Range, Refusal, Verdict};
-use bsp_serving::Content;
 use std::alloc::Global;
 
 const PLAN: &[u8] =

@@ -1,7 +1,7 @@
 -- The replies that a run compares, and the status that it ends with.
 use Rattle.std.specs.Prelude.{ℕ, codes, Result, Ok, Err}
-use Rattle.bsp_messages.specs.declared.status.Media.TheVariants as media
-use Rattle.bsp_messages.specs.declared.status.Status.TheVariants as status
+use Rattle.bsp_desk.specs.Media.TheVariants as media
+use Rattle.bsp_desk.specs.Status.TheVariants as status
 use Rattle.bsp_desk.specs.Replies.{ReplyRead}
 use Rattle.bsp_desk_probe.specs.declared.verdict.Mistake.{Mistake}
 use Rattle.bsp_desk_probe.specs.declared.verdict.Room.{Room}

@@ -1,8 +1,6 @@
 //! What is asked, and by whom.
 
-use bsp_desk::Request;
-use bsp_routes::Routes;
-use bsp_serving::Content;
+use bsp_desk::{Content, Request, Routes};
 
 /// What is asked, of a path: by GET where there is no body.
 #[derive(Clone, Copy)]

@@ -23,8 +23,7 @@ use crate::asked::Asked;
 use crate::lines::{CARD_SALE, V1, text};
 use crate::pair::{Pair, open};
 use crate::verdict::{Mistake, Room, status};
-use bsp_book::ListBook;
-use bsp_routes::Routes;
+use bsp_desk::{ListBook, Routes};
 use std::alloc::Global;
 use std::process::ExitCode;
 

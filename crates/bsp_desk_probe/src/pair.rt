@@ -5,11 +5,7 @@ ghost use Rattle.std.specs.Prelude.{◌≡◌, ◌↔◌, true, Err, IsOk, OnErr
 use crate::asked::{Asked, OFFICE};
 use crate::reports;
 use crate::verdict::{Mistake, Room, are_same, is_no_room};
-use bsp_book::Book;
-use bsp_desk::{Desk, Request};
-use bsp_fields::Token;
-use bsp_messages::Reply;
-use bsp_routes::Routes;
+use bsp_desk::{Book, Desk, Reply, Request, Routes, Token};
 use std::alloc::Global;
 
 /// Two desks that are asked the same.

@@ -5,7 +5,7 @@ ghost use Rattle.std.specs.Bool.{Decides};
 ghost use Rattle.bsp_desk.specs.Replies.{read_of};
 ghost use Rattle.bsp_desk_probe.specs.Verdict.{no_room, room_of_both, status_of};
 
-use bsp_messages::{Media, Reply, Status};
+use bsp_desk::{Media, Reply, Status};
 
 /// Whether a reply was 503 B01.
 #[derive(Clone, Copy, PartialEq, Eq)]

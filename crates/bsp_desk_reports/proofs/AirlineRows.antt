@@ -2,8 +2,8 @@
 use Rattle.std.proofs.Common.{◌≡◌, ℕ, ◌==◌, map, sym, ap, ◌∙◌}
 use Rattle.std.specs.List.{filter}
 use Rattle.std.specs.FinMap.{values}
-use Rattle.bsp_memos.specs.Owed.{is_billed_in}
-use Rattle.bsp_memos.specs.declared.fields.MemoFields.{MemoFields}
+use Rattle.bsp_rows.specs.Owed.{is_billed_in}
+use Rattle.bsp_rows.specs.MemoFields.{MemoFields}
 use Rattle.bsp_postings.proofs.ListLemmas.{filter_filter}
 use Rattle.bsp_rows.specs.Part.{airline_part}
 use Rattle.bsp_rows.specs.Rows.{Rows, airline_memos, is_in, items_of, memos_of}
@@ -13,7 +13,7 @@ use Rattle.bsp_rows.specs.declared.questions.Memos.TheVariants as memo
 use Rattle.bsp_rows.proofs.KeyOrders.{memo_exact, memo_total}
 use Rattle.bsp_rows.proofs.PartLemmas.{kept_entries}
 use Rattle.bsp_rules.specs.declared.rows.Item.{Item}
-use Rattle.bsp_step.proofs.Unchanged.{airline_items}
+use Rattle.bsp_desk_base.proofs.Unchanged.{airline_items}
 
 pub bearing_items : (airline period : ℕ) (rows : Rows) → items_of (item.OfAirlineIn airline period) rows ≡ filter (is_in period) (values (airline_part airline rows).items)
 bearing_items airline period rows =

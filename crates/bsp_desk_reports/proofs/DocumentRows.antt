@@ -8,9 +8,9 @@ use Rattle.std.specs.Ordering.{eq_by_cmp, is_eq}
 use Rattle.std.specs.declared.cmp.Ordering.{Ordering}
 use Rattle.std.proofs.lemmas.Bool.{and_from, and_parts, eqb-true}
 use Rattle.std.proofs.lemmas.Slice.Eq.{bytes_eq-Decides}
-use Rattle.bsp_calendar.proofs.ListLemmas.{contains_head, contains_tail, filter_contains, filter_holds}
-use Rattle.bsp_fields.specs.Codes.{document_reading}
-use Rattle.bsp_fields.specs.Decimal.{number_of}
+use Rattle.bsp_rows.proofs.ListLemmas.{contains_head, contains_tail, filter_contains, filter_holds}
+use Rattle.bsp_rows.specs.Codes.{document_reading}
+use Rattle.bsp_rows.specs.Decimal.{number_of}
 use Rattle.bsp_messages.specs.Values.{document_in}
 use Rattle.bsp_messages.specs.declared.answer.Answer.{Answer as Message}
 use Rattle.bsp_messages.specs.declared.answer.Answer.TheVariants as message
@@ -18,7 +18,7 @@ use Rattle.bsp_messages.specs.declared.answer.DocumentShown.{DocumentShown}
 use Rattle.bsp_messages.specs.declared.refusal.RequestRefusal.TheVariants.{NoDocument}
 use Rattle.bsp_rows.proofs.KeyOrders.{item_exact, item_total}
 use Rattle.bsp_rows.proofs.MapLemmas.{entry_get, same_key}
-use Rattle.bsp_fields.proofs.DocumentLemmas.{one_number, read_number}
+use Rattle.bsp_rows.proofs.DocumentLemmas.{one_number, read_number}
 use Rattle.bsp_rows.proofs.PartLemmas.{kept_entries}
 use Rattle.bsp_rows.specs.Part.{agent_part}
 use Rattle.bsp_rows.specs.Rows.{Rows, agent_items, item_cmp, key_of}
@@ -26,9 +26,9 @@ use Rattle.bsp_rows.specs.Sound.{IsRight, Sound}
 use Rattle.bsp_rows.specs.declared.keys.ItemKey.{ItemKey}
 use Rattle.bsp_rules.specs.Rows.{has_number, is_canx}
 use Rattle.bsp_rules.specs.declared.rows.Item.{Item}
-use Rattle.bsp_step.specs.Ledger.{document_answer, document_shown, first_of, item_of_number, ledger_answer, ledger_of, state_of}
-use Rattle.bsp_step.specs.Requests.AgentRequest.{AskDocument}
-use Rattle.bsp_step.specs.Texts.{Says}
+use Rattle.bsp_desk_base.specs.Ledger.{document_answer, document_shown, first_of, item_of_number, ledger_answer, ledger_of, state_of}
+use Rattle.bsp_desk_base.specs.Requests.AgentRequest.{AskDocument}
+use Rattle.bsp_desk_base.specs.Texts.{Says}
 use Rattle.bsp_desk_reports.specs.Documents.{is_canx_of, is_sale_of}
 use Rattle.bsp_desk_reports.proofs.OwnRows.{part_items}
 

@@ -8,7 +8,7 @@ use Rattle.std.proofs.lemmas.List.Elements.{Contains-get_or}
 use Rattle.std.proofs.lemmas.Map.Made.{IsDistinct-from_AllPairs}
 use Rattle.std.proofs.lemmas.Map.Steps.{length-le_from_distinct_below}
 use Rattle.std.proofs.lemmas.Map.Views.{Contains-from_any}
-use Rattle.bsp_calendar.proofs.ListLemmas.{filter_holds}
+use Rattle.bsp_rows.proofs.ListLemmas.{filter_holds}
 use Rattle.bsp_postings.specs.Sides.{AreOnce}
 use Rattle.bsp_postings.specs.Tallies.{no_tally, same_key}
 use Rattle.bsp_postings.specs.declared.tally.Tally.{Tally}

@@ -7,12 +7,12 @@ use Rattle.std.proofs.lemmas.Cmp.{nat_eq_equiv}
 use Rattle.std.specs.Prelude.{nat_eq}
 use Rattle.std.proofs.lemmas.List.{get_or-take, get_or_default, length-take, take_more}
 use Rattle.std.proofs.lemmas.List.Elements.{Contains-push, Contains-push_cases, filter_agree}
-use Rattle.bsp_calendar.proofs.ListedLemmas.{contains_any, once_push}
-use Rattle.bsp_calendar.specs.Requests.{once}
+use Rattle.bsp_rows.proofs.ListedLemmas.{contains_any, once_push}
+use Rattle.bsp_rows.specs.Requests.{once}
 use Rattle.bsp_postings.proofs.ListLemmas.{filter_filter}
 use Rattle.bsp_rows.proofs.ItemTies.{any_true}
-use Rattle.bsp_step.specs.Ledger.{same_number}
-use Rattle.bsp_step.specs.Step.{is_last}
+use Rattle.bsp_desk_base.specs.Ledger.{same_number}
+use Rattle.bsp_desk_base.specs.Step.{is_last}
 
 -- the last of numbers that never fall
 abbrev pub IsLatest : Option ℕ → List ℕ → Type 0

@@ -2,7 +2,7 @@
 use Rattle.std.proofs.Common.{◌≡◌, ℕ, ◌==◌, Bool, List, [], ◌∷◌, cond, map, refl, sym, ap, ◌∙◌}
 use Rattle.std.specs.List.{Contains, filter}
 use Rattle.std.specs.FinMap.{entries, get, values}
-use Rattle.bsp_calendar.proofs.ListLemmas.{contains_head, contains_tail}
+use Rattle.bsp_rows.proofs.ListLemmas.{contains_head, contains_tail}
 use Rattle.bsp_rows.specs.Part.{agent_part}
 use Rattle.bsp_rows.specs.Rows.{Rows, agent_items}
 use Rattle.bsp_rows.specs.Sound.{Sound}
@@ -12,7 +12,7 @@ use Rattle.bsp_rows.proofs.MapLemmas.{entry_get}
 use Rattle.bsp_rows.proofs.PartLaws.{filter-map}
 use Rattle.bsp_rows.proofs.PartLemmas.{kept_entries}
 use Rattle.bsp_rules.specs.declared.rows.Item.{Item}
-use Rattle.bsp_step.proofs.Unchanged.{part_memos}
+use Rattle.bsp_desk_base.proofs.Unchanged.{part_memos}
 
 -- two tests that agree at each element of a list keep the same elements
 pub filter_alike : {X : Type 0} (p q : X → Bool) (xs : List X) → ((x : X) → Contains xs x → p x ≡ q x) → filter p xs ≡ filter q xs

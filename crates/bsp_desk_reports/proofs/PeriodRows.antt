@@ -3,8 +3,8 @@ use Rattle.std.proofs.Common.{◌≡◌, ℕ, ◌==◌, ◌&&◌, Bool, true, fa
 use Rattle.std.specs.List.{filter}
 use Rattle.std.specs.FinMap.{values}
 use Rattle.std.proofs.lemmas.List.Elements.{filter_agree, filter-append}
-use Rattle.bsp_memos.specs.Owed.{is_billed_in, is_period}
-use Rattle.bsp_memos.specs.declared.fields.MemoFields.{MemoFields}
+use Rattle.bsp_rows.specs.Owed.{is_billed_in, is_period}
+use Rattle.bsp_rows.specs.MemoFields.{MemoFields}
 use Rattle.bsp_postings.proofs.ListLemmas.{filter_filter}
 use Rattle.bsp_postings.specs.Postings.{is_counted, is_document, is_of_agent, item_posting, item_postings, memo_posting, memo_postings, of_agent, postings}
 use Rattle.bsp_postings.specs.declared.posting.Posting.{Posting}

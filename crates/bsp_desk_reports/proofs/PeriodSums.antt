@@ -5,11 +5,11 @@ use Rattle.std.specs.List.{filter, sum_by}
 use Rattle.std.specs.Prelude.{ℤ}
 use Rattle.std.proofs.lemmas.Bool.{eqb-true}
 use Rattle.std.proofs.lemmas.List.Sums.{length-filter, sum_by-append, sum_by-cons}
-use Rattle.bsp_calendar.proofs.ListLemmas.{find_contains}
-use Rattle.bsp_calendar.specs.Published.{Published, is_closed, period_of}
-use Rattle.bsp_calendar.specs.declared.entries.Period.{Period}
-use Rattle.bsp_memos.specs.Owed.{is_billed_in}
-use Rattle.bsp_memos.specs.declared.fields.MemoFields.{MemoFields}
+use Rattle.bsp_rows.proofs.ListLemmas.{find_contains}
+use Rattle.bsp_rows.specs.Published.{Published, is_closed, period_of}
+use Rattle.bsp_rows.specs.Period.{Period}
+use Rattle.bsp_rows.specs.Owed.{is_billed_in}
+use Rattle.bsp_rows.specs.MemoFields.{MemoFields}
 use Rattle.bsp_messages.specs.Values.{period_in}
 use Rattle.bsp_messages.specs.declared.answer.Answer.TheVariants as message
 use Rattle.bsp_messages.specs.declared.answer.PeriodShown.{PeriodShown}
@@ -29,9 +29,9 @@ use Rattle.bsp_rows.specs.declared.questions.Tallies.TheVariants.{OfAgentIn}
 use Rattle.bsp_rules.specs.declared.rows.Item.{Item}
 use Rattle.bsp_statement.proofs.TallyLemmas.{own_figures}
 use Rattle.bsp_statement.specs.Sums.{figures_of}
-use Rattle.bsp_step.specs.Ledger.{ledger_answer, ledger_of, period_answer, period_shown}
-use Rattle.bsp_step.specs.Requests.AgentRequest.{AskPeriod}
-use Rattle.bsp_step.specs.Texts.{Says}
+use Rattle.bsp_desk_base.specs.Ledger.{ledger_answer, ledger_of, period_answer, period_shown}
+use Rattle.bsp_desk_base.specs.Requests.AgentRequest.{AskPeriod}
+use Rattle.bsp_desk_base.specs.Texts.{Says}
 use Rattle.bsp_desk_reports.specs.Sums.{shown_over}
 use Rattle.bsp_desk_reports.proofs.PeriodRows.{asked_items, asked_memos, own_posted}
 

@@ -5,22 +5,22 @@ use Rattle.std.specs.Global.{Vec}
 use Rattle.std.specs.Prelude.{String, string_bytes}
 use Rattle.std.specs.Global.{Global}
 use Rattle.std.proofs.lemmas.Bool.{eqb-true}
-use Rattle.bsp_calendar.proofs.ListLemmas.{find_contains}
-use Rattle.bsp_calendar.specs.Published.{Published, closed_period, is_closed, period_of}
-use Rattle.bsp_calendar.specs.declared.entries.Period.{Period}
-use Rattle.bsp_calendar.specs.declared.entries.Terms.{Terms}
+use Rattle.bsp_rows.proofs.ListLemmas.{find_contains}
+use Rattle.bsp_rows.specs.Published.{Published, closed_period, is_closed, period_of}
+use Rattle.bsp_rows.specs.Period.{Period}
+use Rattle.bsp_rows.specs.Terms.{Terms}
 use Rattle.bsp_hot.specs.Files.{IsTooWide, IsWritten}
 use Rattle.bsp_hot.specs.Rows.{Entry, entries}
-use Rattle.bsp_memos.specs.declared.fields.MemoFields.{MemoFields}
-use Rattle.bsp_memos.specs.Owed.{is_billed_in}
+use Rattle.bsp_rows.specs.MemoFields.{MemoFields}
+use Rattle.bsp_rows.specs.Owed.{is_billed_in}
 use Rattle.bsp_rules.specs.declared.rows.Item.{Item}
 use Rattle.bsp_rows.specs.Rows.{is_in}
 use Rattle.std.specs.List.{filter}
 use Rattle.bsp_rows.specs.declared.questions.Items.TheVariants as items
 use Rattle.bsp_rows.specs.declared.questions.Memos.TheVariants as memos
 use Rattle.bsp_rows.specs.Rows.{items_of, memos_of}
-use Rattle.bsp_step.specs.AirlineLedger.{airline_answer, airline_ledger_of, hot_answer, hot_shown}
-use Rattle.bsp_step.specs.Requests.AirlineRequest.{AskHot}
+use Rattle.bsp_desk_base.specs.AirlineLedger.{airline_answer, airline_ledger_of, hot_answer, hot_shown}
+use Rattle.bsp_desk_base.specs.Requests.AirlineRequest.{AskHot}
 use Rattle.bsp_desk_reports.proofs.AirlineRows.{bearing_items, billed_memos}
 use Rattle.bsp_messages.specs.Values.{period_in}
 use Rattle.bsp_messages.specs.declared.answer.Answer.TheVariants as message
@@ -32,12 +32,12 @@ use Rattle.bsp_rows.specs.Sound.{Sound}
 use Rattle.bsp_rows.specs.declared.questions.Tallies.TheVariants.{In, OfAgentIn}
 use Rattle.bsp_statement.specs.Reports.{IsSettlement, IsStatement, of_period}
 use Rattle.bsp_statement.specs.declared.nets.Settlement.{Settlement as SettlementMade}
-use Rattle.bsp_step.specs.Ledger.{ledger_answer, ledger_of, statement_answer, statement_shown}
-use Rattle.bsp_step.specs.Requests.AgentRequest.{AskStatement}
-use Rattle.bsp_step.specs.Requests.OfficeRequest.{AskSettlement}
-use Rattle.bsp_step.specs.Step.{office_answer, settlement_answer, settlement_shown}
-use Rattle.bsp_step.specs.Texts.{Says}
-use Rattle.bsp_step.proofs.ClosedKept.{closed_of}
+use Rattle.bsp_desk_base.specs.Ledger.{ledger_answer, ledger_of, statement_answer, statement_shown}
+use Rattle.bsp_desk_base.specs.Requests.AgentRequest.{AskStatement}
+use Rattle.bsp_desk_base.specs.Requests.OfficeRequest.{AskSettlement}
+use Rattle.bsp_desk_base.specs.Step.{office_answer, settlement_answer, settlement_shown}
+use Rattle.bsp_desk_base.specs.Texts.{Says}
+use Rattle.bsp_desk_base.proofs.ClosedKept.{closed_of}
 use Rattle.bsp_desk_reports.proofs.PeriodRows.{all_posted, asked_items, asked_memos, own_alone, own_posted}
 
 -- done or not, the same rows

@@ -11,8 +11,8 @@ use Rattle.std.proofs.lemmas.Bool.{and_parts, cases_lt, eqb-true}
 use Rattle.std.proofs.lemmas.List.Elements.{Contains-get_or}
 use Rattle.std.proofs.lemmas.List.Kept.{AllPairs-cons}
 use Rattle.std.proofs.lemmas.Map.Keys.{le_from_not_gt}
-use Rattle.bsp_calendar.proofs.ListLemmas.{contains_head, contains_tail, filter_contains, filter_holds}
-use Rattle.bsp_calendar.specs.Requests.{once}
+use Rattle.bsp_rows.proofs.ListLemmas.{contains_head, contains_tail, filter_contains, filter_holds}
+use Rattle.bsp_rows.specs.Requests.{once}
 use Rattle.bsp_messages.specs.declared.answer.RangeShown.{RangeShown}
 use Rattle.bsp_rows.proofs.KeyOrders.{item_exact, item_total, range_exact, range_total}
 use Rattle.bsp_rows.proofs.MapLemmas.{below_contains, entry_get, is_true}
@@ -26,7 +26,7 @@ use Rattle.bsp_rows.specs.declared.keys.RangeKey.{RangeKey}
 use Rattle.bsp_rules.specs.Rows.{contains}
 use Rattle.bsp_rules.specs.declared.rows.Item.{Item}
 use Rattle.bsp_rules.specs.declared.rows.Range.{Range}
-use Rattle.bsp_step.specs.Ledger.{ranges_in, ranges_shown, same_number}
+use Rattle.bsp_desk_base.specs.Ledger.{ranges_in, ranges_shown, same_number}
 use Rattle.bsp_desk_reports.specs.Stock.{AreInOrder, item_number, numbers_once, shown_by}
 use Rattle.bsp_desk_reports.proofs.NumberOrder.{once_filter}
 

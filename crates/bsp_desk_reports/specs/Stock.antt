@@ -2,14 +2,14 @@
 use Rattle.std.specs.Prelude.{ℕ, List, length, map}
 use Rattle.std.specs.List.{All, filter}
 use Rattle.std.specs.List.Sorted.{IsNonDecreasing}
-use Rattle.bsp_calendar.specs.Requests.{once}
-use Rattle.bsp_fields.specs.Decimal.{number_of}
+use Rattle.bsp_rows.specs.Requests.{once}
+use Rattle.bsp_rows.specs.Decimal.{number_of}
 use Rattle.bsp_messages.specs.declared.answer.RangeShown.{RangeShown}
 use Rattle.bsp_rows.specs.Rows.{HasNumberKey}
 use Rattle.bsp_rules.specs.Rows.{contains}
 use Rattle.bsp_rules.specs.declared.rows.Item.{Item}
 use Rattle.bsp_rules.specs.declared.rows.Range.{Range}
-use Rattle.bsp_step.specs.Ledger.{same_number}
+use Rattle.bsp_desk_base.specs.Ledger.{same_number}
 
 abbrev pub item_number : Item → ℕ
 item_number i = number_of i.transaction.document.number

@@ -5,15 +5,13 @@ ghost use Rattle.std.specs.Option.{option_copied};
 ghost use Rattle.std.specs.Prelude.{◌≡◌, false};
 ghost use Rattle.bsp_rules.specs.Rows.{is_living_relation};
 ghost use Rattle.bsp_desk_reports.specs.Documents.{is_canx_of, is_sale_of};
-ghost use Rattle.bsp_serving.specs.Serves.{EndsOnFault, ServesAgent};
-ghost use Rattle.bsp_step.specs.Ledger.{first_of, state_of};
-ghost use Rattle.bsp_step.specs.Requests.AgentRequest.{AskDocument};
+ghost use Rattle.bsp_desk_base.specs.Serves.{EndsOnFault, ServesAgent};
+ghost use Rattle.bsp_desk_base.specs.Ledger.{first_of, state_of};
+ghost use Rattle.bsp_desk_base.specs.Requests.AgentRequest.{AskDocument};
 
 use bsp_book::{Book, BookFault};
-use bsp_fields::{AgentCode, DocNumber};
 use bsp_messages::{Answer, DocumentShown, DocumentState, RequestRefusal};
-use bsp_ret_records::TransactionCode;
-use bsp_rows::Items;
+use bsp_rows::{AgentCode, DocNumber, Items, TransactionCode};
 use bsp_rules::{Item, is_living_relation};
 
 /// The TKTT or RFND of a number.

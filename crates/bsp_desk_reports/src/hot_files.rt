@@ -4,15 +4,14 @@ ghost use Rattle.std.specs.Prelude.{◌≡◌, false, IfOk, OnOk};
 ghost use Rattle.bsp_book.specs.Calls.{FallsBack, Faults, Keeps, LeavesLast, Shows};
 ghost use Rattle.bsp_hot.specs.Files.{AnswersOver};
 ghost use Rattle.bsp_hot.specs.Rows.{entries};
-ghost use Rattle.bsp_serving.specs.Serves.{EndsOnFault, ServesAirline};
-ghost use Rattle.bsp_step.specs.Requests.AirlineRequest.{AskHot};
+ghost use Rattle.bsp_desk_base.specs.Serves.{EndsOnFault, ServesAirline};
+ghost use Rattle.bsp_desk_base.specs.Requests.AirlineRequest.{AskHot};
 
 use bsp_book::{Book, BookFault};
-use bsp_fields::{AirlineCode, PeriodCode};
+use bsp_desk_base::give_up;
 use bsp_hot::{HotFault, write_hot_of};
 use bsp_messages::{Answer, RequestRefusal};
-use bsp_rows::{Items, Memos, Tallies};
-use bsp_serving::give_up;
+use bsp_rows::{AirlineCode, Items, Memos, PeriodCode, Tallies};
 use std::alloc::Global;
 
 /// Shows the HOT file of an airline for a closed period, over the airline's own rows.

@@ -6,14 +6,13 @@ ghost use Rattle.bsp_postings.specs.Nets.{net_of_postings};
 ghost use Rattle.bsp_postings.specs.Sides.{AreOnce};
 ghost use Rattle.bsp_postings.specs.Tallies.{tally_posting, tally_postings};
 ghost use Rattle.bsp_desk_reports.specs.Sums.{shown_over};
-ghost use Rattle.bsp_serving.specs.Serves.{EndsOnFault, ServesAgent};
-ghost use Rattle.bsp_step.specs.Requests.AgentRequest.{AskPeriod};
+ghost use Rattle.bsp_desk_base.specs.Serves.{EndsOnFault, ServesAgent};
+ghost use Rattle.bsp_desk_base.specs.Requests.AgentRequest.{AskPeriod};
 
 use bsp_book::{Book, BookFault};
-use bsp_fields::{AgentCode, PeriodCode};
 use bsp_messages::{Answer, PeriodShown, RequestRefusal};
 use bsp_postings::{Posting, Tally};
-use bsp_rows::Tallies;
+use bsp_rows::{AgentCode, PeriodCode, Tallies};
 
 /// What a tally posts. Its airline's code has three digits.
 fn posting_of(tally: Tally) -> Posting

@@ -1,14 +1,13 @@
 //! The settlement of a period.
 
 ghost use Rattle.std.specs.Prelude.{◌≡◌, false};
-ghost use Rattle.bsp_serving.specs.Serves.{EndsOnFault, ServesOffice};
-ghost use Rattle.bsp_step.specs.Requests.OfficeRequest.{AskSettlement};
+ghost use Rattle.bsp_desk_base.specs.Serves.{EndsOnFault, ServesOffice};
+ghost use Rattle.bsp_desk_base.specs.Requests.OfficeRequest.{AskSettlement};
 
 use bsp_book::{Book, BookFault};
-use bsp_fields::PeriodCode;
+use bsp_desk_base::give_up;
 use bsp_messages::{Answer, RequestRefusal};
-use bsp_rows::Tallies;
-use bsp_serving::give_up;
+use bsp_rows::{PeriodCode, Tallies};
 use bsp_statement::{StatementFault, settlement_of};
 use std::alloc::Global;
 

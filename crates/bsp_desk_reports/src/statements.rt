@@ -1,14 +1,13 @@
 //! The billing statement of an agent.
 
 ghost use Rattle.std.specs.Prelude.{◌≡◌, false};
-ghost use Rattle.bsp_serving.specs.Serves.{EndsOnFault, ServesAgent};
-ghost use Rattle.bsp_step.specs.Requests.AgentRequest.{AskStatement};
+ghost use Rattle.bsp_desk_base.specs.Serves.{EndsOnFault, ServesAgent};
+ghost use Rattle.bsp_desk_base.specs.Requests.AgentRequest.{AskStatement};
 
 use bsp_book::{Book, BookFault};
-use bsp_fields::{AgentCode, PeriodCode};
+use bsp_desk_base::give_up;
 use bsp_messages::{Answer, RequestRefusal};
-use bsp_rows::Tallies;
-use bsp_serving::give_up;
+use bsp_rows::{AgentCode, PeriodCode, Tallies};
 use bsp_statement::{StatementFault, statement_of};
 use std::alloc::Global;
 

@@ -4,16 +4,15 @@ ghost use Rattle.std.specs.List.{filter};
 ghost use Rattle.std.specs.Prelude.{◌≡◌, [], ◌∷◌, ◌++◌, false, length, map, if◌then◌else◌, IfOk, OnOk};
 ghost use Rattle.bsp_desk_reports.specs.Stock.{AreInOrder, numbers_once, shown_by};
 ghost use Rattle.bsp_rules.specs.Rows.{contains};
-ghost use Rattle.bsp_serving.specs.Serves.{EndsOnFault, ServesAgent};
-ghost use Rattle.bsp_step.specs.Requests.AgentRequest.{AskStock};
-ghost use Rattle.bsp_step.specs.Step.{is_last};
+ghost use Rattle.bsp_desk_base.specs.Serves.{EndsOnFault, ServesAgent};
+ghost use Rattle.bsp_desk_base.specs.Requests.AgentRequest.{AskStock};
+ghost use Rattle.bsp_desk_base.specs.Step.{is_last};
 
 use bsp_book::{Book, BookFault};
-use bsp_fields::{AgentCode, DocNumber};
+use bsp_desk_base::give_up;
 use bsp_messages::{Answer, RangeShown};
-use bsp_rows::{ItemKey, Items};
+use bsp_rows::{AgentCode, DocNumber, ItemKey, Items};
 use bsp_rules::{Item, Range};
-use bsp_serving::give_up;
 use std::alloc::{AllocError, Global};
 
 /// Whether the number is the last one.

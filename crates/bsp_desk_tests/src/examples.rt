@@ -14,10 +14,10 @@ mod worlds;
 
 use bsp_book::ListBook;
 use bsp_desk::{Desk, Request};
+use bsp_desk_base::Content;
 use bsp_fields::Token;
 use bsp_messages::{Media, Reply};
 use bsp_routes::Routes;
-use bsp_serving::Content;
 use std::alloc::Global;
 
 /// A request and its reply: the token, the path, the body and what is replied.

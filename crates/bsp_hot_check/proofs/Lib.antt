@@ -9,3 +9,5 @@ pub mod Taken
 pub mod Chains
 pub mod Judging
 pub mod LawLemmas
+pub use Rattle.bsp_hot_records.proofs.SizeLemmas as HotRecordsSizeLemmas
+pub use Rattle.bsp_hot_records.proofs.SumLemmas as HotRecordsSumLemmas

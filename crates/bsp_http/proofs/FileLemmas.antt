@@ -3,26 +3,26 @@ use Rattle.std.proofs.Common.{◌≡◌, ℕ, List, Option, Some, None, Result, 
 use Rattle.std.specs.Borrow.{Bor}
 use Rattle.std.specs.Option.{option_map}
 use Rattle.bsp_desk.specs.Reading.{token_text}
-use Rattle.bsp_conversation.specs.Exchanges.{IsFileRead}
-use Rattle.bsp_conversation.specs.declared.service.BodyUse.TheVariants.{RetFile}
-use Rattle.bsp_records.specs.Lines.{lines}
+use Rattle.bsp_connection.specs.Exchanges.{IsFileRead}
+use Rattle.bsp_connection.specs.declared.service.BodyUse.TheVariants.{RetFile}
+use Rattle.bsp_ret.specs.Lines.{lines}
 use Rattle.bsp_ret.proofs.AnswerLemmas.{faulty}
 use Rattle.bsp_ret.proofs.LawLemmas.{is_read}
 use Rattle.bsp_ret.specs.Ret.{File, Ret}
 use Rattle.bsp_ret.specs.declared.model.RetFault.{RetFault}
-use Rattle.bsp_ret_writer.specs.Writing.{HaveContents}
-use Rattle.bsp_routes.specs.declared.asking.Asking.{Asking}
-use Rattle.bsp_routes.specs.declared.asking.Asking.TheVariants as asking
-use Rattle.bsp_routes.specs.declared.call.AgentCall.{AgentCall}
-use Rattle.bsp_routes.specs.declared.call.AgentCall.TheVariants as agent
-use Rattle.bsp_routes.specs.declared.call.AirlineCall.{AirlineCall}
-use Rattle.bsp_routes.specs.declared.call.AirlineCall.TheVariants as airline
-use Rattle.bsp_routes.specs.declared.call.Call.TheVariants as call
-use Rattle.bsp_routes.specs.declared.call.OfficeCall.{OfficeCall}
-use Rattle.bsp_routes.specs.declared.call.OfficeCall.TheVariants as office
-use Rattle.bsp_serving.specs.Contents.{IsAgentCall, IsAskedWith, IsFileIn, IsOfficeCall}
-use Rattle.bsp_serving.specs.declared.content.Content.TheVariants as content
-use Rattle.bsp_step.specs.Requests.{AgentRequest, Asked, FileRead, IsAgentRequest, IsAsked, IsFileOf, IsOfficeRequest, OfficeRequest}
+use Rattle.bsp_desk.specs.Writing.{HaveContents}
+use Rattle.bsp_desk.specs.Asking.{Asking}
+use Rattle.bsp_desk.specs.Asking.TheVariants as asking
+use Rattle.bsp_desk.specs.AgentCall.{AgentCall}
+use Rattle.bsp_desk.specs.AgentCall.TheVariants as agent
+use Rattle.bsp_desk.specs.AirlineCall.{AirlineCall}
+use Rattle.bsp_desk.specs.AirlineCall.TheVariants as airline
+use Rattle.bsp_desk.specs.Call.TheVariants as call
+use Rattle.bsp_desk.specs.OfficeCall.{OfficeCall}
+use Rattle.bsp_desk.specs.OfficeCall.TheVariants as office
+use Rattle.bsp_desk.specs.Contents.{IsAgentCall, IsAskedWith, IsFileIn, IsOfficeCall}
+use Rattle.bsp_desk.specs.Content.TheVariants as content
+use Rattle.bsp_desk.specs.Requests.{AgentRequest, Asked, FileRead, IsAgentRequest, IsAsked, IsFileOf, IsOfficeRequest, OfficeRequest}
 use Rattle.bsp_http.specs.Messages.{content_of, use_of}
 
 pub same_token : (token : Option (Bor (List ℕ))) → token_text token ≡ option_map (λ t. t.now) token

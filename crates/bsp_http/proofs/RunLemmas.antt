@@ -1,20 +1,20 @@
 -- The messages of a connection are requests of a run.
 use Rattle.std.proofs.Common.{◌≡◌, ℕ, List, [], ◌∷◌, ◌++◌, None, refl, sym, subst, ◌∙◌, append_assoc, append-nil}
-use Rattle.bsp_book.specs.Calls.{Meaning}
-use Rattle.bsp_conversation.specs.Conversations.{IsRun}
-use Rattle.bsp_conversation.specs.Exchanges.{Exchange, RequestText}
+use Rattle.bsp_desk.specs.BookCalls.{Meaning}
+use Rattle.bsp_connection.specs.Conversations.{IsRun}
+use Rattle.bsp_connection.specs.Exchanges.{Exchange, RequestText}
 use Rattle.bsp_desk.proofs.Reach.{Reached, ran, reach_more, reach_none}
 use Rattle.bsp_desk.specs.Reading.{IsRead}
 use Rattle.bsp_desk.specs.Runs.{RanOver, RunReplied}
 use Rattle.bsp_desk.specs.Steps.{Answers}
 use Rattle.bsp_desk.specs.declared.desk.Desk.{Desk}
 use Rattle.bsp_desk.specs.declared.request.Request.{Request}
-use Rattle.bsp_messages.specs.declared.reply.Reply.{Reply}
-use Rattle.bsp_routes.specs.Calls.{asking_text}
-use Rattle.bsp_routes.specs.declared.asking.Asking.{Asking}
-use Rattle.bsp_rows.specs.Rows.{Rows}
-use Rattle.bsp_rows.specs.Sound.{Sound}
-use Rattle.bsp_step.specs.Requests.{IsAsked, Request as Reading}
+use Rattle.bsp_desk.specs.Reply.{Reply}
+use Rattle.bsp_desk.specs.RoutesCalls.{asking_text}
+use Rattle.bsp_desk.specs.Asking.{Asking}
+use Rattle.bsp_desk.specs.Rows.{Rows}
+use Rattle.bsp_desk.specs.Sound.{Sound}
+use Rattle.bsp_desk.specs.Requests.{IsAsked, Request as Reading}
 use Rattle.bsp_http.specs.Laws.{AreMessagesRead, AreWrittenFor, IsMessageRead, MessagesRun}
 use Rattle.bsp_http.specs.Messages.{IsRequestOf, at_desk}
 

@@ -1,20 +1,20 @@
 -- What a connection asks of a desk is a run of requests.
 use Rattle.std.specs.Prelude.{◌≡◌, ℕ, List, [], ◌∷◌, None}
-use Rattle.bsp_book.specs.Calls.{Meaning}
-use Rattle.bsp_conversation.specs.Conversations.{IsRun}
-use Rattle.bsp_conversation.specs.Exchanges.{Exchange, RequestText}
+use Rattle.bsp_desk.specs.BookCalls.{Meaning}
+use Rattle.bsp_connection.specs.Conversations.{IsRun}
+use Rattle.bsp_connection.specs.Exchanges.{Exchange, RequestText}
 use Rattle.bsp_desk.specs.Runs.{RanOver}
 use Rattle.bsp_desk.specs.declared.desk.Desk.{Desk}
-use Rattle.bsp_messages.specs.declared.reply.Reply.{Reply}
-use Rattle.bsp_routes.specs.Calls.{Asks}
-use Rattle.bsp_routes.specs.declared.asking.Asking.{Asking}
-use Rattle.bsp_rows.specs.Rows.{Rows}
-use Rattle.bsp_rows.specs.Sound.{Sound}
-use Rattle.bsp_step.specs.Requests.{IsAsked, IsInMemory, Request as Reading}
+use Rattle.bsp_desk.specs.Reply.{Reply}
+use Rattle.bsp_desk.specs.RoutesCalls.{Asks}
+use Rattle.bsp_desk.specs.Asking.{Asking}
+use Rattle.bsp_desk.specs.Rows.{Rows}
+use Rattle.bsp_desk.specs.Sound.{Sound}
+use Rattle.bsp_desk.specs.Requests.{IsAsked, IsInMemory, Request as Reading}
 use Rattle.bsp_http.specs.Messages.{at_desk}
 use Rattle.bsp_http.specs.Replies.{reply_as}
 
--- the message is read as this request of `bsp_step`
+-- the message is read as this request of `bsp_office_spec`
 pub record IsMessageRead (text : RequestText) (reading : Reading) : Type 0 where
   pub token : reading.token ≡ text.token
   pub asking : Asking (List ℕ)

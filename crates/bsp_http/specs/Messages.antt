@@ -1,28 +1,28 @@
 -- What an office answers to the messages of a connection.
 use Rattle.std.specs.Prelude.{◌≡◌, ℕ, List, Result, Ok, Err}
 use Rattle.std.specs.Borrow.{Bor}
-use Rattle.bsp_book.specs.Calls.{Meaning}
-use Rattle.bsp_conversation.specs.Exchanges.{Meaning as Answering, RequestText}
-use Rattle.bsp_conversation.specs.declared.service.BodyUse.{BodyUse}
-use Rattle.bsp_conversation.specs.declared.service.BodyUse.TheVariants.{Ignored, Kept, RetFile}
+use Rattle.bsp_desk.specs.BookCalls.{Meaning}
+use Rattle.bsp_connection.specs.Exchanges.{Meaning as Answering, RequestText}
+use Rattle.bsp_connection.specs.declared.service.BodyUse.{BodyUse}
+use Rattle.bsp_connection.specs.declared.service.BodyUse.TheVariants.{Ignored, Kept, RetFile}
 use Rattle.bsp_desk.specs.Reading.{token_text}
 use Rattle.bsp_desk.specs.Steps.{Answers}
 use Rattle.bsp_desk.specs.declared.desk.Desk.{Desk}
 use Rattle.bsp_desk.specs.declared.request.Request.{Request}
-use Rattle.bsp_messages.specs.declared.reply.Reply.{Reply}
+use Rattle.bsp_desk.specs.Reply.{Reply}
 use Rattle.bsp_responses.specs.Responses.{ReplyText}
 use Rattle.bsp_ret.specs.Ret.{File}
 use Rattle.bsp_ret.specs.declared.model.RetFault.{RetFault}
-use Rattle.bsp_routes.specs.Calls.{Asks, asking_text, body_of}
-use Rattle.bsp_routes.specs.declared.asking.Asking.{Asking}
-use Rattle.bsp_routes.specs.declared.asking.Asking.TheVariants as asking
-use Rattle.bsp_routes.specs.declared.body.BodyKind.{BodyKind}
-use Rattle.bsp_routes.specs.declared.body.BodyKind.TheVariants as body
-use Rattle.bsp_rows.specs.Rows.{Rows}
-use Rattle.bsp_serving.specs.Contents.{IsAskedWith}
-use Rattle.bsp_serving.specs.declared.content.Content.{Content}
-use Rattle.bsp_serving.specs.declared.content.Content.TheVariants as content
-use Rattle.bsp_step.specs.Requests.{Asked, IsAsked}
+use Rattle.bsp_desk.specs.RoutesCalls.{Asks, asking_text, body_of}
+use Rattle.bsp_desk.specs.Asking.{Asking}
+use Rattle.bsp_desk.specs.Asking.TheVariants as asking
+use Rattle.bsp_desk.specs.BodyKind.{BodyKind}
+use Rattle.bsp_desk.specs.BodyKind.TheVariants as body
+use Rattle.bsp_desk.specs.Rows.{Rows}
+use Rattle.bsp_desk.specs.Contents.{IsAskedWith}
+use Rattle.bsp_desk.specs.Content.{Content}
+use Rattle.bsp_desk.specs.Content.TheVariants as content
+use Rattle.bsp_desk.specs.Requests.{Asked, IsAsked}
 use Rattle.bsp_http.specs.Replies.{no_room, reply_as}
 
 -- ---- bodies

@@ -1,22 +1,22 @@
 -- A reply of the desk as it is written.
 use Rattle.std.specs.Prelude.{ℕ, List, Option, Some, None}
-use Rattle.bsp_messages.specs.Answers.{media_of, status_of, text_of}
-use Rattle.bsp_messages.specs.Replies.{body_bytes}
-use Rattle.bsp_messages.specs.declared.answer.Answer.TheVariants.{Refused}
-use Rattle.bsp_messages.specs.declared.refusal.RequestRefusal.TheVariants.{NoRoom}
-use Rattle.bsp_messages.specs.declared.reply.Reply.{Reply}
-use Rattle.bsp_messages.specs.declared.status.Media.{Media as ReplyMedia}
-use Rattle.bsp_messages.specs.declared.status.Media.TheVariants as reply_media
-use Rattle.bsp_messages.specs.declared.status.Status.{Status as ReplyStatus}
-use Rattle.bsp_messages.specs.declared.status.Status.TheVariants as reply_status
+use Rattle.bsp_desk.specs.Answers.{media_of, status_of, text_of}
+use Rattle.bsp_desk.specs.MessagesReplies.{body_bytes}
+use Rattle.bsp_desk.specs.Answer.TheVariants.{Refused}
+use Rattle.bsp_desk.specs.RequestRefusal.TheVariants.{NoRoom}
+use Rattle.bsp_desk.specs.Reply.{Reply}
+use Rattle.bsp_desk.specs.Media.{Media as ReplyMedia}
+use Rattle.bsp_desk.specs.Media.TheVariants as reply_media
+use Rattle.bsp_desk.specs.Status.{Status as ReplyStatus}
+use Rattle.bsp_desk.specs.Status.TheVariants as reply_status
 use Rattle.bsp_responses.specs.Responses.{ReplyText}
 use Rattle.bsp_responses.specs.declared.status.Media.{Media}
 use Rattle.bsp_responses.specs.declared.status.Media.TheVariants as media
 use Rattle.bsp_responses.specs.declared.status.Status.{Status}
 use Rattle.bsp_responses.specs.declared.status.Status.TheVariants as status
-use Rattle.bsp_routes.specs.declared.asking.Asking.{Asking}
-use Rattle.bsp_routes.specs.declared.asking.Asking.TheVariants as asking
-use Rattle.bsp_routes.specs.declared.methods.Methods.{Methods}
+use Rattle.bsp_desk.specs.Asking.{Asking}
+use Rattle.bsp_desk.specs.Asking.TheVariants as asking
+use Rattle.bsp_desk.specs.Methods.{Methods}
 
 abbrev pub status_as : ReplyStatus → Status
 status_as reply_status.Ok = status.Ok

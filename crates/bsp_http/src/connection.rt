@@ -2,15 +2,13 @@
 
 ghost use Rattle.std.specs.Prelude.{ℕ, List, IfOk};
 ghost use Rattle.std.specs.Io.KnownBytes.{Consumes, IsAtEnd};
-ghost use Rattle.bsp_conversation.specs.Ends.{IsInputEnd};
-ghost use Rattle.bsp_conversation.specs.Serving.{Serves};
+ghost use Rattle.bsp_connection.specs.Ends.{IsInputEnd};
+ghost use Rattle.bsp_connection.specs.Serving.{Serves};
 ghost use Rattle.bsp_http.specs.Messages.{at_desk};
 
 use crate::office::Office;
-use bsp_book::Book;
-use bsp_conversation::{ServeFault, Served};
-use bsp_desk::Desk;
-use bsp_routes::Routes;
+use bsp_connection::{ServeFault, Served};
+use bsp_desk::{Book, Desk, Routes};
 use std::alloc::Global;
 use std::io::{Read, Write};
 
@@ -38,5 +36,5 @@ pub fn serve<R: Read, W: Write, B: Book>(
         × Serves (at_desk B.means) got desk.old desk.new (W.contents writer.old) (W.contents writer.new) result }
     ensures end { IfOk result (λ served. IsInputEnd served.end → IsAtEnd (R.remaining reader.new)) }
 {
-    bsp_conversation::serve(alloc, reader, writer, &Office { routes }, desk)
+    bsp_connection::serve(alloc, reader, writer, &Office { routes }, desk)
 }

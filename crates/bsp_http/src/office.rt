@@ -4,12 +4,9 @@ ghost use Rattle.std.specs.Prelude.{◌≡◌};
 ghost use Rattle.bsp_http.specs.Messages.{at_desk, content_of, use_by};
 
 use crate::replies::{answer_with, no_room_reply};
-use bsp_book::Book;
-use bsp_conversation::{Answer, BodyUse, Message, Service};
-use bsp_desk::{Desk, Request};
+use bsp_connection::{Answer, BodyUse, Message, Service};
+use bsp_desk::{Asking, BodyKind, Book, Content, Desk, Request, Routes};
 use bsp_ret::{RetFault, RetFile};
-use bsp_routes::{Asking, BodyKind, Routes};
-use bsp_serving::Content;
 
 /// Answers messages at the office's desk, by the office's routes.
 #[derive(Clone, Copy)]

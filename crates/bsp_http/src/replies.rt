@@ -1,16 +1,15 @@
 //! The desk's replies as answers to messages.
 
 ghost use Rattle.std.specs.Prelude.{◌≡◌};
-ghost use Rattle.bsp_conversation.specs.Exchanges.{answer_text};
-ghost use Rattle.bsp_routes.specs.Calls.{asking_text};
+ghost use Rattle.bsp_connection.specs.Exchanges.{answer_text};
+ghost use Rattle.bsp_desk.specs.RoutesCalls.{asking_text};
 ghost use Rattle.std.specs.Cow.{cow_slice_items};
-ghost use Rattle.bsp_messages.specs.Replies.{body_bytes};
+ghost use Rattle.bsp_desk.specs.MessagesReplies.{body_bytes};
 ghost use Rattle.bsp_http.specs.Replies.{allow_at, media_as, no_room, reply_as, status_as};
 
-use bsp_conversation::Answer;
-use bsp_messages::{Body, Media as ReplyMedia, Reply, RequestRefusal, Status as ReplyStatus};
+use bsp_connection::Answer;
+use bsp_desk::{Asking, Body, Media as ReplyMedia, Reply, RequestRefusal, Status as ReplyStatus};
 use bsp_responses::{Media, Methods, Status};
-use bsp_routes::Asking;
 use std::alloc::Global;
 use std::borrow::CowSlice;
 

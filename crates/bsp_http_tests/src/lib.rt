@@ -2,8 +2,14 @@
 #![tactic(auto)]
 
 #[cfg(test)]
+mod bodies;
+#[cfg(test)]
 mod conversation;
 #[cfg(test)]
+mod heads;
+#[cfg(test)]
 mod http;
+#[cfg(test)]
+mod received;
 #[cfg(test)]
 mod responses;

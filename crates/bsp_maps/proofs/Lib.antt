@@ -8,3 +8,7 @@ pub mod RuleLemmas
 pub mod CountLemmas
 pub mod SpanLemmas
 pub mod ContentLemmas
+pub mod EntryLemmas
+pub mod IndexLemmas
+pub mod FirstLemmas
+pub mod PlaceCountLemmas

@@ -9,7 +9,7 @@ use Rattle.bsp_fields.specs.Decimal.{fixed_digits}
 use Rattle.bsp_fields.specs.Money.{money_text}
 use Rattle.bsp_fields.specs.declared.change.Change.{Change}
 use Rattle.bsp_fields.specs.declared.change.Change.TheVariants as change
-use Rattle.bsp_ret_records.specs.Texts as ret_records
+use Rattle.bsp_ret.specs.RetRecordsTexts as ret_records
 use Rattle.bsp_ret.specs.Texts as ret
 use Rattle.bsp_ret.specs.declared.model.FaultCode.{FaultCode}
 use Rattle.bsp_ret.specs.declared.model.FaultCode.TheVariants.{F10}

@@ -2,7 +2,7 @@
 use Rattle.std.proofs.Common.{◌≡◌, ℕ, suc, ◌+◌, ◌<◌, List, [], ◌∷◌, ◌++◌, length, take, get_or, refl, sym, ap, subst, ◌∙◌, arith, append_assoc, length-take}
 use Rattle.std.specs.List.{concat}
 use Rattle.std.proofs.lemmas.List.{take_more, append-nil}
-use Rattle.bsp_ret_records.specs.declared.transactions.PaidSale.{PaidSale}
+use Rattle.bsp_ret.specs.PaidSale.{PaidSale}
 use Rattle.bsp_ret.specs.Sales.{HasSale}
 use Rattle.bsp_office.specs.RetReport.{transaction_text, transactions_text, HaveSales, AreReported}
 

@@ -1,13 +1,13 @@
 -- What the desk was asked on the connections of a listener.
 use Rattle.std.proofs.Common.{◌≡◌, ℕ, ◌+◌, List, [], ◌∷◌, ◌++◌, length, length-append, arith, Option, Result, Ok, Err, sym}
 use Rattle.std.proofs.lemmas.Fn.{FoldsTo-push}
-use Rattle.bsp_conversation.proofs.RunLemmas.{run_on}
-use Rattle.bsp_conversation.specs.Conversations.{IsRun}
-use Rattle.bsp_conversation.specs.Exchanges.{Exchange, Meaning}
-use Rattle.bsp_conversation.specs.Serving.{Serves}
-use Rattle.bsp_conversation.specs.declared.end.ServeFault.{ServeFault}
-use Rattle.bsp_conversation.specs.declared.end.ServeFault.TheVariants.{Read, Write, Memory}
-use Rattle.bsp_conversation.specs.declared.end.Served.{Served}
+use Rattle.bsp_connection.proofs.RunLemmas.{run_on}
+use Rattle.bsp_connection.specs.Conversations.{IsRun}
+use Rattle.bsp_connection.specs.Exchanges.{Exchange, Meaning}
+use Rattle.bsp_connection.specs.Serving.{Serves}
+use Rattle.bsp_connection.specs.declared.end.ServeFault.{ServeFault}
+use Rattle.bsp_connection.specs.declared.end.ServeFault.TheVariants.{Read, Write, Memory}
+use Rattle.bsp_connection.specs.declared.end.Served.{Served}
 use Rattle.bsp_office.specs.Listening.{AreVisited, IsVisited, Visit}
 
 module _ {D : Type 0} (m : Meaning D) where

@@ -1,11 +1,11 @@
 -- The connections of a listener, and what the desk was asked on them.
 use Rattle.std.specs.Prelude.{◌≡◌, ◌<◌, ◌≤◌, ℕ, List, [], ◌∷◌, ◌++◌, length, Option, Result, Ok, Err}
 use Rattle.std.specs.List.{FoldsTo}
-use Rattle.bsp_conversation.specs.Exchanges.{Meaning}
-use Rattle.bsp_conversation.specs.Serving.{Serves}
-use Rattle.bsp_conversation.specs.declared.end.ServeFault.{ServeFault}
-use Rattle.bsp_conversation.specs.declared.end.ServeFault.TheVariants as end
-use Rattle.bsp_conversation.specs.declared.end.Served.{Served}
+use Rattle.bsp_connection.specs.Exchanges.{Meaning}
+use Rattle.bsp_connection.specs.Serving.{Serves}
+use Rattle.bsp_connection.specs.declared.end.ServeFault.{ServeFault}
+use Rattle.bsp_connection.specs.declared.end.ServeFault.TheVariants as end
+use Rattle.bsp_connection.specs.declared.end.Served.{Served}
 use Rattle.bsp_office.specs.declared.listening.ListenFault.{ListenFault}
 use Rattle.bsp_office.specs.declared.listening.ListenFault.TheVariants.{Accept, Memory}
 

@@ -5,14 +5,14 @@ use Rattle.std.specs.Fmt.{decimal}
 use Rattle.bsp_fields.specs.Decimal.{fixed_digits}
 use Rattle.bsp_fields.specs.Days.{day_text}
 use Rattle.bsp_fields.specs.Money.{money_text}
-use Rattle.bsp_ret_records.specs.declared.transactions.ReportedDocument.{ReportedDocument}
-use Rattle.bsp_ret_records.specs.declared.transactions.Sale.{Sale}
-use Rattle.bsp_ret_records.specs.declared.transactions.PaidSale.{PaidSale}
+use Rattle.bsp_ret.specs.ReportedDocument.{ReportedDocument}
+use Rattle.bsp_ret.specs.Sale.{Sale}
+use Rattle.bsp_ret.specs.PaidSale.{PaidSale}
 use Rattle.bsp_ret.specs.Sales.{HasSale}
 use Rattle.bsp_ret.specs.declared.model.RetFault.{RetFault}
-use Rattle.bsp_ret_records.specs.Texts.{code_text}
+use Rattle.bsp_ret.specs.RetRecordsTexts.{code_text}
 use Rattle.bsp_ret.specs.Texts.{fault_text}
-use Rattle.bsp_records.specs.Lines.{lines}
+use Rattle.bsp_ret.specs.Lines.{lines}
 use Rattle.bsp_ret.specs.Table.{total_paid, first_fault}
 use Rattle.bsp_ret.specs.Ret.{File, Ret, flatten, file_lines}
 

@@ -1,13 +1,12 @@
 //! Serving the connections of a listener.
 
 ghost use Rattle.std.specs.Prelude.{◌≡◌, List, Ok, Err};
-ghost use Rattle.bsp_conversation.specs.Conversations.{IsRun};
-ghost use Rattle.bsp_conversation.specs.Exchanges.{Exchange};
+ghost use Rattle.bsp_connection.specs.Conversations.{IsRun};
+ghost use Rattle.bsp_connection.specs.Exchanges.{Exchange};
 ghost use Rattle.bsp_http.specs.Messages.{at_desk};
 ghost use Rattle.bsp_office.specs.Listening.{AreVisited, IsVisited, Visit, counts};
 
-use bsp_book::Book;
-use bsp_desk::Desk;
+use bsp_desk::{Book, Desk};
 use bsp_http::{Routes, ServeFault, Served, serve};
 use std::alloc::Global;
 use std::io::{BufWriter, Read, Write};

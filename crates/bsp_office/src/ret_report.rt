@@ -3,7 +3,7 @@
 ghost use Rattle.std.specs.Prelude.{◌≡◌, ◌++◌, List, IfOk, OnOk, length, string_bytes};
 ghost use Rattle.bsp_ret.specs.Table.{total_paid};
 ghost use Rattle.bsp_ret.specs.Ret.{flatten, file_lines};
-ghost use Rattle.bsp_ret_records.specs.declared.transactions.PaidSale.{PaidSale as Paid};
+ghost use Rattle.bsp_ret.specs.PaidSale.{PaidSale as Paid};
 ghost use Rattle.bsp_office.specs.RetReport.{document_text, sale_text, transaction_text, total_text, file_report, fault_report, HaveSales, AreReported, IsRetReport};
 ghost use Rattle.bsp_office.specs.Verdicts.{verdict_status, IsExplained, IsRetExplanation};
 

@@ -19,3 +19,6 @@ pub mod BodyLemmas
 pub mod TrailerLemmas
 pub mod SameGroup
 pub mod SameContent
+pub use Rattle.bsp_records.proofs.CharacterLemmas
+pub use Rattle.bsp_records.proofs.FieldLemmas
+pub use Rattle.bsp_records.proofs.TextLemmas

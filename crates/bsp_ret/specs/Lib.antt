@@ -11,3 +11,19 @@ pub mod Groups
 pub mod Content
 pub mod Sales
 pub mod Texts
+pub use Rattle.bsp_records.specs.Columns
+pub use Rattle.bsp_records.specs.Fields
+pub use Rattle.bsp_records.specs.Lines
+pub use Rattle.bsp_records.specs.Taxes
+pub use Rattle.bsp_ret_records.specs.Records
+pub use Rattle.bsp_ret_records.specs.Texts as RetRecordsTexts
+pub use Rattle.bsp_ret_records.specs.Values
+pub use Rattle.bsp_ret_records.specs.declared.codes.FormOfPayment
+pub use Rattle.bsp_ret_records.specs.declared.codes.TransactionCode
+pub use Rattle.bsp_ret_records.specs.declared.transactions.Amounts
+pub use Rattle.bsp_ret_records.specs.declared.transactions.CardPayment
+pub use Rattle.bsp_ret_records.specs.declared.transactions.PaidSale
+pub use Rattle.bsp_ret_records.specs.declared.transactions.ReportedDocument
+pub use Rattle.bsp_ret_records.specs.declared.transactions.Sale
+pub use Rattle.bsp_ret_records.specs.declared.transactions.Tax
+pub use Rattle.bsp_ret_records.specs.declared.transactions.Transaction

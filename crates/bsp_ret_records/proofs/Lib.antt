@@ -3,3 +3,5 @@ pub mod ReadLemmas
 pub mod ValueLemmas
 pub mod AmountTests
 pub mod FormTests
+pub use Rattle.bsp_records.proofs.CharacterLemmas
+pub use Rattle.bsp_records.proofs.DigitLemmas

@@ -2,3 +2,5 @@
 pub mod Stored
 pub mod GroupValues
 pub mod Writing
+pub use Rattle.bsp_records.specs.Columns
+pub use Rattle.bsp_records.specs.Taxes

@@ -23,3 +23,26 @@ pub mod MemoTies
 pub mod PartLaws
 pub mod TallyLaws
 pub mod AskedTallies
+pub use Rattle.bsp_calendar.proofs.GrowsLemmas
+pub use Rattle.bsp_calendar.proofs.KeyLemmas
+pub use Rattle.bsp_calendar.proofs.ListLemmas
+pub use Rattle.bsp_calendar.proofs.ListedLemmas
+pub use Rattle.bsp_calendar.proofs.MadeLemmas
+pub use Rattle.bsp_calendar.proofs.SoundLemmas
+pub use Rattle.bsp_calendar.proofs.TargetLemmas
+pub use Rattle.bsp_fields.proofs.CodeLemmas
+pub use Rattle.bsp_fields.proofs.DayOrderLemmas
+pub use Rattle.bsp_fields.proofs.DecimalLemmas
+pub use Rattle.bsp_fields.proofs.DocumentLemmas
+pub use Rattle.bsp_memos.proofs.KeptLemmas as MemosKeptLemmas
+pub use Rattle.bsp_memos.proofs.StepLemmas
+pub use Rattle.bsp_postings.proofs.RemovalLemmas
+pub use Rattle.bsp_postings.proofs.SideLemmas
+pub use Rattle.bsp_postings.proofs.TallyLemmas
+pub use Rattle.bsp_ret_records.proofs.DigitLemmas
+pub use Rattle.bsp_ret_records.proofs.ReadLemmas
+pub use Rattle.bsp_ret_records.proofs.ValueLemmas
+pub use Rattle.bsp_ret_writer.proofs.ContentMakes
+pub use Rattle.bsp_ret_writer.proofs.WrittenFile
+pub use Rattle.bsp_rules.proofs.MeaningLemmas
+pub use Rattle.bsp_rules.proofs.SameContentLemmas

@@ -1,6 +1,6 @@
 //! Indexes and counts, after writes and after these were taken back.
 
-use bsp_indexes::{Counts, Index};
+use bsp_maps::{Counts, Index};
 use std::alloc::Global;
 use std::test::Fail;
 

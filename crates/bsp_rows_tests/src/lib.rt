@@ -1,6 +1,8 @@
-//! The tests of the rows of a book, and of the maps and tables that keep them in memory.
+//! The tests of the rows of a book, and of the maps and tables that keep them in memory, and of a book in memory.
 #![tactic(auto)]
 
+#[cfg(test)]
+mod book;
 #[cfg(test)]
 mod indexes;
 #[cfg(test)]

@@ -1,11 +1,10 @@
 //! Look-ups after writes, and after these were taken back.
 
-use bsp_fields::{AgentCode, AirlineCode, Amount, Day, DocNumber, PeriodCode};
-use bsp_memos::{Memo, MemoFields, MemoKind, MemoState, Reason};
-use bsp_postings::Tally;
-use bsp_row_tables::{MemoTable, RangeTable, TallyTable};
-use bsp_rows::{MemoKey, RangeKey, TallyKey};
-use bsp_rules::Range;
+use bsp_memory_tables::{MemoTable, RangeTable, TallyTable};
+use bsp_rows::{
+    AgentCode, AirlineCode, Amount, Day, DocNumber, Memo, MemoFields, MemoKey, MemoKind, MemoState,
+    PeriodCode, Range, RangeKey, Reason, Tally, TallyKey,
+};
 use std::alloc::Global;
 
 fn agents() -> Option<[AgentCode; 2]> {

@@ -1,11 +1,10 @@
 //! The rows of a book are sound, or are not.
 
-use bsp_calendar::{Currency, Period, Plan, PlanText, Terms};
-use bsp_fields::{AgentCode, AirlineCode, Amount, Day, DocNumber, PeriodCode, Token};
-use bsp_memos::{Memo, MemoFields, MemoKind, MemoState, Reason};
-use bsp_ret_records::{Amounts, ReportedDocument, Transaction, TransactionCode};
-use bsp_rows::{ItemKey, MemoKey, RangeKey, are_sound};
-use bsp_rules::{Item, Range};
+use bsp_rows::{
+    AgentCode, AirlineCode, Amount, Amounts, Currency, Day, DocNumber, Item, ItemKey, Memo,
+    MemoFields, MemoKey, MemoKind, MemoState, Period, PeriodCode, Plan, PlanText, Range, RangeKey,
+    Reason, ReportedDocument, Terms, Token, Transaction, TransactionCode, are_sound,
+};
 use std::alloc::Global;
 use std::collections::BTreeMap;
 use std::test::Fail;

@@ -8,9 +8,9 @@ use Rattle.bsp_book.specs.declared.fault.BookFault.{BookFault}
 use Rattle.bsp_book.specs.declared.fault.BookFault.TheVariants.{Failed, NoRoom}
 use Rattle.bsp_book.specs.Calls.{Commits, FallsBack, Faults, LeavesEither}
 use Rattle.bsp_book.specs.Listed.{meaning as listed}
-use Rattle.bsp_content.specs.Content.{Content, form}
-use Rattle.bsp_content.specs.Contents.{content_before, content_now}
-use Rattle.bsp_tables.specs.Kept.{Falls, Stands}
+use Rattle.bsp_store_base.specs.Content.{Content, form}
+use Rattle.bsp_store_load.specs.Contents.{content_before, content_now}
+use Rattle.bsp_store_base.specs.Kept.{Falls, Stands}
 use Rattle.bsp_store.specs.Calls.{IsKept}
 use Rattle.bsp_store.specs.Meanings.{meaning}
 use Rattle.bsp_store.specs.declared.book.SqlBook.{SqlBook}

@@ -15,26 +15,26 @@ use Rattle.sqlite.specs.State.{HasCleanDisk}
 use Rattle.bsp_rows.specs.Rows.{Rows, no_rows}
 use Rattle.bsp_rows.specs.Sound.{Sound}
 use Rattle.bsp_rows.proofs.KeptLemmas.{no_rows_sound}
-use Rattle.bsp_list_tables.specs.Tables.{rows_of}
-use Rattle.bsp_list_tables.specs.declared.tables.Tables.{Tables}
+use Rattle.bsp_memory_rows.specs.Tables.{rows_of}
+use Rattle.bsp_memory_rows.specs.declared.tables.Tables.{Tables}
 use Rattle.bsp_book.specs.Listed.{Holds as ListHolds}
 use Rattle.bsp_book.specs.declared.list.ListBook.{ListBook}
-use Rattle.bsp_schema.specs.Order.{AreInOrder}
-use Rattle.bsp_schema.specs.Schema.{no_schema, our_schema}
-use Rattle.bsp_tables.specs.Kept.{Keeps, KeepsRows, KeepsTable, Part, Reads, Spares, columns_of}
-use Rattle.bsp_columns.specs.Columns.{Meta, count, meta_row, meta_rows, version}
-use Rattle.bsp_content.specs.Content.{Content, form, meta_part, width_of}
-use Rattle.bsp_content.specs.Contents.{IsContentOf, KeepsBook, content_now}
-use Rattle.bsp_content.specs.Forms.{IsFormed}
-use Rattle.bsp_stored_rows.specs.declared.stored.StoredRows.{StoredRows}
-use Rattle.bsp_stored_rows.specs.Stored.{AreNoBook, AreRowsOf}
+use Rattle.bsp_store_schema.specs.Order.{AreInOrder}
+use Rattle.bsp_store_schema.specs.Schema.{no_schema, our_schema}
+use Rattle.bsp_store_base.specs.Kept.{Keeps, KeepsRows, KeepsTable, Part, Reads, Spares, columns_of}
+use Rattle.bsp_store_base.specs.Columns.{Meta, count, meta_row, meta_rows, version}
+use Rattle.bsp_store_base.specs.Content.{Content, form, meta_part, width_of}
+use Rattle.bsp_store_load.specs.Contents.{IsContentOf, KeepsBook, content_now}
+use Rattle.bsp_store_base.specs.Forms.{IsFormed}
+use Rattle.bsp_store_load.specs.declared.stored.StoredRows.{StoredRows}
+use Rattle.bsp_store_load.specs.Stored.{AreNoBook, AreRowsOf}
 use Rattle.bsp_store.specs.Faults.{is_refusal}
 use Rattle.bsp_store.specs.declared.fault.OpenFault.{OpenFault}
 use Rattle.bsp_store.specs.declared.fault.OpenFault.TheVariants.{NoRoom, Damaged}
 use Rattle.bsp_store.specs.Meanings.{Holds, KeepsAtRest}
 use Rattle.bsp_store.specs.Opening.{Adopts, AreAllOf, AreAllRows, Finds, HasNoBook, IsFoundIn, IsNoBook, IsOfOther, IsOfVersion, IsOrdered, IsRead, LeavesCommitted, Reopens, Reports, SparesStore, WasForeign, WasNoBook}
 use Rattle.bsp_store.specs.declared.book.SqlBook.{SqlBook}
-use Rattle.bsp_content.proofs.Tallies.{content_is}
+use Rattle.bsp_store_load.proofs.Tallies.{content_is}
 
 -- ---- one query after another
 

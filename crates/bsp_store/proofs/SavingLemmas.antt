@@ -8,17 +8,17 @@ use Rattle.bsp_maps.specs.declared.logged.Old.{Old}
 use Rattle.bsp_maps.proofs.PresentLemmas.{flat, get-present}
 use Rattle.bsp_maps.specs.Present.{present}
 use Rattle.bsp_rows.specs.Rows.{Rows}
-use Rattle.bsp_tables.specs.Synced.{synced, with_value}
-use Rattle.bsp_tables.proofs.Syncing.{up_to_date}
-use Rattle.bsp_content.specs.Content.{Content}
+use Rattle.bsp_store_base.specs.Synced.{synced, with_value}
+use Rattle.bsp_store_base.proofs.Syncing.{up_to_date}
+use Rattle.bsp_store_base.specs.Content.{Content}
 use Rattle.sqlite_trees.specs.declared.store.Store.{Ghosts}
-use Rattle.bsp_list_tables.specs.Tables.{committed_rows, rows_of}
+use Rattle.bsp_memory_rows.specs.Tables.{committed_rows, rows_of}
 use Rattle.bsp_store.specs.Calls.{IsKept}
 use Rattle.bsp_store.specs.Meanings.{Holds}
 use Rattle.bsp_store.specs.declared.book.SqlBook.{SqlBook}
 use Rattle.bsp_store.specs.Calls.{with_each, written_keys}
-use Rattle.bsp_content.specs.Contents.{IsContentOf, content_before, content_now}
-use Rattle.bsp_content.proofs.Tallies.{content_is, one_content}
+use Rattle.bsp_store_load.specs.Contents.{IsContentOf, content_before, content_now}
+use Rattle.bsp_store_load.proofs.Tallies.{content_is, one_content}
 
 -- a table of a content, each of whose keys is set to what is seen of it in memory
 module _ {K V W : Type 0} {R : K → K → Ordering} (o : IsTotalOrder R) (exact : IsAntisymmetric R) (f : FinMap R V → FinMap R W) (h : Option V → Option W) (sees : (m : FinMap R V) (q : K) → get (f m) q ≡ h (get m q))

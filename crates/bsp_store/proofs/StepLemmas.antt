@@ -3,8 +3,8 @@ use Rattle.std.proofs.Common.{refl, sym, ap, ◌∙◌, subst, Result, Ok, Err, 
 use Rattle.std.specs.Prelude.{⊤}
 use Rattle.sqlite.specs.Held.{Held}
 use Rattle.sqlite_trees.specs.declared.store.Store.{Ghosts}
-use Rattle.bsp_content.specs.Content.{Content, form}
-use Rattle.bsp_tables.specs.Kept.{Stands}
+use Rattle.bsp_store_base.specs.Content.{Content, form}
+use Rattle.bsp_store_base.specs.Kept.{Stands}
 use Rattle.bsp_store.specs.Calls.{Changes, Updates}
 
 -- a call failed, and what then holds is known

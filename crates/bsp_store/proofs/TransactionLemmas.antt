@@ -2,25 +2,25 @@
 use Rattle.std.proofs.Common.{◌≡◌, ℕ, List, length, Option, Some, refl, sym, ap, ◌∙◌, subst, nat_cmp}
 use Rattle.sqlite.specs.Held.{Held}
 use Rattle.sqlite_trees.specs.declared.store.Store.{Ghosts}
-use Rattle.bsp_fields.specs.CivilDay.{CivilDay}
-use Rattle.bsp_calendar.specs.Published.{Published}
-use Rattle.bsp_calendar.specs.declared.entries.Period.{Period}
-use Rattle.bsp_calendar.specs.declared.entries.Rate.{Rate}
-use Rattle.bsp_calendar.specs.declared.entries.Terms.{Terms}
+use Rattle.bsp_rows.specs.CivilDay.{CivilDay}
+use Rattle.bsp_rows.specs.Published.{Published}
+use Rattle.bsp_rows.specs.Period.{Period}
+use Rattle.bsp_rows.specs.Rate.{Rate}
+use Rattle.bsp_rows.specs.Terms.{Terms}
 use Rattle.bsp_maps.specs.declared.logged.Logged.{Logged}
-use Rattle.bsp_row_tables.specs.declared.items.ItemTable.{ItemTable}
-use Rattle.bsp_row_tables.specs.declared.memos.MemoTable.{MemoTable}
-use Rattle.bsp_row_tables.specs.declared.ranges.RangeTable.{RangeTable}
-use Rattle.bsp_row_tables.specs.declared.tallies.TallyTable.{TallyTable}
+use Rattle.bsp_memory_tables.specs.declared.items.ItemTable.{ItemTable}
+use Rattle.bsp_memory_tables.specs.declared.memos.MemoTable.{MemoTable}
+use Rattle.bsp_memory_tables.specs.declared.ranges.RangeTable.{RangeTable}
+use Rattle.bsp_memory_tables.specs.declared.tallies.TallyTable.{TallyTable}
 use Rattle.bsp_maps.specs.Undo.{before, content}
-use Rattle.bsp_row_tables.specs.ItemTables.{item_rows, item_rows_before}
-use Rattle.bsp_row_tables.specs.MemoTables.{memo_rows, memo_rows_before}
-use Rattle.bsp_row_tables.specs.RangeTables.{range_rows, range_rows_before}
-use Rattle.bsp_row_tables.specs.TallyTables.{tally_rows, tally_rows_before}
-use Rattle.bsp_list_tables.specs.Plans.{saved_plan}
-use Rattle.bsp_list_tables.specs.declared.tables.Tables.{Tables}
-use Rattle.bsp_content.specs.Content.{Content}
-use Rattle.bsp_content.specs.Contents.{AreAlike, content_before, content_now, used_tallies}
+use Rattle.bsp_memory_tables.specs.ItemTables.{item_rows, item_rows_before}
+use Rattle.bsp_memory_tables.specs.MemoTables.{memo_rows, memo_rows_before}
+use Rattle.bsp_memory_tables.specs.RangeTables.{range_rows, range_rows_before}
+use Rattle.bsp_memory_tables.specs.TallyTables.{tally_rows, tally_rows_before}
+use Rattle.bsp_memory_rows.specs.Plans.{saved_plan}
+use Rattle.bsp_memory_rows.specs.declared.tables.Tables.{Tables}
+use Rattle.bsp_store_base.specs.Content.{Content}
+use Rattle.bsp_store_load.specs.Contents.{AreAlike, content_before, content_now, used_tallies}
 use Rattle.bsp_store.specs.Calls.{Changes, Updates}
 use Rattle.bsp_store.specs.Saving.{HasCallers, HasDocuments, HasPlan, with_callers, with_documents, with_plan}
 use Rattle.bsp_store.proofs.StepLemmas.{changes_if, in_turn}

@@ -13,29 +13,29 @@ use Rattle.bsp_maps.specs.declared.logged.Logged.{Logged}
 use Rattle.bsp_maps.specs.declared.logged.Old.{Old}
 use Rattle.bsp_maps.specs.Present.{present}
 use Rattle.bsp_maps.proofs.PresentLemmas.{get-present}
-use Rattle.bsp_rules.specs.declared.rows.Item.{Item}
-use Rattle.bsp_memos.specs.declared.fields.MemoFields.{MemoFields}
+use Rattle.bsp_rows.specs.Item.{Item}
+use Rattle.bsp_rows.specs.MemoFields.{MemoFields}
 use Rattle.bsp_rows.specs.Rows.{item_cmp, memo_cmp, range_cmp}
 use Rattle.bsp_rows.specs.Tallies.{tally_cmp}
 use Rattle.bsp_rows.specs.declared.keys.ItemKey.{ItemKey}
 use Rattle.bsp_rows.specs.declared.keys.MemoKey.{MemoKey}
 use Rattle.bsp_rows.specs.declared.keys.RangeKey.{RangeKey}
 use Rattle.bsp_rows.specs.declared.keys.TallyKey.{TallyKey}
-use Rattle.bsp_postings.specs.declared.tally.Tally.{Tally}
+use Rattle.bsp_rows.specs.Tally.{Tally}
 use Rattle.bsp_rows.proofs.KeyOrders.{item_exact, item_total, memo_exact, memo_total, range_exact, range_total, tally_exact, tally_total}
-use Rattle.bsp_row_tables.specs.ItemTables.{item_rows, item_rows_before}
-use Rattle.bsp_row_tables.specs.MemoTables.{memo_rows, memo_rows_before}
-use Rattle.bsp_row_tables.specs.RangeTables.{range_rows, range_rows_before}
-use Rattle.bsp_row_tables.specs.TallyTables.{tally_rows, tally_rows_before}
-use Rattle.bsp_row_tables.specs.declared.items.ItemTable.{ItemTable}
-use Rattle.bsp_row_tables.specs.declared.memos.MemoTable.{MemoTable}
-use Rattle.bsp_row_tables.specs.declared.ranges.RangeTable.{RangeTable}
-use Rattle.bsp_row_tables.specs.declared.tallies.TallyTable.{TallyTable}
-use Rattle.bsp_tables.specs.Synced.{with_value}
-use Rattle.bsp_content.specs.Content.{Content}
-use Rattle.bsp_content.specs.Contents.{used_at, used_tallies}
+use Rattle.bsp_memory_tables.specs.ItemTables.{item_rows, item_rows_before}
+use Rattle.bsp_memory_tables.specs.MemoTables.{memo_rows, memo_rows_before}
+use Rattle.bsp_memory_tables.specs.RangeTables.{range_rows, range_rows_before}
+use Rattle.bsp_memory_tables.specs.TallyTables.{tally_rows, tally_rows_before}
+use Rattle.bsp_memory_tables.specs.declared.items.ItemTable.{ItemTable}
+use Rattle.bsp_memory_tables.specs.declared.memos.MemoTable.{MemoTable}
+use Rattle.bsp_memory_tables.specs.declared.ranges.RangeTable.{RangeTable}
+use Rattle.bsp_memory_tables.specs.declared.tallies.TallyTable.{TallyTable}
+use Rattle.bsp_store_base.specs.Synced.{with_value}
+use Rattle.bsp_store_base.specs.Content.{Content}
+use Rattle.bsp_store_load.specs.Contents.{used_at, used_tallies}
 use Rattle.bsp_store.specs.Calls.{Changes, Updates, with_each, written_keys}
-use Rattle.bsp_content.proofs.Tallies.{get-used}
+use Rattle.bsp_store_load.proofs.Tallies.{get-used}
 use Rattle.bsp_store.proofs.SavingLemmas.{all_set, same_present}
 
 module _ {S : Type 0} (g : Ghosts S) (old new : Held S) where

@@ -3,8 +3,8 @@ use Rattle.std.specs.Prelude.{◌≡◌, Option, List, [], ◌∷◌, map}
 use Rattle.sqlite.specs.Held.{Held}
 use Rattle.sqlite_trees.specs.declared.store.Store.{Ghosts}
 use Rattle.bsp_maps.specs.declared.logged.Old.{Old}
-use Rattle.bsp_content.specs.Content.{Content, form}
-use Rattle.bsp_tables.specs.Kept.{Falls, IsInside, IsOutside, Stands}
+use Rattle.bsp_store_base.specs.Content.{Content, form}
+use Rattle.bsp_store_base.specs.Kept.{Falls, IsInside, IsOutside, Stands}
 
 module _ {S : Type 0} (g : Ghosts S) where
   -- no transaction is open, and a stop leaves what the last commit left

@@ -7,9 +7,9 @@ use Rattle.sqlite.specs.State.{HasCleanDisk}
 use Rattle.bsp_rows.specs.Rows.{Rows}
 use Rattle.bsp_book.specs.Calls.{Meaning}
 use Rattle.bsp_book.specs.Listed.{meaning as listed}
-use Rattle.bsp_content.specs.Content.{Content}
+use Rattle.bsp_store_base.specs.Content.{Content}
 use Rattle.bsp_store.specs.Calls.{IsKept}
-use Rattle.bsp_content.specs.Contents.{IsContentOf, KeepsBook}
+use Rattle.bsp_store_load.specs.Contents.{IsContentOf, KeepsBook}
 use Rattle.bsp_store.specs.declared.book.SqlBook.{SqlBook}
 
 module _ {S : Type 0} (g : Ghosts S) where

@@ -12,14 +12,14 @@ use Rattle.bsp_rows.specs.Rows.{Rows, no_rows}
 use Rattle.bsp_rows.specs.Sound.{Sound}
 use Rattle.bsp_book.specs.Listed.{meaning as listed}
 use Rattle.bsp_book.specs.declared.list.ListBook.{ListBook}
-use Rattle.bsp_schema.specs.Order.{AreInOrder}
-use Rattle.bsp_schema.specs.Schema.{no_schema, our_schema}
-use Rattle.bsp_tables.specs.Kept.{KeepsRows, Part, Reads, columns_of}
-use Rattle.bsp_columns.specs.Columns.{count, version}
-use Rattle.bsp_content.specs.Content.{Content, agent_part, airline_part, airline_token_part, form, item_part, memo_part, meta_part, period_part, rate_part, stock_part, tally_part, terms_part, width_of}
-use Rattle.bsp_content.specs.Contents.{IsContentOf, KeepsBook}
-use Rattle.bsp_content.specs.Forms.{IsFormed}
-use Rattle.bsp_stored_rows.specs.declared.stored.StoredRows.{StoredRows}
+use Rattle.bsp_store_schema.specs.Order.{AreInOrder}
+use Rattle.bsp_store_schema.specs.Schema.{no_schema, our_schema}
+use Rattle.bsp_store_base.specs.Kept.{KeepsRows, Part, Reads, columns_of}
+use Rattle.bsp_store_base.specs.Columns.{count, version}
+use Rattle.bsp_store_base.specs.Content.{Content, agent_part, airline_part, airline_token_part, form, item_part, memo_part, meta_part, period_part, rate_part, stock_part, tally_part, terms_part, width_of}
+use Rattle.bsp_store_load.specs.Contents.{IsContentOf, KeepsBook}
+use Rattle.bsp_store_base.specs.Forms.{IsFormed}
+use Rattle.bsp_store_load.specs.declared.stored.StoredRows.{StoredRows}
 use Rattle.bsp_store.specs.declared.book.SqlBook.{SqlBook}
 use Rattle.bsp_store.specs.declared.fault.OpenFault.{OpenFault}
 use Rattle.bsp_store.specs.declared.fault.OpenFault.TheVariants.{NoRoom, Damaged, Failed, OtherVersion}

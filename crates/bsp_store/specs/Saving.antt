@@ -1,15 +1,15 @@
 -- What a commit writes to the tables of the store.
 use Rattle.std.specs.Prelude.{◌≡◌, length, Some}
 use Rattle.std.specs.Ordering.{nat_cmp}
-use Rattle.bsp_calendar.specs.Published.{Published}
+use Rattle.bsp_rows.specs.Published.{Published}
 use Rattle.bsp_maps.specs.Undo.{before, content}
-use Rattle.bsp_row_tables.specs.ItemTables.{item_rows, item_rows_before}
-use Rattle.bsp_row_tables.specs.MemoTables.{memo_rows, memo_rows_before}
-use Rattle.bsp_row_tables.specs.RangeTables.{range_rows, range_rows_before}
-use Rattle.bsp_row_tables.specs.TallyTables.{tally_rows, tally_rows_before}
-use Rattle.bsp_list_tables.specs.declared.tables.Tables.{Tables}
-use Rattle.bsp_content.specs.Content.{Content}
-use Rattle.bsp_content.specs.Contents.{used_tallies}
+use Rattle.bsp_memory_tables.specs.ItemTables.{item_rows, item_rows_before}
+use Rattle.bsp_memory_tables.specs.MemoTables.{memo_rows, memo_rows_before}
+use Rattle.bsp_memory_tables.specs.RangeTables.{range_rows, range_rows_before}
+use Rattle.bsp_memory_tables.specs.TallyTables.{tally_rows, tally_rows_before}
+use Rattle.bsp_memory_rows.specs.declared.tables.Tables.{Tables}
+use Rattle.bsp_store_base.specs.Content.{Content}
+use Rattle.bsp_store_load.specs.Contents.{used_tallies}
 
 -- with the rows of a plan
 abbrev pub with_plan : Published → Content → Content

@@ -3,20 +3,17 @@
 ghost use Rattle.std.specs.Prelude.{◌≡◌, IsOkUnless, OnErr, OnOk, false, true};
 ghost use Rattle.bsp_book.specs.Calls.{Commits, FallsBack};
 ghost use Rattle.bsp_book.specs.Listed.{meaning as listed};
-ghost use Rattle.bsp_content.specs.Content.{Content, form};
-ghost use Rattle.bsp_tables.specs.Kept.{Falls, Stands};
+ghost use Rattle.bsp_store_base.specs.Content.{Content, form};
+ghost use Rattle.bsp_store_base.specs.Kept.{Falls, Stands};
 ghost use Rattle.bsp_store.specs.Calls.{IsKept};
 
 use crate::ends::recover;
 use crate::saving::save;
 use bsp_book::{Book, BookFault, ListBook};
-use bsp_calendar::{Plan, PlanFault, PlanText};
-use bsp_fields::{AgentCode, AirlineCode, Change, Day, PeriodCode, Token};
-use bsp_memos::Memo;
-use bsp_postings::Tally;
-use bsp_ret_records::Transaction;
-use bsp_rows::{ItemKey, Items, MemoKey, Memos, Tallies, TallyKey};
-use bsp_rules::{Item, Range};
+use bsp_rows::{
+    AgentCode, AirlineCode, Change, Day, Item, ItemKey, Items, Memo, MemoKey, Memos, PeriodCode,
+    Plan, PlanFault, PlanText, Range, Tallies, Tally, TallyKey, Token, Transaction,
+};
 use sqlite::{Alter, Connection, Error, ErrorCode};
 
 /// A book in tables of `sqlite`.

@@ -1,8 +1,8 @@
 //! The ends of a transaction.
 
 ghost use Rattle.std.specs.Prelude.{IsTrue, OnOk, OnErr};
-ghost use Rattle.bsp_content.specs.Content.{Content, form};
-ghost use Rattle.bsp_tables.specs.Kept.{Falls, IsInside, IsOutside, Stands};
+ghost use Rattle.bsp_store_base.specs.Content.{Content, form};
+ghost use Rattle.bsp_store_base.specs.Kept.{Falls, IsInside, IsOutside, Stands};
 
 use sqlite::{Alter, Connection, Error};
 

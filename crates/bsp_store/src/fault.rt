@@ -3,7 +3,7 @@
 ghost use Rattle.std.specs.Prelude.{◌≡◌, false};
 ghost use Rattle.bsp_store.specs.Faults.{is_refusal};
 
-use bsp_list_tables::NoRoom;
+use bsp_memory_rows::NoRoom;
 use sqlite::{Error as StoreError, ErrorCode};
 use std::alloc::AllocError;
 use thiserror::Error;

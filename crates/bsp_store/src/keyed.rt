@@ -10,7 +10,7 @@ use std::collections::BTreeMap;
 
 /// A table whose rows are found by keys.
 pub(crate) trait Keyed<K: Ord + Copy + Drop, V: Copy + Drop> {
-    ghost use Rattle.bsp_content.specs.Content.{Content};
+    ghost use Rattle.bsp_store_base.specs.Content.{Content};
     ghost use Rattle.std.specs.Prelude.{Option};
 
     // the content with a value at a key, or with none

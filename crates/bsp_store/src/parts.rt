@@ -2,19 +2,18 @@
 
 ghost use Rattle.std.specs.Prelude.{◌≡◌, OnErr, OnOk, ⊤};
 ghost use Rattle.std.specs.Option.{option_flatten};
-ghost use Rattle.bsp_tables.specs.Synced.{with_value};
+ghost use Rattle.bsp_store_base.specs.Synced.{with_value};
 ghost use Rattle.bsp_store.specs.Calls.{Changes, GivesUp};
-ghost use Rattle.bsp_content.specs.Contents.{used_at};
+ghost use Rattle.bsp_store_load.specs.Contents.{used_at};
 
 use crate::keyed::Keyed;
-use bsp_caller_tables::{put_agent, put_airline_token, put_range};
-use bsp_fields::{AgentCode, AirlineCode, DocNumber, Token};
-use bsp_item_table::put_item;
-use bsp_memo_tables::{put_memo, put_tally};
-use bsp_memos::Memo;
-use bsp_postings::Tally;
-use bsp_rows::{ItemKey, MemoKey, RangeKey, TallyKey};
-use bsp_rules::Item;
+use bsp_rows::{
+    AgentCode, AirlineCode, DocNumber, Item, ItemKey, Memo, MemoKey, RangeKey, Tally, TallyKey,
+    Token,
+};
+use bsp_store_callers::{put_agent, put_airline_token, put_range};
+use bsp_store_items::put_item;
+use bsp_store_memos::{put_memo, put_tally};
 use sqlite::{Alter, Connection, Error};
 
 /// The tokens of agents.

@@ -1,10 +1,9 @@
 //! Whether two plans have the same rows in the tables.
 
 ghost use Rattle.std.specs.Prelude.{◌≡◌, length, IsTrue};
-ghost use Rattle.bsp_content.specs.Contents.{AreAlike};
+ghost use Rattle.bsp_store_load.specs.Contents.{AreAlike};
 
-use bsp_calendar::{Period, Plan, Rate, Terms};
-use bsp_fields::AirlineCode;
+use bsp_rows::{AirlineCode, Period, Plan, Rate, Terms};
 
 fn same_airlines(own: &[AirlineCode], other: &[AirlineCode]) -> bool
     ensures { IsTrue result → own.now ≡ other.now }

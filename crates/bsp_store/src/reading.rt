@@ -2,19 +2,19 @@
 
 ghost use Rattle.std.specs.Prelude.{◌≡◌, true, IfErr, IfOk, MatchResult, OnOk};
 ghost use Rattle.sqlite.specs.Held.{state};
-ghost use Rattle.bsp_schema.specs.Schema.{our_schema};
-ghost use Rattle.bsp_tables.specs.Kept.{Spares};
-ghost use Rattle.bsp_content.specs.Content.{agent_part, airline_part, airline_token_part, item_part, memo_part, meta_part, period_part, rate_part, stock_part, tally_part, terms_part};
+ghost use Rattle.bsp_store_schema.specs.Schema.{our_schema};
+ghost use Rattle.bsp_store_base.specs.Kept.{Spares};
+ghost use Rattle.bsp_store_base.specs.Content.{agent_part, airline_part, airline_token_part, item_part, memo_part, meta_part, period_part, rate_part, stock_part, tally_part, terms_part};
 ghost use Rattle.bsp_store.specs.Faults.{is_refusal};
 ghost use Rattle.bsp_store.specs.Opening.{AreAllOf, AreAllRows, AreCallerRows, AreDocumentRows, ArePlanRows, Finds, HasNoBook, IsOfVersion, Reports};
 
 use crate::fault::{OpenFault, fault_of};
-use bsp_caller_tables::{all_agents, all_airline_tokens, all_ranges};
-use bsp_item_table::all_items;
-use bsp_memo_tables::{all_memos, all_tallies};
-use bsp_plan_tables::{all_airlines, all_meta, all_periods, all_rates, all_terms, read_version};
-use bsp_schema::is_ours;
-use bsp_stored_rows::StoredRows;
+use bsp_store_callers::{all_agents, all_airline_tokens, all_ranges};
+use bsp_store_items::all_items;
+use bsp_store_load::StoredRows;
+use bsp_store_memos::{all_memos, all_tallies};
+use bsp_store_plan::{all_airlines, all_meta, all_periods, all_rates, all_terms, read_version};
+use bsp_store_schema::is_ours;
 use sqlite::{Alter, Connection, Error as StoreError, Row};
 
 /// The version of the tables.

@@ -1,10 +1,10 @@
 //! What was written since the last commit, written to the store in one transaction.
 
 ghost use Rattle.std.specs.Prelude.{◌≡◌, OnOk, OnErr, ⊤};
-ghost use Rattle.bsp_content.specs.Content.{form};
-ghost use Rattle.bsp_tables.specs.Kept.{Falls};
+ghost use Rattle.bsp_store_base.specs.Content.{form};
+ghost use Rattle.bsp_store_base.specs.Kept.{Falls};
 ghost use Rattle.bsp_store.specs.Calls.{Changes, GivesUp, IsKept, Updates};
-ghost use Rattle.bsp_content.specs.Contents.{content_before, content_now};
+ghost use Rattle.bsp_store_load.specs.Contents.{content_before, content_now};
 ghost use Rattle.bsp_store.specs.Saving.{HasCallers, HasDocuments, HasPlan, with_callers, with_documents, with_plan};
 
 use crate::ends::{close_transaction, open_transaction};
@@ -12,9 +12,9 @@ use crate::plans::are_alike;
 use crate::written::{
     save_agents, save_airlines, save_items, save_memos, save_ranges, save_tallies,
 };
-use bsp_calendar::Plan;
-use bsp_list_tables::Tables;
-use bsp_plan_tables::{put_airlines, put_meta, put_periods, put_rates, put_terms};
+use bsp_memory_rows::Tables;
+use bsp_rows::Plan;
+use bsp_store_plan::{put_airlines, put_meta, put_periods, put_rates, put_terms};
 use sqlite::{Alter, Connection, Error};
 
 /// Writes the rows of a plan.

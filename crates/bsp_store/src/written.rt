@@ -3,18 +3,18 @@
 ghost use Rattle.std.specs.Prelude.{◌≡◌, OnErr, OnOk};
 ghost use Rattle.std.specs.Ordering.{nat_cmp};
 ghost use Rattle.bsp_maps.specs.Undo.{before, content};
-ghost use Rattle.bsp_row_tables.specs.ItemTables.{item_rows, item_rows_before};
-ghost use Rattle.bsp_row_tables.specs.MemoTables.{memo_rows, memo_rows_before};
-ghost use Rattle.bsp_row_tables.specs.RangeTables.{range_rows, range_rows_before};
-ghost use Rattle.bsp_row_tables.specs.TallyTables.{tally_rows, tally_rows_before};
-ghost use Rattle.bsp_content.specs.Contents.{used_tallies};
+ghost use Rattle.bsp_memory_tables.specs.ItemTables.{item_rows, item_rows_before};
+ghost use Rattle.bsp_memory_tables.specs.MemoTables.{memo_rows, memo_rows_before};
+ghost use Rattle.bsp_memory_tables.specs.RangeTables.{range_rows, range_rows_before};
+ghost use Rattle.bsp_memory_tables.specs.TallyTables.{tally_rows, tally_rows_before};
+ghost use Rattle.bsp_store_load.specs.Contents.{used_tallies};
 ghost use Rattle.bsp_store.specs.Calls.{GivesUp, Updates};
 
 use crate::keyed::put_written;
 use crate::parts::{Agents, Airlines, ItemRows, MemoRows, Ranges, TallyRows};
-use bsp_fields::{AgentCode, AirlineCode, Token};
 use bsp_maps::Logged;
-use bsp_row_tables::{ItemTable, MemoTable, RangeTable, TallyTable};
+use bsp_memory_tables::{ItemTable, MemoTable, RangeTable, TallyTable};
+use bsp_rows::{AgentCode, AirlineCode, Token};
 use sqlite::{Alter, Connection, Error};
 
 /// Writes the tokens of agents that were written in memory.

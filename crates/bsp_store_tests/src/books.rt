@@ -1,8 +1,8 @@
 //! Books that are written, released and opened again.
 
 use bsp_book::Book;
-use bsp_calendar::{Currency, Period, PlanText, Terms};
 use bsp_fields::{AgentCode, AirlineCode, Day, PeriodCode, Token};
+use bsp_rows::{Currency, Period, PlanText, Terms};
 use bsp_store::{OpenFault, SqlBook};
 use sqlite::MemStore;
 use std::alloc::Global;

@@ -1,12 +1,12 @@
 //! The rows of agents, of the tokens of airlines and of ranges are written and read back.
 
 use crate::tables::tables;
-use bsp_caller_tables::{
+use bsp_fields::{AgentCode, AirlineCode, DocNumber, Token};
+use bsp_rows::RangeKey;
+use bsp_store_callers::{
     all_agents, all_airline_tokens, all_ranges, put_agent, put_airline_token, put_range,
     read_agent, read_airline_token, read_range,
 };
-use bsp_fields::{AgentCode, AirlineCode, DocNumber, Token};
-use bsp_rows::RangeKey;
 use std::test::Fail;
 
 #[test]

@@ -2,10 +2,10 @@
 
 use crate::tables::tables;
 use bsp_fields::{AgentCode, AirlineCode, Amount, Day, DocNumber, PeriodCode};
-use bsp_item_table::{all_items, put_item, read_item};
-use bsp_ret_records::{Amounts, CardPayment, ReportedDocument, Tax, Transaction, TransactionCode};
-use bsp_rows::ItemKey;
-use bsp_rules::Item;
+use bsp_rows::{
+    Amounts, CardPayment, Item, ItemKey, ReportedDocument, Tax, Transaction, TransactionCode,
+};
+use bsp_store_items::{all_items, put_item, read_item};
 use sqlite::Row;
 use std::test::Fail;
 

@@ -2,10 +2,8 @@
 
 use crate::tables::tables;
 use bsp_fields::{AgentCode, AirlineCode, Amount, Day, DocNumber, FieldFault, PeriodCode};
-use bsp_memo_tables::{all_memos, all_tallies, put_memo, put_tally, read_memo, read_tally};
-use bsp_memos::{Memo, MemoFields, MemoKind, MemoState, Reason};
-use bsp_postings::Tally;
-use bsp_rows::{MemoKey, TallyKey};
+use bsp_rows::{Memo, MemoFields, MemoKey, MemoKind, MemoState, Reason, Tally, TallyKey};
+use bsp_store_memos::{all_memos, all_tallies, put_memo, put_tally, read_memo, read_tally};
 use std::alloc::Global;
 use std::test::Fail;
 

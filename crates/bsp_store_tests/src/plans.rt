@@ -1,9 +1,9 @@
 //! The rows of a plan are written and read back.
 
 use crate::tables::tables;
-use bsp_calendar::{Currency, Period, Rate, Terms};
 use bsp_fields::{AirlineCode, Day, PeriodCode};
-use bsp_plan_tables::{
+use bsp_rows::{Currency, Period, Rate, Terms};
+use bsp_store_plan::{
     all_airlines, all_meta, all_periods, all_rates, all_terms, put_airlines, put_meta, put_periods,
     put_rates, put_terms, read_airline, read_meta, read_period, read_rate, read_terms,
 };

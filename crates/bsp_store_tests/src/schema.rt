@@ -1,6 +1,6 @@
 //! The tables that are made pass the test, and other stores do not.
 
-use bsp_schema::{is_bare, is_ours, make_tables, reopen};
+use bsp_store_schema::{is_bare, is_ours, make_tables, reopen};
 use sqlite::{Connection, Error, MemStore};
 use std::alloc::Global;
 use std::test::Fail;

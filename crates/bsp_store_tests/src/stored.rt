@@ -1,21 +1,20 @@
 //! The rows of a plan, an agent and a sale, read into memory.
 
 use crate::tables::tables;
-use bsp_calendar::{Currency, Period, Rate, Terms};
-use bsp_caller_tables::{all_agents, all_airline_tokens, all_ranges, put_agent};
 use bsp_fields::{AgentCode, AirlineCode, Amount, Day, PeriodCode, Token};
-use bsp_item_table::{all_items, put_item};
-use bsp_list_tables::Tables;
-use bsp_memo_tables::{all_memos, all_tallies, put_tally};
-use bsp_plan_tables::{
+use bsp_memory_rows::Tables;
+use bsp_rows::{
+    Amounts, Currency, Item, ItemKey, Period, Rate, ReportedDocument, Tally, TallyKey, Terms,
+    Transaction, TransactionCode,
+};
+use bsp_store_callers::{all_agents, all_airline_tokens, all_ranges, put_agent};
+use bsp_store_items::{all_items, put_item};
+use bsp_store_load::{StoredRows, are_rows, tables_of};
+use bsp_store_memos::{all_memos, all_tallies, put_tally};
+use bsp_store_plan::{
     all_airlines, all_meta, all_periods, all_rates, all_terms, put_airlines, put_meta, put_periods,
     put_rates, put_terms,
 };
-use bsp_postings::Tally;
-use bsp_ret_records::{Amounts, ReportedDocument, Transaction, TransactionCode};
-use bsp_rows::{ItemKey, TallyKey};
-use bsp_rules::Item;
-use bsp_stored_rows::{StoredRows, are_rows, tables_of};
 use sqlite::{Connection, MemStore};
 use std::alloc::Global;
 

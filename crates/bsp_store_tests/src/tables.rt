@@ -1,6 +1,6 @@
 //! A store in memory with the tables of a book, and a transaction open.
 
-use bsp_schema::make_tables;
+use bsp_store_schema::make_tables;
 use sqlite::{Connection, Error, MemStore};
 use std::alloc::Global;
 

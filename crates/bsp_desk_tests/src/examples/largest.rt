@@ -5,10 +5,10 @@ use super::replies::{DONE, H01};
 use super::{Body, Row, copied, desk, follow, is_wanted};
 use bsp_book::ListBook;
 use bsp_desk::{Desk, Request};
+use bsp_desk_base::Content;
 use bsp_fields::write_digits;
 use bsp_messages::Reply;
 use bsp_routes::Routes;
-use bsp_serving::Content;
 use std::alloc::Global;
 
 const PLAN_OF_MANY: Body = Body::Text(

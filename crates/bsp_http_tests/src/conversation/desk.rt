@@ -4,7 +4,7 @@ ghost use Rattle.std.specs.Prelude.{codes};
 ghost use Rattle.bsp_responses.specs.Responses.{code_reply};
 ghost use Rattle.bsp_responses.specs.declared.status.Status.TheVariants as status;
 
-use bsp_conversation::{Answer, BodyUse, Message, Service};
+use bsp_connection::{Answer, BodyUse, Message, Service};
 use bsp_responses::{Media, Methods, Status};
 use bsp_ret::{RetFault, RetFile};
 use std::borrow::CowSlice;

@@ -3,7 +3,7 @@
 use super::desk::{Counter, Echo};
 use super::peers::{Peer, Sink};
 use super::talks::is_talk;
-use bsp_conversation::{End, ServeFault, Served, serve};
+use bsp_connection::{End, ServeFault, Served, serve};
 use std::test::Fail;
 
 const REQUEST: &[u8] = b"GET /agents/12345675/stock HTTP/1.1\r\nHost: bsp\r\nBsp-Token: x\r\n\r\n";

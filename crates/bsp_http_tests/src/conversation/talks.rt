@@ -2,7 +2,7 @@
 
 use super::desk::{Counter, Echo};
 use super::peers::{Peer, Sink};
-use bsp_conversation::{End, ServeFault, Served, serve};
+use bsp_connection::{End, ServeFault, Served, serve};
 use std::alloc::Global;
 use std::io::BufWriter;
 use std::test::Fail;

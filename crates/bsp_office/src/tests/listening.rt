@@ -1,8 +1,7 @@
 //! A listener on loopback, and its peers.
 
 use crate::{ListenFault, serve_on};
-use bsp_book::ListBook;
-use bsp_desk::Desk;
+use bsp_desk::{Desk, ListBook};
 use bsp_fields::Token;
 use bsp_http::Routes;
 use std::alloc::Global;

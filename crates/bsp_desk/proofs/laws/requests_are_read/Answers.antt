@@ -1,6 +1,6 @@
 use Rattle.std.proofs.Common.{refl}
 use Rattle.bsp_routes.specs.Calls.{asking_text}
-use Rattle.bsp_serving.proofs.ContentsRead.{each_content_is_read}
+use Rattle.bsp_desk_base.proofs.ContentsRead.{each_content_is_read}
 use Rattle.bsp_desk.specs.Reading.{token_text}
 use Rattle.bsp_desk.proofs.laws.requests_are_read.Goals as goal
 

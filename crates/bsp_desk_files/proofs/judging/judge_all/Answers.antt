@@ -1,7 +1,7 @@
 use Rattle.std.proofs.Common.{rules, ◌≡◌, ◌<◌, ◌+◌, ◌++◌, ◌∷◌, [], get_or, take, vec_len, vec_capacity, arith, ℕ, List, subst}
 use Rattle.std.proofs.lemmas.Grind.{common_steps}
 use Rattle.std.proofs.lemmas.List.{take_all}
-use Rattle.bsp_ret_writer.proofs.ContentMakes.{content_makes}
+use Rattle.bsp_rows.proofs.ContentMakes.{content_makes}
 use Rattle.bsp_desk_files.specs.Judged.{AreJudged}
 use Rattle.bsp_desk_files.proofs.FileLemmas.{fell_back, left_last, more_judged, none_judged}
 use Rattle.bsp_desk_files.proofs.judging.judge_all.Goals as goal

@@ -1,4 +1,4 @@
-use Rattle.bsp_step.specs.Ledger.{memo_named}
+use Rattle.bsp_desk_base.specs.Ledger.{memo_named}
 use Rattle.bsp_desk_memos.specs.Actions.{meaning_of, memo_to}
 use Rattle.bsp_desk_memos.proofs.MemoLemmas.{found_to}
 use Rattle.bsp_desk_memos.proofs.ServeLemmas.{acts_for}

@@ -1,5 +1,5 @@
 use Rattle.std.proofs.Common.{sym, ◌∙◌}
-use Rattle.bsp_step.specs.AirlineLedger.{issue_key}
+use Rattle.bsp_desk_base.specs.AirlineLedger.{issue_key}
 use Rattle.bsp_desk_memos.specs.Actions.{meaning_of, memo_by}
 use Rattle.bsp_desk_memos.proofs.MemoLemmas.{by_airline, found_at}
 use Rattle.bsp_desk_memos.proofs.ServeLemmas.{acts_for}

@@ -1,14 +1,14 @@
 use Rattle.std.proofs.Common.{◌≡◌, ap, cond, sym, subst, ◌∙◌, not, Some, Ok, Err, Result, ℤ, w64, rules, is_some}
 use Rattle.std.proofs.lemmas.Int.{to_z-of_z}
 use mir.Val.{SFits}
-use Rattle.bsp_fields.specs.CivilDay.{CivilDay}
+use Rattle.bsp_rows.specs.CivilDay.{CivilDay}
 use Rattle.bsp_memos.specs.Memos.{is_amount, issued_memo}
 use Rattle.bsp_memos.specs.declared.fault.MemoFault.{MemoFault}
 use Rattle.bsp_memos.specs.declared.fault.MemoFault.TheVariants.{AgentNotRegistered, AmountOutOfRange}
 use Rattle.bsp_memos.specs.declared.fields.MemoFields.{MemoFields}
-use Rattle.bsp_calendar.specs.Published.{Published}
+use Rattle.bsp_rows.specs.Published.{Published}
 use Rattle.bsp_messages.specs.declared.refusal.RequestRefusal.TheVariants as refusal
-use Rattle.bsp_step.specs.Answers.Answer.{Refused}
+use Rattle.bsp_desk_base.specs.Answers.Answer.{Refused}
 use Rattle.bsp_desk_memos.proofs.IssueLemmas.{made_of, not_registered, out_of_range, refused_of}
 use Rattle.bsp_desk_memos.proofs.ServeLemmas.{faults_after, issues, refuses}
 use Rattle.bsp_desk_memos.proofs.issues.issue_to.Goals as goal

@@ -1,11 +1,11 @@
 use Rattle.std.proofs.Common.{List, Some, ap, sym, subst, ◌∙◌}
 use Rattle.std.specs.Result.{result_ok}
-use Rattle.bsp_fields.specs.Codes.{check_digit_of}
+use Rattle.bsp_rows.specs.Codes.{check_digit_of}
 use Rattle.bsp_messages.specs.declared.answer.DocumentShown.{DocumentShown}
 use Rattle.bsp_messages.specs.declared.answer.DocumentState.{DocumentState}
 use Rattle.bsp_rows.specs.Rows.{Rows}
 use Rattle.bsp_rules.specs.declared.rows.Item.{Item}
-use Rattle.bsp_step.specs.Ledger.{state_of}
+use Rattle.bsp_desk_base.specs.Ledger.{state_of}
 use Rattle.bsp_desk_reports.proofs.DocumentRows.{document_says, no_document}
 use Rattle.bsp_desk_reports.proofs.Shown.{same_rows}
 use Rattle.bsp_desk_reports.proofs.documents.document.Goals as goal

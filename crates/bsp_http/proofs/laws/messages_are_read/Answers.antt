@@ -1,5 +1,5 @@
 use Rattle.std.proofs.Common.{refl}
-use Rattle.bsp_step.proofs.RequestsRead.{each_request_is_read}
+use Rattle.bsp_desk.proofs.RequestsRead.{each_request_is_read}
 use Rattle.bsp_http.proofs.laws.messages_are_read.Goals as goal
 
 pub returns : goal.returns

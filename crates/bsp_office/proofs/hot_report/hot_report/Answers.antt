@@ -1,5 +1,5 @@
 use Rattle.std.proofs.Common.{◌≡◌, ℕ, ◌-◌, List, subst, sym}
-use Rattle.bsp_records.specs.Lines.{lines}
+use Rattle.bsp_ret.specs.Lines.{lines}
 use Rattle.bsp_hot_check.specs.Hot.{IsFirstFault}
 use Rattle.bsp_explain.specs.declared.explanation.Explanation.{Explanation}
 use Rattle.bsp_explain.specs.Before.{IsLine}

@@ -1,6 +1,6 @@
 use Rattle.std.specs.Prelude.{codes}
 use Rattle.bsp_fields.specs.Days.{day_text}
-use Rattle.bsp_ret_records.specs.Texts.{code_text}
+use Rattle.bsp_ret.specs.RetRecordsTexts.{code_text}
 use Rattle.bsp_office.specs.RetReport.{document_text, sale_text}
 use Rattle.bsp_office.proofs.RetReports.{joined_seven}
 use Rattle.bsp_office.proofs.ret_report.push_sale.Goals as goal

@@ -2,7 +2,7 @@ use Rattle.std.proofs.Common.{rules, sym, ◌∙◌, tests}
 use Rattle.std.specs.Char.{is_ascii_digit}
 use Rattle.std.proofs.lemmas.Iterator.{YieldsList-from_slice}
 use Rattle.std.proofs.lemmas.Iterator.Search.{all_from_yields_List}
-use Rattle.bsp_records.proofs.CharacterLemmas.{digits_are}
+use Rattle.bsp_ret_records.proofs.CharacterLemmas.{digits_are}
 use Rattle.bsp_rules.proofs.stock.all_digits.Goals as goal
 
 pub returns : goal.returns

@@ -1,5 +1,5 @@
-use Rattle.bsp_content.specs.Content.{form}
-use Rattle.bsp_tables.proofs.Held.{commits_on}
+use Rattle.bsp_store_base.specs.Content.{form}
+use Rattle.bsp_store_base.proofs.Held.{commits_on}
 use Rattle.bsp_store.proofs.ends.close_transaction.Goals as goal
 
 pub returns-clause-ok : goal.returns-clause-ok

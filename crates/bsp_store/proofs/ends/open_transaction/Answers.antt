@@ -1,5 +1,5 @@
-use Rattle.bsp_content.specs.Content.{form}
-use Rattle.bsp_tables.proofs.Held.{begins_settled, begins_on}
+use Rattle.bsp_store_base.specs.Content.{form}
+use Rattle.bsp_store_base.proofs.Held.{begins_settled, begins_on}
 use Rattle.bsp_store.proofs.ends.open_transaction.Goals as goal
 
 pub returns-clause-ok : goal.returns-clause-ok

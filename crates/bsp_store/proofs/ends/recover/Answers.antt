@@ -1,5 +1,5 @@
-use Rattle.bsp_content.specs.Content.{form}
-use Rattle.bsp_tables.proofs.Held.{fallen_from, weaken}
+use Rattle.bsp_store_base.specs.Content.{form}
+use Rattle.bsp_store_base.proofs.Held.{fallen_from, weaken}
 use Rattle.bsp_store.proofs.ends.recover.Goals as goal
 
 pub returns-in-Ok-clause-alive : goal.returns-in-Ok-clause-alive

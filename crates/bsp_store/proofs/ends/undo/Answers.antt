@@ -1,6 +1,6 @@
 use Rattle.std.proofs.Common.{◌≡◌, false, IsTrue, rules}
-use Rattle.bsp_content.specs.Content.{form}
-use Rattle.bsp_tables.proofs.Held.{undoes_on, nothing_to_undo}
+use Rattle.bsp_store_base.specs.Content.{form}
+use Rattle.bsp_store_base.proofs.Held.{undoes_on, nothing_to_undo}
 use Rattle.bsp_store.proofs.ends.undo.Goals as goal
 
 pub returns-then-not-is_autocommit : goal.returns-then-not-is_autocommit

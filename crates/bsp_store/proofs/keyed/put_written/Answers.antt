@@ -2,8 +2,8 @@ use Rattle.std.proofs.Common.{◌≡◌, ap, sym, subst, ◌∙◌, take}
 use Rattle.std.proofs.SliceLists.{take_long}
 use Rattle.std.specs.FinMap.{from_entries, get}
 use Rattle.bsp_maps.proofs.UndoLemmas.{found}
-use Rattle.bsp_content.specs.Content.{form}
-use Rattle.bsp_tables.specs.Kept.{Stands}
+use Rattle.bsp_store_base.specs.Content.{form}
+use Rattle.bsp_store_base.specs.Kept.{Stands}
 use Rattle.bsp_store.specs.Calls.{with_each, written_keys}
 use Rattle.bsp_store.proofs.KeyedLemmas.{one_more}
 use Rattle.bsp_store.proofs.keyed.put_written.Goals as goal

@@ -1,8 +1,8 @@
 use Rattle.std.proofs.Common.{IsTrue, rules, subst}
-use Rattle.bsp_content.specs.Contents.{content_now}
+use Rattle.bsp_store_load.specs.Contents.{content_now}
 use Rattle.bsp_rows.specs.Rows.{no_rows}
 use Rattle.bsp_rows.proofs.KeptLemmas.{no_rows_sound}
-use Rattle.bsp_stored_rows.specs.Stored.{AreRowsOf}
+use Rattle.bsp_store_load.specs.Stored.{AreRowsOf}
 use Rattle.bsp_store.proofs.OpeningLemmas.{list_read}
 use Rattle.bsp_store.proofs.opening.empty_list.Goals as goal
 

@@ -1,9 +1,9 @@
 use Rattle.std.proofs.Common.{◌≡◌, subst, sym}
 use Rattle.std.specs.Prelude.{IfNone, IfSome}
 use Rattle.bsp_rows.specs.Sound.{Sound}
-use Rattle.bsp_list_tables.specs.Tables.{rows_of}
-use Rattle.bsp_list_tables.specs.declared.tables.Tables.{Tables}
-use Rattle.bsp_stored_rows.specs.Stored.{AreNoBook}
+use Rattle.bsp_memory_rows.specs.Tables.{rows_of}
+use Rattle.bsp_memory_rows.specs.declared.tables.Tables.{Tables}
+use Rattle.bsp_store_load.specs.Stored.{AreNoBook}
 use Rattle.bsp_store.proofs.OpeningLemmas.{never_refused}
 use Rattle.bsp_store.proofs.opening.sound_tables.Goals as goal
 

@@ -1,4 +1,4 @@
-use Rattle.bsp_content.specs.Content.{airline_token_part}
+use Rattle.bsp_store_base.specs.Content.{airline_token_part}
 use Rattle.bsp_store.proofs.OpeningLemmas.{asked}
 use Rattle.bsp_store.proofs.reading.airline_tokens.Goals as goal
 

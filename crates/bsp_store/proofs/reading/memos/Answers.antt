@@ -1,4 +1,4 @@
-use Rattle.bsp_content.specs.Content.{memo_part}
+use Rattle.bsp_store_base.specs.Content.{memo_part}
 use Rattle.bsp_store.proofs.OpeningLemmas.{asked}
 use Rattle.bsp_store.proofs.reading.memos.Goals as goal
 

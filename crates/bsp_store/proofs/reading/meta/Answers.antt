@@ -1,4 +1,4 @@
-use Rattle.bsp_content.specs.Content.{meta_part}
+use Rattle.bsp_store_base.specs.Content.{meta_part}
 use Rattle.bsp_store.proofs.OpeningLemmas.{asked}
 use Rattle.bsp_store.proofs.reading.meta.Goals as goal
 

@@ -1,4 +1,4 @@
-use Rattle.bsp_content.specs.Content.{tally_part}
+use Rattle.bsp_store_base.specs.Content.{tally_part}
 use Rattle.bsp_store.proofs.OpeningLemmas.{asked}
 use Rattle.bsp_store.proofs.reading.tallies.Goals as goal
 

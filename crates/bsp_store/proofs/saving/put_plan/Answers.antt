@@ -1,6 +1,6 @@
 use Rattle.std.proofs.Common.{subst}
-use Rattle.bsp_content.specs.Content.{form}
-use Rattle.bsp_tables.specs.Kept.{Stands}
+use Rattle.bsp_store_base.specs.Content.{form}
+use Rattle.bsp_store_base.specs.Kept.{Stands}
 use Rattle.bsp_store.proofs.StepLemmas.{on_err}
 use Rattle.bsp_store.proofs.TransactionLemmas.{same_plan}
 use Rattle.bsp_store.proofs.saving.put_plan.Goals as goal

@@ -1,7 +1,7 @@
 use Rattle.std.proofs.Common.{refl}
-use Rattle.bsp_content.specs.Content.{form}
-use Rattle.bsp_content.specs.Contents.{content_before, content_now}
-use Rattle.bsp_tables.proofs.Held.{weaken}
+use Rattle.bsp_store_base.specs.Content.{form}
+use Rattle.bsp_store_load.specs.Contents.{content_before, content_now}
+use Rattle.bsp_store_base.proofs.Held.{weaken}
 use Rattle.bsp_store.proofs.StepLemmas.{on_err}
 use Rattle.bsp_store.proofs.saving.save.Goals as goal
 

@@ -1,7 +1,7 @@
 use Rattle.std.proofs.Common.{subst}
-use Rattle.bsp_content.specs.Content.{form}
-use Rattle.bsp_tables.specs.Kept.{IsInside, Stands}
-use Rattle.bsp_tables.specs.Synced.{with_value}
+use Rattle.bsp_store_base.specs.Content.{form}
+use Rattle.bsp_store_base.specs.Kept.{IsInside, Stands}
+use Rattle.bsp_store_base.specs.Synced.{with_value}
 use Rattle.bsp_store.proofs.KeyedLemmas.{on_ok}
 use Rattle.bsp_store.proofs.parts.RangesKeyedRangeKeyOptionDocNumber.put.Goals as goal
 

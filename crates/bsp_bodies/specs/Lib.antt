@@ -1,2 +1,0 @@
--- What the contracts of bodies cite.
-pub mod Bodies

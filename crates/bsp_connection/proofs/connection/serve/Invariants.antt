@@ -1,0 +1,13 @@
+use Rattle.std.proofs.Common.{◌≢◌, ℕ, List}
+use Rattle.std.specs.Io.KnownBytes.{Appends, Consumes}
+use Rattle.bsp_connection.specs.Exchanges.{Exchange}
+use Rattle.bsp_connection.proofs.ServeLemmas.{Runs}
+use Rattle.bsp_connection.proofs.connection.serve.Given as goal
+
+abbrev pub invariant-loop-count : goal.invariant-loop-count
+invariant-loop-count g l = record {
+  talk : (got : List ℕ) × (text : List ℕ) × (xs : List Exchange) × Consumes (g.R.Read.remaining l.fn.reader) (g.R.Read.remaining l.reader) got
+      × Appends (g.W.Write.contents l.fn.writer) (g.W.Write.contents l.writer) text
+      × Runs g.S.Service.means got l.room.received l.fn.desk l.desk l.count text xs;
+  opens : l.count ≢ 65536;
+}

@@ -1,0 +1,53 @@
+use Rattle.std.proofs.Common.{◌≡◌, ◌==◌, Bool, if◌then◌else◌, List, ℕ, [], ◌++◌, length, ap, sym, ◌∙◌, subst, append_assoc, Ok, Err, Some}
+use Rattle.std.proofs.KnownBytes.{Consumes-trans}
+use Rattle.bsp_connection.specs.Turns.{IsTurn}
+use Rattle.bsp_connection.specs.declared.end.End.{End}
+use Rattle.bsp_connection.specs.declared.end.End.TheVariants.{Clean, Cut}
+use Rattle.bsp_connection.specs.declared.end.ServeFault.TheVariants.{Read}
+use Rattle.bsp_connection.proofs.TurnLemmas.{after_front, ended, keeps_all, too_long, unread}
+use Rattle.bsp_connection.proofs.turn.turn.Goals as goal
+
+pub returns-in-Err-clause-read : goal.returns-in-Err-clause-read
+returns-in-Err-clause-read g c =
+    let read = c.await_head.ensures.read in (
+      read.0,
+      read.1,
+      rw (← read.2) (after_front g.S.Service.means c.args.count [] c.await_head.new.received c.await_head.new.received c.args.desk.now c.args.desk.now _ _ (g.W.Write.contents c.await_head.new.writer) (Err Read) (keeps_all _ _ c.await_head.ensures.kept)
+          (unread g.S.Service.means c.args.count c.await_head.new.received c.await_head.new.received c.args.desk.now (g.W.Write.contents c.await_head.new.writer) c.in-Err.ensures.err.0 c.in-Err.ensures.err.1)),
+    )
+
+pub returns-in-Head-clause-read : goal.returns-in-Head-clause-read
+returns-in-Head-clause-read g c =
+    let read = c.await_head.ensures.read in
+    let later = c.answer_head.ensures.read in (
+      read.0 ++ later.0,
+      Consumes-trans _ _ _ read.0 later.0 read.1 later.1,
+      subst (λ (l : List ℕ). IsTurn g.S.Service.means c.args.count [] l c.answer_head.new.room.received c.args.desk.now c.answer_head.new.desk (g.W.Write.contents c.args.writer.now) (g.W.Write.contents c.answer_head.new.writer) c.answer_head.result)
+          (ap (λ (l : List ℕ). l ++ later.0) read.2 ∙ append_assoc c.args.room.now.received read.0 later.0)
+          (after_front g.S.Service.means c.args.count [] _ _ _ _ _ _ _ c.answer_head.result (keeps_all _ _ c.await_head.ensures.kept) later.2),
+    )
+
+pub returns-in-TooLong-clause-read : goal.returns-in-TooLong-clause-read
+returns-in-TooLong-clause-read g c =
+    let read = c.await_head.ensures.read in
+    let is = rw c.in-TooLong.is at c.in-Ok.ensures.ok in (
+      read.0,
+      read.1,
+      rw (← read.2) (after_front g.S.Service.means c.args.count [] _ _ _ _ _ _ _ c.refuse.result (keeps_all _ _ c.await_head.ensures.kept)
+          (too_long g.S.Service.means c.args.count c.await_head.new.received c.await_head.new.received c.args.desk.now _ _ c.refuse.result is.0 is.1 c.refuse.ensures)),
+    )
+
+pub returns-in-Ended-clause-read : goal.returns-in-Ended-clause-read
+returns-in-Ended-clause-read g c =
+    let read = c.await_head.ensures.read in
+    let is = rw c.in-Ended.is at c.in-Ok.ensures.ok in
+    let held = c.await_head.new.received in
+    let w = g.W.Write.contents c.args.writer.now in
+    let kept = g.W.Write.contents c.await_head.new.writer in
+    let is_end : c.end_of_input.result ≡ (if length held == 0 then Clean else Cut) = c.end_of_input.ensures ∙ ap (λ (t : Bool). if t then Clean else Cut) c.is_empty.ensures in (
+      read.0,
+      read.1,
+      subst (λ (l : List ℕ). IsTurn g.S.Service.means c.args.count [] l held c.args.desk.now c.args.desk.now w kept (Ok (Some c.end_of_input.result))) read.2
+          (after_front g.S.Service.means c.args.count [] held held _ _ w kept kept (Ok (Some c.end_of_input.result)) (keeps_all w kept c.await_head.ensures.kept)
+          (subst (λ (e : End). IsTurn g.S.Service.means c.args.count [] held held c.args.desk.now c.args.desk.now kept kept (Ok (Some e))) (sym is_end) (ended g.S.Service.means c.args.count held held c.args.desk.now kept is.0 is.1))),
+    )

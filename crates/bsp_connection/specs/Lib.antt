@@ -1,0 +1,9 @@
+-- What the contracts of a connection cite.
+pub mod Bodies
+pub mod Exchanges
+pub mod Arrivals
+pub mod Responding
+pub mod Ends
+pub mod Conversations
+pub mod Turns
+pub mod Serving

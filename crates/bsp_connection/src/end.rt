@@ -1,0 +1,57 @@
+//! How a connection ends.
+
+ghost use Rattle.std.specs.Prelude.{◌≡◌, ◌<◌};
+ghost use Rattle.bsp_connection.specs.Ends.{served_until};
+
+use thiserror::Error;
+
+/// How a connection ended.
+#[derive(Clone, Copy, Debug, PartialEq, Eq, Hash)]
+pub enum End {
+    /// The input ended behind a message, or before the first.
+    Clean,
+    /// The input ended within a message.
+    Cut,
+    /// The last response closed the connection.
+    Closed,
+}
+
+/// Why a connection was not served to its end.
+#[derive(Clone, Copy, Debug, PartialEq, Eq, Hash, Error)]
+pub enum ServeFault {
+    /// A read failed.
+    #[error("the peer's bytes could not be read")]
+    Read,
+    /// A write failed, or took no byte.
+    #[error("a response could not be written")]
+    Write,
+    /// There was no memory for the connection. Nothing was read or written.
+    #[error("no memory for the connection")]
+    Memory,
+}
+
+/// What was served of a connection.
+#[derive(Clone, Copy, Debug, PartialEq, Eq, Hash)]
+pub struct Served {
+    /// How many messages were answered, refusals among them; interim responses are not counted.
+    pub messages: usize,
+    /// How the connection ended.
+    pub end: End,
+}
+
+impl End {
+    // What was served where so many messages were answered before the last turn.
+    pub(crate) fn after(self, count: usize) -> Served
+        requires { count < 65536 }
+        ensures { result ≡ served_until count self }
+    {
+        let messages = match self {
+            End::Closed => count + 1,
+            End::Clean | End::Cut => count,
+        };
+        Served {
+            messages,
+            end: self,
+        }
+    }
+}

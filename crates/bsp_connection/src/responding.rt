@@ -1,0 +1,62 @@
+//! The responses to messages, and how the connection goes on behind them.
+
+ghost use Rattle.std.specs.Prelude.{◌≡◌, true};
+ghost use Rattle.bsp_responses.specs.Responses.{refusal_reply, response};
+ghost use Rattle.bsp_connection.specs.Exchanges.{answer_text};
+ghost use Rattle.bsp_connection.specs.Responding.{IsResponded, IsStopped, behind};
+
+use crate::Short;
+use crate::end::{End, ServeFault};
+use crate::sending::{WriteFault, send_response};
+use crate::service::{Answer, Service};
+use bsp_heads::Refused;
+use bsp_responses::refusal;
+use std::io::Write;
+
+/// How the connection goes on behind a response, by whether the response closes it.
+fn behind(closes: bool, written: Result<(), WriteFault>) -> Result<Option<End>, ServeFault>
+    ensures { result ≡ behind closes written }
+{
+    match written {
+        Ok(()) => Ok(if closes { Some(End::Closed) } else { None }),
+        Err(_) => Err(ServeFault::Write),
+    }
+}
+
+/// Answers a message. `bare`: the response leaves its body out.
+pub(crate) fn respond<W: Write>(
+    writer: &mut W,
+    answer: &Answer,
+    bare: bool,
+    closes: bool,
+) -> Result<Option<End>, ServeFault>
+    ensures { IsResponded (W.contents writer.old) (W.contents writer.new) (response bare closes (answer_text answer.now)) closes result }
+{
+    let written = send_response(writer, answer.reply(), bare, closes);
+    behind(closes, written)
+}
+
+/// Answers a message whose head is refused, and closes the connection.
+pub(crate) fn refuse<W: Write>(writer: &mut W, refused: Refused) -> Result<Option<End>, ServeFault>
+    ensures { IsResponded (W.contents writer.old) (W.contents writer.new) (response refused.bare true (refusal_reply refused.fault)) true result }
+{
+    let written = send_response(writer, refusal(refused.fault), refused.bare, true);
+    behind(true, written)
+}
+
+/// Ends a message whose body did not come whole. Where there was no memory for it the answer says so, and the
+/// connection closes.
+pub(crate) fn stop<W: Write, D, S: Service<D>>(
+    short: Short,
+    writer: &mut W,
+    service: &S,
+    bare: bool,
+) -> Result<Option<End>, ServeFault>
+    ensures { IsStopped S.means short (W.contents writer.old) (W.contents writer.new) bare result }
+{
+    match short {
+        Short::Cut => Ok(Some(End::Cut)),
+        Short::Read => Err(ServeFault::Read),
+        Short::NoRoom => respond(writer, &service.no_room(), bare, true),
+    }
+}

@@ -1,0 +1,50 @@
+//! Writing, with what a fault leaves written.
+
+ghost use Rattle.std.specs.Prelude.{true};
+ghost use Rattle.std.specs.Io.KnownBytes.{Keeps};
+ghost use Rattle.bsp_connection.specs.Exchanges.{IsWritten};
+ghost use Rattle.bsp_responses.specs.Responses.{reply_text, response};
+
+use bsp_responses::{Reply, Response};
+use std::io::Write;
+
+/// A write failed, or took no byte.
+#[derive(Clone, Copy, Debug, PartialEq, Eq)]
+pub(crate) struct WriteFault;
+
+/// Writes the bytes. Where it fails, a first part of them was written.
+pub(crate) fn send<W: Write>(writer: &mut W, bytes: &[u8]) -> Result<(), WriteFault>
+    ensures { IsWritten (W.contents writer.old) (W.contents writer.new) bytes.now result }
+{
+    let mut at = 0;
+    while at < bytes.len() {
+        match writer.write(&bytes[at..]) {
+            Ok(0) => return Err(WriteFault),
+            Ok(count) => at += count,
+            Err(_) => return Err(WriteFault),
+        }
+    }
+    Ok(())
+}
+
+/// Writes a response. `to_head`: a HEAD is answered. `closes`: the connection closes behind it.
+pub(crate) fn send_response<W: Write>(
+    writer: &mut W,
+    reply: Reply<'_>,
+    to_head: bool,
+    closes: bool,
+) -> Result<(), WriteFault>
+    ensures { IsWritten (W.contents writer.old) (W.contents writer.new) (response to_head closes (reply_text reply.entry)) result }
+{
+    let response = Response::new(reply, to_head, closes);
+    let (head, body) = response.parts();
+    send(writer, head)?;
+    send(writer, body)
+}
+
+/// Has a writer that holds bytes back send them. A writer that cannot has them still, and fails later.
+pub(crate) fn send_on<W: Write>(writer: &mut W)
+    ensures { Keeps (W.contents writer.old) (W.contents writer.new) }
+{
+    let _ = writer.flush();
+}

@@ -1,3 +1,0 @@
-pub mod Content
-pub mod Contents
-pub mod Forms

@@ -1,2 +1,0 @@
-//! What the tables of a book's store keep.
-#![tactic(auto)]

@@ -1,8 +1,0 @@
--- What the contracts of a connection cite.
-pub mod Exchanges
-pub mod Arrivals
-pub mod Responding
-pub mod Ends
-pub mod Conversations
-pub mod Turns
-pub mod Serving

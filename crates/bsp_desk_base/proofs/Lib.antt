@@ -1,0 +1,20 @@
+-- Lemmas of this crate.
+pub mod ContentsRead
+pub use Rattle.bsp_office_spec.proofs.AirlineIsolated
+pub use Rattle.bsp_office_spec.proofs.ChangeLemmas
+pub use Rattle.bsp_office_spec.proofs.ClosedKept
+pub use Rattle.bsp_office_spec.proofs.FitLemmas
+pub use Rattle.bsp_office_spec.proofs.Held
+pub use Rattle.bsp_office_spec.proofs.HeldInRuns
+pub use Rattle.bsp_office_spec.proofs.Invariant
+pub use Rattle.bsp_office_spec.proofs.Isolated
+pub use Rattle.bsp_office_spec.proofs.NetLemmas
+pub use Rattle.bsp_office_spec.proofs.Reports
+pub use Rattle.bsp_office_spec.proofs.RequestsRead
+pub use Rattle.bsp_office_spec.proofs.Runs
+pub use Rattle.bsp_office_spec.proofs.Seen
+pub use Rattle.bsp_office_spec.proofs.SeenLemmas
+pub use Rattle.bsp_office_spec.proofs.ShownInRuns
+pub use Rattle.bsp_office_spec.proofs.TextLemmas
+pub use Rattle.bsp_office_spec.proofs.Unchanged
+pub use Rattle.bsp_office_spec.proofs.Values

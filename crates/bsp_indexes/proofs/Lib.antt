@@ -1,4 +1,0 @@
-pub mod EntryLemmas
-pub mod IndexLemmas
-pub mod FirstLemmas
-pub mod CountLemmas

@@ -1,5 +1,0 @@
-use Rattle.bsp_maps.proofs.PickLemmas.{if_ok}
-use Rattle.bsp_list_tables.proofs.tables.Tables.items_bearing.Goals as goal
-
-pub returns : goal.returns
-returns c = if_ok c.bearing.result (λ v e h. e h.of_items) c.bearing.ensures

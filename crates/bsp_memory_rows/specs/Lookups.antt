@@ -1,0 +1,18 @@
+-- What is looked up in the tables.
+use Rattle.std.specs.Prelude.{Bool, nat_lt, ◌&&◌, ◌||◌, List, map}
+use Rattle.std.specs.List.{filter}
+use Rattle.bsp_rows.specs.Tally.{Tally}
+use Rattle.bsp_rows.specs.declared.keys.TallyKey.{TallyKey}
+use Rattle.bsp_rows.specs.declared.questions.Tallies.{Tallies}
+use Rattle.bsp_rows.specs.Tallies.{is_tally_asked}
+
+-- some row adds to the tally
+abbrev pub has_rows : Tally → Bool
+has_rows t = nat_lt 0 t.accepted || nat_lt 0 t.memo_count
+
+abbrev pub is_asked : Tallies → TallyKey → Tally → Bool
+is_asked which key t = is_tally_asked which key && has_rows t
+
+-- the tallies that are asked for
+abbrev pub asked_tallies : Tallies → List (TallyKey × Tally) → List Tally
+asked_tallies which es = map (λ e. e.1) (filter (λ e. is_asked which e.0 e.1) es)

@@ -1,0 +1,60 @@
+-- The index of items by the numbers that they bear, as they were reported.
+use Rattle.std.specs.Prelude.{◌≡◌, ℕ, ◌==◌, ◌&&◌, Bool, true, Option, Some, option_map, List, [], ◌∷◌, ◌++◌}
+use Rattle.std.specs.declared.cmp.Ordering.{Ordering}
+use Rattle.std.specs.Ordering.{nat_cmp, bool_cmp, on, then_cmp}
+use Rattle.std.specs.Cmp.Lexicographic.{slice_cmp}
+use Rattle.std.specs.List.{filter_map}
+use Rattle.std.specs.FinMap.{FinMap, get, insert, entries}
+use Rattle.std.specs.Str.{bytes_eq}
+use Rattle.bsp_rows.specs.ReportedDocument.{ReportedDocument}
+use Rattle.bsp_rows.specs.Transaction.{Transaction}
+use Rattle.bsp_rows.specs.Item.{Item}
+use Rattle.bsp_rows.specs.Selected.{is_among, numbers_of, shares}
+use Rattle.bsp_maps.specs.Windows.{values_in}
+use Rattle.bsp_rows.specs.declared.keys.ItemKey.{ItemKey}
+use Rattle.bsp_rows.specs.Rows.{item_cmp}
+use Rattle.bsp_memory_tables.specs.declared.keys.NumberKey.{NumberKey}
+
+-- by agent and number, and then by item
+abbrev pub number_cmp : NumberKey → NumberKey → Ordering
+number_cmp = then_cmp (on (λ k. k.agent) nat_cmp) (then_cmp (on (λ k. k.number) (slice_cmp nat_cmp)) (then_cmp (on (λ k. k.item) nat_cmp) (on (λ k. k.is_canx) bool_cmp)))
+
+abbrev pub number_key : ItemKey → List ℕ → NumberKey
+number_key k number = record { agent = k.agent; number = number; item = k.number; is_canx = k.is_canx }
+
+-- the numbers of the documents that are there
+abbrev pub place_numbers : List (Option ReportedDocument) → List (List ℕ)
+place_numbers places = filter_map (λ place. option_map (λ d. d.number) place) places
+
+-- ---- what is kept
+
+-- with an item at a number
+abbrev pub with_number : ItemKey → List ℕ → FinMap number_cmp ItemKey → FinMap number_cmp ItemKey
+with_number k number index = insert index (number_key k number) k
+
+-- with an item at each of these numbers
+abbrev pub with_numbers : ItemKey → List (List ℕ) → FinMap number_cmp ItemKey → FinMap number_cmp ItemKey
+with_numbers k [] index = index
+with_numbers k (number ∷ numbers) index = with_numbers k numbers (with_number k number index)
+
+-- each item is at each of its numbers
+abbrev pub IsIndexed : FinMap item_cmp Item → FinMap number_cmp ItemKey → Type 0
+IsIndexed items index = (k : ItemKey) (i : Item) (number : List ℕ) → get items k ≡ Some i → is_among number (numbers_of i.transaction) ≡ true → get index (number_key k number) ≡ Some k
+
+-- ---- what it gives
+
+abbrev pub is_of_number : ℕ → List ℕ → NumberKey → Bool
+is_of_number agent number k = (k.agent == agent) && bytes_eq k.number number
+
+-- the keys of an agent's items at a number
+abbrev pub keys_at : FinMap number_cmp ItemKey → ℕ → List ℕ → List ItemKey
+keys_at index agent number = values_in (is_of_number agent number) (entries index)
+
+-- the keys of an agent's items at one of these numbers
+abbrev pub keys_at_each : FinMap number_cmp ItemKey → ℕ → List (List ℕ) → List ItemKey
+keys_at_each index agent [] = []
+keys_at_each index agent (number ∷ numbers) = keys_at index agent number ++ keys_at_each index agent numbers
+
+-- an item of the agent that shares a number with a transaction
+abbrev pub is_bearing : ℕ → Transaction → ItemKey → Item → Bool
+is_bearing agent t k i = (k.agent == agent) && shares (numbers_of t) i

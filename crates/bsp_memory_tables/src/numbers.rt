@@ -1,0 +1,115 @@
+//! The index of items by the numbers that they bear.
+
+ghost use Rattle.std.specs.Prelude.{◌≡◌, ◌++◌, IfOk, OnOk};
+ghost use Rattle.bsp_maps.specs.Undo.{before, content};
+ghost use Rattle.bsp_rows.specs.Selected.{numbers_of};
+ghost use Rattle.bsp_memory_tables.specs.Numbers.{is_bearing, keys_at, keys_at_each, number_cmp, place_numbers, with_number, with_numbers};
+
+use crate::keys::{AtNumber, NumberKey};
+use bsp_maps::{Every, Logged, Rule};
+use bsp_rows::{AgentCode, Item, ItemKey, ReportedDocument, Transaction};
+use std::alloc::{AllocError, Global};
+
+/// The keys of items by their agents and the numbers that they bear.
+pub type Numbers = Logged<NumberKey, ItemKey>;
+
+/// Adds an item at a number.
+fn add_number(index: &mut Numbers, key: &ItemKey, number: &[u8; 10]) -> Result<(), AllocError>
+    ensures ok { OnOk result (content number_cmp index.new ≡ with_number key.now number.now (content number_cmp index.old)) }
+    ensures before { before number_cmp index.new ≡ before number_cmp index.old }
+{
+    index.put(NumberKey::of(key, number), *key)
+}
+
+/// Adds an item at the numbers of these documents.
+fn add_places(
+    index: &mut Numbers,
+    key: &ItemKey,
+    places: &[Option<ReportedDocument>],
+) -> Result<(), AllocError>
+    ensures ok { OnOk result (content number_cmp index.new ≡ with_numbers key.now (place_numbers places.now) (content number_cmp index.old)) }
+    ensures before { before number_cmp index.new ≡ before number_cmp index.old }
+{
+    for place in places {
+        if let Some(document) = place {
+            add_number(index, key, &document.number)?;
+        }
+    }
+    Ok(())
+}
+
+/// Adds an item at each number that it bears.
+pub fn add_numbers(
+    index: &mut Numbers,
+    key: &ItemKey,
+    transaction: &Transaction,
+) -> Result<(), AllocError>
+    ensures ok { OnOk result (content number_cmp index.new ≡ with_numbers key.now (numbers_of transaction.now) (content number_cmp index.old)) }
+    ensures before { before number_cmp index.new ≡ before number_cmp index.old }
+{
+    add_number(index, key, &transaction.document.number)?;
+    add_places(index, key, &transaction.related)
+}
+
+/// Appends the keys of an agent's items at a number.
+fn add_keys_at(
+    found: &mut Vec<ItemKey>,
+    alloc: Global,
+    index: &Numbers,
+    window: &AtNumber,
+) -> Result<(), AllocError>
+    ensures { OnOk result (found.new.items ≡ found.old.items ++ keys_at (content number_cmp index.now) window.now.agent window.now.number) }
+{
+    let keys = index.chosen(alloc, window, &Every)?;
+    found.extend_from_slice(&keys)
+}
+
+/// Appends the keys of an agent's items at the numbers of these documents.
+fn add_keys_at_places(
+    found: &mut Vec<ItemKey>,
+    alloc: Global,
+    index: &Numbers,
+    agent: AgentCode,
+    places: &[Option<ReportedDocument>],
+) -> Result<(), AllocError>
+    ensures { OnOk result (found.new.items ≡ found.old.items ++ keys_at_each (content number_cmp index.now) agent (place_numbers places.now)) }
+{
+    for place in places {
+        if let Some(document) = place {
+            let number = document.number;
+            add_keys_at(found, alloc, index, &AtNumber { agent, number })?;
+        }
+    }
+    Ok(())
+}
+
+/// The keys of an agent's items that bear a number of a transaction. A key may be there more than once.
+pub fn keys_bearing(
+    alloc: Global,
+    index: &Numbers,
+    agent: AgentCode,
+    transaction: &Transaction,
+) -> Result<Vec<ItemKey>, AllocError>
+    ensures { IfOk result (λ found. found.items ≡ keys_at_each (content number_cmp index.now) agent (numbers_of transaction.now)) }
+{
+    let mut found = Vec::new(alloc);
+    let number = transaction.document.number;
+    add_keys_at(&mut found, alloc, index, &AtNumber { agent, number })?;
+    add_keys_at_places(&mut found, alloc, index, agent, &transaction.related)?;
+    Ok(found)
+}
+
+/// Items of an agent that share a number with a transaction.
+#[derive(Clone, Copy)]
+pub struct Bearing<'a> {
+    pub agent: AgentCode,
+    pub transaction: &'a Transaction,
+}
+
+impl<'a> Rule<ItemKey, Item> for Bearing<'a> {
+    ghost holds = { λ rule key item. is_bearing rule.agent rule.transaction.now key item };
+
+    fn holds(&self, key: &ItemKey, item: &Item) -> bool {
+        key.agent == self.agent && item.shares_number(self.transaction)
+    }
+}

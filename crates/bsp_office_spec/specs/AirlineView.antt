@@ -1,0 +1,185 @@
+-- What one airline sees of each answered request, and what it makes of the airline's ledger.
+use Rattle.std.specs.Prelude.{ℕ, ◌==◌, ◌&&◌, Bool, List, [], ◌∷◌, ◌++◌, Option, Some, None, unwrap_or, Ok, Err, if◌then◌else◌}
+use Rattle.std.specs.FinMap.{insert}
+use Rattle.bsp_rows.specs.History.{Request as PlanRequest, outcome}
+use Rattle.bsp_rows.specs.History.Request.{Publish, SetDay, Close}
+use Rattle.bsp_rows.specs.Published.{target_of}
+use Rattle.bsp_rows.specs.Transaction.{Transaction}
+use Rattle.bsp_rows.specs.Verdict.{Verdict}
+use Rattle.bsp_rows.specs.Verdict.TheVariants as verdict
+use Rattle.bsp_rows.specs.Item.{Item}
+use Rattle.bsp_rows.specs.Lives.{after_event}
+use Rattle.bsp_rows.specs.Lives.Event.{Closed}
+use Rattle.bsp_rows.specs.Steps.{Action}
+use Rattle.bsp_rows.specs.Steps.Action.{Dispute, Agree, Uphold, Reduce, Withdraw}
+use Rattle.bsp_rows.specs.MemoFields.{MemoFields}
+use Rattle.bsp_messages.specs.Values.{airline_in}
+use Rattle.bsp_messages.specs.declared.airline_bodies.MemoIssue.{MemoIssue}
+use Rattle.std.specs.FinMap.{FinMap}
+use Rattle.bsp_rows.specs.Changes.{each}
+use Rattle.bsp_rows.specs.Rows.{memo_cmp}
+use Rattle.bsp_rows.specs.Writes.{plan_left}
+use Rattle.bsp_rows.specs.declared.keys.MemoKey.{MemoKey}
+use Rattle.bsp_office_spec.specs.AirlineLedger.{AirlineLedger, airline_answer, issue_key, new_memo}
+use Rattle.bsp_office_spec.specs.Answers.{Answer, is_done, verdicts_in}
+use Rattle.bsp_office_spec.specs.Ledger.{acted, agent_of, memo_named, new_item, review_of, taken}
+use Rattle.bsp_office_spec.specs.Requests.{AgentRequest, AirlineRequest, Asked, FileRead, OfficeRequest}
+use Rattle.bsp_office_spec.specs.Requests.AgentRequest.{AgentFile, DisputeMemo, AgreeMemo}
+use Rattle.bsp_office_spec.specs.Requests.AirlineRequest.{IssueMemo, UpholdMemo, WithdrawMemo, ReduceMemo}
+use Rattle.bsp_office_spec.specs.Requests.Asked.{NoRoute, OtherMethod, ByOffice, ByAgent, ByAirline}
+use Rattle.bsp_office_spec.specs.Requests.OfficeRequest.{PublishPlan, SetBusinessDay, RegisterAgent, RegisterAirline, OfficeFile, ClosePeriod}
+use Rattle.bsp_office_spec.specs.Step.{Owner, bearer, is_token, reporter}
+use Rattle.bsp_office_spec.specs.View.{Exchange, is_agent}
+
+pub data AirlineSight : Type 0 where
+  -- its own request
+  OwnAsked : (call : AirlineRequest) → AirlineSight
+  -- accepted of this agent, and bearing the airline
+  Taken : (agent : ℕ) → (t : Transaction) → AirlineSight
+  Renewed : (token : List ℕ) → AirlineSight
+  -- an agent is registered
+  Known : (agent : ℕ) → AirlineSight
+  -- by an agent, on one of its memos
+  ActedOn : (action : Action) → (key : MemoKey) → AirlineSight
+  -- published for all
+  Published : (request : PlanRequest) → AirlineSight
+
+-- ---- the ledger after a sight
+
+abbrev pub with_airline_items : (Item → AirlineLedger → AirlineLedger)
+with_airline_items item l = record l { own = record { token = l.own.token; items = taken item l.own.items; memos = l.own.memos } }
+
+abbrev pub with_airline_memos : FinMap memo_cmp MemoFields → AirlineLedger → AirlineLedger
+with_airline_memos memos l = record l { own = record { token = l.own.token; items = l.own.items; memos = memos } }
+
+abbrev pub airline_acted : Action → MemoKey → AirlineLedger → AirlineLedger
+airline_acted action key l = with_airline_memos (acted action l.published key l.own.memos) l
+
+abbrev pub airline_issued : ℕ → MemoIssue → Option ℕ → AirlineLedger → AirlineLedger
+airline_issued airline issue None l = l
+airline_issued airline issue (Some agent) l = with_airline_memos (insert l.own.memos (issue_key airline issue.document) (new_memo airline agent issue l.published.day)) l
+
+abbrev pub airline_done_by : ℕ → AirlineRequest → AirlineLedger → AirlineLedger
+airline_done_by airline (IssueMemo (Some issue)) l = airline_issued airline issue issue.agent.code l
+airline_done_by airline (UpholdMemo (Some document)) l = airline_acted Uphold (issue_key airline document) l
+airline_done_by airline (WithdrawMemo (Some document)) l = airline_acted Withdraw (issue_key airline document) l
+airline_done_by airline (ReduceMemo (Some body)) l = airline_acted (Reduce body.amount) (issue_key airline body.document) l
+airline_done_by airline _ l = l
+
+abbrev pub airline_billed : PlanRequest → AirlineLedger → FinMap memo_cmp MemoFields
+airline_billed (Publish text) l = l.own.memos
+airline_billed (SetDay day) l = l.own.memos
+airline_billed (Close period) l = each (after_event (review_of l.published.terms) (Closed period l.published.day)) l.own.memos
+
+abbrev pub airline_planned : PlanRequest → AirlineLedger → AirlineLedger
+airline_planned request l = record (with_airline_memos (airline_billed request l) l) { published = plan_left l.published (outcome l.published request) }
+
+abbrev pub airline_after : ℕ → AirlineLedger → AirlineSight → AirlineLedger
+airline_after airline l (OwnAsked call) = if is_done (airline_answer airline l call) then airline_done_by airline call l else l
+airline_after airline l (Taken agent t) = with_airline_items (new_item agent t (unwrap_or (target_of l.published t.issued) 0)) l
+airline_after airline l (Renewed token) = record l { own = record { token = Some token; items = l.own.items; memos = l.own.memos } }
+airline_after airline l (Known agent) = record l { agents = insert l.agents agent [] }
+airline_after airline l (ActedOn action key) = airline_acted action key l
+airline_after airline l (Published request) = airline_planned request l
+
+abbrev pub airline_all : ℕ → AirlineLedger → List AirlineSight → AirlineLedger
+airline_all airline l [] = l
+airline_all airline l (s ∷ ss) = airline_all airline (airline_after airline l s) ss
+
+-- ---- what an airline sees of an answered request
+
+abbrev pub if_same : ℕ → ℕ → AirlineSight → List AirlineSight
+if_same airline other s = if other == airline then s ∷ [] else []
+
+abbrev pub taken_of : ℕ → Option ℕ → Transaction → List AirlineSight
+taken_of airline None t = []
+taken_of airline (Some agent) t = if_same airline t.document.airline (Taken agent t)
+
+abbrev pub taken_one : ℕ → Owner → Transaction → Verdict → List AirlineSight
+taken_one airline owner t (verdict.Held period) = []
+taken_one airline owner t (verdict.Accepted period) = taken_of airline (owner t) t
+taken_one airline owner t (verdict.Refused refusal) = []
+
+abbrev pub taken_in : ℕ → Owner → List Transaction → List Verdict → List AirlineSight
+taken_in airline owner [] vs = []
+taken_in airline owner (t ∷ ts) [] = []
+taken_in airline owner (t ∷ ts) (v ∷ vs) = taken_one airline owner t v ++ taken_in airline owner ts vs
+
+abbrev pub taken_file : ℕ → Owner → FileRead → List Verdict → List AirlineSight
+taken_file airline owner (Err fault) vs = []
+taken_file airline owner (Ok ts) vs = taken_in airline owner ts vs
+
+abbrev pub known_of : Option ℕ → List AirlineSight
+known_of None = []
+known_of (Some agent) = Known agent ∷ []
+
+-- of a done request of the office, and of the verdicts on its file
+abbrev pub office_shows : ℕ → OfficeRequest → List AirlineSight
+office_shows airline (PublishPlan (Ok text)) = Published (Publish text) ∷ []
+office_shows airline (SetBusinessDay (Some day)) = Published (SetDay day) ∷ []
+office_shows airline (RegisterAgent (Some body)) = known_of body.agent.code
+office_shows airline (RegisterAirline (Some body)) = if_same airline body.airline (Renewed body.token)
+office_shows airline (ClosePeriod (Some period)) = Published (Close period) ∷ []
+office_shows airline _ = []
+
+abbrev pub office_files : ℕ → OfficeRequest → List Verdict → List AirlineSight
+office_files airline (OfficeFile file) vs = taken_file airline bearer file vs
+office_files airline _ vs = []
+
+-- of a done request of an agent, and of the verdicts on its file
+abbrev pub agent_shows : ℕ → AgentRequest → List AirlineSight
+agent_shows airline (DisputeMemo (Some body)) = if_same airline body.airline (ActedOn Dispute (memo_named body))
+agent_shows airline (AgreeMemo (Some body)) = if_same airline body.airline (ActedOn Agree (memo_named body))
+agent_shows airline _ = []
+
+abbrev pub agent_files : ℕ → Option ℕ → AgentRequest → List Verdict → List AirlineSight
+agent_files airline agent (AgentFile file) vs = taken_file airline (reporter agent) file vs
+agent_files airline agent _ vs = []
+
+-- the path names the airline, and the token is its own
+abbrev pub is_own_airline : ℕ → AirlineLedger → Option (List ℕ) → List ℕ → Bool
+is_own_airline airline l token code = is_agent airline (airline_in code) && is_token l.own.token token
+
+abbrev pub airline_sights : ℕ → AirlineLedger → Option (List ℕ) → Asked → Answer → List AirlineSight
+airline_sights airline l token NoRoute answer = []
+airline_sights airline l token OtherMethod answer = []
+airline_sights airline l token (ByOffice call) answer = if is_done answer then office_shows airline call else office_files airline call (verdicts_in answer)
+airline_sights airline l token (ByAgent code call) answer = if is_done answer then agent_shows airline call else agent_files airline (agent_of code) call (verdicts_in answer)
+airline_sights airline l token (ByAirline code call) answer = if is_own_airline airline l token code then OwnAsked call ∷ [] else []
+
+-- ---- runs
+
+abbrev pub airline_reply_sights : ℕ → AirlineLedger → Exchange → List AirlineSight
+airline_reply_sights airline l p = by p.1 where
+  by : Option Answer → List AirlineSight
+  by None = []
+  by (Some answer) = airline_sights airline l p.0.token p.0.asked answer
+
+-- its view
+abbrev pub airline_view : ℕ → AirlineLedger → List Exchange → List AirlineSight
+airline_view airline l [] = []
+airline_view airline l (p ∷ ps) = airline_reply_sights airline l p ++ airline_view airline (airline_all airline l (airline_reply_sights airline l p)) ps
+
+abbrev pub airline_sight_answer : ℕ → AirlineLedger → AirlineSight → List Answer
+airline_sight_answer airline l (OwnAsked call) = airline_answer airline l call ∷ []
+airline_sight_answer airline l _ = []
+
+-- the answers to the airline's own requests, by its ledger
+abbrev pub airline_ledger_answers : ℕ → AirlineLedger → List AirlineSight → List Answer
+airline_ledger_answers airline l [] = []
+airline_ledger_answers airline l (s ∷ ss) = airline_sight_answer airline l s ++ airline_ledger_answers airline (airline_after airline l s) ss
+
+abbrev pub airline_told_one : ℕ → AirlineLedger → Option (List ℕ) → Asked → Answer → List Answer
+airline_told_one airline l token (ByAirline code call) answer = if is_own_airline airline l token code then answer ∷ [] else []
+airline_told_one airline l token _ answer = []
+
+abbrev pub airline_told_reply : ℕ → AirlineLedger → Exchange → List Answer
+airline_told_reply airline l p = by p.1 where
+  by : Option Answer → List Answer
+  by None = []
+  by (Some answer) = airline_told_one airline l p.0.token p.0.asked answer
+
+-- the answers that it was given to them
+abbrev pub airline_told : ℕ → AirlineLedger → List Exchange → List Answer
+airline_told airline l [] = []
+airline_told airline l (p ∷ ps) = airline_told_reply airline l p ++ airline_told airline (airline_all airline l (airline_reply_sights airline l p)) ps

@@ -1,5 +1,0 @@
-use Rattle.bsp_row_tables.proofs.NumberOrder.{number_exact}
-use Rattle.bsp_row_tables.proofs.numbers.add_number.Goals as goal
-
-pub put-requires : goal.put-requires
-put-requires c = number_exact

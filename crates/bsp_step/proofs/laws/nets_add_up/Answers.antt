@@ -1,5 +1,0 @@
-use Rattle.bsp_step.proofs.NetLemmas.{nets_add_up}
-use Rattle.bsp_step.proofs.laws.nets_add_up.Goals as goal
-
-pub returns : goal.returns
-returns c = nets_add_up

@@ -1,9 +1,0 @@
-use Rattle.bsp_step.proofs.EachIsRead.{each_file_is_read}
-use Rattle.bsp_step.proofs.RequestsRead.{each_request_is_read}
-use Rattle.bsp_step.proofs.laws.requests_are_read.Goals as goal
-
-pub returns-clause-files : goal.returns-clause-files
-returns-clause-files c = each_file_is_read
-
-pub returns-clause-requests : goal.returns-clause-requests
-returns-clause-requests c = each_request_is_read

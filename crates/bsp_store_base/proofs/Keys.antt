@@ -1,0 +1,85 @@
+-- Codes in decimal digits, as the WHERE of a key compares its columns.
+use Rattle.std.proofs.Common.{◌≡◌, ℕ, zero, suc, ◌+◌, ◌^◌, ◌<◌, Bool, true, false, ◌&&◌, cond, refl, subst, sym, ap, ap₂, ◌∙◌, arith, Ordering, Less, Equal, Greater, is_eq, nat_cmp}
+use Rattle.std.specs.Prelude.{nat_lt, pos}
+use Rattle.std.specs.Bool.{Decides}
+use Rattle.std.specs.Ordering.{bool_cmp, ordering_then}
+use Rattle.std.specs.Cmp.{Equal-is, nat_cmp_total, tied_itself}
+use Rattle.std.specs.FinMap.{nat_cmp-IsAntisymmetric}
+use Rattle.std.specs.Str.{bytes_eq}
+use Rattle.std.proofs.Math.Nat.{pow-suc, pow-le-pow_right}
+use Rattle.std.proofs.lemmas.Bool.{ltb-true, lt-ltb}
+use Rattle.std.proofs.lemmas.Bool.Decides.{same_from_decides}
+use Rattle.std.proofs.lemmas.Map.Text.{is_eq-slice_cmp}
+use Rattle.std.proofs.lemmas.Slice.Eq.{bytes_eq-Decides}
+use Rattle.sqlite_value.specs.declared.value.Value.TheVariants.{Text}
+use Rattle.sqlite_value.specs.declared.keys.Collation.TheVariants.{Binary}
+use Rattle.sqlite_sql.specs.declared.ops.BinaryOp.TheVariants.{Compare}
+use Rattle.sqlite_sql.specs.declared.ops.CompareOp.TheVariants.{Eq}
+use Rattle.sqlite_sql.specs.Ops.{binary, is_true}
+use Rattle.bsp_rows.specs.Decimal.{number_of, fixed_digits}
+use Rattle.bsp_rows.proofs.DecimalLemmas.{number_of-fixed_digits}
+use Rattle.bsp_store_base.specs.Columns.{code_digits, flag}
+use Rattle.bsp_store_base.proofs.Values.{same_text, same_int, and_true}
+
+-- ---- the number of the digits
+
+-- a code that fits in its width
+pub code_digits-fits : (w n : ℕ) → n < 10 ^ w → code_digits w n ≡ fixed_digits w n
+code_digits-fits w n fits = ap (λ b. cond b (fixed_digits w n) (fixed_digits (w + suc n) n)) (lt-ltb n (10 ^ w) fits)
+
+below_power : (n : ℕ) → n < 10 ^ n
+below_power zero = omega arith
+below_power (suc n) = omega (arith, below_power n, pow-suc 10 n)
+
+-- a width that any number fits in
+below_wide : (w n : ℕ) → n < 10 ^ (w + suc n)
+below_wide w n = omega (arith, below_power n, pow-le-pow_right {n = 10} (omega arith) {i = n} {j = w + suc n} (omega arith))
+
+pub number_of-code_digits : (w n : ℕ) → number_of (code_digits w n) ≡ n
+number_of-code_digits w n = go (nat_lt n (10 ^ w)) refl
+  where
+    go : (b : Bool) → nat_lt n (10 ^ w) ≡ b → number_of (cond b (fixed_digits w n) (fixed_digits (w + suc n) n)) ≡ n
+    go true e = number_of-fixed_digits w n (ltb-true n (10 ^ w) e)
+    go false e = number_of-fixed_digits (w + suc n) n (below_wide w n)
+
+pub one_code : (w a k : ℕ) → code_digits w a ≡ code_digits w k → a ≡ k
+one_code w a k e = sym (number_of-code_digits w a) ∙ ap number_of e ∙ number_of-code_digits w k
+
+-- ---- one column
+
+texts_decide : (w a k : ℕ) → Decides (bytes_eq (code_digits w a) (code_digits w k)) (k ≡ a)
+texts_decide w a k =
+    let d = bytes_eq-Decides (code_digits w a) (code_digits w k) in
+    (λ e. sym (one_code w a k (d.0 e)), λ e. d.1 (ap (code_digits w) (sym e)))
+
+numbers_decide : (k a : ℕ) → Decides (is_eq (nat_cmp k a)) (k ≡ a)
+numbers_decide k a =
+    let d = Equal-is (nat_cmp k a) in
+    (λ e. nat_cmp-IsAntisymmetric k a (d.0 e), λ e. d.1 (subst (λ x. nat_cmp k x ≡ Equal) e (tied_itself nat_cmp_total k)))
+
+pub code_is : (w a k : ℕ) → is_true (binary (Compare Eq Binary) (Text (code_digits w a)) (Text (code_digits w k))) ≡ is_eq (nat_cmp k a)
+code_is w a k =
+    same_text (code_digits w a) (code_digits w k) ∙ is_eq-slice_cmp (code_digits w a) (code_digits w k)
+    ∙ same_from_decides {P = k ≡ a} (bytes_eq (code_digits w a) (code_digits w k)) (is_eq (nat_cmp k a)) (texts_decide w a k) (numbers_decide k a)
+
+pub flag_is : (a k : Bool) → is_true (binary (Compare Eq Binary) (flag a) (flag k)) ≡ is_eq (bool_cmp k a)
+flag_is true true = same_int (pos 1) (pos 1)
+flag_is true false = same_int (pos 1) (pos 0)
+flag_is false true = same_int (pos 0) (pos 1)
+flag_is false false = same_int (pos 0) (pos 0)
+
+-- ---- the columns of a key
+
+pub one_column : (t : Bool) (r : Ordering) → t ≡ is_eq r → (t && true) ≡ is_eq r
+one_column t r e = and_true t ∙ e
+
+both : (r s : Ordering) → (is_eq r && is_eq s) ≡ is_eq (ordering_then r s)
+both Less s = refl
+both Equal s = refl
+both Greater s = refl
+
+pub two_columns : (t u : Bool) (r s : Ordering) → t ≡ is_eq r → u ≡ is_eq s → (t && (u && true)) ≡ is_eq (ordering_then r s)
+two_columns t u r s first second = ap₂ ◌&&◌ first (one_column u s second) ∙ both r s
+
+pub three_columns : (t u v : Bool) (r s q : Ordering) → t ≡ is_eq r → u ≡ is_eq s → v ≡ is_eq q → (t && (u && (v && true))) ≡ is_eq (ordering_then r (ordering_then s q))
+three_columns t u v r s q first second third = ap₂ ◌&&◌ first (two_columns u v s q second third) ∙ both r (ordering_then s q)

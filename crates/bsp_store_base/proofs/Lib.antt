@@ -1,0 +1,14 @@
+pub mod Reading
+pub mod Rising
+pub mod Ends
+pub mod Ending
+pub mod Writing
+pub mod Parts
+pub mod Held
+pub mod Values
+pub mod Syncing
+pub mod Opening
+pub mod Days
+pub mod Keys
+pub mod Orders
+pub mod Writes

@@ -1,0 +1,98 @@
+-- What a query for a whole table shows.
+use Rattle.std.proofs.Common.{◌≡◌, inl, inr, Less, ℕ, List, [], ◌∷◌, map, filter, false, Vec, Global, Ok, Err, Result, IfOk, OnOk, refl, sym, ap, ap₂, ◌∙◌, subst, IsPermutation, arith}
+use Rattle.std.specs.List.{range_with_len}
+use Rattle.std.proofs.lemmas.List.Sorted.{IsPermutation-refl, IsPermutation-map}
+use Rattle.sqlite_value.specs.declared.value.Value.TheVariants.{Null}
+use Rattle.sqlite_value.specs.declared.keys.Key.{Key}
+use Rattle.sqlite_value.specs.Order.{Row}
+use Rattle.sqlite_trees.specs.Tree.{Trees, IsAscending}
+use Rattle.sqlite_trees.specs.declared.store.Store.{Ghosts}
+use Rattle.sqlite_trees.proofs.ListLemmas.{map-map, filter_all, all_of}
+use Rattle.sqlite_keyed.proofs.ListLemmas.{ascending-map}
+use Rattle.sqlite_sql.specs.Term.{Term, col}
+use Rattle.sqlite_sql.specs.Query.{IsAnswer, Output, output_cmp}
+use Rattle.sqlite_sql.specs.Program.{overlay}
+use Rattle.sqlite_schema.specs.declared.schema.Schema.{Schema}
+use Rattle.sqlite_schema.specs.declared.command.Command.TheVariants.{Select}
+use Rattle.sqlite.specs.declared.error.Error.{Error}
+use Rattle.sqlite.specs.Listing.{understood, reads_listing}
+use Rattle.sqlite.specs.State.{State, HasCleanDisk, Shown, Survives, CommitsShowing}
+use Rattle.sqlite.specs.Held.{Held, state}
+use Rattle.sqlite.proofs.Callers.{reads_as, IsPlain, command_of, never_commits}
+use Rattle.bsp_store_base.specs.Kept.{Reads, Spares, columns_of}
+use Rattle.bsp_store_base.proofs.Held.{unchanged_by}
+use Rattle.bsp_store_base.proofs.Rising.{keys_of, IsBefore}
+use Rattle.bsp_store_base.proofs.Reading.{simple, passes, out, rows_are, rows_in_order}
+
+same_maps : {A B : Type 0} (f g : A → B) → ((x : A) → f x ≡ g x) → (xs : List A) → map f xs ≡ map g xs
+same_maps f g same [] = refl
+same_maps f g same (x ∷ xs) = ap₂ ◌∷◌ (same x) (same_maps f g same xs)
+
+same_all : {A : Type 0} (xs : List A) → map (λ x. x) xs ≡ xs
+same_all [] = refl
+same_all (x ∷ xs) = ap (λ l. x ∷ l) (same_all xs)
+
+-- SELECT all columns FROM t ORDER BY ..
+module _ (schema : Schema) (sql : List ℕ) (names : List (List ℕ)) (tree width : ℕ) (order : List (Term × Key))
+    (is : command_of (understood schema sql) ≡ Select (record { lets = []; body = simple tree [] (map (col 1) (range_with_len 1 width)) order }) names)
+    (plain : IsPlain (understood schema sql)) (unlisted : reads_listing schema sql ≡ false) (plain_tree : (db : Trees) → overlay db [] tree ≡ db tree)
+    (lists : (trees : Trees) (r : Row) → (out tree [] (map (col 1) (range_with_len 1 width)) order trees [] r).1 ≡ columns_of width r) where
+  abbrev project : List Term
+  project = map (col 1) (range_with_len 1 width)
+
+  in_any_order : (db : Trees) (rows : List Row) → IsAnswer (simple tree [] project order) (overlay db []) [] rows → IsPermutation (map (columns_of width) (db tree)) rows
+  in_any_order db rows a =
+      let trees = overlay db [] in
+      let f = out tree [] project order trees [] in
+      let kept = filter_all (passes tree [] project order trees []) (trees tree) (all_of _ (λ r. refl) (trees tree)) in
+      subst (λ (l : List Row). IsPermutation l rows)
+      (ap (λ (l : List Row). map (λ (o : Output). o.1) (map f l)) kept ∙ map-map (λ (o : Output). o.1) f (trees tree) ∙ same_maps (λ r. (f r).1) (columns_of width) (lists trees) (trees tree) ∙ ap (map (columns_of width)) (plain_tree db))
+      (rows_are tree [] project order trees [] rows a (map f (filter (passes tree [] project order trees []) (trees tree))) (IsPermutation-refl _))
+
+  pub shows_all : (old new : State) → old.now.schema ≡ schema → (rows : List Row) → Shown sql [] old new rows → IsPermutation (map (columns_of width) (old.now.trees tree)) rows
+  shows_all old new has rows shown = in_any_order old.now.trees rows ((reads_as sql [] old new schema has _ is plain unlisted rows shown).answer Null)
+
+  -- the two clauses of a call of query_all
+  pub all_rows : (old new : State) (r : Result (Vec Row Global) Error) → IfOk r (λ rows. Shown sql [] old new rows.items) → IfOk r (λ found. old.now.schema ≡ schema → IsPermutation (map (columns_of width) (old.now.trees tree)) found.items)
+  all_rows old new (Err e) h = tt
+  all_rows old new (Ok rows) h = λ has. shows_all old new has rows.items h
+
+  pub all_read : {S : Type 0} (g : Ghosts S) (old new : Held S) (r : Result (Vec Row Global) Error) → Survives (state g old) (state g new) (CommitsShowing sql [] (state g old))
+      → (HasCleanDisk (state g new) → IfOk r (λ rows. Shown sql [] (state g old) (state g new) rows.items)) → OnOk r (old.schema ≡ schema → Reads g old new)
+  all_read g old new (Err e) kept h = tt
+  all_read g old new (Ok rows) kept h = λ has. record {
+    earlier = λ clean. omega (arith, kept.clean);
+    same = λ clean. (unchanged_by sql [] (state g old) (state g new) rows.items (subst (λ s. IsPlain (understood s sql)) (sym has) plain) (h clean)).0.now_is;
+    is_open = λ clean. (unchanged_by sql [] (state g old) (state g new) rows.items (subst (λ s. IsPlain (understood s sql)) (sym has) plain) (h clean)).0.is_open;
+  }
+
+  pub all_spares : {S : Type 0} (g : Ghosts S) (old new : Held S) → Survives (state g old) (state g new) (CommitsShowing sql [] (state g old)) → old.schema ≡ schema → Spares g old new
+  all_spares g old new kept has = record {
+    earlier = λ clean. omega (arith, kept.clean);
+    leaves = λ clean db may. elim (kept.crash clean db may) [
+      | inl before ↦ before
+      | inr made ↦ absurd (never_commits sql [] (state g old) db (subst (λ s. IsPlain (understood s sql)) (sym has) plain) made)
+    ];
+  }
+
+  abbrev shown_as : Row → Output
+  shown_as row = (keys_of order row, row)
+
+  module _ (sees : (trees : Trees) (r : Row) → (out tree [] (map (col 1) (range_with_len 1 width)) order trees [] r).0 ≡ keys_of order (columns_of width r)) where
+    in_order : (db : Trees) (rows : List Row) → IsAnswer (simple tree [] project order) (overlay db []) [] rows → (xs : List Row) → IsPermutation xs (map (columns_of width) (db tree)) → IsAscending (IsBefore order) xs → rows ≡ xs
+    in_order db rows a xs same up =
+        let trees = overlay db [] in
+        let f = out tree [] project order trees [] in
+        let kept = filter_all (passes tree [] project order trees []) (trees tree) (all_of _ (λ r. refl) (trees tree)) in
+        let outs : map shown_as (map (columns_of width) (db tree)) ≡ map f (filter (passes tree [] project order trees []) (trees tree)) =
+        map-map shown_as (columns_of width) (db tree) ∙ same_maps (λ r. shown_as (columns_of width r)) f (λ r i. (sym (sees trees r) i, sym (lists trees r) i)) (db tree) ∙ ap (map f) (sym (plain_tree db) ∙ sym kept) in
+        rows_in_order tree [] project order trees [] rows a (map shown_as xs) (ascending-map (λ x y. output_cmp (simple tree [] project order) x y ≡ Less) shown_as xs up)
+        (subst (IsPermutation (map shown_as xs)) outs (IsPermutation-map shown_as _ _ same))
+        ∙ map-map (λ (o : Output). o.1) shown_as xs ∙ same_all xs
+
+    pub all_ordered : {C : Type 0} (old new : State) (r : Result (Vec Row Global) Error) → IfOk r (λ rows. Shown sql [] old new rows.items) → (Formed Kept : C → Type 0) (rows_of : C → List Row)
+        → ((c : C) → Formed c → IsAscending (IsBefore order) (rows_of c)) → ((c : C) → Kept c → IsPermutation (rows_of c) (map (columns_of width) (old.now.trees tree)))
+        → IfOk r (λ found. old.now.schema ≡ schema → (c : C) → Formed c → Kept c → found.items ≡ rows_of c)
+    all_ordered old new (Err e) h Formed Kept rows_of up same = tt
+    all_ordered old new (Ok rows) h Formed Kept rows_of up same = λ has c formed kept.
+        in_order old.now.trees rows.items ((reads_as sql [] old new schema has _ is plain unlisted rows.items h).answer Null) (rows_of c) (same c kept) (up c formed)

@@ -1,0 +1,112 @@
+-- What the texts mean.
+use Rattle.std.proofs.Common.{◌≡◌, ℕ, ◌+◌, List, [], ◌∷◌, codes, map, false, refl}
+use Rattle.std.specs.List.{range_with_len}
+use Rattle.sqlite_value.specs.declared.value.Value.TheVariants.{Null}
+use Rattle.sqlite_value.specs.Keys.{ascending}
+use Rattle.sqlite_value.specs.declared.keys.Key.{Key}
+use Rattle.sqlite_value.specs.declared.keys.Collation.TheVariants.{Binary}
+use Rattle.sqlite_sql.specs.Term.{Term, lit, col}
+use Rattle.sqlite_schema.specs.declared.command.Source.TheVariants.{Values}
+use Rattle.sqlite_schema.specs.declared.command.Command.{Command}
+use Rattle.sqlite_schema.specs.declared.command.Command.TheVariants.{Insert, Delete, Select}
+use Rattle.sqlite_schema.specs.declared.schema.Column.{Column}
+use Rattle.sqlite_tied.specs.Compute.{everything}
+use Rattle.sqlite.specs.Listing.{understood, reads_listing}
+use Rattle.sqlite.proofs.Callers.{IsPlain, command_of}
+use Rattle.bsp_store_base.specs.Simple.{simple}
+use Rattle.bsp_store_base.specs.Schema.{our_schema, agent_columns, airline_token_columns, stock_columns}
+use Rattle.bsp_store_base.proofs.Writes.{eq}
+
+-- DELETE FROM the table of this place and tree WHERE the test
+abbrev pub deleting : ℕ → ℕ → List Term → Command
+deleting at tree test = Delete at (record { lets = []; body = simple tree test (col 1 0 ∷ []) [] })
+
+-- INSERT of that many columns
+abbrev pub inserting : ℕ → ℕ → Command
+inserting at width = Insert at (Values (lit Null ∷ map (col 0) (range_with_len 0 width)) (width + 1))
+
+-- ---- agents
+
+abbrev pub delete_agent : List ℕ
+delete_agent = codes "DELETE FROM agent WHERE code = ?1"
+
+pub delete_agent_is : (command_of (understood our_schema delete_agent) ≡ deleting 5 8 (eq 1 0 ∷ [])) × IsPlain (understood our_schema delete_agent)
+unfolding understood everything
+delete_agent_is = (refl, (refl, refl))
+
+abbrev pub insert_agent : List ℕ
+insert_agent = codes "INSERT INTO agent (code, token) VALUES (?1, ?2)"
+
+pub insert_agent_is : (command_of (understood our_schema insert_agent) ≡ inserting 5 2) × IsPlain (understood our_schema insert_agent)
+unfolding understood everything
+insert_agent_is = (refl, (refl, refl))
+
+abbrev pub all_agents : List ℕ
+all_agents = codes "SELECT code, token FROM agent ORDER BY code"
+
+abbrev pub agent_names : List (List ℕ)
+agent_names = map (λ (c : Column). c.name) agent_columns
+
+-- by the first column
+abbrev pub by_code : List (Term × Key)
+by_code = (col 1 1, ascending Binary) ∷ []
+
+pub all_agents_is : (command_of (understood our_schema all_agents) ≡ Select (record { lets = []; body = simple 8 [] (map (col 1) (range_with_len 1 2)) by_code }) agent_names) × IsPlain (understood our_schema all_agents) × (reads_listing our_schema all_agents ≡ false)
+unfolding understood everything
+all_agents_is = (refl, (refl, refl), refl)
+
+-- ---- the tokens of airlines
+
+abbrev pub delete_airline_token : List ℕ
+delete_airline_token = codes "DELETE FROM airline_token WHERE airline = ?1"
+
+pub delete_airline_token_is : (command_of (understood our_schema delete_airline_token) ≡ deleting 6 10 (eq 1 0 ∷ [])) × IsPlain (understood our_schema delete_airline_token)
+unfolding understood everything
+delete_airline_token_is = (refl, (refl, refl))
+
+abbrev pub insert_airline_token : List ℕ
+insert_airline_token = codes "INSERT INTO airline_token (airline, token) VALUES (?1, ?2)"
+
+pub insert_airline_token_is : (command_of (understood our_schema insert_airline_token) ≡ inserting 6 2) × IsPlain (understood our_schema insert_airline_token)
+unfolding understood everything
+insert_airline_token_is = (refl, (refl, refl))
+
+abbrev pub all_airline_tokens : List ℕ
+all_airline_tokens = codes "SELECT airline, token FROM airline_token ORDER BY airline"
+
+abbrev pub airline_token_names : List (List ℕ)
+airline_token_names = map (λ (c : Column). c.name) airline_token_columns
+
+pub all_airline_tokens_is : (command_of (understood our_schema all_airline_tokens) ≡ Select (record { lets = []; body = simple 10 [] (map (col 1) (range_with_len 1 2)) by_code }) airline_token_names) × IsPlain (understood our_schema all_airline_tokens) × (reads_listing our_schema all_airline_tokens ≡ false)
+unfolding understood everything
+all_airline_tokens_is = (refl, (refl, refl), refl)
+
+-- ---- ranges
+
+abbrev pub delete_range : List ℕ
+delete_range = codes "DELETE FROM stock WHERE agent = ?1 AND lo = ?2"
+
+pub delete_range_is : (command_of (understood our_schema delete_range) ≡ deleting 7 12 (eq 1 0 ∷ eq 2 1 ∷ [])) × IsPlain (understood our_schema delete_range)
+unfolding understood everything
+delete_range_is = (refl, (refl, refl))
+
+abbrev pub insert_range : List ℕ
+insert_range = codes "INSERT INTO stock (agent, lo, hi) VALUES (?1, ?2, ?3)"
+
+pub insert_range_is : (command_of (understood our_schema insert_range) ≡ inserting 7 3) × IsPlain (understood our_schema insert_range)
+unfolding understood everything
+insert_range_is = (refl, (refl, refl))
+
+abbrev pub all_ranges : List ℕ
+all_ranges = codes "SELECT agent, lo, hi FROM stock ORDER BY agent, lo"
+
+abbrev pub range_names : List (List ℕ)
+range_names = map (λ (c : Column). c.name) stock_columns
+
+-- by the first column, and then by the second
+abbrev pub by_range : List (Term × Key)
+by_range = (col 1 1, ascending Binary) ∷ (col 1 2, ascending Binary) ∷ []
+
+pub all_ranges_is : (command_of (understood our_schema all_ranges) ≡ Select (record { lets = []; body = simple 12 [] (map (col 1) (range_with_len 1 3)) by_range }) range_names) × IsPlain (understood our_schema all_ranges) × (reads_listing our_schema all_ranges ≡ false)
+unfolding understood everything
+all_ranges_is = (refl, (refl, refl), refl)

@@ -1,0 +1,8 @@
+use Rattle.bsp_store_callers.proofs.AirlineTokenWrites.{deleting_airline_token}
+use Rattle.bsp_store_callers.proofs.airline_tokens.delete_airline_token.Goals as goal
+
+pub returns-clause-ok : goal.returns-clause-ok
+returns-clause-ok g c = (deleting_airline_token g.S.Store c.args.conn.now c.execute.new.self c.args.airline c.execute.result (rw c.airline_digits-digits.ensures at c.execute.ensures.survives) (λ clean. rw c.airline_digits-digits.ensures at (c.execute.ensures.runs clean))).0
+
+pub returns-clause-err : goal.returns-clause-err
+returns-clause-err g c = (deleting_airline_token g.S.Store c.args.conn.now c.execute.new.self c.args.airline c.execute.result (rw c.airline_digits-digits.ensures at c.execute.ensures.survives) (λ clean. rw c.airline_digits-digits.ensures at (c.execute.ensures.runs clean))).1

@@ -1,0 +1,115 @@
+//! The table of airlines' tokens.
+
+ghost use Rattle.std.specs.Prelude.{◌≡◌, ℕ, List, map, None, false, OnOk, OnErr, IfOk, IsPermutation};
+ghost use Rattle.std.specs.FinMap.{get, entries};
+ghost use Rattle.sqlite.specs.Held.{state};
+ghost use Rattle.sqlite.specs.State.{HasCleanDisk};
+ghost use Rattle.sqlite.specs.Values.{bound};
+ghost use Rattle.bsp_store_base.specs.Kept.{Stands, Falls, IsInside, Reads, columns_of, KeepsRows, Spares};
+ghost use Rattle.bsp_store_base.specs.Schema.{our_schema};
+ghost use Rattle.bsp_store_base.specs.Columns.{airline_token_row};
+ghost use Rattle.bsp_store_base.specs.Content.{Content, form};
+ghost use Rattle.bsp_store_callers.specs.Callers.{airline_texts, without_airline, and_airline, with_airline};
+ghost use Rattle.bsp_store_base.specs.Forms.{IsFormed};
+
+use bsp_rows::{AirlineCode, Token};
+use bsp_store_base::airline_digits;
+use sqlite::{Alter, Connection, Error, Row};
+use sqlite_value::value::ValueRef;
+
+/// The texts of the row of an airline's token.
+#[derive(Clone, Copy)]
+pub struct AirlineTokenRow {
+    airline: [u8; 3],
+    token: Token,
+}
+
+impl AirlineTokenRow {
+    /// The row of an airline and its token.
+    pub fn of(airline: AirlineCode, token: &Token) -> AirlineTokenRow
+        ensures { airline_texts result ≡ airline_token_row (airline, token.now) }
+    {
+        AirlineTokenRow {
+            airline: airline_digits(airline),
+            token: *token,
+        }
+    }
+
+    /// The values of its columns.
+    pub fn values(&self) -> [ValueRef<'_>; 2]
+        ensures { bound result ≡ airline_texts self.now }
+    {
+        [
+            ValueRef::Text(&self.airline),
+            ValueRef::Text(self.token.as_bytes()),
+        ]
+    }
+}
+
+fn delete_airline_token<S: Alter>(
+    conn: &mut Connection<S>,
+    airline: AirlineCode,
+) -> Result<usize, Error>
+    ensures ok { OnOk result ((now last a b : Content) → Stands form S.Store conn.old now last a b → IsInside form S.Store conn.old → Stands form S.Store conn.new (without_airline airline now) last a b × IsInside form S.Store conn.new) }
+    ensures err { OnErr result ((now last a b : Content) → Stands form S.Store conn.old now last a b → IsInside form S.Store conn.old → Falls form S.Store conn.new last a b) }
+{
+    let digits = airline_digits(airline);
+    conn.execute(
+        "DELETE FROM airline_token WHERE airline = ?1",
+        &[ValueRef::Text(&digits)],
+    )
+}
+
+fn insert_airline_token<S: Alter>(
+    conn: &mut Connection<S>,
+    airline: AirlineCode,
+    token: &Token,
+) -> Result<usize, Error>
+    ensures ok { OnOk result ((now last a b : Content) → get now.airlines airline ≡ None → Stands form S.Store conn.old now last a b → IsInside form S.Store conn.old → Stands form S.Store conn.new (and_airline airline token.now now) last a b × IsInside form S.Store conn.new) }
+    ensures err { OnErr result ((now last a b : Content) → Stands form S.Store conn.old now last a b → IsInside form S.Store conn.old → Falls form S.Store conn.new last a b) }
+{
+    let row = AirlineTokenRow::of(airline, token);
+    let values = row.values();
+    conn.execute(
+        "INSERT INTO airline_token (airline, token) VALUES (?1, ?2)",
+        &values,
+    )
+}
+
+/// Leaves this token at the airline's code, or no row.
+///
+/// # Errors
+///
+/// Those of the store.
+pub fn put_airline_token<S: Alter>(
+    conn: &mut Connection<S>,
+    airline: AirlineCode,
+    token: Option<Token>,
+) -> Result<(), Error>
+    ensures ok { OnOk result ((now last a b : Content) → Stands form S.Store conn.old now last a b → IsInside form S.Store conn.old → Stands form S.Store conn.new (with_airline airline token now) last a b × IsInside form S.Store conn.new) }
+    ensures err { OnErr result ((now last a b : Content) → Stands form S.Store conn.old now last a b → IsInside form S.Store conn.old → Falls form S.Store conn.new last a b) }
+{
+    delete_airline_token(conn, airline)?;
+    if let Some(token) = token {
+        insert_airline_token(conn, airline, &token)?;
+    }
+    Ok(())
+}
+
+/// The rows of all airlines' tokens, in the order of their codes.
+///
+/// # Errors
+///
+/// Those of the store.
+pub fn all_airline_tokens<S: Alter>(conn: &mut Connection<S>) -> Result<Vec<Row>, Error>
+    ensures rows { HasCleanDisk (state S.Store conn.new) → IfOk result (λ found. (state S.Store conn.old).now.schema ≡ our_schema → IsPermutation (map (columns_of 2) ((state S.Store conn.old).now.trees 10)) found.items) }
+    ensures read { OnOk result (conn.old.schema ≡ our_schema → Reads S.Store conn.old conn.new) }
+    ensures mode { conn.old.in_transaction ≡ false → conn.new.in_transaction ≡ false }
+    ensures order { HasCleanDisk (state S.Store conn.new) → IfOk result (λ found. (state S.Store conn.old).now.schema ≡ our_schema → (c : Content) → IsFormed c → KeepsRows form c (state S.Store conn.old).now.trees → found.items ≡ map airline_token_row (entries c.airlines)) }
+    ensures spares { conn.old.schema ≡ our_schema → Spares S.Store conn.old conn.new }
+{
+    conn.query_all(
+        "SELECT airline, token FROM airline_token ORDER BY airline",
+        &[],
+    )
+}

@@ -1,0 +1,259 @@
+-- What is read back of an item's row is the item.
+use Rattle.std.proofs.Common.{[], ◌∷◌, ◌++◌, ◌==◌, ◌≤◌, ◌*◌, ◌&&◌, not, false, ℤ, is_none, length-append, arith, ◌≡◌, ℕ, ◌<◌, ◌^◌, ◌%◌, ◌/◌, List, length, map, Bool, true, Some, None, Option, Ok, refl, sym, ap, ◌∙◌, subst}
+use Rattle.std.specs.Prelude.{IfSome, unsigned_abs, nat_lt, nat_le, slice_index, slice_index_or}
+use Rattle.std.specs.List.{concat, list_all}
+use Rattle.std.specs.Result.{result_ok}
+use Rattle.std.specs.Str.{all_ascii_digits}
+use Rattle.std.proofs.lemmas.Bool.{lt-ltb, le-leb, leb-true, eq-eqb, eqb-true, and_parts, not-false}
+use Rattle.std.proofs.lemmas.Grind.{common_steps}
+use Rattle.std.proofs.lemmas.List.{take_at, drop_at, take_all}
+use Rattle.sqlite_value.specs.declared.value.Value.TheVariants.{Int, Text}
+use Rattle.sqlite_value.specs.Order.{Row, column}
+use Rattle.sqlite.specs.Values.{or_null}
+use Rattle.bsp_fields.specs.CivilDay.{CivilDay}
+use Rattle.bsp_fields.specs.Codes.{agent_reading, check_digit_of}
+use Rattle.bsp_fields.specs.Decimal.{number_of, fixed_digits}
+use Rattle.bsp_fields.specs.Zoned.{spelling, zoned_reading}
+use Rattle.bsp_fields.specs.declared.fault.FieldFault.TheVariants.{Width, NotDigit, CheckDigit}
+use Rattle.bsp_fields.proofs.CodeLemmas.{code_reading-fixed_digits}
+use Rattle.bsp_fields.proofs.DecimalLemmas.{number_of-lt, fixed_digits-number_of}
+use Rattle.bsp_fields.proofs.FirstFaultLemmas.{row_passed, value_told}
+use Rattle.bsp_ret_writer.specs.Columns.{columns, is_letter_or_digit}
+use Rattle.bsp_ret_writer.specs.Taxes.{tax_code}
+use Rattle.bsp_ret_writer.proofs.CharacterLemmas.{length-spelling}
+use Rattle.bsp_ret_writer.proofs.TextLemmas.{amount_reads}
+use Rattle.bsp_rows.specs.RetRecordsTexts.{code_text}
+use Rattle.bsp_rows.specs.Values.{none_or}
+use Rattle.bsp_rows.specs.TransactionCode.{TransactionCode}
+use Rattle.bsp_rows.specs.TransactionCode.TheVariants.{Tktt, Rfnd, Canx}
+use Rattle.bsp_rows.specs.Amounts.{Amounts}
+use Rattle.bsp_rows.specs.CardPayment.{CardPayment}
+use Rattle.bsp_rows.specs.ReportedDocument.{ReportedDocument}
+use Rattle.bsp_rows.specs.Tax.{Tax}
+use Rattle.bsp_rows.specs.Transaction.{Transaction}
+use Rattle.bsp_ret_writer.specs.GroupValues.{are_taxes, are_amounts, is_document, related_of}
+use Rattle.bsp_ret_writer.specs.Stored.{InEach, IsStored, IsStoredTax, IsStoredAmount, IsStoredAmounts, IsStoredCard, IsStoredDocument}
+use Rattle.bsp_ret_writer.specs.Writing.{tax_text}
+use Rattle.bsp_ret_writer.proofs.WrittenGroup.{facts_from}
+use Rattle.bsp_rows.specs.Item.{Item}
+use Rattle.bsp_rows.specs.Sound.{IsRight}
+use Rattle.bsp_rows.specs.declared.keys.ItemKey.{ItemKey}
+use Rattle.bsp_store_base.specs.Columns.{code_digits, airline_text, flag, taxes_text, count, item_row}
+use Rattle.bsp_store_base.specs.Reading.{agent_in, amount_in, below, code_in, if_there}
+use Rattle.bsp_store_base.proofs.Keys.{code_digits-fits}
+use Rattle.bsp_store_items.specs.Reading.{amounts_in, card_in, document_in, entry_in, flag_in, item_in, key_in, kind_in, related_in, tax_in, taxes_in, transaction_in, wide_in}
+
+abbrev places_text : List (Option Tax) → List ℕ
+places_text taxes = concat (map tax_text taxes)
+
+-- ---- codes
+
+code_back : (w n : ℕ) → n < 10 ^ w → code_in w (Text (code_digits w n)) ≡ Some n
+code_back w n fits = rw (code_digits-fits w n fits, code_reading-fixed_digits w n fits) refl
+
+-- an agent's eight digits
+record IsSpelled (text : List ℕ) (agent : ℕ) : Type 0 where
+  fits : agent < 10 ^ 8
+  spelled : fixed_digits 8 agent ≡ text
+
+is_spelled : (text : List ℕ) (agent : ℕ) → agent_reading text ≡ Ok agent → IsSpelled text agent
+is_spelled text agent reads =
+    let n = number_of text in
+    let wide = row_passed (not (length text == 8)) Width ((not (all_ascii_digits text), NotDigit) ∷ (not (n % 10 == check_digit_of (n / 10)), CheckDigit) ∷ []) n agent reads in
+    let digit = row_passed (not (all_ascii_digits text)) NotDigit ((not (n % 10 == check_digit_of (n / 10)), CheckDigit) ∷ []) n agent wide.1 in
+    let check = row_passed (not (n % 10 == check_digit_of (n / 10))) CheckDigit [] n agent digit.1 in
+    let is : n ≡ agent = value_told n agent check.1 in
+    let eight : length text ≡ 8 = eqb-true _ _ (not-false _ wide.0) in
+    let digits = not-false _ digit.0 in
+    record {
+      fits = subst (λ m. m < 10 ^ 8) is (number_of-lt text 8 digits (omega (arith, eight)));
+      spelled = subst (λ m. fixed_digits 8 m ≡ text) is (fixed_digits-number_of 8 text eight digits);
+    }
+
+agent_back : (text : List ℕ) (agent : ℕ) → agent_reading text ≡ Ok agent → IsSpelled text agent → agent_in (Text (code_digits 8 agent)) ≡ Some agent
+agent_back text agent reads is = ap (λ t. agent_in (Text t)) (code_digits-fits 8 agent is.fits ∙ is.spelled) ∙ ap result_ok reads
+
+-- ---- single columns
+
+amount_back : (n : ℤ) → IsStoredAmount n → amount_in (Int n) ≡ Some n
+amount_back n is = rw (le-leb (unsigned_abs n) 99_999_999_999 is.size) refl
+
+maybe_amount_back : (o : Option ℤ) → IfSome o IsStoredAmount → if_there (or_null Int o) (amount_in (or_null Int o)) ≡ Some o
+maybe_amount_back None is = refl
+maybe_amount_back (Some n) is = rw (amount_back n is) refl
+
+kind_back : (code : TransactionCode) → kind_in (Text (code_text code)) ≡ Some code
+kind_back Tktt = refl
+kind_back Rfnd = refl
+kind_back Canx = refl
+
+wide_back : (n : ℕ) (text : List ℕ) → length text ≡ n → wide_in n (Text text) ≡ Some text
+wide_back n text is = rw (is, eq-eqb n n refl) refl
+
+flag_back : (b : Bool) → flag_in (flag b) ≡ b
+flag_back true = refl
+flag_back false = refl
+
+below_back : (most n : ℕ) → n < most → below most (count n) ≡ Some n
+below_back most n fits = rw (lt-ltb n most fits) refl
+
+-- ---- taxes
+
+first_letter : (code rest : List ℕ) → length code ≡ 2 → list_all is_letter_or_digit code ≡ true → (slice_index (code ++ rest) 0 == 32) ≡ false
+first_letter [] rest wide letters = absurd (omega (arith, wide))
+first_letter (c ∷ code) rest wide letters = let letter = (and_parts (is_letter_or_digit c) (list_all is_letter_or_digit code) letters).0 in grind (arith, common_steps)
+
+code_at : (code rest : List ℕ) → length code ≡ 2 → columns 1 2 (code ++ rest) ≡ code
+code_at code rest wide = take_at code rest 2 wide
+
+amount_at : (code amount : List ℕ) → length code ≡ 2 → length amount ≡ 11 → columns 3 13 (code ++ amount) ≡ amount
+amount_at code amount wide long = rw (drop_at code amount 2 wide) (take_all 11 amount (omega arith))
+
+tax_from : (place code : List ℕ) (amount : ℤ) → (slice_index place 0 == 32) ≡ false → columns 1 2 place ≡ code → zoned_reading 11 (columns 3 13 place) ≡ Ok amount → tax_in place ≡ Some (Some (record { code = code; amount = amount }))
+tax_from place code amount letter is reads = rw (letter, is, reads) refl
+
+tax_back : (tax : Tax) → IsStoredTax tax → list_all is_letter_or_digit tax.code ≡ true → tax_in (tax_text (Some tax)) ≡ Some (Some tax)
+tax_back tax stored letters =
+    let long = length-spelling 11 tax.amount (omega arith) in
+    tax_from _ tax.code tax.amount (first_letter tax.code (spelling 11 tax.amount) stored.code letters) (code_at tax.code (spelling 11 tax.amount) stored.code)
+    (ap (zoned_reading 11) (amount_at tax.code (spelling 11 tax.amount) stored.code long) ∙ amount_reads tax.amount stored.amount.size)
+
+length-tax_text : (tax : Option Tax) → IfSome tax IsStoredTax → length (tax_text tax) ≡ 13
+length-tax_text None is = refl
+length-tax_text (Some tax) is = length-append tax.code (spelling 11 tax.amount) ∙ (let long = length-spelling 11 tax.amount (omega arith) in omega (arith, long, is.code))
+
+-- a place and those behind it
+step_back : (tax : Option Tax) (taxes : List (Option Tax)) → length (tax_text tax) ≡ 13 → tax_in (tax_text tax) ≡ Some tax → taxes_in (length taxes) (places_text taxes) ≡ Some taxes → taxes_in (length (tax ∷ taxes)) (places_text (tax ∷ taxes)) ≡ Some (tax ∷ taxes)
+step_back tax taxes wide one more = rw (take_at (tax_text tax) (places_text taxes) 13 wide, drop_at (tax_text tax) (places_text taxes) 13 wide, one, more) refl
+
+blank_back : (taxes : List (Option Tax)) → list_all is_none taxes ≡ true → taxes_in (length taxes) (places_text taxes) ≡ Some taxes
+blank_back [] none = refl
+blank_back (None ∷ taxes) none = step_back None taxes refl refl (blank_back taxes none)
+blank_back (Some tax ∷ taxes) none = absurd (cc none)
+
+taxes_back : (before : ℕ) (taxes : List (Option Tax)) → InEach IsStoredTax taxes → are_taxes before taxes ≡ true → taxes_in (length taxes) (places_text taxes) ≡ Some taxes
+taxes_back before [] stored fit = refl
+taxes_back before (None ∷ taxes) stored fit = step_back None taxes refl refl (blank_back taxes fit)
+taxes_back before (Some tax ∷ taxes) stored fit =
+    let number = tax_code tax.code in
+    let parts = and_parts (list_all is_letter_or_digit tax.code && nat_lt before number) (are_taxes number taxes) fit in
+    let front = and_parts (list_all is_letter_or_digit tax.code) (nat_lt before number) parts.0 in
+    step_back (Some tax) taxes (length-tax_text (Some tax) stored.0) (tax_back tax stored.0 front.0) (taxes_back number taxes stored.1 parts.1)
+
+length-taxes : (taxes : List (Option Tax)) → InEach IsStoredTax taxes → length (places_text taxes) ≡ 13 * length taxes
+length-taxes [] stored = refl
+length-taxes (tax ∷ taxes) stored = length-append (tax_text tax) (places_text taxes) ∙ (let one = length-tax_text tax stored.0 in let more = length-taxes taxes stored.1 in omega (arith, one, more))
+
+-- ---- parts of a transaction, in a row that has their columns
+
+one_digit : (d : ReportedDocument) → is_document d ≡ true → d.check_digit < 2 ^ 8
+unfolding is_document
+one_digit d fits =
+    let few : d.check_digit ≤ 9 = leb-true d.check_digit 9 ((and_parts (all_ascii_digits d.number) (nat_le d.check_digit 9) fits).1) in
+    omega (arith, few)
+
+document_from : (number : ℕ) (r : Row) (d : ReportedDocument) → code_in 3 (column r 4) ≡ Some d.airline → below (2 ^ 8) (column r 3) ≡ Some d.check_digit → fixed_digits 10 number ≡ d.number → document_in number r ≡ Some d
+document_from number r d a c n = rw (a, c, n) refl
+
+related_from : (r : Row) (d : ReportedDocument) → code_in 3 (column r 14) ≡ Some d.airline → wide_in 10 (column r 15) ≡ Some d.number → below (2 ^ 8) (column r 16) ≡ Some d.check_digit → related_in r ≡ Some d
+related_from r d a n c = rw (a, n, c) refl
+
+amounts_from : (r : Row) (a : Amounts) (text : List ℕ) → amount_in (column r 10) ≡ Some a.fare → wide_in 78 (column r 11) ≡ Some text → taxes_in 6 text ≡ Some a.taxes → below (2 ^ 16) (column r 12) ≡ Some a.rate → amount_in (column r 13) ≡ Some a.commission → amounts_in r ≡ Some a
+amounts_from r a text f w t n c = rw (f, w, t, n, c) refl
+
+card_from : (r : Row) (p : CardPayment) → amount_in (column r 18) ≡ Some p.amount → wide_in 2 (column r 20) ≡ Some p.vendor → card_in r ≡ Some p
+card_from r p a v = rw (a, v) refl
+
+rate_back : (a : Amounts) → are_amounts a ≡ true → (are_taxes 0 a.taxes ≡ true) × (below (2 ^ 16) (count a.rate) ≡ Some a.rate)
+unfolding are_amounts
+rate_back a fits =
+    let parts = and_parts (are_taxes 0 a.taxes) (nat_le a.rate 10000) fits in
+    let few : a.rate ≤ 10000 = leb-true a.rate 10000 parts.1 in
+    (parts.0, below_back (2 ^ 16) a.rate (omega (arith, few)))
+
+-- what is there, or nothing
+module _ (r : Row) where
+  related_back : (o : Option ReportedDocument) → column r 14 ≡ or_null (λ d. airline_text d.airline) o → column r 15 ≡ or_null (λ d. Text d.number) o → column r 16 ≡ or_null (λ d. count d.check_digit) o
+      → IfSome o IsStoredDocument → none_or is_document o ≡ true → if_there (column r 14) (related_in r) ≡ Some o
+  related_back None a n c stored fits = rw a refl
+  related_back (Some d) a n c stored fits =
+      let read = related_from r d (ap (code_in 3) a ∙ code_back 3 d.airline stored.airline) (ap (wide_in 10) n ∙ wide_back 10 d.number stored.number) (ap (below (2 ^ 8)) c ∙ below_back (2 ^ 8) d.check_digit (one_digit d fits)) in
+      rw (read, a) refl
+
+  amounts_back : (o : Option Amounts) → column r 10 ≡ or_null (λ (a : Amounts). Int a.fare) o → column r 11 ≡ or_null taxes_text o → column r 12 ≡ or_null (λ (a : Amounts). count a.rate) o → column r 13 ≡ or_null (λ (a : Amounts). Int a.commission) o
+      → IfSome o IsStoredAmounts → none_or are_amounts o ≡ true → if_there (column r 10) (amounts_in r) ≡ Some o
+  amounts_back None f t n c stored fits = rw f refl
+  amounts_back (Some a) f t n c stored fits =
+      let rate = rate_back a fits in
+      let wide : length (places_text a.taxes) ≡ 78 = length-taxes a.taxes stored.taxes ∙ ap (λ n. 13 * n) stored.places in
+      let taxes : taxes_in 6 (places_text a.taxes) ≡ Some a.taxes = rw stored.places at (taxes_back 0 a.taxes stored.taxes rate.0) in
+      let read = amounts_from r a (places_text a.taxes) (ap amount_in f ∙ amount_back a.fare stored.fare) (ap (wide_in 78) t ∙ wide_back 78 _ wide) taxes (ap (below (2 ^ 16)) n ∙ rate.1) (ap amount_in c ∙ amount_back a.commission stored.commission) in
+      rw (read, f) refl
+
+  card_back : (o : Option CardPayment) → column r 18 ≡ or_null (λ p. Int p.amount) o → column r 20 ≡ or_null (λ p. Text p.vendor) o → IfSome o IsStoredCard → if_there (column r 18) (card_in r) ≡ Some o
+  card_back None a v stored = rw a refl
+  card_back (Some p) a v stored =
+      let read = card_from r p (ap amount_in a ∙ amount_back p.amount stored.amount) (ap (wide_in 2) v ∙ wide_back 2 p.vendor stored.vendor) in
+      rw (read, a) refl
+
+-- ---- an entry
+
+transaction_from : (key : ItemKey) (r : Row) (t : Transaction) → kind_in (column r 5) ≡ Some t.code → document_in key.number r ≡ Some t.document → wide_in 49 (column r 9) ≡ Some t.passenger
+    → if_there (column r 14) (related_in r) ≡ Some (related_of t) → if_there (column r 10) (amounts_in r) ≡ Some t.amounts
+    → if_there (column r 17) (amount_in (column r 17)) ≡ Some t.cash → if_there (column r 18) (card_in r) ≡ Some t.credit → if_there (column r 19) (amount_in (column r 19)) ≡ Some t.exchange
+    → transaction_in key t.issued r ≡ Some (record t { agent = fixed_digits 8 key.agent; related = related_of t ∷ None ∷ [] })
+transaction_from key r t a b c d e f g h = rw (a, b, c, d, e, f, g, h) refl
+
+first_stored : (places : List (Option ReportedDocument)) → InEach IsStoredDocument places → IfSome (slice_index_or places 0 None) IsStoredDocument
+first_stored [] stored = tt
+first_stored (first ∷ others) stored = stored.0
+
+key_from : (r : Row) (k : ItemKey) → agent_in (column r 0) ≡ Some k.agent → code_in 10 (column r 1) ≡ Some k.number → flag_in (column r 2) ≡ k.is_canx → key_in r ≡ Some k
+key_from r k a n c = rw (a, n, c) refl
+
+item_from : (issued : CivilDay) (r : Row) (k : ItemKey) (i : Item) → i.agent ≡ k.agent → code_in 5 (column r 7) ≡ Some i.period → transaction_in k issued r ≡ Some i.transaction → flag_in (column r 8) ≡ i.lives → item_in k issued r ≡ Some i
+item_from issued r k i a p t l = rw (p, t, l, ← a) refl
+
+entry_from : (issued : CivilDay) (r : Row) (k : ItemKey) (i : Item) → key_in r ≡ Some k → item_in k issued r ≡ Some i → entry_in issued r ≡ Some (k, i)
+entry_from issued r k i a b = rw (a, b) refl
+
+-- the document's ten digits are those of the key
+number_facts : (d : ReportedDocument) → length d.number ≡ 10 → is_document d ≡ true → (fixed_digits 10 (number_of d.number) ≡ d.number) × (number_of d.number < 10 ^ 10)
+unfolding is_document
+number_facts d ten fits =
+    let digits = (and_parts (all_ascii_digits d.number) (nat_le d.check_digit 9) fits).0 in
+    (fixed_digits-number_of 10 d.number ten digits, number_of-lt d.number 10 digits (omega (arith, ten)))
+
+module _ (k : ItemKey) (i : Item) (right : IsRight k i) (stored : IsStored i.transaction) (period : i.period < 10 ^ 5) where
+  abbrev pub t : Transaction
+  t = i.transaction
+
+  agent_is : i.agent ≡ k.agent
+  agent_is = ap (λ (key : ItemKey). key.agent) right.keyed
+
+  number_is : number_of t.document.number ≡ k.number
+  number_is = ap (λ (key : ItemKey). key.number) right.keyed
+
+  transaction_back : transaction_in k t.issued (item_row (k, i)) ≡ Some t
+  transaction_back =
+      let r = item_row (k, i) in
+      let facts = facts_from t stored.places right.group in
+      let digits = number_facts t.document stored.document.number facts.sale.document in
+      let bears = (is_spelled t.agent i.agent right.bears).spelled in
+      let document = document_from k.number r t.document (code_back 3 t.document.airline stored.document.airline) (below_back (2 ^ 8) t.document.check_digit (one_digit t.document facts.sale.document)) (ap (fixed_digits 10) (sym number_is) ∙ digits.0) in
+      let agent : fixed_digits 8 k.agent ≡ t.agent = ap (fixed_digits 8) (sym agent_is) ∙ bears in
+      transaction_from k r t (kind_back t.code) document (wide_back 49 t.passenger stored.passenger)
+      (related_back r (related_of t) refl refl refl (first_stored t.related stored.related) facts.related.first) (amounts_back r t.amounts refl refl refl refl stored.amounts facts.amounts)
+      (maybe_amount_back t.cash stored.cash) (card_back r t.credit refl refl stored.credit) (maybe_amount_back t.exchange stored.exchange)
+      ∙ (λ j. Some (record t { agent = agent j; related = (sym facts.related.two) j }))
+
+  -- a right item is read back
+  pub entry_back : entry_in t.issued (item_row (k, i)) ≡ Some (k, i)
+  entry_back =
+      let r = item_row (k, i) in
+      let facts = facts_from t stored.places right.group in
+      let digits = number_facts t.document stored.document.number facts.sale.document in
+      let spelled = is_spelled t.agent i.agent right.bears in
+      let agent : agent_in (Text (code_digits 8 k.agent)) ≡ Some k.agent = subst (λ a. agent_in (Text (code_digits 8 a)) ≡ Some a) agent_is (agent_back t.agent i.agent right.bears spelled) in
+      let number : code_in 10 (Text (code_digits 10 k.number)) ≡ Some k.number = code_back 10 k.number (subst (λ n. n < 10 ^ 10) number_is digits.1) in
+      entry_from t.issued r k i (key_from r k agent number (flag_back k.is_canx)) (item_from t.issued r k i agent_is (code_back 5 i.period period) transaction_back (flag_back i.lives))

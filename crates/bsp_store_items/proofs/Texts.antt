@@ -1,0 +1,56 @@
+-- What the texts mean.
+use Rattle.std.proofs.Common.{◌≡◌, ℕ, List, [], ◌∷◌, codes, map, false, refl}
+use Rattle.std.specs.List.{range_with_len}
+use Rattle.sqlite_value.specs.declared.value.Value.TheVariants.{Null}
+use Rattle.sqlite_value.specs.declared.keys.Key.{Key}
+use Rattle.sqlite_value.specs.Keys.{ascending}
+use Rattle.sqlite_value.specs.declared.keys.Collation.TheVariants.{Binary}
+use Rattle.sqlite_sql.specs.Term.{Term, lit, col}
+use Rattle.sqlite_schema.specs.declared.command.Source.TheVariants.{Values}
+use Rattle.sqlite_schema.specs.declared.command.Command.TheVariants.{Insert, Delete, Select}
+use Rattle.sqlite_schema.specs.declared.schema.Column.{Column}
+use Rattle.sqlite_tied.specs.Compute.{everything}
+use Rattle.sqlite.specs.Listing.{understood, reads_listing}
+use Rattle.sqlite.proofs.Callers.{IsPlain, command_of}
+use Rattle.bsp_store_base.specs.Simple.{simple}
+use Rattle.bsp_store_base.specs.Schema.{our_schema, item_columns}
+use Rattle.bsp_store_base.proofs.Writes.{eq}
+
+-- ---- a row is taken out
+
+abbrev pub delete_text : List ℕ
+delete_text = codes "DELETE FROM item WHERE agent = ?1 AND number = ?2 AND canx = ?3"
+
+abbrev pub delete_test : List Term
+delete_test = eq 1 0 ∷ eq 2 1 ∷ eq 3 2 ∷ []
+
+pub delete_is : (command_of (understood our_schema delete_text) ≡ Delete 8 (record { lets = []; body = simple 14 delete_test (col 1 0 ∷ []) [] })) × IsPlain (understood our_schema delete_text)
+unfolding understood everything
+delete_is = (refl, (refl, refl))
+
+-- ---- a row is put in
+
+abbrev pub insert_text : List ℕ
+insert_text = codes "INSERT INTO item (agent, number, canx, check_digit, airline, code, issued, period, alive, name, fare, taxes, rate, commission, rel_airline, rel_number, rel_check, ca, cc, ex, vendor) VALUES (?1, ?2, ?3, ?4, ?5, ?6, ?7, ?8, ?9, ?10, ?11, ?12, ?13, ?14, ?15, ?16, ?17, ?18, ?19, ?20, ?21)"
+
+abbrev pub insert_terms : List Term
+insert_terms = lit Null ∷ map (col 0) (range_with_len 0 21)
+
+pub insert_is : (command_of (understood our_schema insert_text) ≡ Insert 8 (Values insert_terms 22)) × IsPlain (understood our_schema insert_text)
+unfolding understood everything
+insert_is = (refl, (refl, refl))
+
+-- ---- all rows
+
+abbrev pub all_text : List ℕ
+all_text = codes "SELECT agent, number, canx, check_digit, airline, code, issued, period, alive, name, fare, taxes, rate, commission, rel_airline, rel_number, rel_check, ca, cc, ex, vendor FROM item ORDER BY agent, number, canx"
+
+abbrev pub names : List (List ℕ)
+names = map (λ (c : Column). c.name) item_columns
+
+abbrev pub order : List (Term × Key)
+order = (col 1 1, ascending Binary) ∷ (col 1 2, ascending Binary) ∷ (col 1 3, ascending Binary) ∷ []
+
+pub all_is : (command_of (understood our_schema all_text) ≡ Select (record { lets = []; body = simple 14 [] (map (col 1) (range_with_len 1 21)) order }) names) × IsPlain (understood our_schema all_text) × (reads_listing our_schema all_text ≡ false)
+unfolding understood everything
+all_is = (refl, (refl, refl), refl)

@@ -1,0 +1,8 @@
+use Rattle.bsp_store_items.proofs.Calls.{adding}
+use Rattle.bsp_store_items.proofs.writing.insert_item.Goals as goal
+
+pub returns-clause-ok : goal.returns-clause-ok
+returns-clause-ok g c = (adding g.S.Store c.args.conn.now c.execute.new.self c.args.key.now c.args.item.now c.execute.result (rw (c.values-values.ensures, c.of-row.ensures) at c.execute.ensures.survives) (λ clean. rw (c.values-values.ensures, c.of-row.ensures) at (c.execute.ensures.runs clean))).0
+
+pub returns-clause-err : goal.returns-clause-err
+returns-clause-err g c = (adding g.S.Store c.args.conn.now c.execute.new.self c.args.key.now c.args.item.now c.execute.result (rw (c.values-values.ensures, c.of-row.ensures) at c.execute.ensures.survives) (λ clean. rw (c.values-values.ensures, c.of-row.ensures) at (c.execute.ensures.runs clean))).1

@@ -1,0 +1,97 @@
+-- What an item's row reads as, whatever another program wrote there.
+use Rattle.std.specs.Prelude.{ℕ, zero, suc, pos, ◌^◌, Bool, false, if◌then◌else◌, ◌==◌, List, [], ◌∷◌, codes, length, take, drop, slice_index, Option, Some, None, option_map, option_and_then}
+use Rattle.std.specs.Result.{result_ok}
+use Rattle.std.specs.Str.{bytes_eq}
+use Rattle.sqlite_value.specs.declared.value.Value.{Value}
+use Rattle.sqlite_value.specs.declared.value.Value.TheVariants.{Int, Text}
+use Rattle.sqlite_value.specs.Order.{Row, column}
+use Rattle.bsp_fields.specs.CivilDay.{CivilDay}
+use Rattle.bsp_fields.specs.Decimal.{fixed_digits}
+use Rattle.bsp_fields.specs.Zoned.{zoned_reading}
+use Rattle.bsp_ret_writer.specs.Columns.{columns}
+use Rattle.bsp_rows.specs.TransactionCode.{TransactionCode}
+use Rattle.bsp_rows.specs.TransactionCode.TheVariants.{Tktt, Rfnd, Canx}
+use Rattle.bsp_rows.specs.Amounts.{Amounts}
+use Rattle.bsp_rows.specs.CardPayment.{CardPayment}
+use Rattle.bsp_rows.specs.ReportedDocument.{ReportedDocument}
+use Rattle.bsp_rows.specs.Tax.{Tax}
+use Rattle.bsp_rows.specs.Transaction.{Transaction}
+use Rattle.bsp_rows.specs.declared.keys.ItemKey.{ItemKey}
+use Rattle.bsp_rows.specs.Item.{Item}
+use Rattle.bsp_store_base.specs.Reading.{agent_in, amount_in, below, code_in, if_there, text_in}
+
+-- ---- a column
+
+-- a text of that many characters
+abbrev pub wide_in : ℕ → Value → Option (List ℕ)
+wide_in width (Text t) = if length t == width then Some t else None
+wide_in width _ = None
+
+abbrev pub flag_in : Value → Bool
+flag_in (Int (pos n)) = n == 1
+flag_in _ = false
+
+abbrev pub kind_of : List ℕ → Option TransactionCode
+kind_of t = if bytes_eq t (codes "TKTT") then Some Tktt else (if bytes_eq t (codes "RFND") then Some Rfnd else (if bytes_eq t (codes "CANX") then Some Canx else None))
+
+abbrev pub kind_in : Value → Option TransactionCode
+kind_in v = option_and_then kind_of (text_in v)
+
+-- ---- taxes
+
+-- a tax place, unused where it begins with a space
+abbrev pub tax_in : List ℕ → Option (Option Tax)
+tax_in place = if slice_index place 0 == 32 then Some None else option_map (λ amount. Some (record { code = columns 1 2 place; amount = amount })) (result_ok (zoned_reading 11 (columns 3 13 place)))
+
+-- that many tax places
+abbrev pub taxes_in : ℕ → List ℕ → Option (List (Option Tax))
+taxes_in zero text = Some []
+taxes_in (suc n) text = option_and_then (λ tax. option_map (λ taxes. tax ∷ taxes) (taxes_in n (drop 13 text))) (tax_in (take 13 text))
+
+-- ---- a transaction
+
+abbrev pub related_in : Row → Option ReportedDocument
+related_in r =
+    option_and_then (λ a. option_and_then (λ n. option_map (λ c. record { airline = a; number = n; check_digit = c }) (below (2 ^ 8) (column r 16))) (wide_in 10 (column r 15))) (code_in 3 (column r 14))
+
+abbrev pub amounts_in : Row → Option Amounts
+amounts_in r =
+    option_and_then (λ f. option_and_then (λ ts. option_and_then (λ n. option_map (λ c. record { fare = f; taxes = ts; rate = n; commission = c }) (amount_in (column r 13))) (below (2 ^ 16) (column r 12)))
+    (option_and_then (taxes_in 6) (wide_in 78 (column r 11)))) (amount_in (column r 10))
+
+abbrev pub card_in : Row → Option CardPayment
+card_in r = option_and_then (λ a. option_map (λ v. record { amount = a; vendor = v }) (wide_in 2 (column r 20))) (amount_in (column r 18))
+
+-- the document with the number of the key
+abbrev pub document_in : ℕ → Row → Option ReportedDocument
+document_in number r = option_and_then (λ a. option_map (λ c. record { airline = a; number = fixed_digits 10 number; check_digit = c }) (below (2 ^ 8) (column r 3))) (code_in 3 (column r 4))
+
+-- the transaction of a key's agent and number, with this day of issue
+abbrev pub transaction_in : ItemKey → CivilDay → Row → Option Transaction
+transaction_in key issued r =
+    option_and_then (λ code. option_and_then (λ document. option_and_then (λ passenger. option_and_then (λ related. option_and_then (λ amounts. option_and_then (λ cash. option_and_then (λ credit. option_map (λ exchange. record {
+      code = code;
+      agent = fixed_digits 8 key.agent;
+      document = document;
+      issued = issued;
+      passenger = passenger;
+      related = related ∷ None ∷ [];
+      amounts = amounts;
+      cash = cash;
+      credit = credit;
+      exchange = exchange;
+    }) (if_there (column r 19) (amount_in (column r 19)))) (if_there (column r 18) (card_in r))) (if_there (column r 17) (amount_in (column r 17))))
+    (if_there (column r 10) (amounts_in r))) (if_there (column r 14) (related_in r))) (wide_in 49 (column r 9))) (document_in key.number r)) (kind_in (column r 5))
+
+-- ---- an entry
+
+abbrev pub key_in : Row → Option ItemKey
+key_in r = option_and_then (λ agent. option_map (λ number. record { agent = agent; number = number; is_canx = flag_in (column r 2) }) (code_in 10 (column r 1))) (agent_in (column r 0))
+
+-- the item of a key, with this day of issue
+abbrev pub item_in : ItemKey → CivilDay → Row → Option Item
+item_in key issued r = option_and_then (λ period. option_map (λ t. record { agent = key.agent; period = period; transaction = t; lives = flag_in (column r 8) }) (transaction_in key issued r)) (code_in 5 (column r 7))
+
+-- the entry, with this day of issue
+abbrev pub entry_in : CivilDay → Row → Option (ItemKey × Item)
+entry_in issued r = option_and_then (λ (key : ItemKey). option_map (λ item. (key, item)) (item_in key issued r)) (key_in r)

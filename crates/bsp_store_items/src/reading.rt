@@ -1,0 +1,196 @@
+//! Reading the items back.
+
+ghost use Rattle.std.specs.Prelude.{◌≡◌, ◌≢◌, false, map, None, IfOk, IsTrue, OnOk, IsPermutation};
+ghost use Rattle.sqlite.specs.Held.{state};
+ghost use Rattle.sqlite.specs.State.{HasCleanDisk};
+ghost use Rattle.sqlite_value.specs.Order.{column};
+ghost use Rattle.sqlite_value.specs.declared.value.Value.TheVariants.{Int};
+ghost use Rattle.bsp_fields.specs.CivilDay.{CivilDay, is_day};
+ghost use Rattle.bsp_fields.specs.Days.{day_number};
+ghost use Rattle.bsp_store_base.specs.Schema.{our_schema};
+ghost use Rattle.bsp_store_base.specs.Kept.{Reads, columns_of, KeepsRows, Spares};
+ghost use Rattle.bsp_store_items.specs.Reading.{amounts_in, card_in, document_in, entry_in, item_in, key_in, related_in, transaction_in};
+ghost use Rattle.std.specs.FinMap.{entries};
+ghost use Rattle.bsp_store_base.specs.Content.{Content, form};
+ghost use Rattle.bsp_store_base.specs.Forms.{IsFormed};
+ghost use Rattle.bsp_store_base.specs.Columns.{item_row};
+ghost use Rattle.bsp_store_base.specs.Reading.{amount_in, if_there};
+
+use crate::columns::{read_byte, read_flag, read_kind, read_rate, read_taxes, read_wide};
+use bsp_fields::{Amount, Day, DocNumber};
+use bsp_rows::{Amounts, CardPayment, Item, ItemKey, ReportedDocument, Transaction};
+use bsp_store_base::{agent_at, airline_at, amount_at, day_at, is_null, number_at, period_at};
+use sqlite::{Alter, Connection, Error, Row};
+
+/// The rows of the items, in the order of their keys.
+///
+/// # Errors
+///
+/// What the connection answers.
+pub fn all_items<S: Alter>(conn: &mut Connection<S>) -> Result<Vec<Row>, Error>
+    ensures rows { HasCleanDisk (state S.Store conn.new) → IfOk result (λ found. (state S.Store conn.old).now.schema ≡ our_schema → IsPermutation (map (columns_of 21) ((state S.Store conn.old).now.trees 14)) found.items) }
+    ensures read { OnOk result (conn.old.schema ≡ our_schema → Reads S.Store conn.old conn.new) }
+    ensures mode { conn.old.in_transaction ≡ false → conn.new.in_transaction ≡ false }
+    ensures order { HasCleanDisk (state S.Store conn.new) → IfOk result (λ found. (state S.Store conn.old).now.schema ≡ our_schema → (c : Content) → IsFormed c → KeepsRows form c (state S.Store conn.old).now.trees → found.items ≡ map item_row (entries c.items)) }
+    ensures spares { conn.old.schema ≡ our_schema → Spares S.Store conn.old conn.new }
+{
+    conn.query_all(
+        "SELECT agent, number, canx, check_digit, airline, code, issued, period, alive, name, fare, taxes, \
+         rate, commission, rel_airline, rel_number, rel_check, ca, cc, ex, vendor FROM item \
+         ORDER BY agent, number, canx",
+        &[],
+    )
+}
+
+/// Reads an item and its key out of a row, whatever another program wrote there.
+pub fn read_item(row: &Row) -> Option<(ItemKey, Item)>
+    ensures day { (d : CivilDay) → IsTrue (is_day d) → column row.now 6 ≡ Int (day_number d) → result ≡ entry_in d row.now }
+    ensures none { ((d : CivilDay) → IsTrue (is_day d) → column row.now 6 ≢ Int (day_number d)) → result ≡ None }
+{
+    let issued = day_at(row, 6)?;
+    entry_of(row, issued)
+}
+
+fn entry_of(row: &Row, issued: Day) -> Option<(ItemKey, Item)>
+    ensures { result ≡ entry_in issued row.now }
+{
+    let key = read_key(row)?;
+    let item = item_of(row, &key, issued)?;
+    Some((key, item))
+}
+
+fn item_of(row: &Row, key: &ItemKey, issued: Day) -> Option<Item>
+    ensures { result ≡ item_in key.now issued row.now }
+{
+    let period = period_at(row, 7)?;
+    let transaction = read_transaction(row, key, issued)?;
+    Some(Item {
+        agent: key.agent,
+        period,
+        transaction,
+        lives: read_flag(row, 8),
+    })
+}
+
+fn read_key(row: &Row) -> Option<ItemKey>
+    ensures { result ≡ key_in row.now }
+{
+    let agent = agent_at(row, 0)?;
+    let number = number_at(row, 1)?;
+    Some(ItemKey {
+        agent,
+        number,
+        is_canx: read_flag(row, 2),
+    })
+}
+
+fn read_transaction(row: &Row, key: &ItemKey, issued: Day) -> Option<Transaction>
+    ensures { result ≡ transaction_in key.now issued row.now }
+{
+    let code = read_kind(row, 5)?;
+    let document = read_document(row, key.number)?;
+    let passenger = read_wide::<49>(row, 9)?;
+    let related = maybe_related(row)?;
+    let amounts = maybe_amounts(row)?;
+    let cash = maybe_amount(row, 17)?;
+    let credit = maybe_card(row)?;
+    let exchange = maybe_amount(row, 19)?;
+    Some(Transaction {
+        code,
+        agent: key.agent.digits(),
+        document,
+        issued,
+        passenger,
+        related: [related, None],
+        amounts,
+        cash,
+        credit,
+        exchange,
+    })
+}
+
+// ---- parts of a transaction
+
+fn read_document(row: &Row, number: DocNumber) -> Option<ReportedDocument>
+    ensures { result ≡ document_in number row.now }
+{
+    let airline = airline_at(row, 4)?;
+    let check_digit = read_byte(row, 3)?;
+    Some(ReportedDocument {
+        airline,
+        number: number.digits(),
+        check_digit,
+    })
+}
+
+fn read_related(row: &Row) -> Option<ReportedDocument>
+    ensures { result ≡ related_in row.now }
+{
+    let airline = airline_at(row, 14)?;
+    let number = read_wide::<10>(row, 15)?;
+    let check_digit = read_byte(row, 16)?;
+    Some(ReportedDocument {
+        airline,
+        number,
+        check_digit,
+    })
+}
+
+fn maybe_related(row: &Row) -> Option<Option<ReportedDocument>>
+    ensures { result ≡ if_there (column row.now 14) (related_in row.now) }
+{
+    if is_null(row, 14) {
+        return Some(None);
+    }
+    Some(Some(read_related(row)?))
+}
+
+fn read_amounts(row: &Row) -> Option<Amounts>
+    ensures { result ≡ amounts_in row.now }
+{
+    let fare = amount_at(row, 10)?;
+    let taxes = read_taxes(row, 11)?;
+    let rate = read_rate(row, 12)?;
+    let commission = amount_at(row, 13)?;
+    Some(Amounts {
+        fare,
+        taxes,
+        rate,
+        commission,
+    })
+}
+
+fn maybe_amounts(row: &Row) -> Option<Option<Amounts>>
+    ensures { result ≡ if_there (column row.now 10) (amounts_in row.now) }
+{
+    if is_null(row, 10) {
+        return Some(None);
+    }
+    Some(Some(read_amounts(row)?))
+}
+
+fn read_card(row: &Row) -> Option<CardPayment>
+    ensures { result ≡ card_in row.now }
+{
+    let amount = amount_at(row, 18)?;
+    let vendor = read_wide::<2>(row, 20)?;
+    Some(CardPayment { amount, vendor })
+}
+
+fn maybe_card(row: &Row) -> Option<Option<CardPayment>>
+    ensures { result ≡ if_there (column row.now 18) (card_in row.now) }
+{
+    if is_null(row, 18) {
+        return Some(None);
+    }
+    Some(Some(read_card(row)?))
+}
+
+fn maybe_amount(row: &Row, at: usize) -> Option<Option<Amount>>
+    ensures { result ≡ if_there (column row.now at) (amount_in (column row.now at)) }
+{
+    if is_null(row, at) {
+        return Some(None);
+    }
+    Some(Some(amount_at(row, at)?))
+}

@@ -1,0 +1,47 @@
+-- The closed periods of a plan, closed one after another.
+use Rattle.std.proofs.Common.{◌≡◌, ℕ, List, [], ◌∷◌, map, refl, sym, ap, subst, ◌∙◌}
+use Rattle.std.specs.Prelude.{IsOk, Some}
+use Rattle.std.specs.FinMap.{FinMap, entries, get}
+use Rattle.std.specs.List.{AllByRecursion, Contains}
+use Rattle.std.specs.declared.cmp.Ordering.{Ordering}
+use Rattle.std.specs.Cmp.{IsTotalOrder}
+use Rattle.std.specs.FinMap.{IsAntisymmetric}
+use Rattle.bsp_rows.specs.History.{IsReached}
+use Rattle.bsp_rows.specs.History.Request.{Close}
+use Rattle.bsp_rows.specs.Published.{Published}
+use Rattle.bsp_rows.proofs.ListLemmas.{contains_head, contains_tail}
+use Rattle.bsp_rows.specs.Period.{Period}
+use Rattle.bsp_rows.specs.Rows.{Rows}
+use Rattle.bsp_rows.specs.Writes.{after_request, request_answer}
+use Rattle.bsp_rows.proofs.MapLemmas.{entry_get}
+use Rattle.bsp_store_load.specs.Entries.{MayAll, after_all}
+
+abbrev pub closing : ℕ × Period → Rows → Rows
+closing e = after_request (Close e.1.code)
+
+abbrev pub MayClose : (Period → Type 0) → ℕ × Period → Rows → Type 0
+MayClose P e rows = P e.1 × IsOk (request_answer (Close e.1.code) rows)
+
+pub record Closes (P : Period → Type 0) (es : List (ℕ × Period)) (rows : Rows) (p : Published) : Type 0 where
+  pub may : MayAll closing (MayClose P) es rows
+  pub after : after_all closing es rows ≡ record rows { published = p }
+
+pub closes_all : (P : Period → Type 0) (es : List (ℕ × Period)) (rows : Rows) (p : Published) → AllByRecursion (λ e. P e.1) es → IsReached rows.published (map (λ e. Close e.1.code) es) p → Closes P es rows p
+closes_all P [] rows p all reached = record { may = tt; after = ap (λ q. record rows { published = q }) (sym reached) }
+closes_all P (e ∷ es) rows p all (next, accepted, reached) =
+    let same : closing e rows ≡ record rows { published = next } = rw accepted refl in
+    let ok : IsOk (request_answer (Close e.1.code) rows) = rw accepted refl in
+    let rest = closes_all P es (record rows { published = next }) p all.1 reached in
+    record {
+      may = ((all.0, ok), subst (MayAll closing (MayClose P) es) (sym same) rest.may);
+      after = ap (after_all closing es) same ∙ rest.after;
+    }
+
+-- what holds of each entry that is found holds of all
+pub of_each : {A : Type 0} (P : A → Type 0) (xs : List A) → ((x : A) → Contains xs x → P x) → AllByRecursion P xs
+of_each P [] each = tt
+of_each P (x ∷ xs) each = (each x (contains_head x xs), of_each P xs (λ y has. each y (contains_tail x xs y has)))
+
+module _ {K X : Type 0} {R : K → K → Ordering} (o : IsTotalOrder R) (exact : IsAntisymmetric R) where
+  pub of_entries : (P : K × X → Type 0) (m : FinMap R X) → ((k : K) (v : X) → get m k ≡ Some v → P (k, v)) → AllByRecursion P (entries m)
+  of_entries P m each = of_each P (entries m) (λ e has. each e.0 e.1 (entry_get o exact m e.0 e.1 has))

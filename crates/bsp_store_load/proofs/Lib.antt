@@ -1,0 +1,16 @@
+pub mod Lists
+pub mod Remaining
+pub mod PutLemmas
+pub mod CloseLemmas
+pub mod TableLemmas
+pub mod PlanReads
+pub mod Publishing
+pub mod Moves
+pub mod Puttings
+pub mod Building
+pub mod RangeReads
+pub mod ItemReads
+pub mod MemoReads
+pub mod Maps
+pub mod PlainRows
+pub mod Tallies

@@ -1,0 +1,42 @@
+-- Rows have one content: the tallies to which some of them add, and nothing beside the rows.
+use Rattle.std.proofs.Common.{◌≡◌, Bool, Option, Some, None, refl, sym, ap, ◌∙◌}
+use Rattle.std.specs.Prelude.{unwrap_or}
+use Rattle.std.specs.FinMap.{FinMap, get, entries, entries_sorted, get-entries, get-from_entries, same_map, values}
+use Rattle.std.specs.FinMap.Entries.{find}
+use Rattle.bsp_maps.proofs.PickLemmas.{find_passing, wanted}
+use Rattle.bsp_rows.specs.Tally.{Tally}
+use Rattle.bsp_rows.specs.Rows.{Rows}
+use Rattle.bsp_rows.specs.Tallies.{key_tally, tally_cmp, tally_of}
+use Rattle.bsp_rows.specs.declared.keys.TallyKey.{TallyKey}
+use Rattle.bsp_rows.proofs.KeyOrders.{tally_exact, tally_total}
+use Rattle.bsp_memory_rows.specs.Kept.{AreAddedUp, tally_at}
+use Rattle.bsp_memory_rows.specs.Lookups.{has_rows}
+use Rattle.bsp_store_base.specs.Content.{Content, content_with}
+use Rattle.bsp_store_load.specs.Contents.{IsContentOf, used, used_at, used_tallies}
+
+abbrev adds : TallyKey → Tally → Bool
+adds k t = has_rows t
+
+same_used : (k : TallyKey) (found : Option Tally) → wanted tally_cmp tally_total tally_exact adds k found ≡ used_at found
+same_used k None = refl
+same_used k (Some t) = refl
+
+pub get-used : (m : FinMap tally_cmp Tally) (k : TallyKey) → get (used_tallies m) k ≡ used_at (get m k)
+get-used m k =
+    get-from_entries tally_total _ k
+    ∙ find_passing tally_cmp tally_total tally_exact adds k (entries m) (entries_sorted m)
+    ∙ same_used k (find tally_cmp k (entries m))
+    ∙ ap used_at (sym (get-entries m k))
+
+module _ (rows : Rows) where
+  there : (kept : FinMap tally_cmp Tally) (k : TallyKey) (found : Option Tally) → get kept k ≡ found → tally_at kept k ≡ tally_of k rows → used_at found ≡ used (tally_of k rows)
+  there kept k None is at = ap used (sym (ap (λ o. unwrap_or o (key_tally k)) is) ∙ at)
+  there kept k (Some t) is at = ap used (sym (ap (λ o. unwrap_or o (key_tally k)) is) ∙ at)
+
+  -- tallies that add up, less those to which no row adds
+  pub content_is : (kept : FinMap tally_cmp Tally) → AreAddedUp (values rows.items) (values rows.memos) kept → IsContentOf rows (content_with rows (used_tallies kept))
+  content_is kept are = record { same = refl; tallies = λ k. get-used kept k ∙ there kept k (get kept k) refl (are k) }
+
+  -- rows have one content
+  pub one_content : (c d : Content) → IsContentOf rows c → IsContentOf rows d → c ≡ d
+  one_content c d a b = a.same ∙ ap (content_with rows) (same_map tally_total tally_exact c.tallies d.tallies (λ k. a.tallies k ∙ sym (b.tallies k))) ∙ sym b.same

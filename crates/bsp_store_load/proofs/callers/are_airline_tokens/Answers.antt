@@ -1,0 +1,11 @@
+use Rattle.std.proofs.Common.{true, sym, ap, ◌∙◌}
+use Rattle.std.specs.Cmp.{nat_cmp_total}
+use Rattle.std.specs.List.{filter}
+use Rattle.bsp_store_base.specs.Columns.{airline_token_row}
+use Rattle.bsp_store_load.proofs.Maps.{all_have, each_rows}
+use Rattle.bsp_store_load.proofs.callers.are_airline_tokens.Goals as goal
+
+pub returns : goal.returns
+returns c =
+    let same = each_rows nat_cmp_total c.args.tables.now.airlines c.map.result.now airline_token_row (c.map.ensures ∙ ap (λ m. m.map) c.airline_tokens.ensures) c.are_rows_of.ensures.ordered in
+    (λ t. c.are_rows_of.ensures.same t ∙ same, λ is. c.are_rows_of.ensures.whole (all_have (filter (λ e. true) c.map.result.now.entries)) (is ∙ sym same))

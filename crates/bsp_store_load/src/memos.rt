@@ -1,0 +1,72 @@
+//! The tables of memos and of tallies: each row against those in memory.
+
+ghost use Rattle.std.specs.Prelude.{◌≡◌, ◌↔◌, map, IsTrue};
+ghost use Rattle.std.specs.FinMap.{entries};
+ghost use Rattle.bsp_store_base.specs.Columns.{memo_row, tally_row};
+ghost use Rattle.bsp_store_load.specs.Contents.{used_tallies};
+ghost use Rattle.bsp_memory_tables.specs.MemoTables.{memo_rows};
+ghost use Rattle.bsp_memory_tables.specs.TallyTables.{tally_rows};
+
+use crate::equal::is_row;
+use crate::listed::{Each, RowOf, are_rows_of};
+use bsp_maps::Rule;
+use bsp_memory_tables::{MemoTable, TallyTable};
+use bsp_rows::{Memo, MemoKey, Tally, TallyKey};
+use bsp_store_memos::{MemoRow, TallyRow};
+use sqlite::Row;
+
+/// Memos.
+#[derive(Clone, Copy, Debug)]
+pub(crate) struct StoredMemos;
+
+impl RowOf<MemoKey, Memo> for StoredMemos {
+    ghost use Rattle.bsp_store_base.specs.Columns.{memo_row};
+
+    ghost row_of = { memo_row };
+
+    fn is_row_of(&self, row: &Row, key: &MemoKey, memo: &Memo) -> bool {
+        is_row(row, &MemoRow::of(key, memo).values())
+    }
+}
+
+/// Tallies.
+#[derive(Clone, Copy, Debug)]
+struct StoredTallies;
+
+impl RowOf<TallyKey, Tally> for StoredTallies {
+    ghost use Rattle.bsp_store_base.specs.Columns.{tally_row};
+
+    ghost row_of = { tally_row };
+
+    fn is_row_of(&self, row: &Row, key: &TallyKey, tally: &Tally) -> bool {
+        is_row(row, &TallyRow::of(key, tally).values())
+    }
+}
+
+/// A tally to which some row adds has a row.
+#[derive(Clone, Copy, Debug)]
+struct Used;
+
+impl Rule<TallyKey, Tally> for Used {
+    ghost use Rattle.bsp_memory_rows.specs.Lookups.{has_rows};
+
+    ghost holds = { λ rule key tally. has_rows tally };
+
+    fn holds(&self, _key: &TallyKey, tally: &Tally) -> bool {
+        tally.accepted > 0 || tally.memo_count > 0
+    }
+}
+
+/// Whether the rows are those of the memos.
+pub(crate) fn are_memos(rows: &[Row], table: &MemoTable) -> bool
+    ensures { IsTrue result ↔ (rows.now ≡ map memo_row (entries (memo_rows table.now))) }
+{
+    are_rows_of(&StoredMemos, &Each, rows, table.map())
+}
+
+/// Whether the rows are those of the tallies to which some row adds.
+pub(crate) fn are_tallies(rows: &[Row], table: &TallyTable) -> bool
+    ensures { IsTrue result ↔ (rows.now ≡ map tally_row (entries (used_tallies (tally_rows table.now)))) }
+{
+    are_rows_of(&StoredTallies, &Used, rows, table.map())
+}

@@ -1,0 +1,157 @@
+//! The plan that rows say, published in tables in memory.
+
+ghost use Rattle.std.specs.Prelude.{◌≡◌, ◌∷◌, ℕ, List, map, true, IfOk, IsSomeAnd, OnOk, Some};
+ghost use Rattle.std.specs.List.{AllByRecursion};
+ghost use Rattle.bsp_rows.specs.History.{IsReached, IsTextOf};
+ghost use Rattle.bsp_rows.specs.History.Request.{Close, SetDay};
+ghost use Rattle.bsp_rows.specs.Published.{Published, opening};
+ghost use Rattle.bsp_rows.specs.SoundPlan.{IsSoundPlan};
+ghost use Rattle.bsp_rows.specs.Period.{Period as PeriodEntry};
+ghost use Rattle.bsp_rows.specs.Rate.{Rate as RateEntry};
+ghost use Rattle.bsp_rows.specs.Terms.{Terms as TermsEntry};
+ghost use Rattle.bsp_store_base.specs.Columns.{Meta, airline_row, meta_rows, period_row, placed, rate_row, terms_rows};
+ghost use Rattle.bsp_store_base.specs.Forms.{AreTerms, IsAirline, IsMeta, IsPeriod, IsRate};
+ghost use Rattle.bsp_memory_rows.specs.Tables.{IsDerived, rows_of};
+ghost use Rattle.bsp_store_load.specs.Stored.{AreRowsOfPlan, IsFormedPlan};
+
+use crate::plan::Periods;
+use crate::puts::put_rows;
+use crate::stored::StoredRows;
+use bsp_memory_rows::{NoRoom, Tables};
+use bsp_rows::{AirlineCode, Day, Period, PlanText, Rate, Terms};
+use bsp_store_plan::{read_airline, read_meta, read_period, read_rate, read_terms};
+use sqlite::Row;
+use std::alloc::{AllocError, Global};
+
+/// The business day and the count of closed periods of the first row.
+fn meta_in(rows: &[Row]) -> Option<(Day, u64)>
+    ensures { (meta : Meta) → IsMeta meta → rows.now ≡ meta_rows (Some meta) → result ≡ Some (meta.day, meta.closed) }
+{
+    read_meta(rows.first()?)
+}
+
+/// The terms of the first row.
+fn terms_in(rows: &[Row]) -> Option<Terms>
+    ensures { (terms : TermsEntry) → AreTerms terms → rows.now ≡ terms_rows (Some terms) → result ≡ Some terms }
+{
+    read_terms(rows.first()?)
+}
+
+/// The airlines of rows; none where one reads as none.
+fn airlines_in(alloc: Global, rows: &[Row]) -> Result<Option<Vec<AirlineCode>>, AllocError>
+    ensures { IfOk result (λ found. (values : List ℕ) → AllByRecursion IsAirline values → rows.now ≡ map airline_row (placed 0 values) → IsSomeAnd found (λ v. v.items ≡ values)) }
+{
+    let mut found = Vec::new(alloc);
+    for row in rows {
+        let Some(airline) = read_airline(row) else {
+            return Ok(None);
+        };
+        found.push(airline)?;
+    }
+    Ok(Some(found))
+}
+
+/// The rates of rows; none where one reads as none.
+fn rates_in(alloc: Global, rows: &[Row]) -> Result<Option<Vec<Rate>>, AllocError>
+    ensures { IfOk result (λ found. (values : List RateEntry) → AllByRecursion IsRate values → rows.now ≡ map rate_row (placed 0 values) → IsSomeAnd found (λ v. v.items ≡ values)) }
+{
+    let mut found = Vec::new(alloc);
+    for row in rows {
+        let Some(rate) = read_rate(row) else {
+            return Ok(None);
+        };
+        found.push(rate)?;
+    }
+    Ok(Some(found))
+}
+
+/// The periods of rows; none where one reads as none.
+fn periods_in(alloc: Global, rows: &[Row]) -> Result<Option<Vec<Period>>, AllocError>
+    ensures { IfOk result (λ found. (values : List PeriodEntry) → AllByRecursion IsPeriod values → rows.now ≡ map period_row (placed 0 values) → IsSomeAnd found (λ v. v.items ≡ values)) }
+{
+    let mut found = Vec::new(alloc);
+    for row in rows {
+        let Some(period) = read_period(row) else {
+            return Ok(None);
+        };
+        found.push(period)?;
+    }
+    Ok(Some(found))
+}
+
+/// The plan's text that rows of terms say, with the airlines, rates and periods; none where there are no terms,
+/// or a row reads as none.
+fn text_of(alloc: Global, rows: &StoredRows) -> Result<Option<PlanText>, AllocError>
+    ensures { IfOk result (λ found. (p : Published) (terms : TermsEntry) → p.terms ≡ Some terms → IsFormedPlan p → AreRowsOfPlan p rows.now → IsSomeAnd found (IsTextOf p)) }
+{
+    let Some(terms) = terms_in(&rows.terms) else {
+        return Ok(None);
+    };
+    let Some(airlines) = airlines_in(alloc, &rows.airlines)? else {
+        return Ok(None);
+    };
+    let Some(rates) = rates_in(alloc, &rows.rates)? else {
+        return Ok(None);
+    };
+    let Some(periods) = periods_in(alloc, &rows.periods)? else {
+        return Ok(None);
+    };
+    Ok(Some(PlanText {
+        terms,
+        airlines,
+        rates,
+        periods,
+    }))
+}
+
+/// Publishes the entries that rows say, if there are terms, and answers false where that is refused.
+fn publish_rows(alloc: Global, tables: &mut Tables, rows: &StoredRows) -> Result<bool, NoRoom>
+    ensures derived { OnOk result (IsDerived tables.old → IsDerived tables.new) }
+    ensures plan { IfOk result (λ done. (p : Published) → IsSoundPlan p → IsFormedPlan p → AreRowsOfPlan p rows.now → (rows_of tables.old).published ≡ opening
+        → (done ≡ true) × (next : Published) × (rows_of tables.new ≡ record (rows_of tables.old) { published = next }) × IsReached next (SetDay p.day ∷ map (λ code. Close code) p.closed) p) }
+{
+    let terms = rows.terms.as_slice();
+    if terms.is_empty() {
+        return Ok(true);
+    }
+    match text_of(alloc, rows)? {
+        Some(text) => Ok(tables.publish(&text)?.is_ok()),
+        None => Ok(false),
+    }
+}
+
+/// Sets the business day and closes the periods that rows say, and answers false where that is refused.
+fn move_on(tables: &mut Tables, rows: &StoredRows) -> Result<bool, NoRoom>
+    ensures derived { OnOk result (IsDerived tables.old → IsDerived tables.new) }
+    ensures plan { IfOk result (λ done. (p : Published) → IsSoundPlan p → IsFormedPlan p → AreRowsOfPlan p rows.now → IsReached (rows_of tables.old).published (SetDay p.day ∷ map (λ code. Close code) p.closed) p
+        → (done ≡ true) × (rows_of tables.new ≡ record (rows_of tables.old) { published = p })) }
+{
+    let Some((day, closed)) = meta_in(&rows.meta) else {
+        return Ok(false);
+    };
+    let closed = closed as usize;
+    let periods = rows.periods.as_slice();
+    if closed > periods.len() {
+        return Ok(false);
+    }
+    if tables.set_day(day)?.is_err() {
+        return Ok(false);
+    }
+    put_rows(&Periods, tables, &periods[..closed])
+}
+
+/// Makes the plan that rows say, and answers false where there is none.
+pub(crate) fn put_plan(
+    alloc: Global,
+    tables: &mut Tables,
+    rows: &StoredRows,
+) -> Result<bool, NoRoom>
+    ensures derived { OnOk result (IsDerived tables.old → IsDerived tables.new) }
+    ensures plan { IfOk result (λ done. (p : Published) → IsSoundPlan p → IsFormedPlan p → AreRowsOfPlan p rows.now → (rows_of tables.old).published ≡ opening
+        → (done ≡ true) × (rows_of tables.new ≡ record (rows_of tables.old) { published = p })) }
+{
+    if !publish_rows(alloc, tables, rows)? {
+        return Ok(false);
+    }
+    move_on(tables, rows)
+}

@@ -1,0 +1,148 @@
+ghost use Rattle.std.specs.Prelude.{◌≡◌, false, map, None, OnOk, OnErr, IfOk, IsPermutation};
+ghost use Rattle.std.specs.FinMap.{get, insert, remove, entries};
+ghost use Rattle.sqlite.specs.Held.{state};
+ghost use Rattle.sqlite.specs.State.{HasCleanDisk};
+ghost use Rattle.sqlite.specs.Values.{bound};
+ghost use Rattle.bsp_store_base.specs.Columns.{tally_row};
+ghost use Rattle.bsp_store_base.specs.Content.{Content, form};
+ghost use Rattle.bsp_store_base.specs.Schema.{our_schema};
+ghost use Rattle.bsp_store_base.specs.Kept.{Stands, Falls, IsInside, Reads, columns_of, KeepsRows, Spares};
+ghost use Rattle.bsp_store_base.specs.Synced.{with_value};
+ghost use Rattle.bsp_store_memos.specs.Written.{tally_written};
+ghost use Rattle.bsp_store_base.specs.Forms.{IsFormed};
+
+use bsp_rows::{Tally, TallyKey};
+use bsp_store_base::{agent_digits, airline_digits, period_digits};
+use sqlite::{Alter, Connection, Error, Row};
+use sqlite_value::value::ValueRef;
+
+/// What is written of a tally: its key in digits, its counts and its sums.
+#[derive(Clone, Copy, Debug)]
+pub struct TallyRow {
+    agent: [u8; 8],
+    airline: [u8; 3],
+    period: [u8; 5],
+    accepted: u32,
+    living: u32,
+    canx: u32,
+    memo_count: u32,
+    cash: i64,
+    credit: i64,
+    commission: i64,
+    memos: i64,
+}
+
+impl TallyRow {
+    /// What is written of a tally under its key.
+    pub fn of(key: &TallyKey, tally: &Tally) -> TallyRow
+        ensures { tally_written result ≡ tally_row (key.now, tally.now) }
+    {
+        TallyRow {
+            agent: agent_digits(key.agent),
+            airline: airline_digits(key.airline),
+            period: period_digits(key.period),
+            accepted: tally.accepted,
+            living: tally.living,
+            canx: tally.canx,
+            memo_count: tally.memo_count,
+            cash: tally.cash,
+            credit: tally.credit,
+            commission: tally.commission,
+            memos: tally.memos,
+        }
+    }
+
+    /// The values of the row, column by column.
+    pub fn values(&self) -> [ValueRef<'_>; 11]
+        ensures { bound result ≡ tally_written self.now }
+    {
+        [
+            ValueRef::Text(&self.agent),
+            ValueRef::Text(&self.airline),
+            ValueRef::Text(&self.period),
+            ValueRef::Int(self.accepted as i64),
+            ValueRef::Int(self.living as i64),
+            ValueRef::Int(self.canx as i64),
+            ValueRef::Int(self.memo_count as i64),
+            ValueRef::Int(self.cash),
+            ValueRef::Int(self.credit),
+            ValueRef::Int(self.commission),
+            ValueRef::Int(self.memos),
+        ]
+    }
+}
+
+fn delete_tally<S: Alter>(conn: &mut Connection<S>, key: &TallyKey) -> Result<usize, Error>
+    ensures ok { OnOk result ((now last a b : Content) → Stands form S.Store conn.old now last a b → IsInside form S.Store conn.old → Stands form S.Store conn.new (record now { tallies = remove now.tallies key.now }) last a b × IsInside form S.Store conn.new) }
+    ensures err { OnErr result ((now last a b : Content) → Stands form S.Store conn.old now last a b → IsInside form S.Store conn.old → Falls form S.Store conn.new last a b) }
+{
+    let agent = agent_digits(key.agent);
+    let airline = airline_digits(key.airline);
+    let period = period_digits(key.period);
+    conn.execute(
+        "DELETE FROM tally WHERE agent = ?1 AND airline = ?2 AND period = ?3",
+        &[
+            ValueRef::Text(&agent),
+            ValueRef::Text(&airline),
+            ValueRef::Text(&period),
+        ],
+    )
+}
+
+fn insert_tally<S: Alter>(
+    conn: &mut Connection<S>,
+    key: &TallyKey,
+    tally: &Tally,
+) -> Result<usize, Error>
+    ensures ok { OnOk result ((now last a b : Content) → get now.tallies key.now ≡ None → Stands form S.Store conn.old now last a b → IsInside form S.Store conn.old → Stands form S.Store conn.new (record now { tallies = insert now.tallies key.now tally.now }) last a b × IsInside form S.Store conn.new) }
+    ensures err { OnErr result ((now last a b : Content) → Stands form S.Store conn.old now last a b → IsInside form S.Store conn.old → Falls form S.Store conn.new last a b) }
+{
+    let row = TallyRow::of(key, tally);
+    conn.execute(
+        "INSERT INTO tally (agent, airline, period, accepted, living, canx, memo_count, cash, credit, \
+         commission, memos) VALUES (?1, ?2, ?3, ?4, ?5, ?6, ?7, ?8, ?9, ?10, ?11)",
+        &row.values(),
+    )
+}
+
+/// Makes the row of a key that of a tally, or leaves none.
+///
+/// # Errors
+///
+/// Where the store fails; then the transaction is to be rolled back.
+pub fn put_tally<S: Alter>(
+    conn: &mut Connection<S>,
+    key: TallyKey,
+    tally: Option<Tally>,
+) -> Result<(), Error>
+    ensures ok { OnOk result ((now last a b : Content) → Stands form S.Store conn.old now last a b → IsInside form S.Store conn.old → Stands form S.Store conn.new (record now { tallies = with_value key tally now.tallies }) last a b × IsInside form S.Store conn.new) }
+    ensures err { OnErr result ((now last a b : Content) → Stands form S.Store conn.old now last a b → IsInside form S.Store conn.old → Falls form S.Store conn.new last a b) }
+{
+    delete_tally(conn, &key)?;
+    match &tally {
+        Some(tally) => {
+            insert_tally(conn, &key, tally)?;
+            Ok(())
+        }
+        None => Ok(()),
+    }
+}
+
+/// All rows of the table, in the order of their keys.
+///
+/// # Errors
+///
+/// Where the store fails.
+pub fn all_tallies<S: Alter>(conn: &mut Connection<S>) -> Result<Vec<Row>, Error>
+    ensures rows { HasCleanDisk (state S.Store conn.new) → IfOk result (λ found. (state S.Store conn.old).now.schema ≡ our_schema → IsPermutation (map (columns_of 11) ((state S.Store conn.old).now.trees 18)) found.items) }
+    ensures read { OnOk result (conn.old.schema ≡ our_schema → Reads S.Store conn.old conn.new) }
+    ensures mode { conn.old.in_transaction ≡ false → conn.new.in_transaction ≡ false }
+    ensures order { HasCleanDisk (state S.Store conn.new) → IfOk result (λ found. (state S.Store conn.old).now.schema ≡ our_schema → (c : Content) → IsFormed c → KeepsRows form c (state S.Store conn.old).now.trees → found.items ≡ map tally_row (entries c.tallies)) }
+    ensures spares { conn.old.schema ≡ our_schema → Spares S.Store conn.old conn.new }
+{
+    conn.query_all(
+        "SELECT agent, airline, period, accepted, living, canx, memo_count, cash, credit, commission, memos \
+         FROM tally ORDER BY agent, airline, period",
+        &[],
+    )
+}

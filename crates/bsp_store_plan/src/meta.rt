@@ -1,0 +1,97 @@
+ghost use Rattle.std.specs.Prelude.{◌≡◌, ◌<◌, ◌^◌, map, None, Some, OnOk, OnErr, IfOk, false, IsPermutation};
+ghost use Rattle.sqlite.specs.Values.{bound};
+ghost use Rattle.sqlite.specs.Held.{state};
+ghost use Rattle.sqlite.specs.State.{HasCleanDisk};
+ghost use Rattle.bsp_store_base.specs.Kept.{columns_of, Stands, Falls, IsInside, Reads, KeepsRows, Spares};
+ghost use Rattle.bsp_store_base.specs.Schema.{our_schema};
+ghost use Rattle.bsp_store_base.specs.Columns.{Meta, meta_row, meta_rows};
+ghost use Rattle.bsp_store_base.specs.Content.{Content, form};
+ghost use Rattle.bsp_store_plan.specs.Values.{meta_values};
+ghost use Rattle.bsp_store_base.specs.Forms.{IsFormed};
+
+use bsp_rows::Day;
+use sqlite::{Alter, Connection, Error, ErrorCode, Row};
+use sqlite_value::value::ValueRef;
+
+/// The row of the business day and of how many periods are closed.
+#[derive(Clone, Copy, Debug)]
+pub struct MetaRow {
+    day: i64,
+    closed: i64,
+}
+
+impl MetaRow {
+    /// The row of a day and a number of closed periods.
+    pub fn of(day: Day, closed: usize) -> MetaRow
+        requires { closed < 2 ^ 63 }
+        ensures { meta_values result ≡ meta_row (record { day = day; closed = closed }) }
+    {
+        MetaRow {
+            day: day.number(),
+            closed: closed as i64,
+        }
+    }
+
+    /// A value for each column.
+    pub fn values(&self) -> [ValueRef<'_>; 3]
+        ensures { bound result ≡ meta_values self.now }
+    {
+        [
+            ValueRef::Int(1),
+            ValueRef::Int(self.day),
+            ValueRef::Int(self.closed),
+        ]
+    }
+}
+
+fn clear_meta<S: Alter>(conn: &mut Connection<S>) -> Result<usize, Error>
+    ensures ok { OnOk result ((now last a b : Content) → Stands form S.Store conn.old now last a b → IsInside form S.Store conn.old → Stands form S.Store conn.new (record now { meta = None }) last a b × IsInside form S.Store conn.new) }
+    ensures err { OnErr result ((now last a b : Content) → Stands form S.Store conn.old now last a b → IsInside form S.Store conn.old → Falls form S.Store conn.new last a b) }
+{
+    conn.execute("DELETE FROM meta", &[])
+}
+
+fn add_meta<S: Alter>(conn: &mut Connection<S>, day: Day, closed: usize) -> Result<usize, Error>
+    requires { closed < 2 ^ 63 }
+    ensures ok { OnOk result ((now last a b : Content) → now.meta ≡ None → Stands form S.Store conn.old now last a b → IsInside form S.Store conn.old → Stands form S.Store conn.new (record now { meta = Some (record { day = day; closed = closed }) }) last a b × IsInside form S.Store conn.new) }
+    ensures err { OnErr result ((now last a b : Content) → Stands form S.Store conn.old now last a b → IsInside form S.Store conn.old → Falls form S.Store conn.new last a b) }
+{
+    let row = MetaRow::of(day, closed);
+    conn.execute(
+        "INSERT INTO meta (version, day, closed) VALUES (?1, ?2, ?3)",
+        &row.values(),
+    )
+}
+
+/// Writes the business day and how many periods are closed.
+///
+/// # Errors
+///
+/// `ErrorCode::TooBig` for a number of periods that no integer of a column has, and else that of the
+/// statement which failed.
+pub fn put_meta<S: Alter>(conn: &mut Connection<S>, day: Day, closed: usize) -> Result<(), Error>
+    ensures ok { OnOk result ((now last a b : Content) → Stands form S.Store conn.old now last a b → IsInside form S.Store conn.old → Stands form S.Store conn.new (record now { meta = Some (record { day = day; closed = closed }) }) last a b × IsInside form S.Store conn.new) }
+    ensures err { OnErr result ((now last a b : Content) → Stands form S.Store conn.old now last a b → IsInside form S.Store conn.old → Falls form S.Store conn.new last a b) }
+{
+    if closed > i64::MAX as usize {
+        return Err(Error::SqliteFailure(ErrorCode::TooBig));
+    }
+    clear_meta(conn)?;
+    add_meta(conn, day, closed)?;
+    Ok(())
+}
+
+/// The rows of the table, of which it has one at most unless another program wrote it.
+///
+/// # Errors
+///
+/// That of the statement which failed.
+pub fn all_meta<S: Alter>(conn: &mut Connection<S>) -> Result<Vec<Row>, Error>
+    ensures rows { HasCleanDisk (state S.Store conn.new) → IfOk result (λ found. (state S.Store conn.old).now.schema ≡ our_schema → IsPermutation (map (columns_of 3) ((state S.Store conn.old).now.trees 0)) found.items) }
+    ensures read { OnOk result (conn.old.schema ≡ our_schema → Reads S.Store conn.old conn.new) }
+    ensures mode { conn.old.in_transaction ≡ false → conn.new.in_transaction ≡ false }
+    ensures order { HasCleanDisk (state S.Store conn.new) → IfOk result (λ found. (state S.Store conn.old).now.schema ≡ our_schema → (c : Content) → IsFormed c → KeepsRows form c (state S.Store conn.old).now.trees → found.items ≡ meta_rows c.meta) }
+    ensures spares { conn.old.schema ≡ our_schema → Spares S.Store conn.old conn.new }
+{
+    conn.query_all("SELECT version, day, closed FROM meta", &[])
+}

@@ -1,0 +1,111 @@
+ghost use Rattle.std.specs.Prelude.{◌≡◌, ◌<◌, ◌^◌, ◌+◌, ◌++◌, ◌∷◌, [], length, map, OnOk, OnErr, IfOk, false, IsPermutation};
+ghost use Rattle.sqlite.specs.Values.{bound};
+ghost use Rattle.sqlite.specs.Held.{state};
+ghost use Rattle.sqlite.specs.State.{HasCleanDisk};
+ghost use Rattle.bsp_store_base.specs.Kept.{columns_of, Stands, Falls, IsInside, Reads, KeepsRows, Spares};
+ghost use Rattle.bsp_store_base.specs.Schema.{our_schema};
+ghost use Rattle.bsp_store_base.specs.Columns.{period_row, placed};
+ghost use Rattle.bsp_store_base.specs.Content.{Content, form};
+ghost use Rattle.bsp_store_plan.specs.Values.{period_values};
+ghost use Rattle.bsp_store_base.specs.Forms.{IsFormed};
+
+use bsp_rows::Period;
+use bsp_store_base::period_digits;
+use sqlite::{Alter, Connection, Error, Row};
+use sqlite_value::value::ValueRef;
+
+/// The row of a billing period at its place.
+#[derive(Clone, Copy, Debug)]
+pub struct PeriodRow {
+    code: [u8; 5],
+    place: i64,
+    begins: i64,
+    ends: i64,
+    remit: i64,
+}
+
+impl PeriodRow {
+    /// The row of a period at a place, counted from 1.
+    pub fn of(place: usize, period: &Period) -> PeriodRow
+        requires { place < 2 ^ 63 }
+        ensures { period_values result ≡ period_row (place, period.now) }
+    {
+        PeriodRow {
+            code: period_digits(period.code),
+            place: place as i64,
+            begins: period.first.number(),
+            ends: period.last.number(),
+            remit: period.remittance.number(),
+        }
+    }
+
+    /// A value for each column.
+    pub fn values(&self) -> [ValueRef<'_>; 5]
+        ensures { bound result ≡ period_values self.now }
+    {
+        [
+            ValueRef::Text(&self.code),
+            ValueRef::Int(self.place),
+            ValueRef::Int(self.begins),
+            ValueRef::Int(self.ends),
+            ValueRef::Int(self.remit),
+        ]
+    }
+}
+
+fn clear_periods<S: Alter>(conn: &mut Connection<S>) -> Result<usize, Error>
+    ensures ok { OnOk result ((now last a b : Content) → Stands form S.Store conn.old now last a b → IsInside form S.Store conn.old → Stands form S.Store conn.new (record now { periods = [] }) last a b × IsInside form S.Store conn.new) }
+    ensures err { OnErr result ((now last a b : Content) → Stands form S.Store conn.old now last a b → IsInside form S.Store conn.old → Falls form S.Store conn.new last a b) }
+{
+    conn.execute("DELETE FROM period", &[])
+}
+
+fn add_period<S: Alter>(
+    conn: &mut Connection<S>,
+    place: usize,
+    period: &Period,
+) -> Result<usize, Error>
+    requires { place < 2 ^ 63 }
+    ensures ok { OnOk result ((now last a b : Content) → place ≡ length now.periods + 1 → Stands form S.Store conn.old now last a b → IsInside form S.Store conn.old → Stands form S.Store conn.new (record now { periods = now.periods ++ period.now ∷ [] }) last a b × IsInside form S.Store conn.new) }
+    ensures err { OnErr result ((now last a b : Content) → Stands form S.Store conn.old now last a b → IsInside form S.Store conn.old → Falls form S.Store conn.new last a b) }
+{
+    let row = PeriodRow::of(place, period);
+    conn.execute(
+        "INSERT INTO period (code, place, begins, ends, remit) VALUES (?1, ?2, ?3, ?4, ?5)",
+        &row.values(),
+    )
+}
+
+/// Writes the billing periods in their order.
+///
+/// # Errors
+///
+/// That of the statement which failed.
+pub fn put_periods<S: Alter>(conn: &mut Connection<S>, periods: &[Period]) -> Result<(), Error>
+    ensures ok { OnOk result ((now last a b : Content) → Stands form S.Store conn.old now last a b → IsInside form S.Store conn.old → Stands form S.Store conn.new (record now { periods = periods.now }) last a b × IsInside form S.Store conn.new) }
+    ensures err { OnErr result ((now last a b : Content) → Stands form S.Store conn.old now last a b → IsInside form S.Store conn.old → Falls form S.Store conn.new last a b) }
+{
+    clear_periods(conn)?;
+    for at in 0..periods.len() {
+        add_period(conn, at + 1, &periods[at])?;
+    }
+    Ok(())
+}
+
+/// The rows of the periods in the order of their places.
+///
+/// # Errors
+///
+/// That of the statement which failed.
+pub fn all_periods<S: Alter>(conn: &mut Connection<S>) -> Result<Vec<Row>, Error>
+    ensures rows { HasCleanDisk (state S.Store conn.new) → IfOk result (λ found. (state S.Store conn.old).now.schema ≡ our_schema → IsPermutation (map (columns_of 5) ((state S.Store conn.old).now.trees 6)) found.items) }
+    ensures read { OnOk result (conn.old.schema ≡ our_schema → Reads S.Store conn.old conn.new) }
+    ensures mode { conn.old.in_transaction ≡ false → conn.new.in_transaction ≡ false }
+    ensures order { HasCleanDisk (state S.Store conn.new) → IfOk result (λ found. (state S.Store conn.old).now.schema ≡ our_schema → (c : Content) → IsFormed c → KeepsRows form c (state S.Store conn.old).now.trees → found.items ≡ map period_row (placed 0 c.periods)) }
+    ensures spares { conn.old.schema ≡ our_schema → Spares S.Store conn.old conn.new }
+{
+    conn.query_all(
+        "SELECT code, place, begins, ends, remit FROM period ORDER BY place",
+        &[],
+    )
+}

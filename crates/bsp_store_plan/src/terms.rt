@@ -1,0 +1,96 @@
+ghost use Rattle.std.specs.Prelude.{◌≡◌, ◌<◌, ◌^◌, map, None, Some, OnOk, OnErr, IfOk, false, IsPermutation};
+ghost use Rattle.sqlite.specs.Values.{bound};
+ghost use Rattle.sqlite.specs.Held.{state};
+ghost use Rattle.sqlite.specs.State.{HasCleanDisk};
+ghost use Rattle.bsp_store_base.specs.Kept.{columns_of, Stands, Falls, IsInside, Reads, KeepsRows, Spares};
+ghost use Rattle.bsp_store_base.specs.Schema.{our_schema};
+ghost use Rattle.bsp_store_base.specs.Columns.{terms_row, terms_rows};
+ghost use Rattle.bsp_store_base.specs.Content.{Content, form};
+ghost use Rattle.bsp_store_plan.specs.Values.{terms_values};
+ghost use Rattle.bsp_store_base.specs.Forms.{IsFormed};
+
+use bsp_rows::Terms;
+use sqlite::{Alter, Connection, Error, Row};
+use sqlite_value::value::ValueRef;
+
+/// The row of the terms of the market.
+#[derive(Clone, Copy, Debug)]
+pub struct TermsRow {
+    currency: [u8; 3],
+    review: i64,
+    documents: i64,
+}
+
+impl TermsRow {
+    /// The row of these terms.
+    pub fn of(terms: &Terms) -> TermsRow
+        ensures { terms_values result ≡ terms_row terms.now }
+    {
+        TermsRow {
+            currency: terms.currency.letters(),
+            review: terms.review_days as i64,
+            documents: terms.documents_limit as i64,
+        }
+    }
+
+    /// A value for each column.
+    pub fn values(&self) -> [ValueRef<'_>; 3]
+        ensures { bound result ≡ terms_values self.now }
+    {
+        [
+            ValueRef::Text(&self.currency),
+            ValueRef::Int(self.review),
+            ValueRef::Int(self.documents),
+        ]
+    }
+}
+
+fn clear_terms<S: Alter>(conn: &mut Connection<S>) -> Result<usize, Error>
+    ensures ok { OnOk result ((now last a b : Content) → Stands form S.Store conn.old now last a b → IsInside form S.Store conn.old → Stands form S.Store conn.new (record now { terms = None }) last a b × IsInside form S.Store conn.new) }
+    ensures err { OnErr result ((now last a b : Content) → Stands form S.Store conn.old now last a b → IsInside form S.Store conn.old → Falls form S.Store conn.new last a b) }
+{
+    conn.execute("DELETE FROM terms", &[])
+}
+
+fn add_terms<S: Alter>(conn: &mut Connection<S>, terms: &Terms) -> Result<usize, Error>
+    ensures ok { OnOk result ((now last a b : Content) → now.terms ≡ None → Stands form S.Store conn.old now last a b → IsInside form S.Store conn.old → Stands form S.Store conn.new (record now { terms = Some terms.now }) last a b × IsInside form S.Store conn.new) }
+    ensures err { OnErr result ((now last a b : Content) → Stands form S.Store conn.old now last a b → IsInside form S.Store conn.old → Falls form S.Store conn.new last a b) }
+{
+    let row = TermsRow::of(terms);
+    conn.execute(
+        "INSERT INTO terms (currency, review, documents) VALUES (?1, ?2, ?3)",
+        &row.values(),
+    )
+}
+
+/// Writes the terms of the market, or that there are none.
+///
+/// # Errors
+///
+/// That of the statement which failed.
+pub fn put_terms<S: Alter>(conn: &mut Connection<S>, terms: Option<Terms>) -> Result<(), Error>
+    ensures ok { OnOk result ((now last a b : Content) → Stands form S.Store conn.old now last a b → IsInside form S.Store conn.old → Stands form S.Store conn.new (record now { terms = terms }) last a b × IsInside form S.Store conn.new) }
+    ensures err { OnErr result ((now last a b : Content) → Stands form S.Store conn.old now last a b → IsInside form S.Store conn.old → Falls form S.Store conn.new last a b) }
+{
+    clear_terms(conn)?;
+    let Some(terms) = terms else {
+        return Ok(());
+    };
+    add_terms(conn, &terms)?;
+    Ok(())
+}
+
+/// The rows of the table, of which it has one at most unless another program wrote it.
+///
+/// # Errors
+///
+/// That of the statement which failed.
+pub fn all_terms<S: Alter>(conn: &mut Connection<S>) -> Result<Vec<Row>, Error>
+    ensures rows { HasCleanDisk (state S.Store conn.new) → IfOk result (λ found. (state S.Store conn.old).now.schema ≡ our_schema → IsPermutation (map (columns_of 3) ((state S.Store conn.old).now.trees 1)) found.items) }
+    ensures read { OnOk result (conn.old.schema ≡ our_schema → Reads S.Store conn.old conn.new) }
+    ensures mode { conn.old.in_transaction ≡ false → conn.new.in_transaction ≡ false }
+    ensures order { HasCleanDisk (state S.Store conn.new) → IfOk result (λ found. (state S.Store conn.old).now.schema ≡ our_schema → (c : Content) → IsFormed c → KeepsRows form c (state S.Store conn.old).now.trees → found.items ≡ terms_rows c.terms) }
+    ensures spares { conn.old.schema ≡ our_schema → Spares S.Store conn.old conn.new }
+{
+    conn.query_all("SELECT currency, review, documents FROM terms", &[])
+}

@@ -1,0 +1,48 @@
+//! A store is tested for anything in it, and gets the tables.
+
+ghost use Rattle.std.specs.Prelude.{◌≡◌, ◌↔◌, IsTrue};
+ghost use Rattle.sqlite.specs.Held.{state};
+ghost use Rattle.bsp_store_schema.specs.Schema.{no_schema};
+
+use sqlite::{Alter, Connection, Error};
+
+/// The texts that make the tables, in the order of their trees.
+const TABLES: &str = "\
+    CREATE TABLE meta (version INTEGER NOT NULL, day INTEGER NOT NULL, closed INTEGER NOT NULL) STRICT; \
+    CREATE TABLE terms (currency TEXT NOT NULL, review INTEGER NOT NULL, \
+        documents INTEGER NOT NULL) STRICT; \
+    CREATE TABLE airline (code TEXT NOT NULL PRIMARY KEY, place INTEGER NOT NULL) STRICT; \
+    CREATE TABLE rate (airline TEXT NOT NULL, begins INTEGER NOT NULL, place INTEGER NOT NULL, \
+        hundredths INTEGER NOT NULL, PRIMARY KEY (airline, begins)) STRICT; \
+    CREATE TABLE period (code TEXT NOT NULL PRIMARY KEY, place INTEGER NOT NULL, \
+        begins INTEGER NOT NULL, ends INTEGER NOT NULL, remit INTEGER NOT NULL) STRICT; \
+    CREATE TABLE agent (code TEXT NOT NULL PRIMARY KEY, token TEXT NOT NULL) STRICT; \
+    CREATE TABLE airline_token (airline TEXT NOT NULL PRIMARY KEY, token TEXT NOT NULL) STRICT; \
+    CREATE TABLE stock (agent TEXT NOT NULL, lo TEXT NOT NULL, hi TEXT NOT NULL, PRIMARY KEY (agent, \
+        lo)) STRICT; \
+    CREATE TABLE item (agent TEXT NOT NULL, number TEXT NOT NULL, canx INTEGER NOT NULL, \
+        check_digit INTEGER NOT NULL, airline TEXT NOT NULL, code TEXT NOT NULL, issued INTEGER NOT NULL, \
+        period TEXT NOT NULL, alive INTEGER NOT NULL, name TEXT NOT NULL, fare INTEGER, taxes TEXT, \
+        rate INTEGER, commission INTEGER, rel_airline TEXT, rel_number TEXT, rel_check INTEGER, ca INTEGER, \
+        cc INTEGER, ex INTEGER, vendor TEXT, PRIMARY KEY (agent, number, canx)) STRICT; \
+    CREATE TABLE memo (airline TEXT NOT NULL, number TEXT NOT NULL, agent TEXT NOT NULL, \
+        kind TEXT NOT NULL, amount INTEGER NOT NULL, first_amount INTEGER NOT NULL, reason TEXT NOT NULL, \
+        issued INTEGER NOT NULL, state TEXT NOT NULL, billed TEXT, PRIMARY KEY (airline, number)) STRICT; \
+    CREATE TABLE tally (agent TEXT NOT NULL, airline TEXT NOT NULL, period TEXT NOT NULL, \
+        accepted INTEGER NOT NULL, living INTEGER NOT NULL, canx INTEGER NOT NULL, \
+        memo_count INTEGER NOT NULL, cash INTEGER NOT NULL, credit INTEGER NOT NULL, \
+        commission INTEGER NOT NULL, memos INTEGER NOT NULL, PRIMARY KEY (agent, airline, period)) STRICT";
+
+/// Whether the store has nothing in it.
+pub fn is_bare<S: Alter>(conn: &Connection<S>) -> bool
+    ensures { IsTrue result ↔ ((state S.Store conn.now).now.schema ≡ no_schema) }
+{
+    let schema = conn.schema();
+    schema.tables.is_empty() && schema.indexes.is_empty() && schema.views.is_empty()
+}
+
+/// Makes the eleven tables, without a row in them. A caller begins a transaction first, commits it where all went
+/// well, and rolls it back after an error. Then no stop leaves some of the tables.
+pub fn make_tables<S: Alter>(conn: &mut Connection<S>) -> Result<(), Error> {
+    conn.execute_batch(TABLES)
+}

@@ -1,0 +1,215 @@
+//! Tests of the eleven tables.
+
+ghost use Rattle.std.specs.Prelude.{◌≡◌, ◌↔◌, [], ◌∷◌, IsTrue};
+ghost use Rattle.bsp_store_schema.specs.Schema.{meta_table, terms_table, airline_table, rate_table, period_table, agent_table, airline_token_table, stock_table, item_table, memo_table, tally_table, our_tables};
+
+use crate::plain::{is_keyless, is_strict};
+use sqlite_schema::schema::{Kind, Table};
+
+const META: [(&[u8], Kind, bool); 3] = [
+    (b"version", Kind::Integer, true),
+    (b"day", Kind::Integer, true),
+    (b"closed", Kind::Integer, true),
+];
+
+const TERMS: [(&[u8], Kind, bool); 3] = [
+    (b"currency", Kind::Text, true),
+    (b"review", Kind::Integer, true),
+    (b"documents", Kind::Integer, true),
+];
+
+const AIRLINE: [(&[u8], Kind, bool); 2] = [
+    (b"code", Kind::Text, true),
+    (b"place", Kind::Integer, true),
+];
+
+const RATE: [(&[u8], Kind, bool); 4] = [
+    (b"airline", Kind::Text, true),
+    (b"begins", Kind::Integer, true),
+    (b"place", Kind::Integer, true),
+    (b"hundredths", Kind::Integer, true),
+];
+
+const PERIOD: [(&[u8], Kind, bool); 5] = [
+    (b"code", Kind::Text, true),
+    (b"place", Kind::Integer, true),
+    (b"begins", Kind::Integer, true),
+    (b"ends", Kind::Integer, true),
+    (b"remit", Kind::Integer, true),
+];
+
+const AGENT: [(&[u8], Kind, bool); 2] = [(b"code", Kind::Text, true), (b"token", Kind::Text, true)];
+
+const AIRLINE_TOKEN: [(&[u8], Kind, bool); 2] = [
+    (b"airline", Kind::Text, true),
+    (b"token", Kind::Text, true),
+];
+
+const STOCK: [(&[u8], Kind, bool); 3] = [
+    (b"agent", Kind::Text, true),
+    (b"lo", Kind::Text, true),
+    (b"hi", Kind::Text, true),
+];
+
+const ITEM: [(&[u8], Kind, bool); 21] = [
+    (b"agent", Kind::Text, true),
+    (b"number", Kind::Text, true),
+    (b"canx", Kind::Integer, true),
+    (b"check_digit", Kind::Integer, true),
+    (b"airline", Kind::Text, true),
+    (b"code", Kind::Text, true),
+    (b"issued", Kind::Integer, true),
+    (b"period", Kind::Text, true),
+    (b"alive", Kind::Integer, true),
+    (b"name", Kind::Text, true),
+    (b"fare", Kind::Integer, false),
+    (b"taxes", Kind::Text, false),
+    (b"rate", Kind::Integer, false),
+    (b"commission", Kind::Integer, false),
+    (b"rel_airline", Kind::Text, false),
+    (b"rel_number", Kind::Text, false),
+    (b"rel_check", Kind::Integer, false),
+    (b"ca", Kind::Integer, false),
+    (b"cc", Kind::Integer, false),
+    (b"ex", Kind::Integer, false),
+    (b"vendor", Kind::Text, false),
+];
+
+const MEMO: [(&[u8], Kind, bool); 10] = [
+    (b"airline", Kind::Text, true),
+    (b"number", Kind::Text, true),
+    (b"agent", Kind::Text, true),
+    (b"kind", Kind::Text, true),
+    (b"amount", Kind::Integer, true),
+    (b"first_amount", Kind::Integer, true),
+    (b"reason", Kind::Text, true),
+    (b"issued", Kind::Integer, true),
+    (b"state", Kind::Text, true),
+    (b"billed", Kind::Text, false),
+];
+
+const TALLY: [(&[u8], Kind, bool); 11] = [
+    (b"agent", Kind::Text, true),
+    (b"airline", Kind::Text, true),
+    (b"period", Kind::Text, true),
+    (b"accepted", Kind::Integer, true),
+    (b"living", Kind::Integer, true),
+    (b"canx", Kind::Integer, true),
+    (b"memo_count", Kind::Integer, true),
+    (b"cash", Kind::Integer, true),
+    (b"credit", Kind::Integer, true),
+    (b"commission", Kind::Integer, true),
+    (b"memos", Kind::Integer, true),
+];
+
+fn is_meta(table: &Table) -> bool
+    ensures { IsTrue result ↔ (table.now ≡ meta_table) }
+{
+    is_keyless(table, b"meta", 0, &META)
+}
+
+fn is_terms(table: &Table) -> bool
+    ensures { IsTrue result ↔ (table.now ≡ terms_table) }
+{
+    is_keyless(table, b"terms", 1, &TERMS)
+}
+
+fn is_airline(table: &Table) -> bool
+    ensures { IsTrue result ↔ (table.now ≡ airline_table) }
+{
+    is_strict(table, b"airline", 2, &AIRLINE, &[1])
+}
+
+fn is_rate(table: &Table) -> bool
+    ensures { IsTrue result ↔ (table.now ≡ rate_table) }
+{
+    is_strict(table, b"rate", 4, &RATE, &[1, 2])
+}
+
+fn is_period(table: &Table) -> bool
+    ensures { IsTrue result ↔ (table.now ≡ period_table) }
+{
+    is_strict(table, b"period", 6, &PERIOD, &[1])
+}
+
+fn is_agent(table: &Table) -> bool
+    ensures { IsTrue result ↔ (table.now ≡ agent_table) }
+{
+    is_strict(table, b"agent", 8, &AGENT, &[1])
+}
+
+fn is_airline_token(table: &Table) -> bool
+    ensures { IsTrue result ↔ (table.now ≡ airline_token_table) }
+{
+    is_strict(table, b"airline_token", 10, &AIRLINE_TOKEN, &[1])
+}
+
+fn is_stock(table: &Table) -> bool
+    ensures { IsTrue result ↔ (table.now ≡ stock_table) }
+{
+    is_strict(table, b"stock", 12, &STOCK, &[1, 2])
+}
+
+fn is_item(table: &Table) -> bool
+    ensures { IsTrue result ↔ (table.now ≡ item_table) }
+{
+    is_strict(table, b"item", 14, &ITEM, &[1, 2, 3])
+}
+
+fn is_memo(table: &Table) -> bool
+    ensures { IsTrue result ↔ (table.now ≡ memo_table) }
+{
+    is_strict(table, b"memo", 16, &MEMO, &[1, 2])
+}
+
+fn is_tally(table: &Table) -> bool
+    ensures { IsTrue result ↔ (table.now ≡ tally_table) }
+{
+    is_strict(table, b"tally", 18, &TALLY, &[1, 2, 3])
+}
+
+/// Whether the tables are the last three.
+fn are_records(tables: &[Table]) -> bool
+    ensures { IsTrue result ↔ (tables.now ≡ item_table ∷ memo_table ∷ tally_table ∷ []) }
+{
+    match tables {
+        [item, memo, tally] => is_item(item) && is_memo(memo) && is_tally(tally),
+        _ => false,
+    }
+}
+
+/// Whether the tables are those from the agents on.
+fn are_holders(tables: &[Table]) -> bool
+    ensures { IsTrue result ↔ (tables.now ≡ agent_table ∷ airline_token_table ∷ stock_table ∷ item_table ∷ memo_table ∷ tally_table ∷ []) }
+{
+    match tables {
+        [agent, airline_token, stock, more @ ..] => is_agent(agent)
+            && is_airline_token(airline_token)
+            && is_stock(stock)
+            && are_records(more),
+        _ => false,
+    }
+}
+
+/// Whether the tables are those from the airlines on.
+fn are_calendar(tables: &[Table]) -> bool
+    ensures { IsTrue result ↔ (tables.now ≡ airline_table ∷ rate_table ∷ period_table ∷ agent_table ∷ airline_token_table ∷ stock_table ∷ item_table ∷ memo_table ∷ tally_table ∷ []) }
+{
+    match tables {
+        [airline, rate, period, more @ ..] => is_airline(airline)
+            && is_rate(rate)
+            && is_period(period)
+            && are_holders(more),
+        _ => false,
+    }
+}
+
+/// Whether the tables are the eleven, in this order.
+pub(crate) fn are_our_tables(tables: &[Table]) -> bool
+    ensures { IsTrue result ↔ (tables.now ≡ our_tables) }
+{
+    match tables {
+        [meta, terms, more @ ..] => is_meta(meta) && is_terms(terms) && are_calendar(more),
+        _ => false,
+    }
+}

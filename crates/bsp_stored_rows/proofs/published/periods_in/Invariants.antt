@@ -1,9 +1,0 @@
-use Rattle.std.proofs.Common.{◌≡◌, List, map, take}
-use Rattle.std.specs.List.{AllByRecursion}
-use Rattle.bsp_calendar.specs.declared.entries.Period.{Period}
-use Rattle.bsp_columns.specs.Columns.{period_row, placed}
-use Rattle.bsp_content.specs.Forms.{IsPeriod}
-use Rattle.bsp_stored_rows.proofs.published.periods_in.Given as goal
-
-abbrev pub invariant-loop-row : goal.invariant-loop-row
-invariant-loop-row l = (values : List Period) → AllByRecursion IsPeriod values → l.rows ≡ map period_row (placed 0 values) → l.found.items ≡ take l.row-index values
