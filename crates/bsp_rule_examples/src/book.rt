@@ -22,7 +22,7 @@ pub struct Book {
     pub reporter: Reporter,
     /// The stock of their agent.
     pub ranges: Vec<Range>,
-    /// The latest verdicts.
+    /// The last verdicts.
     pub verdicts: Vec<Verdict>,
     pub items: Vec<Item>,
     pub memos: Vec<Memo>,

@@ -2,58 +2,20 @@
 
 use crate::book::{Book, push_named, push_text};
 use crate::fault::CaseFault;
+use crate::refusals::REQUEST_REFUSALS;
 use crate::texts::Texts;
 use crate::words::Words;
-use bsp_calendar::PlanFault;
 use bsp_fields::Change;
-use bsp_memos::{Memo, MemoFault, MemoFields};
+use bsp_memos::{Memo, MemoFields};
 use bsp_messages::{
-    Answer, DocumentShown, DocumentState, Media, PeriodShown, RangeShown, Reply, RequestRefusal,
-    StockFault, reply_of,
+    Answer, DocumentShown, DocumentState, Media, PeriodShown, RangeShown, Reply, reply_of,
 };
 use bsp_ret::{FaultCode, RetFault};
 use std::alloc::Global;
 
-const REFUSALS: [RequestRefusal; 34] = [
-    RequestRefusal::Forbidden,
-    RequestRefusal::NoRoute,
-    RequestRefusal::OtherMethod,
-    RequestRefusal::Malformed,
-    RequestRefusal::WrongAgentCode,
-    RequestRefusal::AirlineNotInPlan,
-    RequestRefusal::Stock(StockFault::FirstAfterLast),
-    RequestRefusal::Stock(StockFault::NotRegistered),
-    RequestRefusal::Stock(StockFault::MeetsRange),
-    RequestRefusal::Stock(StockFault::NoSuchRange),
-    RequestRefusal::Stock(StockFault::RangeUsed),
-    RequestRefusal::Plan(PlanFault::NotToml),
-    RequestRefusal::Plan(PlanFault::WrongKey),
-    RequestRefusal::Plan(PlanFault::OutOfOrder),
-    RequestRefusal::Plan(PlanFault::DayBackwards),
-    RequestRefusal::Plan(PlanFault::LateRate),
-    RequestRefusal::Plan(PlanFault::NotEarliest),
-    RequestRefusal::Plan(PlanFault::NotOver),
-    RequestRefusal::Plan(PlanFault::Differs),
-    RequestRefusal::Plan(PlanFault::NoMemory),
-    RequestRefusal::Memo(MemoFault::NoSuchMemo),
-    RequestRefusal::Memo(MemoFault::ReviewOver),
-    RequestRefusal::Memo(MemoFault::StateForbids),
-    RequestRefusal::Memo(MemoFault::AmountOutOfRange),
-    RequestRefusal::Memo(MemoFault::OtherContent),
-    RequestRefusal::Memo(MemoFault::CreditMemo),
-    RequestRefusal::Memo(MemoFault::LimitReached),
-    RequestRefusal::Memo(MemoFault::AgentNotRegistered),
-    RequestRefusal::NoDocument,
-    RequestRefusal::UnknownPeriod,
-    RequestRefusal::HotTooLarge,
-    RequestRefusal::NoHot,
-    RequestRefusal::NoRoom,
-    RequestRefusal::StoreFailed,
-];
-
 /// The refusal that is written so in Rust.
 fn refusal_of(alloc: Global, name: &str) -> Result<Answer, CaseFault> {
-    for refusal in REFUSALS {
+    for refusal in REQUEST_REFUSALS {
         if format!(in alloc; "{refusal:?}")?.as_str() == name {
             return Ok(Answer::Refused(refusal));
         }
@@ -109,7 +71,11 @@ fn document(book: &Book, word: &str) -> Result<Answer, CaseFault> {
 /// A period: whether it is closed, its documents and its net.
 fn period(words: &mut Words) -> Result<Answer, CaseFault> {
     let period = words.period()?;
-    let closed = words.word() == "closed";
+    let closed = match words.word() {
+        "open" => false,
+        "closed" => true,
+        _ => return Err(CaseFault::NoCase),
+    };
     let documents = words.count()? as u64;
     let net = words.number()? as i128;
     Ok(Answer::Period(PeriodShown {

@@ -27,7 +27,11 @@ fn push_items(
 fn take(book: &mut Book, words: &mut Words) -> Result<(), CaseFault> {
     let transactions = transactions_of(book.alloc, book.texts.find(words.word())?)?;
     let period = words.period()?;
-    let lives = words.word() != "cancelled";
+    let lives = match words.word() {
+        "" => true,
+        "cancelled" => false,
+        _ => return Err(CaseFault::NoCase),
+    };
     push_items(&mut book.items, &transactions, period, lives)
 }
 

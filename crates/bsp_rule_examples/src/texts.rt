@@ -36,7 +36,7 @@ impl Texts {
         Ok(())
     }
 
-    /// Adds a line to the latest text. A line with `|` is a record.
+    /// Adds a line to the last text. A line with `|` is a record.
     pub fn add_line(&mut self, line: &str) -> Result<(), CaseFault> {
         let Some(text) = self.texts.last_mut() else {
             return Err(CaseFault::NoCase);
@@ -50,7 +50,7 @@ impl Texts {
         Ok(())
     }
 
-    /// The latest text of that name.
+    /// The last text of that name.
     pub fn find(&self, name: &str) -> Result<&[u8], CaseFault> {
         for text in self.texts.iter().rev() {
             if text.name.as_str() == name {
@@ -60,7 +60,7 @@ impl Texts {
         Err(CaseFault::NoCase)
     }
 
-    /// The name of the latest text of these bytes.
+    /// The name of the last text of these bytes.
     pub fn name_of(&self, bytes: &[u8]) -> Option<&str> {
         for text in self.texts.iter().rev() {
             if text.bytes.as_slice() == bytes {
