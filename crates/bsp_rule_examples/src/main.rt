@@ -1,10 +1,6 @@
-//! Answers the cases of standard input, a line each: prints the line, and what the calls that it names gave.
-//! So the output is a page of worked examples. Empty lines and lines that begin with `#` are printed alone.
-//!
-//! A line `NAME:` names a text, and the lines after it that begin with two spaces are its lines. One with `|`
-//! between fields is a record: without `|`, and filled with spaces to 136 characters. In a record `(65)` is 65
-//! spaces and `0{` a total of zero. In other texts `<0A>` is the byte of that hexadecimal number, `<5B*3>`
-//! three of them and `<>` nothing. An answer that is a named text is printed by its name.
+//! Answers the cases of a page of standard input, a line each: prints the line, and what the calls that it
+//! names gave. So the output is a page of worked examples. Empty lines and lines that begin with `#` are printed
+//! alone. The head of the page says how texts are written.
 //!
 //! The status is 0 where each line is a case, and else 1: the last line of the output is then the wrong one.
 #![tactic(auto)]
