@@ -57,8 +57,12 @@ port_rule = record (number_option (codes "port") 1 65535) { required = true }
 abbrev pub connections_rule : Rule
 connections_rule = record (number_option (codes "connections") 1 1000000) { defaults = codes "1000000" ∷ [] }
 
+-- the seconds for which a peer is waited for; 0 is without end
+abbrev pub timeout_rule : Rule
+timeout_rule = record (number_option (codes "timeout") 0 3600) { defaults = codes "30" ∷ [] }
+
 abbrev pub serve_app : App
-serve_app = with_rule (with_db (with_tokens (with_rule (new_app (codes "serve")) port_rule))) connections_rule
+serve_app = with_rule (with_rule (with_db (with_tokens (with_rule (new_app (codes "serve")) port_rule))) connections_rule) timeout_rule
 
 -- a subcommand must be there, or --version is asked for; and none is called help
 abbrev pub needs_subcommand : Shape → Shape
@@ -99,13 +103,13 @@ pub data AskedWork : Type 0 where
   check : Text → Bool → AskedWork
   hotcheck : Text → Bool → AskedWork
   run : AskedToken → AskedBook → AskedWork
-  serve : ℕ → AskedToken → AskedBook → ℕ → AskedWork
+  serve : ℕ → AskedToken → AskedBook → ℕ → ℕ → AskedWork
 
 abbrev pub work_of : Work → AskedWork
 work_of (Check file quiet) = check file.now quiet
 work_of (Hotcheck file quiet) = hotcheck file.now quiet
 work_of (Run token book) = run (token_of token) (book_of book)
-work_of (Serve port token book connections) = serve port (token_of token) (book_of book) connections
+work_of (Serve port token book connections timeout) = serve port (token_of token) (book_of book) connections timeout
 
 -- the flag --quiet is there: `clap` then finds the value true
 abbrev pub is_quiet : List Row → Bool
@@ -151,7 +155,9 @@ abbrev pub serve_work : List Row → Option AskedWork
 serve_work rows =
     option_and_then
     (λ port. option_and_then
-    (λ connections. option_and_then (λ token. option_map (λ book. serve port token book connections) (asked_book rows)) (asked_token rows))
+    (λ connections. option_and_then
+    (λ timeout. option_and_then (λ token. option_map (λ book. serve port token book connections timeout) (asked_book rows)) (asked_token rows))
+    (number_in 32 (codes "timeout") rows))
     (number_in 32 (codes "connections") rows))
     (number_in 16 (codes "port") rows)
 

@@ -26,6 +26,6 @@ module _ {D : Type 0} (m : Meaning D) where
 -- how many connections were served, and why no more
 abbrev pub counts : ℕ → List Visit → Result (Unit {0}) ListenFault → Type 0
 counts wanted visits (Ok u) = length visits ≡ wanted
-counts wanted visits (Err Accept) = length visits < wanted
+counts wanted visits (Err (Accept kind)) = length visits < wanted
 counts wanted visits (Err Memory) =
     (length visits ≤ wanted) × ((firsts : List Visit) × (last : Visit) × (visits ≡ firsts ++ last ∷ []) × (last.ended ≡ Err end.Memory))

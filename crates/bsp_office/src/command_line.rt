@@ -3,7 +3,7 @@
 ghost use Rattle.std.specs.Prelude.{◌≡◌, IfOk, IfErr, codes, false};
 ghost use Rattle.clap.specs.Words.{app_of, kind_of, rule_of, shape_of, with_subcommand};
 ghost use Rattle.clap.specs.declared.builder.command.Command.TheViews.{out-Command as fields_of};
-ghost use Rattle.bsp_office.specs.CommandLine.{connections_rule, file_app, named_option, office, port_rule, quiet_rule, run_app, serve_app, with_db, with_tokens};
+ghost use Rattle.bsp_office.specs.CommandLine.{connections_rule, file_app, named_option, office, port_rule, quiet_rule, run_app, serve_app, timeout_rule, with_db, with_tokens};
 
 use clap::error::ErrorKind;
 use clap::{Arg, ArgAction, Command, Error};
@@ -141,6 +141,20 @@ fn connections_option<'a>(alloc: Global) -> Arg<'a>
     .default_value("1000000")
 }
 
+fn timeout_option<'a>(alloc: Global) -> Arg<'a>
+    ensures rule { rule_of result ≡ timeout_rule }
+    ensures local { result.global ≡ false }
+{
+    option(
+        alloc,
+        "timeout",
+        "S",
+        "how many seconds to wait for a peer, from 1 to 3600; with 0 without end",
+    )
+    .value_parser(clap::value_parser!(u32).range(0..=3600))
+    .default_value("30")
+}
+
 fn serve_command<'a>(alloc: Global) -> Result<Command<'a>, Error>
     ensures ok { IfOk result (λ c. (shape_of c ≡ serve_app.top) × ((fields_of c).has_globals ≡ false)) }
     ensures err { IfErr result (λ e. kind_of e ≡ ErrorKind.OutOfMemory) }
@@ -151,6 +165,7 @@ fn serve_command<'a>(alloc: Global) -> Result<Command<'a>, Error>
     let command = taking_token(alloc, command)?;
     let command = taking_book(alloc, command)?;
     let command = command.arg(connections_option(alloc))?;
+    let command = command.arg(timeout_option(alloc))?;
     Ok(command)
 }
 

@@ -1,24 +1,79 @@
 //! Serving the connections of a listener.
 
-ghost use Rattle.std.specs.Prelude.{◌≡◌, List, Ok, Err};
+ghost use Rattle.std.specs.Prelude.{◌≡◌, ◌≤◌, ℕ, List, length, Ok, Err};
+ghost use Rattle.std.specs.Io.KnownBytes.{Consumes};
 ghost use Rattle.bsp_connection.specs.Conversations.{IsRun};
 ghost use Rattle.bsp_connection.specs.Exchanges.{Exchange};
 ghost use Rattle.bsp_http.specs.Messages.{at_desk};
 ghost use Rattle.bsp_office.specs.Listening.{AreVisited, IsVisited, Visit, counts};
 
 use bsp_desk::{Book, Desk};
-use bsp_http::{Routes, ServeFault, Served, serve};
+use bsp_http::{End, Routes, ServeFault, Served, serve};
 use std::alloc::Global;
-use std::io::{BufWriter, Read, Write};
-use std::net::{TcpListener, TcpStream};
+use std::io::{BufWriter, ErrorKind, Read, Write};
+use std::net::{Shutdown, TcpListener, TcpStream};
+use std::time::Duration;
+use thiserror::Error;
+
+/// The most bytes of a peer that are read and dropped behind the last response to it.
+const LINGERING: usize = 4_194_304;
+
+/// The bytes that are read at once there.
+const PIECE: usize = 8192;
 
 /// Why the office stopped before its last connection.
-#[derive(Clone, Copy, Debug, PartialEq, Eq, Hash)]
+#[derive(Clone, Copy, Debug, PartialEq, Eq, Hash, Error)]
 pub enum ListenFault {
     /// A connection could not be accepted.
-    Accept,
+    #[error("a connection could not be accepted: {0}")]
+    Accept(ErrorKind),
     /// There was no memory for a connection.
+    #[error("no memory for a connection")]
     Memory,
+}
+
+/// What standard error says of connections.
+#[derive(Clone, Copy)]
+pub struct Remarks<'a> {
+    pub(crate) rt: &'a HostRuntime,
+}
+
+impl Remarks<'_> {
+    /// One line where a connection ended by a failed read or write.
+    fn ended(&self, number: u32, served: Result<Served, ServeFault>) {
+        if let Err(fault @ (ServeFault::Read | ServeFault::Write)) = served {
+            let _ = eprintln!(self.rt; "bsp_office: connection {number}: {fault}");
+        }
+    }
+}
+
+/// Reads and drops what a peer sends: at most so many bytes, and until it ends, or a read fails.
+fn drop_rest<R: Read>(reader: &mut R, limit: usize)
+    ensures { (got : List ℕ) × Consumes (R.remaining reader.old) (R.remaining reader.new) got × (length got ≤ limit) }
+{
+    let mut room = [0; PIECE];
+    let mut left = limit;
+    while left > 0 {
+        match reader.read(&mut room[..left.min(PIECE)]) {
+            Ok(0) | Err(_) => return,
+            Ok(count) => left -= count,
+        }
+    }
+}
+
+/// Closes a connection behind its last response (RFC 9112, 9.6): the peer is sent the end, and what it sends meanwhile
+/// is dropped, since a connection that is closed with bytes unread is reset, and the response may be lost.
+fn linger(stream: &TcpStream, served: Result<Served, ServeFault>) {
+    if let Ok(
+        Served {
+            end: End::Closed,
+            ..
+        },
+    ) = served
+    {
+        let _ = stream.shutdown(Shutdown::Write);
+        drop_rest(&mut &*stream, LINGERING);
+    }
 }
 
 /// Serves one connection.
@@ -35,26 +90,30 @@ fn visit<R: Read, W: Write, B: Book>(
 }
 
 /// Serves one connection of TCP. The responses to messages that came together are sent together, and none is kept
-/// back for more to come (RFC 9293, 3.7.4).
+/// back for more to come (RFC 9293, 3.7.4). A peer is waited for as long as the timeout says.
 fn serve_stream<B: Book>(
     alloc: Global,
     stream: &TcpStream,
+    timeout: Option<Duration>,
     routes: &Routes,
     desk: &mut Desk<B>,
 ) -> Result<Served, ServeFault>
     ensures { (visit : Visit) × (visit.ended ≡ result) × IsVisited (at_desk B.means) desk.old visit desk.new }
 {
     let _ = stream.set_nodelay(true);
+    let _ = stream.set_read_timeout(timeout);
+    let _ = stream.set_write_timeout(timeout);
     let Ok(mut output) = BufWriter::new(alloc, stream) else {
         return Err(ServeFault::Memory);
     };
     let served = visit(alloc, routes, &mut &*stream, &mut output, desk);
     let _ = output.flush();
+    linger(stream, served);
     served
 }
 
 /// Serves so many connections of the listener, one after the other. A connection that ends by a fault of reading or
-/// writing counts as one.
+/// writing, as where the timeout is over, counts as one.
 ///
 /// It takes memory as [`serve`] does.
 ///
@@ -66,17 +125,22 @@ pub fn serve_on<B: Book>(
     alloc: Global,
     listener: &TcpListener,
     connections: u32,
+    timeout: Option<Duration>,
+    remarks: &Remarks<'_>,
     routes: &Routes,
     desk: &mut Desk<B>,
 ) -> Result<(), ListenFault>
     ensures visits { (visits : List Visit) × AreVisited (at_desk B.means) desk.old visits desk.new × counts connections visits result }
     ensures run { (exchanges : List Exchange) × IsRun (at_desk B.means) desk.old exchanges desk.new }
 {
-    for _ in 0..connections {
-        let Ok((stream, _)) = listener.accept() else {
-            return Err(ListenFault::Accept);
+    for number in 0..connections {
+        let stream = match listener.accept() {
+            Ok((stream, _)) => stream,
+            Err(error) => return Err(ListenFault::Accept(error.kind())),
         };
-        if let Err(ServeFault::Memory) = serve_stream(alloc, &stream, routes, desk) {
+        let served = serve_stream(alloc, &stream, timeout, routes, desk);
+        remarks.ended(number + 1, served);
+        if let Err(ServeFault::Memory) = served {
             return Err(ListenFault::Memory);
         }
     }

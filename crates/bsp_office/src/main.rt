@@ -5,6 +5,7 @@
 //! `run` and `serve` are the office over HTTP, on standard input and output or on a port.
 #![tactic(auto)]
 
+mod book_file;
 mod checking;
 mod command_line;
 mod fault;

@@ -4,7 +4,7 @@ use crate::checking::{check, hotcheck};
 use crate::fault::Fault;
 use crate::input::Input;
 use crate::remarks::{say_answer, say_unopened};
-use crate::serving::{run_office, serve_office};
+use crate::serving::{Port, run_office, serve_office};
 use crate::status::{DONE, FAILED, WRONG_WORDS};
 use crate::verdict::{Verdict, exit_status};
 use crate::words::{WordsFault, Work, words};
@@ -62,7 +62,15 @@ fn run_work(rt: &HostRuntime, work: &Work<'_>) -> u8 {
             token,
             book,
             connections,
-        } => serve_office(rt, *port, token, book, *connections),
+            timeout,
+        } => {
+            let port = Port {
+                port: *port,
+                connections: *connections,
+                timeout: *timeout,
+            };
+            serve_office(rt, port, token, book)
+        }
     }
 }
 

@@ -3,7 +3,8 @@
 ghost use Rattle.std.specs.Prelude.{◌≡◌, true, false};
 ghost use Rattle.bsp_store.specs.Faults.{is_refusal};
 
-use crate::listening::serve_on;
+use crate::book_file::{make_private, say_unopened};
+use crate::listening::{Remarks, serve_on};
 use crate::status::{DONE, FAILED, REFUSED, WRONG_WORDS};
 use crate::token_file::read_token;
 use crate::words::{BookSource, TokenSource};
@@ -14,14 +15,26 @@ use bsp_store::{OpenFault, SqlBook};
 use sqlite::{Alter, Start, Wary};
 use std::io;
 use std::net::{Ipv4Addr, SocketAddr, TcpListener};
+use std::time::Duration;
 
 /// Where an office answers.
 #[derive(Clone, Copy)]
 enum Place {
     /// Standard input and output: one connection.
     Standard,
-    /// A port of 127.0.0.1: so many connections.
-    Port { port: u16, connections: u32 },
+    /// A port of 127.0.0.1.
+    Port(Port),
+}
+
+/// A port of 127.0.0.1, and what is served there.
+#[derive(Clone, Copy)]
+pub(crate) struct Port {
+    /// From 1 to 65,535.
+    pub(crate) port: u16,
+    /// How many connections are served.
+    pub(crate) connections: u32,
+    /// For how many seconds a peer is waited for; with 0 without end.
+    pub(crate) timeout: u32,
 }
 
 /// An office: its routes, and its desk.
@@ -109,22 +122,39 @@ fn listen(rt: &HostRuntime, port: u16) -> Option<TcpListener> {
     }
 }
 
+/// How long a peer is waited for; with none without end.
+fn patience(seconds: u32) -> Option<Duration> {
+    match seconds {
+        0 => None,
+        seconds => Some(Duration::from_secs(u64::from(seconds))),
+    }
+}
+
+/// Serves the connections of a port, and says on standard error why it ends.
 fn serve_connections<B: Book>(
     rt: &HostRuntime,
-    port: u16,
-    connections: u32,
+    port: Port,
     office: &mut Office<B>,
 ) -> Result<(), u8> {
-    let listener = listen(rt, port).ok_or(FAILED)?;
+    let listener = listen(rt, port.port).ok_or(FAILED)?;
+    let remarks = Remarks { rt };
     match serve_on(
         rt.alloc(),
         &listener,
-        connections,
+        port.connections,
+        patience(port.timeout),
+        &remarks,
         &office.routes,
         &mut office.desk,
     ) {
-        Ok(()) => Ok(()),
-        Err(_) => Err(FAILED),
+        Ok(()) => {
+            let _ = eprintln!(rt; "bsp_office: {} connections served", port.connections);
+            Ok(())
+        }
+        Err(fault) => {
+            let _ = eprintln!(rt; "bsp_office: {fault}");
+            Err(FAILED)
+        }
     }
 }
 
@@ -138,12 +168,7 @@ fn serve_book<B: Book + Drop>(
     let mut office = Office::open(rt, token, book).ok_or(FAILED)?;
     match place {
         Place::Standard => serve_standard(rt, &mut office),
-        Place::Port { port, connections } => serve_connections(
-            rt,
-            *port,
-            *connections,
-            &mut office,
-        ),
+        Place::Port(port) => serve_connections(rt, *port, &mut office),
     }
 }
 
@@ -166,10 +191,11 @@ fn serve_file<T: Start>(
     file: &str,
     start: T,
 ) -> Result<(), u8> {
+    make_private(rt, file);
     match SqlBook::open_path(rt, file, start) {
         Ok(book) => serve_stored(rt, place, token, book),
         Err(fault) => {
-            let _ = eprintln!(rt; "bsp_office: {file}: {fault}");
+            say_unopened(rt, file, &fault);
             Err(opening_status(&fault))
         }
     }
@@ -201,14 +227,12 @@ pub(crate) fn run_office(rt: &HostRuntime, token: &TokenSource<'_>, book: &BookS
     status_of(serve_at(rt, &Place::Standard, token, book))
 }
 
-/// Serves so many connections on a port of 127.0.0.1, and answers the exit status.
+/// Serves the connections of a port, and answers the exit status.
 pub(crate) fn serve_office(
     rt: &HostRuntime,
-    port: u16,
+    port: Port,
     token: &TokenSource<'_>,
     book: &BookSource<'_>,
-    connections: u32,
 ) -> u8 {
-    let place = Place::Port { port, connections };
-    status_of(serve_at(rt, &place, token, book))
+    status_of(serve_at(rt, &Place::Port(port), token, book))
 }

@@ -59,6 +59,8 @@ pub enum Work<'a> {
         book: BookSource<'a>,
         /// From 1 to 1,000,000.
         connections: u32,
+        /// For how many seconds a peer is waited for, at most 3,600. With 0 without end.
+        timeout: u32,
     },
 }
 
@@ -152,11 +154,18 @@ fn connections_given(matches: &ArgMatches<'_>) -> Option<u32>
     matches.get_one::<u32>("connections")
 }
 
+fn timeout_given(matches: &ArgMatches<'_>) -> Option<u32>
+    ensures { result ≡ number_in 32 (codes "timeout") (rows_of (found_of matches.now)) }
+{
+    matches.get_one::<u32>("timeout")
+}
+
 fn serve_given<'a>(matches: &ArgMatches<'a>) -> Option<Work<'a>>
     ensures { option_map work_of result ≡ serve_work (rows_of (found_of matches.now)) }
 {
     let port = port_given(matches)?;
     let connections = connections_given(matches)?;
+    let timeout = timeout_given(matches)?;
     let Some(token) = token_given(matches) else {
         return None;
     };
@@ -168,6 +177,7 @@ fn serve_given<'a>(matches: &ArgMatches<'a>) -> Option<Work<'a>>
         token,
         book,
         connections,
+        timeout,
     })
 }
 

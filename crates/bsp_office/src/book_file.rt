@@ -1,0 +1,53 @@
+//! The file of a book: made for its owner alone, and why it is not opened.
+
+use bsp_store::OpenFault;
+use sqlite::{Error, ErrorCode};
+use std::fs::{self, OpenOptions};
+use std::io;
+use std::os::unix::fs::{MetadataExt, OpenOptionsExt};
+
+/// Makes an empty file where there is none, with the mode 0600: a book has the tokens of all callers. Where it cannot be
+/// made, the opening says why.
+pub(crate) fn make_private(rt: &HostRuntime, file: &str) {
+    let mut options = OpenOptions::new();
+    options.write(true).create_new(true).mode(0o600);
+    let _ = options.open(rt, file);
+}
+
+/// Whether SQLite's journal is beside the file.
+fn has_journal(rt: &HostRuntime, file: &str) -> io::Result<bool> {
+    let journal = format!(in rt.alloc(); "{file}-journal")?;
+    fs::exists(rt, journal.as_str())
+}
+
+/// Why the system does not let the file be opened as a database, as far as it says; else nothing.
+fn refusal(rt: &HostRuntime, file: &str) -> io::Result<&'static str> {
+    let found = fs::metadata(rt, file)?;
+    if found.is_dir() {
+        return Ok(": it is a directory");
+    }
+    if found.nlink() > 1 {
+        return Ok(": it has a second name");
+    }
+    if has_journal(rt, file)? {
+        return Ok(": another program left a journal beside it");
+    }
+    let _ = OpenOptions::new().read(true).write(true).open(rt, file)?;
+    Ok("")
+}
+
+/// Says on standard error why a file is not opened as a book. B02 and B04 are a line of their own in front.
+pub(crate) fn say_unopened(rt: &HostRuntime, file: &str, fault: &OpenFault) {
+    let _ = match fault {
+        OpenFault::Damaged => rt.eprintln("B02"),
+        OpenFault::OtherVersion => rt.eprintln("B04"),
+        OpenFault::NoRoom | OpenFault::Failed(_) => Ok(()),
+    };
+    let _ = match fault {
+        OpenFault::Failed(Error::SqliteFailure(ErrorCode::CannotOpen)) => match refusal(rt, file) {
+            Ok(cause) => eprintln!(rt; "bsp_office: {file}: {fault}{cause}"),
+            Err(error) => eprintln!(rt; "bsp_office: {file}: {fault}: {error}"),
+        },
+        _ => eprintln!(rt; "bsp_office: {file}: {fault}"),
+    };
+}
