@@ -1,10 +1,11 @@
 #!/usr/bin/env python3
 """Runs the commands of README.md, docs/GUIDE.md, docs/FORMATS.md and samples/README.md as they are printed there, and
-compares what each prints with what is shown.
+compares what they print with what is shown.
 
 The commands are in the blocks that begin with ```console. A line that begins with $ is a command, those that follow it are
-what it prints. Those of a file run in one shell, in a folder that has samples/ and ./bsp_office, a link to PROGRAM.
-A free port takes the place of 8080, so that two tours can run on one machine.
+what it prints. Those of a file are pasted whole into one shell, with no wait between them, in a folder that has samples/
+and ./bsp_office, a link to PROGRAM. Lines of the office itself, which begin with its name, may come between others: they
+are compared apart. A line of curl that it could not connect is left out, since curl tries again until the office listens. A free port takes the place of 8080, so that two tours can run on one machine.
 
 usage: .ci/tour.py [PROGRAM]   (with no PROGRAM it takes the one that is built)
 """
@@ -15,13 +16,12 @@ import signal
 import subprocess
 import sys
 import tempfile
-import time
 
 import office
 from office import TOP, expect
 
 BLOCK = re.compile(r"^```console\n(.*?)^```$", re.MULTILINE | re.DOTALL)
-END = "the command has ended"
+SECONDS = 120
 
 
 def commands_of(text):
@@ -36,67 +36,40 @@ def commands_of(text):
     return found
 
 
-class Shell:
-    """A shell that runs one command after the other; what they print goes to a file."""
-
-    def __init__(self, folder):
-        place = f"{folder}/printed"
-        out = open(place, "ab")
-        # a second opening: to read moves no place at which the commands write
-        self.out = open(place, "rb")
-        self.it = subprocess.Popen(
-            ["bash"],
-            cwd=folder,
-            stdin=subprocess.PIPE,
-            stdout=out,
-            stderr=subprocess.STDOUT,
-            text=True,
-            start_new_session=True,
-        )
-        self.begun = 0
-
-    def run(self, command):
-        """The lines that the command prints, of one in the background its first line."""
-        is_left = command.rstrip().endswith("&")
-        self.it.stdin.write(command + "\n")
-        if not is_left:
-            self.it.stdin.write(f"echo; echo '{END}'\n")
-        self.it.stdin.flush()
-        limit = time.monotonic() + 60
-        while time.monotonic() < limit:
-            self.out.seek(self.begun)
-            text = self.out.read().decode()
-            if is_left and "\n" in text:
-                self.begun += len(text.encode())
-                return text.splitlines()
-            if not is_left and text.endswith(END + "\n"):
-                self.begun += len(text.encode())
-                return text[: -len(END) - 1].rstrip("\n").splitlines()
-            time.sleep(0.01)
-        return ["(the command did not end in 60 seconds)"]
-
-    def close(self):
+def printed_by(script, folder):
+    """The lines that a shell prints which is given the script at once."""
+    shell = subprocess.Popen(["bash"], cwd=folder, stdin=subprocess.PIPE, stdout=subprocess.PIPE, stderr=subprocess.STDOUT,
+                             text=True, start_new_session=True)
+    try:
+        return shell.communicate(script, timeout=SECONDS)[0].splitlines()
+    except subprocess.TimeoutExpired:
+        return [f"(the commands did not end in {SECONDS} seconds)"]
+    finally:
         try:
-            os.killpg(self.it.pid, signal.SIGTERM)
+            os.killpg(shell.pid, signal.SIGKILL)
         except ProcessLookupError:
             pass
-        self.it.wait()
+
+
+def apart(lines):
+    """The lines of the office itself, and the others, without empty ones and those of a connection that is tried again."""
+    own = [it for it in lines if it.startswith("bsp_office: ")]
+    return own, [it for it in lines if it and it not in own and not it.startswith("curl: (7) ")]
 
 
 def compare(name, program):
-    """Runs the commands of the file, and compares what each prints."""
+    """Pastes the commands of the file, and compares what they print."""
     commands = commands_of((TOP / name).read_text(encoding="utf-8"))
     if not commands:
         sys.exit(f"{name} has no commands")
-    port, is_same = str(office.free_port()), True
+    port = str(office.free_port())
     with tempfile.TemporaryDirectory() as folder:
         shutil.copytree(f"{TOP}/samples", f"{folder}/samples")
         os.symlink(program, f"{folder}/bsp_office")
-        shell = Shell(folder)
-        for command, wanted in commands:
-            printed = shell.run(command.replace("8080", port))
-            is_same &= expect(f"{name}: $ {command}", [it.replace("8080", port) for it in wanted], printed)
-        shell.close()
+        printed = printed_by("".join(f"{it}\n" for it, _ in commands).replace("8080", port), folder)
+    wanted = [line.replace("8080", port) for _, lines in commands for line in lines]
+    is_same = all([expect(f"{name}: {what}", one, other)
+                   for what, one, other in zip(("the office", "the commands"), apart(wanted), apart(printed))])
     if is_same:
         print(f"{name}: {len(commands)} commands print what it shows")
 

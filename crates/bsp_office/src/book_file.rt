@@ -7,8 +7,11 @@ use std::io;
 use std::os::unix::fs::{MetadataExt, OpenOptionsExt};
 
 /// Makes an empty file where there is none, with the mode 0600: a book has the tokens of all callers. Where it cannot be
-/// made, the opening says why.
+/// made, the opening says why. Names that SQLite takes for no file are left to the opening.
 pub(crate) fn make_private(rt: &HostRuntime, file: &str) {
+    if file == ":memory:" || file.starts_with("file:") {
+        return;
+    }
     let mut options = OpenOptions::new();
     options.write(true).create_new(true).mode(0o600);
     let _ = options.open(rt, file);
