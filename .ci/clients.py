@@ -1,7 +1,7 @@
 #!/usr/bin/env python3
 """Asks the built program over loopback with real clients, curl and Python's http.client, and compares what they receive;
-the same behind nginx, with the configuration that docs/HTTP.md shows, where the machine has nginx; and runs `serve` and
-`run` where they cannot serve, and compares the statuses and the lines on standard error.
+the same behind nginx, with samples/nginx.conf, where the machine has nginx; tries peers that are idle, that never read,
+that speak TLS and that send what is not read; and runs `serve` and `run` where they cannot serve, and compares the statuses and the lines on standard error.
 Exits with the number of cases that differ.
 
 usage: .ci/clients.py [PROGRAM]   (with no PROGRAM it takes the one that is built)
@@ -71,7 +71,7 @@ def with_curl():
     chunked = ["-H", "Transfer-Encoding: chunked", "--data-binary", f"@{SALE}", "-w", form]
     refused = curl(it, *token, *chunked, "OFFICE/agents/12345675/ret")
     expect("curl, chunked", '{"code":"T05"}501 1.1 1 application/json\n', refused)
-    expect("curl: the end", (0, ""), it.ended())
+    expect("curl: the end", (0, "bsp_office: 8 connections served\n"), it.ended())
 
 
 def with_http_client():
@@ -103,7 +103,7 @@ def with_http_client():
         raw.shutdown(socket.SHUT_WR)
         pieces = b"".join(iter(lambda: raw.recv(65536), b""))
     expect("50 requests in one piece", 50, pieces.count(NOT_ALLOWED.encode()))
-    expect("http.client: the end", (0, ""), served.ended())
+    expect("http.client: the end", (0, "bsp_office: 3 connections served\n"), served.ended())
 
 
 def wait_for(port):
@@ -121,10 +121,9 @@ def wait_for(port):
 def behind_nginx():
     """An idle client, one that sends half a request, and one that sends chunks: the office serves others beside them."""
     if shutil.which("nginx") is None:
-        print("no nginx is on the path: the configuration of docs/HTTP.md is not tried")
+        print("no nginx is on the path: samples/nginx.conf is not tried")
         return
-    shown = (TOP / "docs" / "HTTP.md").read_text(encoding="utf-8")
-    text = re.search(r"^```nginx\n(.*?)^```$", shown, re.MULTILINE | re.DOTALL)[1]
+    text = office.sample("nginx.conf").decode()
     it, port = serving(6), office.free_port()
     text = text.replace("8081", str(port)).replace("8080", str(it.port))
     places = "pid nginx.pid; error_log error.log; "
@@ -142,11 +141,106 @@ def behind_nginx():
     head = curl(it, "-I", *token, f"{at}/periods/24011")
     expect("behind nginx: HEAD", True, head.startswith("HTTP/1.1 405 Method Not Allowed\n") and "\nAllow: GET\n" in head)
     expect("behind nginx: none", '{"code":"N02"}', curl(it, f"http://127.0.0.1:{port}/x"))
+    with open("long", "wb") as file:
+        file.write(b"1" * 5_000_000)
+    long = curl(it, *token, "-H", "Expect:", "-w", "%{http_code}", "--data-binary", "@long", f"{at}/ret")
+    expect("behind nginx: a body that is too long", '{"code":"T03"}413', long)
     idle.close()
     half.close()
     proxy.terminate()
     proxy.wait(10)
-    expect("behind nginx: the end", (0, ""), it.ended())
+    expect("behind nginx: the end", (0, "bsp_office: 6 connections served\n"), it.ended())
+
+
+SECONDS = 1
+
+
+def held_up(what, hold):
+    """A peer that does what `hold` says holds up another for about the timeout at most."""
+    it = office.Office(PROGRAM, None, "--token", OFFICE, "--timeout", SECONDS, seconds=30)
+    with it, socket.create_connection(("127.0.0.1", it.port)) as peer:
+        hold(peer)
+        begun = time.monotonic()
+        expect(f"{what}: another is answered", 403, it.ask("GET", "/agents/12345675/stock", "x")[0])
+        expect(f"{what}: in time", True, time.monotonic() - begun < 2 * SECONDS + 1)
+
+
+def never_read(peer):
+    """Asks for more than the buffers of the two sockets hold, and reads nothing."""
+    peer.setsockopt(socket.SOL_SOCKET, socket.SO_RCVBUF, 4096)
+    peer.settimeout(SECONDS / 2)
+    try:
+        peer.sendall(ASKED * 65_535)
+    except OSError:
+        pass
+
+
+def two_clients():
+    """Two clients that keep their connections, and ask in turn: the one is idle while the other waits."""
+    it = office.Office(PROGRAM, None, "--token", OFFICE, "--timeout", SECONDS, seconds=30)
+    with it:
+        for number in range(2):
+            for peer in [http.client.HTTPConnection("127.0.0.1", it.port, timeout=10) for _ in range(2)]:
+                peer.request("GET", "/agents/12345675/stock", headers={"Bsp-Token": "x"})
+                expect(f"two clients, turn {number}", 403, peer.getresponse().status)
+
+
+def timeouts():
+    held_up("an idle peer", lambda peer: None)
+    held_up("half a head", lambda peer: peer.sendall(b"GET /agents"))
+    held_up("half a body", lambda peer: peer.sendall(b"POST /office/day HTTP/1.1\r\nHost: a\r\nContent-Length: 9\r\n\r\n{"))
+    held_up("a TLS hello", lambda peer: peer.sendall(bytes.fromhex("16030100c8010000c40303") + bytes(194)))
+    held_up("a peer that never reads", never_read)
+    two_clients()
+
+
+def early_replies():
+    """A reply that comes before the request was read whole arrives, each time."""
+    it = office.Office(PROGRAM, None, "--token", OFFICE, "--timeout", 10, seconds=30)
+    asked = {
+        413: {"body": b"1" * 5_000_000},
+        501: {"body": (b"1" * 65_536 for _ in range(80)), "headers": {"Transfer-Encoding": "chunked"}, "encode_chunked": True},
+        431: {"headers": {"X": "1" * 20_000}},
+    }
+    with it:
+        for status, words in asked.items():
+            for number in range(20):
+                if status == 501:
+                    words["body"] = (b"1" * 65_536 for _ in range(80))
+                peer = http.client.HTTPConnection("127.0.0.1", it.port, timeout=10)
+                try:
+                    peer.request("POST", "/office/plan", **words)
+                    found = peer.getresponse().status
+                except OSError as fault:
+                    found = repr(fault)
+                expect(f"{status}, request {number}", status, found)
+                peer.close()
+
+
+def taken(peer, end):
+    """What the peer gets up to this end."""
+    text = b""
+    while not text.endswith(end):
+        piece = peer.recv(4096)
+        if not piece:
+            break
+        text += piece
+    return text
+
+
+def replies_before_bodies():
+    """What was answered is sent before the office waits for a body: an interim reply, and the reply to the message before."""
+    it = office.Office(PROGRAM, None, "--token", OFFICE, "--timeout", 10, seconds=30)
+    head = f"POST /office/day HTTP/1.1\r\nHost: a\r\nBsp-Token: {OFFICE}\r\nContent-Length: 20\r\n"
+    with it, socket.create_connection(("127.0.0.1", it.port), timeout=5) as peer:
+        peer.sendall(f"{head}Expect: 100-continue\r\n\r\n".encode())
+        expect("Expect: the interim reply", b"HTTP/1.1 100 Continue\r\n\r\n", taken(peer, b"\r\n\r\n"))
+        peer.sendall(b'{"day":"2024-01-05"}')
+        expect("Expect: the reply", True, taken(peer, b"}").endswith(b'{"result":"done"}'))
+        peer.sendall(ASKED + f"{head}\r\n".encode())
+        expect("the reply to the message before", True, taken(peer, b"}").endswith(NOT_ALLOWED.encode()))
+        peer.sendall(b'{"day":"2024-01-05"}')
+        expect("the reply to the body", True, taken(peer, b"}").endswith(b'{"result":"held"}'))
 
 
 def refusal(what, status, error, *words, text=b""):
@@ -214,6 +308,9 @@ def main():
         with_curl()
         with_http_client()
         behind_nginx()
+        timeouts()
+        early_replies()
+        replies_before_bodies()
         refused()
         run_on_standard_input()
         run_twice()
