@@ -1,5 +1,5 @@
 #!/usr/bin/env python3
-"""Validates docs/openapi.yaml, where the machine has openapi-spec-validator; asks a new office its examples in the order
+"""Validates docs/openapi.yaml with openapi-spec-validator; asks a new office its examples in the order
 of x-walk, and compares each reply, byte for byte; and asks each operation with a wrong token, and each path with
 another method. Exits with the number of cases that differ.
 
@@ -14,10 +14,10 @@ import office
 from office import TOP, expect
 
 try:
+    import openapi_spec_validator
     import yaml
-except ImportError:
-    print("no PyYAML is here: docs/openapi.yaml is not tried")
-    sys.exit(0)
+except ImportError as missing:
+    sys.exit(f"{missing}: docs/openapi.yaml is not tried (pip install pyyaml openapi-spec-validator)")
 
 TOKENS = {"office": "officetoken00001", "agent": "agenttoken000001", "airline": "airlinetoken0001"}
 
@@ -94,29 +94,26 @@ def walk(description, program, served):
 
 
 def refusals(description, served):
-    """Each operation refuses a wrong token, and each path another method."""
+    """Each operation refuses a wrong token, and each path another method; another path has no route. So `default` says."""
+    codes = description.whole["components"]["responses"]["Unserved"]["content"]["application/json"]["examples"]
+    expect("another path", (404, "application/json", compact(codes["noRoute"]["value"])), served.ask("GET", "/x", "x"))
     for name, (method, target, operation) in description.operations.items():
         wanted = (403, "application/json", b'{"code":"N01"}')
         expect(f"{name} with a wrong token", wanted, served.ask(method, target, "x" * 16))
-        wanted = (405, "application/json", b'{"code":"N03"}')
+        wanted = (405, "application/json", compact(codes["otherMethod"]["value"]))
         expect(f"{name} with another method", wanted, served.ask("PUT", target, "x" * 16))
 
 
 def main():
     program = office.program()
     description = Description((TOP / "docs" / "openapi.yaml").read_text(encoding="utf-8"))
-    try:
-        from openapi_spec_validator import validate
-    except ImportError:
-        print("no openapi-spec-validator is here: docs/openapi.yaml is not validated")
-    else:
-        validate(description.whole)
+    openapi_spec_validator.validate(description.whole)
     asked = {place.split("/")[0] for place in description.whole["x-walk"]}
     expect("the operations that x-walk asks", sorted(description.operations), sorted(asked))
     served = office.Office(program, None, "--token", TOKENS["office"], "--connections", 1, seconds=10)
     walk(description, program, served)
     refusals(description, served)
-    expect("the office's end", (0, ""), served.ended())
+    expect("the office's end", (0, "bsp_office: 1 connections served\n"), served.ended())
     office.finish(f"docs/openapi.yaml: {len(description.whole['x-walk'])} examples are answered as it says")
 
 
