@@ -1,7 +1,7 @@
 //! The calls of HOT files.
 
 use crate::fault::Fault;
-use crate::hot_records::{code_sums, codes, names, record, sums};
+use crate::hot_records::{code_sums, codes, names, net, record, sums};
 use crate::page::Page;
 use crate::texts::text_of;
 use bsp_hot_check::{HotTotals, check_hot};
@@ -36,6 +36,7 @@ pub fn answer(
         "names" => Some(names(out)),
         "codes" => Some(codes(out)),
         "sums" => Some(sums(rest, out)),
+        "net" => Some(net(rest, out)),
         "code-sums" => Some(code_sums(rest, out)),
         _ => None,
     }

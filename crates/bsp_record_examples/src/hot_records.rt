@@ -85,28 +85,39 @@ fn write_sums(out: &mut String, sums: Sums) -> Result<(), Fault> {
 }
 
 /// The amount that a text begins with, and what follows it.
-fn first_amount(text: &str) -> Result<(i128, &str), Fault> {
+fn first_amount(text: &str) -> Result<(i32, &str), Fault> {
     let (word, rest) = first_word(text);
     match word.parse::<i32>() {
-        Ok(units) => Ok((i128::from(units), rest)),
+        Ok(units) => Ok((units, rest)),
         Err(_) => Err(Fault::Number),
     }
 }
 
-/// Adds a document to sums of cash, credit and commission.
+/// Adds a document to a cash, a credit and a commission.
 pub fn sums(text: &str, out: &mut String) -> Result<(), Fault> {
     let (cash, rest) = first_amount(text)?;
     let (credit, rest) = first_amount(rest)?;
     let (commission, _) = first_amount(rest)?;
     let paid = Sums {
         documents: 0,
-        cash,
-        credit,
-        commission,
+        cash: i128::from(cash),
+        credit: i128::from(credit),
+        commission: i128::from(commission),
     };
-    let sums = Sums::DOCUMENT.plus(paid);
-    write_sums(out, sums)?;
-    write!(out, ", net {}", sums.net())?;
+    write_sums(out, Sums::DOCUMENT.plus(paid))
+}
+
+/// Takes a commission from a cash.
+pub fn net(text: &str, out: &mut String) -> Result<(), Fault> {
+    let (cash, rest) = first_amount(text)?;
+    let (commission, _) = first_amount(rest)?;
+    let sums = Sums {
+        documents: 1,
+        cash: i128::from(cash),
+        credit: 0,
+        commission: i128::from(commission),
+    };
+    write!(out, "{}", sums.net())?;
     Ok(())
 }
 

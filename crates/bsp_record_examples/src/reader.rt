@@ -68,11 +68,13 @@ fn take(
 /// Makes the calls of a reader; `; ` is between them.
 pub fn calls(page: &Page<'_>, steps: &str, out: &mut String) -> Result<(), Fault> {
     let mut reader = RetReader::new(page.alloc());
-    let mut between = "";
+    let mut is_first = true;
     for step in steps.split("; ") {
-        out.push_str(between)?;
+        if !is_first {
+            out.push_str("; ")?;
+        }
+        is_first = false;
         take(page, Step::of(step)?, &mut reader, out)?;
-        between = "; ";
     }
     Ok(())
 }

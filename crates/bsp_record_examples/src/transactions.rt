@@ -6,13 +6,13 @@ use crate::page::Page;
 use crate::texts::text_of;
 use crate::words::{first_word, number};
 use bsp_fields::Amount;
-use bsp_ret::{read_ret, transaction};
+use bsp_ret::{RetFile, read_ret, transaction};
 use bsp_ret_records::{Amounts, CardPayment, PaidSale, ReportedDocument, Sale, Tax, Transaction};
 use bsp_ret_writer::is_group;
 use std::alloc::Global;
 
 /// Writes a document: its airline, its number and its check digit.
-fn write_document(out: &mut String, document: ReportedDocument) -> Result<(), Fault> {
+fn write_document(out: &mut String, document: &ReportedDocument) -> Result<(), Fault> {
     write!(out, "{}-", document.airline)?;
     write_characters(out, &document.number)?;
     write!(out, "-{}", document.check_digit)?;
@@ -20,11 +20,11 @@ fn write_document(out: &mut String, document: ReportedDocument) -> Result<(), Fa
 }
 
 /// Writes a record 2, but for the passenger.
-fn write_sale(out: &mut String, sale: Sale) -> Result<(), Fault> {
+fn write_sale(out: &mut String, sale: &Sale) -> Result<(), Fault> {
     write!(out, "{:?} ", sale.code)?;
     write_characters(out, &sale.agent)?;
     out.push_str(" ")?;
-    write_document(out, sale.document)?;
+    write_document(out, &sale.document)?;
     write!(out, " {}", sale.issued)?;
     Ok(())
 }
@@ -33,7 +33,7 @@ fn write_sale(out: &mut String, sale: Sale) -> Result<(), Fault> {
 fn write_related(
     out: &mut String,
     word: &str,
-    related: Option<ReportedDocument>,
+    related: &Option<ReportedDocument>,
 ) -> Result<(), Fault> {
     match related {
         Some(document) => {
@@ -45,7 +45,7 @@ fn write_related(
 }
 
 /// Writes the tax of a place, where there is one.
-fn write_tax(out: &mut String, place: usize, tax: Option<Tax>) -> Result<(), Fault> {
+fn write_tax(out: &mut String, place: usize, tax: &Option<Tax>) -> Result<(), Fault> {
     if let Some(tax) = tax {
         write!(out, ", tax {place} ")?;
         write_characters(out, &tax.code)?;
@@ -55,13 +55,13 @@ fn write_tax(out: &mut String, place: usize, tax: Option<Tax>) -> Result<(), Fau
 }
 
 /// Writes a record 5, where there is one.
-fn write_amounts(out: &mut String, amounts: Option<Amounts>) -> Result<(), Fault> {
+fn write_amounts(out: &mut String, amounts: &Option<Amounts>) -> Result<(), Fault> {
     let Some(amounts) = amounts else {
         return Ok(());
     };
     write!(out, ", fare {}", amounts.fare.get())?;
     for (index, tax) in amounts.taxes.iter().enumerate() {
-        write_tax(out, index.saturating_add(1), *tax)?;
+        write_tax(out, index.saturating_add(1), tax)?;
     }
     write!(
         out,
@@ -81,7 +81,7 @@ fn write_form(out: &mut String, form: &str, amount: Option<Amount>) -> Result<()
 }
 
 /// Writes a record 8 with CC, where there is one.
-fn write_card(out: &mut String, card: Option<CardPayment>) -> Result<(), Fault> {
+fn write_card(out: &mut String, card: &Option<CardPayment>) -> Result<(), Fault> {
     if let Some(card) = card {
         write!(out, ", CC {} ", card.amount.get())?;
         write_characters(out, &card.vendor)?;
@@ -91,70 +91,84 @@ fn write_card(out: &mut String, card: Option<CardPayment>) -> Result<(), Fault> 
 
 /// Writes the values of a transaction.
 fn write_values(out: &mut String, transaction: &Transaction) -> Result<(), Fault> {
-    let Transaction {
-        code,
-        agent,
-        document,
-        issued,
-        passenger,
-        related,
-        amounts,
-        cash,
-        credit,
-        exchange,
-    } = *transaction;
     let sale = Sale {
-        code,
-        agent,
-        document,
-        issued,
+        code: transaction.code,
+        agent: transaction.agent,
+        document: transaction.document,
+        issued: transaction.issued,
     };
-    write_sale(out, sale)?;
+    write_sale(out, &sale)?;
     out.push_str(" ")?;
-    write_characters(out, passenger.trim_ascii_end())?;
-    let [first, second] = related;
-    write_related(out, "related", first)?;
-    write_related(out, "second related", second)?;
-    write_amounts(out, amounts)?;
-    write_form(out, "CA", cash)?;
-    write_card(out, credit)?;
-    write_form(out, "EX", exchange)
+    write_characters(out, transaction.passenger.trim_ascii_end())?;
+    write_related(out, "related", &transaction.related[0])?;
+    write_related(out, "second related", &transaction.related[1])?;
+    write_amounts(out, &transaction.amounts)?;
+    write_form(out, "CA", transaction.cash)?;
+    write_card(out, &transaction.credit)?;
+    write_form(out, "EX", transaction.exchange)
 }
 
-/// The first transaction of a file.
-fn first_transaction(page: &Page<'_>, parts: &str) -> Result<Transaction, Fault> {
-    let text = text_of(page, parts)?;
-    let Ok(file) = read_ret(page.alloc(), &text) else {
-        return Err(Fault::File);
-    };
-    match transaction(&file, 0) {
-        Some(found) => Ok(found),
-        None => Err(Fault::File),
+/// Writes whether values are those of a group.
+fn write_is_group(out: &mut String, transaction: &Transaction) -> Result<(), Fault> {
+    out.push_str(if is_group(transaction) { "yes" } else { "no" })?;
+    Ok(())
+}
+
+/// The values of a transaction with this amount as its record 8 with EX.
+fn with_exchange(transaction: &Transaction, amount: Amount) -> Transaction {
+    Transaction {
+        code: transaction.code,
+        agent: transaction.agent,
+        document: transaction.document,
+        issued: transaction.issued,
+        passenger: transaction.passenger,
+        related: transaction.related,
+        amounts: transaction.amounts,
+        cash: transaction.cash,
+        credit: transaction.credit,
+        exchange: Some(amount),
     }
 }
 
-/// Shows the values of a transaction.
-fn values(page: &Page<'_>, parts: &str, out: &mut String) -> Result<(), Fault> {
-    write_values(out, &first_transaction(page, parts)?)
+/// What is shown of the first transaction of a file.
+#[derive(Clone, Copy)]
+enum Shown {
+    /// Its values.
+    Values,
+    /// Whether they are those of a group.
+    IsGroup,
+    /// Whether they are with this amount as its record 8 with EX.
+    IsGroupWith(Amount),
 }
 
-/// Whether the values of a transaction are those of a group.
-fn group(page: &Page<'_>, parts: &str, out: &mut String) -> Result<(), Fault> {
-    let found = first_transaction(page, parts)?;
-    out.push_str(if is_group(&found) { "yes" } else { "no" })?;
-    Ok(())
+/// Shows the first transaction of a file.
+fn show_first(file: &RetFile<'_>, shown: Shown, out: &mut String) -> Result<(), Fault> {
+    let Some(found) = transaction(file, 0) else {
+        return Err(Fault::File);
+    };
+    match shown {
+        Shown::Values => write_values(out, &found),
+        Shown::IsGroup => write_is_group(out, &found),
+        Shown::IsGroupWith(amount) => write_is_group(out, &with_exchange(&found, amount)),
+    }
 }
 
-/// The same with this amount as its record 8 with EX.
+/// Shows the first transaction of a text.
+fn show(page: &Page<'_>, shown: Shown, parts: &str, out: &mut String) -> Result<(), Fault> {
+    let text = text_of(page, parts)?;
+    match read_ret(page.alloc(), &text) {
+        Ok(file) => show_first(&file, shown, out),
+        Err(_) => Err(Fault::File),
+    }
+}
+
+/// Whether values are those of a group with an exchange.
 fn group_with_exchange(page: &Page<'_>, text: &str, out: &mut String) -> Result<(), Fault> {
     let (units, parts) = first_word(text);
-    let Ok(amount) = Amount::new(number(units)?) else {
-        return Err(Fault::Field);
-    };
-    let mut changed = first_transaction(page, parts)?;
-    changed.exchange = Some(amount);
-    out.push_str(if is_group(&changed) { "yes" } else { "no" })?;
-    Ok(())
+    match Amount::new(number(units)?) {
+        Ok(amount) => show(page, Shown::IsGroupWith(amount), parts, out),
+        Err(_) => Err(Fault::Field),
+    }
 }
 
 /// The first record 2 of a file, and what its transaction pays.
@@ -172,7 +186,7 @@ fn first_sale(alloc: Global, text: &[u8]) -> Result<PaidSale, Fault> {
 fn sale(page: &Page<'_>, parts: &str, out: &mut String) -> Result<(), Fault> {
     let text = text_of(page, parts)?;
     let found = first_sale(page.alloc(), &text)?;
-    write_sale(out, found.sale)?;
+    write_sale(out, &found.sale)?;
     write!(out, ", paid {}", found.paid)?;
     Ok(())
 }
@@ -185,8 +199,8 @@ pub fn answer(
     out: &mut String,
 ) -> Option<Result<(), Fault>> {
     match word {
-        "transaction" => Some(values(page, rest, out)),
-        "group" => Some(group(page, rest, out)),
+        "transaction" => Some(show(page, Shown::Values, rest, out)),
+        "group" => Some(show(page, Shown::IsGroup, rest, out)),
         "group-with-exchange" => Some(group_with_exchange(page, rest, out)),
         "sale" => Some(sale(page, rest, out)),
         _ => None,
