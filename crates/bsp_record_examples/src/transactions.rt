@@ -115,19 +115,9 @@ fn write_is_group(out: &mut String, transaction: &Transaction) -> Result<(), Fau
 }
 
 /// The values of a transaction with this amount as its record 8 with EX.
-fn with_exchange(transaction: &Transaction, amount: Amount) -> Transaction {
-    Transaction {
-        code: transaction.code,
-        agent: transaction.agent,
-        document: transaction.document,
-        issued: transaction.issued,
-        passenger: transaction.passenger,
-        related: transaction.related,
-        amounts: transaction.amounts,
-        cash: transaction.cash,
-        credit: transaction.credit,
-        exchange: Some(amount),
-    }
+fn with_exchange(mut transaction: Transaction, amount: Amount) -> Transaction {
+    transaction.exchange = Some(amount);
+    transaction
 }
 
 /// What is shown of the first transaction of a file.
@@ -149,7 +139,7 @@ fn show_first(file: &RetFile<'_>, shown: Shown, out: &mut String) -> Result<(), 
     match shown {
         Shown::Values => write_values(out, &found),
         Shown::IsGroup => write_is_group(out, &found),
-        Shown::IsGroupWith(amount) => write_is_group(out, &with_exchange(&found, amount)),
+        Shown::IsGroupWith(amount) => write_is_group(out, &with_exchange(found, amount)),
     }
 }
 
