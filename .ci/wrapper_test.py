@@ -15,7 +15,7 @@ from office import TOP, expect, finish
 CRATES = "# the crates\nbsp_office: middle low clap # and not other\nlow: thiserror\nmiddle: low\nother: low\n"
 NO_RT = "/usr/bin:/bin"
 MADE = "bsp_office-src middle-src low-src"
-OLDER = MADE.replace("low-src", "older")
+OTHER = MADE.replace("low-src", "other")
 PROVED = [f"bsp_office: {crate} is proved, {at} of 3" for at, crate in enumerate(("low", "middle", "bsp_office"), 1)]
 # Notes its words, runs those of $during, proves all crates but $failing, and makes a program of their sources.
 RT = r"""#!/usr/bin/env bash
@@ -27,10 +27,8 @@ for it in $(sed 's/:.*//' crates.txt); do
   [ "$it" != "$failing" ] || { printf '%s\n' "fn $it::second: no proof" "rt: $it NOT PROVED"; exec sleep 60; }
   echo "rt: $it proved"
 done
-mkdir -p crates/bsp_office/out && cd crates
-printf '%s\n' '#!/bin/sh' "made='$(echo $(cat bsp_office/*/* middle/*/* low/*/*))'" \
-  'case $1 in made) echo "$made" ;; status) exit "$2" ;; *) pwd; printf "<%s>\n" "$@"; cat ;; esac' >bsp_office/out/bsp_office
-chmod +x bsp_office/out/bsp_office
+cd crates && printf '%s\n' '#!/bin/sh' "made='$(echo $(cat bsp_office/*/* middle/*/* low/*/*))'" 'case $1 in made) echo "$made" ;;
+  status) exit "$2" ;; *) pwd; printf "<%s>\n" "$@"; cat ;; esac' | install -D -m 755 /dev/stdin bsp_office/out/bsp_office
 """
 
 
@@ -40,10 +38,10 @@ class Room:
     def __init__(self, folder):
         self.folder, self.tree, self.path = folder, folder / "a tree", f"{folder}/kit/bin:{NO_RT}"
         self.program = self.tree / "crates/bsp_office/out/bsp_office"
-        for crate in "low", "middle", "other", "bsp_office":
-            self.write(f"a tree/crates/{crate}/src/one.rt", f"{crate}-src")
-        for name, text in {"a tree/crates.txt": CRATES, "a tree/HANDLES": "none", "kit/KIT-ID": "one", "kit/bin/rt": RT}.items():
-            self.write(name, text)
+        files = {f"a tree/crates/{it}/src/one.rt": f"{it}-src" for it in ("low", "middle", "other", "bsp_office")}
+        files |= {"a tree/crates.txt": CRATES, "a tree/HANDLES": "none", "kit/KIT-ID": "one", "kit/bin/rt": RT}
+        for it in files.items():
+            self.write(*it)
         (folder / "kit/bin/rt").chmod(0o755)
         (folder / "temporary").mkdir()
         shutil.copy(TOP / "bsp_office", self.tree)
@@ -75,22 +73,21 @@ class Room:
             self.write(f"a tree/crates/{name}", "not of the program")
         self.write("a tree/crates.txt", CRATES + "more: low")
         self.expect("what the program does not use", MADE, False)
-        self.write("a tree/crates/low/src/one.rt", "older")
-        os.utime(self.tree / "crates/low/src/one.rt", (1, 1))
-        self.expect("an older file", OLDER, True)
+        self.write("a tree/crates/low/src/one.rt", "other")
+        self.expect("a changed file", OTHER, True)
         self.write("a tree/crates/middle/specs/one.antt", "new")
-        self.expect("a new file", OLDER.replace("middle", "new middle"), True)
+        self.expect("a new file", OTHER.replace("middle", "new middle"), True)
         shutil.rmtree(self.tree / "crates/middle/specs")
-        self.expect("no such folder", OLDER, True)
+        self.expect("no such folder", OTHER, True)
         for name, text in {"a tree/crates.txt": CRATES.replace("low clap", "low"), "a tree/HANDLES": "Net", "kit/KIT-ID": "two",
                            "a tree/crates/bsp_office/out/bsp_office": "#!/bin/sh"}.items():
             self.write(name, text)
-            self.expect(f"another {name}", OLDER, True)
+            self.expect(f"another {name}", OTHER, True)
         self.program.unlink()
-        self.expect("no program, and a change", OLDER, True, during=f"echo later >'{self.tree}/crates/low/src/one.rt'")
-        self.expect("the change", OLDER.replace("older", "later"), True)
+        self.expect("no program, and a change", OTHER, True, during=f"echo later >'{self.tree}/crates/low/src/one.rt'")
+        self.expect("the change", OTHER.replace("other", "later"), True)
         (self.folder / "kit/KIT-ID").rename(self.folder / "kit/version")
-        expect("rt version", (0, OLDER.replace("older", "later"), []), self.call("made"))
+        expect("rt version", (0, OTHER.replace("other", "later"), []), self.call("made"))
 
     def two_calls_at_once(self):
         during = f"for it in {{1..200}}; do grep -q waiting '{self.folder}'/err* && break; sleep 0.05; done"
@@ -104,10 +101,10 @@ class Room:
     def not_built(self):
         self.call()
         self.write("a tree/HANDLES", "Net")
-        told = ["bsp_office: the program is not built. Of the crate that failed first, rt says, but for what is proved:",
-                "== middle", "fn middle::second: no proof", "rt: middle NOT PROVED", f"bsp_office: all of it is in {self.program}.log"]
-        expect("not proved", (4, "", [PROVED[0], *told]), self.call("made", failing="middle"))
-        expect("rt stops", (4, "", [told[0], "why", told[-1]]), self.call("made", during="echo why; exit 2"))
+        head = "bsp_office: the program is not built. Of the crate that failed first, rt says, but for what is proved:"
+        said, log = ["== middle", "fn middle::second: no proof", "rt: middle NOT PROVED"], f"bsp_office: all of it is in {self.program}.log"
+        expect("not proved", (4, "", [PROVED[0], head, *said, log]), self.call("made", failing="middle"))
+        expect("rt stops", (4, "", [head, "why", log]), self.call("made", during="echo why; exit 2"))
         self.expect("mended", MADE, True)
         other = {"user": 65534, "group": 65534, "extra_groups": []} if os.getuid() == 0 else {}
         self.folder.parent.chmod(0o755)
@@ -142,7 +139,7 @@ class Room:
         for number in signal.SIGHUP, signal.SIGINT, signal.SIGPIPE, signal.SIGTERM:
             self.write("kit/process", "")
             it = self.start("made", during='echo $$ >"$kit/process"; exec sleep 60')
-            while not process.read_text().strip() and it.poll() is None:
+            while it.poll() is None and not process.read_text().strip():
                 time.sleep(0.05)
             it.send_signal(number)
             expect(number.name, ("", "", -number), (*it.communicate(timeout=60), it.returncode))
