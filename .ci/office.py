@@ -1,0 +1,113 @@
+"""What the scripts beside this one share: the built program as it serves, and a comparison that counts what differs.
+
+    PROGRAM = office.program()
+    with office.Office(PROGRAM, "token", "--db", "book.db") as it:
+        status, media, body = it.ask("GET", "/office/settlement/24011", TOKEN)
+        office.expect("a settlement", 200, status)
+    office.finish("settlements are as docs/ROUTES.md says")
+"""
+import http.client
+import os
+import pathlib
+import select
+import signal
+import socket
+import subprocess
+import sys
+
+TOP = pathlib.Path(__file__).resolve().parents[1]
+failures = []
+
+
+def program():
+    """The program that the command line names, or else the one that is built; ends the script where it is not there."""
+    path = os.path.abspath(sys.argv[1]) if len(sys.argv) > 1 else f"{TOP}/crates/bsp_office/out/bsp_office"
+    if not os.access(path, os.X_OK):
+        sys.exit(f"{path} is not built")
+    return path
+
+
+def sample(name):
+    """The bytes of a file of samples/."""
+    return (TOP / "samples" / name).read_bytes()
+
+
+def free_port():
+    """A port of loopback on which nothing listens."""
+    with socket.socket() as it:
+        it.bind(("127.0.0.1", 0))
+        return it.getsockname()[1]
+
+
+def expect(what, wanted, found):
+    """Prints where the two differ, counts it, and returns whether they are the same."""
+    if wanted != found:
+        failures.append(what)
+        print(f"{what}:\n  wanted {wanted!r}\n  found  {found!r}", flush=True)
+    return wanted == found
+
+
+def expect_end(what, wanted, words, **how):
+    """Runs the words to their end, and compares the status, the output and the text on standard error."""
+    ended = subprocess.run(words, capture_output=True, timeout=60, **{"input": b"", **how})
+    return expect(what, wanted, (ended.returncode, ended.stdout, ended.stderr))
+
+
+def finish(line):
+    """Prints the line where nothing differed, and ends the script with the number of what did."""
+    if not failures:
+        print(line)
+    sys.exit(min(len(failures), 255))
+
+
+class Office:
+    """The program as it serves on a free port of loopback. Further words come last; with no token file they have the token."""
+
+    def __init__(self, path, token_file, *words, seconds=60):
+        self.port, self.seconds = free_port(), seconds
+        self.peer = http.client.HTTPConnection("127.0.0.1", self.port, timeout=seconds)
+        words = ["serve", "--port", self.port, *(["--token-file", token_file] if token_file else []), *words]
+        self.process = subprocess.Popen([path, *map(str, words)], stderr=subprocess.PIPE, text=True)
+        readable, _, _ = select.select([self.process.stderr], [], [], seconds)
+        line = self.process.stderr.readline() if readable else "nothing"
+        if line != f"bsp_office: listening on 127.0.0.1:{self.port}\n":
+            self.kill()
+            raise RuntimeError(f"{' '.join(map(str, words))}: it does not listen, and printed {line!r}")
+
+    def __enter__(self):
+        return self
+
+    def __exit__(self, *_):
+        self.end()
+
+    def ask(self, method, path, token=None, body=None, media=None):
+        """The status, the media type and the bytes of the reply. All requests go over one connection."""
+        fields = {"Bsp-Token": token, "Content-Type": media}
+        body = body.encode() if isinstance(body, str) else body
+        self.peer.request(method, path, body or None, {name: it for name, it in fields.items() if it is not None})
+        reply = self.peer.getresponse()
+        return reply.status, reply.getheader("Content-Type"), reply.read()
+
+    def close(self):
+        """Closes the connection of `ask`; the next request opens another."""
+        self.peer.close()
+
+    def ended(self):
+        """Waits until it ends by itself, as after --connections N: its status and what else it printed on standard error."""
+        self.close()
+        try:
+            return self.process.wait(self.seconds), self.process.stderr.read()
+        except subprocess.TimeoutExpired:
+            self.kill()
+            return "it goes on", ""
+
+    def end(self):
+        """Ends it by SIGTERM, unless it has ended."""
+        self.kill(signal.SIGTERM)
+
+    def kill(self, by=signal.SIGKILL):
+        """Ends it by SIGKILL, or by another signal."""
+        self.close()
+        self.process.send_signal(by)
+        self.process.wait()
+        self.process.stderr.close()

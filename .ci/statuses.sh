@@ -1,0 +1,251 @@
+#!/usr/bin/env bash
+# Runs the program on files, devices and words, and compares what it prints on standard output, its exit
+# status, and its line on standard error. Exits with the number of those
+# that differ. The longest inputs take 1.1 GB of memory.
+#
+# usage: .ci/statuses.sh [PROGRAM]   (with no PROGRAM it builds the program, where it is not built)
+set -u
+top=$(cd "$(dirname "$0")/.." && pwd) || exit 1
+program=$top/crates/bsp_office/out/bsp_office
+if [ $# -gt 0 ]; then
+  program=$(realpath -- "$1") || exit 1
+else
+  "$top/bsp_office" --help >/dev/null || exit 1
+fi
+[ -x "$program" ] || { echo "$program is not built"; exit 1; }
+work=$(mktemp -d) || exit 1
+trap 'rm -rf "$work"' EXIT
+cd "$work" || exit 1
+cp "$top/samples/sale.ret" v1.ret
+cp "$top/samples/no-documents.hot" v3.hot
+head -n 3 v3.hot >short.hot
+: >empty
+cp empty ./--quiet
+cp v1.ret ./-x
+printf '\0\377\n' >binary
+{ head -n 1 v1.ret && printf '%-136s\n' 'Z0000002000000000000000000000{'; } >v0.ret
+head -c 273 v0.ret >v0-without-its-last-line-end
+head -c 272 v0.ret >v0-without-its-last-character
+head -c 137 v0.ret >v0-without-its-trailer
+head -c 272 v1.ret >v1-cut-in-record-2
+head -c 137 v1.ret >v1-cut-behind-record-1
+sed 's/$/\r/' "$top/samples/refund-and-sale.ret" >refund-with-cr-lf
+head -c 547 v3.hot >v3-without-its-last-line-end
+printf '%-136s\r\n' >memo-with-cr-lf \
+  'BFH000000010112524011240215EURPROD001' \
+  'BCH000000020224011240101240115240215' \
+  'BOH00000003037654321324011EUR' \
+  'BKT000000040600000001125' \
+  'BKS00000005240000000124010560000000012ACMA76543213RATE OF MARCH' \
+  'BKS0000000630000000010000000500}' \
+  'BKP000000078400000001CA0000000500}' \
+  'BOT000000089376543213ACMA0000000100000000000500}00000000000000{00000000000000{00000000000500}' \
+  'BOT0000000994765432130000000100000000000500}00000000000000{00000000000000{00000000000500}' \
+  'BCT000000109524011000000010000000100000000000500}00000000000000{00000000000000{00000000000500}' \
+  'BFT0000001199125000000110000000100000000000500}00000000000000{00000000000000{00000000000500}'
+failures=0
+
+# is_error WANTED: whether the error text is none, some text, begins with this line of `error:`, or is this line behind
+# the program's name
+is_error() {
+  case $1 in
+    none) [ ! -s err ] ;;
+    text) [ -s err ] ;;
+    error:*) [ "$(head -n 1 err)" = "$1" ] ;;
+    *) [ "$(cat err)" = "bsp_office: $1" ] && [ "$(wc -l <err)" -eq 1 ] ;;
+  esac
+}
+
+# expect STATUS OUTPUT (none | text | error: TEXT | LINE) WORD..: the words' status, output and error text
+expect() {
+  local status=$1 output=$2 error=$3 told
+  shift 3
+  "$program" "$@" >out 2>err
+  told=$?
+  [ "$told" -eq "$status" ] && [ "$(cat out)" = "$output" ] && is_error "$error" && return
+  echo "bsp_office $*: status $told, wanted $status; or its output or error text is wrong:"
+  cat out err
+  failures=$((failures + 1))
+}
+
+# reports COMMAND FILE STATUS OUTPUT [LINE]: what the command prints of the file, and of it as standard input, which it
+# reads to its end. The line is that on standard error behind the name of the file, or none.
+reports() {
+  local line=${5-}
+  expect "$3" "$4" "${line:+$2: }${line:-none}" "$1" "$2"
+  {
+    expect "$3" "$4" "${line:+standard input: }${line:-none}" "$1" -
+    same 0 "$(wc -c)" "$1 - <$2: bytes that were not read"
+  } <"$2"
+}
+
+# same STATUS TOLD WHAT
+same() {
+  [ "$1" -eq "$2" ] && return
+  echo "$3: status $2, wanted $1"
+  failures=$((failures + 1))
+}
+
+# same_error STATUS TOLD (none | text | LINE) WHAT: the error text, too, which is in the file err
+same_error() {
+  same "$1" "$2" "$4"
+  is_error "$3" && return
+  echo "$4: the error text is wrong:"
+  cat err
+  failures=$((failures + 1))
+}
+
+# mistakes COMMAND SAMPLE: each line of the input is an edit of the sample, what the command then prints, and its line on
+# standard error
+mistakes() {
+  local edit printed line
+  while IFS='|' read -r edit printed line; do
+    sed "$edit" "$2" >mistaken
+    expect 1 "$printed" "mistaken: $line" "$1" mistaken
+  done
+}
+
+report='000001 TKTT 12345675 125-1300000001-6 2024-01-05 235.00
+records 5 transactions 1 sum 235.00'
+refund='000001 RFND 12345675 125-1300000002-0 2024-01-05 -235.00
+000002 TKTT 12345675 125-1300000001-6 2024-01-05 235.00
+records 9 transactions 2 sum 0.00'
+nothing='records 2 transactions 0 sum 0.00'
+expect 0 "$report" none check ./v1.ret
+reports check v1.ret 0 "$report"
+reports check v0.ret 0 "$nothing"
+reports check v0-without-its-last-line-end 0 "$nothing"
+reports check v0-without-its-last-character 1 'F01 record 2' 'record 2: it has 135 characters, and not 136'
+reports check v0-without-its-trailer 1 'F08 record 2' 'record 2: the file ends without a trailer'
+reports check v1-cut-in-record-2 1 'F01 record 2' 'record 2: it has 135 characters, and not 136'
+reports check v1-cut-behind-record-1 1 'F08 record 2' 'record 2: the file ends without a trailer'
+reports check refund-with-cr-lf 0 "$refund"
+reports check empty 1 'F08 record 1' 'record 1: the file ends without a trailer'
+reports check binary 1 'F01 record 1' 'record 1: it has 2 characters, and not 136'
+expect 1 'F01 record 1' 'standard input: record 1: it has 1073741824 characters, and not 136' \
+  check - < <(head -c 1073741824 /dev/zero)
+long='longer than 1,073,741,824 bytes'
+none='No such file or directory (os error 2)'
+expect 3 '' "standard input: $long" check - < <(head -c 1073741825 /dev/zero)
+expect 3 '' "missing: $none" check missing
+expect 3 '' '.: a read failed' check .
+expect 3 '' '/: a read failed' check /
+expect 3 '' ": $none" check ''
+expect 3 '' "/dev/zero: $long" check /dev/zero
+reports hotcheck v3.hot 0 'OK records 4 documents 0 net 0.00'
+reports hotcheck v3-without-its-last-line-end 0 'OK records 4 documents 0 net 0.00'
+reports hotcheck memo-with-cr-lf 0 'OK records 11 documents 1 net -50.00'
+reports hotcheck short.hot 1 'H04 record 4' 'record 4: the file ends before this record'
+reports hotcheck empty 1 'H04 record 1' 'record 1: the file ends before this record'
+reports hotcheck binary 1 'H04 record 1' 'record 1: it has 2 characters, and not 136'
+reports hotcheck v1.ret 1 'H04 record 1' 'record 1, columns 4-11: the sequence number is not 00000001'
+expect 1 'H04 record 1' 'standard input: record 1: it has 1073741824 characters, and not 136' \
+  hotcheck - < <(head -c 1073741824 /dev/zero)
+expect 3 '' "standard input: $long" hotcheck - < <(head -c 1073741825 /dev/zero)
+expect 3 '' "missing: $none" hotcheck missing
+expect 3 '' '.: a read failed' hotcheck .
+expect 3 '' '/: a read failed' hotcheck /
+expect 3 '' ": $none" hotcheck ''
+
+mistakes check v1.ret <<'END'
+1s/^1/2/|F02 record 1|record 1, column 1: the identifier is not `1`
+1s/PROD/TEST/|F04 record 1|record 1, columns 24-27: the production status is not `PROD`
+1s/240105/240230/|F05 record 1|record 1, columns 6-11: the date is not a day YYMMDD of the years 2000 to 2099
+2s/^2/7/|F03 record 2|record 2, column 1: no record after the header begins with `7`
+2s/DOE/D\tE/|F01 record 2|record 2, column 41: the character 0x09 is outside 0x20 to 0x7e
+3s/^5000001/5000002/|F03 record 3|record 3, columns 2-7: the transaction number is not 000001
+3s/{ \{13\}/{RA0000000010{/|F05 record 3|record 3, columns 32-33: tax place 2 has a code that is not above the one before it
+4s/^8000001CA/8000001EX/|F03 record 4|record 4, columns 1-9: a record `8`, or this form of payment, is not allowed here
+5s/^Z0000005/Z0000006/|F06 record 5|record 5, columns 2-8: the trailer states 6 records, and there are 5
+5s/{/A/|F07 record 5|record 5, columns 16-30: the trailer states the sum 235.01, and it is 235.00
+5d|F08 record 5|record 5: the file ends without a trailer
+5p|F09 record 6|record 6: a line follows the trailer
+END
+mistakes hotcheck v3.hot <<'END'
+1s/^BFH/BFT/|H04 record 1|record 1, columns 1-3: the letters are not those of the name with these digits
+2s/^BCH00000002/BCH00000003/|H04 record 2|record 2 (BCH02), columns 4-11: the sequence number is not 00000002
+4s/00000000000000{  /00000000000000A  /|H04 record 4|record 4 (BFT99): the record is not allowed here, or a number or a total in it differs
+END
+
+expect 1 'F08 record 1' none check --quiet empty
+expect 1 'H04 record 1' none hotcheck empty --quiet
+expect 3 '' none check --quiet missing
+expect 3 '' none hotcheck --quiet -- .
+expect 0 'bsp_office 1.0.0' none --version
+expect 2 '' none check $'\377'
+expect 0 "$report" none check -- -x
+expect 1 'F08 record 1' '--quiet: record 1: the file ends without a trailer' check -- --quiet
+
+required='error: the following required arguments were not provided:'
+expect 2 '' "error: 'bsp_office' requires a subcommand but one was not provided"
+expect 2 '' "error: unrecognized subcommand 'hot'" hot v3.hot
+expect 2 '' "error: unrecognized subcommand 'report'" report v1.ret
+expect 2 '' "$required" check
+expect 2 '' "$required" hotcheck
+expect 2 '' "error: unexpected argument '--version' found" check --version
+expect 2 '' "error: unexpected argument '-x' found" check -x
+expect 2 '' "error: unexpected argument '--unknown' found" check --unknown
+expect 2 '' "error: unexpected argument 'v3.hot' found" check v1.ret v3.hot
+expect 2 '' "error: unexpected argument '--unknown' found" hotcheck --unknown
+expect 2 '' "error: unexpected argument 'v1.ret' found" hotcheck v3.hot v1.ret
+
+token=officetoken00001
+given="error: exactly one of --token T and --token-file FILE gives the office's token, \
+T has 16 to 64 letters and digits, and no FILE is -"
+expect 2 '' "error: the argument '--token <T>' cannot be used multiple times" run --token $token --token $token
+expect 2 '' "error: unexpected argument '--port' found" run --token $token --port 80
+expect 2 '' "$given" run
+expect 2 '' "$given" run --token short
+expect 2 '' "$given" run --token $token --token-file token
+expect 2 '' "$given" run --token-file -
+expect 2 '' "$given" run --token $token --db -
+expect 2 '' "$required" serve --token $token
+
+# no_number WORD VALUE WHY WORD..: a value of `serve` that is no number of its range
+no_number() {
+  local word=$1 value=$2 why=$3
+  shift 3
+  expect 2 '' "error: invalid value '$value' for '$word': $why" serve --token $token "$@"
+}
+for port in 0 65536; do
+  no_number '--port <N>' $port "$port is not in 1..=65535" --port $port --connections 1
+done
+no_number '--port <N>' http 'invalid digit found in string' --port http --connections 1
+no_number '--port <N>' '' 'cannot parse integer from empty string' --port '' --connections 1
+expect 2 '' "error: unexpected argument '-1' found" serve --token $token --port -1 --connections 1
+for count in 0 1000001; do
+  no_number '--connections <K>' $count "$count is not in 1..=1000000" --port 8080 --connections $count
+done
+no_number '--connections <K>' many 'invalid digit found in string' --port 8080 --connections many
+
+unwritten='standard output: a write failed'
+"$program" check v1.ret >&- 2>err
+same_error 3 $? "$unwritten" 'standard output closed'
+"$program" check v1.ret >/dev/full 2>err
+same_error 3 $? "$unwritten" 'standard output full'
+"$program" check --quiet v1.ret >/dev/full 2>err
+same_error 3 $? none 'quiet, standard output full'
+"$program" hotcheck v3.hot >&- 2>err
+same_error 3 $? "$unwritten" 'hotcheck, standard output closed'
+"$program" hotcheck v3.hot >/dev/full 2>err
+same_error 3 $? "$unwritten" 'hotcheck, standard output full'
+"$program" check - <&- 2>err
+same_error 3 $? 'standard input: a read failed' 'standard input closed'
+"$program" check - <. 2>err
+same_error 3 $? 'standard input: a read failed' 'standard input a directory'
+(ulimit -v 500000 && "$program" check - < <(head -c 1000000000 /dev/zero) 2>err)
+same_error 3 $? 'standard input: out of memory' 'an input for which there is no memory'
+"$program" check empty >out 2>/dev/full
+same 1 $? 'check, standard error full'
+for words in --help 'check --help' 'hotcheck --help' 'run --help' 'serve --help'; do
+  # shellcheck disable=SC2086
+  "$program" $words >out 2>err && grep -q '^Usage: bsp_office' out && [ ! -s err ]
+  same 0 $? "$words"
+done
+"$program" --help >/dev/full 2>err
+same_error 3 $? 'standard output: No space left on device (os error 28)' '--help, standard output full'
+"$program" 2>/dev/full
+same 2 $? 'no words, standard error full'
+
+[ "$failures" -eq 0 ] && echo 'bsp_office: all statuses are as docs/COMMANDS.md says'
+exit "$failures"

@@ -1,0 +1,469 @@
+#!/usr/bin/env python3
+"""Runs the built program over a book in a file, and looks at the file with SQLite's own library:
+the requests of a month, with the program killed after each reply, are answered as over a book in memory; sales that
+were answered before a kill at any moment are there afterwards; the file passes SQLite's integrity check; a book that
+SQLite wrote is opened; the queries of docs/TABLES.md agree with the replies; the examples 22, 26, 27, 41 to 43 and 49
+of docs/EXAMPLES.md are as it says; a book of 10,000 requests, opened again, gives the same statements; and a file that
+is no book, or is a damaged one, is refused with its status and one line on standard error. Exits with the number of
+cases that differ.
+
+usage: .ci/store.py [PROGRAM]   (with no PROGRAM it takes the one that is built)
+"""
+import contextlib
+import http.client
+import os
+import pathlib
+import random
+import re
+import shutil
+import sqlite3
+import sys
+import tempfile
+import threading
+import time
+
+import office
+from office import TOP, expect, expect_end, sample
+
+sys.path.append(str(TOP / "bench" / "desk"))
+import make_requests
+
+PROGRAM = office.program()
+OFFICE = "officetoken00001"
+RUN = [PROGRAM, "run", "--token", OFFICE, "--db"]
+A, B = "12345675", "76543213"
+TOKENS = {A: "agenttoken000001", B: "agenttoken000002", "125": "airlinetoken0125", "220": "airlinetoken0220"}
+
+
+# ---- requests
+
+
+def sale_of(number, name="sale.ret"):
+    """A sample of the ticket 1300000001 with another number."""
+    return sample(name).replace(b"13000000016", b"%d%d" % (number, number % 7))
+
+
+def of_office(method, path, body=""):
+    return method, f"/office/{path}", OFFICE, body
+
+
+def of_agent(agent, method, path, body=""):
+    return method, f"/agents/{agent}/{path}", TOKENS[agent], body
+
+
+def of_airline(airline, method, path, body=""):
+    return method, f"/airlines/{airline}/{path}", TOKENS[airline], body
+
+
+def memo(agent, document, kind, amount):
+    return f'{{"agent":"{agent}","amount":{amount},"document":"{document}","kind":"{kind}","reason":"fare"}}'
+
+
+def setting_up():
+    """The plan, the day, the callers and their stock."""
+    yield of_office("POST", "plan", sample("plan.toml"))
+    yield of_office("POST", "day", '{"day":"2024-01-05"}')
+    for agent, first in (A, 1300000000), (B, 1400000000):
+        yield of_office("POST", "agents", f'{{"agent":"{agent}","token":"{TOKENS[agent]}"}}')
+        yield of_office("POST", "stock/allot", f'{{"agent":"{agent}","first":"{first}","last":"{first + 99}"}}')
+    for airline in "125", "220":
+        yield of_office("POST", "airlines", f'{{"airline":"{airline}","token":"{TOKENS[airline]}"}}')
+
+
+def reporting_memos():
+    """The memos of the airlines, and what the agents answer."""
+    yield of_airline("220", "POST", "memos", memo(A, 7000000001, "ADMA", 3000))
+    yield of_agent(A, "POST", "memos/agree", '{"airline":"220","document":"7000000001"}')
+    yield of_airline("125", "POST", "memos", memo(B, 6000000001, "ACMA", 5000))
+    yield of_airline("125", "POST", "memos", memo(A, 6000000002, "ADMA", 5000))
+    yield of_agent(A, "POST", "memos/dispute", '{"airline":"125","document":"6000000002"}')
+
+
+def working():
+    """What the agents and the airlines report, and the close."""
+    for name in "sale.ret", "exchange.ret", "card-sale.ret", "sale.ret":
+        yield of_agent(A, "POST", "ret", sample(name))
+    yield of_agent(A, "POST", "ret", sale_of(1300000005, "sale-and-cancellation.ret"))
+    yield from reporting_memos()
+    yield of_office("POST", "stock/allot", f'{{"agent":"{B}","first":"1300000050","last":"1300000149"}}')
+    yield of_office("POST", "stock/allot", f'{{"agent":"{B}","first":"1500000000","last":"1500000009"}}')
+    yield of_office("POST", "stock/withdraw", f'{{"agent":"{B}","first":"1500000000","last":"1500000009"}}')
+    yield of_office("POST", "day", '{"day":"2024-01-16"}')
+    yield of_office("POST", "close", '{"period":"24011"}')
+
+
+def looking():
+    """What the callers may see."""
+    for agent in A, B:
+        for path in "stock", "memos", "periods/24011", "statements/24011", "documents/1300000005":
+            yield of_agent(agent, "GET", path)
+    for airline in "125", "220":
+        yield of_airline(airline, "GET", "memos")
+        yield of_airline(airline, "GET", "hot/24011")
+    yield of_office("GET", "settlement/24011")
+
+
+# ---- the program
+
+
+def opened(file=None):
+    """The program as it serves, over a book in the file, or in memory where there is none."""
+    return office.Office(PROGRAM, None, "--token", OFFICE, *(["--db", file] if file else []))
+
+
+def ask(program, request):
+    status, _, body = program.ask(*request)
+    return status, body.decode()
+
+
+def answers(program, requests):
+    return [ask(program, it) for it in requests]
+
+
+def statement_net(text):
+    """The net of a statement or the total of a settlement, in minor units."""
+    return int(text.split()[-1].replace(".", ""))
+
+
+# ---- parts
+
+
+def over_memory():
+    program = opened()
+    replies = answers(program, [*setting_up(), *working(), *looking()])
+    program.kill()
+    expect("all is answered over memory", [], [it for it in replies if it[0] == 503])
+    return replies
+
+
+def over_file(wanted):
+    """The program is killed after each reply, and goes on over the same file."""
+    requests = [*setting_up(), *working(), *looking()]
+    for request, reply in zip(requests, wanted):
+        program = opened("office.db")
+        expect(f"{request[:2]} over a file", reply, ask(program, request))
+        program.kill()
+
+
+TALLIES = "SELECT * FROM tally WHERE period IN ('24011', '24012') ORDER BY agent, airline, period"
+
+
+def kept_tallies(file, requests, wanted):
+    """A book of the requests has these tallies. The last request is accepted."""
+    program = opened(file)
+    replies = answers(program, requests)
+    expect(f"{file}: the last reply", 200, replies[-1][0])
+    program.kill()
+    expect(f"{file}: its tallies", wanted, rows_of(file, TALLIES))
+
+
+def example_42():
+    """The tallies of a closed period."""
+    work = [of_agent(A, "POST", "ret", sample(it)) for it in ("sale.ret", "card-sale.ret")]
+    close = [of_office("POST", "day", '{"day":"2024-01-16"}'), of_office("POST", "close", '{"period":"24011"}')]
+    kept_tallies("closed.db", [*setting_up(), *work, *reporting_memos(), *close], [
+        # accepted, living, canx, memo_count, cash, credit, commission, memos
+        (A, "125", "24011", 1, 1, 0, 0, 23500, 0, 1000, 0),
+        (A, "220", "24011", 1, 1, 0, 1, 0, 10000, 0, 3000),
+        (B, "125", "24011", 0, 0, 0, 1, 0, 0, 0, -5000),
+    ])
+
+
+def examples_26_and_27():
+    """Six tickets posted by their agent, and one by another."""
+    program = opened("six.db")
+    answers(program, setting_up())
+    found = ask(program, of_agent(A, "POST", "ret", sample("six-tickets.ret")))[1]
+    wanted = ["accepted", "held", "E06", "E05", "E07", "E03"]
+    expect("six tickets", wanted, re.findall(r'"verdict":"(\w+)"', found))
+    reply = ask(program, of_agent(B, "POST", "ret", sample("sale.ret")))
+    expect("a sale of another agent", (200, '{"results":[{"n":1,"verdict":"E02"}]}'), reply)
+    reply = ask(program, of_agent(B, "GET", "periods/24011"))
+    expect("its net", (200, '{"closed":false,"documents":0,"net":"0.00","period":"24011"}'), reply)
+    program.kill()
+
+
+def canx_of_sale():
+    """A CANX of the sale of samples/sale.ret, issued on 2024-01-16."""
+    sale = sample("sale.ret").decode().splitlines()
+    lines = [sale[0].replace("240105", "240116"), sale[1].replace("TKTT", "CANX").replace("240105", "240116")]
+    return "\n".join([*lines, f"Z{3:07d}{1:07d}{make_requests.zoned(0, 15)}".ljust(136), ""]).encode()
+
+
+def example_43():
+    """A sale, and its CANX in the next period. With other cash in the tally the book is damaged."""
+    cancelled = [
+        of_agent(A, "POST", "ret", sample("sale.ret")), of_office("POST", "day", '{"day":"2024-01-16"}'),
+        of_agent(A, "POST", "ret", canx_of_sale())]
+    kept_tallies("cancelled.db", [*setting_up(), *cancelled], [
+        (A, "125", "24011", 1, 0, 0, 0, 0, 0, 0, 0),
+        (A, "125", "24012", 1, 0, 1, 0, 0, 0, 0, 0),
+    ])
+    with contextlib.closing(sqlite3.connect("cancelled.db", isolation_level=None)) as it:
+        it.execute("UPDATE tally SET cash = 1 WHERE period = '24011'")
+    refusal("other cash", "cancelled.db", DAMAGED, 1)
+
+
+class Market(make_requests.Market):
+    """The requests of bench/desk."""
+
+    def month(self, sales):
+        """The callers, and so many sales, each in a file of its own; then the close."""
+        self.open()
+        for at in range(sales):
+            sale = self.sale("240105")
+            self.post_of_agent("sale", int(sale.agent[:7]) - 1_000_000, f"sale-{at}", [sale])
+        self.office("day", '{"day":"2024-01-16"}')
+        self.office("close", '{"period":"24011"}')
+        for line in self.lines:
+            _, method, path, token, body = line.split("\t")
+            yield method, path, token, (self.folder / body[1:]).read_bytes() if body.startswith("@") else body
+
+
+def statements():
+    """What 100 of the agents and the office may see of the closed period."""
+    for agent in range(0, make_requests.AGENTS, 5):
+        code = make_requests.agent_code(agent)
+        yield "GET", f"/agents/{code}/statements/24011", make_requests.agent_token(agent), ""
+    yield of_office("GET", "settlement/24011")
+
+
+def many_requests():
+    """A book of 10,000 requests, opened again, gives the same statements."""
+    folder = pathlib.Path("month")
+    folder.mkdir()
+    requests = list(Market(folder).month(8_946))
+    expect("the requests", 10_000, len(requests))
+    program = opened("month.db")
+    expect("all is answered over a file", {200}, {ask(program, it)[0] for it in requests})
+    wanted = answers(program, statements())
+    program.kill()
+    program = opened("month.db")
+    expect("statements of a book opened again", wanted, answers(program, statements()))
+    expect("they are there", {200}, {it[0] for it in wanted})
+    program.kill()
+
+
+def is_there(program, number):
+    return ask(program, of_agent(A, "GET", f"documents/{number}"))[0] == 200
+
+
+def killed_at_any_moment():
+    """Sales are reported until a kill: each that was answered is there, and at most one more."""
+    program = opened("any.db")
+    answers(program, setting_up())
+    moments, number = random.Random(1), 1300000000
+    for _ in range(8):
+        first, answered = number, []
+        stop = threading.Timer(moments.uniform(0.02, 0.3), program.process.kill)
+        stop.start()
+        with contextlib.suppress(OSError, http.client.HTTPException):
+            while number < 1300000090:
+                expect("a sale", 200, ask(program, of_agent(A, "POST", "ret", sale_of(number)))[0])
+                answered.append(number)
+                number += 1
+        stop.join()
+        program.kill()
+        program = opened("any.db")
+        there = [it for it in range(first, number + 1) if is_there(program, it)]
+        expect("sales after a kill", answered, there[:len(answered)])
+        expect("at most one more", True, len(there) <= len(answered) + 1)
+        number += 1
+    program.kill()
+    expect("integrity of any.db", [("ok",)], rows_of("any.db", "PRAGMA integrity_check"))
+
+
+def rows_of(file, query):
+    with contextlib.closing(sqlite3.connect(file)) as it:
+        return it.execute(query).fetchall()
+
+
+def copied_by_sqlite(file, texts):
+    """A database that SQLite makes with these texts of tables, with the rows of the book."""
+    with contextlib.closing(sqlite3.connect(file, isolation_level=None)) as it:
+        for text in texts:
+            it.execute(text)
+        it.execute("ATTACH 'office.db' AS office")
+        for name, in it.execute("SELECT name FROM main.sqlite_schema WHERE type = 'table'").fetchall():
+            it.execute(f"INSERT INTO main.{name} SELECT * FROM office.{name}")
+
+
+def written_by_sqlite(wanted):
+    """What SQLite writes is opened: the tables and rows anew, a backup, and the book made small."""
+    texts = [text for text, in rows_of("office.db", "SELECT sql FROM sqlite_schema WHERE type = 'table' ORDER BY rowid")]
+    copied_by_sqlite("copied.db", texts)
+    with contextlib.closing(sqlite3.connect("office.db")) as it, contextlib.closing(sqlite3.connect("backup.db")) as to:
+        it.backup(to)
+    shutil.copy("backup.db", "small.db")
+    with contextlib.closing(sqlite3.connect("small.db", isolation_level=None)) as it:
+        it.execute("VACUUM")
+    for file in "copied.db", "backup.db", "small.db":
+        program = opened(file)
+        expect(f"replies over {file}", wanted[-len(list(looking())):], answers(program, looking()))
+        expect(f"a sale over {file}", 200, ask(program, of_agent(A, "POST", "ret", sale_of(1300000070)))[0])
+        program.kill()
+        expect(f"integrity of {file}", [("ok",)], rows_of(file, "PRAGMA integrity_check"))
+
+
+def queries():
+    """The queries that docs/TABLES.md shows."""
+    text = (TOP / "docs" / "TABLES.md").read_text(encoding="utf-8")
+    return re.findall(r"^```sql\n(.*?)^```$", text, re.MULTILINE | re.DOTALL)
+
+
+def audited(wanted):
+    """The queries of an auditor against what the program replied."""
+    replies = dict(zip((it[1] for it in looking()), (it[1] for it in wanted[-len(list(looking())):])))
+    nets, memos, cancelled, tallies, stock = (rows_of("office.db", it) for it in queries())
+    expect("nets", [(it, "24011", statement_net(replies[f"/agents/{it}/statements/24011"])) for it in (A, B)], nets)
+    agents = re.search(r"TOTAL +AGENTS +(\S+)", replies["/office/settlement/24011"])[1]
+    expect("their sum", statement_net(agents), sum(it[2] for it in nets))
+    expect("memos", [("125", "6000000002", A, "ADMA", 5000, "disputed", "2024-01-05")], memos)
+    expect("cancelled tickets", [(A, "1300000005", "125", "24011", "24011")], cancelled)
+    expect("tallies that differ", [], tallies)
+    used = [(it, *found) for it in (A, B) for found in re.findall(
+        r'"first":"(\d+)","last":"(\d+)","used":(\d+)', replies[f"/agents/{it}/stock"])]
+    expect("stock", [(agent, first, last, int(count)) for agent, first, last, count in used], stock)
+
+
+def stored_run():
+    """The stored run of the program has the same bytes over a file."""
+    crate = TOP / "crates" / "bsp_office"
+    words = (crate / "args").read_text(encoding="utf-8").split()
+    wanted = 0, (crate / "stdout").read_bytes(), b""
+    expect_end("the stored run", wanted, [PROGRAM, *words, "--db", "stored.db"], input=(crate / "stdin").read_bytes())
+
+
+def on_standard_input():
+    """Example 39 on standard input and output, over a new file and over the same again."""
+    head = b"POST /office/day HTTP/1.1\r\nHost: bsp\r\nBsp-Token: %s\r\n" % OFFICE.encode()
+    asked = head + b'Expect: 100-continue\r\nContent-Length: 20\r\n\r\n{"day":"2024-01-05"}'
+    for result in b"done", b"held":
+        reply = b"HTTP/1.1 100 Continue\r\n\r\nHTTP/1.1 200 OK\r\nContent-Type: application/json\r\n" \
+            b'Content-Length: 17\r\n\r\n{"result":"%s"}' % result
+        expect_end(f"run, {result.decode()}", (0, reply, b""), [*RUN, "run.db"], input=asked)
+
+
+def refusal(what, file, cause, status):
+    """The program is not started over this file, and says why in one line."""
+    expect_end(what, (status, b"", f"bsp_office: {file}: {cause}\n".encode()), [*RUN, file])
+
+
+OTHER_VERSION = "B04 a book of another version"
+DAMAGED = "B02 no book, or a damaged one"
+IN_USE = "B03 database is locked"
+NOT_OPENED = "B03 unable to open database file"
+NO_DATABASE = "B03 file is not a database that obeys its schema"
+
+TICKET = """agent, '1300000004', canx, 2, airline, code, issued, period, alive, name, fare, taxes, rate, commission,
+    rel_airline, rel_number, rel_check, ca, cc, ex, vendor"""
+CANX = """agent, number, 1, check_digit, airline, 'CANX', issued, period, 1, name, NULL, NULL, NULL, NULL,
+    NULL, NULL, NULL, NULL, NULL, NULL, NULL"""
+SOLD = f"agent = '{A}' AND airline = '125' AND period = '24011'"
+CARD = f"agent = '{A}' AND airline = '220' AND period = '24011'"
+
+# each is made to a book without fault, and it is no sound book then
+DAMAGES = {
+    "a range that meets another": f"UPDATE stock SET lo = '1300000050' WHERE agent = '{B}'",
+    "an item out of stock": "UPDATE item SET number = '1500000000', check_digit = 2 WHERE number = '1300000001'",
+    "a ticket under the key of a CANX": f"""INSERT INTO item SELECT {CANX.replace("'CANX'", "code")} FROM item
+        WHERE number = '1300000008'""",
+    "a related document of another airline": "UPDATE item SET rel_airline = '220' WHERE number = '1300000003'",
+    "a second relation to a ticket": f"""INSERT INTO item SELECT {TICKET} FROM item WHERE number = '1300000003';
+        UPDATE tally SET accepted = accepted + 1, living = living + 1, cash = cash + 5000,
+        commission = commission + 250 WHERE {SOLD}""",
+    "a memo billed in an open period": "UPDATE memo SET billed = '24012' WHERE number = '7000000001'",
+    "a tally that is one more": f"UPDATE tally SET cash = cash + 1 WHERE {SOLD}",
+    "a ticket that ended without a CANX": f"""UPDATE item SET alive = 0 WHERE number = '1300000008';
+        UPDATE tally SET living = 0, credit = 0 WHERE {CARD}""",
+    "a CANX of a ticket that was exchanged": f"""INSERT INTO item SELECT {CANX} FROM item WHERE number = '1300000001';
+        UPDATE item SET alive = 0 WHERE number = '1300000001' AND canx = 0;
+        UPDATE tally SET accepted = accepted + 1, canx = canx + 1, living = living - 1, cash = cash - 23500,
+        commission = commission - 1000 WHERE {SOLD}""",
+    "a ticket without its cash": f"""UPDATE item SET ca = NULL WHERE number = '1300000001';
+        UPDATE tally SET cash = cash - 23500 WHERE {SOLD}""",
+    "a disputed memo that is billed": "UPDATE memo SET state = 'disputed' WHERE number = '7000000001'",
+    "no table of memos": "DROP TABLE memo",
+    "a further table": "CREATE TABLE note (text TEXT NOT NULL) STRICT",
+    "a memo of no kind": "UPDATE memo SET kind = 'X' WHERE number = '7000000001'",
+    "a tally too few": f"DELETE FROM tally WHERE {CARD}",
+    "no row of the day": "DELETE FROM meta",
+}
+
+
+def damaged():
+    """Each damage of a copy of the book is seen, and the book itself is as it was."""
+    for what, script in DAMAGES.items():
+        changed(script)
+        refusal(what, "copy.db", DAMAGED, 1)
+    changed("UPDATE meta SET version = 9")
+    refusal("version 9", "copy.db", OTHER_VERSION, 1)
+    changed("")
+    program = opened("copy.db")
+    expect("a copy of the book", 200, ask(program, of_office("GET", "settlement/24011"))[0])
+    refusal("a held file", "copy.db", IN_USE, 3)
+    program.kill()
+
+
+def changed(script):
+    """A copy of the book, with a change."""
+    for it in pathlib.Path().glob("copy.db*"):
+        it.unlink()
+    shutil.copy("office.db", "copy.db")
+    with contextlib.closing(sqlite3.connect("copy.db")) as it:
+        it.executescript(script)
+
+
+def not_opened():
+    """Files that are no book."""
+    os.mkdir("folder")
+    for what, file in ("a directory", "folder"), ("no folder", "missing/it"), ("a URI", "file:it"), ("memory", ":memory:"):
+        refusal(what, file, NOT_OPENED, 3)
+    pathlib.Path("text").write_text("no database\n" * 1000, encoding="utf-8")
+    refusal("a text", "text", NO_DATABASE, 3)
+    expect("the text is as it was", "no database\n" * 1000, pathlib.Path("text").read_text(encoding="utf-8"))
+    with contextlib.closing(sqlite3.connect("held.db", isolation_level=None)) as it:
+        it.execute("CREATE TABLE note (text TEXT)")
+        it.execute("BEGIN EXCLUSIVE")
+        refusal("a file that sqlite3 holds", "held.db", IN_USE, 3)
+    refusal("another database", "held.db", DAMAGED, 1)
+    read_only()
+
+
+def read_only():
+    """A file that this user may not write: root may write any, so it asks as another user."""
+    shutil.copy("office.db", "read-only.db")
+    os.chmod("read-only.db", 0o444)
+    if os.getuid() != 0:
+        refusal("a read-only file", "read-only.db", NOT_OPENED, 3)
+        return
+    os.chmod(".", 0o777)
+    shutil.copy(PROGRAM, "program")
+    line = f"bsp_office: read-only.db: {NOT_OPENED}\n".encode()
+    other = {"user": 65534, "group": 65534, "extra_groups": []}
+    expect_end("a read-only file", (3, b"", line), ["./program", *RUN[1:], "read-only.db"], **other)
+
+
+def main():
+    begun = time.monotonic()
+    with tempfile.TemporaryDirectory() as folder:
+        os.chdir(folder)
+        wanted = over_memory()
+        over_file(wanted)
+        expect("integrity of office.db", [("ok",)], rows_of("office.db", "PRAGMA integrity_check"))
+        audited(wanted)
+        written_by_sqlite(wanted)
+        examples_26_and_27()
+        example_42()
+        example_43()
+        killed_at_any_moment()
+        stored_run()
+        on_standard_input()
+        damaged()
+        not_opened()
+        many_requests()
+        os.chdir(TOP)
+    office.finish(f"bsp_office: a book in a file is as docs/TABLES.md says, in {time.monotonic() - begun:.0f} seconds")
+
+
+main()
