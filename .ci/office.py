@@ -47,6 +47,12 @@ def expect(what, wanted, found):
     return wanted == found
 
 
+def expect_end(what, wanted, words, **how):
+    """Runs the words to their end, and compares the status, the output and the text on standard error."""
+    ended = subprocess.run(words, capture_output=True, timeout=60, **{"input": b"", **how})
+    return expect(what, wanted, (ended.returncode, ended.stdout, ended.stderr))
+
+
 def finish(line):
     """Prints the line where nothing differed, and ends the script with the number of what did."""
     if not failures:
@@ -57,7 +63,7 @@ def finish(line):
 class Office:
     """The program as it serves on a free port of loopback. Further words come last; with no token file they have the token."""
 
-    def __init__(self, path, token_file, *words, seconds=30):
+    def __init__(self, path, token_file, *words, seconds=60):
         self.port, self.seconds = free_port(), seconds
         self.peer = http.client.HTTPConnection("127.0.0.1", self.port, timeout=seconds)
         words = ["serve", "--port", self.port, *(["--token-file", token_file] if token_file else []), *words]
