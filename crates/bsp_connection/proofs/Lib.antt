@@ -4,6 +4,7 @@ pub mod PassLemmas
 pub mod RetLemmas
 pub mod FileLemmas
 pub mod WriteLemmas
+pub mod NotedLemmas
 pub mod TurnLemmas
 pub mod RunLemmas
 pub mod ServeLemmas

@@ -23,7 +23,7 @@ use Rattle.bsp_connection.specs.Arrivals.{IsAsked}
 use Rattle.bsp_connection.specs.Conversations.{AnswersMessage, HasHead, HasMessage, IsBegun, connection}
 use Rattle.bsp_connection.specs.Conversations.Closes.{refused, unroomed, answered}
 use Rattle.bsp_connection.specs.Exchanges.{Exchange, Meaning, RequestText, answer_text, interim, request_of, used}
-use Rattle.bsp_connection.specs.Responding.{IsResponded, IsStopped, behind}
+use Rattle.bsp_connection.specs.Responding.{IsResponded, IsStopped}
 use Rattle.bsp_connection.specs.Turns.{ClosesBy, IsTurn, KeepsBy}
 use Rattle.bsp_connection.specs.declared.end.End.{End}
 use Rattle.bsp_connection.specs.declared.end.End.TheVariants.{Clean, Cut, Closed}

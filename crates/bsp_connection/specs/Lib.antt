@@ -7,3 +7,5 @@ pub mod Ends
 pub mod Conversations
 pub mod Turns
 pub mod Serving
+pub mod Noted
+pub mod Reads

@@ -1,10 +1,13 @@
 //! Waiting for a head.
 
-ghost use Rattle.std.specs.Prelude.{◌≡◌, ℕ, ◌<◌, ◌≤◌, List, ◌++◌, length, Ok, None, IfOk, OnErr};
+ghost use Rattle.std.specs.Prelude.{◌≡◌, ℕ, ◌+◌, ◌<◌, ◌≤◌, true, false, List, ◌++◌, length, Ok, None, IfOk, OnErr};
 ghost use Rattle.std.specs.Io.KnownBytes.{Consumes, IsAtEnd, Keeps};
 ghost use Rattle.bsp_heads.specs.Scan.{head_len};
 ghost use Rattle.bsp_connection.specs.Arrivals.{HasArrived};
+ghost use Rattle.bsp_connection.specs.Noted.{empty_reads, failed_by};
+ghost use Rattle.bsp_connection.specs.Reads.{most_empty_of_head};
 
+use crate::noted::Noted;
 use crate::sending::send_on;
 use crate::{ReadFault, Received};
 use bsp_heads::Scan;
@@ -21,19 +24,40 @@ pub(crate) enum Arrived {
     Ended,
 }
 
+/// Reads once from the peer, which was sent what the writer held back.
+fn receive<R: Read, W: Write>(
+    reader: &mut Noted<R>,
+    _writer: &Noted<W>,
+    received: &mut Received,
+) -> Result<usize, ReadFault>
+    requires room { length received.old < 16384 }
+    requires sent { _writer.now.pending ≡ false }
+    ensures ok { IfOk result (λ count. (got : List ℕ) × (length got ≡ count) × (received.new ≡ received.old ++ got)
+        × Consumes (R.remaining reader.old.inner) (R.remaining reader.new.inner) got) }
+    ensures end { IfOk result (λ count. count ≡ 0 → IsAtEnd (R.remaining reader.new.inner)) }
+    ensures err { OnErr result ((received.new ≡ received.old) × Keeps (R.remaining reader.old.inner) (R.remaining reader.new.inner)) }
+    ensures failed { reader.new.failed ≡ failed_by reader.old.failed result }
+    ensures empty { reader.new.empty ≡ empty_reads reader.old.empty result }
+{
+    received.fill(reader)
+}
+
 /// Reads until a head is received, no more can be received, or the input ends. Each byte is looked at once. Before
 /// the peer is waited for, it is sent what the writer holds back.
 pub(crate) fn await_head<R: Read, W: Write>(
-    reader: &mut R,
-    writer: &mut W,
+    reader: &mut Noted<R>,
+    writer: &mut Noted<W>,
     received: &mut Received,
 ) -> Result<Arrived, ReadFault>
-    ensures read { (got : List ℕ) × Consumes (R.remaining reader.old) (R.remaining reader.new) got × (received.new ≡ received.old ++ got) }
+    ensures read { (got : List ℕ) × Consumes (R.remaining reader.old.inner) (R.remaining reader.new.inner) got × (received.new ≡ received.old ++ got) }
     ensures ok { IfOk result (λ arrived. HasArrived received.new arrived) }
-    ensures end { result ≡ Ok Arrived.Ended → IsAtEnd (R.remaining reader.new) }
+    ensures end { result ≡ Ok Arrived.Ended → IsAtEnd (R.remaining reader.new.inner) }
     ensures err { OnErr result ((head_len received.new ≡ None) × (length received.new < 16384)) }
     ensures room { length received.new ≤ 16384 }
-    ensures kept { Keeps (W.contents writer.old) (W.contents writer.new) }
+    ensures kept { Keeps (W.contents writer.old.inner) (W.contents writer.new.inner) }
+    ensures failed { reader.new.failed ≡ failed_by reader.old.failed result }
+    ensures empty { reader.new.empty ≤ reader.old.empty + most_empty_of_head result }
+    ensures noted { writer.old.failed ≡ true → writer.new.failed ≡ true }
 {
     let mut scan = Scan::start();
     let mut seen = 0;
@@ -47,7 +71,7 @@ pub(crate) fn await_head<R: Read, W: Write>(
             return Ok(Arrived::TooLong);
         }
         send_on(writer);
-        if received.fill(reader)? == 0 {
+        if receive(reader, writer, received)? == 0 {
             return Ok(Arrived::Ended);
         }
     }

@@ -1,11 +1,13 @@
 //! Reading the body of a message, and asking the service.
 
-ghost use Rattle.std.specs.Prelude.{◌≡◌, ℕ, ◌<◌, ◌≤◌, List, length, Err, IfOk, OnErr};
+ghost use Rattle.std.specs.Prelude.{◌≡◌, ℕ, ◌+◌, ◌<◌, ◌≤◌, List, length, Err, IfOk, OnErr};
 ghost use Rattle.std.specs.Io.KnownBytes.{Consumes, IsAtEnd};
 ghost use Rattle.bsp_connection.specs.Bodies.{HasRet};
 ghost use Rattle.bsp_connection.specs.Arrivals.{IsAsked};
 ghost use Rattle.bsp_connection.specs.Exchanges.{answer_text, request_of};
+ghost use Rattle.bsp_connection.specs.Reads.{failed_by_body, most_empty_of_body};
 
+use crate::noted::Noted;
 use crate::room::Bodies;
 use crate::service::{Answer, BodyUse, Message, Service};
 use crate::{IgnoredBody, RetBody, Short, pass};
@@ -25,7 +27,7 @@ pub(crate) struct Place<'r> {
 
 /// Drops the body, and asks the service.
 fn ask_ignoring<R: Read, D, S: Service<D>>(
-    reader: &mut R,
+    reader: &mut Noted<R>,
     place: Place<'_>,
     bodies: &mut Bodies,
     service: &S,
@@ -34,9 +36,11 @@ fn ask_ignoring<R: Read, D, S: Service<D>>(
 ) -> Result<(usize, Answer), Short>
     requires within { place.head ≤ length place.received.now }
     requires use_is { S.means.uses message.now.method.now message.now.target.now BodyUse.Ignored }
-    ensures asked { (got : List ℕ) × Consumes (R.remaining reader.old) (R.remaining reader.new) got
+    ensures asked { (got : List ℕ) × Consumes (R.remaining reader.old.inner) (R.remaining reader.new.inner) got
         × IsAsked S.means message.now place.entry.head place.entry.body place.entry.received.now got desk.old desk.new result }
-    ensures end { result ≡ Err Short.Cut → IsAtEnd (R.remaining reader.new) }
+    ensures end { result ≡ Err Short.Cut → IsAtEnd (R.remaining reader.new.inner) }
+    ensures failed { reader.new.failed ≡ failed_by_body reader.old.failed result }
+    ensures empty { reader.new.empty ≤ reader.old.empty + most_empty_of_body result }
 {
     let have = pass(
         reader,
@@ -51,7 +55,7 @@ fn ask_ignoring<R: Read, D, S: Service<D>>(
 
 /// Keeps the body whole, and asks the service.
 fn ask_keeping<R: Read, D, S: Service<D>>(
-    reader: &mut R,
+    reader: &mut Noted<R>,
     place: Place<'_>,
     bodies: &mut Bodies,
     service: &S,
@@ -60,9 +64,11 @@ fn ask_keeping<R: Read, D, S: Service<D>>(
 ) -> Result<(usize, Answer), Short>
     requires within { place.head ≤ length place.received.now }
     requires use_is { S.means.uses message.now.method.now message.now.target.now BodyUse.Kept }
-    ensures asked { (got : List ℕ) × Consumes (R.remaining reader.old) (R.remaining reader.new) got
+    ensures asked { (got : List ℕ) × Consumes (R.remaining reader.old.inner) (R.remaining reader.new.inner) got
         × IsAsked S.means message.now place.entry.head place.entry.body place.entry.received.now got desk.old desk.new result }
-    ensures end { result ≡ Err Short.Cut → IsAtEnd (R.remaining reader.new) }
+    ensures end { result ≡ Err Short.Cut → IsAtEnd (R.remaining reader.new.inner) }
+    ensures failed { reader.new.failed ≡ failed_by_body reader.old.failed result }
+    ensures empty { reader.new.empty ≤ reader.old.empty + most_empty_of_body result }
 {
     let have = pass(
         reader,
@@ -101,7 +107,7 @@ fn answer_read<D, S: Service<D>>(
 
 /// Reads the body as a RET file, and asks the service.
 fn ask_reading<R: Read, D, S: Service<D>>(
-    reader: &mut R,
+    reader: &mut Noted<R>,
     place: Place<'_>,
     bodies: &mut Bodies,
     service: &S,
@@ -110,9 +116,11 @@ fn ask_reading<R: Read, D, S: Service<D>>(
 ) -> Result<(usize, Answer), Short>
     requires within { place.head ≤ length place.received.now }
     requires use_is { S.means.uses message.now.method.now message.now.target.now BodyUse.RetFile }
-    ensures asked { (got : List ℕ) × Consumes (R.remaining reader.old) (R.remaining reader.new) got
+    ensures asked { (got : List ℕ) × Consumes (R.remaining reader.old.inner) (R.remaining reader.new.inner) got
         × IsAsked S.means message.now place.entry.head place.entry.body place.entry.received.now got desk.old desk.new result }
-    ensures end { result ≡ Err Short.Cut → IsAtEnd (R.remaining reader.new) }
+    ensures end { result ≡ Err Short.Cut → IsAtEnd (R.remaining reader.new.inner) }
+    ensures failed { reader.new.failed ≡ failed_by_body reader.old.failed result }
+    ensures empty { reader.new.empty ≤ reader.old.empty + most_empty_of_body result }
 {
     let have = pass(
         reader,
@@ -135,7 +143,7 @@ fn ask_reading<R: Read, D, S: Service<D>>(
 ///
 /// Why the body did not come whole. The desk is then as it was.
 pub(crate) fn ask<R: Read, D, S: Service<D>>(
-    reader: &mut R,
+    reader: &mut Noted<R>,
     place: Place<'_>,
     bodies: &mut Bodies,
     service: &S,
@@ -143,9 +151,11 @@ pub(crate) fn ask<R: Read, D, S: Service<D>>(
     message: &Message<'_>,
 ) -> Result<(usize, Answer), Short>
     requires { place.head ≤ length place.received.now }
-    ensures asked { (got : List ℕ) × Consumes (R.remaining reader.old) (R.remaining reader.new) got
+    ensures asked { (got : List ℕ) × Consumes (R.remaining reader.old.inner) (R.remaining reader.new.inner) got
         × IsAsked S.means message.now place.entry.head place.entry.body place.entry.received.now got desk.old desk.new result }
-    ensures end { result ≡ Err Short.Cut → IsAtEnd (R.remaining reader.new) }
+    ensures end { result ≡ Err Short.Cut → IsAtEnd (R.remaining reader.new.inner) }
+    ensures failed { reader.new.failed ≡ failed_by_body reader.old.failed result }
+    ensures empty { reader.new.empty ≤ reader.old.empty + most_empty_of_body result }
 {
     match service.body_use(message.method, message.target) {
         BodyUse::Ignored => ask_ignoring(reader, place, bodies, service, desk, message),

@@ -1,11 +1,13 @@
 //! Serving one connection.
 
-ghost use Rattle.std.specs.Prelude.{ℕ, List, IfOk};
+ghost use Rattle.std.specs.Prelude.{◌≡◌, ℕ, ◌+◌, ◌≤◌, true, List, Err, IfOk};
 ghost use Rattle.std.specs.Io.KnownBytes.{Consumes, IsAtEnd};
 ghost use Rattle.bsp_connection.specs.Ends.{IsInputEnd};
+ghost use Rattle.bsp_connection.specs.Reads.{failed_by_reads, most_empty};
 ghost use Rattle.bsp_connection.specs.Serving.{Serves};
 
 use crate::end::{ServeFault, Served};
+use crate::noted::Noted;
 use crate::room::Room;
 use crate::service::Service;
 use crate::turn::turn;
@@ -30,14 +32,18 @@ pub const MESSAGE_LIMIT: usize = 65_536;
 /// written, and what the desk was asked before stays.
 pub fn serve<R: Read, W: Write, D, S: Service<D>>(
     alloc: Global,
-    reader: &mut R,
-    writer: &mut W,
+    reader: &mut Noted<R>,
+    writer: &mut Noted<W>,
     service: &S,
     desk: &mut D,
 ) -> Result<Served, ServeFault>
-    ensures conversation { (got : List ℕ) × Consumes (R.remaining reader.old) (R.remaining reader.new) got
-        × Serves S.means got desk.old desk.new (W.contents writer.old) (W.contents writer.new) result }
-    ensures end { IfOk result (λ served. IsInputEnd served.end → IsAtEnd (R.remaining reader.new)) }
+    ensures conversation { (got : List ℕ) × Consumes (R.remaining reader.old.inner) (R.remaining reader.new.inner) got
+        × Serves S.means got desk.old desk.new (W.contents writer.old.inner) (W.contents writer.new.inner) result }
+    ensures end { IfOk result (λ served. IsInputEnd served.end → IsAtEnd (R.remaining reader.new.inner)) }
+    ensures read_cause { reader.new.failed ≡ failed_by_reads reader.old.failed result }
+    ensures write_cause { result ≡ Err ServeFault.Write → writer.new.failed ≡ true }
+    ensures noted { writer.old.failed ≡ true → writer.new.failed ≡ true }
+    ensures reads { reader.new.empty ≤ reader.old.empty + most_empty result }
 {
     let Ok(mut room) = Room::new(alloc) else {
         return Err(ServeFault::Memory);

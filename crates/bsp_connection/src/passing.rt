@@ -1,9 +1,11 @@
 //! A body passed on to a sink.
 
-ghost use Rattle.std.specs.Prelude.{◌≡◌, ◌≢◌, ℕ, ◌<◌, ◌≤◌, true, List, [], length, take, Err, IfOk, IfErr, OnErr};
+ghost use Rattle.std.specs.Prelude.{◌≡◌, ◌≢◌, ℕ, ◌+◌, ◌<◌, ◌≤◌, true, List, [], length, take, Err, IfOk, IfErr, OnErr};
 ghost use Rattle.std.specs.Io.KnownBytes.{Consumes, IsAtEnd};
 ghost use Rattle.bsp_connection.specs.Bodies.{Passed, PassedRest};
+ghost use Rattle.bsp_connection.specs.Reads.{failed_by_body, most_empty_of_body};
 
+use crate::noted::Noted;
 use crate::sink::BodySink;
 use std::io::Read;
 use thiserror::Error;
@@ -32,7 +34,7 @@ pub enum Short {
 /// the bytes that came. `NoRoom` at once where the sink is out of memory for a piece. The sink then
 /// has what came before the piece, and the input is at the end of the piece.
 pub fn pass<R: Read, S: BodySink>(
-    reader: &mut R,
+    reader: &mut Noted<R>,
     held: &[u8],
     head: usize,
     body: usize,
@@ -41,10 +43,12 @@ pub fn pass<R: Read, S: BodySink>(
 ) -> Result<usize, Short>
     requires within { head ≤ length held.now }
     requires room { 0 < length chunk.old }
-    ensures read { (got : List ℕ) × Consumes (R.remaining reader.old) (R.remaining reader.new) got × Passed (S.has sink.new) (length chunk.old) head body held.now got result }
+    ensures read { (got : List ℕ) × Consumes (R.remaining reader.old.inner) (R.remaining reader.new.inner) got × Passed (S.has sink.new) (length chunk.old) head body held.now got result }
     ensures len { length chunk.new ≡ length chunk.old }
-    ensures end { result ≡ Err Short.Cut → IsAtEnd (R.remaining reader.new) }
+    ensures end { result ≡ Err Short.Cut → IsAtEnd (R.remaining reader.new.inner) }
     ensures memory { result ≡ Err Short.NoRoom → S.takes_memory ≡ true }
+    ensures failed { reader.new.failed ≡ failed_by_body reader.old.failed result }
+    ensures empty { reader.new.empty ≤ reader.old.empty + most_empty_of_body result }
 {
     let have = (held.len() - head).min(body);
     sink.start(body);
@@ -59,16 +63,18 @@ pub fn pass<R: Read, S: BodySink>(
 
 /// Reads so many bytes through the chunk, and passes them on as they come.
 fn pass_rest<R: Read, S: BodySink>(
-    reader: &mut R,
+    reader: &mut Noted<R>,
     rest: usize,
     chunk: &mut [u8],
     sink: &mut S,
 ) -> Result<(), Short>
     requires { 0 < length chunk.old }
-    ensures read { (got : List ℕ) × Consumes (R.remaining reader.old) (R.remaining reader.new) got × PassedRest (S.has sink.old) (S.has sink.new) (length chunk.old) rest got result }
+    ensures read { (got : List ℕ) × Consumes (R.remaining reader.old.inner) (R.remaining reader.new.inner) got × PassedRest (S.has sink.old) (S.has sink.new) (length chunk.old) rest got result }
     ensures len { length chunk.new ≡ length chunk.old }
-    ensures end { result ≡ Err Short.Cut → IsAtEnd (R.remaining reader.new) }
+    ensures end { result ≡ Err Short.Cut → IsAtEnd (R.remaining reader.new.inner) }
     ensures memory { result ≡ Err Short.NoRoom → S.takes_memory ≡ true }
+    ensures failed { reader.new.failed ≡ failed_by_body reader.old.failed result }
+    ensures empty { reader.new.empty ≤ reader.old.empty + most_empty_of_body result }
 {
     let mut left = rest;
     'more: while left > 0 {
@@ -83,14 +89,16 @@ fn pass_rest<R: Read, S: BodySink>(
 }
 
 /// Reads once, into room for one byte or more. Answers how many bytes came.
-fn read_piece<R: Read>(reader: &mut R, room: &mut [u8]) -> Result<usize, Short>
+fn read_piece<R: Read>(reader: &mut Noted<R>, room: &mut [u8]) -> Result<usize, Short>
     requires { 0 < length room.old }
     ensures len { length room.new ≡ length room.old }
     ensures bound { IfOk result (λ count. (0 < count) × (count ≤ length room.new)) }
-    ensures ok { IfOk result (λ count. Consumes (R.remaining reader.old) (R.remaining reader.new) (take count room.new)) }
-    ensures err { OnErr result (Consumes (R.remaining reader.old) (R.remaining reader.new) []) }
-    ensures end { result ≡ Err Short.Cut → IsAtEnd (R.remaining reader.new) }
+    ensures ok { IfOk result (λ count. Consumes (R.remaining reader.old.inner) (R.remaining reader.new.inner) (take count room.new)) }
+    ensures err { OnErr result (Consumes (R.remaining reader.old.inner) (R.remaining reader.new.inner) []) }
+    ensures end { result ≡ Err Short.Cut → IsAtEnd (R.remaining reader.new.inner) }
     ensures why { IfErr result (λ short. short ≢ Short.NoRoom) }
+    ensures failed { reader.new.failed ≡ failed_by_body reader.old.failed result }
+    ensures empty { reader.new.empty ≤ reader.old.empty + most_empty_of_body result }
 {
     match reader.read(room) {
         Ok(0) => Err(Short::Cut),

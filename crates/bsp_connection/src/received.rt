@@ -2,7 +2,9 @@
 
 ghost use Rattle.std.specs.Prelude.{◌≡◌, ℕ, ◌+◌, ◌<◌, ◌≤◌, ◌==◌, List, [], ◌++◌, length, take, drop, IfOk, OnOk, OnErr, vec_len};
 ghost use Rattle.std.specs.Io.KnownBytes.{Consumes, Keeps, IsAtEnd};
+ghost use Rattle.bsp_connection.specs.Noted.{empty_reads, failed_by};
 
+use crate::noted::Noted;
 use std::alloc::{AllocError, Global};
 use std::io::Read;
 use std::marker::Model;
@@ -86,12 +88,14 @@ impl Received {
     /// # Errors
     ///
     /// `ReadFault` where the read failed; the bytes are then as they were.
-    pub fn fill<R: Read>(&mut self, reader: &mut R) -> Result<usize, ReadFault>
+    pub fn fill<R: Read>(&mut self, reader: &mut Noted<R>) -> Result<usize, ReadFault>
         requires { length self.old < 16384 }
         ensures ok { IfOk result (λ count. (got : List ℕ) × (length got ≡ count) × (self.new ≡ self.old ++ got)
-            × Consumes (R.remaining reader.old) (R.remaining reader.new) got) }
-        ensures end { IfOk result (λ count. count ≡ 0 → IsAtEnd (R.remaining reader.new)) }
-        ensures err { OnErr result ((self.new ≡ self.old) × Keeps (R.remaining reader.old) (R.remaining reader.new)) }
+            × Consumes (R.remaining reader.old.inner) (R.remaining reader.new.inner) got) }
+        ensures end { IfOk result (λ count. count ≡ 0 → IsAtEnd (R.remaining reader.new.inner)) }
+        ensures err { OnErr result ((self.new ≡ self.old) × Keeps (R.remaining reader.old.inner) (R.remaining reader.new.inner)) }
+        ensures failed { reader.new.failed ≡ failed_by reader.old.failed result }
+        ensures empty { reader.new.empty ≡ empty_reads reader.old.empty result }
     {
         if self.end == CAPACITY {
             self.room
@@ -124,15 +128,21 @@ impl Received {
 /// # Errors
 ///
 /// `ReadFault` where the read failed; the bytes before the place are then as they were.
-pub fn read_from<R: Read>(reader: &mut R, room: &mut [u8], at: usize) -> Result<usize, ReadFault>
+pub fn read_from<R: Read>(
+    reader: &mut Noted<R>,
+    room: &mut [u8],
+    at: usize,
+) -> Result<usize, ReadFault>
     requires { at ≤ length room.old }
     ensures len { length room.new ≡ length room.old }
     ensures bound { IfOk result (λ count. at + count ≤ length room.new) }
     ensures ok { IfOk result (λ count. (got : List ℕ) × (length got ≡ count) × (take (at + count) room.new ≡ take at room.old ++ got)
-        × Consumes (R.remaining reader.old) (R.remaining reader.new) got) }
+        × Consumes (R.remaining reader.old.inner) (R.remaining reader.new.inner) got) }
     ensures front { OnErr result (take at room.new ≡ take at room.old) }
-    ensures end { IfOk result (λ count. count ≡ 0 → at < length room.old → IsAtEnd (R.remaining reader.new)) }
-    ensures err { OnErr result (Keeps (R.remaining reader.old) (R.remaining reader.new)) }
+    ensures end { IfOk result (λ count. count ≡ 0 → at < length room.old → IsAtEnd (R.remaining reader.new.inner)) }
+    ensures err { OnErr result (Keeps (R.remaining reader.old.inner) (R.remaining reader.new.inner)) }
+    ensures failed { reader.new.failed ≡ failed_by reader.old.failed result }
+    ensures empty { reader.new.empty ≡ empty_reads reader.old.empty result }
 {
     match reader.read(&mut room[at..]) {
         Ok(count) => Ok(count),

@@ -1,12 +1,14 @@
 //! The responses to messages, and how the connection goes on behind them.
 
-ghost use Rattle.std.specs.Prelude.{◌≡◌, true};
+ghost use Rattle.std.specs.Prelude.{◌≡◌, ◌≤◌, Bool, true, Err};
 ghost use Rattle.bsp_responses.specs.Responses.{refusal_reply, response};
 ghost use Rattle.bsp_connection.specs.Exchanges.{answer_text};
+ghost use Rattle.bsp_connection.specs.Reads.{failed_by_reads, failed_by_short, most_empty_of_short, most_empty_of_turn};
 ghost use Rattle.bsp_connection.specs.Responding.{IsResponded, IsStopped, behind};
 
 use crate::Short;
 use crate::end::{End, ServeFault};
+use crate::noted::Noted;
 use crate::sending::{WriteFault, send_response};
 use crate::service::{Answer, Service};
 use bsp_heads::Refused;
@@ -25,20 +27,29 @@ fn behind(closes: bool, written: Result<(), WriteFault>) -> Result<Option<End>, 
 
 /// Answers a message. `bare`: the response leaves its body out.
 pub(crate) fn respond<W: Write>(
-    writer: &mut W,
+    writer: &mut Noted<W>,
     answer: &Answer,
     bare: bool,
     closes: bool,
 ) -> Result<Option<End>, ServeFault>
-    ensures { IsResponded (W.contents writer.old) (W.contents writer.new) (response bare closes (answer_text answer.now)) closes result }
+    ensures responded { IsResponded (W.contents writer.old.inner) (W.contents writer.new.inner) (response bare closes (answer_text answer.now)) closes result }
+    ensures cause { result ≡ Err ServeFault.Write → writer.new.failed ≡ true }
+    ensures noted { writer.old.failed ≡ true → writer.new.failed ≡ true }
+    ensures failed { (before : Bool) → failed_by_reads before result ≡ before }
 {
     let written = send_response(writer, answer.reply(), bare, closes);
     behind(closes, written)
 }
 
 /// Answers a message whose head is refused, and closes the connection.
-pub(crate) fn refuse<W: Write>(writer: &mut W, refused: Refused) -> Result<Option<End>, ServeFault>
-    ensures { IsResponded (W.contents writer.old) (W.contents writer.new) (response refused.bare true (refusal_reply refused.fault)) true result }
+pub(crate) fn refuse<W: Write>(
+    writer: &mut Noted<W>,
+    refused: Refused,
+) -> Result<Option<End>, ServeFault>
+    ensures responded { IsResponded (W.contents writer.old.inner) (W.contents writer.new.inner) (response refused.bare true (refusal_reply refused.fault)) true result }
+    ensures cause { result ≡ Err ServeFault.Write → writer.new.failed ≡ true }
+    ensures noted { writer.old.failed ≡ true → writer.new.failed ≡ true }
+    ensures failed { (before : Bool) → failed_by_reads before result ≡ before }
 {
     let written = send_response(writer, refusal(refused.fault), refused.bare, true);
     behind(true, written)
@@ -48,11 +59,15 @@ pub(crate) fn refuse<W: Write>(writer: &mut W, refused: Refused) -> Result<Optio
 /// connection closes.
 pub(crate) fn stop<W: Write, D, S: Service<D>>(
     short: Short,
-    writer: &mut W,
+    writer: &mut Noted<W>,
     service: &S,
     bare: bool,
 ) -> Result<Option<End>, ServeFault>
-    ensures { IsStopped S.means short (W.contents writer.old) (W.contents writer.new) bare result }
+    ensures stopped { IsStopped S.means short (W.contents writer.old.inner) (W.contents writer.new.inner) bare result }
+    ensures cause { result ≡ Err ServeFault.Write → writer.new.failed ≡ true }
+    ensures noted { writer.old.failed ≡ true → writer.new.failed ≡ true }
+    ensures failed { (before : Bool) → failed_by_reads before result ≡ failed_by_short before short }
+    ensures empty { most_empty_of_short short ≤ most_empty_of_turn result }
 {
     match short {
         Short::Cut => Ok(Some(End::Cut)),

@@ -1,10 +1,11 @@
 //! Writing, with what a fault leaves written.
 
-ghost use Rattle.std.specs.Prelude.{true};
+ghost use Rattle.std.specs.Prelude.{◌≡◌, true, false, OnErr};
 ghost use Rattle.std.specs.Io.KnownBytes.{Keeps};
 ghost use Rattle.bsp_connection.specs.Exchanges.{IsWritten};
 ghost use Rattle.bsp_responses.specs.Responses.{reply_text, response};
 
+use crate::noted::Noted;
 use bsp_responses::{Reply, Response};
 use std::io::Write;
 
@@ -13,8 +14,10 @@ use std::io::Write;
 pub(crate) struct WriteFault;
 
 /// Writes the bytes. Where it fails, a first part of them was written.
-pub(crate) fn send<W: Write>(writer: &mut W, bytes: &[u8]) -> Result<(), WriteFault>
-    ensures { IsWritten (W.contents writer.old) (W.contents writer.new) bytes.now result }
+pub(crate) fn send<W: Write>(writer: &mut Noted<W>, bytes: &[u8]) -> Result<(), WriteFault>
+    ensures written { IsWritten (W.contents writer.old.inner) (W.contents writer.new.inner) bytes.now result }
+    ensures cause { OnErr result (writer.new.failed ≡ true) }
+    ensures noted { writer.old.failed ≡ true → writer.new.failed ≡ true }
 {
     let mut at = 0;
     while at < bytes.len() {
@@ -29,12 +32,14 @@ pub(crate) fn send<W: Write>(writer: &mut W, bytes: &[u8]) -> Result<(), WriteFa
 
 /// Writes a response. `to_head`: a HEAD is answered. `closes`: the connection closes behind it.
 pub(crate) fn send_response<W: Write>(
-    writer: &mut W,
+    writer: &mut Noted<W>,
     reply: Reply<'_>,
     to_head: bool,
     closes: bool,
 ) -> Result<(), WriteFault>
-    ensures { IsWritten (W.contents writer.old) (W.contents writer.new) (response to_head closes (reply_text reply.entry)) result }
+    ensures written { IsWritten (W.contents writer.old.inner) (W.contents writer.new.inner) (response to_head closes (reply_text reply.entry)) result }
+    ensures cause { OnErr result (writer.new.failed ≡ true) }
+    ensures noted { writer.old.failed ≡ true → writer.new.failed ≡ true }
 {
     let response = Response::new(reply, to_head, closes);
     let (head, body) = response.parts();
@@ -43,8 +48,10 @@ pub(crate) fn send_response<W: Write>(
 }
 
 /// Has a writer that holds bytes back send them. A writer that cannot has them still, and fails later.
-pub(crate) fn send_on<W: Write>(writer: &mut W)
-    ensures { Keeps (W.contents writer.old) (W.contents writer.new) }
+pub(crate) fn send_on<W: Write>(writer: &mut Noted<W>)
+    ensures kept { Keeps (W.contents writer.old.inner) (W.contents writer.new.inner) }
+    ensures noted { writer.old.failed ≡ true → writer.new.failed ≡ true }
+    ensures sent { writer.new.pending ≡ false }
 {
     let _ = writer.flush();
 }

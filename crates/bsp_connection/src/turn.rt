@@ -1,17 +1,19 @@
 //! One message: its head is read, its body passed on, and its response written.
 
-ghost use Rattle.std.specs.Prelude.{◌≡◌, ◌≢◌, ◌⊎◌, ◌||◌, ◌==◌, ℕ, ◌+◌, ◌<◌, ◌≤◌, List, [], ◌++◌, length, take, Some, None, IfOk, IfSome, if◌then◌else◌};
+ghost use Rattle.std.specs.Prelude.{◌≡◌, ◌≢◌, ◌⊎◌, ◌||◌, ◌==◌, ℕ, ◌+◌, ◌<◌, ◌≤◌, true, false, List, [], ◌++◌, length, take, Some, None, Err, IfOk, IfSome, if◌then◌else◌};
 ghost use Rattle.std.specs.Option.{option_map};
 ghost use Rattle.std.specs.Io.KnownBytes.{Consumes, IsAtEnd, Keeps};
 ghost use Rattle.httparse.specs.Spans.{IsWithin, span_bytes};
 ghost use Rattle.bsp_heads.specs.Head.{AreParts};
 ghost use Rattle.bsp_heads.specs.Scan.{head_len};
 ghost use Rattle.bsp_connection.specs.Exchanges.{interim};
+ghost use Rattle.bsp_connection.specs.Reads.{failed_by_reads, most_empty_of_turn};
 ghost use Rattle.bsp_connection.specs.Turns.{IsTurn};
 
 use crate::arriving::{Arrived, await_head};
 use crate::asking::{Place, ask};
 use crate::end::{End, ServeFault};
+use crate::noted::Noted;
 use crate::responding::{refuse, respond, stop};
 use crate::room::Room;
 use crate::sending::{send, send_on};
@@ -62,8 +64,8 @@ fn answer_message<R: Read, W: Write, D, S: Service<D>>(
     head: usize,
     parts: HeadParts,
     room: &mut Room,
-    reader: &mut R,
-    writer: &mut W,
+    reader: &mut Noted<R>,
+    writer: &mut Noted<W>,
     service: &S,
     desk: &mut D,
 ) -> Result<Option<End>, ServeFault>
@@ -74,10 +76,15 @@ fn answer_message<R: Read, W: Write, D, S: Service<D>>(
     requires method { IsWithin (length (take head room.old.received)) parts.method }
     requires target { IsWithin (length (take head room.old.received)) parts.target }
     requires token { IfSome parts.token (IsWithin (length (take head room.old.received))) }
-    ensures read { (got : List ℕ) × Consumes (R.remaining reader.old) (R.remaining reader.new) got
-        × IsTurn S.means count (interim parts.wanted.expects) (room.old.received ++ got) room.new.received desk.old desk.new (W.contents writer.old) (W.contents writer.new) result }
-    ensures end { IfOk result (λ end. (end ≡ Some End.Clean) ⊎ (end ≡ Some End.Cut) → IsAtEnd (R.remaining reader.new)) }
+    requires sent { length room.old.received < head + parts.wanted.body → writer.old.pending ≡ false }
+    ensures read { (got : List ℕ) × Consumes (R.remaining reader.old.inner) (R.remaining reader.new.inner) got
+        × IsTurn S.means count (interim parts.wanted.expects) (room.old.received ++ got) room.new.received desk.old desk.new (W.contents writer.old.inner) (W.contents writer.new.inner) result }
+    ensures end { IfOk result (λ end. (end ≡ Some End.Clean) ⊎ (end ≡ Some End.Cut) → IsAtEnd (R.remaining reader.new.inner)) }
     ensures last { IfOk result (λ end. end ≡ None → count + 1 ≢ 65536) }
+    ensures failed { reader.new.failed ≡ failed_by_reads reader.old.failed result }
+    ensures empty { reader.new.empty ≤ reader.old.empty + most_empty_of_turn result }
+    ensures cause { result ≡ Err ServeFault.Write → writer.new.failed ≡ true }
+    ensures noted { writer.old.failed ≡ true → writer.new.failed ≡ true }
 {
     let wanted = parts.wanted;
     let text = room.received.bytes();
@@ -97,8 +104,10 @@ fn answer_message<R: Read, W: Write, D, S: Service<D>>(
 }
 
 /// Where a body is waited for, sends the peer what the writer holds back.
-fn send_before_body<W: Write>(writer: &mut W, has_come: bool)
-    ensures { Keeps (W.contents writer.old) (W.contents writer.new) }
+fn send_before_body<W: Write>(writer: &mut Noted<W>, has_come: bool)
+    ensures kept { Keeps (W.contents writer.old.inner) (W.contents writer.new.inner) }
+    ensures noted { writer.old.failed ≡ true → writer.new.failed ≡ true }
+    ensures sent { has_come ≡ false → writer.new.pending ≡ false }
 {
     if !has_come {
         send_on(writer);
@@ -110,18 +119,22 @@ fn answer_head<R: Read, W: Write, D, S: Service<D>>(
     count: usize,
     head: usize,
     room: &mut Room,
-    reader: &mut R,
-    writer: &mut W,
+    reader: &mut Noted<R>,
+    writer: &mut Noted<W>,
     service: &S,
     desk: &mut D,
 ) -> Result<Option<End>, ServeFault>
     requires few { count < 65536 }
     requires ends { head_len room.old.received ≡ Some head }
     requires short { length room.old.received ≤ 16384 }
-    ensures read { (got : List ℕ) × Consumes (R.remaining reader.old) (R.remaining reader.new) got
-        × IsTurn S.means count [] (room.old.received ++ got) room.new.received desk.old desk.new (W.contents writer.old) (W.contents writer.new) result }
-    ensures end { IfOk result (λ end. (end ≡ Some End.Clean) ⊎ (end ≡ Some End.Cut) → IsAtEnd (R.remaining reader.new)) }
+    ensures read { (got : List ℕ) × Consumes (R.remaining reader.old.inner) (R.remaining reader.new.inner) got
+        × IsTurn S.means count [] (room.old.received ++ got) room.new.received desk.old desk.new (W.contents writer.old.inner) (W.contents writer.new.inner) result }
+    ensures end { IfOk result (λ end. (end ≡ Some End.Clean) ⊎ (end ≡ Some End.Cut) → IsAtEnd (R.remaining reader.new.inner)) }
     ensures last { IfOk result (λ end. end ≡ None → count + 1 ≢ 65536) }
+    ensures failed { reader.new.failed ≡ failed_by_reads reader.old.failed result }
+    ensures empty { reader.new.empty ≤ reader.old.empty + most_empty_of_turn result }
+    ensures cause { result ≡ Err ServeFault.Write → writer.new.failed ≡ true }
+    ensures noted { writer.old.failed ≡ true → writer.new.failed ≡ true }
 {
     let parts = match read_head(&room.received.bytes()[..head]) {
         Ok(parts) => parts,
@@ -138,16 +151,20 @@ fn answer_head<R: Read, W: Write, D, S: Service<D>>(
 pub(crate) fn turn<R: Read, W: Write, D, S: Service<D>>(
     count: usize,
     room: &mut Room,
-    reader: &mut R,
-    writer: &mut W,
+    reader: &mut Noted<R>,
+    writer: &mut Noted<W>,
     service: &S,
     desk: &mut D,
 ) -> Result<Option<End>, ServeFault>
     requires { count < 65536 }
-    ensures read { (got : List ℕ) × Consumes (R.remaining reader.old) (R.remaining reader.new) got
-        × IsTurn S.means count [] (room.old.received ++ got) room.new.received desk.old desk.new (W.contents writer.old) (W.contents writer.new) result }
-    ensures end { IfOk result (λ end. (end ≡ Some End.Clean) ⊎ (end ≡ Some End.Cut) → IsAtEnd (R.remaining reader.new)) }
+    ensures read { (got : List ℕ) × Consumes (R.remaining reader.old.inner) (R.remaining reader.new.inner) got
+        × IsTurn S.means count [] (room.old.received ++ got) room.new.received desk.old desk.new (W.contents writer.old.inner) (W.contents writer.new.inner) result }
+    ensures end { IfOk result (λ end. (end ≡ Some End.Clean) ⊎ (end ≡ Some End.Cut) → IsAtEnd (R.remaining reader.new.inner)) }
     ensures last { IfOk result (λ end. end ≡ None → count + 1 ≢ 65536) }
+    ensures failed { reader.new.failed ≡ failed_by_reads reader.old.failed result }
+    ensures empty { reader.new.empty ≤ reader.old.empty + most_empty_of_turn result }
+    ensures cause { result ≡ Err ServeFault.Write → writer.new.failed ≡ true }
+    ensures noted { writer.old.failed ≡ true → writer.new.failed ≡ true }
 {
     let arrived = match await_head(reader, writer, &mut room.received) {
         Ok(arrived) => arrived,

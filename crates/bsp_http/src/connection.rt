@@ -1,13 +1,14 @@
 //! Serving one connection at the office's desk.
 
-ghost use Rattle.std.specs.Prelude.{ℕ, List, IfOk};
+ghost use Rattle.std.specs.Prelude.{◌≡◌, ℕ, ◌+◌, ◌≤◌, true, List, Err, IfOk};
 ghost use Rattle.std.specs.Io.KnownBytes.{Consumes, IsAtEnd};
 ghost use Rattle.bsp_connection.specs.Ends.{IsInputEnd};
+ghost use Rattle.bsp_connection.specs.Reads.{failed_by_reads, most_empty};
 ghost use Rattle.bsp_connection.specs.Serving.{Serves};
 ghost use Rattle.bsp_http.specs.Messages.{at_desk};
 
 use crate::office::Office;
-use bsp_connection::{ServeFault, Served};
+use bsp_connection::{Noted, ServeFault, Served};
 use bsp_desk::{Book, Desk, Routes};
 use std::alloc::Global;
 use std::io::{Read, Write};
@@ -28,13 +29,17 @@ use std::io::{Read, Write};
 pub fn serve<R: Read, W: Write, B: Book>(
     alloc: Global,
     routes: &Routes,
-    reader: &mut R,
-    writer: &mut W,
+    reader: &mut Noted<R>,
+    writer: &mut Noted<W>,
     desk: &mut Desk<B>,
 ) -> Result<Served, ServeFault>
-    ensures conversation { (got : List ℕ) × Consumes (R.remaining reader.old) (R.remaining reader.new) got
-        × Serves (at_desk B.means) got desk.old desk.new (W.contents writer.old) (W.contents writer.new) result }
-    ensures end { IfOk result (λ served. IsInputEnd served.end → IsAtEnd (R.remaining reader.new)) }
+    ensures conversation { (got : List ℕ) × Consumes (R.remaining reader.old.inner) (R.remaining reader.new.inner) got
+        × Serves (at_desk B.means) got desk.old desk.new (W.contents writer.old.inner) (W.contents writer.new.inner) result }
+    ensures end { IfOk result (λ served. IsInputEnd served.end → IsAtEnd (R.remaining reader.new.inner)) }
+    ensures read_cause { reader.new.failed ≡ failed_by_reads reader.old.failed result }
+    ensures write_cause { result ≡ Err ServeFault.Write → writer.new.failed ≡ true }
+    ensures noted { writer.old.failed ≡ true → writer.new.failed ≡ true }
+    ensures reads { reader.new.empty ≤ reader.old.empty + most_empty result }
 {
     bsp_connection::serve(alloc, reader, writer, &Office { routes }, desk)
 }

@@ -10,7 +10,7 @@ mod laws;
 mod office;
 mod replies;
 
-pub use bsp_connection::{End, ServeFault, Served};
+pub use bsp_connection::{End, Noted, ServeFault, Served};
 pub use bsp_desk::Routes;
 pub use connection::serve;
 pub use laws::{messages_are_read, messages_are_run};

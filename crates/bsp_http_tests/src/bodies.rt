@@ -1,6 +1,6 @@
 //! Bodies passed on in pieces, kept, and read as RET files.
 
-use bsp_connection::{BodySink, IgnoredBody, KeptBody, RetBody, Short, pass};
+use bsp_connection::{BodySink, IgnoredBody, KeptBody, Noted, RetBody, Short, pass};
 use bsp_fields::NoRoom;
 use bsp_ret::{FaultCode, RetFault, RetFile, read_ret};
 use std::io;
@@ -92,7 +92,15 @@ fn pass_message<S: BodySink>(
     }
     let (held, unread) = MESSAGE.split_at(cut);
     let mut input = Input::of(unread, most);
-    let have = pass(&mut input, held, HEAD, BODY.len(), chunk, sink).ok()?;
+    let have = pass(
+        &mut Noted::new(&mut input),
+        held,
+        HEAD,
+        BODY.len(),
+        chunk,
+        sink,
+    )
+    .ok()?;
     Some((have, input.bytes.len()))
 }
 
@@ -126,7 +134,14 @@ fn a_body_is_had_over_two_reads(rt: HostRuntime) {
     let mut kept = KeptBody::new(rt.alloc());
     let mut input = Input::of(b"fghij", 3);
     let mut room = [0u8; 8];
-    let told = pass(&mut input, b"..abcde", 2, 9, &mut room, &mut kept);
+    let told = pass(
+        &mut Noted::new(&mut input),
+        b"..abcde",
+        2,
+        9,
+        &mut room,
+        &mut kept,
+    );
     assert_eq!(rt; told, Ok(5));
     assert_eq!(rt; kept.bytes(), b"abcdefghi".as_slice());
     assert_eq!(rt; input.bytes, b"j".as_slice());
@@ -138,7 +153,14 @@ fn a_body_of_nothing_reads_nothing(rt: HostRuntime) {
     let mut input = Input::of(b"next", 4);
     let mut room = [0u8; 8];
     assert_eq!(rt;
-        pass(&mut input, b"head", 4, 0, &mut room, &mut kept),
+        pass(
+            &mut Noted::new(&mut input),
+            b"head",
+            4,
+            0,
+            &mut room,
+            &mut kept
+        ),
         Ok(0)
     );
     assert_eq!(rt; kept.bytes(), b"".as_slice());
@@ -150,7 +172,14 @@ fn a_short_body_is_cut(rt: HostRuntime) {
     let mut kept = KeptBody::new(rt.alloc());
     let mut input = Input::of(b"34", 1);
     let mut room = [0u8; 8];
-    let told = pass(&mut input, b"..012", 2, 6, &mut room, &mut kept);
+    let told = pass(
+        &mut Noted::new(&mut input),
+        b"..012",
+        2,
+        6,
+        &mut room,
+        &mut kept,
+    );
     assert_eq!(rt; told, Err(Short::Cut));
     assert_eq!(rt; kept.bytes(), b"01234".as_slice());
 }
@@ -161,7 +190,14 @@ fn a_read_fault_is_told(rt: HostRuntime) {
     let mut input = Input::of(b"3456", 1);
     input.good = 2;
     let mut room = [0u8; 8];
-    let told = pass(&mut input, b"..012", 2, 6, &mut room, &mut kept);
+    let told = pass(
+        &mut Noted::new(&mut input),
+        b"..012",
+        2,
+        6,
+        &mut room,
+        &mut kept,
+    );
     assert_eq!(rt; told, Err(Short::Read));
     assert_eq!(rt; kept.bytes(), b"01234".as_slice());
     assert_eq!(rt; input.bytes, b"56".as_slice());
@@ -173,7 +209,14 @@ fn told_by_narrow(room: usize) -> (Result<usize, Short>, usize, usize) {
     let mut sink = Narrow { room, pieces: 0 };
     let mut input = Input::of(b"3456789", 4);
     let mut chunk = [0u8; 2];
-    let told = pass(&mut input, b"..012", 2, 10, &mut chunk, &mut sink);
+    let told = pass(
+        &mut Noted::new(&mut input),
+        b"..012",
+        2,
+        10,
+        &mut chunk,
+        &mut sink,
+    );
     (told, sink.pieces, input.bytes.len())
 }
 
@@ -195,7 +238,7 @@ fn a_body_takes_the_place_of_the_one_before(rt: HostRuntime) {
     assert_eq!(rt; kept.feed(b"01234"), Ok(()));
     let mut input = Input::of(b"56", 1);
     let mut room = [0u8; 8];
-    let told = pass(&mut input, b"", 0, 2, &mut room, &mut kept);
+    let told = pass(&mut Noted::new(&mut input), b"", 0, 2, &mut room, &mut kept);
     assert_eq!(rt; told, Ok(0));
     assert_eq!(rt; kept.bytes(), b"56".as_slice());
 }
@@ -251,7 +294,15 @@ fn told_in_pieces(ret: &mut RetBody, bytes: &[u8], held: usize, chunk: &mut [u8]
     }
     let (front, back) = bytes.split_at(held);
     let mut input = Input::of(back, usize::MAX);
-    let have = pass(&mut input, front, 0, bytes.len(), chunk, ret).ok()?;
+    let have = pass(
+        &mut Noted::new(&mut input),
+        front,
+        0,
+        bytes.len(),
+        chunk,
+        ret,
+    )
+    .ok()?;
     if have != held || !input.bytes.is_empty() {
         return None;
     }

@@ -1,4 +1,5 @@
 mod desk;
 mod ends;
+mod noted;
 mod peers;
 mod talks;

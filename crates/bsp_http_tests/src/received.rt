@@ -1,6 +1,6 @@
 //! The bytes that a connection has sent and that are not yet used.
 
-use bsp_connection::{CAPACITY, ReadFault, Received, read_from};
+use bsp_connection::{CAPACITY, Noted, ReadFault, Received, read_from};
 use std::io;
 use std::io::{ErrorKind, Read};
 use std::test::Fail;
@@ -42,7 +42,7 @@ impl Read for Peer<'_> {
 /// Two messages that come in pieces are used one behind the other.
 #[test]
 fn messages_are_used_in_turn(rt: HostRuntime) -> Result<(), Fail> {
-    let mut peer = Peer::new(b"GET /a\n\nGET /b\n\n", 5);
+    let mut peer = Noted::new(Peer::new(b"GET /a\n\nGET /b\n\n", 5));
     let mut received = Received::new(rt.alloc())?;
     assert!(rt; received.is_empty());
     assert_eq!(rt; received.fill(&mut peer), Ok(5));
@@ -65,7 +65,7 @@ fn a_full_room_is_used_again(rt: HostRuntime) -> Result<(), Fail> {
     let alloc = rt.alloc();
     let mut sent = vec![in alloc; b'a'; 16_380]?;
     sent.extend_from_slice(b"wait and more")?;
-    let mut peer = Peer::new(&sent, CAPACITY);
+    let mut peer = Noted::new(Peer::new(&sent, CAPACITY));
     let mut received = Received::new(alloc)?;
     assert_eq!(rt; received.fill(&mut peer), Ok(16_384));
     assert!(rt; received.is_full());
@@ -83,6 +83,7 @@ fn a_full_room_is_used_again(rt: HostRuntime) -> Result<(), Fail> {
 fn a_failed_read_loses_nothing(rt: HostRuntime) -> Result<(), Fail> {
     let mut peer = Peer::new(b"GET /a\n\n", 4);
     peer.fails_at = 1;
+    let mut peer = Noted::new(peer);
     let mut received = Received::new(rt.alloc())?;
     assert_eq!(rt; received.fill(&mut peer), Ok(4));
     assert_eq!(rt; received.fill(&mut peer), Err(ReadFault));
@@ -97,6 +98,7 @@ fn a_failed_read_loses_nothing(rt: HostRuntime) -> Result<(), Fail> {
 fn a_piece_is_read_from_a_place_on(rt: HostRuntime) -> Result<(), Fail> {
     let mut peer = Peer::new(b"body", 3);
     peer.fails_at = 2;
+    let mut peer = Noted::new(peer);
     let mut room = *b"......";
     assert_eq!(rt; read_from(&mut peer, &mut room, 2), Ok(3));
     assert_eq!(rt; read_from(&mut peer, &mut room, 5), Ok(1));

@@ -3,7 +3,7 @@
 use super::desk::{Counter, Echo};
 use super::peers::{Peer, Sink};
 use super::talks::is_talk;
-use bsp_connection::{End, ServeFault, Served, serve};
+use bsp_connection::{End, Noted, ServeFault, Served, serve};
 use std::test::Fail;
 
 const REQUEST: &[u8] = b"GET /agents/12345675/stock HTTP/1.1\r\nHost: bsp\r\nBsp-Token: x\r\n\r\n";
@@ -65,7 +65,13 @@ fn a_failed_read_ends_the_connection(rt: HostRuntime) -> Result<(), Fail> {
         peer.fails_at = fails_at;
         let mut sink = Sink::new(Vec::new(alloc), 100);
         let mut desk = Counter { asked: 0 };
-        let served = serve(alloc, &mut peer, &mut sink, &Echo, &mut desk);
+        let served = serve(
+            alloc,
+            &mut Noted::new(&mut peer),
+            &mut Noted::new(&mut sink),
+            &Echo,
+            &mut desk,
+        );
         let asked = match fails_at {
             0..=71 => 0usize,
             72..=145 => 1,
@@ -98,14 +104,26 @@ fn a_failed_write_ends_the_connection(rt: HostRuntime) {
         let mut sink = Sink::new(Vec::new(alloc), 1);
         sink.fails_at = fails_at;
         let mut desk = Counter { asked: 0 };
-        let served = serve(alloc, &mut peer, &mut sink, &Echo, &mut desk);
+        let served = serve(
+            alloc,
+            &mut Noted::new(&mut peer),
+            &mut Noted::new(&mut sink),
+            &Echo,
+            &mut desk,
+        );
         assert_eq!(rt; served, Err(ServeFault::Write));
         assert_eq!(rt; sink.taken.as_slice(), &TWO_REPLIES[..fails_at]);
         assert_eq!(rt; desk.asked, 1 + fails_at / (TWO_REPLIES.len() / 2));
     }
-    let mut full = Sink::new(Vec::new(alloc), 0);
+    let full = Sink::new(Vec::new(alloc), 0);
     let mut desk = Counter { asked: 0 };
-    let served = serve(alloc, &mut Peer::new(TWO, 100), &mut full, &Echo, &mut desk);
+    let served = serve(
+        alloc,
+        &mut Noted::new(Peer::new(TWO, 100)),
+        &mut Noted::new(full),
+        &Echo,
+        &mut desk,
+    );
     assert_eq!(rt; served, Err(ServeFault::Write));
 }
 

@@ -2,7 +2,7 @@
 
 use super::desk::{Counter, Echo};
 use super::peers::{Peer, Sink};
-use bsp_connection::{End, ServeFault, Served, serve};
+use bsp_connection::{End, Noted, ServeFault, Served, serve};
 use std::alloc::Global;
 use std::io::BufWriter;
 use std::test::Fail;
@@ -20,7 +20,13 @@ pub(crate) fn is_talk(
         let mut peer = Peer::new(input, *most);
         let mut sink = Sink::new(Vec::new(alloc), *most);
         let mut desk = Counter { asked: 0 };
-        let served = serve(alloc, &mut peer, &mut sink, &Echo, &mut desk);
+        let served = serve(
+            alloc,
+            &mut Noted::new(&mut peer),
+            &mut Noted::new(&mut sink),
+            &Echo,
+            &mut desk,
+        );
         served == end && sink.taken.as_slice() == output && desk.asked == asked
     })
 }
@@ -49,7 +55,13 @@ fn responses_are_sent_together(rt: HostRuntime) -> Result<(), Fail> {
     let sink = Sink::new(Vec::new(alloc), 100_000);
     let mut output = BufWriter::new(alloc, sink)?;
     let mut desk = Counter { asked: 0 };
-    let served = serve(alloc, &mut peer, &mut output, &Echo, &mut desk);
+    let served = serve(
+        alloc,
+        &mut Noted::new(&mut peer),
+        &mut Noted::new(&mut output),
+        &Echo,
+        &mut desk,
+    );
     assert!(rt; served.is_ok());
     assert_eq!(rt; output.get_ref().taken.as_slice(), PIPELINED_REPLIES);
     assert_eq!(rt; output.get_ref().writes, 1);
@@ -125,7 +137,13 @@ fn the_last_message_closes(rt: HostRuntime) -> Result<(), Fail> {
     let mut peer = Peer::new(&input, 100_000);
     let mut sink = Sink::new(Vec::with_capacity(alloc, 6_000_000)?, 100_000);
     let mut desk = Counter { asked: 0 };
-    let served = serve(alloc, &mut peer, &mut sink, &Echo, &mut desk);
+    let served = serve(
+        alloc,
+        &mut Noted::new(&mut peer),
+        &mut Noted::new(&mut sink),
+        &Echo,
+        &mut desk,
+    );
     let end = Served {
         messages: 65_536,
         end: End::Closed,

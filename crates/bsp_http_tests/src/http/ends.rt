@@ -2,7 +2,7 @@
 
 use super::example::{connect, open, push_get, push_post, sale, set_up};
 use super::peers::{Peer, Sink};
-use bsp_http::{Routes, ServeFault, serve};
+use bsp_http::{Noted, Routes, ServeFault, serve};
 use std::test::Fail;
 
 /// The sale is reported, and reported again.
@@ -42,7 +42,13 @@ fn a_failed_read_leaves_what_was_answered(rt: HostRuntime) -> Result<(), Fail> {
         let mut peer = Peer::new(&input, 100);
         peer.fails_at = fails_at;
         let mut sink = Sink::new(Vec::new(alloc), 100_000);
-        let served = serve(alloc, &routes, &mut peer, &mut sink, &mut desk);
+        let served = serve(
+            alloc,
+            &routes,
+            &mut Noted::new(&mut peer),
+            &mut Noted::new(&mut sink),
+            &mut desk,
+        );
         let is_read = fails_at > input.len() / 100 + 1;
         assert_eq!(rt; (fails_at, served.is_ok()), (fails_at, is_read));
         let asked = connect(alloc, &mut desk, &document, 100_000)?;
@@ -73,7 +79,13 @@ fn a_failed_write_leaves_what_was_done(rt: HostRuntime) -> Result<(), Fail> {
         let mut peer = Peer::new(&input, 100_000);
         let mut sink = Sink::new(Vec::new(alloc), 10);
         sink.fails_at = fails_at;
-        let served = serve(alloc, &routes, &mut peer, &mut sink, &mut desk);
+        let served = serve(
+            alloc,
+            &routes,
+            &mut Noted::new(&mut peer),
+            &mut Noted::new(&mut sink),
+            &mut desk,
+        );
         assert_eq!(rt; served, Err(ServeFault::Write));
         assert!(rt; replies.starts_with(&sink.taken));
         assert_eq!(rt; sink.writes, fails_at + 1);

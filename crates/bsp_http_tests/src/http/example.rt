@@ -4,7 +4,7 @@ use super::peers::{Peer, Sink};
 use bsp_book::ListBook;
 use bsp_desk::Desk;
 use bsp_fields::Token;
-use bsp_http::{Routes, ServeFault, Served, serve};
+use bsp_http::{Noted, Routes, ServeFault, Served, serve};
 use std::alloc::{AllocError, Global};
 use std::test::Fail;
 
@@ -34,7 +34,13 @@ pub(super) fn connect(
     let routes = Routes::new(alloc)?;
     let mut peer = Peer::new(input, most);
     let mut sink = Sink::new(Vec::new(alloc), usize::MAX);
-    let served = serve(alloc, &routes, &mut peer, &mut sink, desk);
+    let served = serve(
+        alloc,
+        &routes,
+        &mut Noted::new(&mut peer),
+        &mut Noted::new(&mut sink),
+        desk,
+    );
     Ok(Connection {
         served,
         written: sink.taken,

@@ -1,4 +1,4 @@
-use Rattle.std.proofs.Common.{◌++◌, ◌∷◌, []}
+use Rattle.std.proofs.Common.{◌++◌, ◌∷◌, ◌∙◌, [], arith, refl}
 use Rattle.std.proofs.KnownBytes.{Appends-trans, Consumes-nil, Consumes-trans, Keeps-refl}
 use Rattle.bsp_connection.proofs.ServeLemmas.{ended_talk, fault_talk, nothing, one_more, read_on}
 use Rattle.bsp_connection.proofs.TurnLemmas.{keeps_all}
@@ -8,6 +8,9 @@ pub loop-count-init : goal.loop-count-init
 loop-count-init g c = record {
   talk = ([], [], [], Consumes-nil _, keeps_all _ _ (Keeps-refl _), nothing g.S.Service.means c.args.desk.now c.in-Ok.room.received c.in-Ok.ensures);
   opens = λ e. cc;
+  failed = refl;
+  empty = omega arith;
+  noted = λ failed. failed;
 }
 
 pub loop-count-preserved : goal.loop-count-preserved
@@ -25,6 +28,9 @@ loop-count-preserved g c =
             (read_on g.S.Service.means t.0 read.0 c.loop-count.room.received c.args.desk.now c.loop-count.desk c.loop-count.count t.1 t.2 t.5) read.2.3,
       );
       opens = c.in-Ok-turn.ensures.last c.in-None.is;
+      failed = c.in-Ok-turn.ensures.failed ∙ c.loop-count.invariant.failed;
+      empty = omega (arith, rw c.in-None.is at c.in-Ok-turn.ensures.empty, c.loop-count.invariant.empty);
+      noted = λ failed. c.in-Ok-turn.ensures.noted (c.loop-count.invariant.noted failed);
     }
 
 pub returns-in-Err-clause-conversation : goal.returns-in-Err-clause-conversation

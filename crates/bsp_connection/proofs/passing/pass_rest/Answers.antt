@@ -1,4 +1,4 @@
-use Rattle.std.proofs.Common.{◌≡◌, ◌≤◌, ◌<◌, ◌++◌, ℕ, List, length, take, arith, subst}
+use Rattle.std.proofs.Common.{◌≡◌, ◌∙◌, ◌≤◌, ◌<◌, ◌+◌, ◌++◌, ℕ, List, length, take, arith, subst}
 use Rattle.std.proofs.KnownBytes.{Consumes-trans}
 use Rattle.std.proofs.lemmas.List.{length-append, length-take-le}
 use Rattle.std.proofs.lemmas.Grind.{common_steps}
@@ -31,6 +31,8 @@ more-preserved g c =
     let small : n ≤ c.more.left = grind (arith, common_steps, bound.1, c.read_piece.ensures.len, c.min-room.ensures) in
     let fed : HasMore (g.S.BodySink.has c.more.sink) (g.S.BodySink.has c.feed.new.self) (take n room) =
     λ before h. subst (λ (l : List ℕ). g.S.BodySink.has c.feed.new.self (before ++ l)) (front_piece room _ n bound.1) (c.in-Ok.ensures.taken before h) in
+    let failed : c.read_piece.new.reader.failed ≡ c.more.reader.failed = c.in_ok-count.ensures.failed in
+    let empty : c.read_piece.new.reader.empty ≤ c.more.reader.empty + 0 = c.in_ok-count.ensures.empty in
     record {
       long = grind (arith, common_steps, c.read_piece.ensures.len, c.min-room.ensures, c.more.invariant.long);
       read = (
@@ -39,4 +41,6 @@ more-preserved g c =
         omega (arith, length-append inv.0 (take n room), long, inv.2, small),
         more_taken (g.S.BodySink.has c.args.sink.now) (g.S.BodySink.has c.more.sink) (g.S.BodySink.has c.feed.new.self) inv.0 (take n room) inv.3 fed,
       );
+      failed = failed ∙ c.more.invariant.failed;
+      empty = omega (arith, empty, c.more.invariant.empty);
     }

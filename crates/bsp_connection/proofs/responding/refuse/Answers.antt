@@ -3,10 +3,10 @@ use Rattle.bsp_responses.specs.Responses.{ReplyText, response}
 use Rattle.bsp_connection.specs.Exchanges.{IsWritten}
 use Rattle.bsp_connection.proofs.responding.refuse.Goals as goal
 
-pub returns : goal.returns
-returns g c = (
+pub returns-clause-responded : goal.returns-clause-responded
+returns-clause-responded g c = (
   c.send_response-written.result,
-  subst (λ (t : ReplyText). IsWritten (g.W.Write.contents c.args.writer.now) (g.W.Write.contents c.send_response-written.new.writer) (response c.args.refused.bare true t) c.send_response-written.result)
-      c.refusal.ensures c.send_response-written.ensures,
+  subst (λ (t : ReplyText). IsWritten (g.W.Write.contents c.args.writer.now.inner) (g.W.Write.contents c.send_response-written.new.writer.inner) (response c.args.refused.bare true t) c.send_response-written.result)
+      c.refusal.ensures c.send_response-written.ensures.written,
   c.behind.ensures,
 )

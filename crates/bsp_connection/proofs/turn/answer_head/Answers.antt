@@ -1,5 +1,6 @@
-use Rattle.std.proofs.Common.{◌≤◌, List, ℕ, [], length, take, sym, subst, append-nil}
+use Rattle.std.proofs.Common.{◌≤◌, List, ℕ, [], length, take, sym, subst, append-nil, arith}
 use Rattle.std.proofs.KnownBytes.{Appends-kept, Consumes-nil}
+use Rattle.std.proofs.lemmas.Bool.{lt-leb}
 use Rattle.std.proofs.lemmas.List.{length-take-le}
 use Rattle.bsp_heads.proofs.ScanLemmas.{head_len-le}
 use Rattle.bsp_heads.specs.Head.{AreParts, Refuses}
@@ -8,7 +9,7 @@ use Rattle.bsp_connection.proofs.TurnLemmas.{after_front, refused_head, unwritte
 use Rattle.bsp_connection.proofs.turn.answer_head.Goals as goal
 
 pub slice_bounds-read_head-end : goal.slice_bounds-read_head-end
-slice_bounds-read_head-end g c = sym (length-take-le _ _ (subst (λ (l : List ℕ). c.args.head ≤ length l) (sym c.bytes.ensures) (head_len-le _ _ c.requires.ends)))
+slice_bounds-read_head-end g c = sym (length-take-le _ _ (subst (λ (l : List ℕ). c.args.head ≤ length l) (sym c.bytes.ensures) (head_len-le c.args.room.now.received c.args.head c.requires.ends)))
 
 pub overflow_sub-len : goal.overflow_sub-len
 overflow_sub-len g c = subst (λ (n : ℕ). c.args.head ≤ n) (sym c.len.ensures.value) (head_len-le _ _ c.requires.ends)
@@ -18,7 +19,7 @@ returns-in-Err-clause-read g c = (
   [],
   Consumes-nil _,
   rw append-nil (refused_head g.S.Service.means c.args.count c.args.head c.args.room.now.received c.args.room.now.received c.in-Err.refused c.args.desk.now _ _ c.refuse.result c.requires.ends c.requires.short
-      (subst (λ (l : List ℕ). Refuses (take c.args.head l) c.in-Err.refused) c.bytes.ensures c.in-Err.ensures.err) c.refuse.ensures),
+      (subst (λ (l : List ℕ). Refuses (take c.args.head l) c.in-Err.refused) c.bytes.ensures c.in-Err.ensures.err) c.refuse.ensures.responded),
 )
 
 pub returns-in_default-clause-read : goal.returns-in_default-clause-read
@@ -26,7 +27,7 @@ returns-in_default-clause-read g c = (
   [],
   Consumes-nil _,
   rw append-nil (unwritten g.S.Service.means c.args.count c.args.head c.args.room.now.received c.args.room.now.received c.in-Ok.parts c.args.desk.now _ _ c.interim.result.now
-      (subst (λ (l : List ℕ). AreParts (take c.args.head l) c.in-Ok.parts) c.bytes.ensures c.in-Ok.ensures.ok) c.requires.ends c.requires.short c.interim.ensures c.in_default.ensures),
+      (subst (λ (l : List ℕ). AreParts (take c.args.head l) c.in-Ok.parts) c.bytes.ensures c.in-Ok.ensures.ok) c.requires.ends c.requires.short c.interim.ensures c.in_default.ensures.written),
 )
 
 pub returns-clause-read : goal.returns-clause-read
@@ -35,5 +36,9 @@ returns-clause-read g c =
       later.0,
       later.1,
       after_front g.S.Service.means c.args.count (interim c.in-Ok.parts.wanted.expects) _ _ _ _ _ _ _ c.answer_message.result
-          (Appends-kept _ _ _ _ (rw c.interim.ensures at c.in-Ok-send.ensures) c.send_before_body.ensures) later.2,
+          (Appends-kept _ _ _ _ (rw c.interim.ensures at c.in-Ok-send.ensures.written) c.send_before_body.ensures.kept) later.2,
     )
+
+pub answer_message-requires-clause-sent : goal.answer_message-requires-clause-sent
+answer_message-requires-clause-sent g c =
+    λ less. c.send_before_body.ensures.sent (lt-leb _ _ (omega (arith, less, c.len.ensures.value, head_len-le c.args.room.now.received c.args.head c.requires.ends)))

@@ -24,7 +24,7 @@ returns-in-Err-clause-read g c =
           (c.message_of-message.ensures.method ∙ ap (λ (l : List ℕ). span_bytes (take c.args.head l) parts.method) c.bytes-text.ensures)
           (c.message_of-message.ensures.target ∙ ap (λ (l : List ℕ). span_bytes (take c.args.head l) parts.target) c.bytes-text.ensures)
           (subst (λ (l : List ℕ). IsAsked g.S.Service.means c.message_of-message.result c.args.head parts.wanted.body l told.0 c.args.desk.now c.ask.new.desk (Err c.in-Err.short)) c.bytes-text.ensures told.2)
-          c.stop.ensures,
+          c.stop.ensures.stopped,
     )
 
 pub returns-clause-read : goal.returns-clause-read
@@ -41,5 +41,5 @@ returns-clause-read g c =
           (c.message_of-message.ensures.token ∙ ap (λ (l : List ℕ). option_map (span_bytes (take c.args.head l)) parts.token) c.bytes-text.ensures)
           (subst (λ (l : List ℕ). IsAsked g.S.Service.means c.message_of-message.result c.args.head parts.wanted.body l told.0 c.args.desk.now c.ask.new.desk (Ok c.in-Ok.asked)) c.bytes-text.ensures told.2)
           c.skip.ensures c.closes_behind-closes.ensures)
-          c.respond.ensures,
+          c.respond.ensures.responded,
     )

@@ -12,8 +12,8 @@ returns-in-Err-clause-read g c =
     let read = c.await_head.ensures.read in (
       read.0,
       read.1,
-      rw (← read.2) (after_front g.S.Service.means c.args.count [] c.await_head.new.received c.await_head.new.received c.args.desk.now c.args.desk.now _ _ (g.W.Write.contents c.await_head.new.writer) (Err Read) (keeps_all _ _ c.await_head.ensures.kept)
-          (unread g.S.Service.means c.args.count c.await_head.new.received c.await_head.new.received c.args.desk.now (g.W.Write.contents c.await_head.new.writer) c.in-Err.ensures.err.0 c.in-Err.ensures.err.1)),
+      rw (← read.2) (after_front g.S.Service.means c.args.count [] c.await_head.new.received c.await_head.new.received c.args.desk.now c.args.desk.now _ _ (g.W.Write.contents c.await_head.new.writer.inner) (Err Read) (keeps_all _ _ c.await_head.ensures.kept)
+          (unread g.S.Service.means c.args.count c.await_head.new.received c.await_head.new.received c.args.desk.now (g.W.Write.contents c.await_head.new.writer.inner) c.in-Err.ensures.err.0 c.in-Err.ensures.err.1)),
     )
 
 pub returns-in-Head-clause-read : goal.returns-in-Head-clause-read
@@ -22,7 +22,7 @@ returns-in-Head-clause-read g c =
     let later = c.answer_head.ensures.read in (
       read.0 ++ later.0,
       Consumes-trans _ _ _ read.0 later.0 read.1 later.1,
-      subst (λ (l : List ℕ). IsTurn g.S.Service.means c.args.count [] l c.answer_head.new.room.received c.args.desk.now c.answer_head.new.desk (g.W.Write.contents c.args.writer.now) (g.W.Write.contents c.answer_head.new.writer) c.answer_head.result)
+      subst (λ (l : List ℕ). IsTurn g.S.Service.means c.args.count [] l c.answer_head.new.room.received c.args.desk.now c.answer_head.new.desk (g.W.Write.contents c.args.writer.now.inner) (g.W.Write.contents c.answer_head.new.writer.inner) c.answer_head.result)
           (ap (λ (l : List ℕ). l ++ later.0) read.2 ∙ append_assoc c.args.room.now.received read.0 later.0)
           (after_front g.S.Service.means c.args.count [] _ _ _ _ _ _ _ c.answer_head.result (keeps_all _ _ c.await_head.ensures.kept) later.2),
     )
@@ -34,7 +34,7 @@ returns-in-TooLong-clause-read g c =
       read.0,
       read.1,
       rw (← read.2) (after_front g.S.Service.means c.args.count [] _ _ _ _ _ _ _ c.refuse.result (keeps_all _ _ c.await_head.ensures.kept)
-          (too_long g.S.Service.means c.args.count c.await_head.new.received c.await_head.new.received c.args.desk.now _ _ c.refuse.result is.0 is.1 c.refuse.ensures)),
+          (too_long g.S.Service.means c.args.count c.await_head.new.received c.await_head.new.received c.args.desk.now _ _ c.refuse.result is.0 is.1 c.refuse.ensures.responded)),
     )
 
 pub returns-in-Ended-clause-read : goal.returns-in-Ended-clause-read
@@ -42,8 +42,8 @@ returns-in-Ended-clause-read g c =
     let read = c.await_head.ensures.read in
     let is = rw c.in-Ended.is at c.in-Ok.ensures.ok in
     let held = c.await_head.new.received in
-    let w = g.W.Write.contents c.args.writer.now in
-    let kept = g.W.Write.contents c.await_head.new.writer in
+    let w = g.W.Write.contents c.args.writer.now.inner in
+    let kept = g.W.Write.contents c.await_head.new.writer.inner in
     let is_end : c.end_of_input.result ≡ (if length held == 0 then Clean else Cut) = c.end_of_input.ensures ∙ ap (λ (t : Bool). if t then Clean else Cut) c.is_empty.ensures in (
       read.0,
       read.1,
