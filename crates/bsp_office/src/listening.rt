@@ -7,6 +7,7 @@ ghost use Rattle.bsp_connection.specs.Exchanges.{Exchange};
 ghost use Rattle.bsp_http.specs.Messages.{at_desk};
 ghost use Rattle.bsp_office.specs.Listening.{AreVisited, IsVisited, Visit, counts};
 
+use bsp_connection::Noted;
 use bsp_desk::{Book, Desk};
 use bsp_http::{End, Routes, ServeFault, Served, serve};
 use std::alloc::Global;
@@ -72,7 +73,7 @@ fn linger(stream: &TcpStream, served: Result<Served, ServeFault>) {
     ) = served
     {
         let _ = stream.shutdown(Shutdown::Write);
-        drop_rest(&mut &*stream, LINGERING);
+        drop_rest(&mut Noted::new(stream), LINGERING);
     }
 }
 
@@ -80,8 +81,8 @@ fn linger(stream: &TcpStream, served: Result<Served, ServeFault>) {
 fn visit<R: Read, W: Write, B: Book>(
     alloc: Global,
     routes: &Routes,
-    reader: &mut R,
-    writer: &mut W,
+    reader: &mut Noted<R>,
+    writer: &mut Noted<W>,
     desk: &mut Desk<B>,
 ) -> Result<Served, ServeFault>
     ensures { (visit : Visit) × (visit.ended ≡ result) × IsVisited (at_desk B.means) desk.old visit desk.new }
@@ -103,10 +104,11 @@ fn serve_stream<B: Book>(
     let _ = stream.set_nodelay(true);
     let _ = stream.set_read_timeout(timeout);
     let _ = stream.set_write_timeout(timeout);
-    let Ok(mut output) = BufWriter::new(alloc, stream) else {
+    let Ok(output) = BufWriter::new(alloc, stream) else {
         return Err(ServeFault::Memory);
     };
-    let served = visit(alloc, routes, &mut &*stream, &mut output, desk);
+    let (mut input, mut output) = (Noted::new(stream), Noted::new(output));
+    let served = visit(alloc, routes, &mut input, &mut output, desk);
     let _ = output.flush();
     linger(stream, served);
     served

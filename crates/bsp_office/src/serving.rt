@@ -8,6 +8,7 @@ use crate::listening::{Remarks, serve_on};
 use crate::status::{DONE, FAILED, REFUSED, WRONG_WORDS};
 use crate::token_file::read_token;
 use crate::words::{BookSource, TokenSource};
+use bsp_connection::Noted;
 use bsp_desk::{Book, Desk, ListBook};
 use bsp_fields::Token;
 use bsp_http::{Routes, serve};
@@ -90,7 +91,7 @@ fn opening_status(fault: &OpenFault) -> u8
 }
 
 fn serve_standard<B: Book>(rt: &HostRuntime, office: &mut Office<B>) -> Result<(), u8> {
-    let (mut input, mut output) = (rt.stdin(), rt.stdout());
+    let (mut input, mut output) = (Noted::new(rt.stdin()), Noted::new(rt.stdout()));
     match serve(
         rt.alloc(),
         &office.routes,
