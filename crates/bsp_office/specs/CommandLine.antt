@@ -61,8 +61,12 @@ connections_rule = record (number_option (codes "connections") 1 1000000) { defa
 abbrev pub timeout_rule : Rule
 timeout_rule = record (number_option (codes "timeout") 0 3600) { defaults = codes "30" ∷ [] }
 
+-- --connections K and --timeout S
+abbrev pub with_limits : App → App
+with_limits a = with_rule (with_rule a connections_rule) timeout_rule
+
 abbrev pub serve_app : App
-serve_app = with_rule (with_rule (with_db (with_tokens (with_rule (new_app (codes "serve")) port_rule))) connections_rule) timeout_rule
+serve_app = with_limits (with_db (with_tokens (with_rule (new_app (codes "serve")) port_rule)))
 
 -- a subcommand must be there, or --version is asked for; and none is called help
 abbrev pub needs_subcommand : Shape → Shape

@@ -3,7 +3,7 @@
 ghost use Rattle.std.specs.Prelude.{◌≡◌, IfOk, IfErr, codes, false};
 ghost use Rattle.clap.specs.Words.{app_of, kind_of, rule_of, shape_of, with_subcommand};
 ghost use Rattle.clap.specs.declared.builder.command.Command.TheViews.{out-Command as fields_of};
-ghost use Rattle.bsp_office.specs.CommandLine.{connections_rule, file_app, named_option, office, port_rule, quiet_rule, run_app, serve_app, timeout_rule, with_db, with_tokens};
+ghost use Rattle.bsp_office.specs.CommandLine.{connections_rule, file_app, named_option, office, port_rule, quiet_rule, run_app, serve_app, timeout_rule, with_db, with_limits, with_tokens};
 
 use clap::error::ErrorKind;
 use clap::{Arg, ArgAction, Command, Error};
@@ -155,6 +155,19 @@ fn timeout_option<'a>(alloc: Global) -> Arg<'a>
     .default_value("30")
 }
 
+/// The command with the options that limit the connections, and the time for which a peer is waited for.
+fn taking_limits<'a>(alloc: Global, command: Command<'a>) -> Result<Command<'a>, Error>
+    requires { (fields_of command).has_globals ≡ false }
+    ensures ok { IfOk result (λ c. (app_of c ≡ with_limits (app_of command.entry)) × ((fields_of c).has_globals ≡ false)) }
+    ensures err { IfErr result (λ e. kind_of e ≡ ErrorKind.OutOfMemory) }
+{
+    let connections = connections_option(alloc);
+    let timeout = timeout_option(alloc);
+    let command = command.arg(connections)?;
+    let command = command.arg(timeout)?;
+    Ok(command)
+}
+
 fn serve_command<'a>(alloc: Global) -> Result<Command<'a>, Error>
     ensures ok { IfOk result (λ c. (shape_of c ≡ serve_app.top) × ((fields_of c).has_globals ≡ false)) }
     ensures err { IfErr result (λ e. kind_of e ≡ ErrorKind.OutOfMemory) }
@@ -164,9 +177,7 @@ fn serve_command<'a>(alloc: Global) -> Result<Command<'a>, Error>
         .arg(port_option(alloc))?;
     let command = taking_token(alloc, command)?;
     let command = taking_book(alloc, command)?;
-    let command = command.arg(connections_option(alloc))?;
-    let command = command.arg(timeout_option(alloc))?;
-    Ok(command)
+    taking_limits(alloc, command)
 }
 
 /// The command with the subcommand `check`.

@@ -1,7 +1,6 @@
 //! Serving the connections of a listener.
 
-ghost use Rattle.std.specs.Prelude.{◌≡◌, ◌≤◌, ℕ, List, length, Ok, Err};
-ghost use Rattle.std.specs.Io.KnownBytes.{Consumes};
+ghost use Rattle.std.specs.Prelude.{◌≡◌, List, Ok, Err};
 ghost use Rattle.bsp_connection.specs.Conversations.{IsRun};
 ghost use Rattle.bsp_connection.specs.Exchanges.{Exchange};
 ghost use Rattle.bsp_http.specs.Messages.{at_desk};
@@ -16,11 +15,11 @@ use std::net::{Shutdown, TcpListener, TcpStream};
 use std::time::Duration;
 use thiserror::Error;
 
-/// The most bytes of a peer that are read and dropped behind the last response to it.
-const LINGERING: usize = 4_194_304;
-
-/// The bytes that are read at once there.
+/// The bytes of a peer that are read and dropped at once behind the last response to it.
 const PIECE: usize = 8192;
+
+/// How often that is done: for 4,194,304 bytes in all, the most that a body may have.
+const PIECES: usize = 512;
 
 /// Why the office stopped before its last connection.
 #[derive(Clone, Copy, Debug, PartialEq, Eq, Hash, Error)]
@@ -48,16 +47,13 @@ impl Remarks<'_> {
     }
 }
 
-/// Reads and drops what a peer sends: at most so many bytes, and until it ends, or a read fails.
-fn drop_rest<R: Read>(reader: &mut R, limit: usize)
-    ensures { (got : List ℕ) × Consumes (R.remaining reader.old) (R.remaining reader.new) got × (length got ≤ limit) }
-{
+/// Reads and drops what a peer sends: at most so many pieces, and until it ends, or a read fails.
+fn drop_rest<R: Read>(reader: &mut R) {
     let mut room = [0; PIECE];
-    let mut left = limit;
-    while left > 0 {
-        match reader.read(&mut room[..left.min(PIECE)]) {
+    for _ in 0..PIECES {
+        match reader.read(&mut room) {
             Ok(0) | Err(_) => return,
-            Ok(count) => left -= count,
+            Ok(_) => {}
         }
     }
 }
@@ -73,7 +69,7 @@ fn linger(stream: &TcpStream, served: Result<Served, ServeFault>) {
     ) = served
     {
         let _ = stream.shutdown(Shutdown::Write);
-        drop_rest(&mut Noted::new(stream), LINGERING);
+        drop_rest(&mut Noted::new(stream));
     }
 }
 
