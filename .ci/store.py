@@ -209,6 +209,21 @@ def example_43():
     refusal("other cash", "cancelled.db", DAMAGED, 1)
 
 
+def kept_order():
+    """Airlines that do not rise are kept as they were published, and a sale with two taxes as it was reported."""
+    plan = sample("plan.toml").replace(b'["125", "220"]', b'["220", "125"]')
+    taxes = sample("sale.ret").replace(b"RA0000000350{" + 13 * b" ", b"AB0000000100{RA0000000250{")
+    further = plan.replace(b'["220", "125"]', b'["005"]')
+    requests = [*(of_office("POST", "plan", it) for it in (plan, further)), *list(setting_up())[1:4],
+                of_agent(A, "POST", "ret", taxes)]
+    for verdict in "accepted", "held":
+        program = opened("order.db")
+        reply = answers(program, requests)[-1]
+        expect("a sale with two taxes", (200, f'{{"results":[{{"n":1,"period":"24011","verdict":"{verdict}"}}]}}'), reply)
+        program.kill()
+    expect("airlines", [("220", 1), ("125", 2), ("005", 3)], rows_of("order.db", "SELECT * FROM airline ORDER BY place"))
+
+
 class Market(make_requests.Market):
     """The requests of bench/desk."""
 
@@ -475,6 +490,7 @@ def main():
         examples_26_and_27()
         example_42()
         example_43()
+        kept_order()
         killed_at_any_moment()
         stored_run()
         on_standard_input()
