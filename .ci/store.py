@@ -70,11 +70,15 @@ def setting_up():
         yield of_office("POST", "airlines", f'{{"airline":"{airline}","token":"{TOKENS[airline]}"}}')
 
 
-def reporting_memos():
-    """The memos of the airlines, and what the agents answer."""
+def billed_memos():
+    """The memos of example 16, that a close bills."""
     yield of_airline("220", "POST", "memos", memo(A, 7000000001, "ADMA", 3000))
     yield of_agent(A, "POST", "memos/agree", '{"airline":"220","document":"7000000001"}')
     yield of_airline("125", "POST", "memos", memo(B, 6000000001, "ACMA", 5000))
+
+
+def disputed_memo():
+    """A memo that no close bills."""
     yield of_airline("125", "POST", "memos", memo(A, 6000000002, "ADMA", 5000))
     yield of_agent(A, "POST", "memos/dispute", '{"airline":"125","document":"6000000002"}')
 
@@ -84,7 +88,8 @@ def working():
     for name in "sale.ret", "exchange.ret", "card-sale.ret", "sale.ret":
         yield of_agent(A, "POST", "ret", sample(name))
     yield of_agent(A, "POST", "ret", sale_of(1300000005, "sale-and-cancellation.ret"))
-    yield from reporting_memos()
+    yield from billed_memos()
+    yield from disputed_memo()
     yield of_office("POST", "stock/allot", f'{{"agent":"{B}","first":"1300000050","last":"1300000149"}}')
     yield of_office("POST", "stock/allot", f'{{"agent":"{B}","first":"1500000000","last":"1500000009"}}')
     yield of_office("POST", "stock/withdraw", f'{{"agent":"{B}","first":"1500000000","last":"1500000009"}}')
@@ -158,10 +163,10 @@ def kept_tallies(file, requests, wanted):
 
 
 def example_42():
-    """The tallies of a closed period."""
+    """The tallies of the closed period of example 16."""
     work = [of_agent(A, "POST", "ret", sample(it)) for it in ("sale.ret", "card-sale.ret")]
     close = [of_office("POST", "day", '{"day":"2024-01-16"}'), of_office("POST", "close", '{"period":"24011"}')]
-    kept_tallies("closed.db", [*setting_up(), *work, *reporting_memos(), *close], [
+    kept_tallies("closed.db", [*setting_up(), *work, *billed_memos(), *close], [
         # accepted, living, canx, memo_count, cash, credit, commission, memos
         (A, "125", "24011", 1, 1, 0, 0, 23500, 0, 1000, 0),
         (A, "220", "24011", 1, 1, 0, 1, 0, 10000, 0, 3000),
@@ -202,6 +207,21 @@ def example_43():
     with contextlib.closing(sqlite3.connect("cancelled.db", isolation_level=None)) as it:
         it.execute("UPDATE tally SET cash = 1 WHERE period = '24011'")
     refusal("other cash", "cancelled.db", DAMAGED, 1)
+
+
+def kept_order():
+    """Airlines that do not rise are kept as they were published, and a sale with two taxes as it was reported."""
+    plan = sample("plan.toml").replace(b'["125", "220"]', b'["220", "125"]')
+    taxes = sample("sale.ret").replace(b"RA0000000350{" + 13 * b" ", b"AB0000000100{RA0000000250{")
+    further = plan.replace(b'["220", "125"]', b'["005"]')
+    requests = [*(of_office("POST", "plan", it) for it in (plan, further)), *list(setting_up())[1:4],
+                of_agent(A, "POST", "ret", taxes)]
+    for verdict in "accepted", "held":
+        program = opened("order.db")
+        reply = answers(program, requests)[-1]
+        expect("a sale with two taxes", (200, f'{{"results":[{{"n":1,"period":"24011","verdict":"{verdict}"}}]}}'), reply)
+        program.kill()
+    expect("airlines", [("220", 1), ("125", 2), ("005", 3)], rows_of("order.db", "SELECT * FROM airline ORDER BY place"))
 
 
 class Market(make_requests.Market):
@@ -383,6 +403,13 @@ DAMAGES = {
     "a ticket without its cash": f"""UPDATE item SET ca = NULL WHERE number = '1300000001';
         UPDATE tally SET cash = cash - 23500 WHERE {SOLD}""",
     "a disputed memo that is billed": "UPDATE memo SET state = 'disputed' WHERE number = '7000000001'",
+    "a token of an agent out of its form": f"UPDATE agent SET token = '' WHERE code = '{B}'",
+    "a token of an airline out of its form": "UPDATE airline_token SET token = '' WHERE airline = '220'",
+    "a range of no agent": "INSERT INTO stock VALUES ('12345686', '1600000000', '1600000009')",
+    "an airline out of its place": "UPDATE airline SET place = 3 WHERE code = '220'",
+    "items that live no more": "UPDATE item SET alive = 0",
+    "no tallies": "DELETE FROM tally",
+    "a second row of the day": "INSERT INTO meta SELECT * FROM meta",
     "no table of memos": "DROP TABLE memo",
     "a further table": "CREATE TABLE note (text TEXT NOT NULL) STRICT",
     "a memo of no kind": "UPDATE memo SET kind = 'X' WHERE number = '7000000001'",
@@ -391,13 +418,20 @@ DAMAGES = {
 }
 
 
+# each makes it a book of another version
+VERSIONS = {
+    "version 9": "UPDATE meta SET version = 9",
+    "version 9, with other tables": "UPDATE meta SET version = 9; DROP TABLE tally",
+    "version 2, on another day": "UPDATE meta SET version = 2, day = 10957, closed = 0",
+}
+
+
 def damaged():
     """Each damage of a copy of the book is seen, and the book itself is as it was."""
-    for what, script in DAMAGES.items():
-        changed(script)
-        refusal(what, "copy.db", DAMAGED, 1)
-    changed("UPDATE meta SET version = 9")
-    refusal("version 9", "copy.db", OTHER_VERSION, 1)
+    for cause, changes in (DAMAGED, DAMAGES), (OTHER_VERSION, VERSIONS):
+        for what, script in changes.items():
+            changed(script)
+            refusal(what, "copy.db", cause, 1)
     changed("")
     program = opened("copy.db")
     expect("a copy of the book", 200, ask(program, of_office("GET", "settlement/24011"))[0])
@@ -456,6 +490,7 @@ def main():
         examples_26_and_27()
         example_42()
         example_43()
+        kept_order()
         killed_at_any_moment()
         stored_run()
         on_standard_input()

@@ -165,14 +165,19 @@ fn sale() -> Option<Item> {
     item(TransactionCode::Tktt, document, None)
 }
 
-/// A cancelled ticket.
-fn cancelled() -> Option<Item> {
+/// Another sale.
+pub(crate) fn ticket() -> Option<Item> {
     let document = document(b"125", b"1300000002", 0)?;
-    Some(ended(item(TransactionCode::Tktt, document, None)?))
+    item(TransactionCode::Tktt, document, None)
+}
+
+/// That ticket, cancelled.
+fn cancelled() -> Option<Item> {
+    Some(ended(ticket()?))
 }
 
 /// The CANX of that ticket, of an airline.
-fn canx(airline: &[u8]) -> Option<Item> {
+pub(crate) fn canx(airline: &[u8]) -> Option<Item> {
     let document = document(airline, b"1300000002", 0)?;
     item(TransactionCode::Canx, document, None)
 }
