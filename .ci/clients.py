@@ -166,11 +166,6 @@ def refused():
         words = ["serve", "--port", port, "--token"]
         refusal("a port in use", 3, f"bsp_office: port {port} is in use\n", *words, OFFICE)
         refusal("a wrong token before the port", 2, "error: .*\n", *words, "short")
-    refusal("port 0", 2, r"(?s)error: invalid value '0' for '--port <N>'.*", "serve", "--port", "0", "--token", OFFICE)
-    refusal("no port", 2, "(?s)error: the following required arguments.*", "serve", "--token", OFFICE)
-    refusal("no token", 2, "error: .*\n", "run")
-    refusal("two tokens", 2, "error: .*\n", "run", "--token", OFFICE, "--token-file", "token")
-    refusal("no file -", 2, "error: .*\n", "run", "--token-file", "-")
     refusal("no such file", 3, "bsp_office: missing: .*\n", "run", "--token-file", "missing")
     refusal("a directory", 3, "bsp_office: .: .*\n", "run", "--token-file", ".")
     for text in "short\n", "", f"{OFFICE} \n", f"\n{OFFICE}\n", f"{OFFICE}\n" * 1000:
@@ -194,6 +189,25 @@ def run_on_standard_input():
     expect("run, standard output full", 3, ended.returncode)
 
 
+def run_twice():
+    """The office of `run` has the token of the words; its book ends with it, or is in the file of --db."""
+    plan = office.sample("plan.toml")
+    head = f"POST /office/plan HTTP/1.1\r\nHost: bsp\r\nBsp-Token: {OFFICE}\r\nContent-Length: {len(plan)}\r\n\r\n"
+    reply = 'HTTP/1.1 200 OK\r\nContent-Type: application/json\r\nContent-Length: 17\r\n\r\n{"result":"%s"}'
+    with open("token", "w", encoding="utf-8") as it:
+        it.write(f"{OFFICE}\n")
+    memory = ["--token", OFFICE], [f"--token={OFFICE}"], ["--token-file", "token"]
+    for words, second in *((words, "done") for words in memory), (["--token", OFFICE, "--db", "office.db"], "held"):
+        before = os.listdir()
+        for result in "done", second:
+            asked = {"input": head.encode() + plan, "capture_output": True, "timeout": 60}
+            ended = subprocess.run([PROGRAM, "run", *words], **asked)
+            wanted = (0, (reply % result).encode(), b"")
+            expect(f"run {words}: a plan", wanted, (ended.returncode, ended.stdout, ended.stderr))
+        made = {"office.db", "office.db-wal"} if "--db" in words else set()
+        expect(f"run {words}: files that it made", made, set(os.listdir()) - set(before))
+
+
 def main():
     with tempfile.TemporaryDirectory() as folder:
         os.chdir(folder)
@@ -202,6 +216,7 @@ def main():
         behind_nginx()
         refused()
         run_on_standard_input()
+        run_twice()
         os.chdir(TOP)
     office.finish("bsp_office: clients are answered, and statuses are, as docs/COMMANDS.md says")
 

@@ -57,7 +57,7 @@ def finish(line):
 class Office:
     """The program as it serves on a free port of loopback. Further words come last; with no token file they have the token."""
 
-    def __init__(self, path, token_file, *words, seconds=30):
+    def __init__(self, path, token_file, *words, seconds=60):
         self.port, self.seconds = free_port(), seconds
         self.peer = http.client.HTTPConnection("127.0.0.1", self.port, timeout=seconds)
         words = ["serve", "--port", self.port, *(["--token-file", token_file] if token_file else []), *words]

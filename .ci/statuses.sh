@@ -1,6 +1,6 @@
 #!/usr/bin/env bash
-# Runs the program on files, devices and words that no test of the crate can give it, and compares what it
-# prints on standard output, its exit status, and its line on standard error. Exits with the number of those
+# Runs the program on files, devices and words, and compares what it prints on standard output, its exit
+# status, and its line on standard error. Exits with the number of those
 # that differ. The longest inputs take 1.1 GB of memory.
 #
 # usage: .ci/statuses.sh [PROGRAM]   (with no PROGRAM it builds the program, where it is not built)
@@ -20,19 +20,43 @@ cp "$top/samples/sale.ret" v1.ret
 cp "$top/samples/no-documents.hot" v3.hot
 head -n 3 v3.hot >short.hot
 : >empty
+cp empty ./--quiet
+cp v1.ret ./-x
 printf '\0\377\n' >binary
+{ head -n 1 v1.ret && printf '%-136s\n' 'Z0000002000000000000000000000{'; } >v0.ret
+head -c 273 v0.ret >v0-without-its-last-line-end
+head -c 272 v0.ret >v0-without-its-last-character
+head -c 137 v0.ret >v0-without-its-trailer
+head -c 272 v1.ret >v1-cut-in-record-2
+head -c 137 v1.ret >v1-cut-behind-record-1
+sed 's/$/\r/' "$top/samples/refund-and-sale.ret" >refund-with-cr-lf
+head -c 547 v3.hot >v3-without-its-last-line-end
+printf '%-136s\r\n' >memo-with-cr-lf \
+  'BFH000000010112524011240215EURPROD001' \
+  'BCH000000020224011240101240115240215' \
+  'BOH00000003037654321324011EUR' \
+  'BKT000000040600000001125' \
+  'BKS00000005240000000124010560000000012ACMA76543213RATE OF MARCH' \
+  'BKS0000000630000000010000000500}' \
+  'BKP000000078400000001CA0000000500}' \
+  'BOT000000089376543213ACMA0000000100000000000500}00000000000000{00000000000000{00000000000500}' \
+  'BOT0000000994765432130000000100000000000500}00000000000000{00000000000000{00000000000500}' \
+  'BCT000000109524011000000010000000100000000000500}00000000000000{00000000000000{00000000000500}' \
+  'BFT0000001199125000000110000000100000000000500}00000000000000{00000000000000{00000000000500}'
 failures=0
 
-# is_error WANTED: whether the error text is none, some text, or this line behind the program's name
+# is_error WANTED: whether the error text is none, some text, begins with this line of `error:`, or is this line behind
+# the program's name
 is_error() {
   case $1 in
     none) [ ! -s err ] ;;
     text) [ -s err ] ;;
+    error:*) [ "$(head -n 1 err)" = "$1" ] ;;
     *) [ "$(cat err)" = "bsp_office: $1" ] && [ "$(wc -l <err)" -eq 1 ] ;;
   esac
 }
 
-# expect STATUS OUTPUT (none | text | LINE) WORD..: the words' status, output and error text
+# expect STATUS OUTPUT (none | text | error: TEXT | LINE) WORD..: the words' status, output and error text
 expect() {
   local status=$1 output=$2 error=$3 told
   shift 3
@@ -42,6 +66,17 @@ expect() {
   echo "bsp_office $*: status $told, wanted $status; or its output or error text is wrong:"
   cat out err
   failures=$((failures + 1))
+}
+
+# reports COMMAND FILE STATUS OUTPUT [LINE]: what the command prints of the file, and of it as standard input, which it
+# reads to its end. The line is that on standard error behind the name of the file, or none.
+reports() {
+  local line=${5-}
+  expect "$3" "$4" "${line:+$2: }${line:-none}" "$1" "$2"
+  {
+    expect "$3" "$4" "${line:+standard input: }${line:-none}" "$1" -
+    same 0 "$(wc -c)" "$1 - <$2: bytes that were not read"
+  } <"$2"
 }
 
 # same STATUS TOLD WHAT
@@ -72,12 +107,21 @@ mistakes() {
 
 report='000001 TKTT 12345675 125-1300000001-6 2024-01-05 235.00
 records 5 transactions 1 sum 235.00'
-expect 0 "$report" none check v1.ret
+refund='000001 RFND 12345675 125-1300000002-0 2024-01-05 -235.00
+000002 TKTT 12345675 125-1300000001-6 2024-01-05 235.00
+records 9 transactions 2 sum 0.00'
+nothing='records 2 transactions 0 sum 0.00'
 expect 0 "$report" none check ./v1.ret
-expect 0 "$report" none check - <v1.ret
-expect 1 'F08 record 1' 'empty: record 1: the file ends without a trailer' check empty
-expect 1 'F08 record 1' 'standard input: record 1: the file ends without a trailer' check - </dev/null
-expect 1 'F01 record 1' 'binary: record 1: it has 2 characters, and not 136' check binary
+reports check v1.ret 0 "$report"
+reports check v0.ret 0 "$nothing"
+reports check v0-without-its-last-line-end 0 "$nothing"
+reports check v0-without-its-last-character 1 'F01 record 2' 'record 2: it has 135 characters, and not 136'
+reports check v0-without-its-trailer 1 'F08 record 2' 'record 2: the file ends without a trailer'
+reports check v1-cut-in-record-2 1 'F01 record 2' 'record 2: it has 135 characters, and not 136'
+reports check v1-cut-behind-record-1 1 'F08 record 2' 'record 2: the file ends without a trailer'
+reports check refund-with-cr-lf 0 "$refund"
+reports check empty 1 'F08 record 1' 'record 1: the file ends without a trailer'
+reports check binary 1 'F01 record 1' 'record 1: it has 2 characters, and not 136'
 expect 1 'F01 record 1' 'standard input: record 1: it has 1073741824 characters, and not 136' \
   check - < <(head -c 1073741824 /dev/zero)
 long='longer than 1,073,741,824 bytes'
@@ -88,11 +132,13 @@ expect 3 '' '.: a read failed' check .
 expect 3 '' '/: a read failed' check /
 expect 3 '' ": $none" check ''
 expect 3 '' "/dev/zero: $long" check /dev/zero
-expect 0 'OK records 4 documents 0 net 0.00' none hotcheck v3.hot
-expect 0 'OK records 4 documents 0 net 0.00' none hotcheck - <v3.hot
-expect 1 'H04 record 4' 'short.hot: record 4: the file ends before this record' hotcheck short.hot
-expect 1 'H04 record 1' 'empty: record 1: the file ends before this record' hotcheck empty
-expect 1 'H04 record 1' 'v1.ret: record 1, columns 4-11: the sequence number is not 00000001' hotcheck v1.ret
+reports hotcheck v3.hot 0 'OK records 4 documents 0 net 0.00'
+reports hotcheck v3-without-its-last-line-end 0 'OK records 4 documents 0 net 0.00'
+reports hotcheck memo-with-cr-lf 0 'OK records 11 documents 1 net -50.00'
+reports hotcheck short.hot 1 'H04 record 4' 'record 4: the file ends before this record'
+reports hotcheck empty 1 'H04 record 1' 'record 1: the file ends before this record'
+reports hotcheck binary 1 'H04 record 1' 'record 1: it has 2 characters, and not 136'
+reports hotcheck v1.ret 1 'H04 record 1' 'record 1, columns 4-11: the sequence number is not 00000001'
 expect 1 'H04 record 1' 'standard input: record 1: it has 1073741824 characters, and not 136' \
   hotcheck - < <(head -c 1073741824 /dev/zero)
 expect 3 '' "standard input: $long" hotcheck - < <(head -c 1073741825 /dev/zero)
@@ -126,16 +172,51 @@ expect 1 'H04 record 1' none hotcheck empty --quiet
 expect 3 '' none check --quiet missing
 expect 3 '' none hotcheck --quiet -- .
 expect 0 'bsp_office 1.0.0' none --version
-expect 2 '' text check --version
-expect 2 '' text
-expect 2 '' text check
-expect 2 '' text hotcheck
-expect 2 '' text hotcheck v3.hot v3.hot
-expect 2 '' text hotcheck --unknown
-expect 2 '' text check v1.ret v1.ret
-expect 2 '' text report v1.ret
-expect 2 '' text check --unknown
 expect 2 '' none check $'\377'
+expect 0 "$report" none check -- -x
+expect 1 'F08 record 1' '--quiet: record 1: the file ends without a trailer' check -- --quiet
+
+required='error: the following required arguments were not provided:'
+expect 2 '' "error: 'bsp_office' requires a subcommand but one was not provided"
+expect 2 '' "error: unrecognized subcommand 'hot'" hot v3.hot
+expect 2 '' "error: unrecognized subcommand 'report'" report v1.ret
+expect 2 '' "$required" check
+expect 2 '' "$required" hotcheck
+expect 2 '' "error: unexpected argument '--version' found" check --version
+expect 2 '' "error: unexpected argument '-x' found" check -x
+expect 2 '' "error: unexpected argument '--unknown' found" check --unknown
+expect 2 '' "error: unexpected argument 'v3.hot' found" check v1.ret v3.hot
+expect 2 '' "error: unexpected argument '--unknown' found" hotcheck --unknown
+expect 2 '' "error: unexpected argument 'v1.ret' found" hotcheck v3.hot v1.ret
+
+token=officetoken00001
+given="error: exactly one of --token T and --token-file FILE gives the office's token, \
+T has 16 to 64 letters and digits, and no FILE is -"
+expect 2 '' "error: the argument '--token <T>' cannot be used multiple times" run --token $token --token $token
+expect 2 '' "error: unexpected argument '--port' found" run --token $token --port 80
+expect 2 '' "$given" run
+expect 2 '' "$given" run --token short
+expect 2 '' "$given" run --token $token --token-file token
+expect 2 '' "$given" run --token-file -
+expect 2 '' "$given" run --token $token --db -
+expect 2 '' "$required" serve --token $token
+
+# no_number WORD VALUE WHY WORD..: a value of `serve` that is no number of its range
+no_number() {
+  local word=$1 value=$2 why=$3
+  shift 3
+  expect 2 '' "error: invalid value '$value' for '$word': $why" serve --token $token "$@"
+}
+for port in 0 65536; do
+  no_number '--port <N>' $port "$port is not in 1..=65535" --port $port --connections 1
+done
+no_number '--port <N>' http 'invalid digit found in string' --port http --connections 1
+no_number '--port <N>' '' 'cannot parse integer from empty string' --port '' --connections 1
+expect 2 '' "error: unexpected argument '-1' found" serve --token $token --port -1 --connections 1
+for count in 0 1000001; do
+  no_number '--connections <K>' $count "$count is not in 1..=1000000" --port 8080 --connections $count
+done
+no_number '--connections <K>' many 'invalid digit found in string' --port 8080 --connections many
 
 unwritten='standard output: a write failed'
 "$program" check v1.ret >&- 2>err
@@ -156,7 +237,7 @@ same_error 3 $? 'standard input: a read failed' 'standard input a directory'
 same_error 3 $? 'standard input: out of memory' 'an input for which there is no memory'
 "$program" check empty >out 2>/dev/full
 same 1 $? 'check, standard error full'
-for words in --help 'check --help' 'hotcheck --help'; do
+for words in --help 'check --help' 'hotcheck --help' 'run --help' 'serve --help'; do
   # shellcheck disable=SC2086
   "$program" $words >out 2>err && grep -q '^Usage: bsp_office' out && [ ! -s err ]
   same 0 $? "$words"

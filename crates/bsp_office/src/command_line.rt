@@ -1,7 +1,7 @@
 //! The command line, as `clap` reads it.
 
 ghost use Rattle.std.specs.Prelude.{◌≡◌, IfOk, IfErr, codes, false};
-ghost use Rattle.clap.specs.Words.{app_of, kind_of, rule_of, shape_of};
+ghost use Rattle.clap.specs.Words.{app_of, kind_of, rule_of, shape_of, with_subcommand};
 ghost use Rattle.clap.specs.declared.builder.command.Command.TheViews.{out-Command as fields_of};
 ghost use Rattle.bsp_office.specs.CommandLine.{connections_rule, file_app, named_option, office, port_rule, quiet_rule, run_app, serve_app, with_db, with_tokens};
 
@@ -154,23 +154,58 @@ fn serve_command<'a>(alloc: Global) -> Result<Command<'a>, Error>
     Ok(command)
 }
 
+/// The command with the subcommand `check`.
+fn with_check<'a>(alloc: Global, command: Command<'a>) -> Result<Command<'a>, Error>
+    ensures ok { IfOk result (λ c. app_of c ≡ with_subcommand (app_of command.entry) (file_app (codes "check")).top) }
+    ensures err { IfErr result (λ e. kind_of e ≡ ErrorKind.OutOfMemory) }
+{
+    let added = check_command(alloc)?;
+    let command = command.subcommand(added)?;
+    Ok(command)
+}
+
+/// The command with the subcommand `hotcheck`.
+fn with_hotcheck<'a>(alloc: Global, command: Command<'a>) -> Result<Command<'a>, Error>
+    ensures ok { IfOk result (λ c. app_of c ≡ with_subcommand (app_of command.entry) (file_app (codes "hotcheck")).top) }
+    ensures err { IfErr result (λ e. kind_of e ≡ ErrorKind.OutOfMemory) }
+{
+    let added = hotcheck_command(alloc)?;
+    let command = command.subcommand(added)?;
+    Ok(command)
+}
+
+/// The command with the subcommand `run`.
+fn with_run<'a>(alloc: Global, command: Command<'a>) -> Result<Command<'a>, Error>
+    ensures ok { IfOk result (λ c. app_of c ≡ with_subcommand (app_of command.entry) run_app.top) }
+    ensures err { IfErr result (λ e. kind_of e ≡ ErrorKind.OutOfMemory) }
+{
+    let added = run_command(alloc)?;
+    let command = command.subcommand(added)?;
+    Ok(command)
+}
+
+/// The command with the subcommand `serve`.
+fn with_serve<'a>(alloc: Global, command: Command<'a>) -> Result<Command<'a>, Error>
+    ensures ok { IfOk result (λ c. app_of c ≡ with_subcommand (app_of command.entry) serve_app.top) }
+    ensures err { IfErr result (λ e. kind_of e ≡ ErrorKind.OutOfMemory) }
+{
+    let added = serve_command(alloc)?;
+    let command = command.subcommand(added)?;
+    Ok(command)
+}
+
 /// The command line of the program.
 pub(crate) fn office_command<'a>(alloc: Global) -> Result<Command<'a>, Error>
     ensures ok { IfOk result (λ c. app_of c ≡ office) }
     ensures err { IfErr result (λ e. kind_of e ≡ ErrorKind.OutOfMemory) }
 {
-    let check = check_command(alloc)?;
-    let hotcheck = hotcheck_command(alloc)?;
-    let run = run_command(alloc)?;
-    let serve = serve_command(alloc)?;
     let office = Command::new(alloc, "bsp_office")
         .about("The office of a billing and settlement plan")
         .version(VERSION)
         .subcommand_required(true)
         .disable_help_subcommand(true);
-    let office = office.subcommand(check)?;
-    let office = office.subcommand(hotcheck)?;
-    let office = office.subcommand(run)?;
-    let office = office.subcommand(serve)?;
-    Ok(office)
+    let office = with_check(alloc, office)?;
+    let office = with_hotcheck(alloc, office)?;
+    let office = with_run(alloc, office)?;
+    with_serve(alloc, office)
 }

@@ -19,8 +19,6 @@ mod run;
 mod sending;
 mod serving;
 mod status;
-#[cfg(test)]
-mod tests;
 mod token_file;
 mod verdict;
 mod words;

@@ -234,7 +234,7 @@ by_agent a token rows call (Some b) = named a b token rows call (b == a) (is_tok
 issue_free_over : (airline b : ℕ) (issue : MemoIssue) (l : AirlineLedger) (found : Option MemoFields) → is_done (issue_beside airline b issue l found) ≡ true → found ≡ None
 issue_free_over airline b issue l None h = refl
 issue_free_over airline b issue l (Some m) h = by _ h where
-  by : (c : Bool) → is_done (cond c (Changed Held) (Refused (refusal.Memo Rattle.bsp_memos.specs.declared.fault.MemoFault.TheVariants.OtherContent))) ≡ true → Some m ≡ None
+  by : (c : Bool) → is_done (cond c (Changed Held) (Refused (refusal.Memo Rattle.bsp_rows.specs.MemoFault.TheVariants.OtherContent))) ≡ true → Some m ≡ None
   by true e = absurd (cc e)
   by false e = absurd (cc e)
 

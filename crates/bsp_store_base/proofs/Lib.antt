@@ -1,4 +1,4 @@
-pub mod Reading
+pub mod ReadingLemmas
 pub mod Rising
 pub mod Ends
 pub mod Ending

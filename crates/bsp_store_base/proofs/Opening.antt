@@ -22,7 +22,7 @@ use Rattle.sqlite.proofs.Callers.{reads_as, IsPlain, command_of, never_commits}
 use Rattle.bsp_store_base.specs.Kept.{Reads, Spares, columns_of}
 use Rattle.bsp_store_base.proofs.Held.{unchanged_by}
 use Rattle.bsp_store_base.proofs.Rising.{keys_of, IsBefore}
-use Rattle.bsp_store_base.proofs.Reading.{simple, passes, out, rows_are, rows_in_order}
+use Rattle.bsp_store_base.proofs.ReadingLemmas.{simple, passes, out, rows_are, rows_in_order}
 
 same_maps : {A B : Type 0} (f g : A → B) → ((x : A) → f x ≡ g x) → (xs : List A) → map f xs ≡ map g xs
 same_maps f g same [] = refl

@@ -31,7 +31,7 @@ use Rattle.sqlite.specs.Listing.{understood}
 use Rattle.sqlite.specs.State.{State, mode_of, Executes}
 use Rattle.sqlite.proofs.Callers.{runs_as, statement_of, command_of, one_step, IsPlain}
 use Rattle.bsp_store_base.specs.Kept.{KeepsTable, columns_of}
-use Rattle.bsp_store_base.proofs.Reading.{simple, passes, out, rows_are, seen, put_fresh, taken_out}
+use Rattle.bsp_store_base.proofs.ReadingLemmas.{simple, passes, out, rows_are, seen, put_fresh, taken_out}
 
 -- a part that gave a value did not stop on the way
 pub went : {B E R : Type 0} {b : B} {Stops : E → Type 0} → ((stop : E) × Stops stop × (Ok b ≡ Err stop)) ⊎ R → R

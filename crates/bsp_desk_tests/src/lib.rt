@@ -1,5 +1,0 @@
-//! The tests of the desk.
-#![tactic(auto)]
-
-#[cfg(test)]
-mod examples;

@@ -1,0 +1,106 @@
+//! The calls of days, and the display of codes and days.
+
+use crate::fault::Fault;
+use crate::fields::{write_characters, write_fault};
+use crate::words::{first_word, number};
+use bsp_fields::{AgentCode, AirlineCode, Day, DocNumber, PeriodCode};
+
+/// The day that a text is, as YYYY-MM-DD.
+fn day_of(text: &str) -> Result<Day, Fault> {
+    match Day::read_text(text.as_bytes()) {
+        Ok(day) => Ok(day),
+        Err(_) => Err(Fault::Field),
+    }
+}
+
+/// Reads a day of a record.
+fn record_day(text: &str, out: &mut String) -> Result<(), Fault> {
+    match Day::read_record(text.as_bytes()) {
+        Ok(day) => write_characters(out, &day.write_text()),
+        Err(fault) => write_fault(out, fault),
+    }
+}
+
+/// Reads a day of a text.
+fn text_day(text: &str, out: &mut String) -> Result<(), Fault> {
+    match Day::read_text(text.as_bytes()) {
+        Ok(day) => write_characters(out, &day.write_record()),
+        Err(fault) => write_fault(out, fault),
+    }
+}
+
+/// Numbers a day.
+fn day_number(text: &str, out: &mut String) -> Result<(), Fault> {
+    write!(out, "{}", day_of(text)?.number())?;
+    Ok(())
+}
+
+/// Numbers the day so many days after one.
+fn plus(text: &str, out: &mut String) -> Result<(), Fault> {
+    let (day, days) = first_word(text);
+    let Ok(days) = days.parse::<u32>() else {
+        return Err(Fault::Number);
+    };
+    write!(out, "{}", day_of(day)?.plus(days))?;
+    Ok(())
+}
+
+/// Finds the day of a number.
+fn day_of_number(text: &str, out: &mut String) -> Result<(), Fault> {
+    match Day::of_number(number(text)?) {
+        Ok(day) => write_characters(out, &day.write_text()),
+        Err(fault) => write_fault(out, fault),
+    }
+}
+
+/// Makes the first day.
+fn first_day(out: &mut String) -> Result<(), Fault> {
+    let first = Day::first();
+    write!(out, "{first}, number {}", first.number())?;
+    Ok(())
+}
+
+/// Displays a document number, a period and a day of a record.
+fn display_period(text: &str, out: &mut String) -> Result<(), Fault> {
+    let (document, rest) = first_word(text);
+    let (period, day) = first_word(rest);
+    let Ok(document) = DocNumber::read_unchecked(document.as_bytes()) else {
+        return Err(Fault::Field);
+    };
+    let Ok(period) = PeriodCode::read(period.as_bytes()) else {
+        return Err(Fault::Field);
+    };
+    let Ok(day) = Day::read_record(day.as_bytes()) else {
+        return Err(Fault::Field);
+    };
+    write!(out, "{document} {period:<8}{day:>12}")?;
+    Ok(())
+}
+
+/// Displays an agent and an airline, and what follows them.
+fn display(text: &str, out: &mut String) -> Result<(), Fault> {
+    let (agent, rest) = first_word(text);
+    let (airline, rest) = first_word(rest);
+    let Ok(agent) = AgentCode::read(agent.as_bytes()) else {
+        return Err(Fault::Field);
+    };
+    let Ok(airline) = AirlineCode::read(airline.as_bytes()) else {
+        return Err(Fault::Field);
+    };
+    write!(out, "{agent} {airline}-")?;
+    display_period(rest, out)
+}
+
+/// Makes the call of a word, where it is one of these.
+pub fn answer(word: &str, rest: &str, out: &mut String) -> Option<Result<(), Fault>> {
+    match word {
+        "day" => Some(record_day(rest, out)),
+        "date" => Some(text_day(rest, out)),
+        "day-number" => Some(day_number(rest, out)),
+        "plus" => Some(plus(rest, out)),
+        "day-of" => Some(day_of_number(rest, out)),
+        "first-day" => Some(first_day(out)),
+        "display" => Some(display(rest, out)),
+        _ => None,
+    }
+}

@@ -1,0 +1,139 @@
+//! The calls that explain faults.
+
+use crate::fault::Fault;
+use crate::page::Page;
+use crate::texts::{line_of, text_of};
+use crate::words::{first_count, first_word};
+use bsp_explain::{
+    Before, Explanation, Reason, explain_hot, explain_ret, hot_reason, record_name, ret_reason,
+};
+use bsp_hot_check::RecordFault;
+use bsp_ret::{FaultCode, RetFault, read_ret};
+
+/// What is counted before the record of a `reason`: one transaction of 235.00.
+const BEFORE: Before = Before {
+    transactions: 1,
+    sum: 23_500,
+};
+
+/// The rows of the fault table.
+const ROWS: [FaultCode; 10] = [
+    FaultCode::F01,
+    FaultCode::F02,
+    FaultCode::F03,
+    FaultCode::F04,
+    FaultCode::F05,
+    FaultCode::F06,
+    FaultCode::F07,
+    FaultCode::F08,
+    FaultCode::F09,
+    FaultCode::F10,
+];
+
+/// The row of the fault table that a text names.
+fn row_of(text: &str) -> Result<FaultCode, Fault> {
+    for row in ROWS {
+        if text.as_bytes() == row.text().as_slice() {
+            return Ok(row);
+        }
+    }
+    Err(Fault::Word)
+}
+
+/// The fault that a text begins with, as `F05 2`, and what follows it.
+fn first_fault(text: &str) -> Result<(RetFault, &str), Fault> {
+    let (row, rest) = first_word(text);
+    let code = row_of(row)?;
+    let (at, rest) = first_count(rest)?;
+    Ok((RetFault { code, at }, rest))
+}
+
+/// Displays an explanation.
+fn write_explanation(out: &mut String, explanation: Explanation) -> Result<(), Fault> {
+    write!(out, "{explanation}")?;
+    Ok(())
+}
+
+/// Displays a fault of a RET file.
+fn fault(text: &str, out: &mut String) -> Result<(), Fault> {
+    let (fault, _) = first_fault(text)?;
+    write!(out, "{fault}")?;
+    Ok(())
+}
+
+/// Displays a fault of a HOT file.
+fn hot_fault(text: &str, out: &mut String) -> Result<(), Fault> {
+    let (number, _) = first_count(text)?;
+    write!(out, "{}", RecordFault { number })?;
+    Ok(())
+}
+
+/// Gives the reason of a fault of a RET file from the record alone.
+fn reason(page: &Page<'_>, text: &str, out: &mut String) -> Result<(), Fault> {
+    let (fault, parts) = first_fault(text)?;
+    let text = text_of(page, parts)?;
+    let reason = ret_reason(fault, line_of(&text)?, BEFORE);
+    let explanation = Explanation {
+        record: fault.at,
+        name: None,
+        reason: reason.unwrap_or(Reason::NotFound),
+    };
+    write_explanation(out, explanation)
+}
+
+/// Explains a fault of a RET file.
+fn explain(page: &Page<'_>, text: &str, out: &mut String) -> Result<(), Fault> {
+    let (fault, parts) = first_fault(text)?;
+    let text = text_of(page, parts)?;
+    write_explanation(out, explain_ret(&text, fault))
+}
+
+/// Explains the fault that the reader of RET files finds.
+fn explain_first(page: &Page<'_>, parts: &str, out: &mut String) -> Result<(), Fault> {
+    let text = text_of(page, parts)?;
+    match read_ret(page.alloc(), &text) {
+        Ok(_) => out.push_str("no fault")?,
+        Err(fault) => write_explanation(out, explain_ret(&text, fault))?,
+    }
+    Ok(())
+}
+
+/// Gives the reason of a fault of a HOT file from the record with that number alone.
+fn reason_of_hot(page: &Page<'_>, text: &str, out: &mut String) -> Result<(), Fault> {
+    let (record, parts) = first_count(text)?;
+    let text = text_of(page, parts)?;
+    let line = line_of(&text)?;
+    let reason = hot_reason(record, line);
+    let explanation = Explanation {
+        record,
+        name: record_name(line),
+        reason: reason.unwrap_or(Reason::Unexpected),
+    };
+    write_explanation(out, explanation)
+}
+
+/// Explains a fault of a HOT file.
+fn explain_of_hot(page: &Page<'_>, text: &str, out: &mut String) -> Result<(), Fault> {
+    let (number, parts) = first_count(text)?;
+    let text = text_of(page, parts)?;
+    write_explanation(out, explain_hot(&text, RecordFault { number }))
+}
+
+/// Makes the call of a word, where it is one of these.
+pub fn answer(
+    page: &Page<'_>,
+    word: &str,
+    rest: &str,
+    out: &mut String,
+) -> Option<Result<(), Fault>> {
+    match word {
+        "fault" => Some(fault(rest, out)),
+        "hot-fault" => Some(hot_fault(rest, out)),
+        "reason" => Some(reason(page, rest, out)),
+        "explain" => Some(explain(page, rest, out)),
+        "explain-first" => Some(explain_first(page, rest, out)),
+        "hot-reason" => Some(reason_of_hot(page, rest, out)),
+        "hot-explain" => Some(explain_of_hot(page, rest, out)),
+        _ => None,
+    }
+}

@@ -1,0 +1,133 @@
+//! The calls of records of HOT files, and of sums of documents.
+
+use crate::fault::Fault;
+use crate::fields::write_characters;
+use crate::page::Page;
+use crate::texts::{line_of, text_of};
+use crate::words::{first_count, first_word};
+use bsp_hot_check::CodeSums;
+use bsp_hot_records::{DocumentCode, Record, RecordName, Sums, read_record};
+use bsp_records::is_wide;
+
+/// The names of records, in the order of a file.
+const NAMES: [RecordName; 13] = [
+    RecordName::Bfh01,
+    RecordName::Bch02,
+    RecordName::Boh03,
+    RecordName::Bkt06,
+    RecordName::Bks24,
+    RecordName::Bks30,
+    RecordName::Bks39,
+    RecordName::Bks45,
+    RecordName::Bkp84,
+    RecordName::Bot93,
+    RecordName::Bot94,
+    RecordName::Bct95,
+    RecordName::Bft99,
+];
+
+/// Writes the letters and the digits of each name.
+pub fn names(out: &mut String) -> Result<(), Fault> {
+    let mut between = "";
+    for name in NAMES {
+        out.push_str(between)?;
+        write_characters(out, &name.letters())?;
+        write_characters(out, &name.digits())?;
+        between = " ";
+    }
+    Ok(())
+}
+
+/// Writes the text of each code of documents, and its place in their order.
+pub fn codes(out: &mut String) -> Result<(), Fault> {
+    let mut between = "";
+    for code in DocumentCode::ALL {
+        write!(out, "{between}{code:?} ")?;
+        write_characters(out, &code.text())?;
+        write!(out, " {}", code.rank())?;
+        between = ", ";
+    }
+    Ok(())
+}
+
+/// Reads a record with that sequence number.
+pub fn record(page: &Page<'_>, text: &str, out: &mut String) -> Result<(), Fault> {
+    let (number, parts) = first_count(text)?;
+    let text = text_of(page, parts)?;
+    let line = line_of(&text)?;
+    if !is_wide(line) {
+        return Err(Fault::Record);
+    }
+    match read_record(number, line) {
+        Some(Record::TransactionHeader(header)) => {
+            write!(
+                out,
+                "transaction {} of {}",
+                header.transaction, header.airline
+            )?
+        }
+        Some(_) => out.push_str("no BKT06")?,
+        None => out.push_str("none")?,
+    }
+    Ok(())
+}
+
+/// Writes the number of documents, the cash, the credit and the commission.
+fn write_sums(out: &mut String, sums: Sums) -> Result<(), Fault> {
+    let Sums {
+        documents,
+        cash,
+        credit,
+        commission,
+    } = sums;
+    write!(out, "{documents} {cash} {credit} {commission}")?;
+    Ok(())
+}
+
+/// The amount that a text begins with, and what follows it.
+fn first_amount(text: &str) -> Result<(i128, &str), Fault> {
+    let (word, rest) = first_word(text);
+    match word.parse::<i32>() {
+        Ok(units) => Ok((i128::from(units), rest)),
+        Err(_) => Err(Fault::Number),
+    }
+}
+
+/// Adds a document to sums of cash, credit and commission.
+pub fn sums(text: &str, out: &mut String) -> Result<(), Fault> {
+    let (cash, rest) = first_amount(text)?;
+    let (credit, rest) = first_amount(rest)?;
+    let (commission, _) = first_amount(rest)?;
+    let paid = Sums {
+        documents: 0,
+        cash,
+        credit,
+        commission,
+    };
+    let sums = Sums::DOCUMENT.plus(paid);
+    write_sums(out, sums)?;
+    write!(out, ", net {}", sums.net())?;
+    Ok(())
+}
+
+/// The code of documents that a text is.
+fn code_of(text: &str) -> Result<DocumentCode, Fault> {
+    for code in DocumentCode::ALL {
+        if text.as_bytes() == code.text().as_slice() {
+            return Ok(code);
+        }
+    }
+    Err(Fault::Word)
+}
+
+/// Counts a document of that code, and writes the sums of each code.
+pub fn code_sums(text: &str, out: &mut String) -> Result<(), Fault> {
+    let sums = CodeSums::NONE.plus(code_of(text)?, Sums::DOCUMENT);
+    let mut between = "";
+    for code in DocumentCode::ALL {
+        write!(out, "{between}{code:?} ")?;
+        write_sums(out, sums.of(code))?;
+        between = ", ";
+    }
+    Ok(())
+}

@@ -1,0 +1,50 @@
+//! Worked examples of the fields and records of RET and HOT files. It reads a page of cases from standard
+//! input, makes the call that each case names, and writes the page with what the calls gave.
+//! The page says how a case is written. The status is 1 where a line is no case.
+#![tactic(auto)]
+
+mod answers;
+mod codes;
+mod days;
+mod explanations;
+mod fault;
+mod fields;
+mod hot;
+mod hot_records;
+mod lines;
+mod notation;
+mod operations;
+mod outcome;
+mod page;
+mod reader;
+mod records;
+mod ret;
+mod texts;
+mod transactions;
+mod words;
+
+use answers::answer_page;
+use fault::Fault;
+use page::Page;
+use std::io;
+use std::process::ExitCode;
+
+/// Reads the page and writes it with its answers, up to the first line that is no case.
+fn run(rt: &HostRuntime) -> Result<(), Fault> {
+    let text = io::read_to_string(rt.alloc(), rt.stdin())?;
+    let page = Page::of(rt.alloc(), text.as_str())?;
+    let mut out = String::new(rt.alloc());
+    let answered = answer_page(&page, text.as_str(), &mut out);
+    rt.print(out.as_str())?;
+    answered
+}
+
+fn main(rt: HostRuntime) -> ExitCode {
+    match run(&rt) {
+        Ok(()) => ExitCode::SUCCESS,
+        Err(fault) => {
+            let _ = eprintln!(rt; "the last line: {fault}");
+            ExitCode::FAILURE
+        }
+    }
+}

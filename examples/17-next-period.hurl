@@ -1,0 +1,19 @@
+# Example 17: the next period is closed, and has a HOT file of four records.
+# after: opening/plan.hurl opening/callers.hurl opening/month.hurl
+
+POST {{base}}/office/day
+Bsp-Token: officetoken00001
+{"day":"2024-02-01"}
+HTTP 200
+{"result":"done"}
+
+POST {{base}}/office/close
+Bsp-Token: officetoken00001
+{"period":"24012"}
+HTTP 200
+{"result":"done"}
+
+GET {{base}}/airlines/220/hot/24012
+Bsp-Token: airlinetoken0220
+HTTP 200
+file,samples/no-documents.hot;

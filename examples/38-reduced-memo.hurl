@@ -1,0 +1,14 @@
+# Example 38: a reduced memo is known by its first amount.
+# after: opening/plan.hurl opening/callers.hurl opening/memos.hurl 14-memos.hurl
+
+POST {{base}}/airlines/125/memos
+Bsp-Token: airlinetoken0125
+{"agent":"12345675","amount":5000,"document":"6000000001","kind":"ADMA","reason":"fare"}
+HTTP 200
+{"result":"held"}
+
+POST {{base}}/airlines/125/memos
+Bsp-Token: airlinetoken0125
+{"agent":"12345675","amount":3000,"document":"6000000001","kind":"ADMA","reason":"fare"}
+HTTP 409
+{"code":"M05"}
