@@ -19,9 +19,7 @@ pub use bsp_memory_rows::{NoRoom, Tables};
 pub use bsp_store_callers::{all_agents, all_airline_tokens, all_ranges};
 pub use bsp_store_items::all_items;
 pub use bsp_store_memos::{all_memos, all_tallies};
-pub use bsp_store_plan::{
-    all_airlines, all_meta, all_periods, all_rates, all_terms, read_version,
-};
+pub use bsp_store_plan::{all_airlines, all_meta, all_periods, all_rates, all_terms, read_version};
 pub use compared::are_rows;
 pub use equal::is_row;
 pub use listed::{Each, RowOf, are_placed_rows_of, are_rows_of};
