@@ -1,5 +1,6 @@
 -- From a book in memory that was read to the book that is opened.
 use Rattle.std.proofs.Common.{◌≡◌, None, false, Result, Ok, Err, IfOk, inl, inr, refl, sym, subst}
+use Rattle.std.specs.Prelude.{IfErr, MatchResult}
 use Rattle.sqlite_trees.specs.declared.store.Store.{Ghosts}
 use Rattle.sqlite.specs.Held.{Held, state}
 use Rattle.sqlite.specs.State.{HasCleanDisk}
@@ -44,3 +45,13 @@ module _ {S E : Type 0} (g : Ghosts S) (before now : Held S) (again : Reopens g 
   kept_adopted (Ok book) found =
       let it = found again.ordered in
       record { rows = it.rows; sound = it.sound; holds = it.holds; those = inl (λ clean. subst (KeepsBook it.rows) (again.trees (it.earlier clean)) (it.found clean)) }
+
+-- ---- without the store that comes with a fault
+
+pub ok_without : {X F S : Type 0} (r : Result X (F × S)) (out : Result X F) → MatchResult r (λ x. out ≡ Ok x) (λ e. out ≡ Err e.0) → (P Q : X → Type 0) → IfOk r P → ((x : X) → P x → Q x) → IfOk out Q
+ok_without (Ok x) out is P Q it so = subst (λ o. IfOk o Q) (sym is) (so x it)
+ok_without (Err e) out is P Q it so = subst (λ o. IfOk o Q) (sym is) tt
+
+pub err_without : {X F S : Type 0} (r : Result X (F × S)) (out : Result X F) → MatchResult r (λ x. out ≡ Ok x) (λ e. out ≡ Err e.0) → (P Q : F × S → Type 0) (R : F → Type 0) → IfErr r P → IfErr r Q → ((e : F × S) → P e → Q e → R e.0) → IfErr out R
+err_without (Ok x) out is P Q R one two so = subst (λ o. IfErr o R) (sym is) tt
+err_without (Err e) out is P Q R one two so = subst (λ o. IfErr o R) (sym is) (so e one two)

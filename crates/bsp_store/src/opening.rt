@@ -1,6 +1,6 @@
 //! A store opened as a book.
 
-ghost use Rattle.std.specs.Prelude.{◌≡◌, ◌⊎◌, true, IfErr, IfOk, None};
+ghost use Rattle.std.specs.Prelude.{◌≡◌, ◌⊎◌, true, Err, IfErr, IfOk, MatchResult, None, Ok};
 ghost use Rattle.sqlite_trees.specs.View.{IsClean};
 ghost use Rattle.sqlite.specs.Held.{state};
 ghost use Rattle.sqlite.specs.Steps.{over_memory};
@@ -56,6 +56,18 @@ fn new_book<S: Alter + Drop>(
     }
 }
 
+/// What an opening answers, without the store that comes with a fault.
+fn without_store<S: Alter + Drop>(
+    opened: Result<SqlBook<S>, (OpenFault, S)>,
+) -> Result<SqlBook<S>, OpenFault>
+    ensures { MatchResult opened (λ book. result ≡ Ok book) (λ e. result ≡ Err e.0) }
+{
+    match opened {
+        Ok(book) => Ok(book),
+        Err((fault, _)) => Err(fault),
+    }
+}
+
 impl<S: Alter + Drop> SqlBook<S> {
     /// Opens the book that a store keeps, and tests that its rows are sound. A store without any table gets those of an
     /// empty book, in one transaction.
@@ -92,10 +104,7 @@ impl SqlBook<MemStore> {
         ensures { IfOk result (λ book. Holds over_memory book no_rows None) }
     {
         let conn = Connection::open_in_memory(alloc)?;
-        match new_book(alloc, conn) {
-            Ok(book) => Ok(book),
-            Err((fault, _)) => Err(fault),
-        }
+        without_store(new_book(alloc, conn))
     }
 }
 
@@ -119,9 +128,6 @@ impl<T: Start> SqlBook<FileStore<FileFrom<T>>> {
             Ok(conn) => conn,
             Err((error, _)) => return Err(OpenFault::from(error)),
         };
-        match SqlBook::adopt(rt.alloc(), conn) {
-            Ok(book) => Ok(book),
-            Err((fault, _)) => Err(fault),
-        }
+        without_store(SqlBook::adopt(rt.alloc(), conn))
     }
 }

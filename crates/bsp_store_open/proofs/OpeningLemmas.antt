@@ -1,5 +1,5 @@
 -- From the rows that an opening read to what the tables keep.
-use Rattle.std.proofs.Common.{◌≡◌, ℕ, List, [], ◌∷◌, length, map, None, false, Result, Ok, Err, IsTrue, IsPermutation, inl, inr, refl, sym, ap, subst, ◌∙◌, arith}
+use Rattle.std.proofs.Common.{◌≡◌, ℕ, List, [], ◌∷◌, length, map, None, false, Result, Ok, Err, IfOk, IsTrue, IsPermutation, inl, inr, refl, sym, ap, subst, ◌∙◌, arith}
 use Rattle.std.specs.Prelude.{◌⊎◌, IfErr, IsErrAnd, true}
 use Rattle.std.specs.List.{AllByRecursion}
 use Rattle.std.proofs.lemmas.List.Sorted.{IsPermutation-sym}
@@ -39,6 +39,11 @@ use Rattle.bsp_store_load.proofs.Tallies.{content_is}
 pub passed_on : {X E : Type 0} (P : E → Type 0) (r : Result X E) (e : E) → IsErrAnd r (λ f. f ≡ e) → P e → IfErr r P
 passed_on P (Ok x) e is p = tt
 passed_on P (Err f) e is p = subst P (sym is) p
+
+-- a value was given, and what is known of it is enough
+pub if_read : {X E : Type 0} (P Q : X → Type 0) (r : Result X E) → IfOk r P → ((x : X) → P x → Q x) → IfOk r Q
+if_read P Q (Ok x) it so = so x it
+if_read P Q (Err e) it so = tt
 
 -- the rows of a content that the trees keep are read in its order
 in_order_all : (stored : StoredRows) (trees : Trees) → AreAllRows trees stored → (c : Content) → IsFormed c → KeepsRows form c trees → AreRowsOf c stored

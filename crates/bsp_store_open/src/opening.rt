@@ -1,7 +1,8 @@
 //! A store read as a book in memory, and a connection opened again.
 
-ghost use Rattle.std.specs.Prelude.{◌≡◌, ◌⊎◌, true, false, IfErr, IfOk, OnOk, IsTrue};
+ghost use Rattle.std.specs.Prelude.{◌≡◌, ◌⊎◌, true, false, IfErr, IfOk, None, OnOk, IsTrue};
 ghost use Rattle.sqlite.specs.Held.{state};
+ghost use Rattle.bsp_book.specs.Listed.{meaning as listed};
 ghost use Rattle.bsp_book.specs.Rows.{no_rows};
 ghost use Rattle.bsp_book.specs.Sound.{Sound};
 ghost use Rattle.bsp_store_load.specs.MemoryRowsTables.{rows_of};
@@ -62,9 +63,20 @@ pub fn kept_list<S: Alter>(alloc: Global, conn: &mut Connection<S>) -> Result<Li
     ensures spares { Spares S.Store conn.old conn.new }
 {
     let rows = stored_rows(conn)?;
-    let tables = sound_tables(alloc, &rows)?;
     expect_rest(conn)?;
+    let tables = sound_tables(alloc, &rows)?;
     Ok(ListBook::over(alloc, tables))
+}
+
+/// An empty book in memory, if these are its rows.
+fn new_list(alloc: Global, rows: &StoredRows) -> Result<ListBook, OpenFault>
+    ensures { IfOk result (λ list. listed.holds list no_rows None × AreRowsOf (content_now list.tables) rows.now) }
+{
+    let list = ListBook::new(alloc);
+    if !are_rows(rows, list.tables()) {
+        return Err(OpenFault::Damaged);
+    }
+    Ok(list)
 }
 
 /// An empty book in memory, which the tables of a store keep.
@@ -76,12 +88,8 @@ pub fn empty_list<S: Alter>(alloc: Global, conn: &mut Connection<S>) -> Result<L
     ensures { IfOk result (λ list. IsOrdered S.Store conn.old → IsRead S.Store conn.old conn.new list no_rows) }
 {
     let rows = stored_rows(conn)?;
-    let list = ListBook::new(alloc);
-    if !are_rows(&rows, list.tables()) {
-        return Err(OpenFault::Damaged);
-    }
     expect_rest(conn)?;
-    Ok(list)
+    new_list(alloc, &rows)
 }
 
 /// Opens a connection again over its own store.
