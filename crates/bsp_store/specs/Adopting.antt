@@ -26,7 +26,7 @@ module _ {S : Type 0} (g : Ghosts S) where
     pub rows : Rows
     pub sound : Sound rows
     pub holds : Holds g book rows None
-    pub those : AreThoseOf h book.conn rows
+    pub those : AreThoseOf g h book.conn rows
 
 -- where no book of this version is reported, some connection, and the store that it left, are so
 abbrev pub IfRefused : {S : Type 0} → Result (SqlBook S) OpenFault → (OpenFault → Held S → S → Type 0) → Type 0

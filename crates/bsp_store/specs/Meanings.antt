@@ -20,7 +20,7 @@ module _ {S : Type 0} (g : Ghosts S) where
   pub record Holds (book : SqlBook S) (now : Rows) (begun : Option Rows) : Type 0 where
     pub works : book.failed ≡ false
     pub listed : listed.holds book.list now begun
-    pub kept : KeepsAtRest book.conn (unwrap_or begun now)
+    pub kept : KeepsAtRest g book.conn (unwrap_or begun now)
 
   abbrev pub meaning : Meaning (SqlBook S) Rows
   meaning = record {

@@ -126,7 +126,7 @@ module _ {S : Type 0} (g : Ghosts S) where
   pub record IsRead (old new : Held S) (list : ListBook) (rows : Rows) : Type 0 where
     pub listed : listed.holds list rows None
     pub sound : Sound rows
-    pub kept : KeepsAtRest g new rows
+    pub kept : KeepsAtRest new rows
     pub earlier : HasCleanDisk (state g new) → HasCleanDisk (state g old)
     pub found : HasCleanDisk (state g new) → KeepsBook rows (state g old).now.trees
 
