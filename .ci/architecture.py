@@ -4,11 +4,10 @@
 Each crate of crates.txt is drawn once, and each crate that is drawn is in crates.txt; crates of tests and of cases, which
 nothing uses, are named in docs/CONTRIBUTING.md instead. A crate uses crates that are drawn below it alone, or to its
 right. The script names what differs, and ends with status 1 if anything does."""
-import pathlib
 import re
 import sys
 
-TOP = pathlib.Path(__file__).resolve().parent.parent
+from office import TOP
 
 
 def uses():

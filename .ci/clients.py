@@ -16,7 +16,7 @@ import tempfile
 import time
 
 import office
-from office import TOP, expect
+from office import TOP, expect, expect_end
 
 PROGRAM = office.program()
 SALE = f"{TOP}/samples/sale.ret"
@@ -149,7 +149,7 @@ def behind_nginx():
     expect("behind nginx: the end", (0, ""), it.ended())
 
 
-def refusal(what, status, error, *words, text=b""):
+def cannot_serve(what, status, error, *words, text=b""):
     """Runs the program where it cannot serve. `error` is a pattern of what it prints on standard error."""
     ended = subprocess.run([PROGRAM, *words], input=text, capture_output=True, timeout=10)
     expect(f"{what}: status", status, ended.returncode)
@@ -164,14 +164,14 @@ def refused():
         taken.listen()
         port = str(taken.getsockname()[1])
         words = ["serve", "--port", port, "--token"]
-        refusal("a port in use", 3, f"bsp_office: port {port} is in use\n", *words, OFFICE)
-        refusal("a wrong token before the port", 2, "error: .*\n", *words, "short")
-    refusal("no such file", 3, "bsp_office: missing: .*\n", "run", "--token-file", "missing")
-    refusal("a directory", 3, "bsp_office: .: .*\n", "run", "--token-file", ".")
+        cannot_serve("a port in use", 3, f"bsp_office: port {port} is in use\n", *words, OFFICE)
+        cannot_serve("a wrong token before the port", 2, "error: .*\n", *words, "short")
+    cannot_serve("no such file", 3, "bsp_office: missing: .*\n", "run", "--token-file", "missing")
+    cannot_serve("a directory", 3, "bsp_office: .: .*\n", "run", "--token-file", ".")
     for text in "short\n", "", f"{OFFICE} \n", f"\n{OFFICE}\n", f"{OFFICE}\n" * 1000:
         with open("token", "w", encoding="utf-8") as it:
             it.write(text)
-        refusal(f"the token file {text[:20]!r}", 2, "bsp_office: token: its first line .*\n", "run", "--token-file", "token")
+        cannot_serve(f"the token file {text[:20]!r}", 2, "bsp_office: token: its first line .*\n", "run", "--token-file", "token")
 
 
 def run_on_standard_input():
@@ -179,11 +179,9 @@ def run_on_standard_input():
     for end in "", "\n", "\r\n", "\nmore\n":
         with open("token", "w", encoding="utf-8", newline="") as it:
             it.write(OFFICE + end)
-        ended = subprocess.run([PROGRAM, "run", "--token-file", "token"], input=ASKED, capture_output=True, timeout=10)
-        expect(f"run, the token file ends by {end!r}", (0, reply, b""), (ended.returncode, ended.stdout, ended.stderr))
+        expect_end(f"run, the token file ends by {end!r}", (0, reply, b""), [PROGRAM, "run", "--token-file", "token"], input=ASKED)
     for length in range(len(ASKED)):
-        ended = subprocess.run([PROGRAM, "run", "--token", OFFICE], input=ASKED[:length], capture_output=True, timeout=10)
-        expect(f"run of {length} bytes", (0, b"", b""), (ended.returncode, ended.stdout, ended.stderr))
+        expect_end(f"run of {length} bytes", (0, b"", b""), [PROGRAM, "run", "--token", OFFICE], input=ASKED[:length])
     with open("/dev/full", "wb") as full:
         ended = subprocess.run([PROGRAM, "run", "--token", OFFICE], input=ASKED, stdout=full, timeout=10)
     expect("run, standard output full", 3, ended.returncode)
@@ -200,10 +198,8 @@ def run_twice():
     for words, second in *((words, "done") for words in memory), (["--token", OFFICE, "--db", "office.db"], "held"):
         before = os.listdir()
         for result in "done", second:
-            asked = {"input": head.encode() + plan, "capture_output": True, "timeout": 60}
-            ended = subprocess.run([PROGRAM, "run", *words], **asked)
             wanted = (0, (reply % result).encode(), b"")
-            expect(f"run {words}: a plan", wanted, (ended.returncode, ended.stdout, ended.stderr))
+            expect_end(f"run {words}: a plan", wanted, [PROGRAM, "run", *words], input=head.encode() + plan)
         made = {"office.db", "office.db-wal"} if "--db" in words else set()
         expect(f"run {words}: files that it made", made, set(os.listdir()) - set(before))
 

@@ -47,6 +47,12 @@ def expect(what, wanted, found):
     return wanted == found
 
 
+def expect_end(what, wanted, words, **how):
+    """Runs the words to their end, and compares the status, the output and the text on standard error."""
+    ended = subprocess.run(words, capture_output=True, timeout=60, **{"input": b"", **how})
+    return expect(what, wanted, (ended.returncode, ended.stdout, ended.stderr))
+
+
 def finish(line):
     """Prints the line where nothing differed, and ends the script with the number of what did."""
     if not failures:

@@ -17,20 +17,20 @@ import random
 import re
 import shutil
 import sqlite3
-import subprocess
 import sys
 import tempfile
 import threading
 import time
 
 import office
-from office import TOP, expect, sample
+from office import TOP, expect, expect_end, sample
 
 sys.path.append(str(TOP / "bench" / "desk"))
 import make_requests
 
 PROGRAM = office.program()
 OFFICE = "officetoken00001"
+RUN = [PROGRAM, "run", "--token", OFFICE, "--db"]
 A, B = "12345675", "76543213"
 TOKENS = {A: "agenttoken000001", B: "agenttoken000002", "125": "airlinetoken0125", "220": "airlinetoken0220"}
 
@@ -330,9 +330,8 @@ def stored_run():
     """The stored run of the program has the same bytes over a file."""
     crate = TOP / "crates" / "bsp_office"
     words = (crate / "args").read_text(encoding="utf-8").split()
-    ended = subprocess.run(
-        [PROGRAM, *words, "--db", "stored.db"], input=(crate / "stdin").read_bytes(), capture_output=True, timeout=30)
-    expect("the stored run", (0, (crate / "stdout").read_bytes(), b""), (ended.returncode, ended.stdout, ended.stderr))
+    wanted = 0, (crate / "stdout").read_bytes(), b""
+    expect_end("the stored run", wanted, [PROGRAM, *words, "--db", "stored.db"], input=(crate / "stdin").read_bytes())
 
 
 def on_standard_input():
@@ -340,20 +339,14 @@ def on_standard_input():
     head = b"POST /office/day HTTP/1.1\r\nHost: bsp\r\nBsp-Token: %s\r\n" % OFFICE.encode()
     asked = head + b'Expect: 100-continue\r\nContent-Length: 20\r\n\r\n{"day":"2024-01-05"}'
     for result in b"done", b"held":
-        ended = subprocess.run(
-            [PROGRAM, "run", "--token", OFFICE, "--db", "run.db"], input=asked, capture_output=True, timeout=30)
         reply = b"HTTP/1.1 100 Continue\r\n\r\nHTTP/1.1 200 OK\r\nContent-Type: application/json\r\n" \
             b'Content-Length: 17\r\n\r\n{"result":"%s"}' % result
-        expect(f"run, {result.decode()}", (0, reply, b""), (ended.returncode, ended.stdout, ended.stderr))
+        expect_end(f"run, {result.decode()}", (0, reply, b""), [*RUN, "run.db"], input=asked)
 
 
 def refusal(what, file, cause, status):
     """The program is not started over this file, and says why in one line."""
-    ended = subprocess.run(
-        [PROGRAM, "run", "--token", OFFICE, "--db", file], input=b"", capture_output=True, timeout=30)
-    expect(f"{what}: status", status, ended.returncode)
-    expect(f"{what}: standard output", b"", ended.stdout)
-    expect(f"{what}: the line", f"bsp_office: {file}: {cause}\n", ended.stderr.decode())
+    expect_end(what, (status, b"", f"bsp_office: {file}: {cause}\n".encode()), [*RUN, file])
 
 
 OTHER_VERSION = "B04 a book of another version"
@@ -446,11 +439,9 @@ def read_only():
         return
     os.chmod(".", 0o777)
     shutil.copy(PROGRAM, "program")
-    ended = subprocess.run(
-        ["./program", "run", "--token", OFFICE, "--db", "read-only.db"], input=b"", capture_output=True, timeout=30,
-        user=65534, group=65534, extra_groups=[])
     line = f"bsp_office: read-only.db: {NOT_OPENED}\n".encode()
-    expect("a read-only file", (3, b"", line), (ended.returncode, ended.stdout, ended.stderr))
+    other = {"user": 65534, "group": 65534, "extra_groups": []}
+    expect_end("a read-only file", (3, b"", line), ["./program", *RUN[1:], "read-only.db"], **other)
 
 
 def main():
