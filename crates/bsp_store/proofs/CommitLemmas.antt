@@ -13,7 +13,7 @@ use Rattle.bsp_store_save.specs.Content.{Content, form}
 use Rattle.bsp_store_save.specs.Contents.{IsContentOf, content_before, content_now}
 use Rattle.bsp_store_save.specs.Kept.{Falls, Stands}
 use Rattle.bsp_store_save.specs.Calls.{IsKept}
-use Rattle.bsp_store.specs.Meanings.{meaning}
+use Rattle.bsp_store.specs.Meanings.{Holds, meaning}
 use Rattle.bsp_store.specs.declared.book.SqlBook.{SqlBook}
 use Rattle.bsp_store_save.proofs.Tallies.{content_is, one_content}
 
