@@ -1,5 +1,5 @@
 -- A commit of a book in tables: of the store, and of the memory after it.
-use Rattle.std.proofs.Common.{◌≡◌, false, true, inl, inr, refl, ◌∙◌, subst, Result, Ok, Err, OnErr, OnOk, Some}
+use Rattle.std.proofs.Common.{◌≡◌, false, true, inl, inr, refl, sym, ◌∙◌, subst, Result, Ok, Err, OnErr, OnOk, Some}
 use Rattle.std.specs.Prelude.{IsOkUnless}
 use Rattle.sqlite.specs.Held.{Held}
 use Rattle.sqlite_trees.specs.declared.store.Store.{Ghosts}
@@ -8,13 +8,30 @@ use Rattle.bsp_book.specs.declared.fault.BookFault.{BookFault}
 use Rattle.bsp_book.specs.declared.fault.BookFault.TheVariants.{Failed, NoRoom}
 use Rattle.bsp_book.specs.Calls.{Commits, FallsBack, Faults, LeavesEither}
 use Rattle.bsp_book.specs.Listed.{meaning as listed}
-use Rattle.bsp_store_base.specs.Content.{Content, form}
-use Rattle.bsp_store_load.specs.Contents.{content_before, content_now}
-use Rattle.bsp_store_base.specs.Kept.{Falls, Stands}
-use Rattle.bsp_store.specs.Calls.{IsKept}
-use Rattle.bsp_store.specs.Meanings.{meaning}
+use Rattle.bsp_store_save.specs.MemoryRowsTables.{committed_rows, rows_of}
+use Rattle.bsp_store_save.specs.Content.{Content, form}
+use Rattle.bsp_store_save.specs.Contents.{IsContentOf, content_before, content_now}
+use Rattle.bsp_store_save.specs.Kept.{Falls, Stands}
+use Rattle.bsp_store_save.specs.Calls.{IsKept}
+use Rattle.bsp_store.specs.Meanings.{Holds, meaning}
 use Rattle.bsp_store.specs.declared.book.SqlBook.{SqlBook}
-use Rattle.bsp_store.proofs.SavingLemmas.{before_is, before_of, now_of}
+use Rattle.bsp_store_save.proofs.Tallies.{content_is, one_content}
+
+-- ---- what the store has, and is to have
+
+module _ {S : Type 0} (g : Ghosts S) (book : SqlBook S) (now last : Rows) (holds : Holds g book now (Some last)) where
+  pub before_is : IsKept g book.conn (content_before book.list.tables)
+  before_is =
+      let kept = holds.kept in
+      let before : IsContentOf last (content_before book.list.tables) =
+      subst (λ rows. IsContentOf rows (content_before book.list.tables)) (sym holds.listed.committed) (content_is (committed_rows book.list.tables) _ holds.listed.was_derived.totals) in
+      subst (IsKept g book.conn) (one_content last kept.0 (content_before book.list.tables) kept.1 before) kept.2
+
+  pub before_of : IsContentOf last (content_before book.list.tables)
+  before_of = subst (λ rows. IsContentOf rows (content_before book.list.tables)) (sym holds.listed.committed) (content_is (committed_rows book.list.tables) _ holds.listed.was_derived.totals)
+
+  pub now_of : IsContentOf now (content_now book.list.tables)
+  now_of = subst (λ rows. IsContentOf rows (content_now book.list.tables)) (sym holds.listed.rows) (content_is (rows_of book.list.tables) _ holds.listed.derived.totals)
 
 module _ {S : Type 0} (g : Ghosts S) (old new : SqlBook S) where
   -- the store has what is in memory now

@@ -1,5 +1,3 @@
-pub mod Faults
-pub mod Calls
 pub mod Meanings
-pub mod Saving
-pub mod Opening
+pub mod Adopting
+pub use Rattle.bsp_store_open.specs.Faults

@@ -7,16 +7,11 @@ use Rattle.sqlite.specs.State.{HasCleanDisk}
 use Rattle.bsp_rows.specs.Rows.{Rows}
 use Rattle.bsp_book.specs.Calls.{Meaning}
 use Rattle.bsp_book.specs.Listed.{meaning as listed}
-use Rattle.bsp_store_base.specs.Content.{Content}
-use Rattle.bsp_store.specs.Calls.{IsKept}
-use Rattle.bsp_store_load.specs.Contents.{IsContentOf, KeepsBook}
+use Rattle.bsp_store_open.specs.Contents.{KeepsBook}
+use Rattle.bsp_store_open.specs.Opening.{KeepsAtRest}
 use Rattle.bsp_store.specs.declared.book.SqlBook.{SqlBook}
 
 module _ {S : Type 0} (g : Ghosts S) where
-  -- no transaction of the connection is open, and its tables have these rows
-  abbrev pub KeepsAtRest : Held S → Rows → Type 0
-  KeepsAtRest h rows = (c : Content) × IsContentOf rows c × IsKept g h c
-
   -- a stop leaves one of these rows
   abbrev pub LeavesOne : Held S → Rows → Rows → Type 0
   LeavesOne h a b = HasCleanDisk (state g h) → (db : Trees) → (state g h).may_leave db → KeepsBook a db ⊎ KeepsBook b db
@@ -25,7 +20,7 @@ module _ {S : Type 0} (g : Ghosts S) where
   pub record Holds (book : SqlBook S) (now : Rows) (begun : Option Rows) : Type 0 where
     pub works : book.failed ≡ false
     pub listed : listed.holds book.list now begun
-    pub kept : KeepsAtRest book.conn (unwrap_or begun now)
+    pub kept : KeepsAtRest g book.conn (unwrap_or begun now)
 
   abbrev pub meaning : Meaning (SqlBook S) Rows
   meaning = record {

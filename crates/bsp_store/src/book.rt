@@ -3,17 +3,16 @@
 ghost use Rattle.std.specs.Prelude.{◌≡◌, IsOkUnless, OnErr, OnOk, false, true};
 ghost use Rattle.bsp_book.specs.Calls.{Commits, FallsBack};
 ghost use Rattle.bsp_book.specs.Listed.{meaning as listed};
-ghost use Rattle.bsp_store_base.specs.Content.{Content, form};
-ghost use Rattle.bsp_store_base.specs.Kept.{Falls, Stands};
-ghost use Rattle.bsp_store.specs.Calls.{IsKept};
+ghost use Rattle.bsp_store_save.specs.Content.{Content, form};
+ghost use Rattle.bsp_store_save.specs.Kept.{Falls, Stands};
+ghost use Rattle.bsp_store_save.specs.Calls.{IsKept};
 
-use crate::ends::recover;
-use crate::saving::save;
 use bsp_book::{Book, BookFault, ListBook};
 use bsp_rows::{
     AgentCode, AirlineCode, Change, Day, Item, ItemKey, Items, Memo, MemoKey, Memos, PeriodCode,
     Plan, PlanFault, PlanText, Range, Tallies, Tally, TallyKey, Token, Transaction,
 };
+use bsp_store_save::{recover, save};
 use sqlite::{Alter, Connection, Error, ErrorCode};
 
 /// A book in tables of `sqlite`.

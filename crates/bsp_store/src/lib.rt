@@ -2,15 +2,7 @@
 #![tactic(auto)]
 
 mod book;
-mod ends;
-mod fault;
-mod keyed;
 mod opening;
-mod parts;
-mod plans;
-mod reading;
-mod saving;
-mod written;
 
 pub use book::SqlBook;
-pub use fault::OpenFault;
+pub use bsp_store_open::OpenFault;

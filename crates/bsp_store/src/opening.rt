@@ -1,7 +1,6 @@
 //! A store opened as a book.
 
-ghost use Rattle.std.specs.Prelude.{◌≡◌, ◌⊎◌, true, false, IfErr, IfOk, None, OnOk, IsTrue, MatchResult};
-ghost use Rattle.sqlite_trees.specs.Tree.{Trees};
+ghost use Rattle.std.specs.Prelude.{◌≡◌, ◌⊎◌, true, Err, IfErr, IfOk, MatchResult, None, Ok};
 ghost use Rattle.sqlite_trees.specs.View.{IsClean};
 ghost use Rattle.sqlite.specs.Held.{state};
 ghost use Rattle.sqlite.specs.Steps.{over_memory};
@@ -10,107 +9,17 @@ ghost use Rattle.sqlite.specs.State.{HasCleanDisk};
 ghost use Rattle.sqlite_wal.specs.Files.{image_at};
 ghost use Rattle.sqlite.specs.Files.{file_state, over_files};
 ghost use Rattle.bsp_rows.specs.Rows.{no_rows};
-ghost use Rattle.bsp_rows.specs.Sound.{Sound};
-ghost use Rattle.bsp_memory_rows.specs.Tables.{rows_of};
-ghost use Rattle.bsp_store_load.specs.Contents.{content_now};
-ghost use Rattle.bsp_store_load.specs.Stored.{AreCommitted, AreNoBook, AreRowsOf};
-ghost use Rattle.bsp_store_base.specs.Kept.{Spares};
-ghost use Rattle.bsp_store.specs.Faults.{is_refusal};
-ghost use Rattle.bsp_store_schema.specs.Schema.{no_schema, our_schema};
+ghost use Rattle.bsp_store_open.specs.Schema.{our_schema};
+ghost use Rattle.bsp_store_open.specs.Faults.{is_refusal};
+ghost use Rattle.bsp_store_open.specs.Opening.{IsNoBook, IsOrdered, LeavesCommitted, Refuses, SparesStore, WasForeign, WasNoBook};
 ghost use Rattle.bsp_store.specs.Meanings.{Holds};
-ghost use Rattle.bsp_store.specs.Opening.{Adopts, HasNoBook, IfRefused, IsFoundIn, IsNoBook, IsOrdered, IsRead, LeavesCommitted, Refuses, Reopens, SparesStore, WasForeign, WasNoBook};
+ghost use Rattle.bsp_store.specs.Adopting.{Adopts, IfRefused, IsFoundIn};
 
 use crate::book::SqlBook;
-use crate::ends::{close_transaction, open_transaction};
-use crate::fault::OpenFault;
-use crate::reading::{refusal, stored_rows};
-use bsp_book::ListBook;
-use bsp_memory_rows::Tables;
-use bsp_rows::Day;
-use bsp_store_load::{StoredRows, are_rows, tables_of};
-use bsp_store_plan::put_meta;
-use bsp_store_schema::{is_bare, is_ours, make_tables, reopen};
-use sqlite::{Alter, Connection, Error, ErrorCode, FileFrom, FileStore, MemStore, Start};
+use bsp_store_open::{OpenFault, again, empty_list, is_bare, is_ours, kept_list, refusal};
+use bsp_store_save::make_book;
+use sqlite::{Alter, Connection, FileFrom, FileStore, MemStore, Start};
 use std::alloc::Global;
-
-/// Refuses a connection on which a transaction is open.
-fn expect_rest<S: Alter>(conn: &Connection<S>) -> Result<(), OpenFault>
-    ensures outside { OnOk result (conn.now.in_transaction ≡ false) }
-    ensures settled { OnOk result (IsTrue (state S.Store conn.now).is_open → (state S.Store conn.now).now ≡ (state S.Store conn.now).committed) }
-    ensures refused { IfErr result (λ fault. is_refusal fault ≡ false) }
-{
-    if conn.is_autocommit() {
-        Ok(())
-    } else {
-        Err(OpenFault::Failed(Error::SqliteFailure(ErrorCode::TransactionState)))
-    }
-}
-
-/// The tables in memory whose rows these are, if they are sound.
-fn sound_tables(alloc: Global, rows: &StoredRows) -> Result<Tables, OpenFault>
-    ensures committed { IfOk result AreCommitted }
-    ensures rows { IfOk result (λ tables. AreRowsOf (content_now tables) rows.now) }
-    ensures sound { IfOk result (λ tables. Sound (rows_of tables)) }
-    ensures refused { IfErr result (λ fault. is_refusal fault ≡ true → AreNoBook rows.now) }
-    ensures fault { IfErr result (λ fault. (fault ≡ OpenFault.NoRoom) ⊎ (fault ≡ OpenFault.Damaged)) }
-{
-    let Some(tables) = tables_of(alloc, rows)? else {
-        return Err(OpenFault::Damaged);
-    };
-    if !tables.are_sound(alloc)? {
-        return Err(OpenFault::Damaged);
-    }
-    Ok(tables)
-}
-
-/// The book in memory that the tables of a store keep.
-fn kept_list<S: Alter>(alloc: Global, conn: &mut Connection<S>) -> Result<ListBook, OpenFault>
-    ensures read { IfOk result (λ list. IsOrdered S.Store conn.old → IsRead S.Store conn.old conn.new list (rows_of list.tables)) }
-    ensures refused { IfErr result (λ fault. is_refusal fault ≡ true → HasNoBook S.Store fault conn.old conn.new) }
-    ensures spares { Spares S.Store conn.old conn.new }
-{
-    let rows = stored_rows(conn)?;
-    let tables = sound_tables(alloc, &rows)?;
-    expect_rest(conn)?;
-    Ok(ListBook::over(alloc, tables))
-}
-
-/// An empty book in memory, which the tables of a store keep.
-fn empty_list<S: Alter>(alloc: Global, conn: &mut Connection<S>) -> Result<ListBook, OpenFault>
-    ensures { IfOk result (λ list. IsOrdered S.Store conn.old → IsRead S.Store conn.old conn.new list no_rows) }
-{
-    let rows = stored_rows(conn)?;
-    let list = ListBook::new(alloc);
-    if !are_rows(&rows, list.tables()) {
-        return Err(OpenFault::Damaged);
-    }
-    expect_rest(conn)?;
-    Ok(list)
-}
-
-/// Makes the tables of an empty book, in one transaction. After an error the caller rolls back.
-fn make_book<S: Alter>(conn: &mut Connection<S>) -> Result<(), Error> {
-    open_transaction(conn)?;
-    make_tables(conn)?;
-    put_meta(conn, Day::first(), 0)?;
-    close_transaction(conn)?;
-    Ok(())
-}
-
-/// Opens a connection again over its own store.
-fn again<S: Alter + Drop>(
-    alloc: Global,
-    conn: Connection<S>,
-) -> Result<Connection<S>, (OpenFault, S)>
-    ensures ok { IfOk result (Reopens S.Store conn) }
-    ensures refused { IfErr result (λ e. is_refusal e.0 ≡ false) }
-    ensures left { IfErr result (λ e. LeavesCommitted S.Store conn e.1) }
-{
-    match reopen(alloc, conn) {
-        Ok(conn) => Ok(conn),
-        Err((error, store)) => Err((OpenFault::from(error), store)),
-    }
-}
 
 /// Opens the book that a store with tables keeps.
 fn kept_book<S: Alter + Drop>(
@@ -144,6 +53,18 @@ fn new_book<S: Alter + Drop>(
     match empty_list(alloc, &mut conn) {
         Ok(list) => Ok(SqlBook::of(list, conn)),
         Err(fault) => Err((fault, conn.into_store())),
+    }
+}
+
+/// What an opening answers, without the store that comes with a fault.
+fn without_store<S: Alter + Drop>(
+    opened: Result<SqlBook<S>, (OpenFault, S)>,
+) -> Result<SqlBook<S>, OpenFault>
+    ensures { MatchResult opened (λ book. result ≡ Ok book) (λ e. result ≡ Err e.0) }
+{
+    match opened {
+        Ok(book) => Ok(book),
+        Err((fault, _)) => Err(fault),
     }
 }
 
@@ -183,10 +104,7 @@ impl SqlBook<MemStore> {
         ensures { IfOk result (λ book. Holds over_memory book no_rows None) }
     {
         let conn = Connection::open_in_memory(alloc)?;
-        match new_book(alloc, conn) {
-            Ok(book) => Ok(book),
-            Err((fault, _)) => Err(fault),
-        }
+        without_store(new_book(alloc, conn))
     }
 }
 
@@ -210,9 +128,6 @@ impl<T: Start> SqlBook<FileStore<FileFrom<T>>> {
             Ok(conn) => conn,
             Err((error, _)) => return Err(OpenFault::from(error)),
         };
-        match SqlBook::adopt(rt.alloc(), conn) {
-            Ok(book) => Ok(book),
-            Err((fault, _)) => Err(fault),
-        }
+        without_store(SqlBook::adopt(rt.alloc(), conn))
     }
 }

@@ -14,3 +14,6 @@ pub mod MemoReads
 pub mod Maps
 pub mod PlainRows
 pub mod Tallies
+pub use Rattle.bsp_rows.proofs.KeptLemmas
+pub use Rattle.bsp_store_base.proofs.Held
+pub use Rattle.bsp_store_base.proofs.Syncing

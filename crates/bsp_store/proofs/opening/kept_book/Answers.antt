@@ -1,5 +1,6 @@
 use Rattle.std.proofs.Common.{inr}
-use Rattle.bsp_store.proofs.OpeningLemmas.{book_found, given_up, still_clean}
+use Rattle.bsp_store_open.proofs.OpeningLemmas.{given_up, still_clean}
+use Rattle.bsp_store.proofs.AdoptingLemmas.{book_found}
 use Rattle.bsp_store.proofs.opening.kept_book.Goals as goal
 
 pub returns-in-Ok-clause-found : goal.returns-in-Ok-clause-found

@@ -1,5 +1,5 @@
 use Rattle.bsp_rows.specs.Rows.{no_rows}
-use Rattle.bsp_store.proofs.OpeningLemmas.{book_read}
+use Rattle.bsp_store.proofs.AdoptingLemmas.{book_read}
 use Rattle.bsp_store.proofs.opening.new_book.Goals as goal
 
 pub returns-in-Ok : goal.returns-in-Ok

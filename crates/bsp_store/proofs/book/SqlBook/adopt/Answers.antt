@@ -1,5 +1,6 @@
 use Rattle.std.proofs.Common.{IsTrue, rules}
-use Rattle.bsp_store.proofs.OpeningLemmas.{bare_left, bare_refused, kept_adopted, kept_left, kept_refused, new_adopted}
+use Rattle.bsp_store_open.proofs.OpeningLemmas.{bare_left, bare_refused, kept_left, kept_refused}
+use Rattle.bsp_store.proofs.AdoptingLemmas.{kept_adopted, new_adopted}
 use Rattle.bsp_store.proofs.book.SqlBook.adopt.Goals as goal
 
 pub returns-then-is_bare-clause-ok : goal.returns-then-is_bare-clause-ok

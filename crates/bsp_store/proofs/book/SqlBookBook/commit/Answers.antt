@@ -1,9 +1,9 @@
 use Rattle.std.proofs.Common.{sym, subst}
-use Rattle.bsp_memory_rows.specs.declared.tables.Tables.{Tables}
-use Rattle.bsp_store_base.specs.Content.{form}
-use Rattle.bsp_store_load.specs.Contents.{content_before, content_now}
-use Rattle.bsp_store_base.specs.Kept.{Falls}
-use Rattle.bsp_store.specs.Calls.{IsKept}
+use Rattle.bsp_store_save.specs.Tables.{Tables}
+use Rattle.bsp_store_save.specs.Content.{form}
+use Rattle.bsp_store_save.specs.Contents.{content_before, content_now}
+use Rattle.bsp_store_save.specs.Kept.{Falls}
+use Rattle.bsp_store_save.specs.Calls.{IsKept}
 use Rattle.bsp_store.proofs.CommitLemmas.{giving_up, keeping}
 use Rattle.bsp_store.proofs.book.SqlBookBook.commit.Goals as goal
 

@@ -1,0 +1,57 @@
+-- From a book in memory that was read to the book that is opened.
+use Rattle.std.proofs.Common.{◌≡◌, None, false, Result, Ok, Err, IfOk, inl, inr, refl, sym, subst}
+use Rattle.std.specs.Prelude.{IfErr, MatchResult}
+use Rattle.sqlite_trees.specs.declared.store.Store.{Ghosts}
+use Rattle.sqlite.specs.Held.{Held, state}
+use Rattle.sqlite.specs.State.{HasCleanDisk}
+use Rattle.bsp_rows.specs.Rows.{Rows, no_rows}
+use Rattle.bsp_rows.proofs.KeptLemmas.{no_rows_sound}
+use Rattle.bsp_book.specs.Listed.{Holds as ListHolds}
+use Rattle.bsp_book.specs.declared.list.ListBook.{ListBook}
+use Rattle.bsp_store_open.specs.Schema.{no_schema}
+use Rattle.bsp_store_open.specs.Contents.{KeepsBook}
+use Rattle.bsp_store_open.specs.Opening.{IsOrdered, IsRead, KeepsAtRest, Reopens}
+use Rattle.bsp_store.specs.Meanings.{Holds}
+use Rattle.bsp_store.specs.Adopting.{Adopts, IsFoundIn}
+use Rattle.bsp_store.specs.declared.book.SqlBook.{SqlBook}
+
+-- a book in memory that was read, with its tables
+pub book_read : {S : Type 0} (g : Ghosts S) (old new : Held S) (list : ListBook) (rows : Rows) → IsRead g old new list rows → (book : SqlBook S) → (book.list ≡ list) × (book.conn ≡ new) × (book.failed ≡ false) → Holds g book rows None
+book_read g old new list rows read book made = record {
+  works = made.2;
+  listed = subst (λ l. ListHolds l rows None) (sym made.0) read.listed;
+  kept = subst (λ h. KeepsAtRest g h rows) (sym made.1) read.kept;
+}
+
+pub book_found : {S : Type 0} (g : Ghosts S) (old new : Held S) (list : ListBook) (rows : Rows) → IsRead g old new list rows → (book : SqlBook S) → (book.list ≡ list) × (book.conn ≡ new) × (book.failed ≡ false)
+    → IsFoundIn g old book
+book_found g old new list rows read book made = record {
+  rows = rows;
+  sound = read.sound;
+  holds = book_read g old new list rows read book made;
+  earlier = λ clean. read.earlier (subst (λ h. HasCleanDisk (state g h)) made.1 clean);
+  found = λ clean. read.found (subst (λ h. HasCleanDisk (state g h)) made.1 clean);
+}
+
+-- ---- a whole opening
+
+module _ {S E : Type 0} (g : Ghosts S) (before now : Held S) (again : Reopens g before now) where
+  pub new_adopted : (r : Result (SqlBook S) E) → (state g now).now.schema ≡ no_schema → IfOk r (λ book. Holds g book no_rows None) → IfOk r (Adopts g before)
+  new_adopted (Err e) bare holds = tt
+  new_adopted (Ok book) bare holds = record { rows = no_rows; sound = no_rows_sound; holds = holds; those = inr ((now, again, bare), refl) }
+
+  pub kept_adopted : (r : Result (SqlBook S) E) → IfOk r (λ book. IsOrdered g now → IsFoundIn g now book) → IfOk r (Adopts g before)
+  kept_adopted (Err e) found = tt
+  kept_adopted (Ok book) found =
+      let it = found again.ordered in
+      record { rows = it.rows; sound = it.sound; holds = it.holds; those = inl (λ clean. subst (KeepsBook it.rows) (again.trees (it.earlier clean)) (it.found clean)) }
+
+-- ---- without the store that comes with a fault
+
+pub ok_without : {X F S : Type 0} (r : Result X (F × S)) (out : Result X F) → MatchResult r (λ x. out ≡ Ok x) (λ e. out ≡ Err e.0) → (P Q : X → Type 0) → IfOk r P → ((x : X) → P x → Q x) → IfOk out Q
+ok_without (Ok x) out is P Q it so = subst (λ o. IfOk o Q) (sym is) (so x it)
+ok_without (Err e) out is P Q it so = subst (λ o. IfOk o Q) (sym is) tt
+
+pub err_without : {X F S : Type 0} (r : Result X (F × S)) (out : Result X F) → MatchResult r (λ x. out ≡ Ok x) (λ e. out ≡ Err e.0) → (P Q : F × S → Type 0) (R : F → Type 0) → IfErr r P → IfErr r Q → ((e : F × S) → P e → Q e → R e.0) → IfErr out R
+err_without (Ok x) out is P Q R one two so = subst (λ o. IfErr o R) (sym is) tt
+err_without (Err e) out is P Q R one two so = subst (λ o. IfErr o R) (sym is) (so e one two)

@@ -1,0 +1,283 @@
+-- From the rows that an opening read to what the tables keep.
+use Rattle.std.proofs.Common.{◌≡◌, ℕ, List, [], ◌∷◌, length, map, None, false, Result, Ok, Err, IfOk, IsTrue, IsPermutation, inl, inr, refl, sym, ap, subst, ◌∙◌, arith}
+use Rattle.std.specs.Prelude.{◌⊎◌, IfErr, IsErrAnd, true}
+use Rattle.std.specs.List.{AllByRecursion}
+use Rattle.std.proofs.lemmas.List.Sorted.{IsPermutation-sym}
+use Rattle.sqlite_value.specs.Order.{Row, column}
+use Rattle.sqlite_value.specs.declared.value.Value.TheVariants.{Int}
+use Rattle.sqlite_trees.specs.Tree.{Trees, IsTable, rowid}
+use Rattle.sqlite_trees.specs.View.{IsClean, IsQuiet, is_int}
+use Rattle.sqlite_schema.specs.declared.schema.Schema.{Schema}
+use Rattle.sqlite_trees.specs.declared.store.Store.{Ghosts}
+use Rattle.sqlite.specs.Effect.{Database}
+use Rattle.sqlite.specs.Held.{Held, state}
+use Rattle.sqlite.specs.State.{HasCleanDisk}
+use Rattle.bsp_book.specs.Rows.{Rows}
+use Rattle.bsp_book.specs.Sound.{Sound}
+use Rattle.bsp_store_load.specs.MemoryRowsTables.{rows_of}
+use Rattle.bsp_store_load.specs.Tables.{Tables}
+use Rattle.bsp_book.specs.Listed.{Holds as ListHolds}
+use Rattle.bsp_book.specs.declared.list.ListBook.{ListBook}
+use Rattle.bsp_store_schema.specs.Order.{AreInOrder}
+use Rattle.bsp_store_load.specs.Schema.{no_schema, our_schema}
+use Rattle.bsp_store_load.specs.Kept.{Keeps, KeepsRows, KeepsTable, Part, Reads, Spares, columns_of}
+use Rattle.bsp_store_load.specs.Columns.{Meta, count, meta_row, meta_rows, version}
+use Rattle.bsp_store_load.specs.Content.{Content, form, meta_part, width_of}
+use Rattle.bsp_store_load.specs.Contents.{IsContentOf, KeepsBook, content_now}
+use Rattle.bsp_store_load.specs.Forms.{IsFormed}
+use Rattle.bsp_store_load.specs.declared.stored.StoredRows.{StoredRows}
+use Rattle.bsp_store_load.specs.Stored.{AreNoBook, AreRowsOf}
+use Rattle.bsp_store_open.specs.Faults.{is_refusal}
+use Rattle.bsp_store_open.specs.declared.fault.OpenFault.{OpenFault}
+use Rattle.bsp_store_open.specs.declared.fault.OpenFault.TheVariants.{NoRoom, Damaged}
+use Rattle.bsp_store_open.specs.Opening.{AreAllOf, AreAllRows, Finds, HasNoBook, IsNoBook, IsOfOther, IsOfVersion, IsOrdered, IsRead, KeepsAtRest, LeavesCommitted, Reopens, Reports, SparesStore, WasForeign, WasNoBook}
+use Rattle.bsp_store_load.proofs.Tallies.{content_is}
+
+-- ---- one query after another
+
+-- what an error means that is passed on
+pub passed_on : {X E : Type 0} (P : E → Type 0) (r : Result X E) (e : E) → IsErrAnd r (λ f. f ≡ e) → P e → IfErr r P
+passed_on P (Ok x) e is p = tt
+passed_on P (Err f) e is p = subst P (sym is) p
+
+-- a value was given, and what is known of it is enough
+pub if_read : {X E : Type 0} (P Q : X → Type 0) (r : Result X E) → IfOk r P → ((x : X) → P x → Q x) → IfOk r Q
+if_read P Q (Ok x) it so = so x it
+if_read P Q (Err e) it so = tt
+
+-- the rows of a content that the trees keep are read in its order
+in_order_all : (stored : StoredRows) (trees : Trees) → AreAllRows trees stored → (c : Content) → IsFormed c → KeepsRows form c trees → AreRowsOf c stored
+in_order_all stored trees all c formed keeps = record {
+  meta = all.meta.in_order c formed keeps;
+  terms = all.terms.in_order c formed keeps;
+  airlines = all.airlines.in_order c formed keeps;
+  rates = all.rates.in_order c formed keeps;
+  periods = all.periods.in_order c formed keeps;
+  agents = all.agents.in_order c formed keeps;
+  airline_tokens = all.airline_tokens.in_order c formed keeps;
+  ranges = all.ranges.in_order c formed keeps;
+  items = all.items.in_order c formed keeps;
+  memos = all.memos.in_order c formed keeps;
+  tallies = all.tallies.in_order c formed keeps;
+}
+
+module _ {S : Type 0} (g : Ghosts S) where
+  pub asked : (old new : Held S) (part : Part Content) (rows : List Row) → old.schema ≡ our_schema → Reads g old new
+      → (HasCleanDisk (state g new) → IsPermutation (map (columns_of (width_of part.tree)) ((state g old).now.trees part.tree)) rows)
+      → (HasCleanDisk (state g new) → (c : Content) → IsFormed c → KeepsRows form c (state g old).now.trees → rows ≡ part.rows c)
+      → Finds g old new (λ trees. AreAllOf part trees rows)
+  asked old new part rows ours read any_order in_order = record { ours = ours; read = read; found = λ clean. record { in_any_order = any_order clean; in_order = in_order clean } }
+
+  -- what does nothing leaves what there was
+  pub spares_itself : (h : Held S) → Spares g h h
+  spares_itself h = record { earlier = λ clean. clean; leaves = λ clean db may. may }
+
+  pub spares_both : (a b c : Held S) → Spares g a b → Spares g b c → Spares g a c
+  spares_both a b c first second = record {
+    earlier = λ clean. first.earlier (second.earlier clean);
+    leaves = λ clean db may. first.leaves (second.earlier clean) db (second.leaves clean db may);
+  }
+
+  -- other tables are no book's
+  pub other_tables : (fault : OpenFault) (old new : Held S) → ¬ (old.schema ≡ our_schema) → HasNoBook g fault old new
+  other_tables fault old new other clean ours = absurd (other ours)
+
+  -- the same tables were no book's before a query
+  pub no_book_before : {fault : OpenFault} → (a b c : Held S) (F : Trees → Type 0) → Finds g a b F → Spares g b c → HasNoBook g fault b c → HasNoBook g fault a c
+  no_book_before {fault} a b c F finds spares none clean =
+      let was_clean = spares.earlier clean in
+      subst (IsNoBook fault) (finds.read.same was_clean) (none clean)
+
+  -- no rows of a book are these
+  pub no_book_of : (fault : OpenFault) (old new : Held S) (stored : StoredRows) → Finds g old new (λ trees. AreAllRows trees stored) → AreNoBook stored → Reports fault stored.meta.items → HasNoBook g fault old new
+  no_book_of fault old new stored finds none reports clean ours = record {
+    none = λ rows c sound content formed keeps. none rows c sound content formed (in_order_all stored _ (finds.found clean) c formed keeps);
+    meta = stored.meta.items;
+    all = (finds.found clean).meta.in_any_order;
+    reports = reports;
+  }
+
+  -- what is found of the same tables one after the other
+  pub both : (a b c : Held S) (F G : Trees → Type 0) → Finds g a b F → Finds g b c G → Finds g a c (λ trees. F trees × G trees)
+  both a b c F G first second = record {
+    ours = first.ours;
+    read = record {
+      earlier = λ clean. first.read.earlier (second.read.earlier clean);
+      same = λ clean. second.read.same clean ∙ first.read.same (second.read.earlier clean);
+      is_open = second.read.is_open;
+    };
+    found = λ clean. (first.found (second.read.earlier clean), subst (λ (db : Database). G db.trees) (first.read.same (second.read.earlier clean)) (second.found clean));
+  }
+
+  pub weaker : (a b : Held S) (F G : Trees → Type 0) → ((trees : Trees) → F trees → G trees) → Finds g a b F → Finds g a b G
+  weaker a b F G so finds = record { ours = finds.ours; read = finds.read; found = λ clean. so _ (finds.found clean) }
+
+-- to be out of memory is no refusal
+pub never_refused : {X : Type 0} (Q : Type 0) (r : Result X OpenFault) → IsErrAnd r (λ f. f ≡ NoRoom) → IfErr r (λ f. is_refusal f ≡ true → Q)
+never_refused Q (Ok x) is = tt
+never_refused Q (Err f) is = λ refused. absurd (cc (ap is_refusal is, refused))
+
+-- a book's first row of `meta` has the version of its tables
+pub other_version : {S : Type 0} (g : Ghosts S) (fault : OpenFault) (old new : Held S) (read : List Row) → Finds g old new (λ trees. AreAllOf meta_part trees read) → (IsOfVersion read → ⊥) → Reports fault read → HasNoBook g fault old new
+other_version g fault old new read finds other reports clean ours = record {
+  none = λ rows c sound content formed keeps.
+      let m : Meta = record { day = rows.published.day; closed = length rows.published.closed } in
+      let is : read ≡ meta_row m ∷ [] = (finds.found clean).in_order c formed keeps ∙ ap (λ (d : Content). meta_rows d.meta) content.same in
+      other (record { row = meta_row m; more = []; first = is; version = refl });
+  meta = read;
+  all = (finds.found clean).in_any_order;
+  reports = reports;
+}
+
+-- rows of `meta` with the version of this crate have no other one
+not_other : (rows : List Row) → IsOfVersion rows → IsOfOther rows → ⊥
+not_other rows is other =
+    let rows_are : is.row ∷ is.more ≡ other.row ∷ other.more = sym is.first ∙ other.first in
+    let same : is.row ≡ other.row = cc rows_are in
+    let value : Int other.found ≡ count version = sym other.has ∙ ap (λ (r : Row). column r 0) (sym same) ∙ is.version in
+    other.other (cc value)
+
+-- a store whose rows of `meta` have that version is damaged, if anything
+pub reports_damage : (fault : OpenFault) (rows : List Row) → (fault ≡ NoRoom) ⊎ (fault ≡ Damaged) → IsOfVersion rows → Reports fault rows
+reports_damage fault rows which is = elim which [ inl full ↦ subst (λ f. Reports f rows) (sym full) tt | inr damaged ↦ subst (λ f. Reports f rows) (sym damaged) (not_other rows is) ]
+
+-- ---- the tables keep the rows
+
+keeps_table : (width : ℕ) (content tree rows : List Row) → IsTable tree × AllByRecursion (λ r. IsTrue (is_int (rowid r))) tree → IsPermutation (map (columns_of width) tree) rows → rows ≡ content
+    → KeepsTable width content tree
+keeps_table width content tree rows order all is = record {
+  table = order.0;
+  keyed = order.1;
+  rows = IsPermutation-sym _ _ (subst (IsPermutation (map (columns_of width) tree)) is all);
+}
+
+keeps_all : (c : Content) (trees : Trees) (rows : StoredRows) → AreInOrder trees → AreAllRows trees rows → AreRowsOf c rows → KeepsRows form c trees
+keeps_all c trees rows (o0, (o1, (o2, (o4, (o6, (o8, (o10, (o12, (o14, (o16, (o18, _))))))))))) all are = (
+  keeps_table 3 _ (trees 0) _ o0 all.meta.in_any_order are.meta,
+  (
+    keeps_table 3 _ (trees 1) _ o1 all.terms.in_any_order are.terms,
+    (
+      keeps_table 2 _ (trees 2) _ o2 all.airlines.in_any_order are.airlines,
+      (
+        keeps_table 4 _ (trees 4) _ o4 all.rates.in_any_order are.rates,
+        (
+          keeps_table 5 _ (trees 6) _ o6 all.periods.in_any_order are.periods,
+          (
+            keeps_table 2 _ (trees 8) _ o8 all.agents.in_any_order are.agents,
+            (
+              keeps_table 2 _ (trees 10) _ o10 all.airline_tokens.in_any_order are.airline_tokens,
+              (
+                keeps_table 3 _ (trees 12) _ o12 all.ranges.in_any_order are.ranges,
+                (
+                  keeps_table 21 _ (trees 14) _ o14 all.items.in_any_order are.items,
+                  (
+                    keeps_table 10 _ (trees 16) _ o16 all.memos.in_any_order are.memos,
+                    (
+                      keeps_table 11 _ (trees 18) _ o18 all.tallies.in_any_order are.tallies,
+                      tt,
+                    ),
+                  ),
+                ),
+              ),
+            ),
+          ),
+        ),
+      ),
+    ),
+  ),
+)
+
+module _ {S : Type 0} (g : Ghosts S) (old new : Held S) (order : IsOrdered g old) (stored : StoredRows) (finds : Finds g old new (λ trees. AreAllRows trees stored)) (c : Content) (are : AreRowsOf c stored)
+    (rows : Rows) (content : IsContentOf rows c) where
+  keeps_old : HasCleanDisk (state g new) → KeepsRows form c (state g old).now.trees
+  keeps_old clean = keeps_all c (state g old).now.trees stored (order (finds.read.earlier clean) finds.ours) (finds.found clean) are
+
+  pub found_of : HasCleanDisk (state g new) → KeepsBook rows (state g old).now.trees
+  found_of clean = (c, content, keeps_old clean)
+
+  keeps_new : HasCleanDisk (state g new) → Keeps form c (state g new).now
+  keeps_new clean = subst (Keeps form c) (sym (finds.read.same clean)) (record { schema = finds.ours; kept = keeps_old clean })
+
+  -- no transaction is open, so the tables that are seen are committed, and a stop leaves them
+  pub at_rest : new.in_transaction ≡ false → (IsTrue (state g new).is_open → (state g new).now ≡ (state g new).committed)
+      → ((db : Trees) → IsTrue (state g new).is_open → (state g new).may_leave db → db ≡ (state g new).committed.trees) → KeepsAtRest g new rows
+  at_rest outside settled leaves = (
+    c,
+    content,
+    (
+      record {
+        held = λ clean is. keeps_new clean;
+        kept = λ clean is. subst (Keeps form c) (settled is) (keeps_new clean);
+        leaves = λ clean db may.
+            let is = finds.read.is_open clean in
+            inl (subst (KeepsRows form c) (ap (λ (d : Database). d.trees) (settled is) ∙ sym (leaves db is may)) (keeps_new clean).kept);
+      },
+      λ clean. outside,
+    ),
+  )
+
+-- the tables have the rows of a book in memory
+module _ {S : Type 0} (g : Ghosts S) (old new : Held S) (order : IsOrdered g old) (stored : StoredRows) (finds : Finds g old new (λ trees. AreAllRows trees stored)) where
+  pub list_read : (list : ListBook) (rows : Rows) → ListHolds list rows None → Sound rows → AreRowsOf (content_now list.tables) stored → new.in_transaction ≡ false
+      → (IsTrue (state g new).is_open → (state g new).now ≡ (state g new).committed) → ((db : Trees) → IsTrue (state g new).is_open → (state g new).may_leave db → db ≡ (state g new).committed.trees)
+      → IsRead g old new list rows
+  list_read list rows holds sound are outside settled leaves =
+      let content : IsContentOf rows (content_now list.tables) = subst (λ r. IsContentOf r (content_now list.tables)) (sym holds.rows) (content_is (rows_of list.tables) _ holds.derived.totals) in
+      record {
+        listed = holds;
+        sound = sound;
+        kept = at_rest g old new order stored finds (content_now list.tables) are rows content outside settled leaves;
+        earlier = finds.read.earlier;
+        found = found_of g old new order stored finds (content_now list.tables) are rows content;
+      }
+
+  -- or of tables that become one
+  pub tables_read : (list : ListBook) (tables : Tables) → list.tables ≡ tables → ListHolds list (rows_of tables) None → Sound (rows_of tables) → AreRowsOf (content_now tables) stored → new.in_transaction ≡ false
+      → (IsTrue (state g new).is_open → (state g new).now ≡ (state g new).committed) → ((db : Trees) → IsTrue (state g new).is_open → (state g new).may_leave db → db ≡ (state g new).committed.trees)
+      → IsRead g old new list (rows_of list.tables)
+  tables_read list tables same holds sound are outside settled leaves =
+      list_read list (rows_of list.tables) (subst (λ t. ListHolds list (rows_of t) None) (sym same) holds) (subst (λ t. Sound (rows_of t)) (sym same) sound) (subst (λ t. AreRowsOf (content_now t) stored) (sym same) are) outside settled leaves
+
+-- ---- an opening that is refused
+
+no_tables : no_schema ≡ our_schema → ⊥
+no_tables same = absurd (cc (ap (λ (s : Schema). s.tables) same))
+
+module _ {S : Type 0} (g : Ghosts S) where
+  -- a store that is clean when a connection is given up was clean before
+  pub still_clean : (h : Held S) (left : S) → IsQuiet g.view g.faults g.recovers g.is_shielded h.store left → IsClean (g.view left) → HasCleanDisk (state g h)
+  still_clean h left quiet clean = omega (arith, quiet.clean, clean)
+
+  -- a connection that asked, and was given up
+  pub given_up : (old new : Held S) (left : S) → Spares g old new → IsQuiet g.view g.faults g.recovers g.is_shielded new.store left → SparesStore g old left
+  given_up old new left spares quiet = record {
+    earlier = λ clean. spares.earlier (still_clean new left quiet clean);
+    leaves = λ clean db may. spares.leaves (still_clean new left quiet clean) db (quiet.outcomes db may);
+  }
+
+  module _ (before now : Held S) (again : Reopens g before now) where
+    -- a store without tables
+    pub bare_refused : {X : Type 0} (r : Result X (OpenFault × S)) → now.schema ≡ no_schema → IfErr r (λ e. is_refusal e.0 ≡ true → WasNoBook g e.0 before e.1)
+    bare_refused (Ok x) bare = tt
+    bare_refused (Err e) bare = λ refused clean. (now, again, λ ours. absurd (no_tables (sym bare ∙ ours)))
+
+    pub bare_left : {X : Type 0} (r : Result X (OpenFault × S)) → now.schema ≡ no_schema → IfErr r (λ e. WasForeign g before ⊎ LeavesCommitted g before e.1)
+    bare_left (Ok x) bare = tt
+    bare_left (Err e) bare = inl (now, again, λ ours. no_tables (sym bare ∙ ours))
+
+    -- a store with tables
+    pub kept_refused : {X : Type 0} (r : Result X (OpenFault × S)) → IfErr r (λ e. is_refusal e.0 ≡ true → IsClean (g.view e.1) → IsNoBook e.0 (state g now).now) → IfErr r (λ e. is_refusal e.0 ≡ true → WasNoBook g e.0 before e.1)
+    kept_refused (Ok x) none = tt
+    kept_refused (Err e) none = λ refused clean. (now, again, none refused clean)
+
+    -- what a store that was opened again leaves is what was committed
+    left_committed : (left : S) → ((db : Trees) → IsTrue (state g now).is_open → (state g now).may_leave db → db ≡ (state g now).committed.trees) → SparesStore g now left → LeavesCommitted g before left
+    left_committed left settled spares clean db may =
+        let was_clean = spares.earlier clean in
+        let opens = (again.opens was_clean).0 in
+        inl (settled db opens.is_open (spares.leaves clean db may) ∙ ap (λ (d : Database). d.trees) (sym opens.clean) ∙ again.trees was_clean)
+
+    pub kept_left : {X : Type 0} (r : Result X (OpenFault × S)) → ((db : Trees) → IsTrue (state g now).is_open → (state g now).may_leave db → db ≡ (state g now).committed.trees)
+        → IfErr r (λ e. (now.schema ≡ our_schema → ⊥) ⊎ SparesStore g now e.1) → IfErr r (λ e. WasForeign g before ⊎ LeavesCommitted g before e.1)
+    kept_left (Ok x) settled left = tt
+    kept_left (Err e) settled left = elim left [ inl other ↦ inl (now, again, other) | inr spares ↦ inr (left_committed e.1 settled spares) ]

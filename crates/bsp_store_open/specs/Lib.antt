@@ -1,0 +1,4 @@
+pub mod Faults
+pub mod Opening
+pub use Rattle.bsp_store_load.specs.Contents
+pub use Rattle.bsp_store_load.specs.Schema

@@ -1,0 +1,170 @@
+-- What an opening finds in a store, and what it leaves.
+use Rattle.std.specs.Prelude.{◌≡◌, ◌⊎◌, ⊤, ℤ, pos, List, ◌∷◌, map, IsPermutation, None}
+use Rattle.sqlite_value.specs.Order.{Row, column}
+use Rattle.sqlite_value.specs.declared.value.Value.TheVariants.{Int}
+use Rattle.sqlite_trees.specs.View.{IsClean}
+use Rattle.sqlite.specs.Effect.{Database}
+use Rattle.sqlite_trees.specs.Tree.{Trees}
+use Rattle.sqlite_trees.specs.declared.store.Store.{Ghosts}
+use Rattle.sqlite.specs.Held.{Held, IsNew, state}
+use Rattle.sqlite.specs.State.{HasCleanDisk, IsLive, Opens}
+use Rattle.bsp_book.specs.Rows.{Rows, no_rows}
+use Rattle.bsp_book.specs.Sound.{Sound}
+use Rattle.bsp_book.specs.Listed.{meaning as listed}
+use Rattle.bsp_book.specs.declared.list.ListBook.{ListBook}
+use Rattle.bsp_store_schema.specs.Order.{AreInOrder}
+use Rattle.bsp_store_load.specs.Schema.{no_schema, our_schema}
+use Rattle.bsp_store_load.specs.Kept.{IsOutside, KeepsRows, Part, Reads, Stands, columns_of}
+use Rattle.bsp_store_load.specs.Columns.{count, version}
+use Rattle.bsp_store_load.specs.Content.{Content, agent_part, airline_part, airline_token_part, form, item_part, memo_part, meta_part, period_part, rate_part, stock_part, tally_part, terms_part, width_of}
+use Rattle.bsp_store_load.specs.Contents.{IsContentOf, KeepsBook}
+use Rattle.bsp_store_load.specs.Forms.{IsFormed}
+use Rattle.bsp_store_load.specs.declared.stored.StoredRows.{StoredRows}
+use Rattle.bsp_store_open.specs.declared.fault.OpenFault.{OpenFault}
+use Rattle.bsp_store_open.specs.declared.fault.OpenFault.TheVariants.{NoRoom, Damaged, Failed, OtherVersion}
+use Rattle.bsp_store_open.specs.Faults.{is_refusal}
+use Rattle.bsp_store_open.specs.declared.reading.PlanRows.{PlanRows}
+use Rattle.bsp_store_open.specs.declared.reading.CallerRows.{CallerRows}
+use Rattle.bsp_store_open.specs.declared.reading.DocumentRows.{DocumentRows}
+
+-- ---- all rows
+
+-- all rows of a table: those of its tree in some order, and in the order of the content, where the trees keep one whose
+-- values the program's types have
+pub record AreAllOf (part : Part Content) (trees : Trees) (rows : List Row) : Type 0 where
+  pub in_any_order : IsPermutation (map (columns_of (width_of part.tree)) (trees part.tree)) rows
+  pub in_order : (c : Content) → IsFormed c → KeepsRows form c trees → rows ≡ part.rows c
+
+pub record ArePlanRows (trees : Trees) (rows : PlanRows) : Type 0 where
+  pub meta : AreAllOf meta_part trees rows.meta.items
+  pub terms : AreAllOf terms_part trees rows.terms.items
+  pub airlines : AreAllOf airline_part trees rows.airlines.items
+  pub rates : AreAllOf rate_part trees rows.rates.items
+  pub periods : AreAllOf period_part trees rows.periods.items
+
+pub record AreCallerRows (trees : Trees) (rows : CallerRows) : Type 0 where
+  pub agents : AreAllOf agent_part trees rows.agents.items
+  pub airline_tokens : AreAllOf airline_token_part trees rows.airline_tokens.items
+  pub ranges : AreAllOf stock_part trees rows.ranges.items
+
+pub record AreDocumentRows (trees : Trees) (rows : DocumentRows) : Type 0 where
+  pub items : AreAllOf item_part trees rows.items.items
+  pub memos : AreAllOf memo_part trees rows.memos.items
+  pub tallies : AreAllOf tally_part trees rows.tallies.items
+
+pub record AreAllRows (trees : Trees) (rows : StoredRows) : Type 0 where
+  pub meta : AreAllOf meta_part trees rows.meta.items
+  pub terms : AreAllOf terms_part trees rows.terms.items
+  pub airlines : AreAllOf airline_part trees rows.airlines.items
+  pub rates : AreAllOf rate_part trees rows.rates.items
+  pub periods : AreAllOf period_part trees rows.periods.items
+  pub agents : AreAllOf agent_part trees rows.agents.items
+  pub airline_tokens : AreAllOf airline_token_part trees rows.airline_tokens.items
+  pub ranges : AreAllOf stock_part trees rows.ranges.items
+  pub items : AreAllOf item_part trees rows.items.items
+  pub memos : AreAllOf memo_part trees rows.memos.items
+  pub tallies : AreAllOf tally_part trees rows.tallies.items
+
+-- the first row of `meta` has the version of this crate
+pub record IsOfVersion (rows : List Row) : Type 0 where
+  pub row : Row
+  pub more : List Row
+  pub first : rows ≡ row ∷ more
+  pub version : column row 0 ≡ count version
+
+-- ---- why a store is refused
+
+-- the first row of `meta` has another version than that of this crate
+pub record IsOfOther (rows : List Row) : Type 0 where
+  pub row : Row
+  pub more : List Row
+  pub first : rows ≡ row ∷ more
+  pub found : ℤ
+  pub has : column row 0 ≡ Int found
+  pub other : found ≡ pos version → ⊥
+
+-- what a fault says of the rows of `meta`
+abbrev pub Reports : OpenFault → List Row → Type 0
+Reports NoRoom rows = ⊤
+Reports Damaged rows = IsOfOther rows → ⊥
+Reports (Failed error) rows = ⊤
+Reports OtherVersion rows = IsOfOther rows
+
+-- the trees keep no sound rows whose values the program's types have, and the rows of `meta`, in some order, are such as
+-- the fault says
+pub record ShowsNoBook (fault : OpenFault) (trees : Trees) : Type 0 where
+  pub none : (rows : Rows) (c : Content) → Sound rows → IsContentOf rows c → IsFormed c → KeepsRows form c trees → ⊥
+  pub meta : List Row
+  pub all : IsPermutation (map (columns_of (width_of meta_part.tree)) (trees meta_part.tree)) meta
+  pub reports : Reports fault meta
+
+abbrev pub IsNoBook : OpenFault → Database → Type 0
+IsNoBook fault db = db.schema ≡ our_schema → ShowsNoBook fault db.trees
+
+-- ---- an opening, step by step
+
+module _ {S : Type 0} (g : Ghosts S) where
+  -- the rows of a book's tables are in the order of their rowids
+  abbrev pub IsOrdered : Held S → Type 0
+  IsOrdered h = HasCleanDisk (state g h) → (state g h).now.schema ≡ our_schema → AreInOrder (state g h).now.trees
+
+  -- the tables of a book were read: this is found of them, and they are as they were
+  pub record Finds (old new : Held S) (Found : Trees → Type 0) : Type 0 where
+    pub ours : old.schema ≡ our_schema
+    pub read : Reads g old new
+    pub found : HasCleanDisk (state g new) → Found (state g old).now.trees
+
+  -- what was read shows that there is no book of this version
+  abbrev pub HasNoBook : OpenFault → Held S → Held S → Type 0
+  HasNoBook fault old new = HasCleanDisk (state g new) → IsNoBook fault (state g old).now
+
+  -- no transaction of the connection is open, and its tables have these rows
+  abbrev pub KeepsAtRest : Held S → Rows → Type 0
+  KeepsAtRest h rows = (c : Content) × IsContentOf rows c × (Stands form g h c c c c × IsOutside form g h)
+
+  -- the book in memory has these rows, which are sound, and the tables keep them
+  pub record IsRead (old new : Held S) (list : ListBook) (rows : Rows) : Type 0 where
+    pub listed : listed.holds list rows None
+    pub sound : Sound rows
+    pub kept : KeepsAtRest new rows
+    pub earlier : HasCleanDisk (state g new) → HasCleanDisk (state g old)
+    pub found : HasCleanDisk (state g new) → KeepsBook rows (state g old).now.trees
+
+  -- a connection over a store that was just opened: it shows what the one before it had committed
+  pub record Reopens (before now : Held S) : Type 0 where
+    pub opens : HasCleanDisk (state g now) → Opens (state g now) × IsLive (state g now)
+    pub fresh : IsNew now
+    pub trees : HasCleanDisk (state g now) → (state g now).now.trees ≡ (state g before).committed.trees
+    pub ordered : IsOrdered now
+
+  -- ---- a whole opening
+
+  -- opened again, the store showed no table
+  abbrev pub WasBare : Held S → Type 0
+  WasBare h = (now : Held S) × Reopens h now × ((state g now).now.schema ≡ no_schema)
+
+  -- the rows are those that the store kept, or none, in a store that was bare
+  abbrev pub AreThoseOf : Held S → Held S → Rows → Type 0
+  AreThoseOf before after rows = (HasCleanDisk (state g after) → KeepsBook rows (state g before).committed.trees) ⊎ (WasBare before × (rows ≡ no_rows))
+
+  -- opened again, the store showed no book of this version, for what the fault says
+  abbrev pub WasNoBook : OpenFault → Held S → S → Type 0
+  WasNoBook fault h left = IsClean (g.view left) → (now : Held S) × Reopens h now × IsNoBook fault (state g now).now
+
+  -- a store that is given up leaves to a stop no more than its connection did
+  pub record SparesStore (h : Held S) (left : S) : Type 0 where
+    pub earlier : IsClean (g.view left) → HasCleanDisk (state g h)
+    pub leaves : IsClean (g.view left) → (db : Trees) → g.recovers left db → (state g h).may_leave db
+
+  -- opened again, the store showed other tables than a book's, or none
+  abbrev pub WasForeign : Held S → Type 0
+  WasForeign h = (now : Held S) × Reopens h now × ((state g now).now.schema ≡ our_schema → ⊥)
+
+  -- a stop leaves what was committed, or what it left before
+  abbrev pub LeavesCommitted : Held S → S → Type 0
+  LeavesCommitted h left = IsClean (g.view left) → (db : Trees) → g.recovers left db → (db ≡ (state g h).committed.trees) ⊎ g.recovers h.store db
+
+  -- a refused opening: the store, opened again, showed no book, and a stop leaves what was committed
+  pub record Refuses (fault : OpenFault) (h : Held S) (left : S) : Type 0 where
+    pub no_book : WasNoBook fault h left
+    pub leaves : WasForeign h ⊎ LeavesCommitted h left

@@ -1,0 +1,69 @@
+//! Why a store is not opened as a book.
+
+ghost use Rattle.std.specs.Prelude.{◌≡◌, false};
+ghost use Rattle.bsp_store_open.specs.Faults.{is_refusal};
+
+use bsp_store_load::NoRoom;
+use sqlite::{Error as StoreError, ErrorCode};
+use std::alloc::AllocError;
+use thiserror::Error;
+
+/// Why a store is not opened as a book.
+#[derive(Clone, Copy, Debug, PartialEq, Eq, Error)]
+pub enum OpenFault {
+    /// An allocation was refused, or a row is too big. (B01.)
+    #[error("B01 out of memory")]
+    NoRoom,
+    /// The tables are not those of a book, or have rows that are not sound. (B02.)
+    #[error("B02 no book, or a damaged one")]
+    Damaged,
+    /// The store is not opened, or failed, for another cause. (B03.)
+    #[error("B03 {0}")]
+    Failed(StoreError),
+    /// The tables are of another version. (B04.)
+    #[error("B04 a book of another version")]
+    OtherVersion,
+}
+
+/// What an error of `sqlite` means at an opening.
+pub(crate) fn fault_of(error: StoreError) -> OpenFault
+    ensures { is_refusal result ≡ false }
+{
+    match error {
+        StoreError::SqliteFailure(ErrorCode::OutOfMemory | ErrorCode::TooBig) => OpenFault::NoRoom,
+        _ => OpenFault::Failed(error),
+    }
+}
+
+impl From<StoreError> for OpenFault {
+    ghost use Rattle.std.specs.Prelude.{◌≡◌, false};
+    ghost use Rattle.bsp_store_open.specs.Faults.{is_refusal};
+
+    ghost from_gives = { λ _ fault. is_refusal fault ≡ false };
+
+    fn from(error: StoreError) -> OpenFault {
+        fault_of(error)
+    }
+}
+
+impl From<NoRoom> for OpenFault {
+    ghost use Rattle.std.specs.Prelude.{◌≡◌};
+    ghost use Rattle.bsp_store_open.specs.declared.fault.OpenFault.TheVariants.{NoRoom};
+
+    ghost from_gives = { λ _ fault. fault ≡ NoRoom };
+
+    fn from(_: NoRoom) -> OpenFault {
+        OpenFault::NoRoom
+    }
+}
+
+impl From<AllocError> for OpenFault {
+    ghost use Rattle.std.specs.Prelude.{◌≡◌};
+    ghost use Rattle.bsp_store_open.specs.declared.fault.OpenFault.TheVariants.{NoRoom};
+
+    ghost from_gives = { λ _ fault. fault ≡ NoRoom };
+
+    fn from(_: AllocError) -> OpenFault {
+        OpenFault::NoRoom
+    }
+}

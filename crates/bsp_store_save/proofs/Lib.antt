@@ -1,0 +1,7 @@
+pub mod KeyedLemmas
+pub mod SavingLemmas
+pub mod PlanLemmas
+pub mod StepLemmas
+pub mod WrittenLemmas
+pub mod TransactionLemmas
+pub use Rattle.bsp_store_load.proofs.Tallies

@@ -1,0 +1,81 @@
+-- Each table of the store after the keys that were written are brought up to date.
+use Rattle.std.proofs.Common.{◌≡◌, ℕ, List, Option, refl, ap, ◌∙◌, nat_cmp}
+use Rattle.std.specs.Prelude.{⊤}
+use Rattle.std.specs.Cmp.{IsTotalOrder, nat_cmp_total}
+use Rattle.std.specs.Option.{option_flatten}
+use Rattle.std.specs.FinMap.{FinMap, IsAntisymmetric, from_entries, get, nat_cmp-IsAntisymmetric}
+use Rattle.std.specs.BTreeMap.{BTreeMap}
+use Rattle.std.specs.declared.cmp.Ordering.{Ordering}
+use Rattle.sqlite.specs.Held.{Held}
+use Rattle.sqlite_trees.specs.declared.store.Store.{Ghosts}
+use Rattle.bsp_maps.specs.Undo.{before, content, undone}
+use Rattle.bsp_maps.specs.declared.logged.Logged.{Logged}
+use Rattle.bsp_maps.specs.declared.logged.Old.{Old}
+use Rattle.bsp_maps.specs.Present.{present}
+use Rattle.bsp_maps.proofs.PresentLemmas.{get-present}
+use Rattle.bsp_rows.specs.Item.{Item}
+use Rattle.bsp_rows.specs.MemoFields.{MemoFields}
+use Rattle.bsp_rows.specs.Rows.{item_cmp, memo_cmp, range_cmp}
+use Rattle.bsp_rows.specs.Tallies.{tally_cmp}
+use Rattle.bsp_rows.specs.declared.keys.ItemKey.{ItemKey}
+use Rattle.bsp_rows.specs.declared.keys.MemoKey.{MemoKey}
+use Rattle.bsp_rows.specs.declared.keys.RangeKey.{RangeKey}
+use Rattle.bsp_rows.specs.declared.keys.TallyKey.{TallyKey}
+use Rattle.bsp_rows.specs.Tally.{Tally}
+use Rattle.bsp_rows.proofs.KeyOrders.{item_exact, item_total, memo_exact, memo_total, range_exact, range_total, tally_exact, tally_total}
+use Rattle.bsp_memory_tables.specs.ItemTables.{item_rows, item_rows_before}
+use Rattle.bsp_memory_tables.specs.MemoTables.{memo_rows, memo_rows_before}
+use Rattle.bsp_memory_tables.specs.RangeTables.{range_rows, range_rows_before}
+use Rattle.bsp_memory_tables.specs.TallyTables.{tally_rows, tally_rows_before}
+use Rattle.bsp_memory_tables.specs.declared.items.ItemTable.{ItemTable}
+use Rattle.bsp_memory_tables.specs.declared.memos.MemoTable.{MemoTable}
+use Rattle.bsp_memory_tables.specs.declared.ranges.RangeTable.{RangeTable}
+use Rattle.bsp_memory_tables.specs.declared.tallies.TallyTable.{TallyTable}
+use Rattle.bsp_store_load.specs.Synced.{with_value}
+use Rattle.bsp_store_load.specs.Content.{Content}
+use Rattle.bsp_store_load.specs.Contents.{used_at, used_tallies}
+use Rattle.bsp_store_save.specs.Calls.{Changes, Updates, with_each, written_keys}
+use Rattle.bsp_store_load.proofs.Tallies.{get-used}
+use Rattle.bsp_store_save.proofs.SavingLemmas.{all_set, same_present}
+
+module _ {S : Type 0} (g : Ghosts S) (old new : Held S) where
+  -- a call that brings up to date what is at the keys that were written
+  abbrev pub Brings : {K V : Type 0} → (K → Option V → Content → Content) → (K → Option V) → List (Old K V) → Type 0
+  Brings set at olds = Changes g old new (λ now. ⊤) (with_each set at (written_keys olds))
+
+  -- a table of a content, as it is seen of the map in memory
+  module _ {K V W : Type 0} {R : K → K → Ordering} (o : IsTotalOrder R) (exact : IsAntisymmetric R) (f : FinMap R V → FinMap R W) (h : Option V → Option W) (sees : (m : FinMap R V) (q : K) → get (f m) q ≡ h (get m q))
+      (field : Content → FinMap R W) (put : FinMap R W → Content → Content) (same : (c : Content) → put (field c) c ≡ c) (seen : (m : FinMap R W) (c : Content) → field (put m c) ≡ m) (twice : (m n : FinMap R W) (c : Content) → put m (put n c) ≡ put m c) where
+    table_saved : (map values : BTreeMap K V) (undo olds : List (Old K V)) → values ≡ map → olds ≡ undo → Brings (λ k v d. put (with_value k (h v) (field d)) d) (get (from_entries {R = R} values.entries)) olds
+        → Updates g old new (λ c. field c ≡ f (undone undo (from_entries {R = R} map.entries))) (put (f (from_entries {R = R} map.entries)))
+    table_saved map values undo olds same_map same_olds changes now last a b stands inside =
+        let raw = from_entries {R = R} map.entries in
+        let set : K → Option V → Content → Content = λ k v d. put (with_value k (h v) (field d)) d in
+        let it = changes now last a b tt stands inside in
+        let end : with_each set (get (from_entries {R = R} values.entries)) (written_keys olds) now ≡ with_each set (get raw) (written_keys undo) now =
+        ap (λ (m : BTreeMap K V). with_each set (get (from_entries {R = R} m.entries)) (written_keys olds) now) same_map ∙ ap (λ (l : List (Old K V)). with_each set (get raw) (written_keys l) now) same_olds in
+        (with_each set (get (from_entries {R = R} values.entries)) (written_keys olds) now, λ had. end ∙ all_set o exact f h sees field put same seen twice raw undo now had, it.0, it.1)
+
+  pub agents_saved : (t : Logged ℕ (List ℕ)) (values : BTreeMap ℕ (List ℕ)) (olds : List (Old ℕ (List ℕ))) → values ≡ t.map → olds ≡ t.undo.items → Brings (λ k v c. record c { agents = with_value k v c.agents }) (get (from_entries {R = nat_cmp} values.entries)) olds
+      → Updates g old new (λ c. c.agents ≡ before nat_cmp t) (λ c. record c { agents = content nat_cmp t })
+  agents_saved t values olds = table_saved {V = List ℕ} {W = List ℕ} nat_cmp_total nat_cmp-IsAntisymmetric (λ m. m) (λ v. v) (λ m q. refl) (λ c. c.agents) (λ m c. record c { agents = m }) (λ c. refl) (λ m c. refl) (λ m n c. refl) t.map values t.undo.items olds
+
+  pub airlines_saved : (t : Logged ℕ (List ℕ)) (values : BTreeMap ℕ (List ℕ)) (olds : List (Old ℕ (List ℕ))) → values ≡ t.map → olds ≡ t.undo.items → Brings (λ k v c. record c { airlines = with_value k v c.airlines }) (get (from_entries {R = nat_cmp} values.entries)) olds
+      → Updates g old new (λ c. c.airlines ≡ before nat_cmp t) (λ c. record c { airlines = content nat_cmp t })
+  airlines_saved t values olds = table_saved {V = List ℕ} {W = List ℕ} nat_cmp_total nat_cmp-IsAntisymmetric (λ m. m) (λ v. v) (λ m q. refl) (λ c. c.airlines) (λ m c. record c { airlines = m }) (λ c. refl) (λ m c. refl) (λ m n c. refl) t.map values t.undo.items olds
+
+  pub ranges_saved : (t : RangeTable) (values : BTreeMap RangeKey (Option ℕ)) (olds : List (Old RangeKey (Option ℕ))) → values ≡ t.rows.map → olds ≡ t.rows.undo.items → Brings (λ k v c. record c { ranges = with_value k (option_flatten v) c.ranges }) (get (from_entries {R = range_cmp} values.entries)) olds
+      → Updates g old new (λ c. c.ranges ≡ range_rows_before t) (λ c. record c { ranges = range_rows t })
+  ranges_saved t values olds = table_saved range_total range_exact present option_flatten (λ m q. get-present range_total m q ∙ same_present (get m q)) (λ c. c.ranges) (λ m c. record c { ranges = m }) (λ c. refl) (λ m c. refl) (λ m n c. refl) t.rows.map values t.rows.undo.items olds
+
+  pub items_saved : (t : ItemTable) (values : BTreeMap ItemKey Item) (olds : List (Old ItemKey Item)) → values ≡ t.rows.map → olds ≡ t.rows.undo.items → Brings (λ k v c. record c { items = with_value k v c.items }) (get (from_entries {R = item_cmp} values.entries)) olds
+      → Updates g old new (λ c. c.items ≡ item_rows_before t) (λ c. record c { items = item_rows t })
+  items_saved t values olds = table_saved {V = Item} {W = Item} item_total item_exact (λ m. m) (λ v. v) (λ m q. refl) (λ c. c.items) (λ m c. record c { items = m }) (λ c. refl) (λ m c. refl) (λ m n c. refl) t.rows.map values t.rows.undo.items olds
+
+  pub memos_saved : (t : MemoTable) (values : BTreeMap MemoKey MemoFields) (olds : List (Old MemoKey MemoFields)) → values ≡ t.rows.map → olds ≡ t.rows.undo.items → Brings (λ k v c. record c { memos = with_value k v c.memos }) (get (from_entries {R = memo_cmp} values.entries)) olds
+      → Updates g old new (λ c. c.memos ≡ memo_rows_before t) (λ c. record c { memos = memo_rows t })
+  memos_saved t values olds = table_saved {V = MemoFields} {W = MemoFields} memo_total memo_exact (λ m. m) (λ v. v) (λ m q. refl) (λ c. c.memos) (λ m c. record c { memos = m }) (λ c. refl) (λ m c. refl) (λ m n c. refl) t.rows.map values t.rows.undo.items olds
+
+  pub tallies_saved : (t : TallyTable) (values : BTreeMap TallyKey Tally) (olds : List (Old TallyKey Tally)) → values ≡ t.rows.map → olds ≡ t.rows.undo.items → Brings (λ k v c. record c { tallies = with_value k (used_at v) c.tallies }) (get (from_entries {R = tally_cmp} values.entries)) olds
+      → Updates g old new (λ c. c.tallies ≡ used_tallies (tally_rows_before t)) (λ c. record c { tallies = used_tallies (tally_rows t) })
+  tallies_saved t values olds = table_saved tally_total tally_exact used_tallies used_at get-used (λ c. c.tallies) (λ m c. record c { tallies = m }) (λ c. refl) (λ m c. refl) (λ m n c. refl) t.rows.map values t.rows.undo.items olds

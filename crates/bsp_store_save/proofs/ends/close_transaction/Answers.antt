@@ -1,0 +1,9 @@
+use Rattle.bsp_store_load.specs.Content.{form}
+use Rattle.bsp_store_load.proofs.Held.{commits_on}
+use Rattle.bsp_store_save.proofs.ends.close_transaction.Goals as goal
+
+pub returns-clause-ok : goal.returns-clause-ok
+returns-clause-ok g c = (commits_on form g.S.Store c.args.conn.now c.execute.new.self (λ db is may. g.met.S.Store.settled c.execute.new.self.store db is may) c.execute.result c.execute.ensures.survives c.execute.ensures.runs).0
+
+pub returns-clause-err : goal.returns-clause-err
+returns-clause-err g c = (commits_on form g.S.Store c.args.conn.now c.execute.new.self (λ db is may. g.met.S.Store.settled c.execute.new.self.store db is may) c.execute.result c.execute.ensures.survives c.execute.ensures.runs).1
