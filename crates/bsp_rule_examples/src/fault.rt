@@ -12,9 +12,21 @@ use thiserror::Error;
 /// Why a case has no answer of its own.
 #[derive(Clone, Copy, Debug, PartialEq, Eq, Error)]
 pub enum CaseFault {
-    /// The call was refused with this code, which is the answer.
+    /// A plan or a request on it is refused.
     #[error("{0}")]
-    Refused(&'static str),
+    Plan(PlanFault),
+    /// An issue of a memo or an action on one is refused.
+    #[error("{0}")]
+    Memo(MemoFault),
+    /// There is no statement or settlement.
+    #[error("{0}")]
+    Statement(StatementFault),
+    /// There is no HOT file.
+    #[error("{0}")]
+    Hot(HotFault),
+    /// A body is malformed.
+    #[error("malformed")]
+    Malformed,
     /// The line is no case.
     #[error("the last line is no case")]
     NoCase,
@@ -26,6 +38,20 @@ pub enum CaseFault {
     NoMemory,
 }
 
+impl CaseFault {
+    /// The code of a call that was refused, which is the answer to the case.
+    pub fn code(self) -> Option<&'static str> {
+        match self {
+            CaseFault::Plan(fault) => Some(fault.code()),
+            CaseFault::Memo(fault) => Some(fault.code()),
+            CaseFault::Statement(fault) => Some(fault.code()),
+            CaseFault::Hot(fault) => Some(fault.code()),
+            CaseFault::Malformed => Some("malformed"),
+            CaseFault::NoCase | CaseFault::NoInput | CaseFault::NoMemory => None,
+        }
+    }
+}
+
 impl From<FieldFault> for CaseFault {
     fn from(_: FieldFault) -> CaseFault {
         CaseFault::NoCase
@@ -34,32 +60,32 @@ impl From<FieldFault> for CaseFault {
 
 impl From<PlanFault> for CaseFault {
     fn from(fault: PlanFault) -> CaseFault {
-        CaseFault::Refused(fault.code())
+        CaseFault::Plan(fault)
     }
 }
 
 impl From<MemoFault> for CaseFault {
     fn from(fault: MemoFault) -> CaseFault {
-        CaseFault::Refused(fault.code())
+        CaseFault::Memo(fault)
     }
 }
 
 impl From<StatementFault> for CaseFault {
     fn from(fault: StatementFault) -> CaseFault {
-        CaseFault::Refused(fault.code())
+        CaseFault::Statement(fault)
     }
 }
 
 impl From<HotFault> for CaseFault {
     fn from(fault: HotFault) -> CaseFault {
-        CaseFault::Refused(fault.code())
+        CaseFault::Hot(fault)
     }
 }
 
 impl From<BodyFault> for CaseFault {
     fn from(fault: BodyFault) -> CaseFault {
         match fault {
-            BodyFault::Malformed => CaseFault::Refused("malformed"),
+            BodyFault::Malformed => CaseFault::Malformed,
             BodyFault::NoRoom => CaseFault::NoMemory,
         }
     }

@@ -60,14 +60,22 @@ fn answer_rule(book: &mut Book, word: &str, words: &mut Words) -> Result<(), Cas
     }
 }
 
+/// Says the code of a call that was refused.
+fn say_refused(out: &mut String, fault: CaseFault) -> Result<(), CaseFault> {
+    match fault.code() {
+        Some(code) => say(out, code),
+        None => Err(fault),
+    }
+}
+
 /// Answers a case; of a call that is refused the code is the answer.
 fn take_case(book: &mut Book, line: &str) -> Result<(), CaseFault> {
     let mut words = Words::of(line);
     let word = words.word();
     match answer(book, word, &mut words) {
-        Err(CaseFault::Refused(code)) => say(&mut book.out, code),
+        Err(fault) => say_refused(&mut book.out, fault),
         Ok(()) if !words.is_empty() => Err(CaseFault::NoCase),
-        answered => answered,
+        Ok(()) => Ok(()),
     }
 }
 

@@ -4,13 +4,14 @@ use crate::book::{Book, push_named, push_text};
 use crate::fault::CaseFault;
 use crate::refusals::REQUEST_REFUSALS;
 use crate::texts::Texts;
-use crate::words::Words;
+use crate::words::{Words, count_of};
 use bsp_fields::Change;
 use bsp_memos::{Memo, MemoFields};
 use bsp_messages::{
     Answer, DocumentShown, DocumentState, Media, PeriodShown, RangeShown, Reply, reply_of,
 };
 use bsp_ret::{FaultCode, RetFault};
+use bsp_rules::Range;
 use std::alloc::Global;
 
 /// The refusal that is written so in Rust.
@@ -86,17 +87,22 @@ fn period(words: &mut Words) -> Result<Answer, CaseFault> {
     }))
 }
 
-/// The agent's range, once for each number of used documents.
-fn stock(book: &Book, words: &mut Words) -> Result<Answer, CaseFault> {
-    let Some(range) = book.ranges.last().copied() else {
-        return Err(CaseFault::NoCase);
-    };
-    let mut shown = Vec::new(book.alloc);
+/// A range, once for each number of used documents.
+fn shown(alloc: Global, range: Range, words: &mut Words) -> Result<Vec<RangeShown>, CaseFault> {
+    let mut shown = Vec::new(alloc);
     for word in words.rest().split(' ') {
-        let used = word.parse::<u64>().map_err(|_| CaseFault::NoCase)?;
+        let used = count_of(word)? as u64;
         shown.push(RangeShown { range, used })?;
     }
-    Ok(Answer::Ranges(shown))
+    Ok(shown)
+}
+
+/// The agent's range.
+fn stock(book: &Book, words: &mut Words) -> Result<Answer, CaseFault> {
+    match book.ranges.last() {
+        Some(range) => Ok(Answer::Ranges(shown(book.alloc, *range, words)?)),
+        None => Err(CaseFault::NoCase),
+    }
 }
 
 fn fields_of(alloc: Global, memos: &[Memo]) -> Result<Vec<MemoFields>, CaseFault> {

@@ -9,6 +9,11 @@ pub struct Words<'a> {
     rest: &'a str,
 }
 
+/// The whole number, not negative, that a word is.
+pub fn count_of(word: &str) -> Result<u32, CaseFault> {
+    word.parse::<u32>().map_err(|_| CaseFault::NoCase)
+}
+
 impl<'a> Words<'a> {
     pub fn of(line: &'a str) -> Words<'a> {
         Words { rest: line }
@@ -64,6 +69,6 @@ impl<'a> Words<'a> {
 
     /// A whole number that is not negative.
     pub fn count(&mut self) -> Result<u32, CaseFault> {
-        self.word().parse::<u32>().map_err(|_| CaseFault::NoCase)
+        count_of(self.word())
     }
 }
