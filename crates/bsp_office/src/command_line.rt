@@ -207,5 +207,6 @@ pub(crate) fn office_command<'a>(alloc: Global) -> Result<Command<'a>, Error>
     let office = with_check(alloc, office)?;
     let office = with_hotcheck(alloc, office)?;
     let office = with_run(alloc, office)?;
-    with_serve(alloc, office)
+    let office = with_serve(alloc, office)?;
+    Ok(office)
 }

@@ -2,11 +2,12 @@
 
 use crate::fault::Fault;
 use crate::lines::Line;
+use crate::output::Output;
 use crate::page::Page;
 use crate::{codes, days, explanations, fields, hot, records, ret, transactions};
 
 /// Makes the call of a word.
-fn answer(page: &Page<'_>, word: &str, rest: &str, out: &mut String) -> Result<(), Fault> {
+fn answer(page: &Page<'_>, word: &str, rest: &str, out: &mut Output) -> Result<(), Fault> {
     if let Some(answered) = fields::answer(page, word, rest, out) {
         return answered;
     }
@@ -35,18 +36,18 @@ fn answer(page: &Page<'_>, word: &str, rest: &str, out: &mut String) -> Result<(
 }
 
 /// Writes a line, with its answer where it is a case.
-fn write_line(page: &Page<'_>, line: &str, out: &mut String) -> Result<(), Fault> {
-    out.push_str(line)?;
+fn write_line(page: &Page<'_>, line: &str, out: &mut Output) -> Result<(), Fault> {
+    out.push(line);
     if let Line::Case(word, rest) = Line::of(line) {
-        out.push_str(" = ")?;
+        out.push(" = ");
         answer(page, word, rest, out)?;
     }
-    out.push_str("\n")?;
+    out.push("\n");
     Ok(())
 }
 
 /// Writes the page with its answers, up to the first line that is no case.
-pub fn answer_page(page: &Page<'_>, text: &str, out: &mut String) -> Result<(), Fault> {
+pub fn answer_page(page: &Page<'_>, text: &str, out: &mut Output) -> Result<(), Fault> {
     for line in text.lines() {
         write_line(page, line, out)?;
     }

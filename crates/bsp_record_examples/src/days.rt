@@ -1,7 +1,7 @@
 //! The calls of days, and the display of codes and days.
 
 use crate::fault::Fault;
-use crate::fields::{write_characters, write_fault};
+use crate::output::{Output, say};
 use crate::words::{first_word, number};
 use bsp_fields::{AgentCode, AirlineCode, Day, DocNumber, PeriodCode};
 
@@ -14,54 +14,57 @@ fn day_of(text: &str) -> Result<Day, Fault> {
 }
 
 /// Reads a day of a record.
-fn record_day(text: &str, out: &mut String) -> Result<(), Fault> {
+fn record_day(text: &str, out: &mut Output) -> Result<(), Fault> {
     match Day::read_record(text.as_bytes()) {
-        Ok(day) => write_characters(out, &day.write_text()),
-        Err(fault) => write_fault(out, fault),
+        Ok(day) => out.characters(&day.write_text()),
+        Err(fault) => out.fault(fault),
     }
+    Ok(())
 }
 
 /// Reads a day of a text.
-fn text_day(text: &str, out: &mut String) -> Result<(), Fault> {
+fn text_day(text: &str, out: &mut Output) -> Result<(), Fault> {
     match Day::read_text(text.as_bytes()) {
-        Ok(day) => write_characters(out, &day.write_record()),
-        Err(fault) => write_fault(out, fault),
+        Ok(day) => out.characters(&day.write_record()),
+        Err(fault) => out.fault(fault),
     }
+    Ok(())
 }
 
 /// Numbers a day.
-fn day_number(text: &str, out: &mut String) -> Result<(), Fault> {
-    write!(out, "{}", day_of(text)?.number())?;
+fn day_number(text: &str, out: &mut Output) -> Result<(), Fault> {
+    out.say(day_of(text)?.number());
     Ok(())
 }
 
 /// Numbers the day so many days after one.
-fn plus(text: &str, out: &mut String) -> Result<(), Fault> {
+fn plus(text: &str, out: &mut Output) -> Result<(), Fault> {
     let (day, days) = first_word(text);
     let Ok(days) = days.parse::<u32>() else {
         return Err(Fault::Number);
     };
-    write!(out, "{}", day_of(day)?.plus(days))?;
+    out.say(day_of(day)?.plus(days));
     Ok(())
 }
 
 /// Finds the day of a number.
-fn day_of_number(text: &str, out: &mut String) -> Result<(), Fault> {
+fn day_of_number(text: &str, out: &mut Output) -> Result<(), Fault> {
     match Day::of_number(number(text)?) {
-        Ok(day) => write_characters(out, &day.write_text()),
-        Err(fault) => write_fault(out, fault),
+        Ok(day) => out.characters(&day.write_text()),
+        Err(fault) => out.fault(fault),
     }
+    Ok(())
 }
 
 /// Makes the first day.
-fn first_day(out: &mut String) -> Result<(), Fault> {
+fn first_day(out: &mut Output) -> Result<(), Fault> {
     let first = Day::first();
-    write!(out, "{first}, number {}", first.number())?;
+    say!(out, "{first}, number {}", first.number());
     Ok(())
 }
 
 /// Displays a document number, a period and a day of a record.
-fn display_period(text: &str, out: &mut String) -> Result<(), Fault> {
+fn display_period(text: &str, out: &mut Output) -> Result<(), Fault> {
     let (document, rest) = first_word(text);
     let (period, day) = first_word(rest);
     let Ok(document) = DocNumber::read_unchecked(document.as_bytes()) else {
@@ -73,12 +76,12 @@ fn display_period(text: &str, out: &mut String) -> Result<(), Fault> {
     let Ok(day) = Day::read_record(day.as_bytes()) else {
         return Err(Fault::Field);
     };
-    write!(out, "{document} {period:<8}{day:>12}")?;
+    say!(out, "{document} {period:<8}{day:>12}");
     Ok(())
 }
 
 /// Displays an agent and an airline, and what follows them.
-fn display(text: &str, out: &mut String) -> Result<(), Fault> {
+fn display(text: &str, out: &mut Output) -> Result<(), Fault> {
     let (agent, rest) = first_word(text);
     let (airline, rest) = first_word(rest);
     let Ok(agent) = AgentCode::read(agent.as_bytes()) else {
@@ -87,12 +90,12 @@ fn display(text: &str, out: &mut String) -> Result<(), Fault> {
     let Ok(airline) = AirlineCode::read(airline.as_bytes()) else {
         return Err(Fault::Field);
     };
-    write!(out, "{agent} {airline}-")?;
+    say!(out, "{agent} {airline}-");
     display_period(rest, out)
 }
 
 /// Makes the call of a word, where it is one of these.
-pub fn answer(word: &str, rest: &str, out: &mut String) -> Option<Result<(), Fault>> {
+pub fn answer(word: &str, rest: &str, out: &mut Output) -> Option<Result<(), Fault>> {
     match word {
         "day" => Some(record_day(rest, out)),
         "date" => Some(text_day(rest, out)),

@@ -1,6 +1,7 @@
 //! The calls that explain faults.
 
 use crate::fault::Fault;
+use crate::output::Output;
 use crate::page::Page;
 use crate::texts::{line_of, text_of};
 use crate::words::{first_count, first_word};
@@ -48,28 +49,22 @@ fn first_fault(text: &str) -> Result<(RetFault, &str), Fault> {
     Ok((RetFault { code, at }, rest))
 }
 
-/// Displays an explanation.
-fn write_explanation(out: &mut String, explanation: Explanation) -> Result<(), Fault> {
-    write!(out, "{explanation}")?;
-    Ok(())
-}
-
 /// Displays a fault of a RET file.
-fn fault(text: &str, out: &mut String) -> Result<(), Fault> {
+fn fault(text: &str, out: &mut Output) -> Result<(), Fault> {
     let (fault, _) = first_fault(text)?;
-    write!(out, "{fault}")?;
+    out.say(fault);
     Ok(())
 }
 
 /// Displays a fault of a HOT file.
-fn hot_fault(text: &str, out: &mut String) -> Result<(), Fault> {
+fn hot_fault(text: &str, out: &mut Output) -> Result<(), Fault> {
     let (number, _) = first_count(text)?;
-    write!(out, "{}", RecordFault { number })?;
+    out.say(RecordFault { number });
     Ok(())
 }
 
 /// Gives the reason of a fault of a RET file from the record alone.
-fn reason(page: &Page<'_>, text: &str, out: &mut String) -> Result<(), Fault> {
+fn reason(page: &Page<'_>, text: &str, out: &mut Output) -> Result<(), Fault> {
     let (fault, parts) = first_fault(text)?;
     let text = text_of(page, parts)?;
     let reason = ret_reason(fault, line_of(&text)?, BEFORE);
@@ -78,28 +73,30 @@ fn reason(page: &Page<'_>, text: &str, out: &mut String) -> Result<(), Fault> {
         name: None,
         reason: reason.unwrap_or(Reason::NotFound),
     };
-    write_explanation(out, explanation)
+    out.say(explanation);
+    Ok(())
 }
 
 /// Explains a fault of a RET file.
-fn explain(page: &Page<'_>, text: &str, out: &mut String) -> Result<(), Fault> {
+fn explain(page: &Page<'_>, text: &str, out: &mut Output) -> Result<(), Fault> {
     let (fault, parts) = first_fault(text)?;
     let text = text_of(page, parts)?;
-    write_explanation(out, explain_ret(&text, fault))
+    out.say(explain_ret(&text, fault));
+    Ok(())
 }
 
 /// Explains the fault that the reader of RET files finds.
-fn explain_first(page: &Page<'_>, parts: &str, out: &mut String) -> Result<(), Fault> {
+fn explain_first(page: &Page<'_>, parts: &str, out: &mut Output) -> Result<(), Fault> {
     let text = text_of(page, parts)?;
     match read_ret(page.alloc(), &text) {
-        Ok(_) => out.push_str("no fault")?,
-        Err(fault) => write_explanation(out, explain_ret(&text, fault))?,
+        Ok(_) => out.push("no fault"),
+        Err(fault) => out.say(explain_ret(&text, fault)),
     }
     Ok(())
 }
 
 /// Gives the reason of a fault of a HOT file from the record with that number alone.
-fn reason_of_hot(page: &Page<'_>, text: &str, out: &mut String) -> Result<(), Fault> {
+fn reason_of_hot(page: &Page<'_>, text: &str, out: &mut Output) -> Result<(), Fault> {
     let (record, parts) = first_count(text)?;
     let text = text_of(page, parts)?;
     let line = line_of(&text)?;
@@ -109,14 +106,16 @@ fn reason_of_hot(page: &Page<'_>, text: &str, out: &mut String) -> Result<(), Fa
         name: record_name(line),
         reason: reason.unwrap_or(Reason::Unexpected),
     };
-    write_explanation(out, explanation)
+    out.say(explanation);
+    Ok(())
 }
 
 /// Explains a fault of a HOT file.
-fn explain_of_hot(page: &Page<'_>, text: &str, out: &mut String) -> Result<(), Fault> {
+fn explain_of_hot(page: &Page<'_>, text: &str, out: &mut Output) -> Result<(), Fault> {
     let (number, parts) = first_count(text)?;
     let text = text_of(page, parts)?;
-    write_explanation(out, explain_hot(&text, RecordFault { number }))
+    out.say(explain_hot(&text, RecordFault { number }));
+    Ok(())
 }
 
 /// Makes the call of a word, where it is one of these.
@@ -124,7 +123,7 @@ pub fn answer(
     page: &Page<'_>,
     word: &str,
     rest: &str,
-    out: &mut String,
+    out: &mut Output,
 ) -> Option<Result<(), Fault>> {
     match word {
         "fault" => Some(fault(rest, out)),

@@ -1,13 +1,14 @@
 //! The calls of HOT files.
 
 use crate::fault::Fault;
-use crate::hot_records::{code_sums, codes, names, record, sums};
+use crate::hot_records::{code_sums, codes, names, net, record, sums};
+use crate::output::{Output, say};
 use crate::page::Page;
 use crate::texts::text_of;
 use bsp_hot_check::{HotTotals, check_hot};
 
 /// Checks a text.
-fn hot(page: &Page<'_>, parts: &str, out: &mut String) -> Result<(), Fault> {
+fn hot(page: &Page<'_>, parts: &str, out: &mut Output) -> Result<(), Fault> {
     let text = text_of(page, parts)?;
     match check_hot(&text) {
         Ok(totals) => {
@@ -16,9 +17,9 @@ fn hot(page: &Page<'_>, parts: &str, out: &mut String) -> Result<(), Fault> {
                 documents,
                 net,
             } = totals;
-            write!(out, "records {records}, documents {documents}, net {net}")?;
+            say!(out, "records {records}, documents {documents}, net {net}");
         }
-        Err(fault) => write!(out, "{fault}")?,
+        Err(fault) => out.say(fault),
     }
     Ok(())
 }
@@ -28,7 +29,7 @@ pub fn answer(
     page: &Page<'_>,
     word: &str,
     rest: &str,
-    out: &mut String,
+    out: &mut Output,
 ) -> Option<Result<(), Fault>> {
     match word {
         "hot" => Some(hot(page, rest, out)),
@@ -36,6 +37,7 @@ pub fn answer(
         "names" => Some(names(out)),
         "codes" => Some(codes(out)),
         "sums" => Some(sums(rest, out)),
+        "net" => Some(net(rest, out)),
         "code-sums" => Some(code_sums(rest, out)),
         _ => None,
     }

@@ -1,7 +1,7 @@
 //! The calls of records of HOT files, and of sums of documents.
 
 use crate::fault::Fault;
-use crate::fields::write_characters;
+use crate::output::{Output, say};
 use crate::page::Page;
 use crate::texts::{line_of, text_of};
 use crate::words::{first_count, first_word};
@@ -27,31 +27,31 @@ const NAMES: [RecordName; 13] = [
 ];
 
 /// Writes the letters and the digits of each name.
-pub fn names(out: &mut String) -> Result<(), Fault> {
+pub fn names(out: &mut Output) -> Result<(), Fault> {
     let mut between = "";
     for name in NAMES {
-        out.push_str(between)?;
-        write_characters(out, &name.letters())?;
-        write_characters(out, &name.digits())?;
+        out.push(between);
+        out.characters(&name.letters());
+        out.characters(&name.digits());
         between = " ";
     }
     Ok(())
 }
 
 /// Writes the text of each code of documents, and its place in their order.
-pub fn codes(out: &mut String) -> Result<(), Fault> {
+pub fn codes(out: &mut Output) -> Result<(), Fault> {
     let mut between = "";
     for code in DocumentCode::ALL {
-        write!(out, "{between}{code:?} ")?;
-        write_characters(out, &code.text())?;
-        write!(out, " {}", code.rank())?;
+        say!(out, "{between}{code:?} ");
+        out.characters(&code.text());
+        say!(out, " {}", code.rank());
         between = ", ";
     }
     Ok(())
 }
 
 /// Reads a record with that sequence number.
-pub fn record(page: &Page<'_>, text: &str, out: &mut String) -> Result<(), Fault> {
+pub fn record(page: &Page<'_>, text: &str, out: &mut Output) -> Result<(), Fault> {
     let (number, parts) = first_count(text)?;
     let text = text_of(page, parts)?;
     let line = line_of(&text)?;
@@ -60,53 +60,65 @@ pub fn record(page: &Page<'_>, text: &str, out: &mut String) -> Result<(), Fault
     }
     match read_record(number, line) {
         Some(Record::TransactionHeader(header)) => {
-            write!(
+            say!(
                 out,
                 "transaction {} of {}",
-                header.transaction, header.airline
-            )?
+                header.transaction,
+                header.airline
+            )
         }
-        Some(_) => out.push_str("no BKT06")?,
-        None => out.push_str("none")?,
+        Some(_) => out.push("no BKT06"),
+        None => out.push("none"),
     }
     Ok(())
 }
 
 /// Writes the number of documents, the cash, the credit and the commission.
-fn write_sums(out: &mut String, sums: Sums) -> Result<(), Fault> {
+fn write_sums(out: &mut Output, sums: Sums) {
     let Sums {
         documents,
         cash,
         credit,
         commission,
     } = sums;
-    write!(out, "{documents} {cash} {credit} {commission}")?;
-    Ok(())
+    say!(out, "{documents} {cash} {credit} {commission}");
 }
 
 /// The amount that a text begins with, and what follows it.
-fn first_amount(text: &str) -> Result<(i128, &str), Fault> {
+fn first_amount(text: &str) -> Result<(i32, &str), Fault> {
     let (word, rest) = first_word(text);
     match word.parse::<i32>() {
-        Ok(units) => Ok((i128::from(units), rest)),
+        Ok(units) => Ok((units, rest)),
         Err(_) => Err(Fault::Number),
     }
 }
 
-/// Adds a document to sums of cash, credit and commission.
-pub fn sums(text: &str, out: &mut String) -> Result<(), Fault> {
+/// Adds a document to a cash, a credit and a commission.
+pub fn sums(text: &str, out: &mut Output) -> Result<(), Fault> {
     let (cash, rest) = first_amount(text)?;
     let (credit, rest) = first_amount(rest)?;
     let (commission, _) = first_amount(rest)?;
     let paid = Sums {
         documents: 0,
-        cash,
-        credit,
-        commission,
+        cash: i128::from(cash),
+        credit: i128::from(credit),
+        commission: i128::from(commission),
     };
-    let sums = Sums::DOCUMENT.plus(paid);
-    write_sums(out, sums)?;
-    write!(out, ", net {}", sums.net())?;
+    write_sums(out, Sums::DOCUMENT.plus(paid));
+    Ok(())
+}
+
+/// Takes a commission from a cash.
+pub fn net(text: &str, out: &mut Output) -> Result<(), Fault> {
+    let (cash, rest) = first_amount(text)?;
+    let (commission, _) = first_amount(rest)?;
+    let sums = Sums {
+        documents: 1,
+        cash: i128::from(cash),
+        credit: 0,
+        commission: i128::from(commission),
+    };
+    out.say(sums.net());
     Ok(())
 }
 
@@ -121,12 +133,12 @@ fn code_of(text: &str) -> Result<DocumentCode, Fault> {
 }
 
 /// Counts a document of that code, and writes the sums of each code.
-pub fn code_sums(text: &str, out: &mut String) -> Result<(), Fault> {
+pub fn code_sums(text: &str, out: &mut Output) -> Result<(), Fault> {
     let sums = CodeSums::NONE.plus(code_of(text)?, Sums::DOCUMENT);
     let mut between = "";
     for code in DocumentCode::ALL {
-        write!(out, "{between}{code:?} ")?;
-        write_sums(out, sums.of(code))?;
+        say!(out, "{between}{code:?} ");
+        write_sums(out, sums.of(code));
         between = ", ";
     }
     Ok(())

@@ -15,6 +15,7 @@ mod lines;
 mod notation;
 mod operations;
 mod outcome;
+mod output;
 mod page;
 mod reader;
 mod records;
@@ -25,6 +26,7 @@ mod words;
 
 use answers::answer_page;
 use fault::Fault;
+use output::Output;
 use page::Page;
 use std::io;
 use std::process::ExitCode;
@@ -33,9 +35,12 @@ use std::process::ExitCode;
 fn run(rt: &HostRuntime) -> Result<(), Fault> {
     let text = io::read_to_string(rt.alloc(), rt.stdin())?;
     let page = Page::of(rt.alloc(), text.as_str())?;
-    let mut out = String::new(rt.alloc());
+    let mut out = Output::new(rt.alloc());
     let answered = answer_page(&page, text.as_str(), &mut out);
-    rt.print(out.as_str())?;
+    rt.print(out.text())?;
+    if out.is_short() {
+        return Err(Fault::Memory);
+    }
     answered
 }
 

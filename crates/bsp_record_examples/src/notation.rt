@@ -3,7 +3,7 @@
 use crate::fault::Fault;
 use std::alloc::AllocError;
 
-/// How many spaces a field stands for, where it is written as `(65)`.
+/// How many spaces a field is that is written as `(65)`.
 fn spaces_of(field: &str) -> Option<usize> {
     let Some(opened) = field.strip_prefix("(") else {
         return None;

@@ -1,6 +1,6 @@
 //! What a reader of RET files makes of a text.
 
-use crate::fault::Fault;
+use crate::output::{Output, say};
 use bsp_ret::{RetFault, RetFile, RetReader, read_ret};
 use std::alloc::Global;
 
@@ -44,7 +44,7 @@ pub fn read_fed(reader: &mut RetReader) -> Outcome {
 }
 
 /// Writes an outcome.
-pub fn write_outcome(out: &mut String, outcome: Outcome) -> Result<(), Fault> {
+pub fn write_outcome(out: &mut Output, outcome: Outcome) {
     match outcome {
         Ok(counts) => {
             let Counts {
@@ -52,12 +52,11 @@ pub fn write_outcome(out: &mut String, outcome: Outcome) -> Result<(), Fault> {
                 transactions,
                 sum,
             } = counts;
-            write!(
+            say!(
                 out,
                 "records {records}, transactions {transactions}, sum {sum}"
-            )?;
+            );
         }
-        Err(fault) => write!(out, "{fault}")?,
+        Err(fault) => out.say(fault),
     }
-    Ok(())
 }

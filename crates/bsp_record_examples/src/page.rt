@@ -5,37 +5,21 @@ use crate::lines::Line;
 use crate::notation::push_record;
 use std::alloc::Global;
 
-/// A record of a page.
-#[derive(Clone, Copy)]
-struct Entry<'a> {
-    /// The name of its file.
-    file: &'a str,
-    /// Its own name, or an empty one.
-    name: &'a str,
-    /// It in the notation of the page.
-    record: &'a str,
-}
-
-/// The records of a page.
+/// The lines of a page.
 #[derive(Drop)]
 pub struct Page<'a> {
     alloc: Global,
-    entries: Vec<Entry<'a>>,
+    lines: Vec<Line<'a>>,
 }
 
 impl<'a> Page<'a> {
-    /// The records of the page of that text.
+    /// The page of that text.
     pub fn of(alloc: Global, text: &'a str) -> Result<Page<'a>, Fault> {
-        let mut entries = Vec::new(alloc);
-        let mut file = "";
+        let mut lines = Vec::new(alloc);
         for line in text.lines() {
-            match Line::of(line) {
-                Line::File(name) => file = name,
-                Line::Record(name, record) => entries.push(Entry { file, name, record })?,
-                Line::Remark | Line::Case(_, _) => {}
-            }
+            lines.push(Line::of(line))?;
         }
-        Ok(Page { alloc, entries })
+        Ok(Page { alloc, lines })
     }
 
     /// What memory is taken from.
@@ -46,9 +30,16 @@ impl<'a> Page<'a> {
     /// Appends the record or the file of that name.
     pub fn push_named(&self, name: &str, text: &mut Vec<u8>) -> Result<(), Fault> {
         let before = text.len();
-        for entry in &self.entries {
-            if entry.file == name || entry.name == name {
-                push_record(entry.record, text)?;
+        let mut is_inside = false;
+        for line in &self.lines {
+            match line {
+                Line::File(file) => is_inside = *file == name,
+                Line::Record(own, record) => {
+                    if is_inside || *own == name {
+                        push_record(record, text)?;
+                    }
+                }
+                Line::Remark | Line::Case(_, _) => {}
             }
         }
         if text.len() == before {

@@ -2,6 +2,7 @@
 
 use crate::fault::Fault;
 use crate::outcome::{Counts, write_outcome};
+use crate::output::Output;
 use crate::page::Page;
 use crate::texts::text_of;
 use crate::words::first_word;
@@ -32,16 +33,15 @@ impl<'a> Step<'a> {
 }
 
 /// Writes what a call gave that gives nothing but a fault.
-fn write_done(out: &mut String, done: Result<(), RetFault>) -> Result<(), Fault> {
+fn write_done(out: &mut Output, done: Result<(), RetFault>) {
     match done {
-        Ok(()) => out.push_str("done")?,
-        Err(fault) => write!(out, "{fault}")?,
+        Ok(()) => out.push("done"),
+        Err(fault) => out.say(fault),
     }
-    Ok(())
 }
 
 /// Asks for the file.
-fn write_file(reader: &RetReader, out: &mut String) -> Result<(), Fault> {
+fn write_file(reader: &RetReader, out: &mut Output) {
     match reader.file() {
         Ok(file) => write_outcome(out, Ok(Counts::of(&file))),
         Err(fault) => write_outcome(out, Err(fault)),
@@ -53,26 +53,29 @@ fn take(
     page: &Page<'_>,
     step: Step<'_>,
     reader: &mut RetReader,
-    out: &mut String,
+    out: &mut Output,
 ) -> Result<(), Fault> {
     match step {
         Step::Feed(parts) => {
             let piece = text_of(page, parts)?;
-            write_done(out, reader.feed(&piece))
+            write_done(out, reader.feed(&piece));
         }
         Step::Finish => write_done(out, reader.finish()),
         Step::File => write_file(reader, out),
     }
+    Ok(())
 }
 
 /// Makes the calls of a reader; `; ` is between them.
-pub fn calls(page: &Page<'_>, steps: &str, out: &mut String) -> Result<(), Fault> {
+pub fn calls(page: &Page<'_>, steps: &str, out: &mut Output) -> Result<(), Fault> {
     let mut reader = RetReader::new(page.alloc());
-    let mut between = "";
+    let mut is_first = true;
     for step in steps.split("; ") {
-        out.push_str(between)?;
+        if !is_first {
+            out.push("; ");
+        }
+        is_first = false;
         take(page, Step::of(step)?, &mut reader, out)?;
-        between = "; ";
     }
     Ok(())
 }

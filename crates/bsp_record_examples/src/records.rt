@@ -1,6 +1,7 @@
 //! The calls of single records of RET files.
 
 use crate::fault::Fault;
+use crate::output::{Output, say};
 use crate::page::Page;
 use crate::texts::{line_of, text_of};
 use crate::words::first_word;
@@ -8,14 +9,14 @@ use bsp_records::{first_record, is_wide, taxes_fit};
 use bsp_ret_records::{amounts_fit, form_of, header_fits, related_fits, sale_code, trailer_fits};
 
 /// Looks for the first record of a text.
-fn first(page: &Page<'_>, parts: &str, out: &mut String) -> Result<(), Fault> {
+fn first(page: &Page<'_>, parts: &str, out: &mut Output) -> Result<(), Fault> {
     let text = text_of(page, parts)?;
     if text.is_empty() {
         return Err(Fault::Record);
     }
     match first_record(&text) {
-        Some((_, rest)) => write!(out, "a record, {} more", rest.len())?,
-        None => write!(out, "none")?,
+        Some((_, rest)) => say!(out, "a record, {} more", rest.len()),
+        None => out.push("none"),
     }
     Ok(())
 }
@@ -36,16 +37,16 @@ fn fits(kind: &str, line: &[u8]) -> Result<bool, Fault> {
 }
 
 /// Tests the fields of a record.
-fn fit(page: &Page<'_>, text: &str, out: &mut String) -> Result<(), Fault> {
+fn fit(page: &Page<'_>, text: &str, out: &mut Output) -> Result<(), Fault> {
     let (kind, parts) = first_word(text);
     let text = text_of(page, parts)?;
     let fits = fits(kind, line_of(&text)?)?;
-    out.push_str(if fits { "yes" } else { "no" })?;
+    out.answer(fits);
     Ok(())
 }
 
 /// Reads the code of a record 2, or the form of a record 8.
-fn code(page: &Page<'_>, text: &str, out: &mut String) -> Result<(), Fault> {
+fn code(page: &Page<'_>, text: &str, out: &mut Output) -> Result<(), Fault> {
     let (kind, parts) = first_word(text);
     let text = text_of(page, parts)?;
     let line = line_of(&text)?;
@@ -53,8 +54,8 @@ fn code(page: &Page<'_>, text: &str, out: &mut String) -> Result<(), Fault> {
         return Err(Fault::Record);
     }
     match kind {
-        "sale" => write!(out, "{:?}", sale_code(line))?,
-        _ => write!(out, "{:?}", form_of(line))?,
+        "sale" => say!(out, "{:?}", sale_code(line)),
+        _ => say!(out, "{:?}", form_of(line)),
     }
     Ok(())
 }
@@ -64,7 +65,7 @@ pub fn answer(
     page: &Page<'_>,
     word: &str,
     rest: &str,
-    out: &mut String,
+    out: &mut Output,
 ) -> Option<Result<(), Fault>> {
     match word {
         "first-record" => Some(first(page, rest, out)),

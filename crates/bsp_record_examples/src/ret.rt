@@ -2,6 +2,7 @@
 
 use crate::fault::Fault;
 use crate::outcome::{Outcome, read_fed, read_whole, write_outcome};
+use crate::output::{Output, say};
 use crate::page::Page;
 use crate::reader::calls;
 use crate::texts::text_of;
@@ -48,40 +49,48 @@ fn read_at(alloc: Global, way: Way, text: &[u8], place: usize) -> Outcome {
 }
 
 /// Writes that all places of a range have an outcome.
-fn write_range(out: &mut String, first: usize, last: usize, outcome: Outcome) -> Result<(), Fault> {
-    write!(out, "\n    {first} to {last}: ")?;
-    write_outcome(out, outcome)
+fn write_range(out: &mut Output, first: usize, last: usize, outcome: Outcome) {
+    say!(out, "\n    {first} to {last}: ");
+    write_outcome(out, outcome);
 }
 
 /// Reads a text at each place, and writes the ranges of places with one outcome.
-fn ranges(page: &Page<'_>, way: Way, parts: &str, out: &mut String) -> Result<(), Fault> {
-    let text = text_of(page, parts)?;
-    write!(out, "{} texts", text.len().saturating_add(1))?;
+fn write_ranges(alloc: Global, way: Way, text: &[u8], out: &mut Output) {
     let mut first = 0;
     let mut last = 0;
-    let mut current = read_at(page.alloc(), way, &text, 0);
+    let mut current = read_at(alloc, way, text, 0);
     for place in 1..=text.len() {
-        let outcome = read_at(page.alloc(), way, &text, place);
+        let outcome = read_at(alloc, way, text, place);
         if outcome != current {
-            write_range(out, first, last, current)?;
+            write_range(out, first, last, current);
             first = place;
             current = outcome;
         }
         last = place;
     }
-    write_range(out, first, last, current)
+    write_range(out, first, last, current);
+}
+
+/// Reads a text at each of its places.
+fn ranges(page: &Page<'_>, way: Way, parts: &str, out: &mut Output) -> Result<(), Fault> {
+    let text = text_of(page, parts)?;
+    say!(out, "{} texts", text.len().saturating_add(1));
+    write_ranges(page.alloc(), way, &text, out);
+    Ok(())
 }
 
 /// Reads a text.
-fn ret(page: &Page<'_>, parts: &str, out: &mut String) -> Result<(), Fault> {
+fn ret(page: &Page<'_>, parts: &str, out: &mut Output) -> Result<(), Fault> {
     let text = text_of(page, parts)?;
-    write_outcome(out, read_whole(page.alloc(), &text))
+    write_outcome(out, read_whole(page.alloc(), &text));
+    Ok(())
 }
 
 /// Feeds a text byte by byte.
-fn bytes(page: &Page<'_>, parts: &str, out: &mut String) -> Result<(), Fault> {
+fn bytes(page: &Page<'_>, parts: &str, out: &mut Output) -> Result<(), Fault> {
     let text = text_of(page, parts)?;
-    write_outcome(out, read_bytes(page.alloc(), &text))
+    write_outcome(out, read_bytes(page.alloc(), &text));
+    Ok(())
 }
 
 /// The text that is written of a RET file.
@@ -96,7 +105,7 @@ fn written(alloc: Global, text: &[u8]) -> Result<Vec<u8>, Fault> {
 }
 
 /// Reads a text and writes it; `; ` is before the text that this has to be.
-fn write(page: &Page<'_>, texts: &str, out: &mut String) -> Result<(), Fault> {
+fn write(page: &Page<'_>, texts: &str, out: &mut Output) -> Result<(), Fault> {
     let Some((own, expected)) = texts.split_once("; ") else {
         return Err(Fault::File);
     };
@@ -105,7 +114,7 @@ fn write(page: &Page<'_>, texts: &str, out: &mut String) -> Result<(), Fault> {
     let expected = text_of(page, expected)?;
     let is_same = written == expected;
     let word = if is_same { "the same" } else { "another text" };
-    write!(out, "{word}, {} bytes", written.len())?;
+    say!(out, "{word}, {} bytes", written.len());
     Ok(())
 }
 
@@ -114,7 +123,7 @@ pub fn answer(
     page: &Page<'_>,
     word: &str,
     rest: &str,
-    out: &mut String,
+    out: &mut Output,
 ) -> Option<Result<(), Fault>> {
     match word {
         "ret" => Some(ret(page, rest, out)),

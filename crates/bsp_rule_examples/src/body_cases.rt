@@ -4,9 +4,10 @@ use crate::book::{Book, push_text};
 use crate::fault::CaseFault;
 use crate::notation::bytes_of;
 use crate::words::Words;
+use bsp_fields::AgentCode;
 use bsp_messages::{
-    StatedAgent, read_agent_registration, read_airline_registration, read_day, read_issue,
-    read_memo_document, read_named_memo, read_period, read_reduction, read_stock_change,
+    read_agent_registration, read_airline_registration, read_day, read_issue, read_memo_document,
+    read_named_memo, read_period, read_reduction, read_stock_change,
 };
 use std::alloc::Global;
 
@@ -22,9 +23,9 @@ fn say_period(out: &mut String, alloc: Global, body: &[u8]) -> Result<(), CaseFa
     Ok(())
 }
 
-/// Says an agent; none has a code with a wrong check digit.
-fn say_stated(out: &mut String, agent: StatedAgent) -> Result<(), CaseFault> {
-    match agent.code {
+/// Says the code of an agent; none has a code with a wrong check digit.
+fn say_code(out: &mut String, code: Option<AgentCode>) -> Result<(), CaseFault> {
+    match code {
         Some(agent) => write!(out, " = {agent} ")?,
         None => out.push_str(" = none ")?,
     }
@@ -33,7 +34,7 @@ fn say_stated(out: &mut String, agent: StatedAgent) -> Result<(), CaseFault> {
 
 fn say_agent(out: &mut String, alloc: Global, body: &[u8]) -> Result<(), CaseFault> {
     let found = read_agent_registration(alloc, body)?;
-    say_stated(out, found.agent)?;
+    say_code(out, found.agent.code)?;
     push_text(out, found.token.as_bytes())
 }
 
@@ -46,7 +47,7 @@ fn say_airline(out: &mut String, alloc: Global, body: &[u8]) -> Result<(), CaseF
 
 fn say_stock(out: &mut String, alloc: Global, body: &[u8]) -> Result<(), CaseFault> {
     let found = read_stock_change(alloc, body)?;
-    say_stated(out, found.agent)?;
+    say_code(out, found.agent.code)?;
     let (first, last) = (found.range.first, found.range.last);
     write!(out, "{first} {last}")?;
     Ok(())
@@ -67,7 +68,7 @@ fn say_document(out: &mut String, alloc: Global, body: &[u8]) -> Result<(), Case
 
 fn say_issue(out: &mut String, alloc: Global, body: &[u8]) -> Result<(), CaseFault> {
     let found = read_issue(alloc, body)?;
-    say_stated(out, found.agent)?;
+    say_code(out, found.agent.code)?;
     let (amount, document, kind) = (found.amount, found.document, found.kind.code());
     let reason = found.reason.as_str();
     write!(out, "{amount} {document} {kind} '{reason}'")?;

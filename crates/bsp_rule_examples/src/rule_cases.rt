@@ -7,6 +7,7 @@ use bsp_fields::{AgentCode, PeriodCode};
 use bsp_ret::{Transaction, TransactionCode, read_ret, transaction};
 use bsp_rules::{Item, Range, Reporter, Verdict, commission, facts_of, judge, net};
 use std::alloc::Global;
+use std::slice;
 
 /// The transactions of a RET file.
 pub fn transactions_of(alloc: Global, bytes: &[u8]) -> Result<Vec<Transaction>, CaseFault> {
@@ -15,9 +16,10 @@ pub fn transactions_of(alloc: Global, bytes: &[u8]) -> Result<Vec<Transaction>, 
     };
     let mut transactions = Vec::new(alloc);
     for index in 0..file.transactions() {
-        if let Some(transaction) = transaction(&file, index) {
-            transactions.push(transaction)?;
-        }
+        let Some(found) = transaction(&file, index) else {
+            return Err(CaseFault::NoCase);
+        };
+        transactions.extend_from_slice(slice::from_ref(&found))?;
     }
     Ok(transactions)
 }

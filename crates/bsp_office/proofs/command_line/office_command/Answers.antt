@@ -11,4 +11,4 @@ returns-clause-ok c =
     let with_check = c.in_ok-office.ensures.ok ∙ same_with _ _ _ _ bare refl in
     let with_hotcheck = c.in_ok-office-2.ensures.ok ∙ same_with _ _ _ _ with_check refl in
     let with_run = c.in_ok-office-3.ensures.ok ∙ same_with _ _ _ _ with_hotcheck refl in
-    c.with_serve.ensures.ok ∙ same_with _ _ _ _ with_run refl
+    c.in_ok-office-4.ensures.ok ∙ same_with _ _ _ _ with_run refl

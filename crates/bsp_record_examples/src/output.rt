@@ -1,0 +1,69 @@
+//! What is printed.
+
+use crate::words::shown;
+use bsp_fields::FieldFault;
+use std::alloc::Global;
+use std::fmt::Display;
+
+/// What is printed, and whether memory was short for some of it.
+#[derive(Drop)]
+pub struct Output {
+    text: String,
+    is_short: bool,
+}
+
+impl Output {
+    /// Nothing so far.
+    pub fn new(alloc: Global) -> Output {
+        Output {
+            text: String::new(alloc),
+            is_short: false,
+        }
+    }
+
+    /// Appends a text.
+    pub fn push(&mut self, text: &str) {
+        let pushed = self.text.push_str(text);
+        self.is_short |= pushed.is_err();
+    }
+
+    /// Appends the characters that a call gave.
+    pub fn characters(&mut self, characters: &[u8]) {
+        self.push(shown(characters));
+    }
+
+    /// Appends what a value displays.
+    pub fn say<D: Display + Drop>(&mut self, value: D) {
+        let said = write!(self.text, "{value}");
+        self.is_short |= said.is_err();
+    }
+
+    /// Appends the name of a fault.
+    pub fn fault(&mut self, fault: FieldFault) {
+        self.say(format_args!("{fault:?}"));
+    }
+
+    /// Appends whether something is so.
+    pub fn answer(&mut self, is_so: bool) {
+        self.push(if is_so { "yes" } else { "no" });
+    }
+
+    /// The text.
+    pub fn text(&self) -> &str {
+        self.text.as_str()
+    }
+
+    /// Whether memory was short.
+    pub fn is_short(&self) -> bool {
+        self.is_short
+    }
+}
+
+/// Appends a format.
+macro_rules! say {
+    ($out:expr, $($format:tt)*) => {
+        $out.say(format_args!($($format)*))
+    };
+}
+
+pub(crate) use say;
