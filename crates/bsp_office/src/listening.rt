@@ -39,9 +39,10 @@ pub struct Remarks<'a> {
 }
 
 impl Remarks<'_> {
-    /// One line where a connection ended by a failed read or write.
+    /// One line where a connection, counted from 0, ended by a failed read or write.
     fn ended(&self, number: u32, served: Result<Served, ServeFault>) {
         if let Err(fault @ (ServeFault::Read | ServeFault::Write)) = served {
+            let number = u64::from(number) + 1;
             let _ = eprintln!(self.rt; "bsp_office: connection {number}: {fault}");
         }
     }
@@ -87,11 +88,14 @@ fn visit<R: Read, W: Write, B: Book>(
 }
 
 /// Serves one connection of TCP. The responses to messages that came together are sent together, and none is kept
-/// back for more to come (RFC 9293, 3.7.4). A peer is waited for as long as the timeout says.
+/// back for more to come (RFC 9293, 3.7.4). A peer is waited for as long as the timeout says. The number is the
+/// connection's, from 0.
 fn serve_stream<B: Book>(
     alloc: Global,
     stream: &TcpStream,
+    number: u32,
     timeout: Option<Duration>,
+    remarks: &Remarks<'_>,
     routes: &Routes,
     desk: &mut Desk<B>,
 ) -> Result<Served, ServeFault>
@@ -107,6 +111,7 @@ fn serve_stream<B: Book>(
     let served = visit(alloc, routes, &mut input, &mut output, desk);
     let _ = output.flush();
     linger(stream, served);
+    remarks.ended(number, served);
     served
 }
 
@@ -136,9 +141,9 @@ pub fn serve_on<B: Book>(
             Ok((stream, _)) => stream,
             Err(error) => return Err(ListenFault::Accept(error.kind())),
         };
-        let served = serve_stream(alloc, &stream, timeout, routes, desk);
-        remarks.ended(number + 1, served);
-        if let Err(ServeFault::Memory) = served {
+        if let Err(ServeFault::Memory) = serve_stream(
+            alloc, &stream, number, timeout, remarks, routes, desk,
+        ) {
             return Err(ListenFault::Memory);
         }
     }
