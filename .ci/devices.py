@@ -239,18 +239,22 @@ def peers():
         for number, (one, (_, reply)) in enumerate(zip(asking, waiting)):
             if reply not in (CLOSED, RESET):
                 office.expect(f"{what}: peer {number + 1}", reply, received(one))
-        office.expect(f"{what}: end", (0, ""), it.ended())
+        status, text = it.ended()
+        last = text.splitlines(keepends=True)[-1:]
+        office.expect(f"{what}: end", (0, [f"bsp_office: {connections} connections served\n"]), (status, last))
 
 
 def accepting():
     """The second connection cannot be accepted; or accepting is interrupted, and tried again."""
-    for steps, status in ("accept4 3 1 fails", 3), ("accept4 3 1 interrupted", 0):
+    failed = "bsp_office: a connection could not be accepted: uncategorized error\n"
+    served = "bsp_office: 2 connections served\n"
+    for steps, status, text in ("accept4 3 1 fails", 3, failed), ("accept4 3 1 interrupted", 0, served):
         with stepped(steps):
             it = serve("--connections", 2)
         office.expect(f"{steps}: the first", FORBIDDEN, received(peer(it.port, ASKED)))
         if status == 0:
             office.expect(f"{steps}: the second", FORBIDDEN, received(peer(it.port, ASKED)))
-        office.expect(f"{steps}: end", (status, ""), it.ended())
+        office.expect(f"{steps}: end", (status, text), it.ended())
         made_calls(steps, steps)
 
 
@@ -268,7 +272,7 @@ def connections():
         with stepped("accept4 3 nobody", f"log of{words}"):
             begun.append((words, count, serve(*words.split(), seconds=100)))
     for words, count, it in begun:
-        office.expect(f"serve{words}: end", (0, ""), it.ended())
+        office.expect(f"serve{words}: end", (0, f"bsp_office: {count} connections served\n"), it.ended())
         office.expect(f"serve{words}: connections", count, logged(f"log of{words}")[0])
 
 

@@ -3,7 +3,7 @@
    descriptor, and then what each call does in turn, as in "read 0 137 interrupted fails": a number is
    the most bytes that the call moves. A call behind the last step is as without this. The function is
    read, write, bind or accept4; one that moves no bytes is as without this where its step is a number.
-   A step "nobody" has this and all later calls of accept4 answer a connection of which each read fails.
+   A step "nobody" has this and all later calls of accept4 answer a peer that sends nothing and ends.
    When the process ends, the file that STEPS_LOG names has how many calls there were, and how many
    bytes they moved. */
 #define _GNU_SOURCE
@@ -90,13 +90,19 @@ int bind(int fd, const struct sockaddr *address, socklen_t length) {
   return syscall(SYS_bind, fd, address, length);
 }
 
-/* A connection of which each read fails. */
+/* A peer that sends nothing and ends. */
 static int nobody(struct sockaddr *address, socklen_t *length) {
   struct sockaddr_in peer = {.sin_family = AF_INET, .sin_port = htons(1)};
   peer.sin_addr.s_addr = htonl(INADDR_LOOPBACK);
   memcpy(address, &peer, sizeof peer);
   *length = sizeof peer;
   return open("/dev/null", O_RDWR | O_CLOEXEC);
+}
+
+ssize_t recv(int fd, void *bytes, size_t count, int flags) {
+  if (is_nobody)
+    return 0;
+  return syscall(SYS_recvfrom, fd, bytes, count, flags, NULL, NULL);
 }
 
 int accept4(int fd, struct sockaddr *address, socklen_t *length, int flags) {
