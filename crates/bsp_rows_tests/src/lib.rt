@@ -2,8 +2,6 @@
 #![tactic(auto)]
 
 #[cfg(test)]
-mod book;
-#[cfg(test)]
 mod indexes;
 #[cfg(test)]
 mod maps;
