@@ -1,4 +1,4 @@
-//! The tests of the rows of a book, and of the maps and tables that keep them in memory, and of a roll-back of a book in memory.
+//! The tests of the rows of a book, and of the maps and tables that keep them in memory.
 #![tactic(auto)]
 
 #[cfg(test)]
