@@ -228,6 +228,13 @@ def leave(it, by):
     it.close()
 
 
+def told(connections, waiting):
+    """What the office says on standard error: of each peer that has reset, and at its end."""
+    gone = [number for number, (_, reply) in enumerate(waiting) if reply == RESET]
+    lines = [f"connection {number + 2}: the peer's bytes could not be read" for number in gone if number + 2 <= connections]
+    return "".join(f"bsp_office: {line}\n" for line in [*lines, f"{connections} connections served"])
+
+
 def peers():
     for what, connections, waiting in PEERS:
         it = serve("--connections", connections)
@@ -239,7 +246,7 @@ def peers():
         for number, (one, (_, reply)) in enumerate(zip(asking, waiting)):
             if reply not in (CLOSED, RESET):
                 office.expect(f"{what}: peer {number + 1}", reply, received(one))
-        office.expect(f"{what}: end", (0, ""), it.ended())
+        office.expect(f"{what}: end", (0, told(connections, waiting)), it.ended())
 
 
 def accepting():
@@ -250,7 +257,9 @@ def accepting():
         office.expect(f"{steps}: the first", FORBIDDEN, received(peer(it.port, ASKED)))
         if status == 0:
             office.expect(f"{steps}: the second", FORBIDDEN, received(peer(it.port, ASKED)))
-        office.expect(f"{steps}: end", (status, ""), it.ended())
+        line = "2 connections served" if status == 0 else "a connection could not be accepted: "
+        ended, said = it.ended()
+        office.expect(f"{steps}: end", (status, True), (ended, said.startswith(f"bsp_office: {line}")))
         made_calls(steps, steps)
 
 
@@ -268,7 +277,7 @@ def connections():
         with stepped("accept4 3 nobody", f"log of{words}"):
             begun.append((words, count, serve(*words.split(), seconds=100)))
     for words, count, it in begun:
-        office.expect(f"serve{words}: end", (0, ""), it.ended())
+        office.expect(f"serve{words}: end", (0, f"bsp_office: {count} connections served\n"), it.ended())
         office.expect(f"serve{words}: connections", count, logged(f"log of{words}")[0])
 
 
