@@ -156,13 +156,13 @@ SECONDS = 1
 
 
 def held_up(what, hold):
-    """A peer that does what `hold` says holds up another for three timeouts at most: of a read, a write and a flush."""
+    """A peer that does what `hold` says holds up another for some timeouts at most: each read and each write has its own."""
     it = office.Office(PROGRAM, None, "--token", OFFICE, "--timeout", SECONDS, seconds=30)
     with it, socket.create_connection(("127.0.0.1", it.port)) as peer:
         hold(peer)
         begun = time.monotonic()
         expect(f"{what}: another is answered", 403, it.ask("GET", "/agents/12345675/stock", "x")[0])
-        expect(f"{what}: in time", True, time.monotonic() - begun < 3 * SECONDS + 1)
+        expect(f"{what}: in time", True, time.monotonic() - begun < 10 * SECONDS)
 
 
 def never_read(peer):

@@ -228,13 +228,6 @@ def leave(it, by):
     it.close()
 
 
-def told(connections, waiting):
-    """What the office says on standard error: of each peer that has reset, and at its end."""
-    gone = [number for number, (_, reply) in enumerate(waiting) if reply == RESET]
-    lines = [f"connection {number + 2}: the peer's bytes could not be read" for number in gone if number + 2 <= connections]
-    return "".join(f"bsp_office: {line}\n" for line in [*lines, f"{connections} connections served"])
-
-
 def peers():
     for what, connections, waiting in PEERS:
         it = serve("--connections", connections)
@@ -246,7 +239,7 @@ def peers():
         for number, (one, (_, reply)) in enumerate(zip(asking, waiting)):
             if reply not in (CLOSED, RESET):
                 office.expect(f"{what}: peer {number + 1}", reply, received(one))
-        office.expect(f"{what}: end", (0, told(connections, waiting)), it.ended())
+        office.expect(f"{what}: end", (0, f"bsp_office: {connections} connections served\n"), it.ended())
 
 
 def accepting():
