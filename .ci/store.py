@@ -365,14 +365,16 @@ def on_standard_input():
 
 
 def refusal(what, file, cause, status):
-    """The program is not started over this file, and says why in one line."""
-    expect_end(what, (status, b"", f"bsp_office: {file}: {cause}\n".encode()), [*RUN, file])
+    """The program is not started over this file, and says why in one line; B02 and B04 are a line of their own before it."""
+    code = f"{cause[:3]}\n" if status == 1 else ""
+    expect_end(what, (status, b"", f"{code}bsp_office: {file}: {cause}\n".encode()), [*RUN, file])
 
 
 OTHER_VERSION = "B04 a book of another version"
 DAMAGED = "B02 no book, or a damaged one"
 IN_USE = "B03 database is locked"
-NOT_OPENED = "B03 unable to open database file"
+NOT_OPENED = "B03 unable to open database file: "
+DENIED = "Permission denied (os error 13)"
 NO_DATABASE = "B03 file is not a database that obeys its schema"
 
 TICKET = """agent, '1300000004', canx, 2, airline, code, issued, period, alive, name, fare, taxes, rate, commission,
@@ -451,8 +453,14 @@ def changed(script):
 def not_opened():
     """Files that are no book."""
     os.mkdir("folder")
-    for what, file in ("a directory", "folder"), ("no folder", "missing/it"), ("a URI", "file:it"), ("memory", ":memory:"):
-        refusal(what, file, NOT_OPENED, 3)
+    refusal("a directory", "folder", NOT_OPENED + "it is a directory", 3)
+    refusal("no folder", "missing/it", NOT_OPENED + "No such file or directory (os error 2)", 3)
+    refusal("a URI", "file:it", NOT_OPENED + "it names no file", 3)
+    refusal("memory", ":memory:", NOT_OPENED + "it names no file", 3)
+    expect("no file is made", [], [str(it) for it in pathlib.Path().glob("*:*")])
+    shutil.copy("office.db", "one.db")
+    os.link("one.db", "two.db")
+    refusal("a second name", "one.db", NOT_OPENED + "it has a second name", 3)
     pathlib.Path("text").write_text("no database\n" * 1000, encoding="utf-8")
     refusal("a text", "text", NO_DATABASE, 3)
     expect("the text is as it was", "no database\n" * 1000, pathlib.Path("text").read_text(encoding="utf-8"))
@@ -469,11 +477,11 @@ def read_only():
     shutil.copy("office.db", "read-only.db")
     os.chmod("read-only.db", 0o444)
     if os.getuid() != 0:
-        refusal("a read-only file", "read-only.db", NOT_OPENED, 3)
+        refusal("a read-only file", "read-only.db", NOT_OPENED + DENIED, 3)
         return
     os.chmod(".", 0o777)
     shutil.copy(PROGRAM, "program")
-    line = f"bsp_office: read-only.db: {NOT_OPENED}\n".encode()
+    line = f"bsp_office: read-only.db: {NOT_OPENED}{DENIED}\n".encode()
     other = {"user": 65534, "group": 65534, "extra_groups": []}
     expect_end("a read-only file", (3, b"", line), ["./program", *RUN[1:], "read-only.db"], **other)
 

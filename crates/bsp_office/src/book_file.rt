@@ -6,10 +6,15 @@ use std::fs::{self, OpenOptions};
 use std::io;
 use std::os::unix::fs::{MetadataExt, OpenOptionsExt};
 
+/// Whether SQLite takes the name for memory or for a URI, and not for a file.
+fn names_no_file(file: &str) -> bool {
+    file == ":memory:" || file.starts_with("file:")
+}
+
 /// Makes an empty file where there is none, with the mode 0600: a book has the tokens of all callers. Where it cannot be
 /// made, the opening says why. Names that SQLite takes for no file are left to the opening.
 pub(crate) fn make_private(rt: &HostRuntime, file: &str) {
-    if file == ":memory:" || file.starts_with("file:") {
+    if names_no_file(file) {
         return;
     }
     let mut options = OpenOptions::new();
@@ -25,6 +30,9 @@ fn has_journal(rt: &HostRuntime, file: &str) -> io::Result<bool> {
 
 /// Why the system does not let the file be opened as a database, as far as it says; else nothing.
 fn refusal(rt: &HostRuntime, file: &str) -> io::Result<&'static str> {
+    if names_no_file(file) {
+        return Ok(": it names no file");
+    }
     let found = fs::metadata(rt, file)?;
     if found.is_dir() {
         return Ok(": it is a directory");

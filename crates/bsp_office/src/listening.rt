@@ -15,11 +15,11 @@ use std::net::{Shutdown, TcpListener, TcpStream};
 use std::time::Duration;
 use thiserror::Error;
 
-/// The bytes of a peer that are read and dropped at once behind the last response to it.
-const PIECE: usize = 8192;
+/// The bytes of a peer that are read and dropped behind the last response to it: the most that a body may have.
+const LINGERING: usize = 4_194_304;
 
-/// How often that is done: for 4,194,304 bytes in all, the most that a body may have.
-const PIECES: usize = 512;
+/// The bytes that are read at once there.
+const PIECE: usize = 8192;
 
 /// Why the office stopped before its last connection.
 #[derive(Clone, Copy, Debug, PartialEq, Eq, Hash, Error)]
@@ -48,13 +48,17 @@ impl Remarks<'_> {
     }
 }
 
-/// Reads and drops what a peer sends: at most so many pieces, and until it ends, or a read fails.
+/// Reads and drops what a peer sends: about `LINGERING` bytes at most, and until it ends, or a read fails.
 fn drop_rest<R: Read>(reader: &mut R) {
     let mut room = [0; PIECE];
-    for _ in 0..PIECES {
+    let mut left = LINGERING;
+    for _ in 0..LINGERING {
         match reader.read(&mut room) {
             Ok(0) | Err(_) => return,
-            Ok(_) => {}
+            Ok(count) => left = left.saturating_sub(count),
+        }
+        if left == 0 {
+            return;
         }
     }
 }
@@ -109,7 +113,9 @@ fn serve_stream<B: Book>(
     };
     let (mut input, mut output) = (Noted::new(stream), Noted::new(output));
     let served = visit(alloc, routes, &mut input, &mut output, desk);
-    let _ = output.flush();
+    if !output.has_failed() {
+        let _ = output.flush();
+    }
     linger(stream, served);
     remarks.ended(number, served);
     served

@@ -1,8 +1,6 @@
-//! The tests of the rows of a book, and of the maps and tables that keep them in memory, and of a roll-back of a book in memory.
+//! The tests of the rows of a book, and of the maps and tables that keep them in memory.
 #![tactic(auto)]
 
-#[cfg(test)]
-mod book;
 #[cfg(test)]
 mod indexes;
 #[cfg(test)]
