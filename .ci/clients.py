@@ -198,7 +198,7 @@ def early_replies():
     """A reply that comes before the request was read whole arrives, each time."""
     it = office.Office(PROGRAM, None, "--token", OFFICE, "--timeout", 10, seconds=30)
     asked = {
-        413: {"body": b"1" * 5_000_000},
+        413: {"body": b"1" * 4_200_000},
         501: {"headers": {"Transfer-Encoding": "chunked"}, "encode_chunked": True},
         431: {"headers": {"X": "1" * 20_000}},
     }
