@@ -1,6 +1,6 @@
 #!/usr/bin/env python3
 """Asks the built program over loopback with real clients, curl and Python's http.client, and compares what they receive;
-the same behind nginx, with samples/nginx.conf, where the machine has nginx; tries peers that are idle, that never read,
+the same behind nginx, with samples/nginx.conf, where the machine has nginx; tries samples/bsp_office.service, and peers that are idle, that never read,
 that speak TLS and that send what is not read; and runs `serve` and `run` where they cannot serve, and compares the statuses and the lines on standard error.
 Exits with the number of cases that differ.
 
@@ -152,17 +152,34 @@ def behind_nginx():
     expect("behind nginx: the end", (0, "bsp_office: 6 connections served\n"), it.ended())
 
 
+def as_a_service():
+    """The words of samples/bsp_office.service start the office; systemd reads the file, where the machine has it."""
+    unit = office.sample("bsp_office.service").decode()
+    path, *words = re.search("^ExecStart=(.*)$", unit, re.MULTILINE)[1].split()
+    names = {"/etc/bsp_office.token": "service.token", "/var/lib/bsp_office/office.db": "service.db"}
+    words = [names.get(word, word) for word in words]
+    with open("service.token", "w", encoding="utf-8") as file:
+        file.write(f"{OFFICE}\n")
+    with office.Office(PROGRAM, "service.token", "--db", "service.db") as it:
+        expect("as a service: the words", words, ["serve", "--port", "8080", *it.words[3:]])
+        expect("as a service: it answers", 200, it.ask("POST", "/office/day", OFFICE, '{"day":"2024-01-05"}')[0])
+    if shutil.which("systemd-analyze"):
+        with open("bsp_office.service", "w", encoding="utf-8") as file:
+            file.write(unit.replace(path, PROGRAM))
+        expect_end("as a service: systemd", (0, b"", b""), ["systemd-analyze", "verify", "--man=no", "./bsp_office.service"])
+
+
 SECONDS = 1
 
 
 def held_up(what, hold):
-    """A peer that does what `hold` says holds up another for some timeouts at most: each read and each write has its own."""
+    """A peer that does what `hold` says holds up another for the timeout at most."""
     it = office.Office(PROGRAM, None, "--token", OFFICE, "--timeout", SECONDS, seconds=30)
     with it, socket.create_connection(("127.0.0.1", it.port)) as peer:
         hold(peer)
         begun = time.monotonic()
         expect(f"{what}: another is answered", 403, it.ask("GET", "/agents/12345675/stock", "x")[0])
-        expect(f"{what}: in time", True, time.monotonic() - begun < 10 * SECONDS)
+        expect(f"{what}: in time", True, time.monotonic() - begun < SECONDS + 0.5)
 
 
 def never_read(peer):
@@ -198,7 +215,7 @@ def early_replies():
     """A reply that comes before the request was read whole arrives, each time."""
     it = office.Office(PROGRAM, None, "--token", OFFICE, "--timeout", 10, seconds=30)
     asked = {
-        413: {"body": b"1" * 4_200_000},
+        413: {"body": b"1" * 5_000_000},
         501: {"headers": {"Transfer-Encoding": "chunked"}, "encode_chunked": True},
         431: {"headers": {"X": "1" * 20_000}},
     }
@@ -243,6 +260,21 @@ def replies_before_bodies():
         expect("the reply to the body", True, taken(peer, b"}").endswith(b'{"result":"held"}'))
 
 
+def logged():
+    """With --log each reply has a line: the method, the target, the status, the code and the bytes of the body."""
+    it = office.Office(PROGRAM, None, "--token", OFFICE, "--log", "--connections", 3, seconds=10)
+    expect("logged: a day", 200, it.ask("POST", "/office/day", OFFICE, '{"day":"2024-01-05"}')[0])
+    expect("logged: no route", 404, it.ask("GET", "/x?token=1")[0])
+    it.close()
+    for text in b"GET /a\xc3\xa9\\ HTTP/1.0\r\n\r\n", b"GET\r\n\r\n":
+        with socket.create_connection(("127.0.0.1", it.port), timeout=10) as raw:
+            raw.sendall(text)
+            expect("logged: it is answered", True, raw.recv(12).startswith(b"HTTP/1.1 4"))
+    lines = ["POST /office/day 200 - 17", "GET /x?token=1 404 N02 14", "GET /a\\xc3\\xa9\\ 404 N02 14", "- - 400 T01 14",
+             "3 connections served"]
+    expect("logged: the lines", (0, "".join(f"bsp_office: {line}\n" for line in lines)), it.ended())
+
+
 def cannot_serve(what, status, error, *words, text=b""):
     """Runs the program where it cannot serve. `error` is a pattern of what it prints on standard error."""
     ended = subprocess.run([PROGRAM, *words], input=text, capture_output=True, timeout=10)
@@ -260,6 +292,7 @@ def refused():
         words = ["serve", "--port", port, "--token"]
         cannot_serve("a port in use", 3, f"bsp_office: port {port} is in use\n", *words, OFFICE)
         cannot_serve("a wrong token before the port", 2, "error: .*\n", *words, "short")
+        cannot_serve("a book before the port", 3, "bsp_office: .: B03 .*: it is a directory\n", *words, OFFICE, "--db", ".")
     cannot_serve("no such file", 3, "bsp_office: missing: .*\n", "run", "--token-file", "missing")
     cannot_serve("a directory", 3, "bsp_office: .: .*\n", "run", "--token-file", ".")
     for text in "short\n", "", f"{OFFICE} \n", f"\n{OFFICE}\n", f"{OFFICE}\n" * 1000:
@@ -292,7 +325,8 @@ def run_twice():
     for words, second in *((words, "done") for words in memory), (["--token", OFFICE, "--db", "office.db"], "held"):
         before = os.listdir()
         for result in "done", second:
-            wanted = (0, (reply % result).encode(), b"")
+            day = "new book" if result == "done" else "day 2000-01-01, 0 of 2 periods closed, 0 agents, 0 airlines, 0 items, 0 memos"
+            wanted = (0, (reply % result).encode(), f"bsp_office: office.db: {day}\n".encode() if "--db" in words else b"")
             expect_end(f"run {words}: a plan", wanted, [PROGRAM, "run", *words], input=head.encode() + plan)
         made = {"office.db", "office.db-wal"} if "--db" in words else set()
         expect(f"run {words}: files that it made", made, set(os.listdir()) - set(before))
@@ -304,9 +338,11 @@ def main():
         with_curl()
         with_http_client()
         behind_nginx()
+        as_a_service()
         timeouts()
         early_replies()
         replies_before_bodies()
+        logged()
         refused()
         run_on_standard_input()
         run_twice()

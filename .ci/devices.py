@@ -94,20 +94,13 @@ REPORTS = {"check": SALE, "hotcheck": NO_DOCUMENTS}
 def stepped(steps, log="log"):
     """The programs that begin meanwhile have these steps. The file has their log."""
     pathlib.Path(log).unlink(missing_ok=True)
-    names = {"LD_PRELOAD": os.path.abspath("steps.so"), "STEPS": steps, "STEPS_LOG": log}
+    names = office.stepping(steps, log)
     os.environ.update(names)
     try:
         yield
     finally:
         for name in names:
             del os.environ[name]
-
-
-def logged(log="log"):
-    """How many calls there were of what the steps name, and how many bytes they moved; -1 where there is no log."""
-    path = pathlib.Path(log)
-    calls, moved = path.read_text().split() if path.exists() else (-1, -1)
-    return int(calls), int(moved)
 
 
 def run(steps, words, text="/dev/null"):
@@ -119,7 +112,7 @@ def run(steps, words, text="/dev/null"):
 
 def made_calls(what, steps):
     """All steps were made, and no call behind one that fails or moves no byte."""
-    calls, wanted = logged()[0], len(steps.split()) - 2
+    calls, wanted = office.logged()[0], len(steps.split()) - 2
     ends = steps.endswith(("fails", " 0"))
     office.expect(f"{what}: calls", wanted if ends else max(calls, wanted), calls)
 
@@ -132,7 +125,7 @@ def reads():
             place = "standard input" if file == "-" else file
             text = {0: "", 1: f"bsp_office: {place}: {CUT[command]}\n", 3: f"bsp_office: {place}: a read failed\n"}[status]
             office.expect(what, (status, output, text, length if file == "-" else 0), found)
-            office.expect(f"{what}: bytes read", length, logged()[1])
+            office.expect(f"{what}: bytes read", length, office.logged()[1])
             made_calls(what, all_steps)
 
 
@@ -160,7 +153,7 @@ def each_in_turn(words, text, function, report):
     """Each call of the function in turn moves one byte, is interrupted, or fails."""
     name = f"{' '.join(words)}, {text}, {function}"
     office.expect(name, (0, report, ""), run(function, words, text)[:3])
-    calls, _ = logged()
+    calls, _ = office.logged()
     office.expect(f"{name}: at least one call", True, calls > 0)
     for number in range(calls):
         for kind in "1", "interrupted", "fails":
@@ -168,7 +161,7 @@ def each_in_turn(words, text, function, report):
             status, output, _, _ = run(steps, words, text)
             what = f"{name}: call {number + 1} {kind}"
             office.expect(f"{what}: status", 3 if kind == "fails" else 0, status)
-            part = b"" if function.startswith("read") else report[: logged()[1]]
+            part = b"" if function.startswith("read") else report[: office.logged()[1]]
             office.expect(f"{what}: output", part if kind == "fails" else report, output)
             if kind == "fails":
                 made_calls(what, steps)
@@ -270,15 +263,14 @@ def connections():
         with stepped("accept4 3 nobody", f"log of{words}"):
             begun.append((words, count, serve(*words.split(), seconds=100)))
     for words, count, it in begun:
-        office.expect(f"serve{words}: end", (0, f"bsp_office: {count} connections served\n"), it.ended())
-        office.expect(f"serve{words}: connections", count, logged(f"log of{words}")[0])
+        office.expect(f"serve{words}: end", (0, f"bsp_office: {count:,} connections served\n"), it.ended())
+        office.expect(f"serve{words}: connections", count, office.logged(f"log of{words}")[0])
 
 
 def main():
-    library = [os.environ.get("CC", "cc"), "-O2", "-shared", "-fPIC", "-o", "steps.so", f"{office.TOP}/.ci/steps.c"]
     with tempfile.TemporaryDirectory() as folder:
         os.chdir(folder)
-        subprocess.run(library, check=True)
+        office.build_steps()
         pathlib.Path("v1.ret").write_bytes(office.sample("sale.ret"))
         pathlib.Path("v3.hot").write_bytes(office.sample("no-documents.hot"))
         for part in reads, writes, turns, limit, runs, peers, accepting, ports, connections:

@@ -2,7 +2,7 @@
 # Tries edits of crates/NAME/more-edits: the prover must refuse each by a contract. It works on a copy of the tree, where
 # they take the place of must-fail/. Exits with 1 where an edit is not refused, or is refused only because a proof file names what it took away.
 #
-# usage: .ci/more-edits.sh [CRATE..]           the edits of these crates, or of all
+# usage: .ci/more-edits.sh [CRATE..]           the edits of these crates, or of all; CRATE/NAME is one edit
 #        .ci/more-edits.sh --changed COMMIT    those of the crates that changed since the commit
 #        .ci/more-edits.sh --tenth N           each tenth edit of all crates, from the Nth on: N is 0 to 9
 set -u
@@ -30,7 +30,12 @@ case ${1-} in
   '')
     tried=$(cd "$top/crates" && ls */more-edits/*.edit) ;;
   *)
-    tried=$(cd "$top/crates" && for crate; do ls "$crate"/more-edits/*.edit || echo "$crate/"; done) ;;
+    tried=$(cd "$top/crates" && for it; do
+      case $it in
+        */*) ls "${it%%/*}/more-edits/${it#*/}.edit" || echo "$it" ;;
+        *) ls "$it"/more-edits/*.edit || echo "$it/" ;;
+      esac
+    done) ;;
 esac
 for edit in $tried; do
   mkdir -p "$room/crates/${edit%%/*}/must-fail"

@@ -53,6 +53,24 @@ def expect_end(what, wanted, words, **how):
     return expect(what, wanted, (ended.returncode, ended.stdout, ended.stderr))
 
 
+def build_steps():
+    """Builds .ci/steps.c in this folder."""
+    words = [os.environ.get("CC", "cc"), "-O2", "-shared", "-fPIC", "-o", "steps.so", f"{TOP}/.ci/steps.c"]
+    subprocess.run(words, check=True)
+
+
+def stepping(steps, log="log"):
+    """The variables with which a program that begins in this folder has these steps. The file has their log."""
+    return {"LD_PRELOAD": os.path.abspath("steps.so"), "STEPS": steps, "STEPS_LOG": log}
+
+
+def logged(log="log"):
+    """How many calls there were of what the steps name, and how many bytes they moved; -1 where there is no log."""
+    path = pathlib.Path(log)
+    calls, moved = path.read_text().split() if path.exists() else (-1, -1)
+    return int(calls), int(moved)
+
+
 def finish(line):
     """Prints the line where nothing differed, and ends the script with the number of what did."""
     if not failures:
@@ -67,12 +85,15 @@ class Office:
         self.port, self.seconds = free_port(), seconds
         self.peer = http.client.HTTPConnection("127.0.0.1", self.port, timeout=seconds)
         words = ["serve", "--port", self.port, *(["--token-file", token_file] if token_file else []), *words]
-        self.process = subprocess.Popen([path, *map(str, words)], stderr=subprocess.PIPE, text=True)
-        readable, _, _ = select.select([self.process.stderr], [], [], seconds)
-        line = self.process.stderr.readline() if readable else "nothing"
+        self.words = [str(word) for word in words]
+        self.process = subprocess.Popen([path, *self.words], stderr=subprocess.PIPE, text=True)
+        select.select([self.process.stderr], [], [], seconds)
+        # what it says of the book that it opened, before it listens
+        self.opened = self.process.stderr.readline() if "--db" in words else ""
+        line = self.process.stderr.readline()
         if line != f"bsp_office: listening on 127.0.0.1:{self.port}\n":
             self.kill()
-            raise RuntimeError(f"{' '.join(map(str, words))}: it does not listen, and printed {line!r}")
+            raise RuntimeError(f"{' '.join(self.words)}: it does not listen, and printed {self.opened + line!r}")
 
     def __enter__(self):
         return self

@@ -1,8 +1,10 @@
 /* Put in front of the C library by LD_PRELOAD, this has a process's calls of one function on one
    descriptor move little, be interrupted or fail. The variable STEPS names the function, the
    descriptor, and then what each call does in turn, as in "read 0 137 interrupted fails": a number is
-   the most bytes that the call moves. A call behind the last step is as without this. The function is
-   read, write, bind or accept4; one that moves no bytes is as without this where its step is a number.
+   the most bytes that the call moves. A call behind the last step is as without this; a last step with
+   a star, as "1*", is that of all later calls, too. The function is read, write, bind or accept4; one
+   that moves no bytes is as without this where its step is a number. STEPS has at most 8,191
+   characters: a process with more is ended by abort.
    A step "nobody" has this and all later calls of accept4 answer a peer that sends nothing and ends.
    When the process ends, the file that STEPS_LOG names has how many calls there were, and how many
    bytes they moved. */
@@ -24,8 +26,10 @@ static long calls, moved;
 
 __attribute__((constructor)) static void begin(void) {
   const char *text = getenv("STEPS");
-  if (!text || strlen(text) >= sizeof steps)
+  if (!text)
     return;
+  if (strlen(text) >= sizeof steps)
+    abort();
   rest = strcpy(steps, text);
   function = strsep(&rest, " ");
   descriptor = atoi(rest ? strsep(&rest, " ") : "-1");
@@ -44,12 +48,20 @@ static int is_named(const char *name, int fd) {
   return fd == descriptor && strcmp(name, function) == 0;
 }
 
+/* The step of this call, or NULL behind the last. */
+static const char *step_of_call(void) {
+  static const char *step;
+  if (!step || !strchr(step, '*'))
+    step = rest ? strsep(&rest, " ") : NULL;
+  return step;
+}
+
 /* The most bytes that this call moves, or -1 where it fails. */
 static ssize_t next(const char *name, int fd, size_t count) {
   if (!is_named(name, fd))
     return count;
   calls++;
-  const char *step = rest ? strsep(&rest, " ") : NULL;
+  const char *step = step_of_call();
   if (!step)
     return count;
   is_nobody = strcmp(step, "nobody") == 0;

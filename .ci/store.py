@@ -4,8 +4,8 @@ the requests of a month, with the program killed after each reply, are answered 
 were answered before a kill at any moment are there afterwards; the file passes SQLite's integrity check; a book that
 SQLite wrote is opened; the queries of docs/TABLES.md agree with the replies; the examples 22, 26, 27, 41 to 43 and 49
 of docs/EXAMPLES.md are as it says; a book of 10,000 requests, opened again, gives the same statements; and a file that
-is no book, or is a damaged one, is refused with its status and one line on standard error. Exits with the number of
-cases that differ.
+is no book, or is a damaged one (.ci/damages.py), is refused with its status and one line on standard error. Exits with
+the number of cases that differ.
 
 usage: .ci/store.py [PROGRAM]   (with no PROGRAM it takes the one that is built)
 """
@@ -17,11 +17,13 @@ import random
 import re
 import shutil
 import sqlite3
+import subprocess
 import sys
 import tempfile
 import threading
 import time
 
+import damages
 import office
 from office import TOP, expect, expect_end, sample
 
@@ -293,6 +295,35 @@ def killed_at_any_moment():
     expect("integrity of any.db", [("ok",)], rows_of("any.db", "PRAGMA integrity_check"))
 
 
+def full_disk():
+    """Where the disk is full a request is answered 503 B03, and so is each later one; a line has the store's error. What was
+    answered before is there when the office is started again."""
+    program = opened("full.db")
+    answers(program, setting_up())
+    program.kill()
+    most = max(os.path.getsize(it) for it in ("full.db", "full.db-wal")) // 1024 + 16
+    pathlib.Path("limited").write_text(f"#!/bin/bash\ntrap '' XFSZ\nulimit -f {most}\nexec {PROGRAM} \"$@\"\n", encoding="utf-8")
+    os.chmod("limited", 0o755)
+    program = office.Office("./limited", None, "--token", OFFICE, "--db", "full.db")
+    number, replies = 1300000000, []
+    while number < 1300000090 and 503 not in replies:
+        replies.append(ask(program, of_agent(A, "POST", "ret", sale_of(number)))[0])
+        number += 1
+    for request in of_agent(A, "GET", "stock"), of_office("POST", "day", '{"day":"2024-01-16"}'):
+        expect("after a full disk", (503, '{"code":"B03"}'), ask(program, request))
+    program.process.terminate()
+    lines = program.process.stderr.read().splitlines()
+    error = r" 503 B03 14: (disk I/O error|database or disk is full)"
+    for line, wanted in zip(lines, ("POST /agents/12345675/ret", "GET /agents/12345675/stock", "POST /office/day")):
+        expect(f"a full disk: {line}", True, re.fullmatch(f"bsp_office: {wanted}{error}", line) is not None)
+    expect("a full disk: the lines", 3, len(lines))
+    program.kill()
+    program = opened("full.db")
+    there = [is_there(program, it) for it in range(1300000000, number - 1)]
+    expect("sales before a full disk", [True] * replies.count(200), there)
+    program.kill()
+
+
 def rows_of(file, query):
     with contextlib.closing(sqlite3.connect(file)) as it:
         return it.execute(query).fetchall()
@@ -350,7 +381,7 @@ def stored_run():
     """The stored run of the program has the same bytes over a file."""
     crate = TOP / "crates" / "bsp_office"
     words = (crate / "args").read_text(encoding="utf-8").split()
-    wanted = 0, (crate / "stdout").read_bytes(), b""
+    wanted = 0, (crate / "stdout").read_bytes(), b"bsp_office: stored.db: new book\n"
     expect_end("the stored run", wanted, [PROGRAM, *words, "--db", "stored.db"], input=(crate / "stdin").read_bytes())
 
 
@@ -358,10 +389,11 @@ def on_standard_input():
     """Example 39 on standard input and output, over a new file and over the same again."""
     head = b"POST /office/day HTTP/1.1\r\nHost: bsp\r\nBsp-Token: %s\r\n" % OFFICE.encode()
     asked = head + b'Expect: 100-continue\r\nContent-Length: 20\r\n\r\n{"day":"2024-01-05"}'
-    for result in b"done", b"held":
+    day = "day 2024-01-05, 0 of 0 periods closed, 0 agents, 0 airlines, 0 items, 0 memos"
+    for result, book in (b"done", "new book"), (b"held", day):
         reply = b"HTTP/1.1 100 Continue\r\n\r\nHTTP/1.1 200 OK\r\nContent-Type: application/json\r\n" \
             b'Content-Length: 17\r\n\r\n{"result":"%s"}' % result
-        expect_end(f"run, {result.decode()}", (0, reply, b""), [*RUN, "run.db"], input=asked)
+        expect_end(f"run, {result.decode()}", (0, reply, f"bsp_office: run.db: {book}\n".encode()), [*RUN, "run.db"], input=asked)
 
 
 def refusal(what, file, cause, status):
@@ -377,60 +409,29 @@ NOT_OPENED = "B03 unable to open database file: "
 DENIED = "Permission denied (os error 13)"
 NO_DATABASE = "B03 file is not a database that obeys its schema"
 
-TICKET = """agent, '1300000004', canx, 2, airline, code, issued, period, alive, name, fare, taxes, rate, commission,
-    rel_airline, rel_number, rel_check, ca, cc, ex, vendor"""
-CANX = """agent, number, 1, check_digit, airline, 'CANX', issued, period, 1, name, NULL, NULL, NULL, NULL,
-    NULL, NULL, NULL, NULL, NULL, NULL, NULL"""
-SOLD = f"agent = '{A}' AND airline = '125' AND period = '24011'"
-CARD = f"agent = '{A}' AND airline = '220' AND period = '24011'"
 
-# each is made to a book without fault, and it is no sound book then
-DAMAGES = {
-    "a range that meets another": f"UPDATE stock SET lo = '1300000050' WHERE agent = '{B}'",
-    "an item out of stock": "UPDATE item SET number = '1500000000', check_digit = 2 WHERE number = '1300000001'",
-    "a ticket under the key of a CANX": f"""INSERT INTO item SELECT {CANX.replace("'CANX'", "code")} FROM item
-        WHERE number = '1300000008'""",
-    "a related document of another airline": "UPDATE item SET rel_airline = '220' WHERE number = '1300000003'",
-    "a second relation to a ticket": f"""INSERT INTO item SELECT {TICKET} FROM item WHERE number = '1300000003';
-        UPDATE tally SET accepted = accepted + 1, living = living + 1, cash = cash + 5000,
-        commission = commission + 250 WHERE {SOLD}""",
-    "a memo billed in an open period": "UPDATE memo SET billed = '24012' WHERE number = '7000000001'",
-    "a tally that is one more": f"UPDATE tally SET cash = cash + 1 WHERE {SOLD}",
-    "a ticket that ended without a CANX": f"""UPDATE item SET alive = 0 WHERE number = '1300000008';
-        UPDATE tally SET living = 0, credit = 0 WHERE {CARD}""",
-    "a CANX of a ticket that was exchanged": f"""INSERT INTO item SELECT {CANX} FROM item WHERE number = '1300000001';
-        UPDATE item SET alive = 0 WHERE number = '1300000001' AND canx = 0;
-        UPDATE tally SET accepted = accepted + 1, canx = canx + 1, living = living - 1, cash = cash - 23500,
-        commission = commission - 1000 WHERE {SOLD}""",
-    "a ticket without its cash": f"""UPDATE item SET ca = NULL WHERE number = '1300000001';
-        UPDATE tally SET cash = cash - 23500 WHERE {SOLD}""",
-    "a disputed memo that is billed": "UPDATE memo SET state = 'disputed' WHERE number = '7000000001'",
-    "a token of an agent out of its form": f"UPDATE agent SET token = '' WHERE code = '{B}'",
-    "a token of an airline out of its form": "UPDATE airline_token SET token = '' WHERE airline = '220'",
-    "a range of no agent": "INSERT INTO stock VALUES ('12345686', '1600000000', '1600000009')",
-    "an airline out of its place": "UPDATE airline SET place = 3 WHERE code = '220'",
-    "items that live no more": "UPDATE item SET alive = 0",
-    "no tallies": "DELETE FROM tally",
-    "a second row of the day": "INSERT INTO meta SELECT * FROM meta",
-    "no table of memos": "DROP TABLE memo",
-    "a further table": "CREATE TABLE note (text TEXT NOT NULL) STRICT",
-    "a memo of no kind": "UPDATE memo SET kind = 'X' WHERE number = '7000000001'",
-    "a tally too few": f"DELETE FROM tally WHERE {CARD}",
-    "no row of the day": "DELETE FROM meta",
-}
+def tallies_anew():
+    """Statements that make the tallies anew, with the sums of docs/TABLES.md."""
+    sums, _, _ = queries()[3].partition("SELECT * FROM (")
+    return f"DELETE FROM tally; {sums} INSERT INTO tally SELECT * FROM summed"
 
 
-# each makes it a book of another version
-VERSIONS = {
-    "version 9": "UPDATE meta SET version = 9",
-    "version 9, with other tables": "UPDATE meta SET version = 9; DROP TABLE tally",
-    "version 2, on another day": "UPDATE meta SET version = 2, day = 10957, closed = 0",
-}
+def rules_broken():
+    """Rows that break a rule are refused, although their tallies agree. The nearest rows that break none are opened."""
+    anew = tallies_anew()
+    for what, (change, *texts) in damages.RULES.items():
+        broken, sound = (f"{change.replace('?', str(it))}; {anew}" for it in texts)
+        changed(broken)
+        refusal(what, "copy.db", DAMAGED, 1)
+        changed(sound)
+        ended = subprocess.run([*RUN, "copy.db"], input=b"", capture_output=True, timeout=60)
+        opened_it = re.fullmatch(rb"bsp_office: copy\.db: day .*\n", ended.stderr) is not None
+        expect(f"nearly {what}", (0, b"", True), (ended.returncode, ended.stdout, opened_it))
 
 
 def damaged():
     """Each damage of a copy of the book is seen, and the book itself is as it was."""
-    for cause, changes in (DAMAGED, DAMAGES), (OTHER_VERSION, VERSIONS):
+    for cause, changes in (DAMAGED, damages.DAMAGES), (OTHER_VERSION, damages.VERSIONS):
         for what, script in changes.items():
             changed(script)
             refusal(what, "copy.db", cause, 1)
@@ -500,8 +501,10 @@ def main():
         example_43()
         kept_order()
         killed_at_any_moment()
+        full_disk()
         stored_run()
         on_standard_input()
+        rules_broken()
         damaged()
         not_opened()
         many_requests()

@@ -17,19 +17,7 @@ NO_RT = "/usr/bin:/bin"
 MADE = "bsp_office-src middle-src low-src"
 OTHER = MADE.replace("low-src", "other")
 PROVED = [f"bsp_office: {crate} is proved, {at} of 3" for at, crate in enumerate(("low", "middle", "bsp_office"), 1)]
-# Notes its words, runs those of $during, proves all crates but $failing, and makes a program of their sources.
-RT = r"""#!/usr/bin/env bash
-kit=${0%/bin/rt} && echo "$*" >>"$kit/calls"
-[ "$1" != version ] || exec cat "$kit/version"
-eval "$during"
-for it in $(sed 's/:.*//' crates.txt); do
-  printf '%s\n' "== $it" "fn $it::first: proved"
-  [ "$it" != "$failing" ] || { printf '%s\n' "fn $it::second: no proof" "rt: $it NOT PROVED"; exec sleep 60; }
-  echo "rt: $it proved"
-done
-cd crates && printf '%s\n' '#!/bin/sh' "made='$(echo $(cat bsp_office/*/* middle/*/* low/*/*))'" 'case $1 in made) echo "$made" ;;
-  status) exit "$2" ;; *) pwd; printf "<%s>\n" "$@"; cat ;; esac' | install -D -m 755 /dev/stdin bsp_office/out/bsp_office
-"""
+RT = (TOP / ".ci" / "wrapper_rt.sh").read_text(encoding="utf-8")
 
 
 class Room:
@@ -147,6 +135,8 @@ class Room:
             expect(f"{number.name}: neither rt nor the copy is left", [False], left)
 
 
+# a signal that this script was begun without is one for the scripts that it begins
+signal.signal(signal.SIGINT, signal.SIG_DFL)
 for case in Room.sources, Room.two_calls_at_once, Room.not_built, Room.words_and_terminal, Room.signals:
     with tempfile.TemporaryDirectory() as folder:
         case(Room(pathlib.Path(folder) / case.__name__))

@@ -55,7 +55,7 @@ class Office:
         port, begun = free_port(), time.perf_counter()
         words = ["serve", "--port", str(port), "--token", make_requests.OFFICE, *(["--db", file] if file else [])]
         self.it = subprocess.Popen([PROGRAM, *words], stderr=subprocess.PIPE, text=True)
-        if "listening" not in self.it.stderr.readline():
+        if not any("listening" in line for line in self.it.stderr):
             sys.exit("the program does not listen")
         self.opening = time.perf_counter() - begun
         self.peer = http.client.HTTPConnection("127.0.0.1", port, timeout=600)

@@ -33,7 +33,9 @@ fn ask_ignoring<R: Read, D, S: Service<D>>(
     service: &S,
     desk: &mut D,
     message: &Message<'_>,
+    found: S::Found,
 ) -> Result<(usize, Answer), Short>
+    requires finds { S.finds message.now.method.now message.now.target.now found }
     requires within { place.head ≤ length place.received.now }
     requires use_is { S.means.uses message.now.method.now message.now.target.now BodyUse.Ignored }
     ensures asked { (got : List ℕ) × Consumes (R.remaining reader.old.inner) (R.remaining reader.new.inner) got
@@ -50,7 +52,7 @@ fn ask_ignoring<R: Read, D, S: Service<D>>(
         &mut bodies.chunk,
         &mut IgnoredBody,
     )?;
-    Ok((have, service.answer(desk, message, b"")))
+    Ok((have, service.answer(desk, message, found, b"")))
 }
 
 /// Keeps the body whole, and asks the service.
@@ -61,7 +63,9 @@ fn ask_keeping<R: Read, D, S: Service<D>>(
     service: &S,
     desk: &mut D,
     message: &Message<'_>,
+    found: S::Found,
 ) -> Result<(usize, Answer), Short>
+    requires finds { S.finds message.now.method.now message.now.target.now found }
     requires within { place.head ≤ length place.received.now }
     requires use_is { S.means.uses message.now.method.now message.now.target.now BodyUse.Kept }
     ensures asked { (got : List ℕ) × Consumes (R.remaining reader.old.inner) (R.remaining reader.new.inner) got
@@ -78,7 +82,10 @@ fn ask_keeping<R: Read, D, S: Service<D>>(
         &mut bodies.chunk,
         &mut bodies.kept,
     )?;
-    Ok((have, service.answer(desk, message, bodies.kept.bytes())))
+    Ok((
+        have,
+        service.answer(desk, message, found, bodies.kept.bytes()),
+    ))
 }
 
 /// Asks the service with the RET file that the body is, or its first fault.
@@ -91,16 +98,18 @@ fn answer_read<D, S: Service<D>>(
     service: &S,
     desk: &mut D,
     message: &Message<'_>,
+    found: S::Found,
 ) -> Result<Answer, NoRoom>
-    requires { S.means.uses message.now.method.now message.now.target.now BodyUse.RetFile }
+    requires finds { S.finds message.now.method.now message.now.target.now found }
+    requires use_is { S.means.uses message.now.method.now message.now.target.now BodyUse.RetFile }
     ensures answered { IfOk result (λ answer. (bytes : List ℕ) → HasRet body.old bytes → S.means.steps desk.old (request_of message.now bytes) (answer_text answer) desk.new) }
     ensures refused { OnErr result ((desk.new ≡ desk.old) × ((bytes : List ℕ) → HasRet body.old bytes → 0 < length bytes)) }
 {
     if let Err(fault) = body.finish() {
-        return Ok(service.answer_file(desk, message, Err(fault)));
+        return Ok(service.answer_file(desk, message, found, Err(fault)));
     }
     match body.file() {
-        Ok(file) => Ok(service.answer_file(desk, message, Ok(&file))),
+        Ok(file) => Ok(service.answer_file(desk, message, found, Ok(&file))),
         Err(_) => Err(NoRoom),
     }
 }
@@ -113,7 +122,9 @@ fn ask_reading<R: Read, D, S: Service<D>>(
     service: &S,
     desk: &mut D,
     message: &Message<'_>,
+    found: S::Found,
 ) -> Result<(usize, Answer), Short>
+    requires finds { S.finds message.now.method.now message.now.target.now found }
     requires within { place.head ≤ length place.received.now }
     requires use_is { S.means.uses message.now.method.now message.now.target.now BodyUse.RetFile }
     ensures asked { (got : List ℕ) × Consumes (R.remaining reader.old.inner) (R.remaining reader.new.inner) got
@@ -130,7 +141,7 @@ fn ask_reading<R: Read, D, S: Service<D>>(
         &mut bodies.chunk,
         &mut bodies.file,
     )?;
-    match answer_read(&mut bodies.file, service, desk, message) {
+    match answer_read(&mut bodies.file, service, desk, message, found) {
         Ok(answer) => Ok((have, answer)),
         Err(_) => Err(Short::NoRoom),
     }
@@ -157,9 +168,10 @@ pub(crate) fn ask<R: Read, D, S: Service<D>>(
     ensures failed { reader.new.failed ≡ failed_by_body reader.old.failed result }
     ensures empty { reader.new.empty ≤ reader.old.empty + most_empty_of_body result }
 {
-    match service.body_use(message.method, message.target) {
-        BodyUse::Ignored => ask_ignoring(reader, place, bodies, service, desk, message),
-        BodyUse::Kept => ask_keeping(reader, place, bodies, service, desk, message),
-        BodyUse::RetFile => ask_reading(reader, place, bodies, service, desk, message),
+    let found = service.find(message.method, message.target);
+    match service.body_use(message, found) {
+        BodyUse::Ignored => ask_ignoring(reader, place, bodies, service, desk, message, found),
+        BodyUse::Kept => ask_keeping(reader, place, bodies, service, desk, message, found),
+        BodyUse::RetFile => ask_reading(reader, place, bodies, service, desk, message, found),
     }
 }

@@ -29,7 +29,7 @@ pub const MESSAGE_LIMIT: usize = 65_536;
 ///
 /// `Memory` before anything was read or written. `Read` where a read failed: exactly the messages that were
 /// complete were answered. `Write` where a write failed, or took no byte: a first part of the responses was
-/// written, and what the desk was asked before stays.
+/// written, and what the desk was asked before stays. No more is written once a call of the writer has failed.
 pub fn serve<R: Read, W: Write, D, S: Service<D>>(
     alloc: Global,
     reader: &mut Noted<R>,

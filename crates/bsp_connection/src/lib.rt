@@ -30,5 +30,6 @@ pub use noted::Noted;
 pub use passing::{Short, pass};
 pub use received::{CAPACITY, ReadFault, Received, read_from};
 pub use ret_body::RetBody;
+pub use sending::{WriteFault, send};
 pub use service::{Answer, BodyUse, Message, Service};
 pub use sink::{BodySink, IgnoredBody};

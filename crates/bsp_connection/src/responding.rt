@@ -10,7 +10,7 @@ use crate::Short;
 use crate::end::{End, ServeFault};
 use crate::noted::Noted;
 use crate::sending::{WriteFault, send_response};
-use crate::service::{Answer, Service};
+use crate::service::{Answer, Message, Service};
 use bsp_heads::Refused;
 use bsp_responses::refusal;
 use std::io::Write;
@@ -42,16 +42,20 @@ pub(crate) fn respond<W: Write>(
 }
 
 /// Answers a message whose head is refused, and closes the connection.
-pub(crate) fn refuse<W: Write>(
-    writer: &mut Noted<W>,
+pub(crate) fn refuse<W: Write, D, S: Service<D>>(
     refused: Refused,
+    writer: &mut Noted<W>,
+    service: &S,
+    desk: &D,
 ) -> Result<Option<End>, ServeFault>
     ensures responded { IsResponded (W.contents writer.old.inner) (W.contents writer.new.inner) (response refused.bare true (refusal_reply refused.fault)) true result }
     ensures cause { result ≡ Err ServeFault.Write → writer.new.failed ≡ true }
     ensures noted { writer.old.failed ≡ true → writer.new.failed ≡ true }
     ensures failed { (before : Bool) → failed_by_reads before result ≡ before }
 {
-    let written = send_response(writer, refusal(refused.fault), refused.bare, true);
+    let reply = refusal(refused.fault);
+    service.note(desk, None, &reply);
+    let written = send_response(writer, reply, refused.bare, true);
     behind(true, written)
 }
 
@@ -61,6 +65,8 @@ pub(crate) fn stop<W: Write, D, S: Service<D>>(
     short: Short,
     writer: &mut Noted<W>,
     service: &S,
+    desk: &D,
+    message: &Message<'_>,
     bare: bool,
 ) -> Result<Option<End>, ServeFault>
     ensures stopped { IsStopped S.means short (W.contents writer.old.inner) (W.contents writer.new.inner) bare result }
@@ -72,6 +78,10 @@ pub(crate) fn stop<W: Write, D, S: Service<D>>(
     match short {
         Short::Cut => Ok(Some(End::Cut)),
         Short::Read => Err(ServeFault::Read),
-        Short::NoRoom => respond(writer, &service.no_room(), bare, true),
+        Short::NoRoom => {
+            let answer = service.no_room();
+            service.note(desk, Some(message), &answer.reply());
+            respond(writer, &answer, bare, true)
+        }
     }
 }

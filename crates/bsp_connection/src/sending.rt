@@ -11,14 +11,18 @@ use std::io::Write;
 
 /// A write failed, or took no byte.
 #[derive(Clone, Copy, Debug, PartialEq, Eq)]
-pub(crate) struct WriteFault;
+pub struct WriteFault;
 
-/// Writes the bytes. Where it fails, a first part of them was written.
-pub(crate) fn send<W: Write>(writer: &mut Noted<W>, bytes: &[u8]) -> Result<(), WriteFault>
+/// Writes the bytes. Where it fails, a first part of them was written. Once a call of the writer has failed, nothing
+/// more is written.
+pub fn send<W: Write>(writer: &mut Noted<W>, bytes: &[u8]) -> Result<(), WriteFault>
     ensures written { IsWritten (W.contents writer.old.inner) (W.contents writer.new.inner) bytes.now result }
     ensures cause { OnErr result (writer.new.failed ≡ true) }
     ensures noted { writer.old.failed ≡ true → writer.new.failed ≡ true }
 {
+    if writer.has_failed() {
+        return Err(WriteFault);
+    }
     let mut at = 0;
     while at < bytes.len() {
         match writer.write(&bytes[at..]) {
@@ -47,7 +51,7 @@ pub(crate) fn send_response<W: Write>(
     send(writer, body)
 }
 
-/// Has a writer that holds bytes back send them. A writer that cannot has them still, and fails later.
+/// Has a writer that holds bytes back send them. After a failure nothing more is written.
 pub(crate) fn send_on<W: Write>(writer: &mut Noted<W>)
     ensures kept { Keeps (W.contents writer.old.inner) (W.contents writer.new.inner) }
     ensures noted { writer.old.failed ≡ true → writer.new.failed ≡ true }

@@ -64,19 +64,34 @@ impl Answer {
 
 /// Answers messages at a desk of type `D`.
 pub trait Service<D> {
+    /// What a method and a target ask for, as it is found once for a message.
+    type Found: Copy;
+
     // What is answered, and what the desk is then.
     ghost means: { Meaning D };
 
-    /// What of the body of a request with this method and this target is answered.
-    fn body_use(&self, method: &[u8], target: &[u8]) -> BodyUse
-        ensures { Self.means.uses method.now target.now result };
+    // That a method and a target ask for what was found.
+    ghost finds: { List ℕ → List ℕ → Self.Found → Type 0 };
+
+    /// What a method and a target ask for.
+    fn find(&self, method: &[u8], target: &[u8]) -> Self::Found
+        ensures { Self.finds method.now target.now result };
+
+    /// What of the body of a request is answered, by what was found for it.
+    fn body_use(&self, message: &Message<'_>, found: Self::Found) -> BodyUse
+        requires { Self.finds message.now.method.now message.now.target.now found }
+        ensures { Self.means.uses message.now.method.now message.now.target.now result };
+
+    /// Takes note of a reply before it is written: of the message too, where its head was read.
+    fn note(&self, desk: &D, message: Option<&Message<'_>>, reply: &Reply<'_>);
 
     /// What is answered to a request for whose body there was no memory. Takes no memory.
     fn no_room(&self) -> Answer
         ensures { answer_text result ≡ Self.means.no_room };
 
     /// Answers a request whose body was dropped, or kept whole.
-    fn answer(&self, desk: &mut D, message: &Message<'_>, body: &[u8]) -> Answer
+    fn answer(&self, desk: &mut D, message: &Message<'_>, found: Self::Found, body: &[u8]) -> Answer
+        requires { Self.finds message.now.method.now message.now.target.now found }
         ensures { Self.means.steps desk.old (request_of message.now body.now) (answer_text result) desk.new };
 
     /// Answers a request whose body was read as a RET file: with the file, or its first fault.
@@ -84,7 +99,9 @@ pub trait Service<D> {
         &self,
         desk: &mut D,
         message: &Message<'_>,
+        found: Self::Found,
         file: Result<&RetFile<'_>, RetFault>,
     ) -> Answer
+        requires { Self.finds message.now.method.now message.now.target.now found }
         ensures { Self.means.uses message.now.method.now message.now.target.now BodyUse.RetFile → (bytes : List ℕ) → IsFileRead bytes file.entry → Self.means.steps desk.old (request_of message.now bytes) (answer_text result) desk.new };
 }

@@ -96,8 +96,9 @@ fn answer_message<R: Read, W: Write, D, S: Service<D>>(
     };
     let (have, answer) = match ask(reader, place, &mut room.bodies, service, desk, &message) {
         Ok(asked) => asked,
-        Err(short) => return stop(short, writer, service, wanted.bare),
+        Err(short) => return stop(short, writer, service, desk, &message, wanted.bare),
     };
+    service.note(desk, Some(&message), &answer.reply());
     room.received.skip(head + have);
     let closes = closes_behind(wanted.closes, count);
     respond(writer, &answer, wanted.bare, closes)
@@ -138,7 +139,7 @@ fn answer_head<R: Read, W: Write, D, S: Service<D>>(
 {
     let parts = match read_head(&room.received.bytes()[..head]) {
         Ok(parts) => parts,
-        Err(refused) => return refuse(writer, refused),
+        Err(refused) => return refuse(refused, writer, service, desk),
     };
     let Ok(()) = send(writer, interim(parts.wanted.expects)) else {
         return Err(ServeFault::Write);
@@ -172,7 +173,7 @@ pub(crate) fn turn<R: Read, W: Write, D, S: Service<D>>(
     };
     match arrived {
         Arrived::Head(head) => answer_head(count, head, room, reader, writer, service, desk),
-        Arrived::TooLong => refuse(writer, TOO_LARGE),
+        Arrived::TooLong => refuse(TOO_LARGE, writer, service, desk),
         Arrived::Ended => Ok(Some(end_of_input(room.received.is_empty()))),
     }
 }

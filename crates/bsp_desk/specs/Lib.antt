@@ -18,6 +18,7 @@ pub use Rattle.bsp_messages.specs.declared.reply.Reply
 pub use Rattle.bsp_messages.specs.declared.status.Media
 pub use Rattle.bsp_messages.specs.declared.status.Status
 pub use Rattle.bsp_routes.specs.Calls as RoutesCalls
+pub use Rattle.bsp_routes.specs.Routed
 pub use Rattle.bsp_routes.specs.declared.asking.Asking
 pub use Rattle.bsp_routes.specs.declared.body.BodyKind
 pub use Rattle.bsp_routes.specs.declared.call.AgentCall

@@ -45,6 +45,13 @@ impl<B: Book> Desk<B> {
         })
     }
 
+    /// The book.
+    pub fn book(&self) -> &B
+        ensures { result.now ≡ self.now.book }
+    {
+        &self.book
+    }
+
     /// The book, as the last answer left it.
     pub fn close(self) -> B
         ensures { result ≡ self.book }

@@ -18,7 +18,7 @@ mod transaction;
 pub use bsp_book::{Book, BookFault, ListBook};
 pub use bsp_desk_base::Content;
 pub use bsp_messages::{Body, Media, Reply, RequestRefusal, Status};
-pub use bsp_routes::{Asking, BodyKind, Routes};
+pub use bsp_routes::{Asking, BodyKind, Route, Routes};
 pub use bsp_rows::Token;
 pub use desk::Desk;
 pub use laws::{replies_are_alike, requests_are_read};

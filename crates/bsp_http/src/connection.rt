@@ -7,6 +7,7 @@ ghost use Rattle.bsp_connection.specs.Reads.{failed_by_reads, most_empty};
 ghost use Rattle.bsp_connection.specs.Serving.{Serves};
 ghost use Rattle.bsp_http.specs.Messages.{at_desk};
 
+use crate::journal::Journal;
 use crate::office::Office;
 use bsp_connection::{Noted, ServeFault, Served};
 use bsp_desk::{Book, Desk, Routes};
@@ -14,7 +15,7 @@ use std::alloc::Global;
 use std::io::{Read, Write};
 
 /// Serves one connection to its end: answers its messages at the desk, one behind the other, and writes the
-/// responses.
+/// responses. The journal takes note of each reply before it is written.
 ///
 /// A writer that holds bytes back, as a `BufWriter` does, is flushed before the peer is waited for; who passes one
 /// flushes it in the end.
@@ -25,10 +26,11 @@ use std::io::{Read, Write};
 ///
 /// `Memory` before anything was read or written. `Read` where a read failed: exactly the messages that were
 /// complete were answered. `Write` where a write failed, or took no byte: a first part of the responses was
-/// written, and the changes that were committed stay.
-pub fn serve<R: Read, W: Write, B: Book>(
+/// written, and the changes that were committed stay. No more is written once a call of the writer has failed.
+pub fn serve<R: Read, W: Write, B: Book, J: Journal<B>>(
     alloc: Global,
     routes: &Routes,
+    journal: &J,
     reader: &mut Noted<R>,
     writer: &mut Noted<W>,
     desk: &mut Desk<B>,
@@ -41,5 +43,5 @@ pub fn serve<R: Read, W: Write, B: Book>(
     ensures noted { writer.old.failed ≡ true → writer.new.failed ≡ true }
     ensures reads { reader.new.empty ≤ reader.old.empty + most_empty result }
 {
-    bsp_connection::serve(alloc, reader, writer, &Office { routes }, desk)
+    bsp_connection::serve(alloc, reader, writer, &Office { routes, journal }, desk)
 }

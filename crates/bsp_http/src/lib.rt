@@ -6,11 +6,14 @@
 #![tactic(auto)]
 
 mod connection;
+mod journal;
 mod laws;
 mod office;
 mod replies;
 
-pub use bsp_connection::{End, Noted, ServeFault, Served};
+pub use bsp_connection::{End, Message, Noted, ServeFault, Served};
 pub use bsp_desk::Routes;
+pub use bsp_responses::{Reply, Status};
 pub use connection::serve;
+pub use journal::{Journal, NoJournal};
 pub use laws::{messages_are_read, messages_are_run};

@@ -1,18 +1,23 @@
 //! What an office answers to the messages of a connection.
 
 ghost use Rattle.std.specs.Prelude.{◌≡◌};
+ghost use Rattle.bsp_desk.specs.Routed.{IsRouteOf};
 ghost use Rattle.bsp_http.specs.Messages.{at_desk, content_of, use_by};
 
+use crate::journal::Journal;
 use crate::replies::{answer_with, no_room_reply};
 use bsp_connection::{Answer, BodyUse, Message, Service};
-use bsp_desk::{Asking, BodyKind, Book, Content, Desk, Request, Routes};
+use bsp_desk::{Asking, BodyKind, Book, Content, Desk, Request, Route, Routes};
+use bsp_responses::Reply;
 use bsp_ret::{RetFault, RetFile};
 
 /// Answers messages at the office's desk, by the office's routes.
-#[derive(Clone, Copy)]
-pub(crate) struct Office<'r> {
+#[derive(Drop)]
+pub(crate) struct Office<'r, J> {
     /// The routes.
     pub(crate) routes: &'r Routes,
+    /// What takes note of the replies.
+    pub(crate) journal: &'r J,
 }
 
 /// What of a body of this kind is answered.
@@ -36,22 +41,40 @@ fn content_of<'f>(file: Result<&'f RetFile<'f>, RetFault>) -> Content<'f>
     }
 }
 
-impl<'r, B: Book> Service<Desk<B>> for Office<'r> {
+impl<'r, B: Book, J: Journal<B>> Service<Desk<B>> for Office<'r, J> {
+    type Found = Route;
+
     ghost means = { at_desk B.means };
 
-    fn body_use(&self, method: &[u8], target: &[u8]) -> BodyUse {
-        match self.routes.ask(method, target) {
+    ghost finds = { IsRouteOf };
+
+    fn find(&self, method: &[u8], target: &[u8]) -> Route {
+        self.routes.find(method, target)
+    }
+
+    fn body_use(&self, message: &Message<'_>, found: Route) -> BodyUse {
+        match found.asking(message.method, message.target) {
             Asking::Call(call) => use_of_kind(call.body_kind()),
             Asking::OtherMethod(_) | Asking::NoRoute => BodyUse::Ignored,
         }
+    }
+
+    fn note(&self, desk: &Desk<B>, message: Option<&Message<'_>>, reply: &Reply<'_>) {
+        self.journal.note(desk, message, reply);
     }
 
     fn no_room(&self) -> Answer {
         no_room_reply()
     }
 
-    fn answer(&self, desk: &mut Desk<B>, message: &Message<'_>, body: &[u8]) -> Answer {
-        let call = self.routes.ask(message.method, message.target);
+    fn answer(
+        &self,
+        desk: &mut Desk<B>,
+        message: &Message<'_>,
+        found: Route,
+        body: &[u8],
+    ) -> Answer {
+        let call = found.asking(message.method, message.target);
         let request = Request {
             token: message.token,
             call,
@@ -64,9 +87,10 @@ impl<'r, B: Book> Service<Desk<B>> for Office<'r> {
         &self,
         desk: &mut Desk<B>,
         message: &Message<'_>,
+        found: Route,
         file: Result<&RetFile<'_>, RetFault>,
     ) -> Answer {
-        let call = self.routes.ask(message.method, message.target);
+        let call = found.asking(message.method, message.target);
         let request = Request {
             token: message.token,
             call,

@@ -1,5 +1,4 @@
 -- Lemmas of this crate.
-pub mod Lists
 pub mod Pieces
 pub mod RetReports
 pub mod Reports

@@ -24,13 +24,13 @@ use Rattle.bsp_office.specs.declared.words.WordsFault.TheVariants.{Refused, OutO
 abbrev pub wanted_word : Text → Rule
 wanted_word id = record (new_rule id) { required = true }
 
--- the flag --quiet
-abbrev pub quiet_rule : Rule
-quiet_rule = record (new_rule (codes "quiet")) { long = Some (codes "quiet"); action = Some SetTrue }
+-- a flag: --ID
+abbrev pub flag_rule : Text → Rule
+flag_rule id = record (new_rule id) { long = Some id; action = Some SetTrue }
 
 -- a command with a FILE behind it, and --quiet: check FILE, hotcheck FILE
 abbrev pub file_app : Text → App
-file_app name = with_rule (with_rule (new_app name) quiet_rule) (wanted_word (codes "FILE"))
+file_app name = with_rule (with_rule (new_app name) (flag_rule (codes "quiet"))) (wanted_word (codes "FILE"))
 
 -- an option with a value behind it: --ID VALUE
 abbrev pub named_option : Text → Rule
@@ -61,9 +61,9 @@ connections_rule = record (number_option (codes "connections") 1 1000000) { defa
 abbrev pub timeout_rule : Rule
 timeout_rule = record (number_option (codes "timeout") 0 3600) { defaults = codes "30" ∷ [] }
 
--- --connections K and --timeout S
+-- --connections K, --timeout S and --log
 abbrev pub with_limits : App → App
-with_limits a = with_rule (with_rule a connections_rule) timeout_rule
+with_limits a = with_rule (with_rule (with_rule a connections_rule) timeout_rule) (flag_rule (codes "log"))
 
 abbrev pub serve_app : App
 serve_app = with_limits (with_db (with_tokens (with_rule (new_app (codes "serve")) port_rule)))
@@ -107,24 +107,24 @@ pub data AskedWork : Type 0 where
   check : Text → Bool → AskedWork
   hotcheck : Text → Bool → AskedWork
   run : AskedToken → AskedBook → AskedWork
-  serve : ℕ → AskedToken → AskedBook → ℕ → ℕ → AskedWork
+  serve : ℕ → AskedToken → AskedBook → ℕ → ℕ → Bool → AskedWork
 
 abbrev pub work_of : Work → AskedWork
 work_of (Check file quiet) = check file.now quiet
 work_of (Hotcheck file quiet) = hotcheck file.now quiet
 work_of (Run token book) = run (token_of token) (book_of book)
-work_of (Serve port token book connections timeout) = serve port (token_of token) (book_of book) connections timeout
+work_of (Serve port token book connections timeout log) = serve port (token_of token) (book_of book) connections timeout log
 
--- the flag --quiet is there: `clap` then finds the value true
-abbrev pub is_quiet : List Row → Bool
-is_quiet rows = option_map_or (λ text. bytes_eq text (codes "true")) (first_of (codes "quiet") rows) false
+-- a flag is there: `clap` then finds the value true
+abbrev pub is_set : Text → List Row → Bool
+is_set id rows = option_map_or (λ text. bytes_eq text (codes "true")) (first_of id rows) false
 
 -- the work of each subcommand by what was found behind it, where each value is in its form
 abbrev pub check_work : List Row → Option AskedWork
-check_work rows = option_map (λ file. check file (is_quiet rows)) (first_of (codes "FILE") rows)
+check_work rows = option_map (λ file. check file (is_set (codes "quiet") rows)) (first_of (codes "FILE") rows)
 
 abbrev pub hotcheck_work : List Row → Option AskedWork
-hotcheck_work rows = option_map (λ file. hotcheck file (is_quiet rows)) (first_of (codes "FILE") rows)
+hotcheck_work rows = option_map (λ file. hotcheck file (is_set (codes "quiet") rows)) (first_of (codes "FILE") rows)
 
 -- exactly one of the two options gives the token; no file is called -
 abbrev pub token_from : Option Text → Option Text → Option AskedToken
@@ -160,7 +160,7 @@ serve_work rows =
     option_and_then
     (λ port. option_and_then
     (λ connections. option_and_then
-    (λ timeout. option_and_then (λ token. option_map (λ book. serve port token book connections timeout) (asked_book rows)) (asked_token rows))
+    (λ timeout. option_and_then (λ token. option_map (λ book. serve port token book connections timeout (is_set (codes "log") rows)) (asked_book rows)) (asked_token rows))
     (number_in 32 (codes "timeout") rows))
     (number_in 32 (codes "connections") rows))
     (number_in 16 (codes "port") rows)

@@ -3,7 +3,7 @@
 ghost use Rattle.std.specs.Prelude.{◌≡◌, IfOk, IfErr, codes, false};
 ghost use Rattle.clap.specs.Words.{app_of, kind_of, rule_of, shape_of, with_subcommand};
 ghost use Rattle.clap.specs.declared.builder.command.Command.TheViews.{out-Command as fields_of};
-ghost use Rattle.bsp_office.specs.CommandLine.{connections_rule, file_app, named_option, office, port_rule, quiet_rule, run_app, serve_app, timeout_rule, with_db, with_limits, with_tokens};
+ghost use Rattle.bsp_office.specs.CommandLine.{connections_rule, file_app, flag_rule, named_option, office, port_rule, run_app, serve_app, timeout_rule, with_db, with_limits, with_tokens};
 
 use clap::error::ErrorKind;
 use clap::{Arg, ArgAction, Command, Error};
@@ -12,15 +12,15 @@ use std::alloc::Global;
 /// The version of the program.
 const VERSION: &str = "1.0.0";
 
-/// The flag `--quiet`.
-fn quiet_flag<'a>(alloc: Global) -> Arg<'a>
-    ensures rule { rule_of result ≡ quiet_rule }
+/// The flag `--ID`.
+fn flag<'a>(alloc: Global, id: &'a str, help: &'a str) -> Arg<'a>
+    ensures rule { rule_of result ≡ flag_rule id.entry.now }
     ensures local { result.global ≡ false }
 {
-    Arg::new(alloc, "quiet")
-        .long("quiet")
+    Arg::new(alloc, id)
+        .long(id)
         .action(ArgAction::SetTrue)
-        .help("says nothing of the file on standard error")
+        .help(help)
 }
 
 /// A command of that name with a FILE behind it.
@@ -31,9 +31,8 @@ fn file_command<'a>(alloc: Global, name: &'a str, about: &'a str) -> Result<Comm
     let file = Arg::new(alloc, "FILE")
         .help("the file, or - for standard input")
         .required(true);
-    let command = Command::new(alloc, name)
-        .about(about)
-        .arg(quiet_flag(alloc))?;
+    let quiet = flag(alloc, "quiet", "says nothing of the file on standard error");
+    let command = Command::new(alloc, name).about(about).arg(quiet)?;
     let command = command.arg(file)?;
     Ok(command)
 }
@@ -155,7 +154,8 @@ fn timeout_option<'a>(alloc: Global) -> Arg<'a>
     .default_value("30")
 }
 
-/// The command with the options that limit the connections, and the time for which a peer is waited for.
+/// The command with the options that limit the connections and the time for which a peer is waited for, and with
+/// `--log`.
 fn taking_limits<'a>(alloc: Global, command: Command<'a>) -> Result<Command<'a>, Error>
     requires { (fields_of command).has_globals ≡ false }
     ensures ok { IfOk result (λ c. (app_of c ≡ with_limits (app_of command.entry)) × ((fields_of c).has_globals ≡ false)) }
@@ -163,8 +163,14 @@ fn taking_limits<'a>(alloc: Global, command: Command<'a>) -> Result<Command<'a>,
 {
     let connections = connections_option(alloc);
     let timeout = timeout_option(alloc);
+    let log = flag(
+        alloc,
+        "log",
+        "prints a line for each reply on standard error",
+    );
     let command = command.arg(connections)?;
     let command = command.arg(timeout)?;
+    let command = command.arg(log)?;
     Ok(command)
 }
 

@@ -6,6 +6,9 @@ ghost use Rattle.bsp_connection.specs.Exchanges.{Exchange};
 ghost use Rattle.bsp_http.specs.Messages.{at_desk};
 ghost use Rattle.bsp_office.specs.Listening.{AreVisited, IsVisited, Visit, counts};
 
+use crate::kept::Failing;
+use crate::log::Log;
+use crate::socket::Sending;
 use bsp_connection::Noted;
 use bsp_desk::{Book, Desk};
 use bsp_http::{End, Routes, ServeFault, Served, serve};
@@ -15,8 +18,8 @@ use std::net::{Shutdown, TcpListener, TcpStream};
 use std::time::Duration;
 use thiserror::Error;
 
-/// The bytes of a peer that are read and dropped behind the last response to it: the most that a body may have.
-const LINGERING: usize = 4_194_304;
+/// The bytes of a peer that are read and dropped behind the last response to it: twice the most that a body may have.
+const LINGERING: usize = 8_388_608;
 
 /// The bytes that are read at once there.
 const PIECE: usize = 8192;
@@ -30,22 +33,6 @@ pub enum ListenFault {
     /// There was no memory for a connection.
     #[error("no memory for a connection")]
     Memory,
-}
-
-/// What standard error says of connections.
-#[derive(Clone, Copy)]
-pub struct Remarks<'a> {
-    pub(crate) rt: &'a HostRuntime,
-}
-
-impl Remarks<'_> {
-    /// One line where a connection, counted from 0, ended by a failed read or write.
-    fn ended(&self, number: u32, served: Result<Served, ServeFault>) {
-        if let Err(fault @ (ServeFault::Read | ServeFault::Write)) = served {
-            let number = u64::from(number) + 1;
-            let _ = eprintln!(self.rt; "bsp_office: connection {number}: {fault}");
-        }
-    }
 }
 
 /// Reads and drops what a peer sends: about `LINGERING` bytes at most, and until it ends, or a read fails.
@@ -79,8 +66,9 @@ fn linger(stream: &TcpStream, served: Result<Served, ServeFault>) {
 }
 
 /// Serves one connection.
-fn visit<R: Read, W: Write, B: Book>(
+fn visit<R: Read, W: Write, B: Book + Failing>(
     alloc: Global,
+    log: &Log<'_>,
     routes: &Routes,
     reader: &mut Noted<R>,
     writer: &mut Noted<W>,
@@ -88,18 +76,18 @@ fn visit<R: Read, W: Write, B: Book>(
 ) -> Result<Served, ServeFault>
     ensures { (visit : Visit) × (visit.ended ≡ result) × IsVisited (at_desk B.means) desk.old visit desk.new }
 {
-    serve(alloc, routes, reader, writer, desk)
+    serve(alloc, routes, log, reader, writer, desk)
 }
 
 /// Serves one connection of TCP. The responses to messages that came together are sent together, and none is kept
 /// back for more to come (RFC 9293, 3.7.4). A peer is waited for as long as the timeout says. The number is the
 /// connection's, from 0.
-fn serve_stream<B: Book>(
+fn serve_stream<B: Book + Failing>(
     alloc: Global,
     stream: &TcpStream,
     number: u32,
     timeout: Option<Duration>,
-    remarks: &Remarks<'_>,
+    log: &Log<'_>,
     routes: &Routes,
     desk: &mut Desk<B>,
 ) -> Result<Served, ServeFault>
@@ -108,16 +96,16 @@ fn serve_stream<B: Book>(
     let _ = stream.set_nodelay(true);
     let _ = stream.set_read_timeout(timeout);
     let _ = stream.set_write_timeout(timeout);
-    let Ok(output) = BufWriter::new(alloc, stream) else {
+    let Ok(output) = BufWriter::new(alloc, Sending::new(stream, timeout.is_some())) else {
         return Err(ServeFault::Memory);
     };
     let (mut input, mut output) = (Noted::new(stream), Noted::new(output));
-    let served = visit(alloc, routes, &mut input, &mut output, desk);
+    let served = visit(alloc, log, routes, &mut input, &mut output, desk);
     if !output.has_failed() {
         let _ = output.flush();
     }
     linger(stream, served);
-    remarks.ended(number, served);
+    log.ended(number, served);
     served
 }
 
@@ -130,12 +118,12 @@ fn serve_stream<B: Book>(
 ///
 /// `Accept` where a connection could not be accepted, `Memory` where there was no memory for one. What the desk was
 /// asked before stays.
-pub fn serve_on<B: Book>(
+pub fn serve_on<B: Book + Failing>(
     alloc: Global,
     listener: &TcpListener,
     connections: u32,
     timeout: Option<Duration>,
-    remarks: &Remarks<'_>,
+    log: &Log<'_>,
     routes: &Routes,
     desk: &mut Desk<B>,
 ) -> Result<(), ListenFault>
@@ -148,7 +136,7 @@ pub fn serve_on<B: Book>(
             Err(error) => return Err(ListenFault::Accept(error.kind())),
         };
         if let Err(ServeFault::Memory) = serve_stream(
-            alloc, &stream, number, timeout, remarks, routes, desk,
+            alloc, &stream, number, timeout, log, routes, desk,
         ) {
             return Err(ListenFault::Memory);
         }

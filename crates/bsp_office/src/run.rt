@@ -8,6 +8,7 @@ use crate::serving::{Port, run_office, serve_office};
 use crate::status::{DONE, FAILED, WRONG_WORDS};
 use crate::verdict::{Verdict, exit_status};
 use crate::words::{WordsFault, Work, words};
+use bsp_connection::Noted;
 use clap::error::ErrorKind;
 use std::convert::AsStr;
 use std::{env, io};
@@ -35,19 +36,21 @@ fn ended(rt: &HostRuntime, file: &str, quiet: bool, answer: &Result<Verdict, Fau
 
 /// Reports on a RET file, and answers the exit status.
 fn run_check(rt: &HostRuntime, file: &str, quiet: bool) -> u8 {
-    let Some(mut input) = opened(rt, file, quiet) else {
+    let Some(input) = opened(rt, file, quiet) else {
         return FAILED;
     };
-    let answer = check(rt.alloc(), &mut input, &mut io::writer(rt));
+    let (mut input, mut output) = (Noted::new(input), Noted::new(io::writer(rt)));
+    let answer = check(rt.alloc(), &mut input, &mut output);
     ended(rt, file, quiet, &answer)
 }
 
 /// Reports on a HOT file, and answers the exit status.
 fn run_hotcheck(rt: &HostRuntime, file: &str, quiet: bool) -> u8 {
-    let Some(mut input) = opened(rt, file, quiet) else {
+    let Some(input) = opened(rt, file, quiet) else {
         return FAILED;
     };
-    let answer = hotcheck(rt.alloc(), &mut input, &mut io::writer(rt));
+    let (mut input, mut output) = (Noted::new(input), Noted::new(io::writer(rt)));
+    let answer = hotcheck(rt.alloc(), &mut input, &mut output);
     ended(rt, file, quiet, &answer)
 }
 
@@ -63,11 +66,13 @@ fn run_work(rt: &HostRuntime, work: &Work<'_>) -> u8 {
             book,
             connections,
             timeout,
+            log,
         } => {
             let port = Port {
                 port: *port,
                 connections: *connections,
                 timeout: *timeout,
+                log: *log,
             };
             serve_office(rt, port, token, book)
         }

@@ -4,7 +4,9 @@ ghost use Rattle.std.specs.Prelude.{◌≡◌, true, false};
 ghost use Rattle.bsp_store.specs.Faults.{is_refusal};
 
 use crate::book_file::{make_private, say_unopened};
-use crate::listening::{Remarks, serve_on};
+use crate::kept::{Failing, say_opened};
+use crate::listening::serve_on;
+use crate::log::Log;
 use crate::status::{DONE, FAILED, REFUSED, WRONG_WORDS};
 use crate::token_file::read_token;
 use crate::words::{BookSource, TokenSource};
@@ -36,16 +38,18 @@ pub(crate) struct Port {
     pub(crate) connections: u32,
     /// For how many seconds a peer is waited for; with 0 without end.
     pub(crate) timeout: u32,
+    /// Whether standard error has a line for each reply.
+    pub(crate) log: bool,
 }
 
 /// An office: its routes, and its desk.
 #[derive(Drop)]
-struct Office<B: Book> {
+struct Office<B: Book + Failing> {
     routes: Routes,
     desk: Desk<B>,
 }
 
-impl<B: Book + Drop> Office<B> {
+impl<B: Book + Failing + Drop> Office<B> {
     /// The office with this token over this book. None where an allocation was refused.
     fn open(rt: &HostRuntime, token: Token, book: B) -> Option<Office<B>> {
         let routes = Routes::new(rt.alloc()).ok()?;
@@ -90,11 +94,12 @@ fn opening_status(fault: &OpenFault) -> u8
     }
 }
 
-fn serve_standard<B: Book>(rt: &HostRuntime, office: &mut Office<B>) -> Result<(), u8> {
+fn serve_standard<B: Book + Failing>(rt: &HostRuntime, office: &mut Office<B>) -> Result<(), u8> {
     let (mut input, mut output) = (Noted::new(rt.stdin()), Noted::new(rt.stdout()));
     match serve(
         rt.alloc(),
         &office.routes,
+        &Log::new(rt, false),
         &mut input,
         &mut output,
         &mut office.desk,
@@ -132,24 +137,24 @@ fn patience(seconds: u32) -> Option<Duration> {
 }
 
 /// Serves the connections of a port, and says on standard error why it ends.
-fn serve_connections<B: Book>(
+fn serve_connections<B: Book + Failing>(
     rt: &HostRuntime,
     port: Port,
     office: &mut Office<B>,
 ) -> Result<(), u8> {
     let listener = listen(rt, port.port).ok_or(FAILED)?;
-    let remarks = Remarks { rt };
+    let log = Log::new(rt, port.log);
     match serve_on(
         rt.alloc(),
         &listener,
         port.connections,
         patience(port.timeout),
-        &remarks,
+        &log,
         &office.routes,
         &mut office.desk,
     ) {
         Ok(()) => {
-            let _ = eprintln!(rt; "bsp_office: {} connections served", port.connections);
+            log.all_served(port.connections);
             Ok(())
         }
         Err(fault) => {
@@ -160,7 +165,7 @@ fn serve_connections<B: Book>(
 }
 
 /// Serves at a place, over this book. Each request that was answered is in the book by then, so it ends as it is.
-fn serve_book<B: Book + Drop>(
+fn serve_book<B: Book + Failing + Drop>(
     rt: &HostRuntime,
     place: &Place,
     token: Token,
@@ -194,7 +199,10 @@ fn serve_file<T: Start>(
 ) -> Result<(), u8> {
     make_private(rt, file);
     match SqlBook::open_path(rt, file, start) {
-        Ok(book) => serve_stored(rt, place, token, book),
+        Ok(book) => {
+            say_opened(rt, file, book.list());
+            serve_stored(rt, place, token, book)
+        }
         Err(fault) => {
             say_unopened(rt, file, &fault);
             Err(opening_status(&fault))

@@ -2,6 +2,7 @@
 
 use crate::fault::Fault;
 use crate::reading::read_whole;
+use bsp_connection::Noted;
 use bsp_fields::Token;
 use std::fs::File;
 use std::io;
@@ -18,7 +19,7 @@ fn first_line(text: &[u8]) -> &[u8] {
 /// The token that is the first line of a file of at most 4,096 bytes, or none where the line is no token or the file
 /// is longer. It fails where the file cannot be opened or read.
 pub(crate) fn read_token(rt: &HostRuntime, file: &str) -> io::Result<Option<Token>> {
-    let mut input = File::open(rt, file)?;
+    let mut input = Noted::new(File::open(rt, file)?);
     match read_whole(rt.alloc(), &mut input, MOST) {
         Ok(bytes) => Ok(Token::read(first_line(&bytes))),
         Err(Fault::TooLong) => Ok(None),

@@ -5,7 +5,7 @@
 
 ghost use Rattle.std.specs.Prelude.{◌≡◌, IfOk, IfErr, [], codes, map, option_map};
 ghost use Rattle.clap.specs.Words.{HasKind, fault_of, first_of, found_of, rows_of, subcommand_of, subcommand_rows_of};
-ghost use Rattle.bsp_office.specs.CommandLine.{AnswersWords, asked_book, asked_token, book_of, check_work, hotcheck_work, is_quiet, number_in, office, run_work, serve_work, token_of, work_from, work_in, work_of};
+ghost use Rattle.bsp_office.specs.CommandLine.{AnswersWords, asked_book, asked_token, book_of, check_work, hotcheck_work, is_set, number_in, office, run_work, serve_work, token_of, work_from, work_in, work_of};
 
 use crate::command_line::office_command;
 use bsp_fields::Token;
@@ -61,6 +61,8 @@ pub enum Work<'a> {
         connections: u32,
         /// For how many seconds a peer is waited for, at most 3,600. With 0 without end.
         timeout: u32,
+        /// `--log`: standard error has a line for each reply.
+        log: bool,
     },
 }
 
@@ -81,17 +83,18 @@ fn value_of<'a>(matches: &ArgMatches<'a>, id: &str) -> Option<&'a str>
     matches.get_str(id)
 }
 
-fn quiet_given(matches: &ArgMatches<'_>) -> bool
-    ensures { result ≡ is_quiet (rows_of (found_of matches.now)) }
+/// Whether a flag is there.
+fn flag_given(matches: &ArgMatches<'_>, id: &str) -> bool
+    ensures { result ≡ is_set id.now (rows_of (found_of matches.now)) }
 {
-    matches!(value_of(matches, "quiet"), Some("true"))
+    matches!(value_of(matches, id), Some("true"))
 }
 
 fn check_given<'a>(matches: &ArgMatches<'a>) -> Option<Work<'a>>
     ensures { option_map work_of result ≡ check_work (rows_of (found_of matches.now)) }
 {
     let file = value_of(matches, "FILE")?;
-    let quiet = quiet_given(matches);
+    let quiet = flag_given(matches, "quiet");
     Some(Work::Check { file, quiet })
 }
 
@@ -99,7 +102,7 @@ fn hotcheck_given<'a>(matches: &ArgMatches<'a>) -> Option<Work<'a>>
     ensures { option_map work_of result ≡ hotcheck_work (rows_of (found_of matches.now)) }
 {
     let file = value_of(matches, "FILE")?;
-    let quiet = quiet_given(matches);
+    let quiet = flag_given(matches, "quiet");
     Some(Work::Hotcheck { file, quiet })
 }
 
@@ -166,6 +169,7 @@ fn serve_given<'a>(matches: &ArgMatches<'a>) -> Option<Work<'a>>
     let port = port_given(matches)?;
     let connections = connections_given(matches)?;
     let timeout = timeout_given(matches)?;
+    let log = flag_given(matches, "log");
     let Some(token) = token_given(matches) else {
         return None;
     };
@@ -178,6 +182,7 @@ fn serve_given<'a>(matches: &ArgMatches<'a>) -> Option<Work<'a>>
         book,
         connections,
         timeout,
+        log,
     })
 }
 

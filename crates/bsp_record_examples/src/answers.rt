@@ -46,10 +46,13 @@ fn write_line(page: &Page<'_>, line: &str, out: &mut Output) -> Result<(), Fault
     Ok(())
 }
 
-/// Writes the page with its answers, up to the first line that is no case.
+/// Writes the page with its answers, up to the first line that is no case, or for which memory was short.
 pub fn answer_page(page: &Page<'_>, text: &str, out: &mut Output) -> Result<(), Fault> {
     for line in text.lines() {
         write_line(page, line, out)?;
+        if out.is_short() {
+            return Err(Fault::Memory);
+        }
     }
     Ok(())
 }

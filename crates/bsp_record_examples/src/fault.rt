@@ -1,5 +1,6 @@
 //! Why a line has no answer.
 
+use bsp_ret::{FaultCode, RetFault};
 use std::alloc::{AllocError, AllocFailed};
 use std::io;
 use thiserror::Error;
@@ -25,6 +26,15 @@ pub enum Fault {
     Memory,
     #[error("standard input or output failed")]
     Stream,
+}
+
+impl From<RetFault> for Fault {
+    fn from(fault: RetFault) -> Fault {
+        match fault.code {
+            FaultCode::F10 => Fault::Memory,
+            _ => Fault::File,
+        }
+    }
 }
 
 impl From<AllocError> for Fault {

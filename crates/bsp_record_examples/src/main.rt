@@ -35,12 +35,9 @@ use std::process::ExitCode;
 fn run(rt: &HostRuntime) -> Result<(), Fault> {
     let text = io::read_to_string(rt.alloc(), rt.stdin())?;
     let page = Page::of(rt.alloc(), text.as_str())?;
-    let mut out = Output::new(rt.alloc());
+    let mut out = Output::new(rt.alloc())?;
     let answered = answer_page(&page, text.as_str(), &mut out);
     rt.print(out.text())?;
-    if out.is_short() {
-        return Err(Fault::Memory);
-    }
     answered
 }
 

@@ -2,8 +2,11 @@
 
 use crate::words::shown;
 use bsp_fields::FieldFault;
-use std::alloc::Global;
+use std::alloc::{AllocError, Global};
 use std::fmt::Display;
+
+/// The bytes that take no further memory.
+const ROOM: usize = 65_536;
 
 /// What is printed, and whether memory was short for some of it.
 #[derive(Drop)]
@@ -14,11 +17,11 @@ pub struct Output {
 
 impl Output {
     /// Nothing so far.
-    pub fn new(alloc: Global) -> Output {
-        Output {
-            text: String::new(alloc),
+    pub fn new(alloc: Global) -> Result<Output, AllocError> {
+        Ok(Output {
+            text: String::with_capacity(alloc, ROOM)?,
             is_short: false,
-        }
+        })
     }
 
     /// Appends a text.

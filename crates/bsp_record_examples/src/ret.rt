@@ -95,8 +95,9 @@ fn bytes(page: &Page<'_>, parts: &str, out: &mut Output) -> Result<(), Fault> {
 
 /// The text that is written of a RET file.
 fn written(alloc: Global, text: &[u8]) -> Result<Vec<u8>, Fault> {
-    let Ok(file) = read_ret(alloc, text) else {
-        return Err(Fault::File);
+    let file = match read_ret(alloc, text) {
+        Ok(file) => file,
+        Err(fault) => return Err(Fault::from(fault)),
     };
     match write_ret(alloc, &file) {
         Ok(written) => Ok(written),

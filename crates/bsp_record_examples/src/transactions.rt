@@ -133,7 +133,7 @@ fn show(page: &Page<'_>, what: Question, parts: &str, out: &mut Output) -> Resul
     let text = text_of(page, parts)?;
     match read_ret(page.alloc(), &text) {
         Ok(file) => show_first(&file, what, out),
-        Err(_) => Err(Fault::File),
+        Err(fault) => Err(Fault::from(fault)),
     }
 }
 
@@ -148,8 +148,9 @@ fn group_with_exchange(page: &Page<'_>, text: &str, out: &mut Output) -> Result<
 
 /// The first record 2 of a file, and what its transaction pays.
 fn first_sale(alloc: Global, text: &[u8]) -> Result<PaidSale, Fault> {
-    let Ok(file) = read_ret(alloc, text) else {
-        return Err(Fault::File);
+    let file = match read_ret(alloc, text) {
+        Ok(file) => file,
+        Err(fault) => return Err(Fault::from(fault)),
     };
     match file.sale(0) {
         Some(sale) => Ok(sale),

@@ -10,3 +10,4 @@ mod Computed
 mod Paths
 mod CallLemmas
 mod ValueLemmas
+mod Places

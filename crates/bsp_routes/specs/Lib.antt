@@ -4,3 +4,4 @@ pub mod Calls
 pub mod Resources
 pub mod Rows
 pub mod Matches
+pub mod Routed

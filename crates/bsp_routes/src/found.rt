@@ -1,9 +1,10 @@
-ghost use Rattle.std.specs.Prelude.{◌≡◌};
+ghost use Rattle.std.specs.Prelude.{◌≡◌, length};
 ghost use Rattle.bsp_routes.specs.Resources.{call_at};
 ghost use Rattle.bsp_routes.specs.Matches.{IsMatch};
 
 use crate::call::{AgentCall, AirlineCall, Call, OfficeCall};
 use crate::resource::Resource;
+use crate::route::Located;
 use crate::values::first_two;
 use matchit::Router;
 
@@ -33,6 +34,18 @@ pub fn matched<'p>(router: &Router<Resource>, path: &'p str) -> Option<Found<'p>
 }
 
 impl<'p> Found<'p> {
+    /// The call at the path, a POST or not, by places.
+    pub fn located(self, posts: bool) -> Located
+        ensures { result ≡ record { resource = self.entry.resource; posts = posts; first = length self.entry.first.now; second = length self.entry.second.now } }
+    {
+        Located {
+            resource: self.resource,
+            posts,
+            first: self.first.len(),
+            second: self.second.len(),
+        }
+    }
+
     /// The call at the path, a POST or not.
     pub fn call(self, posts: bool) -> Call<&'p [u8]>
         ensures { result ≡ call_at self.entry.resource self.entry.first self.entry.second posts }

@@ -5,11 +5,13 @@ ghost use Rattle.bsp_routes.specs.Calls.{Asks, asking_text};
 ghost use Rattle.bsp_routes.specs.Resources.{IsPathOf};
 ghost use Rattle.bsp_routes.specs.Rows.{routes};
 ghost use Rattle.bsp_routes.specs.Matches.{IsFoundAt};
+ghost use Rattle.bsp_routes.specs.Routed.{IsRouteOf};
 
 use crate::asking::Asking;
 use crate::found::{Found, matched};
 use crate::patterns::all_patterns;
 use crate::resource::Resource;
+use crate::route::Route;
 use crate::target::is_clean;
 use bsp_fields::NoRoom;
 use matchit::Router;
@@ -49,14 +51,21 @@ impl Routes {
         ensures asked { Asks method.now target.now (asking_text result) }
         ensures only { (other : Asking (List ℕ)) → Asks method.now target.now other → asking_text result ≡ other }
     {
+        self.find(method, target).asking(method, target)
+    }
+
+    /// What a method and a target ask for, as of [`Routes::ask`], by places in the target.
+    pub fn find(&self, method: &[u8], target: &[u8]) -> Route
+        ensures { IsRouteOf method.now target.now result }
+    {
         let Some(found) = self.found_at(target) else {
-            return Asking::NoRoute;
+            return Route::NoRoute;
         };
         let methods = found.resource.methods();
         if methods.contains(method) {
-            Asking::Call(found.call(method == b"POST".as_slice()))
+            Route::Call(found.located(method == b"POST".as_slice()))
         } else {
-            Asking::OtherMethod(methods)
+            Route::OtherMethod(methods)
         }
     }
 

@@ -9,11 +9,16 @@ use bsp_routes::Routes;
 use bsp_rules::{Item, Range, Reporter, Verdict};
 use std::alloc::Global;
 
+/// The bytes of an answer that take no further memory.
+const ROOM: usize = 65_536;
+
 /// What the cases so far have made, and what is printed.
 #[derive(Drop)]
 pub struct Book {
     pub alloc: Global,
     /// What is printed.
+    pub page: String,
+    /// The answer to the case.
     pub out: String,
     pub texts: Texts,
     pub routes: Routes,
@@ -34,7 +39,8 @@ impl Book {
         let routes = Routes::new(alloc)?;
         Ok(Book {
             alloc,
-            out: String::new(alloc),
+            page: String::new(alloc),
+            out: String::with_capacity(alloc, ROOM)?,
             texts: Texts::new(alloc),
             routes,
             plan: Plan::empty(alloc),

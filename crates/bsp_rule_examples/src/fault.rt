@@ -5,12 +5,13 @@ use bsp_fields::{FieldFault, NoRoom};
 use bsp_hot::HotFault;
 use bsp_memos::MemoFault;
 use bsp_messages::BodyFault;
+use bsp_ret::{FaultCode, RetFault};
 use bsp_statement::StatementFault;
 use std::alloc::{AllocError, AllocFailed};
 use thiserror::Error;
 
 /// Why a case has no answer of its own.
-#[derive(Clone, Copy, Debug, PartialEq, Eq, Error)]
+#[derive(Clone, Copy, Debug, Error)]
 pub enum CaseFault {
     /// A plan or a request on it is refused.
     #[error("{0}")]
@@ -33,7 +34,10 @@ pub enum CaseFault {
     /// The input is no text, or was not read.
     #[error("there is no input")]
     NoInput,
-    /// An allocation was refused.
+    /// A call that the case makes lacks memory.
+    #[error("out of memory")]
+    NoRoom,
+    /// This program lacks memory for what a case made.
     #[error("out of memory")]
     NoMemory,
 }
@@ -47,7 +51,7 @@ impl CaseFault {
             CaseFault::Statement(fault) => Some(fault.code()),
             CaseFault::Hot(fault) => Some(fault.code()),
             CaseFault::Malformed => Some("malformed"),
-            CaseFault::NoCase | CaseFault::NoInput | CaseFault::NoMemory => None,
+            _ => None,
         }
     }
 }
@@ -60,7 +64,10 @@ impl From<FieldFault> for CaseFault {
 
 impl From<PlanFault> for CaseFault {
     fn from(fault: PlanFault) -> CaseFault {
-        CaseFault::Plan(fault)
+        match fault {
+            PlanFault::NoMemory => CaseFault::NoRoom,
+            _ => CaseFault::Plan(fault),
+        }
     }
 }
 
@@ -72,13 +79,19 @@ impl From<MemoFault> for CaseFault {
 
 impl From<StatementFault> for CaseFault {
     fn from(fault: StatementFault) -> CaseFault {
-        CaseFault::Statement(fault)
+        match fault {
+            StatementFault::NoMemory => CaseFault::NoRoom,
+            _ => CaseFault::Statement(fault),
+        }
     }
 }
 
 impl From<HotFault> for CaseFault {
     fn from(fault: HotFault) -> CaseFault {
-        CaseFault::Hot(fault)
+        match fault {
+            HotFault::NoMemory => CaseFault::NoRoom,
+            _ => CaseFault::Hot(fault),
+        }
     }
 }
 
@@ -86,20 +99,29 @@ impl From<BodyFault> for CaseFault {
     fn from(fault: BodyFault) -> CaseFault {
         match fault {
             BodyFault::Malformed => CaseFault::Malformed,
-            BodyFault::NoRoom => CaseFault::NoMemory,
+            BodyFault::NoRoom => CaseFault::NoRoom,
+        }
+    }
+}
+
+impl From<RetFault> for CaseFault {
+    fn from(fault: RetFault) -> CaseFault {
+        match fault.code {
+            FaultCode::F10 => CaseFault::NoRoom,
+            _ => CaseFault::NoCase,
         }
     }
 }
 
 impl From<NoRoom> for CaseFault {
     fn from(_: NoRoom) -> CaseFault {
-        CaseFault::NoMemory
+        CaseFault::NoRoom
     }
 }
 
 impl From<AllocError> for CaseFault {
     fn from(_: AllocError) -> CaseFault {
-        CaseFault::NoMemory
+        CaseFault::NoRoom
     }
 }
 

@@ -69,7 +69,7 @@ fn say_refused(out: &mut String, fault: CaseFault) -> Result<(), CaseFault> {
 }
 
 /// Answers a case; of a call that is refused the code is the answer.
-fn take_case(book: &mut Book, line: &str) -> Result<(), CaseFault> {
+fn answer_line(book: &mut Book, line: &str) -> Result<(), CaseFault> {
     let mut words = Words::of(line);
     let word = words.word();
     match answer(book, word, &mut words) {
@@ -79,17 +79,30 @@ fn take_case(book: &mut Book, line: &str) -> Result<(), CaseFault> {
     }
 }
 
+/// Answers a case, and again where a call that it makes lacks memory. It is then answered as with ample memory.
+fn take_case(book: &mut Book, line: &str) -> Result<(), CaseFault> {
+    match answer_line(book, line) {
+        Err(CaseFault::NoRoom) => {
+            book.out.clear();
+            answer_line(book, line)
+        }
+        answered => answered,
+    }
+}
+
 /// Prints a line, and its answer where it is a case.
 fn take_line(book: &mut Book, line: &str) -> Result<(), CaseFault> {
-    book.out.push_str(line)?;
+    book.page.push_str(line)?;
     if let Some(line) = line.strip_prefix("  ") {
         book.texts.add_line(line)?;
     } else if let Some(name) = line.strip_suffix(':') {
         book.texts.begin(name)?;
     } else if !line.is_empty() && !line.starts_with('#') {
+        book.out.clear();
         take_case(book, line)?;
+        book.page.push_str(book.out.as_str())?;
     }
-    book.out.push_str("\n")?;
+    book.page.push_str("\n")?;
     Ok(())
 }
 
@@ -112,7 +125,7 @@ fn take_page(rt: &HostRuntime, book: &mut Book) -> Result<(), CaseFault> {
 fn print_page(rt: &HostRuntime) -> Result<(), CaseFault> {
     let mut book = Book::new(rt.alloc())?;
     let taken = take_page(rt, &mut book);
-    let _ = rt.print(book.out.as_str());
+    let _ = rt.print(book.page.as_str());
     taken
 }
 

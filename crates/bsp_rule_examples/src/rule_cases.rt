@@ -11,8 +11,9 @@ use std::slice;
 
 /// The transactions of a RET file.
 pub fn transactions_of(alloc: Global, bytes: &[u8]) -> Result<Vec<Transaction>, CaseFault> {
-    let Ok(file) = read_ret(alloc, bytes) else {
-        return Err(CaseFault::NoCase);
+    let file = match read_ret(alloc, bytes) {
+        Ok(file) => file,
+        Err(fault) => return Err(CaseFault::from(fault)),
     };
     let mut transactions = Vec::new(alloc);
     for index in 0..file.transactions() {

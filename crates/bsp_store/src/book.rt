@@ -1,6 +1,6 @@
 //! A book in tables.
 
-ghost use Rattle.std.specs.Prelude.{◌≡◌, IsOkUnless, OnErr, OnOk, false, true};
+ghost use Rattle.std.specs.Prelude.{◌≡◌, IsOkUnless, None, OnErr, OnOk, Some, false, true};
 ghost use Rattle.bsp_book.specs.Calls.{Commits, FallsBack};
 ghost use Rattle.bsp_book.specs.Listed.{meaning as listed};
 ghost use Rattle.bsp_store_save.specs.Content.{Content, form};
@@ -24,6 +24,8 @@ pub struct SqlBook<S: Alter> {
     list: ListBook,
     conn: Connection<S>,
     failed: bool,
+    // The error of the store with which the book failed, if it was one.
+    cause: Option<Error>,
 }
 
 /// Whether a store had no memory, or a row is too big for it.
@@ -37,13 +39,29 @@ fn is_room(error: &Error) -> bool {
 impl<S: Alter> SqlBook<S> {
     /// A book of a list that the tables keep.
     pub(crate) fn of(list: ListBook, conn: Connection<S>) -> SqlBook<S>
-        ensures { (result.list ≡ list) × (result.conn ≡ conn) × (result.failed ≡ false) }
+        ensures parts { (result.list ≡ list) × (result.conn ≡ conn) × (result.failed ≡ false) }
+        ensures cause { result.cause ≡ None }
     {
         SqlBook {
             list,
             conn,
             failed: false,
+            cause: None,
         }
+    }
+
+    /// The rows in memory.
+    pub fn list(&self) -> &ListBook
+        ensures { result.now ≡ self.now.list }
+    {
+        &self.list
+    }
+
+    /// The error of the store with which the book failed. None where it has not failed, or an allocation was refused.
+    pub fn cause(&self) -> Option<Error>
+        ensures { result ≡ self.now.cause }
+    {
+        self.cause
     }
 
     /// Gives the connection back as it is, also after a failure.
@@ -58,6 +76,7 @@ impl<S: Alter> SqlBook<S> {
     fn give_up(&mut self, error: Error) -> BookFault
         ensures full { result ≡ BookFault.NoRoom → (self.new.failed ≡ self.old.failed) × ((last a b : Content) → Falls form S.Store self.old.conn last a b → IsKept S.Store self.new.conn last) × FallsBack listed self.old.list self.new.list }
         ensures failed { result ≡ BookFault.Failed → self.new.failed ≡ true }
+        ensures cause { result ≡ BookFault.Failed → self.new.cause ≡ Some error }
         ensures stop { (last b : Content) → Falls form S.Store self.old.conn last last b → Stands form S.Store self.new.conn last last last b }
     {
         let alive = recover(&mut self.conn);
@@ -65,6 +84,7 @@ impl<S: Alter> SqlBook<S> {
             return BookFault::NoRoom;
         }
         self.failed = true;
+        self.cause = Some(error);
         BookFault::Failed
     }
 

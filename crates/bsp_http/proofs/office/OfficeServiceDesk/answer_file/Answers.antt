@@ -9,14 +9,14 @@ use Rattle.bsp_http.proofs.office.OfficeServiceDesk.answer_file.Goals as goal
 
 pub returns : goal.returns
 returns g c = λ uses bytes is.
-    let asked_for = asking_text c.ask-call.result in
-    let file : RetFile ≡ use_of asked_for = uses.2 ∙ ap use_of (sym (c.ask-call.ensures.only uses.0 uses.1)) in
+    let asked_for = asking_text c.asking-call.result in
+    let file : RetFile ≡ use_of asked_for = uses.2 ∙ ap use_of (sym (c.asking-call.ensures.only uses.0 uses.1)) in
     record {
-      request = record { token = c.args.message.now.token; call = c.ask-call.result; content = c.content_of.result };
+      request = record { token = c.args.message.now.token; call = c.asking-call.result; content = c.content_of.result };
       is = record {
         token = same_token c.args.message.now.token;
-        asks = c.ask-call.ensures.asked;
-        only = c.ask-call.ensures.only;
+        asks = c.asking-call.ensures.asked;
+        only = c.asking-call.ensures.only;
         reads = λ asked h. subst (λ (k : Content). IsAskedWith asked_for k asked) (sym c.content_of.ensures) (as_file asked_for bytes c.args.file asked file is h);
       };
       reply = c.answer.result;

@@ -1,0 +1,213 @@
+#!/usr/bin/env python3
+"""Runs the built programs with their first allocation refused, then with their second, and so on until a run refuses none:
+- bsp_rule_examples and bsp_record_examples on a page with each public call that takes memory. A call then answers as with
+  ample memory, or names the lack of memory; the same case after it, or the same call again, answers as with ample memory.
+- bsp_office on words and files. It ends as with ample memory, or with status 3, no output and the line that memory was short.
+- its command `run`, which is sent each request of a conversation twice. Each reply is that of ample memory; or one is
+  503 B01, and the same request after it has the reply of ample memory to the first of the two.
+- the same over a book in a file, with one allocation in forty refused; the file is then opened again.
+Exits with the number of cases that differ.
+
+usage: .ci/refused.py [PROGRAM]   (with no PROGRAM it takes the one that is built)
+"""
+import concurrent.futures
+import itertools
+import os
+import pathlib
+import re
+import subprocess
+import sys
+import tempfile
+import time
+import typing
+
+sys.dont_write_bytecode = True
+import examples
+import office
+from office import TOP, expect, sample
+
+PROGRAM = office.program()
+RULES, RECORDS = (TOP / "crates" / name / "out" / name for name in ("bsp_rule_examples", "bsp_record_examples"))
+TOKEN = "officetoken00001"
+SHORT = re.compile(rb"bsp_office: .*out of memory\n")
+NOTES = re.compile(rb"(bsp_office: (\S+\.db: (new book|day .*)|[A-Z]+ /\S* 503 B01 14)\n)*")
+# how a call names the lack of memory
+LACKS = re.compile(rb"F10|NoRoom|NoMemory|out of memory|there is no input|standard input or output failed")
+WORDS = ["check v1.ret", "check kinds.ret", "check sum.ret", "hotcheck v3.hot", "hotcheck short.hot", "--help", "--version",
+         "check --help", "", "check", "report v1.ret", "check --unknown", "hotcheck v3.hot v3.hot", "check --quiet sum.ret"]
+CONVERSATIONS = ["14-memos", "16-reports", "19-stock", "38-reduced-memo"]
+
+
+class Run(typing.NamedTuple):
+    """How a program ended, and whether an allocation was refused."""
+    status: int
+    out: bytes
+    err: bytes
+    is_refused: bool
+
+
+def run(words, text, number):
+    """Runs the words with the allocation of this number refused; with 0 none is."""
+    mark = pathlib.Path(f"mark-{number}")
+    names = {"LD_PRELOAD": os.path.abspath("refuse.so"), "REFUSED_ALLOCATION": str(number), "REFUSAL_MARK": str(mark)}
+    ended = subprocess.run(words, input=text, capture_output=True, env={**os.environ, **names}, timeout=60)
+    is_refused = mark.exists()
+    mark.unlink(missing_ok=True)
+    return Run(ended.returncode, ended.stdout, ended.stderr, is_refused)
+
+
+def each_refused(what, words_of, text, judge, stride=1):
+    """Judges a run for each allocation, or for each so many-th, up to the first that refuses none. How many there were."""
+    ample, numbers, count = run(words_of(0), text, 0), itertools.count(1, stride), 0
+    with concurrent.futures.ThreadPoolExecutor(4) as pool:
+        while True:
+            batch = list(itertools.islice(numbers, 64))
+            for number, found in zip(batch, pool.map(lambda it: run(words_of(it), text, it), batch)):
+                if not found.is_refused:
+                    expect(f"{what}: some allocation was refused", True, count > 0)
+                    return count
+                count += 1
+                if not judge(ample, found, number):
+                    expect(f"{what}, allocation {number} refused", ample[:3], found[:3])
+
+
+def is_same(ample, found):
+    return found[:3] == ample[:3]
+
+
+# ---- pages of cases
+
+
+def is_page(ample, found, _number):
+    """The page is the same, but for one line at most that names the lack of memory; or it ends there, by status 1."""
+    lines, wanted = found.out.splitlines(), ample.out.splitlines()
+    if found.status == 1:
+        return LACKS.search(found.err) is not None and wanted[:max(len(lines) - 1, 0)] == lines[:-1]
+    others = [line for line, it in itertools.zip_longest(lines, wanted) if line != it]
+    return found.status == 0 and not found.err and len(others) <= 1 and all(it and LACKS.search(it) for it in others)
+
+
+def pages():
+    for program in RULES, RECORDS:
+        page = (program.parents[1] / "data" / "calls").read_bytes()
+        yield program.name, each_refused(program.name, lambda _, it=program: [it], page, is_page)
+
+
+# ---- words
+
+
+def is_same_or_failed(ample, found, _number):
+    return is_same(ample, found) or (found.status == 3 and not found.out and SHORT.fullmatch(found.err) is not None)
+
+
+def is_same_or_quiet(ample, found, number):
+    return is_same_or_failed(ample, found, number) or (found.status == 3 and not found.out and not found.err)
+
+
+def words():
+    """The program on files and words, some of them wrong."""
+    hot, kinds = sample("no-documents.hot"), (TOP / "crates" / "bsp_rule_examples" / "data" / "kinds.ret").read_bytes()
+    files = {"v1.ret": sample("sale.ret"), "kinds.ret": kinds, "v3.hot": hot, "short.hot": b"".join(hot.splitlines(True)[:3]),
+             "sum.ret": kinds.replace(b"2850{", b"2851{")}
+    for name, text in files.items():
+        pathlib.Path(name).write_bytes(text)
+    for line in WORDS:
+        judge = is_same_or_quiet if "--quiet" in line else is_same_or_failed
+        yield f"bsp_office {line}", each_refused(f"bsp_office {line}", lambda _, it=line: [PROGRAM, *it.split()], b"", judge)
+
+
+# ---- conversations
+
+
+def message(entry):
+    """A request of an example as it is sent."""
+    token = f"Bsp-Token: {entry.token}\r\n" if entry.token else ""
+    length = f"Content-Length: {len(entry.body)}\r\n" if entry.method == "POST" else ""
+    return f"{entry.method} {entry.path} HTTP/1.1\r\nHost: bsp\r\n{token}{length}\r\n".encode() + entry.body
+
+
+def replies(out):
+    """The replies in an output, each with its head."""
+    found = []
+    while out:
+        head, end, _ = out.partition(b"\r\n\r\n")
+        length = re.search(rb"Content-Length: (\d+)", head)
+        if not end or not length:
+            return found + [out]
+        at = len(head) + 4 + int(length[1])
+        found.append(out[:at])
+        out = out[at:]
+    return found
+
+
+def is_lacking(reply):
+    return reply.startswith(b"HTTP/1.1 503 ") and reply.endswith(b'{"code":"B01"}')
+
+
+lacking = 0
+
+
+def is_answered(ample, found, _number):
+    """Each reply is that of ample memory, but for one of 503 B01 at most; or there is none, by status 3."""
+    global lacking
+    if is_same(ample, found):
+        return True
+    if found.status == 3:
+        return not found.out and (NOTES.fullmatch(found.err) or SHORT.fullmatch(found.err)) is not None
+    wanted, came = replies(ample.out), replies(found.out)
+    at = next((it for it, pair in enumerate(zip(wanted, came)) if pair[0] != pair[1]), len(came))
+    if found.status != 0 or at == len(came) or not is_lacking(came[at]) or not NOTES.fullmatch(found.err):
+        return False
+    lacking += 1
+    if b"Connection: close" in came[at]:
+        return at + 1 == len(came) and b" 503 B01 14\n" in found.err
+    again = [wanted[at]] if at % 2 == 0 else []
+    return came[at + 1:] == again + wanted[at + 1 + len(again):] and b" 503 B01 14\n" in found.err
+
+
+def twice(name):
+    """The requests of an example, each twice, behind those that come before it."""
+    _, entries = examples.conversations(TOP / "examples" / f"{name}.hurl")[0]
+    return b"".join(message(it) * 2 for it in entries)
+
+
+def conversations():
+    for name in CONVERSATIONS:
+        words_of = [PROGRAM, "run", "--token", TOKEN]
+        yield f"bsp_office run, example {name}", each_refused(name, lambda _: words_of, twice(name), is_answered)
+    expect("some reply was 503 B01", True, lacking > 0)
+
+
+def over(number):
+    return [PROGRAM, "run", "--token", TOKEN, "--db", f"{number}.db"]
+
+
+def is_kept(ample, found, number):
+    """The same; and the file opens again, with an answer to each request for a report."""
+    _, entries = examples.conversations(TOP / "examples" / f"{CONVERSATIONS[1]}.hurl")[0]
+    asked = [message(it) for it in entries if it.method == "GET"]
+    again = subprocess.run(over(number), input=b"".join(asked), capture_output=True, timeout=60)
+    for it in pathlib.Path().glob(f"{number}.db*"):
+        it.unlink()
+    found = found._replace(err=found.err.replace(b"%d.db" % number, b"0.db"))
+    answered = [it for it in replies(again.stdout) if re.match(rb"HTTP/1.1 [24]0\d ", it)]
+    return is_answered(ample, found, number) and again.returncode == 0 and len(answered) == len(asked)
+
+
+def over_files():
+    yield "bsp_office run --db", each_refused("bsp_office run --db", over, twice(CONVERSATIONS[1]), is_kept, stride=40)
+
+
+def main():
+    library = [os.environ.get("CC", "cc"), "-O2", "-shared", "-fPIC", "-o", "refuse.so", f"{TOP}/.ci/refuse.c"]
+    with tempfile.TemporaryDirectory() as folder:
+        os.chdir(folder)
+        subprocess.run(library, check=True)
+        for part in pages, words, conversations, over_files:
+            begun, count = time.monotonic(), sum(it[1] for it in part())
+            print(f"{part.__name__}: {count} allocations refused in turn, in {time.monotonic() - begun:.0f} seconds", flush=True)
+        os.chdir(TOP)
+    office.finish(f"refused allocations: each is followed as docs/PROVED.md says, with {lacking} replies of 503 B01")
+
+
+main()

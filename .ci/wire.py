@@ -1,0 +1,238 @@
+#!/usr/bin/env python3
+"""Compares, byte for byte, what the built program's command `run` writes on a connection: to heads that are refused, to
+messages one behind the other, to a sale that comes in pieces of each size or is cut after each of its bytes, and where
+reads or writes fail, by .ci/steps.c in front of the C library. Exits with the number of cases that differ.
+
+usage: .ci/wire.py [PROGRAM]   (with no PROGRAM it takes the one that is built)
+"""
+import concurrent.futures
+import itertools
+import os
+import shutil
+import subprocess
+import tempfile
+
+import office
+
+PROGRAM = office.program()
+TOKEN = "officetoken00001"
+RET, PERIOD, STOCK = (f"/agents/12345675/{it}" for it in ("ret", "periods/24011", "stock"))
+SALE = office.sample("sale.ret")
+RECORD = 137
+
+
+# ---- messages and responses
+
+
+def message(asked, *fields, body=b""):
+    """A message that asks for a method and a path. A POST has its length."""
+    length = [f"Content-Length: {len(body)}"] if asked.startswith("POST") else []
+    return "\r\n".join([f"{asked} HTTP/1.1", "Host: bsp", *fields, *length, "", ""]).encode() + body
+
+
+def response(status, text, *fields):
+    """A response with a JSON text."""
+    named = ["Content-Type: application/json", f"Content-Length: {len(text)}", *fields]
+    return "\r\n".join([f"HTTP/1.1 {status}", *named, "", text]).encode()
+
+
+def results(verdict):
+    """The response to a RET file of one transaction."""
+    return response("200 OK", '{"results":[{"n":1,"period":"24011","verdict":"%s"}]}' % verdict)
+
+
+def sums(documents, net):
+    """The response to an agent that asks for its sums in the period."""
+    return response("200 OK", '{"closed":false,"documents":%d,"net":"%s","period":"24011"}' % (documents, net))
+
+
+OFFICE, AGENT = f"Bsp-Token: {TOKEN}", "Bsp-Token: agenttoken000001"
+DONE, ACCEPTED, HELD = response("200 OK", '{"result":"done"}'), results("accepted"), results("held")
+FORBIDDEN = response("403 Forbidden", '{"code":"N01"}')
+STRANGER = message(f"GET {STOCK}", "Bsp-Token: x")
+REPORT = message(f"POST {RET}", AGENT, body=SALE)
+ASKED = message(f"GET {PERIOD}", AGENT)
+DAY = b'{"day":"2024-01-05"}'
+
+
+# ---- the cases
+
+# the most bytes of a head, and heads without their end that are refused: with their status and code
+MOST = 16_384
+REFUSED = [
+    ("GET /x HTTP/1.1", "400 Bad Request", "T01"),
+    ("GET /x", "400 Bad Request", "T01"),
+    ("GET /x HTTP/1.1\r\nHost: bsp\r\nHost: bsp", "400 Bad Request", "T01"),
+    ("POST /office/day HTTP/1.1\r\nHost: bsp\r\nContent-Length: 1\r\nContent-Length: 1", "400 Bad Request", "T01"),
+    ("POST /office/day HTTP/1.1\r\nHost: bsp\r\nContent-Length: +1", "400 Bad Request", "T01"),
+    ("POST /x HTTP/1.1\r\nHost: bsp", "411 Length Required", "T02"),
+    ("POST /office/day HTTP/1.1\r\nHost: bsp", "411 Length Required", "T02"),
+    ("POST /office/day HTTP/1.1\r\nHost: bsp\r\nContent-Length: 4194305", "413 Payload Too Large", "T03"),
+    ("GET /x HTTP/1.1\r\nHost: bsp\r\nContent-Length: 4194305", "413 Payload Too Large", "T03"),
+    ("GET /x HTTP/1.1\r\nHost: bsp\r\nX: ".ljust(MOST, "x"), "431 Request Header Fields Too Large", "T04"),
+    ("GET /x HTTP/1.1\r\nHost: bsp" + "\r\nX: x" * 64, "431 Request Header Fields Too Large", "T04"),
+    ("POST /office/day HTTP/1.1\r\nHost: bsp\r\nTransfer-Encoding: chunked", "501 Not Implemented", "T05"),
+]
+
+# what is sent to an office with an empty book, message by message, each with what is written
+SET_UP = [
+    (message("POST /office/plan", OFFICE, body=office.sample("plan.toml")), DONE),
+    (message("POST /office/day", OFFICE, body=DAY), DONE),
+    (message("POST /office/agents", OFFICE, body=b'{"agent":"12345675","token":"agenttoken000001"}'), DONE),
+    (message("POST /office/stock/allot", OFFICE, body=b'{"agent":"12345675","first":"1300000000","last":"1300000099"}'), DONE),
+]
+TALKS = {
+    "a stranger": [(STRANGER, FORBIDDEN)],
+    "no route, and another method": [
+        (STRANGER, FORBIDDEN),
+        (message("GET /x"), response("404 Not Found", '{"code":"N02"}')),
+        (message(f"POST {STOCK}"), response("405 Method Not Allowed", '{"code":"N03"}', "Allow: GET")),
+    ],
+    "an interim response": [
+        (message("POST /office/day", OFFICE, "Expect: 100-continue", body=DAY), b"HTTP/1.1 100 Continue\r\n\r\n" + DONE),
+    ],
+    "a body that ends early": [(message("POST /office/day", OFFICE, body=DAY)[:-1], b"")],
+    "a sale": [
+        *SET_UP,
+        (REPORT, ACCEPTED),
+        (ASKED, sums(1, "225.00")),
+        (REPORT, HELD),
+        (message(f"POST {RET}", AGENT, body=SALE[:600]), response("422 Unprocessable Entity", '{"code":"F01","record":5}')),
+        (message(f"POST {RET}", OFFICE, body=SALE), FORBIDDEN),
+    ],
+}
+
+# the most bytes of a read while a sale of 685 bytes comes, and how many bytes of it come where it is cut
+PIECES = range(1, 801)
+CUTS = range(686)
+
+# two reports of 784 bytes come in reads of 100 bytes: which read fails, from 0 on, the status, and how many reports
+# were complete before it. There are 17 reads: read 16 finds the end of the input.
+FAILED_READS = [(it, 3, 0) for it in range(8)] + [(it, 3, 1) for it in range(8, 16)] + [(16, 3, 2), (17, 0, 2)]
+
+# the replies to them are written one byte a write: which write fails, from 0 on
+FAILED_WRITES = range(len(ACCEPTED + HELD))
+
+
+# ---- parts
+
+numbers = itertools.count()
+
+
+def joined(exchanges):
+    """What is sent, and what is written."""
+    sent, written = zip(*exchanges)
+    return b"".join(sent), b"".join(written)
+
+
+def run(sent, steps, *words):
+    """The status, the output and the error text, how many calls the steps saw, and how many bytes these moved."""
+    log, words = f"log{next(numbers)}", [PROGRAM, "run", "--token", TOKEN, *words]
+    with tempfile.TemporaryFile() as it:
+        it.write(sent)
+        it.seek(0)
+        variables = {**os.environ, **office.stepping(steps, log)}
+        ended = subprocess.run(words, stdin=it, capture_output=True, timeout=60, env=variables)
+    return ended.returncode, ended.stdout, ended.stderr.decode(), *office.logged(log)
+
+
+def compare(cases, function=run):
+    """Runs the cases, four at once. Each has a name, what is wanted, and the words of the function."""
+    with concurrent.futures.ThreadPoolExecutor(4) as pool:
+        runs = [(what, wanted, pool.submit(function, *words)) for what, wanted, *words in cases]
+        for what, wanted, found in runs:
+            office.expect(what, wanted, found.result())
+
+
+def refusals():
+    """At once and byte by byte. What is behind the head is not answered, and not read where it does not come with it."""
+    for head, status, code in REFUSED:
+        what, written = f"{code} of {head[:80]!r}", response(status, f'{{"code":"{code}"}}', "Connection: close")
+        sent = f"{head}\r\n\r\n".encode() + message("GET /x")
+        read = min(len(head) + 4, MOST)
+        yield what, (0, written, "", 1, min(len(sent), MOST)), sent, "read 0"
+        yield f"{what}, byte by byte", (0, written, "", read, read), sent, "read 0 1*"
+
+
+def talks():
+    """At once and byte by byte. The last read finds the end of the input."""
+    for what, exchanges in TALKS.items():
+        sent, written = joined(exchanges)
+        yield what, (0, written, "", 2, len(sent)), sent, "read 0"
+        yield f"{what}, byte by byte", (0, written, "", len(sent) + 1, len(sent)), sent, "read 0 1*"
+
+
+def pieces():
+    """A sale that is reported again comes in pieces of each size, from one byte to the whole message."""
+    begun, replies = joined([*SET_UP, (REPORT, ACCEPTED)])
+    for most in PIECES:
+        calls = 2 + -(-len(REPORT) // most)
+        wanted = 0, replies + HELD, "", calls, len(begun + REPORT)
+        yield f"a sale in pieces of {most}", wanted, begun + REPORT, f"read 0 {len(begun)} {most}*"
+
+
+def cut_reply(length):
+    """The reply to a sale that was reported before, of which so many bytes come. Its last LF may be missing."""
+    if length >= len(SALE) - 1:
+        return HELD
+    whole, rest = divmod(length, RECORD)
+    code, record = {0: ("F08", whole + 1), RECORD - 1: ("F08", whole + 2)}.get(rest, ("F01", whole + 1))
+    return response("422 Unprocessable Entity", f'{{"code":"{code}","record":{record}}}')
+
+
+def cuts():
+    """A sale that is reported again, cut after each of its bytes."""
+    begun, replies = joined([*SET_UP, (REPORT, ACCEPTED)])
+    for length in CUTS:
+        sent = begun + message(f"POST {RET}", AGENT, body=SALE[:length])
+        yield f"a sale cut to {length} bytes", (0, replies + cut_reply(length), "", 2, len(sent)), sent, "read 0"
+
+
+def over_book(name, *runs):
+    """Each of these runs over one book, which begins with the set-up: what `run` gives, but for the bytes moved."""
+    for end in "", "-wal":
+        shutil.copy(f"set-up.db{end}", f"{name}.db{end}")
+    return [run(sent, steps, "--db", f"{name}.db")[:4] for sent, steps in runs]
+
+
+def opened(name, items):
+    """What standard error says of a book with the set-up, and so many items."""
+    return f"bsp_office: {name}.db: day 2024-01-05, 0 of 2 periods closed, 1 agent, 0 airlines, {items}, 0 memos\n"
+
+
+def failed_reads():
+    """The reports that were complete before a read that fails are answered and stay, and no other."""
+    for number, status, complete in FAILED_READS:
+        name, calls = f"read {number}", min(number + 1, 17)
+        failed = status, (b"", ACCEPTED, ACCEPTED + HELD)[complete], opened(name, "0 items"), calls
+        asked = (sums(1, "225.00"), opened(name, "1 item")) if complete else (sums(0, "0.00"), opened(name, "0 items"))
+        runs = (REPORT * 2, "read 0 " + "100 " * number + "fails"), (ASKED, "read 0")
+        yield f"{name} fails", [failed, (0, *asked, 2)], name, *runs
+
+
+def failed_writes():
+    """Before a write that fails a first part of the replies is written, and nothing behind it. The sale stays."""
+    for number in FAILED_WRITES:
+        name = f"write {number}"
+        failed = 3, (ACCEPTED + HELD)[:number], opened(name, "0 items"), number + 1
+        again = 0, HELD * 2, opened(name, "1 item"), 2
+        runs = (REPORT * 2, "write 1 " + "1 " * number + "fails"), (REPORT * 2, "read 0")
+        yield f"{name} fails", [failed, again], name, *runs
+
+
+def main():
+    with tempfile.TemporaryDirectory() as folder:
+        os.chdir(folder)
+        office.build_steps()
+        for part in refusals, talks, pieces, cuts:
+            compare(part())
+        sent, written = joined(SET_UP)
+        wanted = 0, written, "bsp_office: set-up.db: new book\n", 2, len(sent)
+        if office.expect("the set-up", wanted, run(sent, "read 0", "--db", "set-up.db")):
+            for part in failed_reads, failed_writes:
+                compare(part(), over_book)
+        os.chdir(office.TOP)
+    office.finish("bsp_office: the bytes of a connection are as docs/HTTP.md says")
+
+
+main()

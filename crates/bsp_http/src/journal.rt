@@ -1,0 +1,19 @@
+//! What takes note of an office's replies.
+
+use bsp_connection::Message;
+use bsp_desk::{Book, Desk};
+use bsp_responses::Reply;
+
+/// Takes note of the replies of an office over a book of type `B`.
+pub trait Journal<B: Book> {
+    /// Takes note of a reply before it is written: of the message too, where its head was read.
+    fn note(&self, desk: &Desk<B>, message: Option<&Message<'_>>, reply: &Reply<'_>);
+}
+
+/// Takes note of nothing.
+#[derive(Clone, Copy, Debug, PartialEq, Eq)]
+pub struct NoJournal;
+
+impl<B: Book> Journal<B> for NoJournal {
+    fn note(&self, _desk: &Desk<B>, _message: Option<&Message<'_>>, _reply: &Reply<'_>) {}
+}

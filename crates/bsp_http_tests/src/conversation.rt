@@ -1,5 +1,0 @@
-mod desk;
-mod ends;
-mod noted;
-mod peers;
-mod talks;
