@@ -1,8 +1,8 @@
 #!/usr/bin/env python3
 """Asks the built program over loopback with real clients, curl and Python's http.client, and compares what they receive;
-the same behind nginx, with samples/nginx.conf, where the machine has nginx; tries samples/bsp_office.service, and peers that are idle, that never read,
-that speak TLS and that send what is not read; and runs `serve` and `run` where they cannot serve, and compares the statuses and the lines on standard error.
-Exits with the number of cases that differ.
+the same behind nginx, with samples/nginx.conf, where the machine has nginx. Tries samples/bsp_office.service, and peers
+that are idle, that never read, that speak TLS and that send what is not read. Runs `serve` and `run` where they cannot
+serve, and compares the statuses and the lines on standard error. Exits with the number of cases that differ.
 
 usage: .ci/clients.py [PROGRAM]   (with no PROGRAM it takes the one that is built)
 """
