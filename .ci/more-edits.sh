@@ -15,8 +15,8 @@ cp "$top/crates.txt" "$top/HANDLES" "$room"
 for folder in "$top"/crates/*/; do
   crate=$(basename "$folder")
   mkdir "$room/crates/$crate"
-  for part in src specs proofs data; do
-    [ ! -d "$folder$part" ] || cp -a "$folder$part" "$room/crates/$crate/$part"
+  for part in src specs proofs data args stdin stdout; do
+    [ ! -e "$folder$part" ] || cp -a "$folder$part" "$room/crates/$crate/$part"
   done
 done
 
