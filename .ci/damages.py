@@ -1,13 +1,13 @@
 """Changes of the book of .ci/store.py, each as SQL, after which the program refuses it or opens it.
 
-RULES has changes of rows: what is wrong, SQL with a mark ?, and two texts for the mark. With the first a rule of the audit
-(docs/BOOK.md) is broken, and no other; with the second none is. All tallies are made anew after both. So a book with the
-first is refused for that rule alone, and one with the second is opened. Some of the rules no row can break: what rule 6
+RULES has changes of rows: what is wrong, SQL with a mark ?, two texts for the mark, and what the program says is at fault.
+With the first text a rule of the audit (docs/BOOK.md) is broken, and no other; with the second none is. All tallies are made
+anew after both. So a book with the first is refused for that rule alone, and one with the second is opened. Some of the rules no row can break: what rule 6
 compares is one column, and so are the keys of the rules 5 and 17, but for `canx`, which is in DAMAGES. Rule 8 follows from
 the rules 2 and 9.
 
-DAMAGES has changes of keys, texts, tallies and tables, and VERSIONS those that make it a book of another version. Each is
-refused; its tallies stay as they are.
+DAMAGES has changes of keys, texts, tallies and tables, each with what is at fault, and VERSIONS those that make it a book of
+another version. Each is refused; its tallies stay as they are.
 
 The book has the tickets 1300000001 and 1300000003 of 125, the first exchanged for the second, 1300000005 of 125, which is
 cancelled, and 1300000008 of 220. All are of the agent 12345675 and of 2024-01-05, in the closed period 24011. On the
@@ -18,6 +18,7 @@ import datetime
 
 A, B, NOBODY = "'12345675'", "'76543213'", "'12345686'"
 EXCHANGED, EXCHANGE, CANCELLED, CARD = "'1300000001'", "'1300000003'", "'1300000005'", "'1300000008'"
+REFUND = "'1300000009'"
 ITEM = """agent number canx check_digit airline code issued period alive name fare taxes rate commission
     rel_airline rel_number rel_check ca cc ex vendor""".split()
 
@@ -57,75 +58,90 @@ def memo_with(values):
     return f"UPDATE memo SET {values} WHERE number = '6000000002'"
 
 
+def item(number, agent=A, is_canx=0):
+    """An item at fault."""
+    return f"item {agent} {number} {is_canx}".replace("'", '"')
+
+
+MEMO = 'memo "125" "6000000002"'
+NO_PLAN = "no plan has these terms, airlines, rates, periods and closes"
+MANY = "ranges meet, two items relate to one ticket, or a limit is passed"
+
 PLAN = {
-    "a rate of an airline that is not published": ("UPDATE rate SET airline = ?", "'999'", "'220'"),
-    "a period that begins late": ("UPDATE period SET begins = ? WHERE code = '24012'", day("17"), day("16")),
-    "a closed period that is not over": ("UPDATE meta SET closed = 2, day = ?", day("31"), day("31") + 1),
+    "a rate of an airline that is not published": ("UPDATE rate SET airline = ?", "'999'", "'220'", NO_PLAN),
+    "a period that begins late": ("UPDATE period SET begins = ? WHERE code = '24012'", day("17"), day("16"), NO_PLAN),
+    "a closed period that is not over": ("UPDATE meta SET closed = 2, day = ?", day("31"), day("31") + 1, NO_PLAN),
 }
 
 RANGES = {
-    "a range of no agent": ("INSERT INTO stock VALUES (?, '1600000000', '1600000009')", NOBODY, B),
-    "a range without a number": (f"INSERT INTO stock VALUES ({B}, '1600000001', ?)", "'1600000000'", "'1600000001'"),
-    "a range that meets another agent's": (f"UPDATE stock SET lo = ? WHERE agent = {B}", "'1300000099'", "'1300000100'"),
+    "a range of no agent": ("INSERT INTO stock VALUES (?, '1600000000', '1600000009')", NOBODY, B, 'stock "12345686" "1600000000"'),
+    "a range without a number": (f"INSERT INTO stock VALUES ({B}, '1600000001', ?)", "'1600000000'", "'1600000001'", MANY),
+    "a range that meets another agent's": (f"UPDATE stock SET lo = ? WHERE agent = {B}", "'1300000099'", "'1300000100'", MANY),
 }
 
 ITEMS = {
-    "a wrong check digit": (item_with("number = '1300000009', check_digit = ?"), "6", "0"),
-    "a ticket without a form of payment": (item_with("ca = ?", EXCHANGED), "NULL", "1"),
+    "a wrong check digit": (item_with("number = '1300000009', check_digit = ?"), "6", "0", item(REFUND)),
+    "a ticket without a form of payment": (item_with("ca = ?", EXCHANGED), "NULL", "1", item(EXCHANGED)),
     "a refund of nothing": (
         refund(CARD, rel_airline="iif(?, airline, NULL)", rel_number="iif(?, number, NULL)",
-               rel_check="iif(?, check_digit, NULL)"), "0", "1"),
+               rel_check="iif(?, check_digit, NULL)"), "0", "1", item(REFUND)),
     "a sale out of another agent's stock": (
-        item_with(f"agent = {B}, number = ?, check_digit = 1"), "'1300000010'", "'1400000001'"),
-    "a sale out of stock": (item_with("number = ?, check_digit = 0"), "'1300000100'", "'1300000093'"),
-    "a sale issued after the business day": (item_with("period = '24012', issued = ?"), day("17"), day("16")),
-    "a sale issued after its period": (item_with("issued = ?"), day("16"), day("15")),
-    "a sale of no period": (item_with("period = ?"), "'24013'", "'24012'"),
+        item_with(f"agent = {B}, number = ?, check_digit = 1"), "'1300000010'", "'1400000001'", item("'1300000010'", B)),
+    "a sale out of stock": (item_with("number = ?, check_digit = 0"), "'1300000100'", "'1300000093'", item("'1300000100'")),
+    "a sale issued after the business day": (item_with("period = '24012', issued = ?"), day("17"), day("16"), item(CARD)),
+    "a sale issued after its period": (item_with("issued = ?"), day("16"), day("15"), item(CARD)),
+    "a sale of no period": (item_with("period = ?"), "'24013'", "'24012'", item(CARD)),
 }
 
 RELATED_ITEMS = {
-    "a cancelled ticket that lives": (canx(CARD, "?"), "1", "canx"),
-    "a CANX that does not live": (canx(CARD, "?"), "0", "canx"),
+    "a cancelled ticket that lives": (canx(CARD, "?"), "1", "canx", item(CARD)),
+    "a CANX that does not live": (canx(CARD, "?"), "0", "canx", item(CARD, A, 1)),
     "a ticket that ended without a CANX": (
-        f"DELETE FROM item WHERE number = {CANCELLED} AND canx;" + item_with("alive = ?", CANCELLED), "0", "1"),
-    "a CANX of another airline": (canx(CARD, airline="?"), "'125'", "'220'"),
-    "a refund of no ticket": (refund(CARD, rel_number="?"), "'1300000015'", "number"),
-    "a refund by another airline": (refund(CARD, airline="?"), "'125'", "'220'"),
-    "a refund of a refund": (refund(CARD) + refund("?", 1300000010), "'1300000009'", EXCHANGE),
-    "a refund of a cancelled ticket": (refund("?"), CANCELLED, EXCHANGE),
-    "a CANX of an exchanged ticket": (canx("?"), EXCHANGED, EXCHANGE),
-    "a refund of an exchanged ticket": (refund("?"), EXCHANGED, EXCHANGE),
-    "two refunds of one ticket": (refund(EXCHANGE) + refund("?", 1300000010), EXCHANGE, CARD),
-    "more documents than the limit": ("UPDATE terms SET documents = ?", "3", "4"),
+        f"DELETE FROM item WHERE number = {CANCELLED} AND canx;" + item_with("alive = ?", CANCELLED), "0", "1", item(CANCELLED)),
+    "a CANX of another airline": (canx(CARD, airline="?"), "'125'", "'220'", item(CARD)),
+    "a refund of no ticket": (refund(CARD, rel_number="?"), "'1300000015'", "number", item(REFUND)),
+    "a refund by another airline": (refund(CARD, airline="?"), "'125'", "'220'", item(REFUND)),
+    "a refund of a refund": (refund(CARD) + refund("?", 1300000010), "'1300000009'", EXCHANGE, item("'1300000010'")),
+    "a refund of a cancelled ticket": (refund("?"), CANCELLED, EXCHANGE, item(REFUND)),
+    "a CANX of an exchanged ticket": (canx("?"), EXCHANGED, EXCHANGE, item(EXCHANGE)),
+    "a refund of an exchanged ticket": (refund("?"), EXCHANGED, EXCHANGE, MANY),
+    "two refunds of one ticket": (refund(EXCHANGE) + refund("?", 1300000010), EXCHANGE, CARD, MANY),
+    "more documents than the limit": ("UPDATE terms SET documents = ?", "3", "4", MANY),
 }
 
 MEMOS = {
-    "a memo to no agent": (memo_with("agent = ?"), NOBODY, B),
-    "a memo issued after the business day": (memo_with("issued = ?"), day("17"), day("16")),
-    "a memo billed in an open period": (memo_with("state = 'agreed', billed = ?"), "'24012'", "'24011'"),
-    "a disputed memo that is billed": (memo_with("state = ?, billed = '24011'"), "'disputed'", "'agreed'"),
+    "a memo to no agent": (memo_with("agent = ?"), NOBODY, B, MEMO),
+    "a memo issued after the business day": (memo_with("issued = ?"), day("17"), day("16"), MEMO),
+    "a memo billed in an open period": (memo_with("state = 'agreed', billed = ?"), "'24012'", "'24011'", MEMO),
+    "a disputed memo that is billed": (memo_with("state = ?, billed = '24011'"), "'disputed'", "'agreed'", MEMO),
     "a memo billed while its review lasts": (
-        "UPDATE terms SET review = ?;" + memo_with("state = 'open', billed = '24011'"), "11", "10"),
-    "a reduced memo of its first amount": (memo_with("state = 'reduced', amount = ?"), "5000", "4999"),
+        "UPDATE terms SET review = ?;" + memo_with("state = 'open', billed = '24011'"), "11", "10", MEMO),
+    "a reduced memo of its first amount": (memo_with("state = 'reduced', amount = ?"), "5000", "4999", MEMO),
     "more memos than the limit": (
-        f"DELETE FROM item WHERE airline = '125'; UPDATE memo SET agent = {A}; UPDATE terms SET documents = ?", "1", "2"),
+        f"DELETE FROM item WHERE airline = '125'; UPDATE memo SET agent = {A}; UPDATE terms SET documents = ?", "1", "2", MANY),
 }
 
 RULES = {**PLAN, **RANGES, **ITEMS, **RELATED_ITEMS, **MEMOS}
 
+COUNT = " has too few rows or too many"
 DAMAGES = {
-    "a ticket under the key of its CANX": item_with("canx = 1"),
-    "a memo of no kind": memo_with("kind = 'X'"),
-    "a token of an agent out of its form": f"UPDATE agent SET token = '' WHERE code = {B}",
-    "a token of an airline out of its form": "UPDATE airline_token SET token = '' WHERE airline = '220'",
-    "an airline out of its place": "UPDATE airline SET place = 3 WHERE code = '220'",
-    "a tally that is one more": f"UPDATE tally SET cash = cash + 1 WHERE agent = {A} AND airline = '125'",
-    "a tally too few": f"DELETE FROM tally WHERE agent = {A} AND airline = '220'",
-    "no tallies": "DELETE FROM tally",
-    "a second row of the day": "INSERT INTO meta SELECT * FROM meta",
-    "no row of the day": "DELETE FROM meta",
-    "no table of memos": "DROP TABLE memo",
-    "a further table": "CREATE TABLE note (text TEXT NOT NULL) STRICT",
+    "a ticket under the key of its CANX": (item_with("canx = 1"), item(CARD, A, 1)),
+    "a memo of no kind": (memo_with("kind = 'X'"), MEMO),
+    "a token of an agent out of its form": (f"UPDATE agent SET token = '' WHERE code = {B}", 'agent "76543213"'),
+    "a token of an airline out of its form": (
+        "UPDATE airline_token SET token = '' WHERE airline = '220'", 'airline_token "220"'),
+    "an airline out of its place": ("UPDATE airline SET place = 3 WHERE code = '220'", 'airline "220"'),
+    "a tally that is one more": (
+        f"UPDATE tally SET cash = cash + 1 WHERE agent = {A} AND airline = '125'", 'tally "12345675" "125" "24011"'),
+    "a tally too few": (f"DELETE FROM tally WHERE agent = {A} AND airline = '220'", "tally" + COUNT),
+    "no tallies": ("DELETE FROM tally", "tally" + COUNT),
+    "a second row of the day": ("INSERT INTO meta SELECT * FROM meta", "meta" + COUNT),
+    "no row of the day": ("DELETE FROM meta", "meta" + COUNT),
+    "no table of memos": ("DROP TABLE memo", "the table memo is missing or another"),
+    "another column of the tallies": ("ALTER TABLE tally ADD COLUMN note TEXT", "the table tally is missing or another"),
+    "a further table": ("CREATE TABLE note (text TEXT NOT NULL) STRICT", 'the table "note" is none of a book'),
+    "an index": ("CREATE INDEX item_period ON item (period)", 'the index "item_period" is none of a book'),
+    "a view": ("CREATE VIEW living AS SELECT * FROM item WHERE alive", 'the view "living" is none of a book'),
 }
 
 VERSIONS = {

@@ -66,7 +66,8 @@ NEXT, NEXT_REPLY = head("GET /office/settlement/24011", HOST), FORBIDDEN
 # texts without the end of a head: no reply; and texts that are no head of a request: 400 T01, always with its text
 NO_END = [b"", b"\r\n\r\n\n\n", b"GET /x HTTP/1.1\r\nHost: a\r\n", b"GET /x HTTP/1.1\r\nHost: a\r\n\r"]
 NO_HEADS = [head("GET /x HTTP/2.0", HOST), head("GET  /x", HOST), head(GET, "Host : a"), head(HEAD, "Host : a"),
-            b"GET /x\r\nHost: a\r\n\r\n", b"no head\r\n\r\n"]
+            b"GET /x\r\nHost: a\r\n\r\n", b"no head\r\n\r\n", head(" /x", HOST), head("GET /office/settlement/ 24011", HOST),
+            head("GET /agents/\x7f/stock", HOST), b"GET /\xff HTTP/1.1\r\nHost: a\r\n\r\n"]
 
 # heads that are refused, behind the code, the last ones for the first of several faults: to a HEAD without the text
 REFUSED = [
@@ -88,6 +89,7 @@ ANSWERED = [
     (b"\r\n\nGET /x HTTP/1.1\nHost: a\r\n\n", NO_ROUTE), (b"GET /x HTTP/1.1\nHost: a\n\nbody\n\n", NO_ROUTE + MALFORMED),
     *((text, MALFORMED) for text in (b"a\n\r\r\n\n", b"a\n \n\r\n", b"\r\r\n\n")),
     (head(HEAD, HOST), BARE), (head("head /x", HOST), NO_ROUTE), (head("PUT /office/day?b", HOST), NO_ROUTE),
+    *((head(f"GET {it}", HOST), NO_ROUTE) for it in ("*", "office/plan", "http://bsp/office/plan", "/agents/M\xfcller/stock")),
     *((head(asked, HOST), refusal("N03", f"Allow: {methods}")) for asked, methods in (
         ("get /office/settlement/24011", "GET"), ("PUT /office/day", "POST"), ("DELETE /airlines/125/memos", "GET, POST"))),
     *((head(f"HEAD {path}", HOST, CLOSE), refusal("N03", f"Allow: {methods}", CLOSE, bare=True)) for path, methods in (
@@ -121,12 +123,14 @@ TALK = [
     (head(HEAD, HOST), BARE), (post("/office/day", b"", f"Bsp-Token: {TOKEN}"), FORBIDDEN)]
 SENT, WRITTEN = (b"".join(it) for it in zip(*TALK))
 
-# a body of several pieces, and a shorter one behind it; a RET file with a fault, and an empty one; bodies of the most bytes
+# a body of several pieces, and a shorter one behind it; a RET file with a fault, and an empty one; bodies of the most bytes,
+# the last of brackets alone
 FAULTY = SALE[:137] + SALE[411:548] + SALE[:137] + b"\t".ljust(136) + b"\n" + SALE[548:]
 BODIES = [
     (post("/office/day", b'{"day":%20000b}' % b'"2024-01-05"') + post("/office/day", DAY), DONE + HELD),
     (post("/office/ret", FAULTY) + post("/office/ret", b""), refusal("F03", record=2) + refusal("F08", record=1)),
-    (post("/x", bytes(BODY)), NO_ROUTE), (post("/office/day", b'{"day":%*b}' % (BODY - 8, b'"2024-01-05"')), DONE)]
+    (post("/x", bytes(BODY)), NO_ROUTE), (post("/office/day", b'{"day":%*b}' % (BODY - 8, b'"2024-01-05"')), DONE),
+    (post("/office/day", b"[" * BODY), refusal("N04"))]
 PIECES = 1, 7, 100, 1024, 8191, 8192, 8193, 16_384
 
 # messages of which each allocation is refused in turn, how some of these end, and how others may: the status, what is

@@ -1,10 +1,11 @@
 #!/usr/bin/env python3
 """Runs the built programs with their first allocation refused, then with their second, and so on until a run refuses none:
-- bsp_rule_examples and bsp_record_examples on a page with each public call that takes memory. A call then answers as with
-  ample memory, or names the lack of memory; the same case after it, or the same call again, answers as with ample memory.
+- bsp_record_examples on a page with each call of fields and records that takes memory. A call then answers as with ample
+  memory, or names the lack of memory; the same case after it answers as with ample memory.
 - bsp_office on words and files. It ends as with ample memory, or with status 3, no output and the line that memory was short.
-- its command `run`, which is sent each request of a conversation twice. Each reply is that of ample memory; or one is
-  503 B01, and the same request after it has the reply of ample memory to the first of the two.
+- its command `run`, which is sent each request of some conversations twice; these have each request of docs/ROUTES.md.
+  Each reply is that of ample memory; or one is 503 B01, and the same request after it has the reply of ample memory to the
+  first of the two.
 - the same over a book in a file, with one allocation in forty refused; the file is then opened again.
 Exits with the number of cases that differ.
 
@@ -27,15 +28,18 @@ import office
 from office import TOP, expect, sample
 
 PROGRAM = office.program()
-RULES, RECORDS = (TOP / "crates" / name / "out" / name for name in ("bsp_rule_examples", "bsp_record_examples"))
+RECORDS = TOP / "crates" / "bsp_record_examples" / "out" / "bsp_record_examples"
 TOKEN = "officetoken00001"
 SHORT = re.compile(rb"bsp_office: .*out of memory\n")
 NOTES = re.compile(rb"(bsp_office: (\S+\.db: (new book|day .*)|[A-Z]+ /\S* 503 B01 14)\n)*")
 # how a call names the lack of memory
-LACKS = re.compile(rb"F10|NoRoom|NoMemory|out of memory|there is no input|standard input or output failed")
+LACKS = re.compile(rb"F10|NoRoom|out of memory|standard input or output failed")
 WORDS = ["check v1.ret", "check kinds.ret", "check sum.ret", "hotcheck v3.hot", "hotcheck short.hot", "--help", "--version",
          "check --help", "", "check", "report v1.ret", "check --unknown", "hotcheck v3.hot v3.hot", "check --quiet sum.ret"]
-CONVERSATIONS = ["14-memos", "16-reports", "19-stock", "38-reduced-memo"]
+CONVERSATIONS = ["05-sale", "11b-cancelled-in-one-file", "14-memos", "16-reports", "19-stock", "23b-malformed-bodies",
+                 "38-reduced-memo", "callers-refused", "memo-actions"]
+# that of which the same is tried over a book in a file
+KEPT = "16-reports"
 
 
 class Run(typing.NamedTuple):
@@ -88,9 +92,8 @@ def is_page(ample, found, _number):
 
 
 def pages():
-    for program in RULES, RECORDS:
-        page = (program.parents[1] / "data" / "calls").read_bytes()
-        yield program.name, each_refused(program.name, lambda _, it=program: [it], page, is_page)
+    page = (RECORDS.parents[1] / "data" / "calls").read_bytes()
+    yield RECORDS.name, each_refused(RECORDS.name, lambda _: [RECORDS], page, is_page)
 
 
 # ---- words
@@ -106,9 +109,9 @@ def is_same_or_quiet(ample, found, number):
 
 def words():
     """The program on files and words, some of them wrong."""
-    hot, kinds = sample("no-documents.hot"), (TOP / "crates" / "bsp_rule_examples" / "data" / "kinds.ret").read_bytes()
+    hot, kinds = sample("no-documents.hot"), (TOP / "examples" / "files" / "kinds.ret").read_bytes()
     files = {"v1.ret": sample("sale.ret"), "kinds.ret": kinds, "v3.hot": hot, "short.hot": b"".join(hot.splitlines(True)[:3]),
-             "sum.ret": kinds.replace(b"2850{", b"2851{")}
+             "sum.ret": kinds.replace(b"7551A", b"7552A")}
     for name, text in files.items():
         pathlib.Path(name).write_bytes(text)
     for line in WORDS:
@@ -184,7 +187,7 @@ def over(number):
 
 def is_kept(ample, found, number):
     """The same; and the file opens again, with an answer to each request for a report."""
-    _, entries = examples.conversations(TOP / "examples" / f"{CONVERSATIONS[1]}.hurl")[0]
+    _, entries = examples.conversations(TOP / "examples" / f"{KEPT}.hurl")[0]
     asked = [message(it) for it in entries if it.method == "GET"]
     again = subprocess.run(over(number), input=b"".join(asked), capture_output=True, timeout=60)
     for it in pathlib.Path().glob(f"{number}.db*"):
@@ -195,7 +198,7 @@ def is_kept(ample, found, number):
 
 
 def over_files():
-    yield "bsp_office run --db", each_refused("bsp_office run --db", over, twice(CONVERSATIONS[1]), is_kept, stride=40)
+    yield "bsp_office run --db", each_refused("bsp_office run --db", over, twice(KEPT), is_kept, stride=40)
 
 
 def main():

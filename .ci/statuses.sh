@@ -18,6 +18,7 @@ trap 'rm -rf "$work"' EXIT
 cd "$work" || exit 1
 cp "$top/samples/sale.ret" v1.ret
 cp "$top/samples/no-documents.hot" v3.hot
+cp "$top"/examples/files/*.hot .
 head -n 3 v3.hot >short.hot
 : >empty
 cp empty ./--quiet
@@ -133,6 +134,9 @@ expect 3 '' '/: a read failed' check /
 expect 3 '' ": $none" check ''
 expect 3 '' "/dev/zero: $long" check /dev/zero
 reports hotcheck v3.hot 0 'OK records 4 documents 0 net 0.00'
+reports hotcheck 125-24011.hot 0 'OK records 19 documents 2 net 175.00'
+reports hotcheck 220-24011.hot 0 'OK records 17 documents 2 net 30.00'
+reports hotcheck 125-kinds.hot 0 'OK records 54 documents 8 net 461.39'
 reports hotcheck v3-without-its-last-line-end 0 'OK records 4 documents 0 net 0.00'
 reports hotcheck memo-with-cr-lf 0 'OK records 11 documents 1 net -50.00'
 reports hotcheck short.hot 1 'H04 record 4' 'record 4: the file ends before this record'

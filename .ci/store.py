@@ -208,7 +208,7 @@ def example_43():
     ])
     with contextlib.closing(sqlite3.connect("cancelled.db", isolation_level=None)) as it:
         it.execute("UPDATE tally SET cash = 1 WHERE period = '24011'")
-    refusal("other cash", "cancelled.db", DAMAGED, 1)
+    refusal("other cash", "cancelled.db", DAMAGED + ': tally "12345675" "125" "24011"', 1)
 
 
 def kept_order():
@@ -419,10 +419,10 @@ def tallies_anew():
 def rules_broken():
     """Rows that break a rule are refused, although their tallies agree. The nearest rows that break none are opened."""
     anew = tallies_anew()
-    for what, (change, *texts) in damages.RULES.items():
+    for what, (change, *texts, fault) in damages.RULES.items():
         broken, sound = (f"{change.replace('?', str(it))}; {anew}" for it in texts)
         changed(broken)
-        refusal(what, "copy.db", DAMAGED, 1)
+        refusal(what, "copy.db", f"{DAMAGED}: {fault}", 1)
         changed(sound)
         ended = subprocess.run([*RUN, "copy.db"], input=b"", capture_output=True, timeout=60)
         opened_it = re.fullmatch(rb"bsp_office: copy\.db: day .*\n", ended.stderr) is not None
@@ -431,10 +431,12 @@ def rules_broken():
 
 def damaged():
     """Each damage of a copy of the book is seen, and the book itself is as it was."""
-    for cause, changes in (DAMAGED, damages.DAMAGES), (OTHER_VERSION, damages.VERSIONS):
-        for what, script in changes.items():
-            changed(script)
-            refusal(what, "copy.db", cause, 1)
+    for what, (script, fault) in damages.DAMAGES.items():
+        changed(script)
+        refusal(what, "copy.db", f"{DAMAGED}: {fault}", 1)
+    for what, script in damages.VERSIONS.items():
+        changed(script)
+        refusal(what, "copy.db", OTHER_VERSION, 1)
     changed("")
     program = opened("copy.db")
     expect("a copy of the book", 200, ask(program, of_office("GET", "settlement/24011"))[0])
@@ -469,7 +471,7 @@ def not_opened():
         it.execute("CREATE TABLE note (text TEXT)")
         it.execute("BEGIN EXCLUSIVE")
         refusal("a file that sqlite3 holds", "held.db", IN_USE, 3)
-    refusal("another database", "held.db", DAMAGED, 1)
+    refusal("another database", "held.db", DAMAGED + ': the table "note" is none of a book', 1)
     read_only()
 
 

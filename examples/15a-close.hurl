@@ -54,3 +54,10 @@ Bsp-Token: officetoken00001
 {"period":"24011"}
 HTTP 200
 {"result":"held"}
+
+# The sale of the closed period is held there.
+POST {{base}}/agents/12345675/ret
+Bsp-Token: agenttoken000001
+file,samples/sale.ret;
+HTTP 200
+{"results":[{"n":1,"period":"24011","verdict":"held"}]}

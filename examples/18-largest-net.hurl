@@ -39,3 +39,15 @@ GET {{base}}/airlines/220/hot/24011
 Bsp-Token: airlinetoken0220
 HTTP 409
 {"code":"H01"}
+
+# A sum that is wider than its place is whole.
+GET {{base}}/agents/12345675/statements/24011
+Bsp-Token: agenttoken000001
+HTTP 200
+```
+STATEMENT 12345675 PERIOD 24011 REMIT 2024-02-15 EUR
+AIR    DOCS            CASH          CREDIT      COMMISSION           MEMOS             NET
+125       0            0.00            0.00            0.009999999999900.009999999999900.00
+220       0            0.00            0.00            0.0010000999999899.9910000999999899.99
+TOT       0            0.00            0.00            0.0020000999999799.9920000999999799.99
+```

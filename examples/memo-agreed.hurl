@@ -47,3 +47,22 @@ GET {{base}}/airlines/125/memos
 Bsp-Token: airlinetoken0125
 HTTP 200
 {"memos":[{"agent":"12345675","airline":"125","amount":3000,"billed":"24011","document":"7000000001","issued":"2024-01-05","kind":"ADMA","reason":"fare","state":"agreed"}]}
+
+# A second agreement is held, also once the memo is billed; a dispute and a withdrawal are refused.
+POST {{base}}/agents/12345675/memos/agree
+Bsp-Token: agenttoken000001
+{"airline":"125","document":"7000000001"}
+HTTP 200
+{"result":"held"}
+
+POST {{base}}/agents/12345675/memos/dispute
+Bsp-Token: agenttoken000001
+{"airline":"125","document":"7000000001"}
+HTTP 409
+{"code":"M03"}
+
+POST {{base}}/airlines/125/memos/withdraw
+Bsp-Token: airlinetoken0125
+{"document":"7000000001"}
+HTTP 409
+{"code":"M03"}

@@ -1,6 +1,6 @@
 //! Writing, with what a fault leaves written.
 
-ghost use Rattle.std.specs.Prelude.{◌≡◌, true, false, OnErr};
+ghost use Rattle.std.specs.Prelude.{◌≡◌, true, false, IsErr, OnErr};
 ghost use Rattle.std.specs.Io.KnownBytes.{Keeps};
 ghost use Rattle.bsp_connection.specs.Exchanges.{IsWritten};
 ghost use Rattle.bsp_responses.specs.Responses.{reply_text, response};
@@ -19,6 +19,7 @@ pub fn send<W: Write>(writer: &mut Noted<W>, bytes: &[u8]) -> Result<(), WriteFa
     ensures written { IsWritten (W.contents writer.old.inner) (W.contents writer.new.inner) bytes.now result }
     ensures cause { OnErr result (writer.new.failed ≡ true) }
     ensures noted { writer.old.failed ≡ true → writer.new.failed ≡ true }
+    ensures silent { writer.old.failed ≡ true → (writer.new ≡ writer.old) × IsErr result }
 {
     if writer.has_failed() {
         return Err(WriteFault);

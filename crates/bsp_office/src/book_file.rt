@@ -1,7 +1,7 @@
 //! The file of a book: made for its owner alone, and why it is not opened.
 
-use bsp_store::OpenFault;
-use sqlite::{Error, ErrorCode};
+use bsp_store::{OpenFault, damage_at};
+use sqlite::{Error, ErrorCode, Wary};
 use std::fs::{self, OpenOptions};
 use std::io;
 use std::os::unix::fs::{MetadataExt, OpenOptionsExt};
@@ -47,18 +47,37 @@ fn refusal(rt: &HostRuntime, file: &str) -> io::Result<&'static str> {
     Ok("")
 }
 
+/// Says on standard error what damages the book, as far as it is found: a table, an index or a view, or the key of a row.
+fn say_damage(rt: &HostRuntime, file: &str, fault: &OpenFault) {
+    let _ = match damage_at(rt, file, Wary) {
+        Ok(damage) => eprintln!(rt; "bsp_office: {file}: {fault}: {damage}"),
+        Err(_) => eprintln!(rt; "bsp_office: {file}: {fault}"),
+    };
+}
+
+/// Says on standard error why a file cannot be opened as a database.
+fn say_refusal(rt: &HostRuntime, file: &str, fault: &OpenFault) {
+    let _ = match refusal(rt, file) {
+        Ok(cause) => eprintln!(rt; "bsp_office: {file}: {fault}{cause}"),
+        Err(error) => eprintln!(rt; "bsp_office: {file}: {fault}: {error}"),
+    };
+}
+
 /// Says on standard error why a file is not opened as a book. B02 and B04 are a line of their own in front.
 pub(crate) fn say_unopened(rt: &HostRuntime, file: &str, fault: &OpenFault) {
-    let _ = match fault {
-        OpenFault::Damaged => rt.eprintln("B02"),
-        OpenFault::OtherVersion => rt.eprintln("B04"),
-        OpenFault::NoRoom | OpenFault::Failed(_) => Ok(()),
-    };
-    let _ = match fault {
-        OpenFault::Failed(Error::SqliteFailure(ErrorCode::CannotOpen)) => match refusal(rt, file) {
-            Ok(cause) => eprintln!(rt; "bsp_office: {file}: {fault}{cause}"),
-            Err(error) => eprintln!(rt; "bsp_office: {file}: {fault}: {error}"),
-        },
-        _ => eprintln!(rt; "bsp_office: {file}: {fault}"),
-    };
+    match fault {
+        OpenFault::Damaged => {
+            let _ = rt.eprintln("B02");
+            say_damage(rt, file, fault);
+        }
+        OpenFault::OtherVersion => {
+            let _ = eprintln!(rt; "B04\nbsp_office: {file}: {fault}");
+        }
+        OpenFault::Failed(Error::SqliteFailure(ErrorCode::CannotOpen)) => {
+            say_refusal(rt, file, fault);
+        }
+        OpenFault::NoRoom | OpenFault::Failed(_) => {
+            let _ = eprintln!(rt; "bsp_office: {file}: {fault}");
+        }
+    }
 }

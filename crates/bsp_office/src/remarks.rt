@@ -1,7 +1,6 @@
 //! What standard error says about the FILE of a command: one line, where something is wrong.
 
-use crate::fault::Fault;
-use crate::verdict::Verdict;
+use bsp_check::{Fault, Verdict};
 use std::fmt::Display;
 use std::io;
 

@@ -1,14 +1,11 @@
 //! Runs the work that the command line asks for.
 
-use crate::checking::{check, hotcheck};
-use crate::fault::Fault;
 use crate::input::Input;
 use crate::remarks::{say_answer, say_unopened};
 use crate::serving::{Port, run_office, serve_office};
-use crate::status::{DONE, FAILED, WRONG_WORDS};
-use crate::verdict::{Verdict, exit_status};
-use crate::words::{WordsFault, Work, words};
+use bsp_check::{DONE, FAILED, Fault, Verdict, WRONG_WORDS, check, exit_status, hotcheck};
 use bsp_connection::Noted;
+use bsp_words::{WordsFault, Work, words};
 use clap::error::ErrorKind;
 use std::convert::AsStr;
 use std::{env, io};

@@ -1,7 +1,6 @@
 //! The file that has the office's token.
 
-use crate::fault::Fault;
-use crate::reading::read_whole;
+use bsp_check::{Fault, read_whole};
 use bsp_connection::Noted;
 use bsp_fields::Token;
 use std::fs::File;

@@ -4,7 +4,7 @@ use crate::fault::Fault;
 use crate::lines::Line;
 use crate::output::Output;
 use crate::page::Page;
-use crate::{codes, days, explanations, fields, hot, records, ret, transactions};
+use crate::{codes, days, explanations, fields, hot, records, ret, rules, transactions};
 
 /// Makes the call of a word.
 fn answer(page: &Page<'_>, word: &str, rest: &str, out: &mut Output) -> Result<(), Fault> {
@@ -15,6 +15,9 @@ fn answer(page: &Page<'_>, word: &str, rest: &str, out: &mut Output) -> Result<(
         return answered;
     }
     if let Some(answered) = days::answer(word, rest, out) {
+        return answered;
+    }
+    if let Some(answered) = rules::answer(word, rest, out) {
         return answered;
     }
     if let Some(answered) = records::answer(page, word, rest, out) {

@@ -1,5 +1,5 @@
-//! Worked examples of the fields and records of RET and HOT files. It reads a page of cases from standard
-//! input, makes the call that each case names, and writes the page with what the calls gave.
+//! Worked examples of the fields and records of RET and HOT files, of commission and of memos. It reads a page of
+//! cases from standard input, makes the call that each case names, and writes the page with what the calls gave.
 //! The page says how a case is written. The status is 1 where a line is no case.
 #![tactic(auto)]
 
@@ -20,6 +20,7 @@ mod page;
 mod reader;
 mod records;
 mod ret;
+mod rules;
 mod texts;
 mod transactions;
 mod words;

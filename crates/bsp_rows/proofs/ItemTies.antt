@@ -27,7 +27,7 @@ use Rattle.bsp_rules.specs.SameContent.{same_code}
 use Rattle.bsp_ret_records.specs.declared.codes.TransactionCode.TheVariants.{Tktt}
 use Rattle.bsp_rules.specs.declared.rows.Item.{Item}
 use Rattle.bsp_postings.specs.Tallies.{is_item_under}
-use Rattle.bsp_rows.specs.Audit.{AreItemsAudited, AreItemsTied, AreWithin, as_map, is_living_sale, relation_by, relation_cmp, relation_of}
+use Rattle.bsp_rows.specs.Audit.{AreItemsAudited, AreWithin, EachItem, IsTiedItem, as_map, is_living_sale, relation_by, relation_cmp, relation_of}
 use Rattle.bsp_rows.specs.Rows.{canx_of, item_cmp, range_cmp}
 use Rattle.bsp_rows.specs.Sound.{AreSoundItems, AreSoundRanges, HasTicket, IsRight, is_counted, ticket_key}
 use Rattle.bsp_rows.specs.Tallies.{item_tally_key, key_tally, tally_cmp}
@@ -219,14 +219,14 @@ module _ (m : BTreeMap ItemKey Item) (ordered : IsOrdered item_cmp m) where
       let agents : j.agent ≡ k.agent = ap (λ (x : ItemKey). x.agent) right.keyed ∙ sym same in
       sym right.keyed ∙ (λ n. record { agent = agents n; number = number_of (sym number n); is_canx = canx n })
 
-  pub lives : Rights → AreItemsTied items → (k l : ItemKey) (i j : Item) → get items k ≡ Some i → get items l ≡ Some j → k.agent ≡ l.agent → is_canx j ≡ true → is_living_relation j.transaction.document.number i ≡ true → ⊥
+  pub lives : Rights → EachItem items (IsTiedItem items) → (k l : ItemKey) (i j : Item) → get items k ≡ Some i → get items l ≡ Some j → k.agent ≡ l.agent → is_canx j ≡ true → is_living_relation j.transaction.document.number i ≡ true → ⊥
   lives rights tied k l i j hk hl same canx h =
       let both = and_parts (is_living_sale i) (names j.transaction.document.number i.transaction) h in
       let (d, in', number) = named j.transaction.document.number i.transaction both.1 in
-      let f = tied.related k i hk d in' in
+      let f = (tied k i hk).related d in' in
       let at : l ≡ canx_of (ticket_key k.agent d) = canx_at k l j d (rights l j hl) same canx number in
       let cancelled : get items (canx_of (ticket_key k.agent d)) ≡ Some j = sym (ap (get items) at) ∙ hl in
-      let ended = tied.marked (ticket_key k.agent d) f.found.ticket f.found.there ∙ ap (λ (o : Option Item). not (is_some o)) cancelled in
+      let ended = (tied (ticket_key k.agent d) f.found.ticket f.found.there).marked ∙ ap (λ (o : Option Item). not (is_some o)) cancelled in
       both_ways f.found.ticket.lives ended (f.unended both.0)
 
   ticket_number : (d : ReportedDocument) (ticket : Item) → is_ticket d ticket ≡ true → ticket.transaction.document.number ≡ d.number
@@ -251,41 +251,48 @@ module _ (m : BTreeMap ItemKey Item) (ordered : IsOrdered item_cmp m) where
 module _ (p : Published) (agents : BTreeMap ℕ (List ℕ)) (ranges : BTreeMap RangeKey ℕ) (m : BTreeMap ItemKey Item) (ordered : IsOrdered item_cmp m)
     (stock : AreSoundRanges (as_map nat_cmp agents) (as_map range_cmp ranges)) where
   pub items_sound : AreItemsAudited p agents ranges m → AreSoundItems p (as_map nat_cmp agents) (as_map range_cmp ranges) (as_map item_cmp m)
-  items_sound a = record {
-    each = λ k i h. record {
-      right = a.right.right k i h;
-      registered = a.right.registered k i h;
-      in_stock = in_stock (as_map nat_cmp agents) (as_map range_cmp ranges) stock k.agent k.number (a.right.in_stock k i h);
-      in_time = a.right.in_time k i h;
-      tied = record { lives = a.tied.marked k i h; cancelled = a.tied.cancelled k i h; related = λ d in'. (a.tied.related k i h d in').found };
-    };
-    related_once = once m ordered a.right.right a.once;
-    related_lives = λ k l i j hk hl same canx. false_from_ne_true _ (lives m ordered a.right.right a.tied k l i j hk hl same canx);
-    documents = documents m ordered (limit_of p.terms) a.right.right a.documents;
-  }
+  items_sound a =
+      let rights = λ (k : ItemKey) (i : Item) (h : get (as_map item_cmp m) k ≡ Some i). (a.each k i h).right.right in
+      record {
+        each = λ k i h.
+            let r = (a.each k i h).right in
+            let t = (a.each k i h).tied in
+            record {
+              right = r.right;
+              registered = r.registered;
+              in_stock = in_stock (as_map nat_cmp agents) (as_map range_cmp ranges) stock k.agent k.number r.in_stock;
+              in_time = r.in_time;
+              tied = record { lives = t.marked; cancelled = t.cancelled; related = λ d in'. (t.related d in').found };
+            };
+        related_once = once m ordered rights a.once;
+        related_lives = λ k l i j hk hl same canx. false_from_ne_true _ (lives m ordered rights (λ k i h. (a.each k i h).tied) k l i j hk hl same canx);
+        documents = documents m ordered (limit_of p.terms) rights a.documents;
+      }
 
   pub items_audited : AreSoundItems p (as_map nat_cmp agents) (as_map range_cmp ranges) (as_map item_cmp m) → AreItemsAudited p agents ranges m
   items_audited s =
       let rights = λ (k : ItemKey) (i : Item) (h : get (as_map item_cmp m) k ≡ Some i). (s.each k i h).right in
       record {
-        right = record {
-          right = rights;
-          registered = λ k i h. (s.each k i h).registered;
-          in_stock = λ k i h. in_last_range (as_map nat_cmp agents) (as_map range_cmp ranges) stock k.agent k.number (s.each k i h).in_stock;
-          in_time = λ k i h. (s.each k i h).in_time;
-        };
-        tied = record {
-          marked = λ k i h. (s.each k i h).tied.lives;
-          cancelled = λ k i h. (s.each k i h).tied.cancelled;
-          related = λ k i h d in'.
-              let t = (s.each k i h).tied.related d in' in
-              let ticket = s.each (ticket_key k.agent d) t.ticket t.there in
-              let same = ticket_number m ordered d t.ticket t.is in
-              record {
-                digits = subst (λ (text : List ℕ). code_reading 10 text ≡ Ok (number_of text)) same (reads_code t.ticket.transaction.document.number t.ticket.transaction.document.check_digit (number_of t.ticket.transaction.document.number) ticket.right.numbered);
-                found = t;
-                unended = λ living. unended_by m ordered rights k i d t (λ l j at own canx. s.related_lives k l i j h at own canx) ticket.tied.lives (and_from (is_living_sale i) (names d.number i.transaction) living (name_of m ordered i d in')) (get (as_map item_cmp m) (canx_of (ticket_key k.agent d))) refl;
-              };
+        each = λ k i h. record {
+          right = record {
+            right = rights k i h;
+            registered = (s.each k i h).registered;
+            in_stock = in_last_range (as_map nat_cmp agents) (as_map range_cmp ranges) stock k.agent k.number (s.each k i h).in_stock;
+            in_time = (s.each k i h).in_time;
+          };
+          tied = record {
+            marked = (s.each k i h).tied.lives;
+            cancelled = (s.each k i h).tied.cancelled;
+            related = λ d in'.
+                let t = (s.each k i h).tied.related d in' in
+                let ticket = s.each (ticket_key k.agent d) t.ticket t.there in
+                let same = ticket_number m ordered d t.ticket t.is in
+                record {
+                  digits = subst (λ (text : List ℕ). code_reading 10 text ≡ Ok (number_of text)) same (reads_code t.ticket.transaction.document.number t.ticket.transaction.document.check_digit (number_of t.ticket.transaction.document.number) ticket.right.numbered);
+                  found = t;
+                  unended = λ living. unended_by m ordered rights k i d t (λ l j at own canx. s.related_lives k l i j h at own canx) ticket.tied.lives (and_from (is_living_sale i) (names d.number i.transaction) living (name_of m ordered i d in')) (get (as_map item_cmp m) (canx_of (ticket_key k.agent d))) refl;
+                };
+          };
         };
         once = within_once m ordered rights s.related_once;
         documents = within_documents m ordered (limit_of p.terms) rights s.documents;

@@ -24,6 +24,8 @@ use Rattle.bsp_rows.specs.declared.keys.ItemKey.{ItemKey}
 use Rattle.bsp_rows.specs.declared.keys.MemoKey.{MemoKey}
 use Rattle.bsp_rows.specs.declared.limits.RelationKey.{RelationKey}
 use Rattle.bsp_rows.specs.declared.limits.PartiesKey.{PartiesKey}
+use Rattle.bsp_rows.specs.declared.unsound.Unsound.{Unsound}
+use Rattle.bsp_rows.specs.declared.unsound.Unsound.TheVariants.{Range, Item as OfItem, Memo}
 use Rattle.bsp_rows.specs.Rows.{Rows, canx_of, item_cmp, memo_cmp, range_cmp}
 use Rattle.bsp_rows.specs.Sound.{HasNumber, HasTicket, IsInTime, IsRight, IsSoundMemo}
 use Rattle.bsp_rows.specs.Tallies.{item_tally_key, tally_cmp}
@@ -115,25 +117,43 @@ pub record IsRightlyBilled (published : Published) (m : MemoFields) : Type 0 whe
 
 -- ---- what the audit finds
 
--- each item by itself and beside the plan, the agents and the ranges
-pub record AreItemsRight (published : Published) (agents : FinMap nat_cmp (List ℕ)) (ranges : FinMap range_cmp ℕ) (items : FinMap item_cmp Item) : Type 0 where
-  pub right : EachItem items (λ k i. IsRight k i)
-  pub registered : EachItem items (λ k i. IsSome (get agents k.agent))
-  pub in_stock : EachItem items (λ k i. IsInLastRange ranges k.agent k.number)
-  pub in_time : EachItem items (λ k i. IsInTime published i.transaction.issued i.period)
+-- an item by itself and beside the plan, the agents and the ranges
+pub record IsRightItem (published : Published) (agents : FinMap nat_cmp (List ℕ)) (ranges : FinMap range_cmp ℕ) (k : ItemKey) (i : Item) : Type 0 where
+  pub right : IsRight k i
+  pub registered : IsSome (get agents k.agent)
+  pub in_stock : IsInLastRange ranges k.agent k.number
+  pub in_time : IsInTime published i.transaction.issued i.period
 
--- each item beside the other items
-pub record AreItemsTied (items : FinMap item_cmp Item) : Type 0 where
-  pub marked : EachItem items (λ k i. i.lives ≡ (k.is_canx || not (is_some (get items (canx_of k)))))
-  pub cancelled : EachItem items (λ k i. (j : Item) → get items (canx_of k) ≡ Some j → j.transaction.document.airline ≡ i.transaction.document.airline)
-  pub related : EachItem items (λ k i. AreTicketsFound items k i)
+-- an item beside the other items
+pub record IsTiedItem (items : FinMap item_cmp Item) (k : ItemKey) (i : Item) : Type 0 where
+  pub marked : i.lives ≡ (k.is_canx || not (is_some (get items (canx_of k))))
+  pub cancelled : (j : Item) → get items (canx_of k) ≡ Some j → j.transaction.document.airline ≡ i.transaction.document.airline
+  pub related : AreTicketsFound items k i
+
+-- all that is asked of an item
+pub record IsAuditedItem (published : Published) (agents : FinMap nat_cmp (List ℕ)) (ranges : FinMap range_cmp ℕ) (items : FinMap item_cmp Item) (k : ItemKey) (i : Item) : Type 0 where
+  pub right : IsRightItem published agents ranges k i
+  pub tied : IsTiedItem items k i
 
 pub record AreItemsAudited (published : Published) (agents : BTreeMap ℕ (List ℕ)) (ranges : BTreeMap RangeKey ℕ) (items : BTreeMap ItemKey Item) : Type 0 where
-  pub right : AreItemsRight published (as_map nat_cmp agents) (as_map range_cmp ranges) (as_map item_cmp items)
-  pub tied : AreItemsTied (as_map item_cmp items)
+  pub each : EachItem (as_map item_cmp items) (IsAuditedItem published (as_map nat_cmp agents) (as_map range_cmp ranges) (as_map item_cmp items))
   pub once : AreWithin relation_cmp 1 (filter_map relation_of (values items))
   pub documents : AreWithin tally_cmp (limit_of published.terms) (map item_tally_key (values items))
 
 pub record AreMemosAudited (published : Published) (agents : BTreeMap ℕ (List ℕ)) (memos : BTreeMap MemoKey MemoFields) : Type 0 where
   pub each : (k : MemoKey) (m : MemoFields) → get (as_map memo_cmp memos) k ≡ Some m → IsSoundMemo published (as_map nat_cmp agents) k m
   pub limit : AreWithin parties_cmp (limit_of published.terms) (map parties_of (values memos))
+
+-- ---- the row at fault
+
+-- each row meets what is asked of it by itself and beside the rows that it names
+pub record IsEachAudited (rows : Rows) : Type 0 where
+  pub ranges : (k : RangeKey) (last : ℕ) → get rows.ranges k ≡ Some last → IsSome (get rows.agents k.agent)
+  pub items : EachItem rows.items (IsAuditedItem rows.published rows.agents rows.ranges rows.items)
+  pub memos : (k : MemoKey) (m : MemoFields) → get rows.memos k ≡ Some m → IsSoundMemo rows.published rows.agents k m
+
+-- there is a row at the key that does not meet this
+abbrev pub Breaks : Rows → Unsound → Type 0
+Breaks rows (Range k) = (last : ℕ) × (get rows.ranges k ≡ Some last) × ¬ (IsSome (get rows.agents k.agent))
+Breaks rows (OfItem k) = (i : Item) × (get rows.items k ≡ Some i) × ¬ (IsAuditedItem rows.published rows.agents rows.ranges rows.items k i)
+Breaks rows (Memo k) = (m : MemoFields) × (get rows.memos k ≡ Some m) × ¬ (IsSoundMemo rows.published rows.agents k m)

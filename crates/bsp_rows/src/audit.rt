@@ -4,17 +4,17 @@ ghost use Rattle.std.specs.Prelude.{ℕ, IfOk, List};
 ghost use Rattle.std.specs.Bool.{Decides};
 ghost use Rattle.std.specs.FinMap.{FinMap};
 ghost use Rattle.std.specs.Ordering.{nat_cmp};
-ghost use Rattle.bsp_rows.specs.Audit.{AreItemsRight, AreItemsAudited, AreItemsTied, AreMemosAudited, as_map, rows_of};
-ghost use Rattle.bsp_rows.specs.Rows.{item_cmp, range_cmp};
+ghost use Rattle.bsp_rows.specs.Audit.{AreItemsAudited, AreMemosAudited, as_map, rows_of};
+ghost use Rattle.bsp_rows.specs.Rows.{range_cmp};
 ghost use Rattle.bsp_rows.specs.Sound.{AreSoundRanges, Sound};
 
 use crate::demands::all_meet;
-use crate::item_rules::{CancelledByAirline, InStock, InTime, Marked, Related, Right};
 use crate::keys::{ItemKey, MemoKey, RangeKey};
 use crate::limits::{
     are_apart, are_documents_within, are_memos_within, are_related_once, documents_limit,
 };
 use crate::rules::{OfRegistered, SoundMemo};
+use crate::sound_item::SoundItem;
 use bsp_calendar::Plan;
 use bsp_fields::{AgentCode, DocNumber, Token};
 use bsp_memos::Memo;
@@ -37,40 +37,6 @@ fn are_ranges_sound(
     Ok(all_meet(ranges, &OfRegistered(agents)))
 }
 
-/// Whether each item is right by itself, of a registered agent, in its stock, and in time.
-fn are_items_right(
-    plan: &Plan,
-    agents: &BTreeMap<AgentCode, Token>,
-    ranges: &BTreeMap<RangeKey, DocNumber>,
-    items: &BTreeMap<ItemKey, Item>,
-) -> bool
-    ensures { Decides result (AreItemsRight plan.now (as_map nat_cmp agents.now) (as_map range_cmp ranges.now) (as_map item_cmp items.now)) }
-{
-    if !all_meet(items, &Right) {
-        return false;
-    }
-    if !all_meet(items, &OfRegistered(agents)) {
-        return false;
-    }
-    if !all_meet(items, &InStock(ranges)) {
-        return false;
-    }
-    all_meet(items, &InTime(plan))
-}
-
-/// Whether each item agrees with the CANX of its number and with the tickets to which it relates.
-fn are_items_tied(items: &BTreeMap<ItemKey, Item>) -> bool
-    ensures { Decides result (AreItemsTied (as_map item_cmp items.now)) }
-{
-    if !all_meet(items, &Marked(items)) {
-        return false;
-    }
-    if !all_meet(items, &CancelledByAirline(items)) {
-        return false;
-    }
-    all_meet(items, &Related(items))
-}
-
 /// Whether the items meet the rules on items, ranges being those of their agents.
 fn are_items_sound(
     alloc: Global,
@@ -81,10 +47,13 @@ fn are_items_sound(
 ) -> Result<bool, AllocError>
     ensures { IfOk result (λ sound. Decides sound (AreItemsAudited plan.now agents.now ranges.now items.now)) }
 {
-    if !are_items_right(plan, agents, ranges, items) {
-        return Ok(false);
-    }
-    if !are_items_tied(items) {
+    let demand = SoundItem {
+        plan,
+        agents,
+        ranges,
+        items,
+    };
+    if !all_meet(items, &demand) {
         return Ok(false);
     }
     if !are_related_once(alloc, items)? {

@@ -10,6 +10,8 @@ mod laws;
 mod limits;
 mod questions;
 mod rules;
+mod sound_item;
+mod unsound;
 
 pub use audit::are_sound;
 pub use bsp_calendar::{Currency, Period, Plan, PlanFault, PlanText, Rate, Terms};
@@ -23,3 +25,4 @@ pub use bsp_rules::{Item, Range};
 pub use keys::{ItemKey, MemoKey, RangeKey, TallyKey};
 pub use laws::{facts_from_rows, parts_are_enough, sound_is_kept, tallies_are_sums};
 pub use questions::{Items, Memos, Tallies};
+pub use unsound::{Unsound, first_unsound};

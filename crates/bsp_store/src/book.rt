@@ -1,6 +1,6 @@
 //! A book in tables.
 
-ghost use Rattle.std.specs.Prelude.{◌≡◌, IsOkUnless, None, OnErr, OnOk, Some, false, true};
+ghost use Rattle.std.specs.Prelude.{◌≡◌, ◌⊎◌, ◌↔◌, IsOkUnless, IsTrue, None, OnErr, OnOk, Some, false, true};
 ghost use Rattle.bsp_book.specs.Calls.{Commits, FallsBack};
 ghost use Rattle.bsp_book.specs.Listed.{meaning as listed};
 ghost use Rattle.bsp_store_save.specs.Content.{Content, form};
@@ -29,7 +29,9 @@ pub struct SqlBook<S: Alter> {
 }
 
 /// Whether a store had no memory, or a row is too big for it.
-fn is_room(error: &Error) -> bool {
+fn is_room(error: &Error) -> bool
+    ensures { IsTrue result ↔ ((error.now ≡ Error.SqliteFailure ErrorCode.OutOfMemory) ⊎ (error.now ≡ Error.SqliteFailure ErrorCode.TooBig)) }
+{
     matches!(
         error,
         Error::SqliteFailure(ErrorCode::OutOfMemory | ErrorCode::TooBig)
@@ -57,7 +59,7 @@ impl<S: Alter> SqlBook<S> {
         &self.list
     }
 
-    /// The error of the store with which the book failed. None where it has not failed, or an allocation was refused.
+    /// The error of the store with which the book failed. None where it has not failed, or failed without one.
     pub fn cause(&self) -> Option<Error>
         ensures { result ≡ self.now.cause }
     {
@@ -75,6 +77,8 @@ impl<S: Alter> SqlBook<S> {
     /// used, nothing is left of the transaction. Otherwise the book has failed.
     fn give_up(&mut self, error: Error) -> BookFault
         ensures full { result ≡ BookFault.NoRoom → (self.new.failed ≡ self.old.failed) × ((last a b : Content) → Falls form S.Store self.old.conn last a b → IsKept S.Store self.new.conn last) × FallsBack listed self.old.list self.new.list }
+        ensures room { result ≡ BookFault.NoRoom → (error ≡ Error.SqliteFailure ErrorCode.OutOfMemory) ⊎ (error ≡ Error.SqliteFailure ErrorCode.TooBig) }
+        ensures kept { result ≡ BookFault.NoRoom → self.new.cause ≡ self.old.cause }
         ensures failed { result ≡ BookFault.Failed → self.new.failed ≡ true }
         ensures cause { result ≡ BookFault.Failed → self.new.cause ≡ Some error }
         ensures stop { (last b : Content) → Falls form S.Store self.old.conn last last b → Stands form S.Store self.new.conn last last last b }

@@ -5,4 +5,6 @@ mod book;
 mod opening;
 
 pub use book::SqlBook;
+pub use bsp_store_damage::Damage;
 pub use bsp_store_open::OpenFault;
+pub use opening::damage_at;

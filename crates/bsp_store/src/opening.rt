@@ -16,6 +16,7 @@ ghost use Rattle.bsp_store.specs.Meanings.{Holds};
 ghost use Rattle.bsp_store.specs.Adopting.{Adopts, IfRefused, IsFoundIn};
 
 use crate::book::SqlBook;
+use bsp_store_damage::{Damage, find_damage};
 use bsp_store_open::{OpenFault, again, empty_list, is_bare, is_ours, kept_list, refusal};
 use bsp_store_save::make_book;
 use sqlite::{Alter, Connection, FileFrom, FileStore, MemStore, Start};
@@ -130,4 +131,18 @@ impl<T: Start> SqlBook<FileStore<FileFrom<T>>> {
         };
         without_store(SqlBook::adopt(rt.alloc(), conn))
     }
+}
+
+/// What damages the book in the file at a path, where its opening is refused as damaged. It opens the file once more, and
+/// writes nothing.
+///
+/// # Errors
+///
+/// Those of an opening.
+pub fn damage_at<T: Start>(rt: &HostRuntime, path: &str, start: T) -> Result<Damage, OpenFault> {
+    let mut conn = match Connection::open_from(rt, path, false, start) {
+        Ok(conn) => conn,
+        Err((error, _)) => return Err(OpenFault::from(error)),
+    };
+    find_damage(rt.alloc(), &mut conn)
 }

@@ -23,5 +23,5 @@ pub use bsp_store_plan::{all_airlines, all_meta, all_periods, all_rates, all_ter
 pub use compared::are_rows;
 pub use equal::is_row;
 pub use listed::{Each, RowOf, are_placed_rows_of, are_rows_of};
-pub use made::tables_of;
+pub use made::{read_tables, tables_of};
 pub use stored::StoredRows;

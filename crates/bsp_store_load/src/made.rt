@@ -50,7 +50,11 @@ fn put_sales(tables: &mut Tables, rows: &StoredRows) -> Result<bool, NoRoom>
 }
 
 /// Tables with all that the rows read as, committed; none where a row reads as nothing.
-fn built(alloc: Global, rows: &StoredRows) -> Result<Option<Tables>, NoRoom>
+///
+/// # Errors
+///
+/// `NoRoom` where an allocation was refused, or a count or a sum of a tally does not fit its type.
+pub fn read_tables(alloc: Global, rows: &StoredRows) -> Result<Option<Tables>, NoRoom>
     ensures committed { IfOk result (λ found. IfSome found AreCommitted) }
     ensures rows { IfOk result (λ found. (book : Rows) (c : Content) → Sound book → IsContentOf book c → IsFormed c → AreRowsOf c rows.now → IsSomeAnd found (λ tables. rows_of tables ≡ book)) }
 {
@@ -79,7 +83,7 @@ pub fn tables_of(alloc: Global, rows: &StoredRows) -> Result<Option<Tables>, NoR
     ensures none { IfOk result (λ found. IfNone found (AreNoBook rows.now)) }
     ensures book { IfOk result (λ found. (book : Rows) (c : Content) → Sound book → IsContentOf book c → IsFormed c → AreRowsOf c rows.now → IfSome found (λ tables. rows_of tables ≡ book)) }
 {
-    let Some(tables) = built(alloc, rows)? else {
+    let Some(tables) = read_tables(alloc, rows)? else {
         return Ok(None);
     };
     if !are_rows(rows, &tables) {

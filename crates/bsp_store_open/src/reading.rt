@@ -230,7 +230,7 @@ fn document_rows<S: Alter>(conn: &mut Connection<S>) -> Result<DocumentRows, Ope
 ///
 /// `OtherVersion`, where the tables are of another version. `Damaged`, where they are not those of a book. Those of the
 /// store.
-pub(crate) fn stored_rows<S: Alter>(conn: &mut Connection<S>) -> Result<StoredRows, OpenFault>
+pub fn stored_rows<S: Alter>(conn: &mut Connection<S>) -> Result<StoredRows, OpenFault>
     ensures found { IfOk result (λ rows. Finds S.Store conn.old conn.new (λ trees. AreAllRows trees rows)) }
     ensures version { IfOk result (λ rows. IsOfVersion rows.meta.items) }
     ensures spares { Spares S.Store conn.old conn.new }

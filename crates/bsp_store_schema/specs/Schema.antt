@@ -1,5 +1,5 @@
 -- The tables of the book's store.
-use Rattle.std.specs.Prelude.{ℕ, Bool, true, false, List, [], ◌∷◌, None, codes}
+use Rattle.std.specs.Prelude.{◌≡◌, ◌⊎◌, ℕ, Bool, true, false, List, [], ◌∷◌, None, codes}
 use Rattle.sqlite_value.specs.declared.keys.Collation.TheVariants.{Binary}
 use Rattle.sqlite_value.specs.declared.keys.Order.{Order}
 use Rattle.sqlite_value.specs.declared.value.Value.TheVariants.{Null}
@@ -160,6 +160,14 @@ abbrev pub our_tables : List Table
 our_tables =
     meta_table ∷ terms_table ∷ airline_table ∷ rate_table ∷ period_table ∷ agent_table ∷ airline_token_table ∷ stock_table
     ∷ item_table ∷ memo_table ∷ tally_table ∷ []
+
+-- one of the plan's tables
+abbrev pub IsOfPlan : Table → Type 0
+IsOfPlan t = (t ≡ meta_table) ⊎ ((t ≡ terms_table) ⊎ ((t ≡ airline_table) ⊎ ((t ≡ rate_table) ⊎ (t ≡ period_table))))
+
+-- one of the others
+abbrev pub IsOfCallers : Table → Type 0
+IsOfCallers t = (t ≡ agent_table) ⊎ ((t ≡ airline_token_table) ⊎ ((t ≡ stock_table) ⊎ ((t ≡ item_table) ⊎ ((t ≡ memo_table) ⊎ (t ≡ tally_table)))))
 
 -- the index of each key
 abbrev pub our_indexes : List Index

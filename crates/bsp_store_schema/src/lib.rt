@@ -17,6 +17,7 @@ ghost use Rattle.bsp_store_schema.specs.Schema.{our_schema};
 pub use made::{is_bare, make_tables};
 pub use openings::{open_in_order, reopen};
 use sqlite_schema::schema::Schema;
+pub use tables::is_our_table;
 
 /// Whether the tables are the eleven of this crate, and nothing else is in the store.
 pub fn is_ours(schema: &Schema) -> bool

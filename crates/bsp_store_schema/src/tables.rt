@@ -1,7 +1,7 @@
 //! Tests of the eleven tables.
 
-ghost use Rattle.std.specs.Prelude.{◌≡◌, ◌↔◌, [], ◌∷◌, IsTrue};
-ghost use Rattle.bsp_store_schema.specs.Schema.{meta_table, terms_table, airline_table, rate_table, period_table, agent_table, airline_token_table, stock_table, item_table, memo_table, tally_table, our_tables};
+ghost use Rattle.std.specs.Prelude.{◌≡◌, ◌⊎◌, ◌↔◌, [], ◌∷◌, IsTrue};
+ghost use Rattle.bsp_store_schema.specs.Schema.{meta_table, terms_table, airline_table, rate_table, period_table, agent_table, airline_token_table, stock_table, item_table, memo_table, tally_table, our_tables, IsOfCallers, IsOfPlan};
 
 use crate::plain::{is_keyless, is_strict};
 use sqlite_schema::schema::{Kind, Table};
@@ -166,6 +166,32 @@ fn is_tally(table: &Table) -> bool
     ensures { IsTrue result ↔ (table.now ≡ tally_table) }
 {
     is_strict(table, b"tally", 18, &TALLY, &[1, 2, 3])
+}
+
+/// Whether the table is one of the plan's.
+fn is_of_plan(table: &Table) -> bool
+    ensures { IsTrue result ↔ IsOfPlan table.now }
+{
+    is_meta(table) || is_terms(table) || is_airline(table) || is_rate(table) || is_period(table)
+}
+
+/// Whether the table is one of the others.
+fn is_of_callers(table: &Table) -> bool
+    ensures { IsTrue result ↔ IsOfCallers table.now }
+{
+    is_agent(table)
+        || is_airline_token(table)
+        || is_stock(table)
+        || is_item(table)
+        || is_memo(table)
+        || is_tally(table)
+}
+
+/// Whether the table is one of the eleven.
+pub fn is_our_table(table: &Table) -> bool
+    ensures { IsTrue result ↔ (IsOfPlan table.now ⊎ IsOfCallers table.now) }
+{
+    is_of_plan(table) || is_of_callers(table)
 }
 
 /// Whether the tables are the last three.

@@ -1,0 +1,43 @@
+-- The verdict on an input, with its exit status and the explanation of a fault.
+use Rattle.std.specs.Prelude.{◌≡◌, ℕ, ◌-◌, List, take, true, Result, Ok, Err, Some, None}
+use Rattle.bsp_ret.specs.Lines.{lines}
+use Rattle.bsp_ret.specs.declared.model.RetFault.{RetFault}
+use Rattle.bsp_ret.specs.Table.{first_fault}
+use Rattle.bsp_hot_check.specs.Hot.{IsFirstFault}
+use Rattle.bsp_explain.specs.declared.explanation.Explanation.{Explanation}
+use Rattle.bsp_explain.specs.Before.{counted, IsLine}
+use Rattle.bsp_explain.specs.RetReasons.{Says, is_reason_of}
+use Rattle.bsp_explain.specs.HotReasons.{SaysOfHot, record_name}
+use Rattle.bsp_check.specs.declared.fault.Fault.{Fault}
+use Rattle.bsp_check.specs.declared.verdict.Verdict.{Verdict}
+use Rattle.bsp_check.specs.declared.verdict.Verdict.TheVariants.{Passed, Refused}
+
+-- the exit status that goes with a verdict
+abbrev pub verdict_status : Verdict → ℕ
+verdict_status Passed = 0
+verdict_status (Refused explanation) = 1
+
+-- and with the answer of a command: 3 where no whole report was written
+abbrev pub status_of : Result Verdict Fault → ℕ
+status_of (Ok verdict) = verdict_status verdict
+status_of (Err fault) = 3
+
+-- the explanation is of the first fault of the bytes as a RET file
+pub record IsRetExplanation (bytes : List ℕ) (explanation : Explanation) : Type 0 where
+  pub fault : RetFault
+  pub is_first : first_fault (lines bytes) ≡ Some fault
+  pub number : explanation.record ≡ fault.at
+  pub name : explanation.name ≡ None
+  pub row : is_reason_of fault.code explanation.reason ≡ true
+  pub says : (line : List ℕ) → IsLine (fault.at - 1) (lines bytes) line → Says fault.at (counted (take (fault.at - 1) (lines bytes))) line explanation.reason
+
+-- the explanation is of the first record of the bytes at fault, as a HOT file
+pub record IsHotExplanation (bytes : List ℕ) (explanation : Explanation) : Type 0 where
+  pub is_first : IsFirstFault (lines bytes) explanation.record
+  pub name : (line : List ℕ) → IsLine (explanation.record - 1) (lines bytes) line → explanation.name ≡ record_name line
+  pub says : (line : List ℕ) → IsLine (explanation.record - 1) (lines bytes) line → SaysOfHot explanation.record line explanation.reason
+
+-- a verdict that refuses the bytes has an explanation of them
+abbrev pub IsExplained : (List ℕ → Explanation → Type 0) → List ℕ → Verdict → Type 0
+IsExplained Explains bytes Passed = Unit {0}
+IsExplained Explains bytes (Refused explanation) = Explains bytes explanation

@@ -1,0 +1,128 @@
+//! The commands `check` and `hotcheck`: each reads an input whole and writes the report on it.
+
+ghost use Rattle.std.specs.Prelude.{◌≡◌, ◌≤◌, ◌<◌, ◌+◌, ◌⊎◌, ℕ, List, length, true, Err, IfOk};
+ghost use Rattle.std.specs.Io.KnownBytes.{Consumes, IsAtEnd, Appends};
+ghost use Rattle.bsp_check.specs.Streams.{most, IsReported, IsCutShort};
+ghost use Rattle.bsp_check.specs.RetReport.{IsRetReport};
+ghost use Rattle.bsp_check.specs.HotReport.{IsHotReport};
+ghost use Rattle.bsp_check.specs.Verdicts.{status_of, IsExplained, IsRetExplanation, IsHotExplanation};
+
+use crate::fault::Fault;
+use crate::hot_report::hot_report;
+use crate::reading::read_whole;
+use crate::report::write_report;
+use crate::ret_report::ret_report;
+use crate::verdict::Verdict;
+use bsp_connection::Noted;
+use std::alloc::Global;
+use std::io::{Read, Write};
+
+/// The most bytes that an input may have.
+const MOST: usize = 1_073_741_824;
+
+/// Reads a RET file of at most `limit` bytes, writes the report on it and answers its verdict.
+///
+/// # Errors
+///
+/// The [`Fault`] that kept a whole report from being written. Nothing was written but where it is
+/// `Write`: then a first part of the report on an input that was read to its end.
+pub fn check_within<R: Read, W: Write>(
+    alloc: Global,
+    reader: &mut Noted<R>,
+    writer: &mut Noted<W>,
+    limit: usize,
+) -> Result<Verdict, Fault>
+    requires { limit < usize.MAX }
+    ensures answer { (bytes : List ℕ) × Consumes (R.remaining reader.old.inner) (R.remaining reader.new.inner) bytes × (length bytes ≤ limit + 1)
+        × IsReported IsRetReport limit bytes (R.remaining reader.new.inner) (W.contents writer.old.inner) (W.contents writer.new.inner) result
+        × IfOk result (IsExplained IsRetExplanation bytes) }
+    ensures read_cause { result ≡ Err Fault.Read → reader.new.failed ≡ true }
+    ensures write_cause { result ≡ Err Fault.Write → writer.new.failed ≡ true }
+{
+    let all = read_whole(alloc, reader, limit)?;
+    let Ok(report) = ret_report(alloc, &all) else {
+        return Err(Fault::Memory);
+    };
+    write_report(writer, &report)
+}
+
+/// Reads a HOT file of at most `limit` bytes, writes the report on it and answers its verdict.
+///
+/// # Errors
+///
+/// As of [`check_within`].
+pub fn hotcheck_within<R: Read, W: Write>(
+    alloc: Global,
+    reader: &mut Noted<R>,
+    writer: &mut Noted<W>,
+    limit: usize,
+) -> Result<Verdict, Fault>
+    requires { limit < usize.MAX }
+    ensures answer { (bytes : List ℕ) × Consumes (R.remaining reader.old.inner) (R.remaining reader.new.inner) bytes × (length bytes ≤ limit + 1)
+        × IsReported IsHotReport limit bytes (R.remaining reader.new.inner) (W.contents writer.old.inner) (W.contents writer.new.inner) result
+        × IfOk result (IsExplained IsHotExplanation bytes) }
+    ensures read_cause { result ≡ Err Fault.Read → reader.new.failed ≡ true }
+    ensures write_cause { result ≡ Err Fault.Write → writer.new.failed ≡ true }
+{
+    let all = read_whole(alloc, reader, limit)?;
+    let Ok(report) = hot_report(alloc, &all) else {
+        return Err(Fault::Memory);
+    };
+    write_report(writer, &report)
+}
+
+/// Reads a RET file of at most 1,073,741,824 bytes, writes the report on it and answers its
+/// verdict. The exit status of the answer is 0 for a file, 1 for a fault. It is 3 where a read or a
+/// write failed, the input is longer, or an allocation was refused.
+///
+/// # Errors
+///
+/// As of [`check_within`].
+pub fn check<R: Read, W: Write>(
+    alloc: Global,
+    reader: &mut Noted<R>,
+    writer: &mut Noted<W>,
+) -> Result<Verdict, Fault>
+    ensures answer { (bytes : List ℕ) × Consumes (R.remaining reader.old.inner) (R.remaining reader.new.inner) bytes × (length bytes ≤ most + 1)
+        × IsReported IsRetReport most bytes (R.remaining reader.new.inner) (W.contents writer.old.inner) (W.contents writer.new.inner) result
+        × IfOk result (IsExplained IsRetExplanation bytes) }
+    ensures reports { (status_of result ≡ 0) ⊎ (status_of result ≡ 1) → (bytes : List ℕ) × Consumes (R.remaining reader.old.inner) (R.remaining reader.new.inner) bytes
+        × IsAtEnd (R.remaining reader.new.inner) × (length bytes ≤ most)
+        × (text : List ℕ) × IsRetReport bytes (status_of result) text × Appends (W.contents writer.old.inner) (W.contents writer.new.inner) text }
+    ensures refused { status_of result ≡ 3 → (bytes : List ℕ) × Consumes (R.remaining reader.old.inner) (R.remaining reader.new.inner) bytes
+        × IsCutShort IsRetReport most bytes (R.remaining reader.new.inner) (W.contents writer.old.inner) (W.contents writer.new.inner) }
+    ensures limit { (bytes : List ℕ) × Consumes (R.remaining reader.old.inner) (R.remaining reader.new.inner) bytes × (length bytes ≤ most + 1) }
+    ensures statuses { (status_of result ≡ 0) ⊎ ((status_of result ≡ 1) ⊎ (status_of result ≡ 3)) }
+    ensures read_cause { result ≡ Err Fault.Read → reader.new.failed ≡ true }
+    ensures write_cause { result ≡ Err Fault.Write → writer.new.failed ≡ true }
+{
+    check_within(alloc, reader, writer, MOST)
+}
+
+/// Reads a HOT file of at most 1,073,741,824 bytes, writes the report on it and answers its
+/// verdict. The exit status of the answer is 0 for a file, 1 for a fault. It is 3 where a read or a
+/// write failed, the input is longer, or an allocation was refused.
+///
+/// # Errors
+///
+/// As of [`check_within`].
+pub fn hotcheck<R: Read, W: Write>(
+    alloc: Global,
+    reader: &mut Noted<R>,
+    writer: &mut Noted<W>,
+) -> Result<Verdict, Fault>
+    ensures answer { (bytes : List ℕ) × Consumes (R.remaining reader.old.inner) (R.remaining reader.new.inner) bytes × (length bytes ≤ most + 1)
+        × IsReported IsHotReport most bytes (R.remaining reader.new.inner) (W.contents writer.old.inner) (W.contents writer.new.inner) result
+        × IfOk result (IsExplained IsHotExplanation bytes) }
+    ensures reports { (status_of result ≡ 0) ⊎ (status_of result ≡ 1) → (bytes : List ℕ) × Consumes (R.remaining reader.old.inner) (R.remaining reader.new.inner) bytes
+        × IsAtEnd (R.remaining reader.new.inner) × (length bytes ≤ most)
+        × (text : List ℕ) × IsHotReport bytes (status_of result) text × Appends (W.contents writer.old.inner) (W.contents writer.new.inner) text }
+    ensures refused { status_of result ≡ 3 → (bytes : List ℕ) × Consumes (R.remaining reader.old.inner) (R.remaining reader.new.inner) bytes
+        × IsCutShort IsHotReport most bytes (R.remaining reader.new.inner) (W.contents writer.old.inner) (W.contents writer.new.inner) }
+    ensures limit { (bytes : List ℕ) × Consumes (R.remaining reader.old.inner) (R.remaining reader.new.inner) bytes × (length bytes ≤ most + 1) }
+    ensures statuses { (status_of result ≡ 0) ⊎ ((status_of result ≡ 1) ⊎ (status_of result ≡ 3)) }
+    ensures read_cause { result ≡ Err Fault.Read → reader.new.failed ≡ true }
+    ensures write_cause { result ≡ Err Fault.Write → writer.new.failed ≡ true }
+{
+    hotcheck_within(alloc, reader, writer, MOST)
+}

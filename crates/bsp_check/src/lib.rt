@@ -1,0 +1,21 @@
+//! The reports of `check` and `hotcheck`, and the exit statuses of the program.
+//!
+//! [`check`] reads a RET file and reports on it: a line for each transaction and one for the file, or its first fault.
+//! [`hotcheck`] reads a HOT file: its records, documents and net, or its first record at fault. Of a fault both answer
+//! which field, count or sum it is.
+#![tactic(auto)]
+
+mod checking;
+mod fault;
+mod hot_report;
+mod reading;
+mod report;
+mod ret_report;
+mod status;
+mod verdict;
+
+pub use checking::{check, check_within, hotcheck, hotcheck_within};
+pub use fault::Fault;
+pub use reading::read_whole;
+pub use status::{DONE, FAILED, REFUSED, WRONG_WORDS};
+pub use verdict::{Verdict, exit_status};

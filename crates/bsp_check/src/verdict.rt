@@ -1,0 +1,29 @@
+//! What a command answers of an input.
+
+ghost use Rattle.std.specs.Prelude.{◌≡◌};
+ghost use Rattle.bsp_check.specs.Verdicts.{status_of};
+
+use crate::fault::Fault;
+use crate::status::{DONE, FAILED, REFUSED};
+use bsp_explain::Explanation;
+
+/// What a report says of an input.
+#[derive(Clone, Copy)]
+pub enum Verdict {
+    /// It is a file without fault.
+    Passed,
+    /// It has a fault. The explanation is for people: the report has the fault's code alone.
+    Refused(Explanation),
+}
+
+/// The exit status that goes with an answer: 0 for a file without fault, 1 for a fault, 3 where no whole
+/// report was written.
+pub fn exit_status(answer: &Result<Verdict, Fault>) -> u8
+    ensures { result ≡ status_of answer.now }
+{
+    match answer {
+        Ok(Verdict::Passed) => DONE,
+        Ok(Verdict::Refused(_)) => REFUSED,
+        Err(_) => FAILED,
+    }
+}

@@ -1,0 +1,16 @@
+//! What damages the book in a store: the table, the index or the view that is not the book's, or the row at fault.
+//!
+//! [`find_damage`] looks for it in a store that was refused as damaged, and [`Damage`] is a line's end for an operator.
+#![tactic(auto)]
+
+mod damage;
+mod key;
+mod rows;
+mod schema;
+mod search;
+mod tables;
+mod tallies;
+
+pub use damage::Damage;
+pub use search::find_damage;
+pub use tables::Table;

@@ -1,0 +1,90 @@
+//! The table, the index or the view that is not the book's.
+
+use crate::damage::Damage;
+use crate::tables::{TABLES, Table};
+use bsp_store_schema::is_our_table;
+use sqlite_items::Items;
+use sqlite_schema::schema::{Index, Schema, Table as StoredTable, View};
+use sqlite_value::value::Bytes;
+use std::alloc::{AllocError, Global};
+
+fn text_of(alloc: Global, name: &Bytes) -> Result<String, AllocError> {
+    match str::from_utf8(name.as_slice()) {
+        Ok(name) => String::from_str(alloc, name),
+        Err(_) => String::from_str(alloc, "?"),
+    }
+}
+
+/// The table of that name.
+fn table_of(name: &Bytes) -> Option<Table> {
+    for table in TABLES {
+        if name.as_slice() == table.name().as_bytes() {
+            return Some(table);
+        }
+    }
+    None
+}
+
+fn first_foreign_table(tables: &Items<StoredTable>) -> Option<&Bytes> {
+    for table in tables.as_slice() {
+        if table_of(&table.name).is_none() {
+            return Some(&table.name);
+        }
+    }
+    None
+}
+
+/// Whether there is the book's table.
+fn is_there(tables: &Items<StoredTable>, table: Table) -> bool {
+    for stored in tables.as_slice() {
+        if stored.name.as_slice() == table.name().as_bytes() {
+            return is_our_table(stored);
+        }
+    }
+    false
+}
+
+fn first_missing(tables: &Items<StoredTable>) -> Option<Table> {
+    for table in TABLES {
+        if !is_there(tables, table) {
+            return Some(table);
+        }
+    }
+    None
+}
+
+/// The first index that a key does not make. SQLite names those that it makes itself.
+fn first_foreign_index(indexes: &Items<Index>) -> Option<&Bytes> {
+    for index in indexes.as_slice() {
+        if !index.name.as_slice().starts_with(b"sqlite_autoindex_") {
+            return Some(&index.name);
+        }
+    }
+    None
+}
+
+/// The first view, trigger or index that is kept as it is.
+fn first_view(views: &Items<View>) -> Option<&Bytes> {
+    let view = views.as_slice().first()?;
+    Some(&view.name)
+}
+
+/// What is in a store beside the tables of a book, by its kind and its name.
+fn first_foreign(schema: &Schema) -> Option<(&'static str, &Bytes)> {
+    if let Some(name) = first_foreign_table(&schema.tables) {
+        return Some(("table", name));
+    }
+    if let Some(name) = first_foreign_index(&schema.indexes) {
+        return Some(("index", name));
+    }
+    let name = first_view(&schema.views)?;
+    Some(("view", name))
+}
+
+/// What is in a store beside the tables of a book, or which of these is missing or another.
+pub(crate) fn schema_damage(alloc: Global, schema: &Schema) -> Result<Option<Damage>, AllocError> {
+    if let Some((what, name)) = first_foreign(schema) {
+        return Ok(Some(Damage::Foreign(what, text_of(alloc, name)?)));
+    }
+    Ok(first_missing(&schema.tables).map(Damage::Table))
+}

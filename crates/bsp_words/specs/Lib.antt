@@ -1,0 +1,2 @@
+-- What the contracts of the words cite.
+pub mod CommandLine

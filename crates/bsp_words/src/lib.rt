@@ -1,0 +1,7 @@
+//! The words of a command line, and the work that they ask for.
+#![tactic(auto)]
+
+mod command_line;
+mod work;
+
+pub use work::{BookSource, TokenSource, WordsFault, Work, words};
