@@ -141,7 +141,8 @@ DAMAGES = {
     "another column of the tallies": ("ALTER TABLE tally ADD COLUMN note TEXT", "the table tally is missing or another"),
     "a further table": ("CREATE TABLE note (text TEXT NOT NULL) STRICT", 'the table "note" is none of a book'),
     "an index": ("CREATE INDEX item_period ON item (period)", 'the index "item_period" is none of a book'),
-    "a view": ("CREATE VIEW living AS SELECT * FROM item WHERE alive", 'the view "living" is none of a book'),
+    "statistics": ("ANALYZE", 'the table "sqlite_stat1" is none of a book'),
+    "a view": ("CREATE VIEW living AS SELECT * FROM item WHERE alive", 'the object "living" is none of a book'),
 }
 
 VERSIONS = {

@@ -20,6 +20,15 @@ import tempfile
 import office
 from office import TOP, expect
 
+# curl, whose lines on standard error are written at once
+CURL = """#!/bin/bash
+said=$(mktemp)
+{curl} "$@" 2>"$said"
+status=$?
+cat "$said" >&2
+rm "$said"
+exit $status
+"""
 BLOCK = re.compile(r"^```console\n(.*?)^```$", re.MULTILINE | re.DOTALL)
 SECONDS = 120
 
@@ -36,10 +45,18 @@ def commands_of(text):
     return found
 
 
-def printed_by(script, folder):
+def path_with_curl(folder):
+    """The path of programs, with CURL in the folder before all others."""
+    with open(f"{folder}/curl", "w", encoding="utf-8") as file:
+        file.write(CURL.format(curl=shutil.which("curl")))
+    os.chmod(f"{folder}/curl", 0o755)
+    return f"{folder}:{os.environ['PATH']}"
+
+
+def printed_by(script, folder, path):
     """The lines that a shell prints which is given the script at once."""
     shell = subprocess.Popen(["bash"], cwd=folder, stdin=subprocess.PIPE, stdout=subprocess.PIPE, stderr=subprocess.STDOUT,
-                             text=True, start_new_session=True)
+                             text=True, start_new_session=True, env={**os.environ, "PATH": path})
     try:
         return shell.communicate(script, timeout=SECONDS)[0].splitlines()
     except subprocess.TimeoutExpired:
@@ -63,10 +80,11 @@ def compare(name, program):
     if not commands:
         sys.exit(f"{name} has no commands")
     port = str(office.free_port())
-    with tempfile.TemporaryDirectory() as folder:
+    with tempfile.TemporaryDirectory() as folder, tempfile.TemporaryDirectory() as programs:
         shutil.copytree(f"{TOP}/samples", f"{folder}/samples")
         os.symlink(program, f"{folder}/bsp_office")
-        printed = printed_by("".join(f"{it}\n" for it, _ in commands).replace("8080", port), folder)
+        script = "".join(f"{it}\n" for it, _ in commands).replace("8080", port)
+        printed = printed_by(script, folder, path_with_curl(programs))
     wanted = [line.replace("8080", port) for _, lines in commands for line in lines]
     is_same = all([expect(f"{name}: {what}", one, other)
                    for what, one, other in zip(("the office", "the commands"), apart(wanted), apart(printed))])

@@ -6,7 +6,7 @@ use std::fmt;
 /// Why a store is no sound book.
 #[derive(Debug, Drop)]
 pub enum Damage {
-    /// A table, an index or a view that a book has not: what it is, and its name.
+    /// A table, an index or another object that a book has not: what it is, and its name.
     Foreign(&'static str, String),
     /// A table that is missing, or has other columns or another key than the book's.
     Table(Table),

@@ -1,4 +1,4 @@
-//! What damages the book in a store: the table, the index or the view that is not the book's, or the row at fault.
+//! What damages the book in a store: the table, the index or the object that is not the book's, or the row at fault.
 //!
 //! [`find_damage`] looks for it in a store that was refused as damaged, and [`Damage`] is a line's end for an operator.
 #![tactic(auto)]

@@ -63,10 +63,15 @@ fn first_foreign_index(indexes: &Items<Index>) -> Option<&Bytes> {
     None
 }
 
-/// The first view, trigger or index that is kept as it is.
-fn first_view(views: &Items<View>) -> Option<&Bytes> {
-    let view = views.as_slice().first()?;
-    Some(&view.name)
+/// The first view or trigger, or table or index of a kind that a book has not. A table that has a trigger is none of
+/// these.
+fn first_object(objects: &Items<View>) -> Option<&Bytes> {
+    for object in objects.as_slice() {
+        if !object.is_bound {
+            return Some(&object.name);
+        }
+    }
+    None
 }
 
 /// What is in a store beside the tables of a book, by its kind and its name.
@@ -77,8 +82,8 @@ fn first_foreign(schema: &Schema) -> Option<(&'static str, &Bytes)> {
     if let Some(name) = first_foreign_index(&schema.indexes) {
         return Some(("index", name));
     }
-    let name = first_view(&schema.views)?;
-    Some(("view", name))
+    let name = first_object(&schema.views)?;
+    Some(("object", name))
 }
 
 /// What is in a store beside the tables of a book, or which of these is missing or another.

@@ -1,5 +1,7 @@
 //! The search for what damages a book.
 
+ghost use Rattle.bsp_store_load.specs.Kept.{Spares};
+
 use crate::damage::Damage;
 use crate::key::{item_key, memo_key, range_key, row_key};
 use crate::rows::first_unwritten;
@@ -67,12 +69,15 @@ fn row_damage(alloc: Global, rows: &StoredRows) -> Result<Damage, NoRoom> {
     }
 }
 
-/// What damages the book in a store that was refused as damaged. It takes the time of an opening, and writes nothing.
+/// What damages the book in a store that was refused as damaged. It takes the time of an opening, and a stop then leaves
+/// what it left before.
 ///
 /// # Errors
 ///
 /// Those of an opening.
-pub fn find_damage<S: Alter>(alloc: Global, conn: &mut Connection<S>) -> Result<Damage, OpenFault> {
+pub fn find_damage<S: Alter>(alloc: Global, conn: &mut Connection<S>) -> Result<Damage, OpenFault>
+    ensures spares { Spares S.Store conn.old conn.new }
+{
     if let Some(damage) = schema_damage(alloc, conn.schema())? {
         return Ok(damage);
     }
