@@ -5,6 +5,8 @@ use Rattle.std.proofs.lemmas.Str.{IsUtf8-from_is_utf8, is_utf8-from_IsUtf8}
 use Rattle.serde_json.proofs.OnLiterals.{serde_json_on_literals}
 use Rattle.serde_json.specs.Data.{Data}
 use Rattle.serde_json.specs.Read.{read}
+use Rattle.bsp_ret.specs.RetRecordsTexts.{code_text}
+use Rattle.bsp_ret.specs.TransactionCode.{TransactionCode}
 use Rattle.bsp_ret.specs.Texts.{fault_text}
 use Rattle.bsp_ret.specs.declared.model.FaultCode.{FaultCode}
 use Rattle.bsp_ret.specs.declared.model.FaultCode.TheVariants.{F01, F02, F03, F04, F05, F06, F07, F08, F09, F10}
@@ -33,3 +35,10 @@ fault_text-utf8 F07 = IsUtf8-from_is_utf8 (codes "F07") refl
 fault_text-utf8 F08 = IsUtf8-from_is_utf8 (codes "F08") refl
 fault_text-utf8 F09 = IsUtf8-from_is_utf8 (codes "F09") refl
 fault_text-utf8 F10 = IsUtf8-from_is_utf8 (codes "F10") refl
+
+-- so is that of a transaction
+pub code_text-utf8 : (code : TransactionCode) → IsUtf8 (code_text code)
+unfolding is_utf8 chars serde_json_on_literals
+code_text-utf8 TransactionCode.Tktt = IsUtf8-from_is_utf8 (codes "TKTT") refl
+code_text-utf8 TransactionCode.Rfnd = IsUtf8-from_is_utf8 (codes "RFND") refl
+code_text-utf8 TransactionCode.Canx = IsUtf8-from_is_utf8 (codes "CANX") refl

@@ -1,0 +1,10 @@
+use Rattle.std.proofs.Common.{refl}
+use Rattle.serde_json.proofs.Views.{view-Object}
+use Rattle.bsp_fields.specs.Decimal.{fixed_digits}
+use Rattle.bsp_messages.proofs.objects.range_value.Goals as goal
+
+pub returns : goal.returns
+returns c =
+    let first = c.in_ok-put_shown.ensures (fixed_digits 10 c.args.shown.now.range.first) refl in
+    let last = c.in_ok-put_shown-2.ensures (fixed_digits 10 c.args.shown.now.range.last) refl in
+    rw (view-Object c.put.new.object, c.in_ok-put.ensures, c.from.ensures, last, first, c.new-object.ensures.empty) refl
