@@ -143,6 +143,7 @@ DAMAGES = {
     "an index": ("CREATE INDEX item_period ON item (period)", 'the index "item_period" is none of a book'),
     "statistics": ("ANALYZE", 'the table "sqlite_stat1" is none of a book'),
     "a view": ("CREATE VIEW living AS SELECT * FROM item WHERE alive", 'the object "living" is none of a book'),
+    "a trigger": ("CREATE TRIGGER noted AFTER INSERT ON item BEGIN SELECT 1; END", 'the object "noted" is none of a book'),
 }
 
 VERSIONS = {

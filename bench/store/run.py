@@ -1,9 +1,9 @@
 #!/usr/bin/env python3
 """Measures the office over a book in a file against one in memory: the requests of bench/desk, over HTTP on one connection,
 their files of sales cut to what a body may have. Prints, for each request, the median of its microseconds over both, and
-their ratio; what an opening of the file takes; and what the file adds to a sale against twin.c, which has SQLite's own
-library run the same statements on the same book. For the last the sales are sent one behind another to `run`, as twin.c
-runs its transactions: neither waits for a peer. It needs gcc, libsqlite3-dev and a disk whose syncs both can share.
+their ratio; what an opening of the file takes; and what the file adds to a sale, of a file of 5,000 sales and of one
+alone, against twin.c, which has SQLite's own library write the same rows into the same book. For the last the sales are
+sent one behind another to `run`, as twin.c runs its transactions: neither waits for a peer. It needs gcc, libsqlite3-dev and a disk whose syncs both can share.
 
 usage: bench/store/run.py [PROGRAM [ITEMS..]]     (by default the one that is built, 10,000 and 100,000 items)
 """
@@ -37,7 +37,13 @@ ROUNDS = 3
 class Market(make_requests.Market):
     """The requests of bench/desk, with no file of more sales than a body may have."""
 
+    def __init__(self, folder):
+        super().__init__(folder)
+        self.filled = []
+
     def post(self, name, path, token, file, sales):
+        if name == "sales":
+            self.filled += sales
         for at in range(0, len(sales), MOST):
             super().post(name, path, token, f"{file}-{at}", sales[at:at + MOST])
 
@@ -80,10 +86,10 @@ class Office:
 
 
 def make(items, folder):
-    """Writes the requests, and gives them, with the sales that are posted one by one."""
+    """Writes the requests, and gives them, with the sales of the fill and those that are posted one by one."""
     market = Market(folder)
     ones = market.ask_all(items)
-    return [it.split("\t") for it in market.lines], ones
+    return [it.split("\t") for it in market.lines], market.filled, ones
 
 
 def body_of(folder, body):
@@ -127,15 +133,14 @@ def text_of(folder, method, path, token, body):
     return f"{method} {path} HTTP/1.1\r\nHost: bsp\r\nBsp-Token: {token}\r\nContent-Length: {len(data)}\r\n\r\n".encode() + data
 
 
-def sale_in(folder, lines, file=None):
-    """The microseconds of a sale, all of them sent one behind another, after the requests that come before them."""
-    first = next(at for at, it in enumerate(lines) if it[0] == "one")
-    ones = [text_of(folder, *it[1:]) for it in lines if it[0] == "one"]
+def sales_in(folder, lines, name, file=None):
+    """The microseconds of the requests of this name, all of them sent one behind another, after those before the first."""
+    first = next(at for at, it in enumerate(lines) if it[0] == name)
     stream = Stream(file)
     stream.seconds([text_of(folder, *it[1:]) for it in lines[:first]])
-    took = stream.seconds(ones)
+    took = stream.seconds([text_of(folder, *it[1:]) for it in lines if it[0] == name])
     stream.end()
-    return took / len(ones) * 1e6
+    return took * 1e6
 
 
 def served(folder, lines, file=None):
@@ -155,32 +160,65 @@ def as_text(value):
     return "n" if value is None else f"i{value}" if isinstance(value, int) else f"t{value}"
 
 
-def rows_of(book, sale):
-    """The values of the row of a sale and of that of its tally."""
-    item, = book.execute(
-        "SELECT * FROM item WHERE agent = ? AND number = ? AND canx = 0", (sale.agent, str(sale.number)))
-    tally, = book.execute(
-        "SELECT * FROM tally WHERE agent = ? AND airline = ? AND period = ?", (item[0], item[4], item[7]))
-    return "\t".join(map(as_text, item + tally)) + "\n"
+def line_of(kind, values):
+    return "\t".join([kind, *map(as_text, values)]) + "\n"
 
 
-def twin_of(folder, ones):
-    """The microseconds of SQLite's own library for the rows of the sales, in a copy of the book without them."""
+def rows_of(book, sales):
+    """The rows of the sales of one commit, and those of their tallies, each once."""
+    tallies, lines = {}, []
+    for it in sales:
+        item, = book.execute("SELECT * FROM item WHERE agent = ? AND number = ? AND canx = 0", (it.agent, str(it.number)))
+        lines.append(line_of("item", item))
+        tallies[item[0], item[4], item[7]] = None
+    for key in tallies:
+        tally, = book.execute("SELECT * FROM tally WHERE agent = ? AND airline = ? AND period = ?", key)
+        lines.append(line_of("tally", tally))
+    return "".join(lines) + "commit\n"
+
+
+def twin_of(folder, commits, clear):
+    """The microseconds of SQLite's own library for the rows of these sales, of each commit, in a copy of the book
+    without them."""
     for end in "", "-wal":
         shutil.copy(folder / f"office.db{end}", folder / f"twin.db{end}")
     with contextlib.closing(sqlite3.connect(folder / "twin.db", isolation_level=None)) as book:
-        (folder / "rows").write_text("".join(rows_of(book, it) for it in ones))
+        (folder / "rows").write_text("".join(rows_of(book, it) for it in commits))
         book.execute("BEGIN")
-        for it in ones:
-            book.execute("DELETE FROM item WHERE agent = ? AND number = ?", (it.agent, str(it.number)))
+        clear(book)
         book.execute("COMMIT")
     subprocess.run(["gcc", "-O2", "-o", folder / "twin", TOP / "bench/store/twin.c", "-lsqlite3"], check=True)
     ended = subprocess.run([folder / "twin", folder / "twin.db", folder / "rows"], check=True, capture_output=True)
     return [int(it) / 1000 for it in ended.stdout.split()]
 
 
+def without(sales):
+    """Takes these sales out of a book."""
+    def clear(book):
+        for it in sales:
+            book.execute("DELETE FROM item WHERE agent = ? AND number = ?", (it.agent, str(it.number)))
+    return clear
+
+
+def without_any(book):
+    """Takes all items and tallies out of a book."""
+    book.execute("DELETE FROM item")
+    book.execute("DELETE FROM tally")
+
+
+def compared(folder, lines, name, count, commits, clear):
+    """What the file adds to each of so many sales, and the same by SQLite's library: the middle of the rounds by their
+    ratio, and the ratios."""
+    rounds = []
+    for at in range(ROUNDS):
+        added = (sales_in(folder, lines, name, str(folder / f"{name}-{at}.db")) - sales_in(folder, lines, name)) / count
+        twin = sum(twin_of(folder, commits, clear)) / count
+        rounds.append((added / twin, added, twin))
+    return statistics.median_low(rounds), [it[0] for it in rounds]
+
+
 def measure(items, folder):
-    lines, ones = make(items, folder)
+    lines, fill, ones = make(items, folder)
     file = str(folder / "office.db")
     memory, wanted, least = served(folder, lines)
     stored, found, most = served(folder, lines, file)
@@ -190,16 +228,14 @@ def measure(items, folder):
     for name, times in memory.items():
         ours, theirs = statistics.median(stored[name]), statistics.median(times)
         print(f"| {name} | {len(times)} | {theirs:,.0f} | {ours:,.0f} | {ours / theirs:.2f} |")
-    sales = []
-    for at in range(ROUNDS):
-        added = sale_in(folder, lines, str(folder / f"sale-{at}.db")) - sale_in(folder, lines)
-        twin = statistics.mean(twin_of(folder, ones))
-        sales.append((added / twin, added, twin))
-    ratio, added, twin = statistics.median_low(sales)
+    of_files = [fill[at:at + MOST] for at in range(0, len(fill), MOST)]
+    for what, name, commits, clear in (
+            ("a file of sales", "sales", of_files, without_any), ("a file of one sale", "one", [[it] for it in ones], without(ones))):
+        (ratio, added, twin), rounds = compared(folder, lines, name, sum(map(len, commits)), commits, clear)
+        print(f"\n{what}, one behind another: the file adds {added:,.1f} microseconds a sale, {ratio:.2f} times the")
+        print(f"{twin:,.1f} of SQLite's library; the {ROUNDS} rounds: {', '.join(f'{it:.2f}' for it in rounds)}")
     waited = statistics.median(stored["one"]) - statistics.median(memory["one"])
-    print(f"\na sale, one behind another: the file adds {added:,.0f} microseconds, {ratio:.2f} times the {twin:,.0f} of")
-    print(f"SQLite's library; the {ROUNDS} rounds: {', '.join(f'{it[0]:.2f}' for it in sales)}")
-    print(f"a sale whose reply a peer waits for: the file adds {waited:,.0f} microseconds, {waited / twin:.2f} times as much")
+    print(f"a sale whose reply a peer waits for: the file adds {waited:,.0f} microseconds")
     openings = []
     for _ in range(3):
         office = Office(file)

@@ -12,3 +12,4 @@ pub mod EntryLemmas
 pub mod IndexLemmas
 pub mod FirstLemmas
 pub mod PlaceCountLemmas
+pub mod EarlierLemmas

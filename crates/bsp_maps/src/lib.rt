@@ -1,7 +1,7 @@
 //! Maps in memory whose changes can be taken back, look-ups in them, and tests over maps and ranges.
 //!
 //! A [`Logged`] map remembers what was at each key that it wrote: [`Logged::commit`] forgets that, and
-//! [`Logged::roll_back`] puts it back without memory. Of a map, [`chosen`] gives the values of a group of keys that
+//! [`Logged::roll_back`] puts it back without memory. [`values_before`] gives it as a map. Of a map, [`chosen`] gives the values of a group of keys that
 //! pass a test, [`picked`] those at some keys. [`all_hold`], [`are_within`] and [`are_disjoint`] are tests that an
 //! audit of maps needs.
 //!
@@ -11,6 +11,7 @@
 #![tactic(auto)]
 
 mod counts;
+mod earlier;
 mod index;
 mod logged;
 mod lookups;
@@ -22,6 +23,7 @@ mod spans;
 mod windows;
 
 pub use counts::are_within;
+pub use earlier::values_before;
 pub use index::Index;
 pub use logged::{Logged, Old};
 pub use picks::picked;

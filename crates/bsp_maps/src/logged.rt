@@ -9,7 +9,7 @@ use std::collections::BTreeMap;
 #[derive(Clone, Copy, Drop)]
 pub struct Old<K: Copy + Drop, V: Copy + Drop> {
     pub(crate) key: K,
-    value: Option<V>,
+    pub(crate) value: Option<V>,
 }
 
 impl<K: Copy + Drop, V: Copy + Drop> Old<K, V> {

@@ -14,6 +14,7 @@ use bsp_rows::{
 };
 use bsp_store_save::{recover, save};
 use sqlite::{Alter, Connection, Error, ErrorCode};
+use std::alloc::Global;
 
 /// A book in tables of `sqlite`.
 ///
@@ -21,6 +22,7 @@ use sqlite::{Alter, Connection, Error, ErrorCode};
 /// last one, in one transaction of the store.
 #[derive(Drop)]
 pub struct SqlBook<S: Alter> {
+    alloc: Global,
     list: ListBook,
     conn: Connection<S>,
     failed: bool,
@@ -40,11 +42,12 @@ fn is_room(error: &Error) -> bool
 
 impl<S: Alter> SqlBook<S> {
     /// A book of a list that the tables keep.
-    pub(crate) fn of(list: ListBook, conn: Connection<S>) -> SqlBook<S>
+    pub(crate) fn of(alloc: Global, list: ListBook, conn: Connection<S>) -> SqlBook<S>
         ensures parts { (result.list ≡ list) × (result.conn ≡ conn) × (result.failed ≡ false) }
         ensures cause { result.cause ≡ None }
     {
         SqlBook {
+            alloc,
             list,
             conn,
             failed: false,
@@ -143,7 +146,7 @@ impl<S: Alter> Book for SqlBook<S> {
         if self.failed {
             return Err(BookFault::Failed);
         }
-        match save(&mut self.conn, self.list.tables()) {
+        match save(self.alloc, &mut self.conn, self.list.tables()) {
             Ok(()) => self.keep(),
             Err(error) => Err(self.give_up(error)),
         }

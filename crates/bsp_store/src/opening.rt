@@ -35,7 +35,7 @@ fn kept_book<S: Alter + Drop>(
         return Err((refusal(&mut conn), conn.into_store()));
     }
     match kept_list(alloc, &mut conn) {
-        Ok(list) => Ok(SqlBook::of(list, conn)),
+        Ok(list) => Ok(SqlBook::of(alloc, list, conn)),
         Err(fault) => Err((fault, conn.into_store())),
     }
 }
@@ -52,7 +52,7 @@ fn new_book<S: Alter + Drop>(
     }
     let mut conn = again(alloc, conn)?;
     match empty_list(alloc, &mut conn) {
-        Ok(list) => Ok(SqlBook::of(list, conn)),
+        Ok(list) => Ok(SqlBook::of(alloc, list, conn)),
         Err(fault) => Err((fault, conn.into_store())),
     }
 }

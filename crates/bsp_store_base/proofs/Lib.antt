@@ -2,6 +2,7 @@ pub mod ReadingLemmas
 pub mod Rising
 pub mod Ends
 pub mod Ending
+pub mod Alone
 pub mod Writing
 pub mod Parts
 pub mod Held
@@ -12,3 +13,4 @@ pub mod Days
 pub mod Keys
 pub mod Orders
 pub mod Writes
+pub mod MapTables

@@ -9,7 +9,7 @@ use Rattle.sqlite_schema.specs.declared.schema.Schema.{Schema}
 use Rattle.sqlite_schema.specs.declared.schema.Index.{Index}
 use Rattle.sqlite_rules.specs.Edit.{IsNoIndex}
 use Rattle.sqlite.specs.Effect.{Database}
-use Rattle.bsp_store_base.specs.Kept.{KeepsTable, Part, Form, Keeps, Changes}
+use Rattle.bsp_store_base.specs.Kept.{KeepsTable, Part, Form, Keeps, HasRowsNow}
 
 no_index : (t : ℕ) (indexes : List Index) → list_all (λ i. not (i.tree == t)) indexes ≡ true → AllByRecursion (λ i. i.tree ≢ t) indexes
 no_index t [] e = tt
@@ -30,6 +30,6 @@ module _ {C : Type 0} (schema : Schema) (width : ℕ → ℕ) (old new : Trees) 
 
 -- the tables keep the next content, where the write left its rows in its table and each other table as it was
 pub wrote : {C : Type 0} (form : Form C) (old new : Database) (tree : ℕ) (c next : C) (rows : List Row) → new.schema ≡ form.schema → KeepsTable (form.width tree) rows (new.trees tree)
-    → ((t : ℕ) → t ≢ tree → IsNoIndex form.schema t → new.trees t ≡ old.trees t) → Changes form tree c next rows → Keeps form c old → Keeps form next new
+    → ((t : ℕ) → t ≢ tree → IsNoIndex form.schema t → new.trees t ≡ old.trees t) → HasRowsNow form tree c next rows → Keeps form c old → Keeps form next new
 wrote form old new tree c next rows same kept others changes keeps =
     record { schema = same; kept = at_each form.schema form.width old.trees new.trees tree c next rows kept others form.parts form.apart keeps.kept changes }

@@ -1,18 +1,14 @@
--- A map brought up to another one at the keys that were written is the other one.
-use Rattle.std.proofs.Common.{◌≡◌, Bool, true, false, cond, not, ◌||◌, List, [], ◌∷◌, ◌++◌, map, Option, Some, None, refl, sym, ap, ◌∙◌, subst, Ordering, Less, Equal, Greater, is_eq, filter, IsPermutation}
+-- A map brought up to another one at some keys, and the rows of a map's table.
+use Rattle.std.proofs.Common.{◌≡◌, Bool, true, false, cond, not, ◌||◌, List, [], ◌∷◌, map, Option, Some, None, refl, sym, ap, ◌∙◌, subst, Ordering, Less, Equal, Greater, is_eq, filter, IsPermutation}
 use Rattle.std.specs.List.{list_any}
 use Rattle.std.specs.Ordering.{eq_by_cmp}
 use Rattle.std.specs.Cmp.{Equal-is, IsTotalOrder, eq_by_cmp_equiv, alike_right, tied_itself}
-use Rattle.std.specs.FinMap.{FinMap, IsAntisymmetric, get, insert, remove, contains_key, entries, entries_sorted, get-entries, get-insert, get-remove, get_tied, entries-insert, same_map}
+use Rattle.std.specs.FinMap.{FinMap, IsAntisymmetric, get, insert, remove, entries, entries_sorted, get-entries, get-insert, get-remove, get_tied, entries-insert, same_map}
 use Rattle.std.specs.FinMap.Entries.{find, put, by_order, where_key, is_sorted-where_key, find-where_key, same_entries}
 use Rattle.std.proofs.lemmas.List.Sorted.{IsPermutation-trans, IsPermutation-sym, IsPermutation-refl, IsPermutation-cons, IsPermutation-middle, IsPermutation-map}
-use Rattle.bsp_maps.specs.Undo.{undone, value_restored}
-use Rattle.bsp_maps.specs.declared.logged.Old.{Old}
+use Rattle.sqlite_trees.proofs.ListLemmas.{IsPermutation-filter}
+use Rattle.bsp_store_base.proofs.Alone.{alone}
 use Rattle.bsp_store_base.specs.Synced.{with_value, synced}
-
-neither : (a b : Bool) → (a || b) ≡ false → (a ≡ false) × (b ≡ false)
-neither true b e = absurd (cc)
-neither false b e = (refl, e)
 
 module _ {K V : Type 0} {R : K → K → Ordering} (o : IsTotalOrder R) where
   -- ---- what is at a key
@@ -33,38 +29,6 @@ module _ {K V : Type 0} {R : K → K → Ordering} (o : IsTotalOrder R) where
       get-synced ks now (with_value k (get now k) m) q
       ∙ ap (cond (list_any (eq_by_cmp R q) ks) (get now q)) (get-with_value k (get now k) m q)
       ∙ synced_step (list_any (eq_by_cmp R q) ks) (eq_by_cmp R q k) (get now k) (get now q) (get m q) (λ tie. get_tied o now q k ((Equal-is (R q k)).0 tie))
-
-  -- one key more
-  pub synced-push : (ks : List K) (k : K) (now m : FinMap R V) → synced (ks ++ k ∷ []) now m ≡ with_value k (get now k) (synced ks now m)
-  synced-push [] k now m = refl
-  synced-push (l ∷ ks) k now m = synced-push ks k now (with_value l (get now l) m)
-
-  -- ---- what a map had before it was written
-
-  before_one : (k : K) (v : Option V) (m : FinMap R V) (q : K) → eq_by_cmp R q k ≡ false → get (value_restored k v m) q ≡ get m q
-  before_one k None m q other = get-remove o m k q ∙ ap (λ b. cond b None (get m q)) other
-  before_one k (Some v) m q other = go (contains_key m k)
-    where
-      go : (b : Bool) → get (cond b (insert m k v) m) q ≡ get m q
-      go true = get-insert o m k v q ∙ ap (λ b. cond b (Some v) (get m q)) other
-      go false = refl
-
-  pub get-undone : (olds : List (Old K V)) (m : FinMap R V) (q : K) → list_any (eq_by_cmp R q) (map (λ (old : Old K V). old.key) olds) ≡ false → get (undone olds m) q ≡ get m q
-  get-undone [] m q none = refl
-  get-undone (old ∷ olds) m q none =
-      let both = neither (eq_by_cmp R q old.key) _ none in
-      before_one old.key old.value (undone olds m) q both.0 ∙ get-undone olds m q both.1
-
--- What is seen of a map key by key, `f` of the whole: what was written is brought up to date.
-module _ {K V W : Type 0} {R : K → K → Ordering} (o : IsTotalOrder R) (exact : IsAntisymmetric R) (f : FinMap R V → FinMap R W) (h : Option V → Option W) (sees : (m : FinMap R V) (q : K) → get (f m) q ≡ h (get m q)) where
-  either : (b : Bool) (x y : Option W) → (b ≡ false → y ≡ x) → cond b x y ≡ x
-  either true x y same = refl
-  either false x y same = same refl
-
-  pub up_to_date : (olds : List (Old K V)) (now : FinMap R V) → synced (map (λ (old : Old K V). old.key) olds) (f now) (f (undone olds now)) ≡ f now
-  up_to_date olds now = same_map o exact _ _ (λ q.
-      get-synced o (map (λ (old : Old K V). old.key) olds) (f now) (f (undone olds now)) q
-      ∙ either _ (get (f now) q) (get (f (undone olds now)) q) (λ none. sees (undone olds now) q ∙ ap h (get-undone o olds now q none) ∙ sym (sees now q)))
 
 -- ---- the rows of a map's table
 
@@ -115,3 +79,43 @@ module _ {K X : Type 0} (R : K → K → Ordering) (o : IsTotalOrder R) where
 
   pub gone : (m : FinMap R X) (k : K) → get (remove m k) k ≡ None
   gone m k = get-remove o m k k ∙ ap (λ b. cond b None (get m k)) (ap is_eq (tied_itself o k))
+
+  -- what is there is put in again
+  put_same : IsAntisymmetric R → (m : FinMap R X) (k : K) (v : X) → get m k ≡ Some v → insert m k v ≡ m
+  put_same exact m k v is = same_map o exact _ _ (λ q. get-insert o m k v q ∙ at (eq_by_cmp R q k) q refl)
+    where
+      at : (b : Bool) (q : K) → eq_by_cmp R q k ≡ b → cond b (Some v) (get m q) ≡ get m q
+      at true q tie = sym is ∙ get_tied o m q k ((Equal-is (R q k)).0 tie)
+      at false q tie = refl
+
+  -- none is taken out where there is none
+  pub remove_none : IsAntisymmetric R → (m : FinMap R X) (k : K) → get m k ≡ None → remove m k ≡ m
+  remove_none exact m k none = same_map o exact _ _ (λ q. get-remove o m k q ∙ at (eq_by_cmp R q k) q refl)
+    where
+      at : (b : Bool) (q : K) → eq_by_cmp R q k ≡ b → cond b None (get m q) ≡ get m q
+      at true q tie = sym none ∙ get_tied o m q k ((Equal-is (R q k)).0 tie)
+      at false q tie = refl
+
+  no_more : (p : K × X → Bool) (es : List (K × X)) → filter p (filter (λ e. not (p e)) es) ≡ []
+  no_more p [] = refl
+  no_more p (e ∷ es) = go (p e) refl (no_more p es)
+    where
+      go : (b : Bool) → p e ≡ b → filter p (filter (λ x. not (p x)) es) ≡ [] → filter p (cond (not b) (e ∷ filter (λ x. not (p x)) es) (filter (λ x. not (p x)) es)) ≡ []
+      go true is more = more
+      go false is more = rw is more
+
+  -- the one entry of a key
+  pub one_there : IsAntisymmetric R → (m : FinMap R X) (k : K) (v : X) → get m k ≡ Some v → filter (λ e. eq_by_cmp R k e.0) (entries m) ≡ (k, v) ∷ []
+  one_there exact m k v is =
+      let p : K × X → Bool = λ e. eq_by_cmp R k e.0 in
+      let whole : insert (remove m k) k v ≡ m = put_again exact m k v ∙ put_same exact m k v is in
+      let parts : IsPermutation ((k, v) ∷ entries (remove m k)) (entries m) = subst (λ n. IsPermutation ((k, v) ∷ entries (remove m k)) (entries n)) whole (insert_new (remove m k) k v (gone m k)) in
+      let rest : filter p (entries (remove m k)) ≡ [] = ap (filter p) (entries-remove exact m k) ∙ no_more p (entries m) in
+      let first : filter p ((k, v) ∷ entries (remove m k)) ≡ (k, v) ∷ [] = ap (λ r. cond (is_eq r) ((k, v) ∷ filter p (entries (remove m k))) (filter p (entries (remove m k)))) (tied_itself o k) ∙ ap (λ l. (k, v) ∷ l) rest in
+      alone (k, v) _ (subst (λ l. IsPermutation l (filter p (entries m))) first (IsPermutation-filter p _ _ parts))
+
+  -- the rows after an UPDATE of the row of a key
+  pub rows_changed : {Y : Type 0} → IsAntisymmetric R → (row_of : K × X → Y) (m : FinMap R X) (k : K) (v : X) → IsPermutation (map row_of (entries (insert m k v))) (row_of (k, v) ∷ map row_of (filter (λ e. not (eq_by_cmp R k e.0)) (entries m)))
+  rows_changed exact row_of m k v =
+      subst (λ l. IsPermutation (map row_of (entries (insert m k v))) (row_of (k, v) ∷ l)) (rows_removed row_of exact m k)
+      (subst (λ n. IsPermutation (map row_of (entries n)) (row_of (k, v) ∷ map row_of (entries (remove m k)))) (put_again exact m k v) (rows_added row_of (remove m k) k v (gone m k)))

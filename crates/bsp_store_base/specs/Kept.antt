@@ -42,8 +42,8 @@ module _ {C : Type 0} (form : Form C) where
     pub kept : KeepsRows c db.trees
 
   -- the second content has these rows in the table, and what the first has in each other table
-  abbrev pub Changes : ℕ → C → C → List Row → Type 0
-  Changes tree old new rows = AllByRecursion (λ (p : Part C). MatchBool (p.tree == tree) (IsPermutation (p.rows new) rows) (p.rows new ≡ p.rows old)) form.parts
+  abbrev pub HasRowsNow : ℕ → C → C → List Row → Type 0
+  HasRowsNow tree old new rows = AllByRecursion (λ (p : Part C). MatchBool (p.tree == tree) (IsPermutation (p.rows new) rows) (p.rows new ≡ p.rows old)) form.parts
 
   module _ {S : Type 0} (g : Ghosts S) (h : Held S) where
     pub record Falls (last a b : C) : Type 0 where

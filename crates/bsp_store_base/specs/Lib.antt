@@ -4,5 +4,6 @@ pub mod Synced
 pub mod Columns
 pub mod Reading
 pub mod Content
+pub mod Calls
 pub mod Forms
 pub use Rattle.bsp_store_schema.specs.Schema

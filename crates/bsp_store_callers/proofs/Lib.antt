@@ -1,6 +1,4 @@
-pub mod AgentWrites
-pub mod AirlineTokenWrites
 pub mod Back
+pub mod CallerTables
 pub mod Orders
-pub mod RangeWrites
 pub mod Texts

@@ -1,45 +1,42 @@
 -- What the texts mean.
-use Rattle.std.proofs.Common.{◌≡◌, ℕ, ◌+◌, List, [], ◌∷◌, codes, map, false, refl}
+use Rattle.std.proofs.Common.{◌≡◌, ℕ, List, [], ◌∷◌, codes, map, false, refl}
 use Rattle.std.specs.List.{range_with_len}
-use Rattle.sqlite_value.specs.declared.value.Value.TheVariants.{Null}
 use Rattle.sqlite_value.specs.Keys.{ascending}
 use Rattle.sqlite_value.specs.declared.keys.Key.{Key}
 use Rattle.sqlite_value.specs.declared.keys.Collation.TheVariants.{Binary}
-use Rattle.sqlite_sql.specs.Term.{Term, lit, col}
-use Rattle.sqlite_schema.specs.declared.command.Source.TheVariants.{Values}
-use Rattle.sqlite_schema.specs.declared.command.Command.{Command}
-use Rattle.sqlite_schema.specs.declared.command.Command.TheVariants.{Insert, Delete, Select}
+use Rattle.sqlite_sql.specs.Term.{Term, col}
+use Rattle.sqlite_schema.specs.declared.command.Command.TheVariants.{Select}
 use Rattle.sqlite_schema.specs.declared.schema.Column.{Column}
 use Rattle.sqlite_tied.specs.Compute.{everything}
 use Rattle.sqlite.specs.Listing.{understood, reads_listing}
 use Rattle.sqlite.proofs.Callers.{IsPlain, command_of}
 use Rattle.bsp_store_base.specs.Simple.{simple}
 use Rattle.bsp_store_base.specs.Schema.{our_schema, agent_columns, airline_token_columns, stock_columns}
-use Rattle.bsp_store_base.proofs.Writes.{eq}
-
--- DELETE FROM the table of this place and tree WHERE the test
-abbrev pub deleting : ℕ → ℕ → List Term → Command
-deleting at tree test = Delete at (record { lets = []; body = simple tree test (col 1 0 ∷ []) [] })
-
--- INSERT of that many columns
-abbrev pub inserting : ℕ → ℕ → Command
-inserting at width = Insert at (Values (lit Null ∷ map (col 0) (range_with_len 0 width)) (width + 1))
+use Rattle.bsp_store_base.proofs.MapTables.{change, deletion, insertion}
+use Rattle.bsp_store_callers.proofs.CallerTables.{agents_table, airline_tokens_table, ranges_table}
 
 -- ---- agents
 
 abbrev pub delete_agent : List ℕ
 delete_agent = codes "DELETE FROM agent WHERE code = ?1"
 
-pub delete_agent_is : (command_of (understood our_schema delete_agent) ≡ deleting 5 8 (eq 1 0 ∷ [])) × IsPlain (understood our_schema delete_agent)
+pub delete_agent_is : (command_of (understood our_schema delete_agent) ≡ deletion agents_table) × IsPlain (understood our_schema delete_agent)
 unfolding understood everything
 delete_agent_is = (refl, (refl, refl))
 
 abbrev pub insert_agent : List ℕ
 insert_agent = codes "INSERT INTO agent (code, token) VALUES (?1, ?2)"
 
-pub insert_agent_is : (command_of (understood our_schema insert_agent) ≡ inserting 5 2) × IsPlain (understood our_schema insert_agent)
+pub insert_agent_is : (command_of (understood our_schema insert_agent) ≡ insertion agents_table) × IsPlain (understood our_schema insert_agent)
 unfolding understood everything
 insert_agent_is = (refl, (refl, refl))
+
+abbrev pub update_agent : List ℕ
+update_agent = codes "UPDATE agent SET token = ?2 WHERE code = ?1"
+
+pub update_agent_is : (command_of (understood our_schema update_agent) ≡ change agents_table) × IsPlain (understood our_schema update_agent)
+unfolding understood everything
+update_agent_is = (refl, (refl, refl))
 
 abbrev pub all_agents : List ℕ
 all_agents = codes "SELECT code, token FROM agent ORDER BY code"
@@ -60,16 +57,23 @@ all_agents_is = (refl, (refl, refl), refl)
 abbrev pub delete_airline_token : List ℕ
 delete_airline_token = codes "DELETE FROM airline_token WHERE airline = ?1"
 
-pub delete_airline_token_is : (command_of (understood our_schema delete_airline_token) ≡ deleting 6 10 (eq 1 0 ∷ [])) × IsPlain (understood our_schema delete_airline_token)
+pub delete_airline_token_is : (command_of (understood our_schema delete_airline_token) ≡ deletion airline_tokens_table) × IsPlain (understood our_schema delete_airline_token)
 unfolding understood everything
 delete_airline_token_is = (refl, (refl, refl))
 
 abbrev pub insert_airline_token : List ℕ
 insert_airline_token = codes "INSERT INTO airline_token (airline, token) VALUES (?1, ?2)"
 
-pub insert_airline_token_is : (command_of (understood our_schema insert_airline_token) ≡ inserting 6 2) × IsPlain (understood our_schema insert_airline_token)
+pub insert_airline_token_is : (command_of (understood our_schema insert_airline_token) ≡ insertion airline_tokens_table) × IsPlain (understood our_schema insert_airline_token)
 unfolding understood everything
 insert_airline_token_is = (refl, (refl, refl))
+
+abbrev pub update_airline_token : List ℕ
+update_airline_token = codes "UPDATE airline_token SET token = ?2 WHERE airline = ?1"
+
+pub update_airline_token_is : (command_of (understood our_schema update_airline_token) ≡ change airline_tokens_table) × IsPlain (understood our_schema update_airline_token)
+unfolding understood everything
+update_airline_token_is = (refl, (refl, refl))
 
 abbrev pub all_airline_tokens : List ℕ
 all_airline_tokens = codes "SELECT airline, token FROM airline_token ORDER BY airline"
@@ -86,16 +90,23 @@ all_airline_tokens_is = (refl, (refl, refl), refl)
 abbrev pub delete_range : List ℕ
 delete_range = codes "DELETE FROM stock WHERE agent = ?1 AND lo = ?2"
 
-pub delete_range_is : (command_of (understood our_schema delete_range) ≡ deleting 7 12 (eq 1 0 ∷ eq 2 1 ∷ [])) × IsPlain (understood our_schema delete_range)
+pub delete_range_is : (command_of (understood our_schema delete_range) ≡ deletion ranges_table) × IsPlain (understood our_schema delete_range)
 unfolding understood everything
 delete_range_is = (refl, (refl, refl))
 
 abbrev pub insert_range : List ℕ
 insert_range = codes "INSERT INTO stock (agent, lo, hi) VALUES (?1, ?2, ?3)"
 
-pub insert_range_is : (command_of (understood our_schema insert_range) ≡ inserting 7 3) × IsPlain (understood our_schema insert_range)
+pub insert_range_is : (command_of (understood our_schema insert_range) ≡ insertion ranges_table) × IsPlain (understood our_schema insert_range)
 unfolding understood everything
 insert_range_is = (refl, (refl, refl))
+
+abbrev pub update_range : List ℕ
+update_range = codes "UPDATE stock SET hi = ?3 WHERE agent = ?1 AND lo = ?2"
+
+pub update_range_is : (command_of (understood our_schema update_range) ≡ change ranges_table) × IsPlain (understood our_schema update_range)
+unfolding understood everything
+update_range_is = (refl, (refl, refl))
 
 abbrev pub all_ranges : List ℕ
 all_ranges = codes "SELECT agent, lo, hi FROM stock ORDER BY agent, lo"

@@ -1,15 +1,17 @@
 //! The table of agents.
 
-ghost use Rattle.std.specs.Prelude.{◌≡◌, ℕ, List, map, None, false, OnOk, OnErr, IfOk, IsPermutation};
-ghost use Rattle.std.specs.FinMap.{get, entries};
+ghost use Rattle.std.specs.Prelude.{◌≡◌, ℕ, List, is_some, map, None, false, true, ⊤, OnOk, OnErr, IfOk, IsPermutation};
+ghost use Rattle.std.specs.FinMap.{get, entries, insert, remove};
 ghost use Rattle.sqlite.specs.Held.{state};
 ghost use Rattle.sqlite.specs.State.{HasCleanDisk};
 ghost use Rattle.sqlite.specs.Values.{bound};
-ghost use Rattle.bsp_store_base.specs.Kept.{Stands, Falls, IsInside, Reads, columns_of, KeepsRows, Spares};
+ghost use Rattle.bsp_store_base.specs.Kept.{Reads, columns_of, KeepsRows, Spares};
 ghost use Rattle.bsp_store_base.specs.Schema.{our_schema};
 ghost use Rattle.bsp_store_base.specs.Columns.{agent_row};
 ghost use Rattle.bsp_store_base.specs.Content.{Content, form};
-ghost use Rattle.bsp_store_callers.specs.Callers.{agent_texts, without_agent, and_agent, with_agent};
+ghost use Rattle.bsp_store_base.specs.Calls.{Changes, GivesUp};
+ghost use Rattle.bsp_store_base.specs.Synced.{with_value};
+ghost use Rattle.bsp_store_callers.specs.Callers.{agent_texts};
 ghost use Rattle.bsp_store_base.specs.Forms.{IsFormed};
 
 use bsp_rows::{AgentCode, Token};
@@ -47,8 +49,8 @@ impl AgentRow {
 }
 
 fn delete_agent<S: Alter>(conn: &mut Connection<S>, code: AgentCode) -> Result<usize, Error>
-    ensures ok { OnOk result ((now last a b : Content) → Stands form S.Store conn.old now last a b → IsInside form S.Store conn.old → Stands form S.Store conn.new (without_agent code now) last a b × IsInside form S.Store conn.new) }
-    ensures err { OnErr result ((now last a b : Content) → Stands form S.Store conn.old now last a b → IsInside form S.Store conn.old → Falls form S.Store conn.new last a b) }
+    ensures ok { OnOk result (Changes S.Store conn.old conn.new (λ now. ⊤) (λ now. record now { agents = remove now.agents code })) }
+    ensures err { OnErr result (GivesUp S.Store conn.old conn.new) }
 {
     let digits = agent_digits(code);
     conn.execute(
@@ -62,15 +64,28 @@ fn insert_agent<S: Alter>(
     code: AgentCode,
     token: &Token,
 ) -> Result<usize, Error>
-    ensures ok { OnOk result ((now last a b : Content) → get now.agents code ≡ None → Stands form S.Store conn.old now last a b → IsInside form S.Store conn.old → Stands form S.Store conn.new (and_agent code token.now now) last a b × IsInside form S.Store conn.new) }
-    ensures err { OnErr result ((now last a b : Content) → Stands form S.Store conn.old now last a b → IsInside form S.Store conn.old → Falls form S.Store conn.new last a b) }
+    ensures ok { OnOk result (Changes S.Store conn.old conn.new (λ now. get now.agents code ≡ None) (λ now. record now { agents = insert now.agents code token.now })) }
+    ensures err { OnErr result (GivesUp S.Store conn.old conn.new) }
 {
     let row = AgentRow::of(code, token);
     let values = row.values();
     conn.execute("INSERT INTO agent (code, token) VALUES (?1, ?2)", &values)
 }
 
-/// Leaves this token at the agent's code, or no row.
+fn update_agent<S: Alter>(
+    conn: &mut Connection<S>,
+    code: AgentCode,
+    token: &Token,
+) -> Result<usize, Error>
+    ensures ok { OnOk result (Changes S.Store conn.old conn.new (λ now. is_some (get now.agents code) ≡ true) (λ now. record now { agents = insert now.agents code token.now })) }
+    ensures err { OnErr result (GivesUp S.Store conn.old conn.new) }
+{
+    let row = AgentRow::of(code, token);
+    let values = row.values();
+    conn.execute("UPDATE agent SET token = ?2 WHERE code = ?1", &values)
+}
+
+/// Leaves this token at the agent's code, or no row. One statement writes it, by whether the table has a row of the code.
 ///
 /// # Errors
 ///
@@ -78,14 +93,20 @@ fn insert_agent<S: Alter>(
 pub fn put_agent<S: Alter>(
     conn: &mut Connection<S>,
     code: AgentCode,
+    is_there: bool,
     token: Option<Token>,
 ) -> Result<(), Error>
-    ensures ok { OnOk result ((now last a b : Content) → Stands form S.Store conn.old now last a b → IsInside form S.Store conn.old → Stands form S.Store conn.new (with_agent code token now) last a b × IsInside form S.Store conn.new) }
-    ensures err { OnErr result ((now last a b : Content) → Stands form S.Store conn.old now last a b → IsInside form S.Store conn.old → Falls form S.Store conn.new last a b) }
+    ensures ok { OnOk result (Changes S.Store conn.old conn.new (λ now. is_some (get now.agents code) ≡ is_there) (λ now. record now { agents = with_value code token now.agents })) }
+    ensures err { OnErr result (GivesUp S.Store conn.old conn.new) }
 {
-    delete_agent(conn, code)?;
     if let Some(token) = token {
-        insert_agent(conn, code, &token)?;
+        if is_there {
+            update_agent(conn, code, &token)?;
+        } else {
+            insert_agent(conn, code, &token)?;
+        }
+    } else if is_there {
+        delete_agent(conn, code)?;
     }
     Ok(())
 }

@@ -1,15 +1,17 @@
 //! The table of airlines' tokens.
 
-ghost use Rattle.std.specs.Prelude.{◌≡◌, ℕ, List, map, None, false, OnOk, OnErr, IfOk, IsPermutation};
-ghost use Rattle.std.specs.FinMap.{get, entries};
+ghost use Rattle.std.specs.Prelude.{◌≡◌, ℕ, List, is_some, map, None, false, true, ⊤, OnOk, OnErr, IfOk, IsPermutation};
+ghost use Rattle.std.specs.FinMap.{get, entries, insert, remove};
 ghost use Rattle.sqlite.specs.Held.{state};
 ghost use Rattle.sqlite.specs.State.{HasCleanDisk};
 ghost use Rattle.sqlite.specs.Values.{bound};
-ghost use Rattle.bsp_store_base.specs.Kept.{Stands, Falls, IsInside, Reads, columns_of, KeepsRows, Spares};
+ghost use Rattle.bsp_store_base.specs.Kept.{Reads, columns_of, KeepsRows, Spares};
 ghost use Rattle.bsp_store_base.specs.Schema.{our_schema};
 ghost use Rattle.bsp_store_base.specs.Columns.{airline_token_row};
 ghost use Rattle.bsp_store_base.specs.Content.{Content, form};
-ghost use Rattle.bsp_store_callers.specs.Callers.{airline_texts, without_airline, and_airline, with_airline};
+ghost use Rattle.bsp_store_base.specs.Calls.{Changes, GivesUp};
+ghost use Rattle.bsp_store_base.specs.Synced.{with_value};
+ghost use Rattle.bsp_store_callers.specs.Callers.{airline_texts};
 ghost use Rattle.bsp_store_base.specs.Forms.{IsFormed};
 
 use bsp_rows::{AirlineCode, Token};
@@ -50,8 +52,8 @@ fn delete_airline_token<S: Alter>(
     conn: &mut Connection<S>,
     airline: AirlineCode,
 ) -> Result<usize, Error>
-    ensures ok { OnOk result ((now last a b : Content) → Stands form S.Store conn.old now last a b → IsInside form S.Store conn.old → Stands form S.Store conn.new (without_airline airline now) last a b × IsInside form S.Store conn.new) }
-    ensures err { OnErr result ((now last a b : Content) → Stands form S.Store conn.old now last a b → IsInside form S.Store conn.old → Falls form S.Store conn.new last a b) }
+    ensures ok { OnOk result (Changes S.Store conn.old conn.new (λ now. ⊤) (λ now. record now { airlines = remove now.airlines airline })) }
+    ensures err { OnErr result (GivesUp S.Store conn.old conn.new) }
 {
     let digits = airline_digits(airline);
     conn.execute(
@@ -65,8 +67,8 @@ fn insert_airline_token<S: Alter>(
     airline: AirlineCode,
     token: &Token,
 ) -> Result<usize, Error>
-    ensures ok { OnOk result ((now last a b : Content) → get now.airlines airline ≡ None → Stands form S.Store conn.old now last a b → IsInside form S.Store conn.old → Stands form S.Store conn.new (and_airline airline token.now now) last a b × IsInside form S.Store conn.new) }
-    ensures err { OnErr result ((now last a b : Content) → Stands form S.Store conn.old now last a b → IsInside form S.Store conn.old → Falls form S.Store conn.new last a b) }
+    ensures ok { OnOk result (Changes S.Store conn.old conn.new (λ now. get now.airlines airline ≡ None) (λ now. record now { airlines = insert now.airlines airline token.now })) }
+    ensures err { OnErr result (GivesUp S.Store conn.old conn.new) }
 {
     let row = AirlineTokenRow::of(airline, token);
     let values = row.values();
@@ -76,7 +78,24 @@ fn insert_airline_token<S: Alter>(
     )
 }
 
-/// Leaves this token at the airline's code, or no row.
+fn update_airline_token<S: Alter>(
+    conn: &mut Connection<S>,
+    airline: AirlineCode,
+    token: &Token,
+) -> Result<usize, Error>
+    ensures ok { OnOk result (Changes S.Store conn.old conn.new (λ now. is_some (get now.airlines airline) ≡ true) (λ now. record now { airlines = insert now.airlines airline token.now })) }
+    ensures err { OnErr result (GivesUp S.Store conn.old conn.new) }
+{
+    let row = AirlineTokenRow::of(airline, token);
+    let values = row.values();
+    conn.execute(
+        "UPDATE airline_token SET token = ?2 WHERE airline = ?1",
+        &values,
+    )
+}
+
+/// Leaves this token at the airline's code, or no row. One statement writes it, by whether the table has a row of the
+/// code.
 ///
 /// # Errors
 ///
@@ -84,14 +103,20 @@ fn insert_airline_token<S: Alter>(
 pub fn put_airline_token<S: Alter>(
     conn: &mut Connection<S>,
     airline: AirlineCode,
+    is_there: bool,
     token: Option<Token>,
 ) -> Result<(), Error>
-    ensures ok { OnOk result ((now last a b : Content) → Stands form S.Store conn.old now last a b → IsInside form S.Store conn.old → Stands form S.Store conn.new (with_airline airline token now) last a b × IsInside form S.Store conn.new) }
-    ensures err { OnErr result ((now last a b : Content) → Stands form S.Store conn.old now last a b → IsInside form S.Store conn.old → Falls form S.Store conn.new last a b) }
+    ensures ok { OnOk result (Changes S.Store conn.old conn.new (λ now. is_some (get now.airlines airline) ≡ is_there) (λ now. record now { airlines = with_value airline token now.airlines })) }
+    ensures err { OnErr result (GivesUp S.Store conn.old conn.new) }
 {
-    delete_airline_token(conn, airline)?;
     if let Some(token) = token {
-        insert_airline_token(conn, airline, &token)?;
+        if is_there {
+            update_airline_token(conn, airline, &token)?;
+        } else {
+            insert_airline_token(conn, airline, &token)?;
+        }
+    } else if is_there {
+        delete_airline_token(conn, airline)?;
     }
     Ok(())
 }

@@ -1,15 +1,17 @@
 //! The table of ranges of stock.
 
-ghost use Rattle.std.specs.Prelude.{◌≡◌, ℕ, List, map, None, false, OnOk, OnErr, IfOk, IsPermutation};
-ghost use Rattle.std.specs.FinMap.{get, entries};
+ghost use Rattle.std.specs.Prelude.{◌≡◌, ℕ, List, is_some, map, None, false, true, ⊤, OnOk, OnErr, IfOk, IsPermutation};
+ghost use Rattle.std.specs.FinMap.{get, entries, insert, remove};
 ghost use Rattle.sqlite.specs.Held.{state};
 ghost use Rattle.sqlite.specs.State.{HasCleanDisk};
 ghost use Rattle.sqlite.specs.Values.{bound};
-ghost use Rattle.bsp_store_base.specs.Kept.{Stands, Falls, IsInside, Reads, columns_of, KeepsRows, Spares};
+ghost use Rattle.bsp_store_base.specs.Kept.{Reads, columns_of, KeepsRows, Spares};
 ghost use Rattle.bsp_store_base.specs.Schema.{our_schema};
 ghost use Rattle.bsp_store_base.specs.Columns.{stock_row};
 ghost use Rattle.bsp_store_base.specs.Content.{Content, form};
-ghost use Rattle.bsp_store_callers.specs.Callers.{range_texts, without_range, and_range, with_range};
+ghost use Rattle.bsp_store_base.specs.Calls.{Changes, GivesUp};
+ghost use Rattle.bsp_store_base.specs.Synced.{with_value};
+ghost use Rattle.bsp_store_callers.specs.Callers.{range_texts};
 ghost use Rattle.bsp_store_base.specs.Forms.{IsFormed};
 
 use bsp_rows::{DocNumber, RangeKey};
@@ -50,8 +52,8 @@ impl RangeRow {
 }
 
 fn delete_range<S: Alter>(conn: &mut Connection<S>, key: &RangeKey) -> Result<usize, Error>
-    ensures ok { OnOk result ((now last a b : Content) → Stands form S.Store conn.old now last a b → IsInside form S.Store conn.old → Stands form S.Store conn.new (without_range key.now now) last a b × IsInside form S.Store conn.new) }
-    ensures err { OnErr result ((now last a b : Content) → Stands form S.Store conn.old now last a b → IsInside form S.Store conn.old → Falls form S.Store conn.new last a b) }
+    ensures ok { OnOk result (Changes S.Store conn.old conn.new (λ now. ⊤) (λ now. record now { ranges = remove now.ranges key.now })) }
+    ensures err { OnErr result (GivesUp S.Store conn.old conn.new) }
 {
     let agent = agent_digits(key.agent);
     let first = number_digits(key.first);
@@ -66,8 +68,8 @@ fn insert_range<S: Alter>(
     key: &RangeKey,
     up_to: DocNumber,
 ) -> Result<usize, Error>
-    ensures ok { OnOk result ((now last a b : Content) → get now.ranges key.now ≡ None → Stands form S.Store conn.old now last a b → IsInside form S.Store conn.old → Stands form S.Store conn.new (and_range key.now up_to now) last a b × IsInside form S.Store conn.new) }
-    ensures err { OnErr result ((now last a b : Content) → Stands form S.Store conn.old now last a b → IsInside form S.Store conn.old → Falls form S.Store conn.new last a b) }
+    ensures ok { OnOk result (Changes S.Store conn.old conn.new (λ now. get now.ranges key.now ≡ None) (λ now. record now { ranges = insert now.ranges key.now up_to })) }
+    ensures err { OnErr result (GivesUp S.Store conn.old conn.new) }
 {
     let row = RangeRow::of(key, up_to);
     let values = row.values();
@@ -77,7 +79,24 @@ fn insert_range<S: Alter>(
     )
 }
 
-/// Leaves this last number at the agent's first number, or no row.
+fn update_range<S: Alter>(
+    conn: &mut Connection<S>,
+    key: &RangeKey,
+    up_to: DocNumber,
+) -> Result<usize, Error>
+    ensures ok { OnOk result (Changes S.Store conn.old conn.new (λ now. is_some (get now.ranges key.now) ≡ true) (λ now. record now { ranges = insert now.ranges key.now up_to })) }
+    ensures err { OnErr result (GivesUp S.Store conn.old conn.new) }
+{
+    let row = RangeRow::of(key, up_to);
+    let values = row.values();
+    conn.execute(
+        "UPDATE stock SET hi = ?3 WHERE agent = ?1 AND lo = ?2",
+        &values,
+    )
+}
+
+/// Leaves this last number at the agent's first number, or no row. One statement writes it, by whether the table has a
+/// row of the key.
 ///
 /// # Errors
 ///
@@ -85,14 +104,20 @@ fn insert_range<S: Alter>(
 pub fn put_range<S: Alter>(
     conn: &mut Connection<S>,
     key: &RangeKey,
+    is_there: bool,
     up_to: Option<DocNumber>,
 ) -> Result<(), Error>
-    ensures ok { OnOk result ((now last a b : Content) → Stands form S.Store conn.old now last a b → IsInside form S.Store conn.old → Stands form S.Store conn.new (with_range key.now up_to now) last a b × IsInside form S.Store conn.new) }
-    ensures err { OnErr result ((now last a b : Content) → Stands form S.Store conn.old now last a b → IsInside form S.Store conn.old → Falls form S.Store conn.new last a b) }
+    ensures ok { OnOk result (Changes S.Store conn.old conn.new (λ now. is_some (get now.ranges key.now) ≡ is_there) (λ now. record now { ranges = with_value key.now up_to now.ranges })) }
+    ensures err { OnErr result (GivesUp S.Store conn.old conn.new) }
 {
-    delete_range(conn, key)?;
     if let Some(up_to) = up_to {
-        insert_range(conn, key, up_to)?;
+        if is_there {
+            update_range(conn, key, up_to)?;
+        } else {
+            insert_range(conn, key, up_to)?;
+        }
+    } else if is_there {
+        delete_range(conn, key)?;
     }
     Ok(())
 }

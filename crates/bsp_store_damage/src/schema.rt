@@ -53,21 +53,26 @@ fn first_missing(tables: &Items<StoredTable>) -> Option<Table> {
     None
 }
 
-/// The first index that a key does not make. SQLite names those that it makes itself.
+/// Whether this is the name of an index that a key makes. SQLite names those that it makes itself.
+fn is_of_key(name: &Bytes) -> bool {
+    name.as_slice().starts_with(b"sqlite_autoindex_")
+}
+
+/// The first index that a key does not make.
 fn first_foreign_index(indexes: &Items<Index>) -> Option<&Bytes> {
     for index in indexes.as_slice() {
-        if !index.name.as_slice().starts_with(b"sqlite_autoindex_") {
+        if !is_of_key(&index.name) {
             return Some(&index.name);
         }
     }
     None
 }
 
-/// The first view or trigger, or table or index of a kind that a book has not. A table that has a trigger is none of
-/// these.
+/// The first view or trigger, or table or index of a kind that a book has not. A table that has a trigger, and the index
+/// of its key, are none of these.
 fn first_object(objects: &Items<View>) -> Option<&Bytes> {
     for object in objects.as_slice() {
-        if !object.is_bound {
+        if !object.is_bound && !is_of_key(&object.name) {
             return Some(&object.name);
         }
     }

@@ -1,6 +1,5 @@
 pub mod Back
-pub mod Calls
 pub mod Orders
-pub mod Statements
+pub mod ItemTable
 pub mod Texts
 pub mod Written

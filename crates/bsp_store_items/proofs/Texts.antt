@@ -1,44 +1,42 @@
 -- What the texts mean.
 use Rattle.std.proofs.Common.{◌≡◌, ℕ, List, [], ◌∷◌, codes, map, false, refl}
 use Rattle.std.specs.List.{range_with_len}
-use Rattle.sqlite_value.specs.declared.value.Value.TheVariants.{Null}
 use Rattle.sqlite_value.specs.declared.keys.Key.{Key}
 use Rattle.sqlite_value.specs.Keys.{ascending}
 use Rattle.sqlite_value.specs.declared.keys.Collation.TheVariants.{Binary}
-use Rattle.sqlite_sql.specs.Term.{Term, lit, col}
-use Rattle.sqlite_schema.specs.declared.command.Source.TheVariants.{Values}
-use Rattle.sqlite_schema.specs.declared.command.Command.TheVariants.{Insert, Delete, Select}
+use Rattle.sqlite_sql.specs.Term.{Term, col}
+use Rattle.sqlite_schema.specs.declared.command.Command.TheVariants.{Select}
 use Rattle.sqlite_schema.specs.declared.schema.Column.{Column}
 use Rattle.sqlite_tied.specs.Compute.{everything}
 use Rattle.sqlite.specs.Listing.{understood, reads_listing}
 use Rattle.sqlite.proofs.Callers.{IsPlain, command_of}
 use Rattle.bsp_store_base.specs.Simple.{simple}
 use Rattle.bsp_store_base.specs.Schema.{our_schema, item_columns}
-use Rattle.bsp_store_base.proofs.Writes.{eq}
+use Rattle.bsp_store_base.proofs.MapTables.{change, deletion, insertion}
+use Rattle.bsp_store_items.proofs.ItemTable.{items_table}
 
--- ---- a row is taken out
+-- ---- one row
 
 abbrev pub delete_text : List ℕ
 delete_text = codes "DELETE FROM item WHERE agent = ?1 AND number = ?2 AND canx = ?3"
 
-abbrev pub delete_test : List Term
-delete_test = eq 1 0 ∷ eq 2 1 ∷ eq 3 2 ∷ []
-
-pub delete_is : (command_of (understood our_schema delete_text) ≡ Delete 8 (record { lets = []; body = simple 14 delete_test (col 1 0 ∷ []) [] })) × IsPlain (understood our_schema delete_text)
+pub delete_is : (command_of (understood our_schema delete_text) ≡ deletion items_table) × IsPlain (understood our_schema delete_text)
 unfolding understood everything
 delete_is = (refl, (refl, refl))
-
--- ---- a row is put in
 
 abbrev pub insert_text : List ℕ
 insert_text = codes "INSERT INTO item (agent, number, canx, check_digit, airline, code, issued, period, alive, name, fare, taxes, rate, commission, rel_airline, rel_number, rel_check, ca, cc, ex, vendor) VALUES (?1, ?2, ?3, ?4, ?5, ?6, ?7, ?8, ?9, ?10, ?11, ?12, ?13, ?14, ?15, ?16, ?17, ?18, ?19, ?20, ?21)"
 
-abbrev pub insert_terms : List Term
-insert_terms = lit Null ∷ map (col 0) (range_with_len 0 21)
-
-pub insert_is : (command_of (understood our_schema insert_text) ≡ Insert 8 (Values insert_terms 22)) × IsPlain (understood our_schema insert_text)
+pub insert_is : (command_of (understood our_schema insert_text) ≡ insertion items_table) × IsPlain (understood our_schema insert_text)
 unfolding understood everything
 insert_is = (refl, (refl, refl))
+
+abbrev pub update_text : List ℕ
+update_text = codes "UPDATE item SET check_digit = ?4, airline = ?5, code = ?6, issued = ?7, period = ?8, alive = ?9, name = ?10, fare = ?11, taxes = ?12, rate = ?13, commission = ?14, rel_airline = ?15, rel_number = ?16, rel_check = ?17, ca = ?18, cc = ?19, ex = ?20, vendor = ?21 WHERE agent = ?1 AND number = ?2 AND canx = ?3"
+
+pub update_is : (command_of (understood our_schema update_text) ≡ change items_table) × IsPlain (understood our_schema update_text)
+unfolding understood everything
+update_is = (refl, (refl, refl))
 
 -- ---- all rows
 

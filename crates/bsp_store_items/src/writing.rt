@@ -1,9 +1,8 @@
 //! Writing an item into its table, and out of it.
 
-ghost use Rattle.std.specs.Prelude.{◌≡◌, None, OnOk, OnErr};
+ghost use Rattle.std.specs.Prelude.{◌≡◌, is_some, None, OnOk, OnErr, true, ⊤};
 ghost use Rattle.std.specs.FinMap.{get, insert, remove};
-ghost use Rattle.bsp_store_base.specs.Content.{Content, form};
-ghost use Rattle.bsp_store_base.specs.Kept.{Falls, IsInside, Stands};
+ghost use Rattle.bsp_store_base.specs.Calls.{Changes, GivesUp};
 ghost use Rattle.bsp_store_base.specs.Synced.{with_value};
 
 use crate::row::{ItemRow, flag};
@@ -13,8 +12,8 @@ use sqlite::{Alter, Connection, Error};
 use sqlite_value::value::ValueRef;
 
 fn delete_item<S: Alter>(conn: &mut Connection<S>, key: &ItemKey) -> Result<usize, Error>
-    ensures ok { OnOk result ((now last a b : Content) → Stands form S.Store conn.old now last a b → IsInside form S.Store conn.old → Stands form S.Store conn.new (record now { items = remove now.items key.now }) last a b × IsInside form S.Store conn.new) }
-    ensures err { OnErr result ((now last a b : Content) → Stands form S.Store conn.old now last a b → IsInside form S.Store conn.old → Falls form S.Store conn.new last a b) }
+    ensures ok { OnOk result (Changes S.Store conn.old conn.new (λ now. ⊤) (λ now. record now { items = remove now.items key.now })) }
+    ensures err { OnErr result (GivesUp S.Store conn.old conn.new) }
 {
     let agent = agent_digits(key.agent);
     let number = number_digits(key.number);
@@ -33,8 +32,8 @@ fn insert_item<S: Alter>(
     key: &ItemKey,
     item: &Item,
 ) -> Result<usize, Error>
-    ensures ok { OnOk result ((now last a b : Content) → get now.items key.now ≡ None → Stands form S.Store conn.old now last a b → IsInside form S.Store conn.old → Stands form S.Store conn.new (record now { items = insert now.items key.now item.now }) last a b × IsInside form S.Store conn.new) }
-    ensures err { OnErr result ((now last a b : Content) → Stands form S.Store conn.old now last a b → IsInside form S.Store conn.old → Falls form S.Store conn.new last a b) }
+    ensures ok { OnOk result (Changes S.Store conn.old conn.new (λ now. get now.items key.now ≡ None) (λ now. record now { items = insert now.items key.now item.now })) }
+    ensures err { OnErr result (GivesUp S.Store conn.old conn.new) }
 {
     let row = ItemRow::of(key, item);
     let values = row.values();
@@ -47,7 +46,27 @@ fn insert_item<S: Alter>(
     )
 }
 
-/// Brings the row of a key up to date: the item's row, or none.
+fn update_item<S: Alter>(
+    conn: &mut Connection<S>,
+    key: &ItemKey,
+    item: &Item,
+) -> Result<usize, Error>
+    ensures ok { OnOk result (Changes S.Store conn.old conn.new (λ now. is_some (get now.items key.now) ≡ true) (λ now. record now { items = insert now.items key.now item.now })) }
+    ensures err { OnErr result (GivesUp S.Store conn.old conn.new) }
+{
+    let row = ItemRow::of(key, item);
+    let values = row.values();
+    conn.execute(
+        "UPDATE item SET check_digit = ?4, airline = ?5, code = ?6, issued = ?7, period = ?8, alive = ?9, \
+         name = ?10, fare = ?11, taxes = ?12, rate = ?13, commission = ?14, rel_airline = ?15, \
+         rel_number = ?16, rel_check = ?17, ca = ?18, cc = ?19, ex = ?20, vendor = ?21 \
+         WHERE agent = ?1 AND number = ?2 AND canx = ?3",
+        &values,
+    )
+}
+
+/// Brings the row of a key up to date: the item's row, or none. One statement writes it, by whether the table has a row
+/// of the key.
 ///
 /// # Errors
 ///
@@ -55,14 +74,20 @@ fn insert_item<S: Alter>(
 pub fn put_item<S: Alter>(
     conn: &mut Connection<S>,
     key: &ItemKey,
+    is_there: bool,
     item: Option<Item>,
 ) -> Result<(), Error>
-    ensures ok { OnOk result ((now last a b : Content) → Stands form S.Store conn.old now last a b → IsInside form S.Store conn.old → Stands form S.Store conn.new (record now { items = with_value key.now item now.items }) last a b × IsInside form S.Store conn.new) }
-    ensures err { OnErr result ((now last a b : Content) → Stands form S.Store conn.old now last a b → IsInside form S.Store conn.old → Falls form S.Store conn.new last a b) }
+    ensures ok { OnOk result (Changes S.Store conn.old conn.new (λ now. is_some (get now.items key.now) ≡ is_there) (λ now. record now { items = with_value key.now item now.items })) }
+    ensures err { OnErr result (GivesUp S.Store conn.old conn.new) }
 {
-    delete_item(conn, key)?;
     if let Some(item) = item {
-        insert_item(conn, key, &item)?;
+        if is_there {
+            update_item(conn, key, &item)?;
+        } else {
+            insert_item(conn, key, &item)?;
+        }
+    } else if is_there {
+        delete_item(conn, key)?;
     }
     Ok(())
 }

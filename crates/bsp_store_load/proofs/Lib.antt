@@ -16,4 +16,5 @@ pub mod PlainRows
 pub mod Tallies
 pub use Rattle.bsp_rows.proofs.KeptLemmas
 pub use Rattle.bsp_store_base.proofs.Held
+pub use Rattle.bsp_store_base.proofs.Rising
 pub use Rattle.bsp_store_base.proofs.Syncing

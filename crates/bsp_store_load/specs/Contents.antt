@@ -43,12 +43,3 @@ content_before t = content_with (committed_rows t) (used_tallies (tally_rows_bef
 abbrev pub used_at : Option Tally → Option Tally
 used_at None = None
 used_at (Some t) = used t
-
--- two plans have the same rows in the tables
-pub record AreAlike (own other : Published) : Type 0 where
-  pub day : own.day ≡ other.day
-  pub closed : length own.closed ≡ length other.closed
-  pub terms : own.terms ≡ other.terms
-  pub airlines : own.airlines ≡ other.airlines
-  pub rates : own.rates ≡ other.rates
-  pub periods : own.periods ≡ other.periods

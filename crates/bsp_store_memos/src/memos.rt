@@ -1,4 +1,4 @@
-ghost use Rattle.std.specs.Prelude.{◌≡◌, false, map, None, OnOk, OnErr, IfOk, IsPermutation, List, ℕ, option_map};
+ghost use Rattle.std.specs.Prelude.{◌≡◌, false, is_some, map, None, true, ⊤, OnOk, OnErr, IfOk, IsPermutation, List, ℕ, option_map};
 ghost use Rattle.std.specs.FinMap.{get, insert, remove, entries};
 ghost use Rattle.sqlite_value.specs.Value.{owned};
 ghost use Rattle.sqlite_value.specs.declared.value.Value.TheVariants.{Text};
@@ -8,7 +8,8 @@ ghost use Rattle.sqlite.specs.Values.{bound, bound_value, or_null};
 ghost use Rattle.bsp_store_base.specs.Columns.{code_digits, memo_row};
 ghost use Rattle.bsp_store_base.specs.Content.{Content, form};
 ghost use Rattle.bsp_store_base.specs.Schema.{our_schema};
-ghost use Rattle.bsp_store_base.specs.Kept.{Stands, Falls, IsInside, Reads, columns_of, KeepsRows, Spares};
+ghost use Rattle.bsp_store_base.specs.Kept.{Reads, columns_of, KeepsRows, Spares};
+ghost use Rattle.bsp_store_base.specs.Calls.{Changes, GivesUp};
 ghost use Rattle.bsp_store_base.specs.Synced.{with_value};
 ghost use Rattle.bsp_store_memos.specs.Written.{memo_written};
 ghost use Rattle.bsp_store_base.specs.Forms.{IsFormed};
@@ -91,8 +92,8 @@ impl MemoRow {
 }
 
 fn delete_memo<S: Alter>(conn: &mut Connection<S>, key: &MemoKey) -> Result<usize, Error>
-    ensures ok { OnOk result ((now last a b : Content) → Stands form S.Store conn.old now last a b → IsInside form S.Store conn.old → Stands form S.Store conn.new (record now { memos = remove now.memos key.now }) last a b × IsInside form S.Store conn.new) }
-    ensures err { OnErr result ((now last a b : Content) → Stands form S.Store conn.old now last a b → IsInside form S.Store conn.old → Falls form S.Store conn.new last a b) }
+    ensures ok { OnOk result (Changes S.Store conn.old conn.new (λ now. ⊤) (λ now. record now { memos = remove now.memos key.now })) }
+    ensures err { OnErr result (GivesUp S.Store conn.old conn.new) }
 {
     let airline = airline_digits(key.airline);
     let number = number_digits(key.document);
@@ -107,8 +108,8 @@ fn insert_memo<S: Alter>(
     key: &MemoKey,
     memo: &Memo,
 ) -> Result<usize, Error>
-    ensures ok { OnOk result ((now last a b : Content) → get now.memos key.now ≡ None → Stands form S.Store conn.old now last a b → IsInside form S.Store conn.old → Stands form S.Store conn.new (record now { memos = insert now.memos key.now memo.now }) last a b × IsInside form S.Store conn.new) }
-    ensures err { OnErr result ((now last a b : Content) → Stands form S.Store conn.old now last a b → IsInside form S.Store conn.old → Falls form S.Store conn.new last a b) }
+    ensures ok { OnOk result (Changes S.Store conn.old conn.new (λ now. get now.memos key.now ≡ None) (λ now. record now { memos = insert now.memos key.now memo.now })) }
+    ensures err { OnErr result (GivesUp S.Store conn.old conn.new) }
 {
     let row = MemoRow::of(key, memo);
     conn.execute(
@@ -118,7 +119,24 @@ fn insert_memo<S: Alter>(
     )
 }
 
-/// Makes the row of a key that of a memo, or leaves none.
+fn update_memo<S: Alter>(
+    conn: &mut Connection<S>,
+    key: &MemoKey,
+    memo: &Memo,
+) -> Result<usize, Error>
+    ensures ok { OnOk result (Changes S.Store conn.old conn.new (λ now. is_some (get now.memos key.now) ≡ true) (λ now. record now { memos = insert now.memos key.now memo.now })) }
+    ensures err { OnErr result (GivesUp S.Store conn.old conn.new) }
+{
+    let row = MemoRow::of(key, memo);
+    conn.execute(
+        "UPDATE memo SET agent = ?3, kind = ?4, amount = ?5, first_amount = ?6, reason = ?7, issued = ?8, \
+         state = ?9, billed = ?10 WHERE airline = ?1 AND number = ?2",
+        &row.values(),
+    )
+}
+
+/// Makes the row of a key that of a memo, or leaves none. One statement writes it, by whether the table has a row of the
+/// key.
 ///
 /// # Errors
 ///
@@ -126,19 +144,22 @@ fn insert_memo<S: Alter>(
 pub fn put_memo<S: Alter>(
     conn: &mut Connection<S>,
     key: MemoKey,
+    is_there: bool,
     memo: Option<Memo>,
 ) -> Result<(), Error>
-    ensures ok { OnOk result ((now last a b : Content) → Stands form S.Store conn.old now last a b → IsInside form S.Store conn.old → Stands form S.Store conn.new (record now { memos = with_value key memo now.memos }) last a b × IsInside form S.Store conn.new) }
-    ensures err { OnErr result ((now last a b : Content) → Stands form S.Store conn.old now last a b → IsInside form S.Store conn.old → Falls form S.Store conn.new last a b) }
+    ensures ok { OnOk result (Changes S.Store conn.old conn.new (λ now. is_some (get now.memos key) ≡ is_there) (λ now. record now { memos = with_value key memo now.memos })) }
+    ensures err { OnErr result (GivesUp S.Store conn.old conn.new) }
 {
-    delete_memo(conn, &key)?;
-    match &memo {
-        Some(memo) => {
-            insert_memo(conn, &key, memo)?;
-            Ok(())
+    if let Some(memo) = memo {
+        if is_there {
+            update_memo(conn, &key, &memo)?;
+        } else {
+            insert_memo(conn, &key, &memo)?;
         }
-        None => Ok(()),
+    } else if is_there {
+        delete_memo(conn, &key)?;
     }
+    Ok(())
 }
 
 /// All rows of the table, in the order of their keys.

@@ -1,4 +1,4 @@
-ghost use Rattle.std.specs.Prelude.{◌≡◌, false, map, None, OnOk, OnErr, IfOk, IsPermutation};
+ghost use Rattle.std.specs.Prelude.{◌≡◌, false, is_some, map, None, true, ⊤, OnOk, OnErr, IfOk, IsPermutation};
 ghost use Rattle.std.specs.FinMap.{get, insert, remove, entries};
 ghost use Rattle.sqlite.specs.Held.{state};
 ghost use Rattle.sqlite.specs.State.{HasCleanDisk};
@@ -6,7 +6,8 @@ ghost use Rattle.sqlite.specs.Values.{bound};
 ghost use Rattle.bsp_store_base.specs.Columns.{tally_row};
 ghost use Rattle.bsp_store_base.specs.Content.{Content, form};
 ghost use Rattle.bsp_store_base.specs.Schema.{our_schema};
-ghost use Rattle.bsp_store_base.specs.Kept.{Stands, Falls, IsInside, Reads, columns_of, KeepsRows, Spares};
+ghost use Rattle.bsp_store_base.specs.Kept.{Reads, columns_of, KeepsRows, Spares};
+ghost use Rattle.bsp_store_base.specs.Calls.{Changes, GivesUp};
 ghost use Rattle.bsp_store_base.specs.Synced.{with_value};
 ghost use Rattle.bsp_store_memos.specs.Written.{tally_written};
 ghost use Rattle.bsp_store_base.specs.Forms.{IsFormed};
@@ -73,8 +74,8 @@ impl TallyRow {
 }
 
 fn delete_tally<S: Alter>(conn: &mut Connection<S>, key: &TallyKey) -> Result<usize, Error>
-    ensures ok { OnOk result ((now last a b : Content) → Stands form S.Store conn.old now last a b → IsInside form S.Store conn.old → Stands form S.Store conn.new (record now { tallies = remove now.tallies key.now }) last a b × IsInside form S.Store conn.new) }
-    ensures err { OnErr result ((now last a b : Content) → Stands form S.Store conn.old now last a b → IsInside form S.Store conn.old → Falls form S.Store conn.new last a b) }
+    ensures ok { OnOk result (Changes S.Store conn.old conn.new (λ now. ⊤) (λ now. record now { tallies = remove now.tallies key.now })) }
+    ensures err { OnErr result (GivesUp S.Store conn.old conn.new) }
 {
     let agent = agent_digits(key.agent);
     let airline = airline_digits(key.airline);
@@ -94,8 +95,8 @@ fn insert_tally<S: Alter>(
     key: &TallyKey,
     tally: &Tally,
 ) -> Result<usize, Error>
-    ensures ok { OnOk result ((now last a b : Content) → get now.tallies key.now ≡ None → Stands form S.Store conn.old now last a b → IsInside form S.Store conn.old → Stands form S.Store conn.new (record now { tallies = insert now.tallies key.now tally.now }) last a b × IsInside form S.Store conn.new) }
-    ensures err { OnErr result ((now last a b : Content) → Stands form S.Store conn.old now last a b → IsInside form S.Store conn.old → Falls form S.Store conn.new last a b) }
+    ensures ok { OnOk result (Changes S.Store conn.old conn.new (λ now. get now.tallies key.now ≡ None) (λ now. record now { tallies = insert now.tallies key.now tally.now })) }
+    ensures err { OnErr result (GivesUp S.Store conn.old conn.new) }
 {
     let row = TallyRow::of(key, tally);
     conn.execute(
@@ -105,7 +106,24 @@ fn insert_tally<S: Alter>(
     )
 }
 
-/// Makes the row of a key that of a tally, or leaves none.
+fn update_tally<S: Alter>(
+    conn: &mut Connection<S>,
+    key: &TallyKey,
+    tally: &Tally,
+) -> Result<usize, Error>
+    ensures ok { OnOk result (Changes S.Store conn.old conn.new (λ now. is_some (get now.tallies key.now) ≡ true) (λ now. record now { tallies = insert now.tallies key.now tally.now })) }
+    ensures err { OnErr result (GivesUp S.Store conn.old conn.new) }
+{
+    let row = TallyRow::of(key, tally);
+    conn.execute(
+        "UPDATE tally SET accepted = ?4, living = ?5, canx = ?6, memo_count = ?7, cash = ?8, credit = ?9, \
+         commission = ?10, memos = ?11 WHERE agent = ?1 AND airline = ?2 AND period = ?3",
+        &row.values(),
+    )
+}
+
+/// Makes the row of a key that of a tally, or leaves none. One statement writes it, by whether the table has a row of the
+/// key.
 ///
 /// # Errors
 ///
@@ -113,19 +131,22 @@ fn insert_tally<S: Alter>(
 pub fn put_tally<S: Alter>(
     conn: &mut Connection<S>,
     key: TallyKey,
+    is_there: bool,
     tally: Option<Tally>,
 ) -> Result<(), Error>
-    ensures ok { OnOk result ((now last a b : Content) → Stands form S.Store conn.old now last a b → IsInside form S.Store conn.old → Stands form S.Store conn.new (record now { tallies = with_value key tally now.tallies }) last a b × IsInside form S.Store conn.new) }
-    ensures err { OnErr result ((now last a b : Content) → Stands form S.Store conn.old now last a b → IsInside form S.Store conn.old → Falls form S.Store conn.new last a b) }
+    ensures ok { OnOk result (Changes S.Store conn.old conn.new (λ now. is_some (get now.tallies key) ≡ is_there) (λ now. record now { tallies = with_value key tally now.tallies })) }
+    ensures err { OnErr result (GivesUp S.Store conn.old conn.new) }
 {
-    delete_tally(conn, &key)?;
-    match &tally {
-        Some(tally) => {
-            insert_tally(conn, &key, tally)?;
-            Ok(())
+    if let Some(tally) = tally {
+        if is_there {
+            update_tally(conn, &key, &tally)?;
+        } else {
+            insert_tally(conn, &key, &tally)?;
         }
-        None => Ok(()),
+    } else if is_there {
+        delete_tally(conn, &key)?;
     }
+    Ok(())
 }
 
 /// All rows of the table, in the order of their keys.

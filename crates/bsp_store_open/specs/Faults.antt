@@ -1,5 +1,8 @@
--- Which faults say that a store has no book of this version.
-use Rattle.std.specs.Prelude.{Bool, true, false}
+-- Which faults say that a store has no book of this version, and which an error of the store is.
+use Rattle.std.specs.Prelude.{◌≡◌, Bool, true, false}
+use Rattle.sqlite.specs.declared.error.Error.{Error as StoreError}
+use Rattle.sqlite.specs.declared.error.Error.TheVariants.{SqliteFailure}
+use Rattle.sqlite.specs.declared.error.ErrorCode.TheVariants.{OutOfMemory, TooBig}
 use Rattle.bsp_store_open.specs.declared.fault.OpenFault.{OpenFault}
 use Rattle.bsp_store_open.specs.declared.fault.OpenFault.TheVariants.{NoRoom, Damaged, Failed, OtherVersion}
 
@@ -9,3 +12,14 @@ is_refusal NoRoom = false
 is_refusal Damaged = true
 is_refusal (Failed error) = false
 is_refusal OtherVersion = true
+
+-- B01 where memory was refused or a row is too big, and else B03 with the error
+abbrev pub fault_for : StoreError → OpenFault
+fault_for (SqliteFailure OutOfMemory) = NoRoom
+fault_for (SqliteFailure TooBig) = NoRoom
+fault_for error = Failed error
+
+-- what an error of the store means at an opening
+pub record IsFaultOf (error : StoreError) (fault : OpenFault) : Type 0 where
+  pub exact : fault ≡ fault_for error
+  pub refuses : is_refusal fault ≡ false

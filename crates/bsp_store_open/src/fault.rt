@@ -1,7 +1,7 @@
 //! Why a store is not opened as a book.
 
 ghost use Rattle.std.specs.Prelude.{◌≡◌, false};
-ghost use Rattle.bsp_store_open.specs.Faults.{is_refusal};
+ghost use Rattle.bsp_store_open.specs.Faults.{fault_for, is_refusal};
 
 use bsp_store_load::NoRoom;
 use sqlite::{Error as StoreError, ErrorCode};
@@ -25,9 +25,10 @@ pub enum OpenFault {
     OtherVersion,
 }
 
-/// What an error of `sqlite` means at an opening.
+/// What an error of `sqlite` means at an opening: B01 where it is `OutOfMemory` or `TooBig`, and else B03.
 pub(crate) fn fault_of(error: StoreError) -> OpenFault
-    ensures { is_refusal result ≡ false }
+    ensures exact { result ≡ fault_for error }
+    ensures refuses { is_refusal result ≡ false }
 {
     match error {
         StoreError::SqliteFailure(ErrorCode::OutOfMemory | ErrorCode::TooBig) => OpenFault::NoRoom,
@@ -36,10 +37,9 @@ pub(crate) fn fault_of(error: StoreError) -> OpenFault
 }
 
 impl From<StoreError> for OpenFault {
-    ghost use Rattle.std.specs.Prelude.{◌≡◌, false};
-    ghost use Rattle.bsp_store_open.specs.Faults.{is_refusal};
+    ghost use Rattle.bsp_store_open.specs.Faults.{IsFaultOf};
 
-    ghost from_gives = { λ _ fault. is_refusal fault ≡ false };
+    ghost from_gives = { λ error fault. IsFaultOf error fault };
 
     fn from(error: StoreError) -> OpenFault {
         fault_of(error)

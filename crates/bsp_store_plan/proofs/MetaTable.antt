@@ -1,13 +1,12 @@
 -- The table of the day and of the closed periods.
-use Rattle.std.proofs.Common.{◌≡◌, ℕ, List, [], ◌∷◌, codes, map, true, false, Option, Some, None, Ok, refl, sym, ap₂, subst, IsPermutation}
+use Rattle.std.proofs.Common.{◌≡◌, ℕ, List, [], ◌∷◌, codes, map, Bool, true, false, is_some, Option, Some, None, Ok, refl, sym, ap, ap₂, ◌∙◌, subst, IsPermutation}
 use Rattle.std.specs.List.{range_with_len}
-use Rattle.std.specs.Option.{option_to_list}
 use Rattle.std.proofs.lemmas.List.Sorted.{IsPermutation-refl}
 use Rattle.sqlite_value.specs.declared.value.Value.TheVariants.{Null}
 use Rattle.sqlite_trees.specs.declared.store.Store.{Ghosts}
-use Rattle.sqlite_sql.specs.Term.{lit, col}
+use Rattle.sqlite_sql.specs.Term.{Term, lit, col}
 use Rattle.sqlite_schema.specs.declared.command.Source.TheVariants.{Values}
-use Rattle.sqlite_schema.specs.declared.command.Command.TheVariants.{Insert, Delete, Select}
+use Rattle.sqlite_schema.specs.declared.command.Command.TheVariants.{Insert, Select, Update}
 use Rattle.sqlite_schema.specs.declared.schema.Column.{Column}
 use Rattle.sqlite_tied.specs.Compute.{everything}
 use Rattle.sqlite.specs.Listing.{understood, reads_listing}
@@ -16,20 +15,17 @@ use Rattle.sqlite.specs.Held.{Held, state}
 use Rattle.sqlite.proofs.Callers.{IsPlain, command_of}
 use Rattle.bsp_store_base.specs.Kept.{Keeps, KeepsTable}
 use Rattle.bsp_store_base.specs.Simple.{simple}
-use Rattle.bsp_store_base.proofs.Writing.{inserts, deletes}
+use Rattle.bsp_store_base.proofs.Writing.{inserts, updates}
 use Rattle.bsp_store_base.proofs.Parts.{wrote}
 use Rattle.bsp_store_base.proofs.Held.{writes}
 use Rattle.bsp_store_base.proofs.Values.{cast_int, cast_null, cast_same}
 use Rattle.bsp_store_base.specs.Schema.{our_schema, meta_table, meta_columns}
 use Rattle.bsp_store_base.specs.Columns.{Meta, meta_row, meta_rows}
+use Rattle.bsp_store_base.specs.Calls.{Changes}
 use Rattle.bsp_store_base.specs.Content.{Content, form}
-use Rattle.bsp_store_base.proofs.Writes.{no_work, Does, DoesAlways, always}
-use Rattle.bsp_store_plan.proofs.Sharing.{no_rows}
+use Rattle.bsp_store_base.proofs.Writes.{no_work, Does}
 
 -- ---- the texts
-
-abbrev pub clear_text : List ℕ
-clear_text = codes "DELETE FROM meta"
 
 abbrev pub add_text : List ℕ
 add_text = codes "INSERT INTO meta (version, day, closed) VALUES (?1, ?2, ?3)"
@@ -37,9 +33,16 @@ add_text = codes "INSERT INTO meta (version, day, closed) VALUES (?1, ?2, ?3)"
 abbrev pub all_text : List ℕ
 all_text = codes "SELECT version, day, closed FROM meta"
 
-clear_is : (command_of (understood our_schema clear_text) ≡ Delete 0 (record { lets = []; body = simple 0 [] (col 1 0 ∷ []) [] })) × IsPlain (understood our_schema clear_text)
+abbrev pub set_text : List ℕ
+set_text = codes "UPDATE meta SET version = ?1, day = ?2, closed = ?3"
+
+-- the rowid, and then the new row
+abbrev set_project : List Term
+set_project = col 1 0 ∷ col 1 0 ∷ map (col 0) (range_with_len 0 3)
+
+set_is : (command_of (understood our_schema set_text) ≡ Update 0 (record { lets = []; body = simple 0 [] set_project [] })) × IsPlain (understood our_schema set_text)
 unfolding understood everything
-clear_is = (refl, (refl, refl))
+set_is = (refl, (refl, refl))
 
 add_is : (command_of (understood our_schema add_text) ≡ Insert 0 (Values (lit Null ∷ map (col 0) (range_with_len 0 3)) 4)) × IsPlain (understood our_schema add_text)
 unfolding understood everything
@@ -54,22 +57,20 @@ all_is = (refl, (refl, refl), refl)
 
 -- ---- the content
 
-abbrev pub without : Content → Content
-without now = record now { meta = None }
-
 abbrev pub with : Meta → Content → Content
 with entry now = record now { meta = Some entry }
 
-listed : (o : Option Meta) → meta_rows o ≡ map meta_row (option_to_list o)
-listed None = refl
-listed (Some entry) = refl
+replaces : (old new : State) (was entry : Meta) (count : ℕ) (now : Content) → now.meta ≡ Some was → Keeps form now old.now → Executes set_text (meta_row entry) old new (Ok count) → Keeps form (with entry now) new.now
+replaces old new was entry count now there keeps h =
+    let row = meta_row entry in
+    let it = updates our_schema 0 meta_table refl refl (λ db. refl) 3 (no_work 0) set_text set_is.1 row [] set_project set_is.0 meta_row (λ e. true) (λ r. refl) (λ r. refl) (λ e. refl) (λ e. refl) was row (λ r same. refl)
+    (cast_same meta_columns row (cast_int _, (cast_int _, (cast_int _, tt)))) (λ id. refl) old new keeps.schema count h (was ∷ []) refl (subst (λ l. KeepsTable 3 l (old.now.trees 0)) (ap meta_rows there) keeps.kept.0) in
+    wrote form old.now new.now 0 now (with entry now) _ it.same it.kept it.others (IsPermutation-refl _, (refl, (refl, (refl, (refl, (refl, (refl, (refl, (refl, (refl, (refl, tt))))))))))) keeps
 
-clears : (old new : State) (count : ℕ) (now : Content) → Keeps form now old.now → Executes clear_text [] old new (Ok count) → Keeps form (without now) new.now
-clears old new count now keeps h =
-    let entries = option_to_list now.meta in
-    let it = deletes our_schema 0 meta_table refl refl (λ db. refl) 3 (no_work 0) clear_text clear_is.1 [] [] clear_is.0 meta_row (λ e. true) (λ r. refl) (λ r. refl) (λ e. refl) (λ e. refl)
-    old new keeps.schema count h entries (subst (λ l. KeepsTable 3 l (old.now.trees 0)) (listed now.meta) keeps.kept.0) in
-    wrote form old.now new.now 0 now (without now) _ it.same it.kept it.others (no_rows meta_row entries, (refl, (refl, (refl, (refl, (refl, (refl, (refl, (refl, (refl, (refl, tt))))))))))) keeps
+-- the row that is there
+replaces_some : (old new : State) (entry : Meta) (count : ℕ) (now : Content) (was : Option Meta) → now.meta ≡ was → is_some was ≡ true → Keeps form now old.now → Executes set_text (meta_row entry) old new (Ok count) → Keeps form (with entry now) new.now
+replaces_some old new entry count now (Some was) is there keeps h = replaces old new was entry count now is keeps h
+replaces_some old new entry count now None is there keeps h = absurd (cc there)
 
 adds : (old new : State) (entry : Meta) (count : ℕ) (now : Content) → now.meta ≡ None → Keeps form now old.now → Executes add_text (meta_row entry) old new (Ok count) → Keeps form (with entry now) new.now
 adds old new entry count now none keeps h =
@@ -82,10 +83,22 @@ adds old new entry count now none keeps h =
 -- ---- the calls
 
 module _ {S : Type 0} (g : Ghosts S) (old new : Held S) where
-  pub clearing : DoesAlways g old new clear_text [] without
-  clearing r kept ran = always g old new r without (writes form g old new clear_text [] _ clear_is.0 clear_is.1 (λ is. cc) (λ name is. cc) (λ o n count w. w) r kept ran (λ now. Unit {0}) without
-      (λ now count may keeps h. clears (state g old) (state g new) count now keeps h))
+  pub setting : (entry : Meta) → Does g old new set_text (meta_row entry) (λ now. is_some now.meta ≡ true) (with entry)
+  setting entry r kept ran = writes form g old new set_text (meta_row entry) _ set_is.0 set_is.1 (λ is. cc) (λ name is. cc) (λ o n count w. w) r kept ran (λ now. is_some now.meta ≡ true) (with entry)
+      (λ now count may keeps h. replaces_some (state g old) (state g new) entry count now now.meta refl may keeps h)
 
   pub adding : (entry : Meta) → Does g old new add_text (meta_row entry) (λ now. now.meta ≡ None) (with entry)
   adding entry r kept ran = writes form g old new add_text (meta_row entry) _ add_is.0 add_is.1 (λ is. cc) (λ name is. cc) (λ o n count w. w) r kept ran (λ now. now.meta ≡ None) (with entry)
       (λ now count may keeps h. adds (state g old) (state g new) entry count now may keeps h)
+
+none_there : (o : Option Meta) → is_some o ≡ false → o ≡ None
+none_there None is = refl
+none_there (Some m) is = absurd (cc is)
+
+-- by whether there is a row
+module _ {S : Type 0} (g : Ghosts S) (old new : Held S) (entry : Meta) (there : Bool) where
+  pub put_over : there ≡ true → Changes g old new (λ now. is_some now.meta ≡ true) (with entry) → Changes g old new (λ now. is_some now.meta ≡ there) (with entry)
+  put_over is made now last a b met = made now last a b (met ∙ is)
+
+  pub put_first : there ≡ false → Changes g old new (λ now. now.meta ≡ None) (with entry) → Changes g old new (λ now. is_some now.meta ≡ there) (with entry)
+  put_first is made now last a b met = made now last a b (none_there now.meta (met ∙ is))

@@ -1,5 +1,6 @@
 -- The table of the periods.
 use Rattle.std.proofs.Common.{◌≡◌, ℕ, ◌+◌, List, [], ◌∷◌, ◌++◌, codes, map, length, true, false, Ok, refl, sym, ap₂, subst, IsPermutation}
+use Rattle.std.specs.Prelude.{⊤}
 use Rattle.std.specs.List.{range_with_len}
 use Rattle.sqlite_value.specs.declared.value.Value.TheVariants.{Null}
 use Rattle.sqlite_value.specs.declared.keys.Collation.TheVariants.{Binary}
@@ -24,7 +25,7 @@ use Rattle.bsp_store_base.specs.Schema.{our_schema, period_table, period_columns
 use Rattle.bsp_rows.specs.Period.{Period}
 use Rattle.bsp_store_base.specs.Columns.{period_row, placed}
 use Rattle.bsp_store_base.specs.Content.{Content, form}
-use Rattle.bsp_store_base.proofs.Writes.{no_work, Does, DoesAlways, always}
+use Rattle.bsp_store_base.proofs.Writes.{no_work, Does}
 use Rattle.bsp_store_plan.proofs.Sharing.{no_rows, placed_more}
 
 -- ---- the texts
@@ -82,9 +83,9 @@ adds old new place entry count now next keeps h =
 -- ---- the calls
 
 module _ {S : Type 0} (g : Ghosts S) (old new : Held S) where
-  pub clearing : DoesAlways g old new clear_text [] (with [])
-  clearing r kept ran = always g old new r (with []) (writes form g old new clear_text [] _ clear_is.0 clear_is.1 (λ is. cc) (λ name is. cc) (λ o n count w. w) r kept ran (λ now. Unit {0}) (with [])
-      (λ now count may keeps h. clears (state g old) (state g new) count now keeps h))
+  pub clearing : Does g old new clear_text [] (λ now. ⊤) (with [])
+  clearing r kept ran = writes form g old new clear_text [] _ clear_is.0 clear_is.1 (λ is. cc) (λ name is. cc) (λ o n count w. w) r kept ran (λ now. ⊤) (with [])
+      (λ now count may keeps h. clears (state g old) (state g new) count now keeps h)
 
   pub adding : (place : ℕ) (entry : Period) → Does g old new add_text (period_row (place, entry)) (is_next place) (with_more entry)
   adding place entry r kept ran = writes form g old new add_text (period_row (place, entry)) _ add_is.0 add_is.1 (λ is. cc) (λ name is. cc) (λ o n count w. w) r kept ran (is_next place) (with_more entry)

@@ -1,5 +1,6 @@
 -- The table of the terms.
 use Rattle.std.proofs.Common.{◌≡◌, ℕ, List, [], ◌∷◌, codes, map, true, false, Option, Some, None, Ok, refl, sym, ap₂, subst, IsPermutation}
+use Rattle.std.specs.Prelude.{⊤}
 use Rattle.std.specs.List.{range_with_len}
 use Rattle.std.specs.Option.{option_to_list}
 use Rattle.std.proofs.lemmas.List.Sorted.{IsPermutation-refl}
@@ -24,7 +25,7 @@ use Rattle.bsp_store_base.specs.Schema.{our_schema, terms_table, terms_columns}
 use Rattle.bsp_rows.specs.Terms.{Terms}
 use Rattle.bsp_store_base.specs.Columns.{terms_row, terms_rows}
 use Rattle.bsp_store_base.specs.Content.{Content, form}
-use Rattle.bsp_store_base.proofs.Writes.{no_work, Does, DoesAlways, always}
+use Rattle.bsp_store_base.proofs.Writes.{no_work, Does}
 use Rattle.bsp_store_plan.proofs.Sharing.{no_rows}
 
 -- ---- the texts
@@ -83,9 +84,9 @@ adds old new entry count now none keeps h =
 -- ---- the calls
 
 module _ {S : Type 0} (g : Ghosts S) (old new : Held S) where
-  pub clearing : DoesAlways g old new clear_text [] without
-  clearing r kept ran = always g old new r without (writes form g old new clear_text [] _ clear_is.0 clear_is.1 (λ is. cc) (λ name is. cc) (λ o n count w. w) r kept ran (λ now. Unit {0}) without
-      (λ now count may keeps h. clears (state g old) (state g new) count now keeps h))
+  pub clearing : Does g old new clear_text [] (λ now. ⊤) without
+  clearing r kept ran = writes form g old new clear_text [] _ clear_is.0 clear_is.1 (λ is. cc) (λ name is. cc) (λ o n count w. w) r kept ran (λ now. ⊤) without
+      (λ now count may keeps h. clears (state g old) (state g new) count now keeps h)
 
   pub adding : (entry : Terms) → Does g old new add_text (terms_row entry) (λ now. now.terms ≡ None) (with entry)
   adding entry r kept ran = writes form g old new add_text (terms_row entry) _ add_is.0 add_is.1 (λ is. cc) (λ name is. cc) (λ o n count w. w) r kept ran (λ now. now.terms ≡ None) (with entry)

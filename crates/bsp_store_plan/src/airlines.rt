@@ -1,8 +1,9 @@
-ghost use Rattle.std.specs.Prelude.{◌≡◌, ◌<◌, ◌^◌, ◌+◌, ◌++◌, ◌∷◌, [], length, map, OnOk, OnErr, IfOk, false, IsPermutation};
+ghost use Rattle.std.specs.Prelude.{◌≡◌, ◌<◌, ◌^◌, ◌+◌, ◌++◌, ◌∷◌, [], length, map, OnOk, OnErr, IfOk, false, IsPermutation, ⊤, take};
 ghost use Rattle.sqlite.specs.Values.{bound};
 ghost use Rattle.sqlite.specs.Held.{state};
 ghost use Rattle.sqlite.specs.State.{HasCleanDisk};
-ghost use Rattle.bsp_store_base.specs.Kept.{columns_of, Stands, Falls, IsInside, Reads, KeepsRows, Spares};
+ghost use Rattle.bsp_store_base.specs.Kept.{columns_of, Reads, KeepsRows, Spares};
+ghost use Rattle.bsp_store_base.specs.Calls.{Changes, GivesUp, GivesUpIf};
 ghost use Rattle.bsp_store_base.specs.Schema.{our_schema};
 ghost use Rattle.bsp_store_base.specs.Columns.{airline_row, placed};
 ghost use Rattle.bsp_store_base.specs.Content.{Content, form};
@@ -41,9 +42,14 @@ impl AirlineRow {
     }
 }
 
-fn clear_airlines<S: Alter>(conn: &mut Connection<S>) -> Result<usize, Error>
-    ensures ok { OnOk result ((now last a b : Content) → Stands form S.Store conn.old now last a b → IsInside form S.Store conn.old → Stands form S.Store conn.new (record now { published = [] }) last a b × IsInside form S.Store conn.new) }
-    ensures err { OnErr result ((now last a b : Content) → Stands form S.Store conn.old now last a b → IsInside form S.Store conn.old → Falls form S.Store conn.new last a b) }
+/// Takes out all rows.
+///
+/// # Errors
+///
+/// That of the statement.
+pub fn clear_airlines<S: Alter>(conn: &mut Connection<S>) -> Result<usize, Error>
+    ensures ok { OnOk result (Changes S.Store conn.old conn.new (λ now. ⊤) (λ now. record now { published = [] })) }
+    ensures err { OnErr result (GivesUp S.Store conn.old conn.new) }
 {
     conn.execute("DELETE FROM airline", &[])
 }
@@ -54,8 +60,8 @@ fn add_airline<S: Alter>(
     airline: AirlineCode,
 ) -> Result<usize, Error>
     requires { place < 2 ^ 63 }
-    ensures ok { OnOk result ((now last a b : Content) → place ≡ length now.published + 1 → Stands form S.Store conn.old now last a b → IsInside form S.Store conn.old → Stands form S.Store conn.new (record now { published = now.published ++ airline ∷ [] }) last a b × IsInside form S.Store conn.new) }
-    ensures err { OnErr result ((now last a b : Content) → Stands form S.Store conn.old now last a b → IsInside form S.Store conn.old → Falls form S.Store conn.new last a b) }
+    ensures ok { OnOk result (Changes S.Store conn.old conn.new (λ now. place ≡ length now.published + 1) (λ now. record now { published = now.published ++ airline ∷ [] })) }
+    ensures err { OnErr result (GivesUp S.Store conn.old conn.new) }
 {
     let row = AirlineRow::of(place, airline);
     conn.execute(
@@ -64,20 +70,20 @@ fn add_airline<S: Alter>(
     )
 }
 
-/// Writes the airlines in their order.
+/// Writes the airlines from a place on, counted from 0. The table has those before it.
 ///
 /// # Errors
 ///
 /// That of the statement which failed.
-pub fn put_airlines<S: Alter>(
+pub fn add_airlines<S: Alter>(
     conn: &mut Connection<S>,
+    from: usize,
     airlines: &[AirlineCode],
 ) -> Result<(), Error>
-    ensures ok { OnOk result ((now last a b : Content) → Stands form S.Store conn.old now last a b → IsInside form S.Store conn.old → Stands form S.Store conn.new (record now { published = airlines.now }) last a b × IsInside form S.Store conn.new) }
-    ensures err { OnErr result ((now last a b : Content) → Stands form S.Store conn.old now last a b → IsInside form S.Store conn.old → Falls form S.Store conn.new last a b) }
+    ensures ok { OnOk result (Changes S.Store conn.old conn.new (λ now. now.published ≡ take from airlines.now) (λ now. record now { published = airlines.now })) }
+    ensures err { OnErr result (GivesUpIf S.Store conn.old conn.new (λ now. now.published ≡ take from airlines.now)) }
 {
-    clear_airlines(conn)?;
-    for at in 0..airlines.len() {
+    for at in from..airlines.len() {
         add_airline(conn, at + 1, airlines[at])?;
     }
     Ok(())

@@ -9,9 +9,9 @@ mod rates;
 mod reading;
 mod terms;
 
-pub use airlines::{AirlineRow, all_airlines, put_airlines};
+pub use airlines::{AirlineRow, add_airlines, all_airlines, clear_airlines};
 pub use meta::{MetaRow, all_meta, put_meta};
-pub use periods::{PeriodRow, all_periods, put_periods};
-pub use rates::{RateRow, all_rates, put_rates};
+pub use periods::{PeriodRow, add_periods, all_periods, clear_periods};
+pub use rates::{RateRow, add_rates, all_rates, clear_rates};
 pub use reading::{read_airline, read_meta, read_period, read_rate, read_terms, read_version};
 pub use terms::{TermsRow, all_terms, put_terms};

@@ -1,8 +1,9 @@
-ghost use Rattle.std.specs.Prelude.{◌≡◌, ◌<◌, ◌^◌, map, None, Some, OnOk, OnErr, IfOk, false, IsPermutation};
+ghost use Rattle.std.specs.Prelude.{◌≡◌, is_some, true, ◌<◌, ◌^◌, map, None, Some, OnOk, OnErr, IfOk, false, IsPermutation, ⊤};
 ghost use Rattle.sqlite.specs.Values.{bound};
 ghost use Rattle.sqlite.specs.Held.{state};
 ghost use Rattle.sqlite.specs.State.{HasCleanDisk};
-ghost use Rattle.bsp_store_base.specs.Kept.{columns_of, Stands, Falls, IsInside, Reads, KeepsRows, Spares};
+ghost use Rattle.bsp_store_base.specs.Kept.{columns_of, Reads, KeepsRows, Spares};
+ghost use Rattle.bsp_store_base.specs.Calls.{Changes, GivesUp};
 ghost use Rattle.bsp_store_base.specs.Schema.{our_schema};
 ghost use Rattle.bsp_store_base.specs.Columns.{Meta, meta_row, meta_rows};
 ghost use Rattle.bsp_store_base.specs.Content.{Content, form};
@@ -44,17 +45,10 @@ impl MetaRow {
     }
 }
 
-fn clear_meta<S: Alter>(conn: &mut Connection<S>) -> Result<usize, Error>
-    ensures ok { OnOk result ((now last a b : Content) → Stands form S.Store conn.old now last a b → IsInside form S.Store conn.old → Stands form S.Store conn.new (record now { meta = None }) last a b × IsInside form S.Store conn.new) }
-    ensures err { OnErr result ((now last a b : Content) → Stands form S.Store conn.old now last a b → IsInside form S.Store conn.old → Falls form S.Store conn.new last a b) }
-{
-    conn.execute("DELETE FROM meta", &[])
-}
-
 fn add_meta<S: Alter>(conn: &mut Connection<S>, day: Day, closed: usize) -> Result<usize, Error>
     requires { closed < 2 ^ 63 }
-    ensures ok { OnOk result ((now last a b : Content) → now.meta ≡ None → Stands form S.Store conn.old now last a b → IsInside form S.Store conn.old → Stands form S.Store conn.new (record now { meta = Some (record { day = day; closed = closed }) }) last a b × IsInside form S.Store conn.new) }
-    ensures err { OnErr result ((now last a b : Content) → Stands form S.Store conn.old now last a b → IsInside form S.Store conn.old → Falls form S.Store conn.new last a b) }
+    ensures ok { OnOk result (Changes S.Store conn.old conn.new (λ now. now.meta ≡ None) (λ now. record now { meta = Some (record { day = day; closed = closed }) })) }
+    ensures err { OnErr result (GivesUp S.Store conn.old conn.new) }
 {
     let row = MetaRow::of(day, closed);
     conn.execute(
@@ -63,21 +57,41 @@ fn add_meta<S: Alter>(conn: &mut Connection<S>, day: Day, closed: usize) -> Resu
     )
 }
 
-/// Writes the business day and how many periods are closed.
+fn set_meta<S: Alter>(conn: &mut Connection<S>, day: Day, closed: usize) -> Result<usize, Error>
+    requires { closed < 2 ^ 63 }
+    ensures ok { OnOk result (Changes S.Store conn.old conn.new (λ now. is_some now.meta ≡ true) (λ now. record now { meta = Some (record { day = day; closed = closed }) })) }
+    ensures err { OnErr result (GivesUp S.Store conn.old conn.new) }
+{
+    let row = MetaRow::of(day, closed);
+    conn.execute(
+        "UPDATE meta SET version = ?1, day = ?2, closed = ?3",
+        &row.values(),
+    )
+}
+
+/// Writes the business day and how many periods are closed: into the row of the table, or as its first row.
 ///
 /// # Errors
 ///
-/// `ErrorCode::TooBig` for a number of periods that no integer of a column has, and else that of the
-/// statement which failed.
-pub fn put_meta<S: Alter>(conn: &mut Connection<S>, day: Day, closed: usize) -> Result<(), Error>
-    ensures ok { OnOk result ((now last a b : Content) → Stands form S.Store conn.old now last a b → IsInside form S.Store conn.old → Stands form S.Store conn.new (record now { meta = Some (record { day = day; closed = closed }) }) last a b × IsInside form S.Store conn.new) }
-    ensures err { OnErr result ((now last a b : Content) → Stands form S.Store conn.old now last a b → IsInside form S.Store conn.old → Falls form S.Store conn.new last a b) }
+/// `ErrorCode::TooBig` for a number of periods that no integer of a column has, and else that of the statement which
+/// failed.
+pub fn put_meta<S: Alter>(
+    conn: &mut Connection<S>,
+    is_there: bool,
+    day: Day,
+    closed: usize,
+) -> Result<(), Error>
+    ensures ok { OnOk result (Changes S.Store conn.old conn.new (λ now. is_some now.meta ≡ is_there) (λ now. record now { meta = Some (record { day = day; closed = closed }) })) }
+    ensures err { OnErr result (GivesUp S.Store conn.old conn.new) }
 {
     if closed > i64::MAX as usize {
         return Err(Error::SqliteFailure(ErrorCode::TooBig));
     }
-    clear_meta(conn)?;
-    add_meta(conn, day, closed)?;
+    if is_there {
+        set_meta(conn, day, closed)?;
+    } else {
+        add_meta(conn, day, closed)?;
+    }
     Ok(())
 }
 

@@ -1,8 +1,9 @@
-ghost use Rattle.std.specs.Prelude.{◌≡◌, ◌<◌, ◌^◌, ◌+◌, ◌++◌, ◌∷◌, [], length, map, OnOk, OnErr, IfOk, false, IsPermutation};
+ghost use Rattle.std.specs.Prelude.{◌≡◌, ◌<◌, ◌^◌, ◌+◌, ◌++◌, ◌∷◌, [], length, map, OnOk, OnErr, IfOk, false, IsPermutation, ⊤, take};
 ghost use Rattle.sqlite.specs.Values.{bound};
 ghost use Rattle.sqlite.specs.Held.{state};
 ghost use Rattle.sqlite.specs.State.{HasCleanDisk};
-ghost use Rattle.bsp_store_base.specs.Kept.{columns_of, Stands, Falls, IsInside, Reads, KeepsRows, Spares};
+ghost use Rattle.bsp_store_base.specs.Kept.{columns_of, Reads, KeepsRows, Spares};
+ghost use Rattle.bsp_store_base.specs.Calls.{Changes, GivesUp, GivesUpIf};
 ghost use Rattle.bsp_store_base.specs.Schema.{our_schema};
 ghost use Rattle.bsp_store_base.specs.Columns.{period_row, placed};
 ghost use Rattle.bsp_store_base.specs.Content.{Content, form};
@@ -53,9 +54,14 @@ impl PeriodRow {
     }
 }
 
-fn clear_periods<S: Alter>(conn: &mut Connection<S>) -> Result<usize, Error>
-    ensures ok { OnOk result ((now last a b : Content) → Stands form S.Store conn.old now last a b → IsInside form S.Store conn.old → Stands form S.Store conn.new (record now { periods = [] }) last a b × IsInside form S.Store conn.new) }
-    ensures err { OnErr result ((now last a b : Content) → Stands form S.Store conn.old now last a b → IsInside form S.Store conn.old → Falls form S.Store conn.new last a b) }
+/// Takes out all rows.
+///
+/// # Errors
+///
+/// That of the statement.
+pub fn clear_periods<S: Alter>(conn: &mut Connection<S>) -> Result<usize, Error>
+    ensures ok { OnOk result (Changes S.Store conn.old conn.new (λ now. ⊤) (λ now. record now { periods = [] })) }
+    ensures err { OnErr result (GivesUp S.Store conn.old conn.new) }
 {
     conn.execute("DELETE FROM period", &[])
 }
@@ -66,8 +72,8 @@ fn add_period<S: Alter>(
     period: &Period,
 ) -> Result<usize, Error>
     requires { place < 2 ^ 63 }
-    ensures ok { OnOk result ((now last a b : Content) → place ≡ length now.periods + 1 → Stands form S.Store conn.old now last a b → IsInside form S.Store conn.old → Stands form S.Store conn.new (record now { periods = now.periods ++ period.now ∷ [] }) last a b × IsInside form S.Store conn.new) }
-    ensures err { OnErr result ((now last a b : Content) → Stands form S.Store conn.old now last a b → IsInside form S.Store conn.old → Falls form S.Store conn.new last a b) }
+    ensures ok { OnOk result (Changes S.Store conn.old conn.new (λ now. place ≡ length now.periods + 1) (λ now. record now { periods = now.periods ++ period.now ∷ [] })) }
+    ensures err { OnErr result (GivesUp S.Store conn.old conn.new) }
 {
     let row = PeriodRow::of(place, period);
     conn.execute(
@@ -76,17 +82,20 @@ fn add_period<S: Alter>(
     )
 }
 
-/// Writes the billing periods in their order.
+/// Writes the periods from a place on, counted from 0. The table has those before it.
 ///
 /// # Errors
 ///
 /// That of the statement which failed.
-pub fn put_periods<S: Alter>(conn: &mut Connection<S>, periods: &[Period]) -> Result<(), Error>
-    ensures ok { OnOk result ((now last a b : Content) → Stands form S.Store conn.old now last a b → IsInside form S.Store conn.old → Stands form S.Store conn.new (record now { periods = periods.now }) last a b × IsInside form S.Store conn.new) }
-    ensures err { OnErr result ((now last a b : Content) → Stands form S.Store conn.old now last a b → IsInside form S.Store conn.old → Falls form S.Store conn.new last a b) }
+pub fn add_periods<S: Alter>(
+    conn: &mut Connection<S>,
+    from: usize,
+    periods: &[Period],
+) -> Result<(), Error>
+    ensures ok { OnOk result (Changes S.Store conn.old conn.new (λ now. now.periods ≡ take from periods.now) (λ now. record now { periods = periods.now })) }
+    ensures err { OnErr result (GivesUpIf S.Store conn.old conn.new (λ now. now.periods ≡ take from periods.now)) }
 {
-    clear_periods(conn)?;
-    for at in 0..periods.len() {
+    for at in from..periods.len() {
         add_period(conn, at + 1, &periods[at])?;
     }
     Ok(())

@@ -1,8 +1,9 @@
-ghost use Rattle.std.specs.Prelude.{◌≡◌, ◌<◌, ◌^◌, ◌+◌, ◌++◌, ◌∷◌, [], length, map, OnOk, OnErr, IfOk, false, IsPermutation};
+ghost use Rattle.std.specs.Prelude.{◌≡◌, ◌<◌, ◌^◌, ◌+◌, ◌++◌, ◌∷◌, [], length, map, OnOk, OnErr, IfOk, false, IsPermutation, ⊤, take};
 ghost use Rattle.sqlite.specs.Values.{bound};
 ghost use Rattle.sqlite.specs.Held.{state};
 ghost use Rattle.sqlite.specs.State.{HasCleanDisk};
-ghost use Rattle.bsp_store_base.specs.Kept.{columns_of, Stands, Falls, IsInside, Reads, KeepsRows, Spares};
+ghost use Rattle.bsp_store_base.specs.Kept.{columns_of, Reads, KeepsRows, Spares};
+ghost use Rattle.bsp_store_base.specs.Calls.{Changes, GivesUp, GivesUpIf};
 ghost use Rattle.bsp_store_base.specs.Schema.{our_schema};
 ghost use Rattle.bsp_store_base.specs.Columns.{rate_row, placed};
 ghost use Rattle.bsp_store_base.specs.Content.{Content, form};
@@ -50,17 +51,22 @@ impl RateRow {
     }
 }
 
-fn clear_rates<S: Alter>(conn: &mut Connection<S>) -> Result<usize, Error>
-    ensures ok { OnOk result ((now last a b : Content) → Stands form S.Store conn.old now last a b → IsInside form S.Store conn.old → Stands form S.Store conn.new (record now { rates = [] }) last a b × IsInside form S.Store conn.new) }
-    ensures err { OnErr result ((now last a b : Content) → Stands form S.Store conn.old now last a b → IsInside form S.Store conn.old → Falls form S.Store conn.new last a b) }
+/// Takes out all rows.
+///
+/// # Errors
+///
+/// That of the statement.
+pub fn clear_rates<S: Alter>(conn: &mut Connection<S>) -> Result<usize, Error>
+    ensures ok { OnOk result (Changes S.Store conn.old conn.new (λ now. ⊤) (λ now. record now { rates = [] })) }
+    ensures err { OnErr result (GivesUp S.Store conn.old conn.new) }
 {
     conn.execute("DELETE FROM rate", &[])
 }
 
 fn add_rate<S: Alter>(conn: &mut Connection<S>, place: usize, rate: &Rate) -> Result<usize, Error>
     requires { place < 2 ^ 63 }
-    ensures ok { OnOk result ((now last a b : Content) → place ≡ length now.rates + 1 → Stands form S.Store conn.old now last a b → IsInside form S.Store conn.old → Stands form S.Store conn.new (record now { rates = now.rates ++ rate.now ∷ [] }) last a b × IsInside form S.Store conn.new) }
-    ensures err { OnErr result ((now last a b : Content) → Stands form S.Store conn.old now last a b → IsInside form S.Store conn.old → Falls form S.Store conn.new last a b) }
+    ensures ok { OnOk result (Changes S.Store conn.old conn.new (λ now. place ≡ length now.rates + 1) (λ now. record now { rates = now.rates ++ rate.now ∷ [] })) }
+    ensures err { OnErr result (GivesUp S.Store conn.old conn.new) }
 {
     let row = RateRow::of(place, rate);
     conn.execute(
@@ -69,17 +75,20 @@ fn add_rate<S: Alter>(conn: &mut Connection<S>, place: usize, rate: &Rate) -> Re
     )
 }
 
-/// Writes the rates of commission in their order.
+/// Writes the rates of commission from a place on, counted from 0. The table has those before it.
 ///
 /// # Errors
 ///
 /// That of the statement which failed.
-pub fn put_rates<S: Alter>(conn: &mut Connection<S>, rates: &[Rate]) -> Result<(), Error>
-    ensures ok { OnOk result ((now last a b : Content) → Stands form S.Store conn.old now last a b → IsInside form S.Store conn.old → Stands form S.Store conn.new (record now { rates = rates.now }) last a b × IsInside form S.Store conn.new) }
-    ensures err { OnErr result ((now last a b : Content) → Stands form S.Store conn.old now last a b → IsInside form S.Store conn.old → Falls form S.Store conn.new last a b) }
+pub fn add_rates<S: Alter>(
+    conn: &mut Connection<S>,
+    from: usize,
+    rates: &[Rate],
+) -> Result<(), Error>
+    ensures ok { OnOk result (Changes S.Store conn.old conn.new (λ now. now.rates ≡ take from rates.now) (λ now. record now { rates = rates.now })) }
+    ensures err { OnErr result (GivesUpIf S.Store conn.old conn.new (λ now. now.rates ≡ take from rates.now)) }
 {
-    clear_rates(conn)?;
-    for at in 0..rates.len() {
+    for at in from..rates.len() {
         add_rate(conn, at + 1, &rates[at])?;
     }
     Ok(())

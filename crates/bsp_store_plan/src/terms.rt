@@ -1,8 +1,9 @@
-ghost use Rattle.std.specs.Prelude.{◌≡◌, ◌<◌, ◌^◌, map, None, Some, OnOk, OnErr, IfOk, false, IsPermutation};
+ghost use Rattle.std.specs.Prelude.{◌≡◌, ◌<◌, ◌^◌, map, None, Some, OnOk, OnErr, IfOk, false, IsPermutation, ⊤};
 ghost use Rattle.sqlite.specs.Values.{bound};
 ghost use Rattle.sqlite.specs.Held.{state};
 ghost use Rattle.sqlite.specs.State.{HasCleanDisk};
-ghost use Rattle.bsp_store_base.specs.Kept.{columns_of, Stands, Falls, IsInside, Reads, KeepsRows, Spares};
+ghost use Rattle.bsp_store_base.specs.Kept.{columns_of, Reads, KeepsRows, Spares};
+ghost use Rattle.bsp_store_base.specs.Calls.{Changes, GivesUp};
 ghost use Rattle.bsp_store_base.specs.Schema.{our_schema};
 ghost use Rattle.bsp_store_base.specs.Columns.{terms_row, terms_rows};
 ghost use Rattle.bsp_store_base.specs.Content.{Content, form};
@@ -46,15 +47,15 @@ impl TermsRow {
 }
 
 fn clear_terms<S: Alter>(conn: &mut Connection<S>) -> Result<usize, Error>
-    ensures ok { OnOk result ((now last a b : Content) → Stands form S.Store conn.old now last a b → IsInside form S.Store conn.old → Stands form S.Store conn.new (record now { terms = None }) last a b × IsInside form S.Store conn.new) }
-    ensures err { OnErr result ((now last a b : Content) → Stands form S.Store conn.old now last a b → IsInside form S.Store conn.old → Falls form S.Store conn.new last a b) }
+    ensures ok { OnOk result (Changes S.Store conn.old conn.new (λ now. ⊤) (λ now. record now { terms = None })) }
+    ensures err { OnErr result (GivesUp S.Store conn.old conn.new) }
 {
     conn.execute("DELETE FROM terms", &[])
 }
 
 fn add_terms<S: Alter>(conn: &mut Connection<S>, terms: &Terms) -> Result<usize, Error>
-    ensures ok { OnOk result ((now last a b : Content) → now.terms ≡ None → Stands form S.Store conn.old now last a b → IsInside form S.Store conn.old → Stands form S.Store conn.new (record now { terms = Some terms.now }) last a b × IsInside form S.Store conn.new) }
-    ensures err { OnErr result ((now last a b : Content) → Stands form S.Store conn.old now last a b → IsInside form S.Store conn.old → Falls form S.Store conn.new last a b) }
+    ensures ok { OnOk result (Changes S.Store conn.old conn.new (λ now. now.terms ≡ None) (λ now. record now { terms = Some terms.now })) }
+    ensures err { OnErr result (GivesUp S.Store conn.old conn.new) }
 {
     let row = TermsRow::of(terms);
     conn.execute(
@@ -69,8 +70,8 @@ fn add_terms<S: Alter>(conn: &mut Connection<S>, terms: &Terms) -> Result<usize,
 ///
 /// That of the statement which failed.
 pub fn put_terms<S: Alter>(conn: &mut Connection<S>, terms: Option<Terms>) -> Result<(), Error>
-    ensures ok { OnOk result ((now last a b : Content) → Stands form S.Store conn.old now last a b → IsInside form S.Store conn.old → Stands form S.Store conn.new (record now { terms = terms }) last a b × IsInside form S.Store conn.new) }
-    ensures err { OnErr result ((now last a b : Content) → Stands form S.Store conn.old now last a b → IsInside form S.Store conn.old → Falls form S.Store conn.new last a b) }
+    ensures ok { OnOk result (Changes S.Store conn.old conn.new (λ now. ⊤) (λ now. record now { terms = terms })) }
+    ensures err { OnErr result (GivesUp S.Store conn.old conn.new) }
 {
     clear_terms(conn)?;
     let Some(terms) = terms else {

@@ -1,5 +1,4 @@
-pub mod KeyedLemmas
-pub mod SavingLemmas
+pub mod EachLemmas
 pub mod PlanLemmas
 pub mod StepLemmas
 pub mod WrittenLemmas

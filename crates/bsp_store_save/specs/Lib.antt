@@ -1,5 +1,6 @@
-pub mod Calls
+pub mod Each
 pub mod Saving
+pub use Rattle.bsp_store_load.specs.Calls
 pub use Rattle.bsp_store_load.specs.Content
 pub use Rattle.bsp_store_load.specs.Contents
 pub use Rattle.bsp_store_load.specs.Kept

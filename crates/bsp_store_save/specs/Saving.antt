@@ -8,13 +8,18 @@ use Rattle.bsp_memory_tables.specs.MemoTables.{memo_rows, memo_rows_before}
 use Rattle.bsp_memory_tables.specs.RangeTables.{range_rows, range_rows_before}
 use Rattle.bsp_memory_tables.specs.TallyTables.{tally_rows, tally_rows_before}
 use Rattle.bsp_store_load.specs.Tables.{Tables}
+use Rattle.bsp_store_load.specs.Columns.{Meta}
 use Rattle.bsp_store_load.specs.Content.{Content}
 use Rattle.bsp_store_load.specs.Contents.{used_tallies}
+
+-- the business day and the number of closed periods
+abbrev pub meta_of : Published → Meta
+meta_of p = record { day = p.day; closed = length p.closed }
 
 -- with the rows of a plan
 abbrev pub with_plan : Published → Content → Content
 with_plan p c = record c {
-  meta = Some (record { day = p.day; closed = length p.closed });
+  meta = Some (meta_of p);
   terms = p.terms;
   published = p.airlines;
   rates = p.rates;

@@ -1,47 +1,87 @@
 //! Tables whose rows are found by keys, brought up to date.
 
-ghost use Rattle.std.specs.Prelude.{OnOk, OnErr, ⊤};
-ghost use Rattle.std.specs.FinMap.{from_entries, get};
-ghost use Rattle.bsp_store_save.specs.Calls.{Changes, GivesUp, with_each, written_keys};
+ghost use Rattle.std.specs.Prelude.{◌≡◌, IfOk, OnOk, OnErr};
+ghost use Rattle.std.specs.FinMap.{IsAntisymmetric, entries, from_entries, get};
+ghost use Rattle.bsp_maps.specs.Undo.{IsEarlier, undone};
+ghost use Rattle.bsp_store_load.specs.Calls.{Changes, GivesUpIf};
+ghost use Rattle.bsp_store_save.specs.Each.{AreThere, with_each};
 
-use bsp_maps::Old;
-use sqlite::{Alter, Connection, Error};
+use bsp_maps::{Old, values_before};
+use sqlite::{Alter, Connection, Error, ErrorCode};
+use std::alloc::Global;
 use std::collections::BTreeMap;
 
-/// A table whose rows are found by keys.
+/// A table whose rows are found by keys. A value in memory may have no row.
 pub(crate) trait Keyed<K: Ord + Copy + Drop, V: Copy + Drop> {
+    ghost use Rattle.std.specs.Prelude.{Bool, Option};
+    ghost use Rattle.bsp_store_load.specs.Calls.{Changes, GivesUp};
     ghost use Rattle.bsp_store_load.specs.Content.{Content};
-    ghost use Rattle.std.specs.Prelude.{Option};
 
-    // the content with a value at a key, or with none
+    // the content with the row of a value at a key, or with none
     ghost set: { K → Option V → Content → Content };
 
-    /// Writes the value of a key in the open transaction, or takes it out where there is none.
+    // whether the content has a row at a key, and whether a value has one
+    ghost holds: { K → Content → Bool };
+
+    ghost rows: { Option V → Bool };
+
+    /// Whether a value has a row.
+    fn has_row(&self, value: Option<V>) -> bool
+        ensures { result ≡ rows value };
+
+    /// Writes the row of a key in the open transaction, or takes it out where the value has none. The table has a row of
+    /// the key if and only if `is_there`.
     ///
     /// # Errors
     ///
     /// Those of `sqlite`; the transaction is then rolled back, or is still to be.
-    fn put<S: Alter>(&self, conn: &mut Connection<S>, key: K, value: Option<V>) -> Result<(), Error>
-        ensures ok { OnOk result (Changes S.Store conn.old conn.new (λ now. ⊤) (set key value)) }
+    fn put<S: Alter>(
+        &self,
+        conn: &mut Connection<S>,
+        key: K,
+        is_there: bool,
+        value: Option<V>,
+    ) -> Result<(), Error>
+        ensures ok { OnOk result (Changes S.Store conn.old conn.new (λ now. holds key now ≡ is_there) (set key value)) }
         ensures err { OnErr result (GivesUp S.Store conn.old conn.new) };
 }
 
-/// Writes what a map has at the keys that were written.
+/// What was at each key that was written since the last commit.
+///
+/// # Errors
+///
+/// `OutOfMemory`.
+pub(crate) fn written_before<K: Ord + Copy + Drop, V: Copy + Drop>(
+    alloc: Global,
+    written: &[Old<K, V>],
+    values: &BTreeMap<K, V>,
+) -> Result<BTreeMap<K, Option<V>>, Error>
+    requires { IsAntisymmetric K.cmp }
+    ensures { IfOk result (λ found. IsEarlier (from_entries {R = K.cmp} found.entries) (from_entries values.now.entries) (undone written.now (from_entries values.now.entries))) }
+{
+    match values_before(alloc, written, values) {
+        Ok(found) => Ok(found),
+        Err(_) => Err(Error::SqliteFailure(ErrorCode::OutOfMemory)),
+    }
+}
+
+/// Writes what a map has at the keys that were written, each once.
 pub(crate) fn put_written<K: Ord + Copy + Drop, V: Copy + Drop, T: Keyed<K, V>, S: Alter>(
     table: &T,
     conn: &mut Connection<S>,
-    written: &[Old<K, V>],
+    before: &BTreeMap<K, Option<V>>,
     values: &BTreeMap<K, V>,
 ) -> Result<(), Error>
-    ensures ok { OnOk result (Changes S.Store conn.old conn.new (λ now. ⊤) (with_each T.set (get (from_entries {R = K.cmp} values.now.entries)) (written_keys written.now))) }
-    ensures err { OnErr result (GivesUp S.Store conn.old conn.new) }
+    ensures ok { OnOk result (Changes S.Store conn.old conn.new
+        (AreThere T.set (get (from_entries {R = K.cmp} values.now.entries)) T.holds T.rows (entries (from_entries {R = K.cmp} before.now.entries)))
+        (with_each T.set (get (from_entries {R = K.cmp} values.now.entries)) (entries (from_entries {R = K.cmp} before.now.entries)))) }
+    ensures err { OnErr result (GivesUpIf S.Store conn.old conn.new
+        (AreThere T.set (get (from_entries {R = K.cmp} values.now.entries)) T.holds T.rows (entries (from_entries {R = K.cmp} before.now.entries)))) }
 {
-    'written: for old in written {
-        let key = old.key();
-        let value = values.get(&key).copied();
-        if let Err(error) = table.put(conn, key, value) {
-            return Err(error);
-        }
+    let _count = before.len();
+    for (key, old) in before {
+        let value = values.get(key).copied();
+        table.put(conn, *key, table.has_row(*old), value)?;
     }
     Ok(())
 }

@@ -14,7 +14,7 @@ use sqlite::{Alter, Connection, Error};
 pub fn make_book<S: Alter>(conn: &mut Connection<S>) -> Result<(), Error> {
     open_transaction(conn)?;
     make_tables(conn)?;
-    put_meta(conn, Day::first(), 0)?;
+    put_meta(conn, false, Day::first(), 0)?;
     close_transaction(conn)?;
     Ok(())
 }

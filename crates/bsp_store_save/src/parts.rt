@@ -1,10 +1,11 @@
 //! The tables whose rows are found by keys.
 
-ghost use Rattle.std.specs.Prelude.{◌≡◌, OnErr, OnOk, ⊤};
+ghost use Rattle.std.specs.Prelude.{◌≡◌, is_some, OnErr, OnOk};
+ghost use Rattle.std.specs.FinMap.{get};
 ghost use Rattle.std.specs.Option.{option_flatten};
-ghost use Rattle.bsp_store_load.specs.Synced.{with_value};
-ghost use Rattle.bsp_store_save.specs.Calls.{Changes, GivesUp};
+ghost use Rattle.bsp_store_load.specs.Calls.{Changes, GivesUp};
 ghost use Rattle.bsp_store_load.specs.Contents.{used_at};
+ghost use Rattle.bsp_store_load.specs.Synced.{with_value};
 
 use crate::keyed::Keyed;
 use bsp_rows::{
@@ -47,95 +48,161 @@ pub(crate) fn used(tally: Option<Tally>) -> Option<Tally>
 impl Keyed<AgentCode, Token> for Agents {
     ghost set = { λ key value c. record c { agents = with_value key value c.agents } };
 
+    ghost holds = { λ key c. is_some (get c.agents key) };
+
+    ghost rows = { λ value. is_some value };
+
+    fn has_row(&self, value: Option<Token>) -> bool
+        ensures { result ≡ is_some value }
+    {
+        value.is_some()
+    }
+
     fn put<S: Alter>(
         &self,
         conn: &mut Connection<S>,
         key: AgentCode,
+        is_there: bool,
         value: Option<Token>,
     ) -> Result<(), Error>
-        ensures ok { OnOk result (Changes S.Store conn.old conn.new (λ now. ⊤) (λ c. record c { agents = with_value key value c.agents })) }
+        ensures ok { OnOk result (Changes S.Store conn.old conn.new (λ c. is_some (get c.agents key) ≡ is_there) (λ c. record c { agents = with_value key value c.agents })) }
         ensures err { OnErr result (GivesUp S.Store conn.old conn.new) }
     {
-        put_agent(conn, key, value)
+        put_agent(conn, key, is_there, value)
     }
 }
 
 impl Keyed<AirlineCode, Token> for Airlines {
     ghost set = { λ key value c. record c { airlines = with_value key value c.airlines } };
 
+    ghost holds = { λ key c. is_some (get c.airlines key) };
+
+    ghost rows = { λ value. is_some value };
+
+    fn has_row(&self, value: Option<Token>) -> bool
+        ensures { result ≡ is_some value }
+    {
+        value.is_some()
+    }
+
     fn put<S: Alter>(
         &self,
         conn: &mut Connection<S>,
         key: AirlineCode,
+        is_there: bool,
         value: Option<Token>,
     ) -> Result<(), Error>
-        ensures ok { OnOk result (Changes S.Store conn.old conn.new (λ now. ⊤) (λ c. record c { airlines = with_value key value c.airlines })) }
+        ensures ok { OnOk result (Changes S.Store conn.old conn.new (λ c. is_some (get c.airlines key) ≡ is_there) (λ c. record c { airlines = with_value key value c.airlines })) }
         ensures err { OnErr result (GivesUp S.Store conn.old conn.new) }
     {
-        put_airline_token(conn, key, value)
+        put_airline_token(conn, key, is_there, value)
     }
 }
 
 impl Keyed<RangeKey, Option<DocNumber>> for Ranges {
     ghost set = { λ key value c. record c { ranges = with_value key (option_flatten value) c.ranges } };
 
+    ghost holds = { λ key c. is_some (get c.ranges key) };
+
+    ghost rows = { λ value. is_some (option_flatten value) };
+
+    fn has_row(&self, value: Option<Option<DocNumber>>) -> bool
+        ensures { result ≡ is_some (option_flatten value) }
+    {
+        value.flatten().is_some()
+    }
+
     fn put<S: Alter>(
         &self,
         conn: &mut Connection<S>,
         key: RangeKey,
+        is_there: bool,
         value: Option<Option<DocNumber>>,
     ) -> Result<(), Error>
-        ensures ok { OnOk result (Changes S.Store conn.old conn.new (λ now. ⊤) (λ c. record c { ranges = with_value key (option_flatten value) c.ranges })) }
+        ensures ok { OnOk result (Changes S.Store conn.old conn.new (λ c. is_some (get c.ranges key) ≡ is_there) (λ c. record c { ranges = with_value key (option_flatten value) c.ranges })) }
         ensures err { OnErr result (GivesUp S.Store conn.old conn.new) }
     {
-        put_range(conn, &key, value.flatten())
+        put_range(conn, &key, is_there, value.flatten())
     }
 }
 
 impl Keyed<ItemKey, Item> for ItemRows {
     ghost set = { λ key value c. record c { items = with_value key value c.items } };
 
+    ghost holds = { λ key c. is_some (get c.items key) };
+
+    ghost rows = { λ value. is_some value };
+
+    fn has_row(&self, value: Option<Item>) -> bool
+        ensures { result ≡ is_some value }
+    {
+        value.is_some()
+    }
+
     fn put<S: Alter>(
         &self,
         conn: &mut Connection<S>,
         key: ItemKey,
+        is_there: bool,
         value: Option<Item>,
     ) -> Result<(), Error>
-        ensures ok { OnOk result (Changes S.Store conn.old conn.new (λ now. ⊤) (λ c. record c { items = with_value key value c.items })) }
+        ensures ok { OnOk result (Changes S.Store conn.old conn.new (λ c. is_some (get c.items key) ≡ is_there) (λ c. record c { items = with_value key value c.items })) }
         ensures err { OnErr result (GivesUp S.Store conn.old conn.new) }
     {
-        put_item(conn, &key, value)
+        put_item(conn, &key, is_there, value)
     }
 }
 
 impl Keyed<MemoKey, Memo> for MemoRows {
     ghost set = { λ key value c. record c { memos = with_value key value c.memos } };
 
+    ghost holds = { λ key c. is_some (get c.memos key) };
+
+    ghost rows = { λ value. is_some value };
+
+    fn has_row(&self, value: Option<Memo>) -> bool
+        ensures { result ≡ is_some value }
+    {
+        value.is_some()
+    }
+
     fn put<S: Alter>(
         &self,
         conn: &mut Connection<S>,
         key: MemoKey,
+        is_there: bool,
         value: Option<Memo>,
     ) -> Result<(), Error>
-        ensures ok { OnOk result (Changes S.Store conn.old conn.new (λ now. ⊤) (λ c. record c { memos = with_value key value c.memos })) }
+        ensures ok { OnOk result (Changes S.Store conn.old conn.new (λ c. is_some (get c.memos key) ≡ is_there) (λ c. record c { memos = with_value key value c.memos })) }
         ensures err { OnErr result (GivesUp S.Store conn.old conn.new) }
     {
-        put_memo(conn, key, value)
+        put_memo(conn, key, is_there, value)
     }
 }
 
 impl Keyed<TallyKey, Tally> for TallyRows {
     ghost set = { λ key value c. record c { tallies = with_value key (used_at value) c.tallies } };
 
+    ghost holds = { λ key c. is_some (get c.tallies key) };
+
+    ghost rows = { λ value. is_some (used_at value) };
+
+    fn has_row(&self, value: Option<Tally>) -> bool
+        ensures { result ≡ is_some (used_at value) }
+    {
+        used(value).is_some()
+    }
+
     fn put<S: Alter>(
         &self,
         conn: &mut Connection<S>,
         key: TallyKey,
+        is_there: bool,
         value: Option<Tally>,
     ) -> Result<(), Error>
-        ensures ok { OnOk result (Changes S.Store conn.old conn.new (λ now. ⊤) (λ c. record c { tallies = with_value key (used_at value) c.tallies })) }
+        ensures ok { OnOk result (Changes S.Store conn.old conn.new (λ c. is_some (get c.tallies key) ≡ is_there) (λ c. record c { tallies = with_value key (used_at value) c.tallies })) }
         ensures err { OnErr result (GivesUp S.Store conn.old conn.new) }
     {
-        put_tally(conn, key, used(value))
+        put_tally(conn, key, is_there, used(value))
     }
 }

@@ -8,71 +8,96 @@ ghost use Rattle.bsp_memory_tables.specs.MemoTables.{memo_rows, memo_rows_before
 ghost use Rattle.bsp_memory_tables.specs.RangeTables.{range_rows, range_rows_before};
 ghost use Rattle.bsp_memory_tables.specs.TallyTables.{tally_rows, tally_rows_before};
 ghost use Rattle.bsp_store_load.specs.Contents.{used_tallies};
-ghost use Rattle.bsp_store_save.specs.Calls.{GivesUp, Updates};
+ghost use Rattle.bsp_store_load.specs.Calls.{Changes, GivesUpIf};
 
-use crate::keyed::put_written;
+use crate::keyed::{put_written, written_before};
 use crate::parts::{Agents, Airlines, ItemRows, MemoRows, Ranges, TallyRows};
 use bsp_maps::Logged;
 use bsp_memory_tables::{ItemTable, MemoTable, RangeTable, TallyTable};
 use bsp_rows::{AgentCode, AirlineCode, Token};
 use sqlite::{Alter, Connection, Error};
+use std::alloc::Global;
 
 /// Writes the tokens of agents that were written in memory.
 pub(crate) fn save_agents<S: Alter>(
+    alloc: Global,
     conn: &mut Connection<S>,
     tokens: &Logged<AgentCode, Token>,
 ) -> Result<(), Error>
-    ensures ok { OnOk result (Updates S.Store conn.old conn.new (λ c. c.agents ≡ before nat_cmp tokens.now) (λ c. record c { agents = content nat_cmp tokens.now })) }
-    ensures err { OnErr result (GivesUp S.Store conn.old conn.new) }
+    ensures ok { OnOk result (Changes S.Store conn.old conn.new (λ c. c.agents ≡ before nat_cmp tokens.now) (λ c. record c { agents = content nat_cmp tokens.now })) }
+    ensures err { OnErr result (GivesUpIf S.Store conn.old conn.new (λ c. c.agents ≡ before nat_cmp tokens.now)) }
 {
-    put_written(&Agents, conn, tokens.written(), tokens.map())
+    let values = tokens.map();
+    let before = written_before(alloc, tokens.written(), values)?;
+    put_written(&Agents, conn, &before, values)
 }
 
 /// Writes the tokens of airlines that were written in memory.
 pub(crate) fn save_airlines<S: Alter>(
+    alloc: Global,
     conn: &mut Connection<S>,
     tokens: &Logged<AirlineCode, Token>,
 ) -> Result<(), Error>
-    ensures ok { OnOk result (Updates S.Store conn.old conn.new (λ c. c.airlines ≡ before nat_cmp tokens.now) (λ c. record c { airlines = content nat_cmp tokens.now })) }
-    ensures err { OnErr result (GivesUp S.Store conn.old conn.new) }
+    ensures ok { OnOk result (Changes S.Store conn.old conn.new (λ c. c.airlines ≡ before nat_cmp tokens.now) (λ c. record c { airlines = content nat_cmp tokens.now })) }
+    ensures err { OnErr result (GivesUpIf S.Store conn.old conn.new (λ c. c.airlines ≡ before nat_cmp tokens.now)) }
 {
-    put_written(&Airlines, conn, tokens.written(), tokens.map())
+    let values = tokens.map();
+    let before = written_before(alloc, tokens.written(), values)?;
+    put_written(&Airlines, conn, &before, values)
 }
 
 /// Writes the ranges that were written in memory.
 pub(crate) fn save_ranges<S: Alter>(
+    alloc: Global,
     conn: &mut Connection<S>,
     table: &RangeTable,
 ) -> Result<(), Error>
-    ensures ok { OnOk result (Updates S.Store conn.old conn.new (λ c. c.ranges ≡ range_rows_before table.now) (λ c. record c { ranges = range_rows table.now })) }
-    ensures err { OnErr result (GivesUp S.Store conn.old conn.new) }
+    ensures ok { OnOk result (Changes S.Store conn.old conn.new (λ c. c.ranges ≡ range_rows_before table.now) (λ c. record c { ranges = range_rows table.now })) }
+    ensures err { OnErr result (GivesUpIf S.Store conn.old conn.new (λ c. c.ranges ≡ range_rows_before table.now)) }
 {
-    put_written(&Ranges, conn, table.written(), table.map())
+    let values = table.map();
+    let before = written_before(alloc, table.written(), values)?;
+    put_written(&Ranges, conn, &before, values)
 }
 
 /// Writes the items that were written in memory.
-pub(crate) fn save_items<S: Alter>(conn: &mut Connection<S>, table: &ItemTable) -> Result<(), Error>
-    ensures ok { OnOk result (Updates S.Store conn.old conn.new (λ c. c.items ≡ item_rows_before table.now) (λ c. record c { items = item_rows table.now })) }
-    ensures err { OnErr result (GivesUp S.Store conn.old conn.new) }
+pub(crate) fn save_items<S: Alter>(
+    alloc: Global,
+    conn: &mut Connection<S>,
+    table: &ItemTable,
+) -> Result<(), Error>
+    ensures ok { OnOk result (Changes S.Store conn.old conn.new (λ c. c.items ≡ item_rows_before table.now) (λ c. record c { items = item_rows table.now })) }
+    ensures err { OnErr result (GivesUpIf S.Store conn.old conn.new (λ c. c.items ≡ item_rows_before table.now)) }
 {
-    put_written(&ItemRows, conn, table.written(), table.map())
+    let values = table.map();
+    let before = written_before(alloc, table.written(), values)?;
+    put_written(&ItemRows, conn, &before, values)
 }
 
 /// Writes the memos that were written in memory.
-pub(crate) fn save_memos<S: Alter>(conn: &mut Connection<S>, table: &MemoTable) -> Result<(), Error>
-    ensures ok { OnOk result (Updates S.Store conn.old conn.new (λ c. c.memos ≡ memo_rows_before table.now) (λ c. record c { memos = memo_rows table.now })) }
-    ensures err { OnErr result (GivesUp S.Store conn.old conn.new) }
+pub(crate) fn save_memos<S: Alter>(
+    alloc: Global,
+    conn: &mut Connection<S>,
+    table: &MemoTable,
+) -> Result<(), Error>
+    ensures ok { OnOk result (Changes S.Store conn.old conn.new (λ c. c.memos ≡ memo_rows_before table.now) (λ c. record c { memos = memo_rows table.now })) }
+    ensures err { OnErr result (GivesUpIf S.Store conn.old conn.new (λ c. c.memos ≡ memo_rows_before table.now)) }
 {
-    put_written(&MemoRows, conn, table.written(), table.map())
+    let values = table.map();
+    let before = written_before(alloc, table.written(), values)?;
+    put_written(&MemoRows, conn, &before, values)
 }
 
 /// Writes the tallies to which some row adds that were written in memory.
 pub(crate) fn save_tallies<S: Alter>(
+    alloc: Global,
     conn: &mut Connection<S>,
     table: &TallyTable,
 ) -> Result<(), Error>
-    ensures ok { OnOk result (Updates S.Store conn.old conn.new (λ c. c.tallies ≡ used_tallies (tally_rows_before table.now)) (λ c. record c { tallies = used_tallies (tally_rows table.now) })) }
-    ensures err { OnErr result (GivesUp S.Store conn.old conn.new) }
+    ensures ok { OnOk result (Changes S.Store conn.old conn.new (λ c. c.tallies ≡ used_tallies (tally_rows_before table.now)) (λ c. record c { tallies = used_tallies (tally_rows table.now) })) }
+    ensures err { OnErr result (GivesUpIf S.Store conn.old conn.new (λ c. c.tallies ≡ used_tallies (tally_rows_before table.now))) }
 {
-    put_written(&TallyRows, conn, table.written(), table.map())
+    let values = table.map();
+    let before = written_before(alloc, table.written(), values)?;
+    put_written(&TallyRows, conn, &before, values)
 }

@@ -1,10 +1,10 @@
-use Rattle.bsp_store_callers.proofs.RangeWrites.{inserting_range}
+use Rattle.bsp_store_base.proofs.MapTables.{inserting}
+use Rattle.bsp_store_callers.proofs.CallerTables.{ranges_table}
+use Rattle.bsp_store_callers.proofs.Texts.{insert_range, insert_range_is}
 use Rattle.bsp_store_callers.proofs.ranges.insert_range.Goals as goal
 
 pub returns-clause-ok : goal.returns-clause-ok
-returns-clause-ok g c = (inserting_range g.S.Store c.args.conn.now c.execute.new.self c.args.key.now c.args.up_to c.execute.result
-    (rw (c.values-values.ensures, c.of-row.ensures) at c.execute.ensures.survives) (λ clean. rw (c.values-values.ensures, c.of-row.ensures) at (c.execute.ensures.runs clean))).0
+returns-clause-ok g c = (inserting ranges_table g.S.Store c.args.conn.now c.execute.new.self insert_range insert_range_is.0 insert_range_is.1 c.args.key.now c.args.up_to c.execute.result (rw (c.values-values.ensures, c.of-row.ensures) at c.execute.ensures.survives) (λ clean. rw (c.values-values.ensures, c.of-row.ensures) at (c.execute.ensures.runs clean))).0
 
 pub returns-clause-err : goal.returns-clause-err
-returns-clause-err g c = (inserting_range g.S.Store c.args.conn.now c.execute.new.self c.args.key.now c.args.up_to c.execute.result
-    (rw (c.values-values.ensures, c.of-row.ensures) at c.execute.ensures.survives) (λ clean. rw (c.values-values.ensures, c.of-row.ensures) at (c.execute.ensures.runs clean))).1
+returns-clause-err g c = (inserting ranges_table g.S.Store c.args.conn.now c.execute.new.self insert_range insert_range_is.0 insert_range_is.1 c.args.key.now c.args.up_to c.execute.result (rw (c.values-values.ensures, c.of-row.ensures) at c.execute.ensures.survives) (λ clean. rw (c.values-values.ensures, c.of-row.ensures) at (c.execute.ensures.runs clean))).1

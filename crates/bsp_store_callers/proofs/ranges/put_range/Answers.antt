@@ -1,20 +1,16 @@
-use Rattle.std.proofs.Common.{◌≡◌, None, sym, subst}
-use Rattle.bsp_store_base.proofs.Writes.{Always, on_err, second_fails}
-use Rattle.bsp_store_callers.specs.Callers.{without_range, with_range}
-use Rattle.bsp_store_callers.proofs.RangeWrites.{putting_range}
+use Rattle.std.proofs.Common.{refl}
+use Rattle.bsp_store_base.proofs.MapTables.{leave_none, put_new, put_over, take_out}
+use Rattle.bsp_store_callers.proofs.CallerTables.{ranges_table}
 use Rattle.bsp_store_callers.proofs.ranges.put_range.Goals as goal
 
-pub returns-in_err-insert_range-clause-err : goal.returns-in_err-insert_range-clause-err
-returns-in_err-insert_range-clause-err g c =
-    on_err c.from_residual-in_err-insert_range.result
-    (second_fails g.S.Store c.args.conn.now c.delete_range.new.conn c.insert_range.new.conn (without_range c.args.key.now) c.in_ok-delete_range.ensures.ok c.in_err-insert_range.ensures.err)
+pub returns-in_ok-update_range-clause-ok : goal.returns-in_ok-update_range-clause-ok
+returns-in_ok-update_range-clause-ok g c = put_over ranges_table g.S.Store c.args.conn.now c.update_range.new.conn c.args.key.now c.in-Some.up_to c.args.is_there c.args.up_to c.if-is_there.true c.in-Some.is c.in_ok-update_range.ensures.ok
 
 pub returns-in_ok-insert_range-clause-ok : goal.returns-in_ok-insert_range-clause-ok
-returns-in_ok-insert_range-clause-ok g c =
-    subst (λ o. Always g.S.Store c.args.conn.now c.insert_range.new.conn (with_range c.args.key.now o)) (sym c.in-Some.is)
-    (putting_range g.S.Store c.args.conn.now c.delete_range.new.conn c.insert_range.new.conn c.args.key.now c.in-Some.up_to c.in_ok-delete_range.ensures.ok c.in_ok-insert_range.ensures.ok)
+returns-in_ok-insert_range-clause-ok g c = put_new ranges_table g.S.Store c.args.conn.now c.insert_range.new.conn c.args.key.now c.in-Some.up_to c.args.is_there c.args.up_to c.if-is_there.false c.in-Some.is c.in_ok-insert_range.ensures.ok
 
-pub returns-in_default-clause-ok : goal.returns-in_default-clause-ok
-returns-in_default-clause-ok g c =
-    let none : c.args.up_to ≡ None = c.in_default.is in
-    subst (λ o. Always g.S.Store c.args.conn.now c.delete_range.new.conn (with_range c.args.key.now o)) (sym none) c.in_ok-delete_range.ensures.ok
+pub returns-in_ok-delete_range-clause-ok : goal.returns-in_ok-delete_range-clause-ok
+returns-in_ok-delete_range-clause-ok g c = take_out ranges_table g.S.Store c.args.conn.now c.delete_range.new.conn c.args.key.now c.args.is_there c.args.up_to c.in_default.is c.in_ok-delete_range.ensures.ok
+
+pub returns-else-is_there-2-clause-ok : goal.returns-else-is_there-2-clause-ok
+returns-else-is_there-2-clause-ok g c = leave_none ranges_table g.S.Store c.args.conn.now c.args.conn.now c.args.key.now c.args.is_there c.args.up_to c.if-is_there-2.false c.in_default.is refl

@@ -1,8 +1,10 @@
-use Rattle.bsp_store_items.proofs.Calls.{removing}
+use Rattle.bsp_store_base.proofs.MapTables.{deleting}
+use Rattle.bsp_store_items.proofs.ItemTable.{items_table}
+use Rattle.bsp_store_items.proofs.Texts.{delete_text, delete_is}
 use Rattle.bsp_store_items.proofs.writing.delete_item.Goals as goal
 
 pub returns-clause-ok : goal.returns-clause-ok
-returns-clause-ok g c = (removing g.S.Store c.args.conn.now c.execute.new.self c.args.key.now c.execute.result (rw (c.agent_digits-agent.ensures, c.number_digits-number.ensures, c.flag.ensures) at c.execute.ensures.survives) (λ clean. rw (c.agent_digits-agent.ensures, c.number_digits-number.ensures, c.flag.ensures) at (c.execute.ensures.runs clean))).0
+returns-clause-ok g c = ((deleting items_table g.S.Store c.args.conn.now c.execute.new.self delete_text delete_is.0 delete_is.1 c.args.key.now) c.execute.result (rw (c.agent_digits-agent.ensures, c.number_digits-number.ensures, c.flag.ensures) at c.execute.ensures.survives) (λ clean. rw (c.agent_digits-agent.ensures, c.number_digits-number.ensures, c.flag.ensures) at (c.execute.ensures.runs clean))).0
 
 pub returns-clause-err : goal.returns-clause-err
-returns-clause-err g c = (removing g.S.Store c.args.conn.now c.execute.new.self c.args.key.now c.execute.result (rw (c.agent_digits-agent.ensures, c.number_digits-number.ensures, c.flag.ensures) at c.execute.ensures.survives) (λ clean. rw (c.agent_digits-agent.ensures, c.number_digits-number.ensures, c.flag.ensures) at (c.execute.ensures.runs clean))).1
+returns-clause-err g c = ((deleting items_table g.S.Store c.args.conn.now c.execute.new.self delete_text delete_is.0 delete_is.1 c.args.key.now) c.execute.result (rw (c.agent_digits-agent.ensures, c.number_digits-number.ensures, c.flag.ensures) at c.execute.ensures.survives) (λ clean. rw (c.agent_digits-agent.ensures, c.number_digits-number.ensures, c.flag.ensures) at (c.execute.ensures.runs clean))).1

@@ -1,18 +1,16 @@
-use Rattle.std.proofs.Common.{sym, subst}
-use Rattle.bsp_store_base.proofs.Writes.{Always, on_err, second_fails}
-use Rattle.bsp_store_memos.proofs.MemoTable.{without, after, puts}
+use Rattle.std.proofs.Common.{refl}
+use Rattle.bsp_store_base.proofs.MapTables.{leave_none, put_new, put_over, take_out}
+use Rattle.bsp_store_memos.proofs.MemoTable.{memo_map}
 use Rattle.bsp_store_memos.proofs.memos.put_memo.Goals as goal
 
-pub returns-in_err-insert_memo-in-Some-clause-err : goal.returns-in_err-insert_memo-in-Some-clause-err
-returns-in_err-insert_memo-in-Some-clause-err g c =
-    on_err c.from_residual-in_err-insert_memo-in-Some.result
-    (second_fails g.S.Store c.args.conn.now c.delete_memo.new.conn c.insert_memo.new.conn (without c.args.key) c.in_ok-delete_memo.ensures.ok c.in_err-insert_memo-in-Some.ensures.err)
+pub returns-in_ok-update_memo-clause-ok : goal.returns-in_ok-update_memo-clause-ok
+returns-in_ok-update_memo-clause-ok g c = put_over memo_map g.S.Store c.args.conn.now c.update_memo.new.conn c.args.key c.in-Some.memo c.args.is_there c.args.memo c.if-is_there.true c.in-Some.is c.in_ok-update_memo.ensures.ok
 
-pub returns-in_ok-insert_memo-in-Some-clause-ok : goal.returns-in_ok-insert_memo-in-Some-clause-ok
-returns-in_ok-insert_memo-in-Some-clause-ok g c =
-    subst (λ o. Always g.S.Store c.args.conn.now c.insert_memo.new.conn (after c.args.key o)) (sym c.in-Some.is)
-    (puts g.S.Store c.args.conn.now c.delete_memo.new.conn c.insert_memo.new.conn c.args.key c.in-Some.memo c.in_ok-delete_memo.ensures.ok c.in_ok-insert_memo-in-Some.ensures.ok)
+pub returns-in_ok-insert_memo-clause-ok : goal.returns-in_ok-insert_memo-clause-ok
+returns-in_ok-insert_memo-clause-ok g c = put_new memo_map g.S.Store c.args.conn.now c.insert_memo.new.conn c.args.key c.in-Some.memo c.args.is_there c.args.memo c.if-is_there.false c.in-Some.is c.in_ok-insert_memo.ensures.ok
 
-pub returns-in-None-clause-ok : goal.returns-in-None-clause-ok
-returns-in-None-clause-ok g c =
-    subst (λ o. Always g.S.Store c.args.conn.now c.delete_memo.new.conn (after c.args.key o)) (sym c.in-None.is) c.in_ok-delete_memo.ensures.ok
+pub returns-in_ok-delete_memo-clause-ok : goal.returns-in_ok-delete_memo-clause-ok
+returns-in_ok-delete_memo-clause-ok g c = take_out memo_map g.S.Store c.args.conn.now c.delete_memo.new.conn c.args.key c.args.is_there c.args.memo c.in_default.is c.in_ok-delete_memo.ensures.ok
+
+pub returns-else-is_there-2-clause-ok : goal.returns-else-is_there-2-clause-ok
+returns-else-is_there-2-clause-ok g c = leave_none memo_map g.S.Store c.args.conn.now c.args.conn.now c.args.key c.args.is_there c.args.memo c.if-is_there-2.false c.in_default.is refl

@@ -7,16 +7,16 @@ use Rattle.bsp_store_plan.proofs.TermsTable.{without}
 use Rattle.bsp_store_plan.proofs.terms.put_terms.Goals as goal
 
 pub returns-clause-ok : goal.returns-clause-ok
-returns-clause-ok g c = λ now last a b stands inside.
-    let cleared = c.in_ok-clear_terms.ensures.ok now last a b stands inside in
+returns-clause-ok g c = λ now last a b met stands inside.
+    let cleared = c.in_ok-clear_terms.ensures.ok now last a b tt stands inside in
     let done = c.in_ok-add_terms.ensures.ok (without now) last a b refl cleared.0 cleared.1 in
     let After : Option Terms → Type 0 = λ t. Stands form g.S.Store c.add_terms.new.conn (record now { terms = t }) last a b × IsInside form g.S.Store c.add_terms.new.conn in
     subst After (sym c.in-Some.is) done
 
 pub returns-in_default-clause-ok : goal.returns-in_default-clause-ok
-returns-in_default-clause-ok g c = λ now last a b stands inside.
+returns-in_default-clause-ok g c = λ now last a b met stands inside.
     let After : Option Terms → Type 0 = λ t. Stands form g.S.Store c.clear_terms.new.conn (record now { terms = t }) last a b × IsInside form g.S.Store c.clear_terms.new.conn in
-    subst After (sym c.in_default.is) (c.in_ok-clear_terms.ensures.ok now last a b stands inside)
+    subst After (sym c.in_default.is) (c.in_ok-clear_terms.ensures.ok now last a b tt stands inside)
 
 pub returns-in_err-add_terms-clause-err : goal.returns-in_err-add_terms-clause-err
 returns-in_err-add_terms-clause-err g c =

@@ -1,8 +1,6 @@
-use Rattle.std.proofs.Common.{take}
-use Rattle.std.specs.Prelude.{⊤}
-use Rattle.std.specs.FinMap.{from_entries, get}
-use Rattle.bsp_store_save.specs.Calls.{Changes, with_each, written_keys}
+use Rattle.std.specs.FinMap.{entries, from_entries, get}
+use Rattle.bsp_store_save.proofs.StepLemmas.{IsPut}
 use Rattle.bsp_store_save.proofs.keyed.put_written.Given as goal
 
-abbrev pub invariant-written : goal.invariant-written
-invariant-written g l = Changes g.S.Store l.fn.conn l.conn (λ now. ⊤) (with_each g.T.Keyed.set (get (from_entries {R = g.K.Ord.cmp} l.values.entries)) (written_keys (take l.old-index l.written)))
+abbrev pub invariant-loop-key : goal.invariant-loop-key
+invariant-loop-key g l = IsPut g.S.Store g.T.Keyed.set (get (from_entries {R = g.K.Ord.cmp} l.values.entries)) g.T.Keyed.holds g.T.Keyed.rows l.fn.conn (entries (from_entries {R = g.K.Ord.cmp} l.before.entries)) l.conn l.key-iterator

@@ -14,7 +14,7 @@ pub returns-in_err-save_tables-clause-err : goal.returns-in_err-save_tables-clau
 returns-in_err-save_tables-clause-err g c = on_err c.from_residual-in_err-save_tables.result (λ is.
     let old = content_before c.args.tables.now in
     let begun = c.in_ok-open_transaction.ensures.ok old old old is.0 in
-    c.in_err-save_tables.ensures.err old old old (content_now c.args.tables.now) (weaken form g.S.Store _ old old (content_now c.args.tables.now) begun.0) begun.1)
+    c.in_err-save_tables.ensures.err old old old (content_now c.args.tables.now) refl (weaken form g.S.Store _ old old (content_now c.args.tables.now) begun.0) begun.1)
 
 pub returns-in_err-close_transaction-clause-err : goal.returns-in_err-close_transaction-clause-err
 returns-in_err-close_transaction-clause-err g c = on_err c.from_residual-in_err-close_transaction.result (λ is.

@@ -1,0 +1,10 @@
+use Rattle.bsp_store_base.proofs.MapTables.{changing}
+use Rattle.bsp_store_callers.proofs.CallerTables.{ranges_table}
+use Rattle.bsp_store_callers.proofs.Texts.{update_range, update_range_is}
+use Rattle.bsp_store_callers.proofs.ranges.update_range.Goals as goal
+
+pub returns-clause-ok : goal.returns-clause-ok
+returns-clause-ok g c = (changing ranges_table g.S.Store c.args.conn.now c.execute.new.self update_range update_range_is.0 update_range_is.1 c.args.key.now c.args.up_to c.execute.result (rw (c.values-values.ensures, c.of-row.ensures) at c.execute.ensures.survives) (λ clean. rw (c.values-values.ensures, c.of-row.ensures) at (c.execute.ensures.runs clean))).0
+
+pub returns-clause-err : goal.returns-clause-err
+returns-clause-err g c = (changing ranges_table g.S.Store c.args.conn.now c.execute.new.self update_range update_range_is.0 update_range_is.1 c.args.key.now c.args.up_to c.execute.result (rw (c.values-values.ensures, c.of-row.ensures) at c.execute.ensures.survives) (λ clean. rw (c.values-values.ensures, c.of-row.ensures) at (c.execute.ensures.runs clean))).1
