@@ -6,7 +6,8 @@
 - its command `run`, which is sent each request of some conversations twice; these have each request of docs/ROUTES.md.
   Each reply is that of ample memory; or one is 503 B01, and the same request after it has the reply of ample memory to the
   first of the two.
-- the same over a book in a file, with one allocation in forty refused; the file is then opened again.
+- the same over a book in a file, for each allocation of a short conversation and one in forty of the opening before it; the
+  file is then opened again.
 Exits with the number of cases that differ.
 
 usage: .ci/refused.py [PROGRAM]   (with no PROGRAM it takes the one that is built)
@@ -19,6 +20,7 @@ import re
 import subprocess
 import sys
 import tempfile
+import threading
 import time
 import typing
 
@@ -38,8 +40,8 @@ WORDS = ["check v1.ret", "check kinds.ret", "check sum.ret", "hotcheck v3.hot", 
          "check --help", "", "check", "report v1.ret", "check --unknown", "hotcheck v3.hot v3.hot", "check --quiet sum.ret"]
 CONVERSATIONS = ["05-sale", "11b-cancelled-in-one-file", "14-memos", "16-reports", "19-stock", "23b-malformed-bodies",
                  "38-reduced-memo", "callers-refused", "memo-actions"]
-# that of which the same is tried over a book in a file
-KEPT = "16-reports"
+# the short one of which the same is tried over a book in a file
+KEPT = "sale-once"
 
 
 class Run(typing.NamedTuple):
@@ -60,18 +62,23 @@ def run(words, text, number):
     return Run(ended.returncode, ended.stdout, ended.stderr, is_refused)
 
 
-def each_refused(what, words_of, text, judge, stride=1):
-    """Judges a run for each allocation, or for each so many-th, up to the first that refuses none. How many there were."""
-    ample, numbers, count = run(words_of(0), text, 0), itertools.count(1, stride), 0
+def each_refused(what, words_of, text, judge, numbers=None):
+    """Judges a run for each allocation, or for these, up to the first that refuses none. How many there were."""
+    ample, numbers, count = run(words_of(0), text, 0), numbers or itertools.count(1), 0
+
+    def judged(number):
+        found = run(words_of(number), text, number)
+        return found, judge(ample, found, number)
+
     with concurrent.futures.ThreadPoolExecutor(4) as pool:
         while True:
             batch = list(itertools.islice(numbers, 64))
-            for number, found in zip(batch, pool.map(lambda it: run(words_of(it), text, it), batch)):
+            for number, (found, is_right) in zip(batch, pool.map(judged, batch)):
                 if not found.is_refused:
                     expect(f"{what}: some allocation was refused", True, count > 0)
                     return count
                 count += 1
-                if not judge(ample, found, number):
+                if not is_right:
                     expect(f"{what}, allocation {number} refused", ample[:3], found[:3])
 
 
@@ -148,6 +155,7 @@ def is_lacking(reply):
 
 
 lacking = 0
+one_counts = threading.Lock()
 
 
 def is_answered(ample, found, _number):
@@ -161,7 +169,8 @@ def is_answered(ample, found, _number):
     at = next((it for it, pair in enumerate(zip(wanted, came)) if pair[0] != pair[1]), len(came))
     if found.status != 0 or at == len(came) or not is_lacking(came[at]) or not NOTES.fullmatch(found.err):
         return False
-    lacking += 1
+    with one_counts:
+        lacking += 1
     if b"Connection: close" in came[at]:
         return at + 1 == len(came) and b" 503 B01 14\n" in found.err
     again = [wanted[at]] if at % 2 == 0 else []
@@ -197,8 +206,21 @@ def is_kept(ample, found, number):
     return is_answered(ample, found, number) and again.returncode == 0 and len(answered) == len(asked)
 
 
+def of_opening():
+    """How many allocations an opening of a new book has."""
+    least, most = 0, 1 << 20
+    while most - least > 1:
+        number = (least + most) // 2
+        least, most = (number, most) if run(over(number), b"", number).is_refused else (least, number)
+        for it in pathlib.Path().glob(f"{number}.db*"):
+            it.unlink()
+    return least
+
+
 def over_files():
-    yield "bsp_office run --db", each_refused("bsp_office run --db", over, twice(KEPT), is_kept, stride=40)
+    opened = of_opening()
+    numbers = itertools.chain(range(1, opened, 40), itertools.count(opened + 1))
+    yield "bsp_office run --db", each_refused("bsp_office run --db", over, twice(KEPT), is_kept, numbers)
 
 
 def main():

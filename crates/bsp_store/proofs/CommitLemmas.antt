@@ -11,7 +11,7 @@ use Rattle.bsp_book.specs.Listed.{meaning as listed}
 use Rattle.bsp_store_save.specs.MemoryRowsTables.{committed_rows, rows_of}
 use Rattle.bsp_store_save.specs.Content.{Content, form}
 use Rattle.bsp_store_save.specs.Contents.{IsContentOf, content_before, content_now}
-use Rattle.bsp_store_save.specs.Kept.{Falls, Stands}
+use Rattle.bsp_store_save.specs.Kept.{HasCommitted, HasContents}
 use Rattle.bsp_store_save.specs.Calls.{IsKept}
 use Rattle.bsp_store.specs.Meanings.{Holds, meaning}
 use Rattle.bsp_store.specs.declared.book.SqlBook.{SqlBook}
@@ -66,15 +66,15 @@ module _ {S : Type 0} (g : Ghosts S) (old new : SqlBook S) where
 
   -- ---- after the store has not committed
 
-  module _ (conn : Held S) (fell : IsKept g old.conn (content_before old.list.tables) → Falls form g conn (content_before old.list.tables) (content_before old.list.tables) (content_now old.list.tables)) where
-    pub has_fallen_back : ((last a b : Content) → Falls form g conn last a b → IsKept g new.conn last) → new.failed ≡ false → FallsBack listed old.list new.list → FallsBack (meaning g) old new
+  module _ (conn : Held S) (fell : IsKept g old.conn (content_before old.list.tables) → HasCommitted form g conn (content_before old.list.tables) (content_before old.list.tables) (content_now old.list.tables)) where
+    pub has_fallen_back : ((last a b : Content) → HasCommitted form g conn last a b → IsKept g new.conn last) → new.failed ≡ false → FallsBack listed old.list new.list → FallsBack (meaning g) old new
     has_fallen_back undone works back now last holds = record {
       works = works;
       listed = back now last holds.listed;
       kept = (content_before old.list.tables, before_of g old now last holds, undone _ _ _ (fell (before_is g old now last holds)));
     }
 
-    pub leaves_either : ((last b : Content) → Falls form g conn last last b → Stands form g new.conn last last last b) → LeavesEither (meaning g) old new
+    pub leaves_either : ((last b : Content) → HasCommitted form g conn last last b → HasContents form g new.conn last last last b) → LeavesEither (meaning g) old new
     leaves_either stop now last holds = λ clean db may.
         let stands = stop _ _ (fell (before_is g old now last holds)) in
         elim (stands.leaves clean db may) [
@@ -82,8 +82,8 @@ module _ {S : Type 0} (g : Ghosts S) (old new : SqlBook S) where
           | inr it ↦ inr (content_now old.list.tables, now_of g old now last holds, it)
         ]
 
-    pub giving_up : (r : BookFault) → old.failed ≡ false → (r ≡ NoRoom → (new.failed ≡ old.failed) × ((last a b : Content) → Falls form g conn last a b → IsKept g new.conn last) × FallsBack listed old.list new.list)
-        → (r ≡ Failed → new.failed ≡ true) → ((last b : Content) → Falls form g conn last last b → Stands form g new.conn last last last b)
+    pub giving_up : (r : BookFault) → old.failed ≡ false → (r ≡ NoRoom → (new.failed ≡ old.failed) × ((last a b : Content) → HasCommitted form g conn last a b → IsKept g new.conn last) × FallsBack listed old.list new.list)
+        → (r ≡ Failed → new.failed ≡ true) → ((last b : Content) → HasCommitted form g conn last last b → HasContents form g new.conn last last last b)
         → Faults (meaning g) old new (FallsBack (meaning g) old new) (LeavesEither (meaning g) old new) {T = Unit {0}} (Err r)
     giving_up NoRoom works full failed stop =
         let it = full refl in

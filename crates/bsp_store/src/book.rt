@@ -4,7 +4,7 @@ ghost use Rattle.std.specs.Prelude.{◌≡◌, ◌⊎◌, ◌↔◌, IsOkUnless,
 ghost use Rattle.bsp_book.specs.Calls.{Commits, FallsBack};
 ghost use Rattle.bsp_book.specs.Listed.{meaning as listed};
 ghost use Rattle.bsp_store_save.specs.Content.{Content, form};
-ghost use Rattle.bsp_store_save.specs.Kept.{Falls, Stands};
+ghost use Rattle.bsp_store_save.specs.Kept.{HasCommitted, HasContents};
 ghost use Rattle.bsp_store_save.specs.Calls.{IsKept};
 
 use bsp_book::{Book, BookFault, ListBook};
@@ -79,12 +79,12 @@ impl<S: Alter> SqlBook<S> {
     /// Gives up the open transaction after an error of the store. Where the cause was room and the store can still be
     /// used, nothing is left of the transaction. Otherwise the book has failed.
     fn give_up(&mut self, error: Error) -> BookFault
-        ensures full { result ≡ BookFault.NoRoom → (self.new.failed ≡ self.old.failed) × ((last a b : Content) → Falls form S.Store self.old.conn last a b → IsKept S.Store self.new.conn last) × FallsBack listed self.old.list self.new.list }
+        ensures full { result ≡ BookFault.NoRoom → (self.new.failed ≡ self.old.failed) × ((last a b : Content) → HasCommitted form S.Store self.old.conn last a b → IsKept S.Store self.new.conn last) × FallsBack listed self.old.list self.new.list }
         ensures room { result ≡ BookFault.NoRoom → (error ≡ Error.SqliteFailure ErrorCode.OutOfMemory) ⊎ (error ≡ Error.SqliteFailure ErrorCode.TooBig) }
         ensures kept { result ≡ BookFault.NoRoom → self.new.cause ≡ self.old.cause }
         ensures failed { result ≡ BookFault.Failed → self.new.failed ≡ true }
         ensures cause { result ≡ BookFault.Failed → self.new.cause ≡ Some error }
-        ensures stop { (last b : Content) → Falls form S.Store self.old.conn last last b → Stands form S.Store self.new.conn last last last b }
+        ensures stop { (last b : Content) → HasCommitted form S.Store self.old.conn last last b → HasContents form S.Store self.new.conn last last last b }
     {
         let alive = recover(&mut self.conn);
         if alive && is_room(&error) && self.list.roll_back().is_ok() {

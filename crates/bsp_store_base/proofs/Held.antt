@@ -15,7 +15,7 @@ use Rattle.sqlite.specs.Held.{Held, state}
 use Rattle.sqlite.specs.Clock.{timed}
 use Rattle.sqlite.proofs.Callers.{runs_as, IsPlain, command_of, statement_of, never_commits}
 use Rattle.sqlite.specs.Listing.{understood}
-use Rattle.bsp_store_base.specs.Kept.{Form, Keeps, KeepsRows, Stands, Falls, IsInside, IsOutside}
+use Rattle.bsp_store_base.specs.Kept.{Form, Keeps, KeepsRows, HasContents, HasCommitted, IsInside, IsOutside}
 use Rattle.bsp_store_base.proofs.Ends.{ends_any}
 use Rattle.bsp_store_base.proofs.Ending.{refused, quiet, begins, commits, undoes, begin_commits_nothing, commits_now}
 use Rattle.sqlite.specs.Effect.{Database}
@@ -88,7 +88,7 @@ module _ {C : Type 0} (form : Form C) where
     -- the text is one of ours
     module _ (sql : List ℕ) (params : Row) (command : Command) (known : command_of (understood form.schema sql) ≡ command) (no_commit : command ≢ Commit) (no_release : (name : List ℕ) → command ≢ Release name)
         (r : Result ℕ Error) (kept : Survives (state g old) (state g new) (CommitsBy sql params (state g old))) (ran : HasCleanDisk (state g new) → Executes sql params (state g old) (state g new) r)
-        (now last a b : C) (stands : Stands form g old now last a b) (inside : IsInside form g old) where
+        (now last a b : C) (stands : HasContents form g old now last a b) (inside : IsInside form g old) where
       as_known : HasCleanDisk (state g old) → command_of (understood old.schema sql) ≡ command
       as_known clean = ap (λ s. command_of (understood s sql)) (stands.held clean (inside clean).1).schema ∙ known
 
@@ -98,7 +98,7 @@ module _ {C : Type 0} (form : Form C) where
         | inr made ↦ absurd (quiet sql params (state g old) db command (as_known (earlier kept clean)) no_commit no_release (inside (earlier kept clean)).0 made)
       ]
 
-      pub falls : (e : Error) → r ≡ Err e → Falls form g new last a b
+      pub falls : (e : Error) → r ≡ Err e → HasCommitted form g new last a b
       falls e is = record {
         kept = λ clean now_open. elim (refused sql params _ _ e (rw is at (ran clean))) [
           | inl same ↦ subst (Keeps form last) (sym same.0.committed_is) (stands.kept (earlier kept clean) same.0.was_open)
@@ -109,7 +109,7 @@ module _ {C : Type 0} (form : Form C) where
       }
 
       pub goes_on : (returning : Option Returning) (text : List ℕ) (full : Row) (count : ℕ) → (HasCleanDisk (state g new) → Writes (state g old) (state g new) returning command text full count) → (next : C)
-          → (HasCleanDisk (state g new) → IsTrue (state g new).is_open → Keeps form next (state g new).now) → Stands form g new next last a b × IsInside form g new
+          → (HasCleanDisk (state g new) → IsTrue (state g new).is_open → Keeps form next (state g new).now) → HasContents form g new next last a b × IsInside form g new
       goes_on returning text full count w next made =
           let still = λ (clean : HasCleanDisk (state g new)). (inside (earlier kept clean)).0 in (
             record {
@@ -125,8 +125,8 @@ module _ {C : Type 0} (form : Form C) where
         (silent : (o n : State) (count : ℕ) → Runs o n None command (statement_of sql (understood form.schema sql)) params count → Writes o n None command (statement_of sql (understood form.schema sql)) params count)
         (r : Result ℕ Error) → Survives (state g old) (state g new) (CommitsBy sql params (state g old)) → (HasCleanDisk (state g new) → Executes sql params (state g old) (state g new) r)
         → (P : C → Type 0) (after : C → C) (made : (now : C) (count : ℕ) → P now → Keeps form now (state g old).now → Executes sql params (state g old) (state g new) (Ok count) → Keeps form (after now) (state g new).now)
-        → OnOk r ((now last a b : C) → P now → Stands form g old now last a b → IsInside form g old → Stands form g new (after now) last a b × IsInside form g new)
-        × OnErr r ((now last a b : C) → Stands form g old now last a b → IsInside form g old → Falls form g new last a b)
+        → OnOk r ((now last a b : C) → P now → HasContents form g old now last a b → IsInside form g old → HasContents form g new (after now) last a b × IsInside form g new)
+        × OnErr r ((now last a b : C) → HasContents form g old now last a b → IsInside form g old → HasCommitted form g new last a b)
     writes sql params command known plain no_commit no_release silent (Err e) kept ran P after made = (tt, λ now last a b stands inside. falls sql params command known no_commit no_release (Err e) kept ran now last a b stands inside e refl)
     writes sql params command known plain no_commit no_release silent (Ok n) kept ran P after made = (
       λ now last a b may stands inside.
@@ -140,8 +140,8 @@ module _ {C : Type 0} (form : Form C) where
     -- ---- the ends of a transaction
 
     pub begins_on : (r : Result ℕ Error) → Survives (state g old) (state g new) (CommitsBy (codes "BEGIN") [] (state g old)) → (HasCleanDisk (state g new) → Executes (codes "BEGIN") [] (state g old) (state g new) r)
-        → OnOk r ((now a b : C) → Stands form g old now now a b → Stands form g new now now a b × IsInside form g new)
-        × OnErr r ((now a b : C) → Stands form g old now now a b → IsOutside form g old → Falls form g new now a b)
+        → OnOk r ((now a b : C) → HasContents form g old now now a b → HasContents form g new now now a b × IsInside form g new)
+        × OnErr r ((now a b : C) → HasContents form g old now now a b → IsOutside form g old → HasCommitted form g new now a b)
     begins_on (Err e) kept ran = (
       tt,
       λ now a b stands outside. record {
@@ -168,8 +168,8 @@ module _ {C : Type 0} (form : Form C) where
 
     pub commits_on : (settled : (db : Trees) → IsTrue (state g new).is_open → (state g new).may_leave db → db ≡ (state g new).committed.trees) (r : Result ℕ Error)
         → Survives (state g old) (state g new) (CommitsBy (codes "COMMIT") [] (state g old)) → (HasCleanDisk (state g new) → Executes (codes "COMMIT") [] (state g old) (state g new) r)
-        → OnOk r ((now last a b : C) → Stands form g old now last a b → Stands form g new now now now now × IsOutside form g new)
-        × OnErr r ((now last : C) → Stands form g old now last last last → IsInside form g old → Falls form g new last last now)
+        → OnOk r ((now last a b : C) → HasContents form g old now last a b → HasContents form g new now now now now × IsOutside form g new)
+        × OnErr r ((now last : C) → HasContents form g old now last last last → IsInside form g old → HasCommitted form g new last last now)
     commits_on settled (Err e) kept ran = (
       tt,
       λ now last stands inside. record {
@@ -200,7 +200,7 @@ module _ {C : Type 0} (form : Form C) where
 
     -- whatever went before, it is undone
     pub undoes_on : (r : Result ℕ Error) → Survives (state g old) (state g new) (CommitsBy (codes "ROLLBACK") [] (state g old)) → (HasCleanDisk (state g new) → Executes (codes "ROLLBACK") [] (state g old) (state g new) r)
-        → IsTrue old.in_transaction → (last a b : C) → Falls form g old last a b → Stands form g new last last a b × IsOutside form g new
+        → IsTrue old.in_transaction → (last a b : C) → HasCommitted form g old last a b → HasContents form g new last last a b × IsOutside form g new
     undoes_on r kept ran inside last a b fallen =
         let back = λ (clean : HasCleanDisk (state g new)). undoes _ _ r inside (ran clean) in (
           record {
@@ -215,38 +215,38 @@ module _ {C : Type 0} (form : Form C) where
         )
 
   -- outside a transaction nothing is to be undone
-  pub nothing_to_undo : {S : Type 0} (g : Ghosts S) (h : Held S) → h.in_transaction ≡ false → (IsTrue (state g h).is_open → (state g h).now ≡ (state g h).committed) → (last a b : C) → Falls form g h last a b
-      → Stands form g h last last a b × IsOutside form g h
+  pub nothing_to_undo : {S : Type 0} (g : Ghosts S) (h : Held S) → h.in_transaction ≡ false → (IsTrue (state g h).is_open → (state g h).now ≡ (state g h).committed) → (last a b : C) → HasCommitted form g h last a b
+      → HasContents form g h last last a b × IsOutside form g h
   nothing_to_undo g h outside settled last a b fallen =
       (record { held = λ clean is. subst (Keeps form last) (sym (settled is)) (fallen.kept clean is); kept = fallen.kept; leaves = fallen.leaves }, λ clean. outside)
 
   -- while the store is open a stop leaves the last commit
   pub stops_settled : {S : Type 0} (g : Ghosts S) (h : Held S) → ((db : Trees) → IsTrue (state g h).is_open → (state g h).may_leave db → db ≡ (state g h).committed.trees) → IsInside form g h
-      → (now last a b : C) → Stands form g h now last a b → Stands form g h now last last last
+      → (now last a b : C) → HasContents form g h now last a b → HasContents form g h now last last last
   stops_settled g h settled inside now last a b stands = record {
     held = stands.held;
     kept = stands.kept;
     leaves = λ clean db may. inl (subst (KeepsRows form last) (sym (settled db (inside clean).1 may)) (stands.kept clean (inside clean).1).kept);
   }
 
-  pub fallen_from : {S : Type 0} (g : Ghosts S) (h : Held S) → IsInside form g h → (now last a b : C) → Stands form g h now last a b → Falls form g h last a b
+  pub fallen_from : {S : Type 0} (g : Ghosts S) (h : Held S) → IsInside form g h → (now last a b : C) → HasContents form g h now last a b → HasCommitted form g h last a b
   fallen_from g h inside now last a b stands = record { kept = stands.kept; leaves = stands.leaves; steady = λ clean within. (inside clean).1 }
 
   pub begins_settled : {S : Type 0} (g : Ghosts S) (old new : Held S) → ((db : Trees) → IsTrue (state g new).is_open → (state g new).may_leave db → db ≡ (state g new).committed.trees) → (r : Result ℕ Error)
       → Survives (state g old) (state g new) (CommitsBy (codes "BEGIN") [] (state g old)) → (HasCleanDisk (state g new) → Executes (codes "BEGIN") [] (state g old) (state g new) r)
-      → OnOk r ((now a b : C) → Stands form g old now now a b → Stands form g new now now now now × IsInside form g new)
+      → OnOk r ((now a b : C) → HasContents form g old now now a b → HasContents form g new now now now now × IsInside form g new)
   begins_settled g old new settled (Err e) kept ran = tt
   begins_settled g old new settled (Ok n) kept ran = λ now a b stands.
       let it = (begins_on g old new (Ok n) kept ran).0 now a b stands in (stops_settled g new settled it.1 now now a b it.0, it.1)
 
-  pub weaken : {S : Type 0} (g : Ghosts S) (h : Held S) (now last b : C) → Stands form g h now last last last → Stands form g h now last last b
+  pub weaken : {S : Type 0} (g : Ghosts S) (h : Held S) (now last b : C) → HasContents form g h now last last last → HasContents form g h now last last b
   weaken g h now last b stands = record { held = stands.held; kept = stands.kept; leaves = λ clean db may. elim (stands.leaves clean db may) [ inl it ↦ inl it | inr it ↦ inl it ] }
 
   module _ {S : Type 0} (g : Ghosts S) (old new : Held S) (sql : List ℕ) (is_plain : IsPlain (understood form.schema sql)) (params : Row) (kept : Survives (state g old) (state g new) (CommitsShowing sql params (state g old))) where
     before_it : HasCleanDisk (state g new) → HasCleanDisk (state g old)
     before_it clean = omega (arith, kept.clean)
 
-    module _ (now last a b : C) (stands : Stands form g old now last a b) (inside : IsInside form g old) where
+    module _ (now last a b : C) (stands : HasContents form g old now last a b) (inside : IsInside form g old) where
       plain : HasCleanDisk (state g new) → IsPlain (understood (state g old).now.schema sql)
       plain clean = subst (λ s. IsPlain (understood s sql)) (sym (stands.held (before_it clean) (inside (before_it clean)).1).schema) is_plain
 
@@ -256,7 +256,7 @@ module _ {C : Type 0} (form : Form C) where
         | inr made ↦ absurd (never_commits sql params (state g old) db (plain clean) made)
       ]
 
-      pub looked : (rows : List Row) → (HasCleanDisk (state g new) → Shown sql params (state g old) (state g new) rows) → Stands form g new now last a b × IsInside form g new
+      pub looked : (rows : List Row) → (HasCleanDisk (state g new) → Shown sql params (state g old) (state g new) rows) → HasContents form g new now last a b × IsInside form g new
       looked rows shown =
           let same = λ (clean : HasCleanDisk (state g new)). unchanged_by sql params (state g old) (state g new) rows (plain clean) (shown clean) in (
             record {
@@ -267,7 +267,7 @@ module _ {C : Type 0} (form : Form C) where
             λ clean. ((same clean).0.mode ∙ (inside (before_it clean)).0, (same clean).0.is_open),
           )
 
-      pub failed : (e : Error) → (HasCleanDisk (state g new) → FailsToQuery sql params (state g old) (state g new) e) → Falls form g new last a b
+      pub failed : (e : Error) → (HasCleanDisk (state g new) → FailsToQuery sql params (state g old) (state g new) e) → HasCommitted form g new last a b
       failed e fails = record {
         kept = λ clean now_open. elim (refused_query sql params _ _ e (fails clean)) [
           | inl same ↦ subst (Keeps form last) (sym same.0.committed_is) (stands.kept (before_it clean) same.0.was_open)
@@ -278,7 +278,7 @@ module _ {C : Type 0} (form : Form C) where
       }
 
     pub looks : (r : Result (Vec Row Global) Error) → (HasCleanDisk (state g new) → IfOk r (λ rows. Shown sql params (state g old) (state g new) rows.items)) → (HasCleanDisk (state g new) → IfErr r (FailsToQuery sql params (state g old) (state g new)))
-        → OnOk r ((now last a b : C) → Stands form g old now last a b → IsInside form g old → Stands form g new now last a b × IsInside form g new)
-        × OnErr r ((now last a b : C) → Stands form g old now last a b → IsInside form g old → Falls form g new last a b)
+        → OnOk r ((now last a b : C) → HasContents form g old now last a b → IsInside form g old → HasContents form g new now last a b × IsInside form g new)
+        × OnErr r ((now last a b : C) → HasContents form g old now last a b → IsInside form g old → HasCommitted form g new last a b)
     looks (Ok rows) ok err = (λ now last a b stands inside. looked now last a b stands inside rows.items ok, tt)
     looks (Err e) ok err = (tt, λ now last a b stands inside. failed now last a b stands inside e err)

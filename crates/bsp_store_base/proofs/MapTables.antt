@@ -28,7 +28,7 @@ use Rattle.sqlite.specs.Held.{Held, state}
 use Rattle.sqlite.proofs.Callers.{IsPlain, command_of}
 use Rattle.bsp_store_base.specs.Schema.{our_schema}
 use Rattle.bsp_store_base.specs.Simple.{simple}
-use Rattle.bsp_store_base.specs.Kept.{HasRowsNow, IsInside, Keeps, KeepsRows, KeepsTable, Stands, columns_of}
+use Rattle.bsp_store_base.specs.Kept.{HasRowsNow, IsInside, Keeps, KeepsRows, KeepsTable, HasContents, columns_of}
 use Rattle.bsp_store_base.specs.Calls.{Changes}
 use Rattle.bsp_store_base.specs.Content.{Content, form, width_of}
 use Rattle.bsp_store_base.specs.Synced.{with_value}
@@ -159,18 +159,18 @@ module _ {K V : Type 0} {R : K → K → Ordering} (t : MapTable K V R) where
   module _ {S : Type 0} (g : Ghosts S) (old new : Held S) (k : K) where
     pub put_new : (v : V) (there : Bool) (value : Option V) → there ≡ false → value ≡ Some v → Changes g old new (lacks k) (with_one k v) → Changes g old new (holds_row k there) (after k value)
     put_new v there value absent is made now last a b met stands inside =
-        subst (λ o. Stands form g new (after k o now) last a b × IsInside form g new) (sym is) (made now last a b (is_none _ (met ∙ absent)) stands inside)
+        subst (λ o. HasContents form g new (after k o now) last a b × IsInside form g new) (sym is) (made now last a b (is_none _ (met ∙ absent)) stands inside)
 
     pub put_over : (v : V) (there : Bool) (value : Option V) → there ≡ true → value ≡ Some v → Changes g old new (has k) (with_one k v) → Changes g old new (holds_row k there) (after k value)
     put_over v there value present is made now last a b met stands inside =
-        subst (λ o. Stands form g new (after k o now) last a b × IsInside form g new) (sym is) (made now last a b (met ∙ present) stands inside)
+        subst (λ o. HasContents form g new (after k o now) last a b × IsInside form g new) (sym is) (made now last a b (met ∙ present) stands inside)
 
     pub take_out : (there : Bool) (value : Option V) → value ≡ None → Changes g old new (λ now. ⊤) (without k) → Changes g old new (holds_row k there) (after k value)
     take_out there value is made now last a b met stands inside =
-        subst (λ o. Stands form g new (after k o now) last a b × IsInside form g new) (sym is) (made now last a b tt stands inside)
+        subst (λ o. HasContents form g new (after k o now) last a b × IsInside form g new) (sym is) (made now last a b tt stands inside)
 
     pub leave_none : (there : Bool) (value : Option V) → there ≡ false → value ≡ None → old ≡ new → Changes g old new (holds_row k there) (after k value)
     leave_none there value absent is still now last a b met stands inside =
         let none : get (t.of now) k ≡ None = is_none _ (met ∙ absent) in
         let same : after k value now ≡ now = ap (λ o. after k o now) is ∙ ap (λ m. t.with m now) (remove_none R t.total t.exact (t.of now) k none) ∙ t.same now in
-        subst (λ h. Stands form g h (after k value now) last a b × IsInside form g h) still (subst (λ c. Stands form g old c last a b) (sym same) stands, inside)
+        subst (λ h. HasContents form g h (after k value now) last a b × IsInside form g h) still (subst (λ c. HasContents form g old c last a b) (sym same) stands, inside)

@@ -19,7 +19,11 @@ use Rattle.sqlite.specs.Listing.{understood, reads_listing}
 use Rattle.sqlite.specs.State.{State, HasCleanDisk, Shown, Survives, CommitsShowing}
 use Rattle.sqlite.specs.Held.{Held, state}
 use Rattle.sqlite.proofs.Callers.{reads_as, IsPlain, command_of, never_commits}
-use Rattle.bsp_store_base.specs.Kept.{Reads, Spares, columns_of}
+use Rattle.bsp_store_base.specs.Schema.{our_schema}
+use Rattle.bsp_store_base.specs.Content.{Content, form, width_of}
+use Rattle.bsp_store_base.specs.Forms.{IsFormed}
+use Rattle.bsp_store_base.specs.Kept.{KeepsRows, Part, Reads, Spares, columns_of}
+use Rattle.bsp_store_base.specs.Shows.{ShowsAll}
 use Rattle.bsp_store_base.proofs.Held.{unchanged_by}
 use Rattle.bsp_store_base.proofs.Rising.{keys_of, IsBefore}
 use Rattle.bsp_store_base.proofs.ReadingLemmas.{simple, passes, out, rows_are, rows_in_order}
@@ -49,15 +53,14 @@ module _ (schema : Schema) (sql : List ℕ) (names : List (List ℕ)) (tree widt
       (ap (λ (l : List Row). map (λ (o : Output). o.1) (map f l)) kept ∙ map-map (λ (o : Output). o.1) f (trees tree) ∙ same_maps (λ r. (f r).1) (columns_of width) (lists trees) (trees tree) ∙ ap (map (columns_of width)) (plain_tree db))
       (rows_are tree [] project order trees [] rows a (map f (filter (passes tree [] project order trees []) (trees tree))) (IsPermutation-refl _))
 
-  pub shows_all : (old new : State) → old.now.schema ≡ schema → (rows : List Row) → Shown sql [] old new rows → IsPermutation (map (columns_of width) (old.now.trees tree)) rows
+  shows_all : (old new : State) → old.now.schema ≡ schema → (rows : List Row) → Shown sql [] old new rows → IsPermutation (map (columns_of width) (old.now.trees tree)) rows
   shows_all old new has rows shown = in_any_order old.now.trees rows ((reads_as sql [] old new schema has _ is plain unlisted rows shown).answer Null)
 
-  -- the two clauses of a call of query_all
-  pub all_rows : (old new : State) (r : Result (Vec Row Global) Error) → IfOk r (λ rows. Shown sql [] old new rows.items) → IfOk r (λ found. old.now.schema ≡ schema → IsPermutation (map (columns_of width) (old.now.trees tree)) found.items)
+  all_rows : (old new : State) (r : Result (Vec Row Global) Error) → IfOk r (λ rows. Shown sql [] old new rows.items) → IfOk r (λ found. old.now.schema ≡ schema → IsPermutation (map (columns_of width) (old.now.trees tree)) found.items)
   all_rows old new (Err e) h = tt
   all_rows old new (Ok rows) h = λ has. shows_all old new has rows.items h
 
-  pub all_read : {S : Type 0} (g : Ghosts S) (old new : Held S) (r : Result (Vec Row Global) Error) → Survives (state g old) (state g new) (CommitsShowing sql [] (state g old))
+  all_read : {S : Type 0} (g : Ghosts S) (old new : Held S) (r : Result (Vec Row Global) Error) → Survives (state g old) (state g new) (CommitsShowing sql [] (state g old))
       → (HasCleanDisk (state g new) → IfOk r (λ rows. Shown sql [] (state g old) (state g new) rows.items)) → OnOk r (old.schema ≡ schema → Reads g old new)
   all_read g old new (Err e) kept h = tt
   all_read g old new (Ok rows) kept h = λ has. record {
@@ -66,7 +69,7 @@ module _ (schema : Schema) (sql : List ℕ) (names : List (List ℕ)) (tree widt
     is_open = λ clean. (unchanged_by sql [] (state g old) (state g new) rows.items (subst (λ s. IsPlain (understood s sql)) (sym has) plain) (h clean)).0.is_open;
   }
 
-  pub all_spares : {S : Type 0} (g : Ghosts S) (old new : Held S) → Survives (state g old) (state g new) (CommitsShowing sql [] (state g old)) → old.schema ≡ schema → Spares g old new
+  all_spares : {S : Type 0} (g : Ghosts S) (old new : Held S) → Survives (state g old) (state g new) (CommitsShowing sql [] (state g old)) → old.schema ≡ schema → Spares g old new
   all_spares g old new kept has = record {
     earlier = λ clean. omega (arith, kept.clean);
     leaves = λ clean db may. elim (kept.crash clean db may) [
@@ -90,9 +93,28 @@ module _ (schema : Schema) (sql : List ℕ) (names : List (List ℕ)) (tree widt
         (subst (IsPermutation (map shown_as xs)) outs (IsPermutation-map shown_as _ _ same))
         ∙ map-map (λ (o : Output). o.1) shown_as xs ∙ same_all xs
 
-    pub all_ordered : {C : Type 0} (old new : State) (r : Result (Vec Row Global) Error) → IfOk r (λ rows. Shown sql [] old new rows.items) → (Formed Kept : C → Type 0) (rows_of : C → List Row)
+    all_ordered : {C : Type 0} (old new : State) (r : Result (Vec Row Global) Error) → IfOk r (λ rows. Shown sql [] old new rows.items) → (Formed Kept : C → Type 0) (rows_of : C → List Row)
         → ((c : C) → Formed c → IsAscending (IsBefore order) (rows_of c)) → ((c : C) → Kept c → IsPermutation (rows_of c) (map (columns_of width) (old.now.trees tree)))
         → IfOk r (λ found. old.now.schema ≡ schema → (c : C) → Formed c → Kept c → found.items ≡ rows_of c)
     all_ordered old new (Err e) h Formed Kept rows_of up same = tt
     all_ordered old new (Ok rows) h Formed Kept rows_of up same = λ has c formed kept.
         in_order old.now.trees rows.items ((reads_as sql [] old new schema has _ is plain unlisted rows.items h).answer Null) (rows_of c) (same c kept) (up c formed)
+
+-- a query for the rows of one of our tables
+pub all_shown : (part : Part Content) (sql : List ℕ) (names : List (List ℕ)) (order : List (Term × Key))
+    (is : command_of (understood our_schema sql) ≡ Select (record { lets = []; body = simple part.tree [] (map (col 1) (range_with_len 1 (width_of part.tree))) order }) names)
+    → IsPlain (understood our_schema sql) → reads_listing our_schema sql ≡ false → ((db : Trees) → overlay db [] part.tree ≡ db part.tree)
+    → ((trees : Trees) (r : Row) → (out part.tree [] (map (col 1) (range_with_len 1 (width_of part.tree))) order trees [] r).1 ≡ columns_of (width_of part.tree) r)
+    → ((trees : Trees) (r : Row) → (out part.tree [] (map (col 1) (range_with_len 1 (width_of part.tree))) order trees [] r).0 ≡ keys_of order (columns_of (width_of part.tree) r))
+    → ((c : Content) → IsFormed c → IsAscending (IsBefore order) (part.rows c))
+    → ((c : Content) (trees : Trees) → KeepsRows form c trees → IsPermutation (part.rows c) (map (columns_of (width_of part.tree)) (trees part.tree)))
+    → {S : Type 0} (g : Ghosts S) (old new : Held S) (r : Result (Vec Row Global) Error) → (HasCleanDisk (state g new) → IfOk r (λ rows. Shown sql [] (state g old) (state g new) rows.items))
+    → Survives (state g old) (state g new) (CommitsShowing sql [] (state g old)) → (old.in_transaction ≡ false → new.in_transaction ≡ false) → ShowsAll part g old new r
+all_shown part sql names order is plain unlisted plain_tree lists sees rise same g old new r ok kept mode = record {
+  rows = λ clean. all_rows our_schema sql names part.tree (width_of part.tree) order is plain unlisted plain_tree lists (state g old) (state g new) r (ok clean);
+  order = λ clean. all_ordered our_schema sql names part.tree (width_of part.tree) order is plain unlisted plain_tree lists sees (state g old) (state g new) r (ok clean)
+      IsFormed (λ c. KeepsRows form c (state g old).now.trees) part.rows rise (λ c keeps. same c (state g old).now.trees keeps);
+  read = all_read our_schema sql names part.tree (width_of part.tree) order is plain unlisted plain_tree lists g old new r kept ok;
+  mode = mode;
+  spares = all_spares our_schema sql names part.tree (width_of part.tree) order is plain unlisted plain_tree lists g old new kept;
+}

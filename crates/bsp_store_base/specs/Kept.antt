@@ -46,12 +46,14 @@ module _ {C : Type 0} (form : Form C) where
   HasRowsNow tree old new rows = AllByRecursion (λ (p : Part C). MatchBool (p.tree == tree) (IsPermutation (p.rows new) rows) (p.rows new ≡ p.rows old)) form.parts
 
   module _ {S : Type 0} (g : Ghosts S) (h : Held S) where
-    pub record Falls (last a b : C) : Type 0 where
+    -- the last commit left one content, and a stop leaves one of two; a transaction that is open is to be given up
+    pub record HasCommitted (last a b : C) : Type 0 where
       pub kept : HasCleanDisk (state g h) → IsTrue (state g h).is_open → Keeps last (state g h).committed
       pub leaves : HasCleanDisk (state g h) → (db : Trees) → (state g h).may_leave db → KeepsRows a db ⊎ KeepsRows b db
       pub steady : HasCleanDisk (state g h) → IsTrue (state g h).in_transaction → IsTrue (state g h).is_open
 
-    pub record Stands (now last a b : C) : Type 0 where
+    -- the connection shows one content, the last commit left another, and a stop leaves one of two
+    pub record HasContents (now last a b : C) : Type 0 where
       pub held : HasCleanDisk (state g h) → IsTrue (state g h).is_open → Keeps now (state g h).now
       pub kept : HasCleanDisk (state g h) → IsTrue (state g h).is_open → Keeps last (state g h).committed
       pub leaves : HasCleanDisk (state g h) → (db : Trees) → (state g h).may_leave db → KeepsRows a db ⊎ KeepsRows b db

@@ -6,4 +6,5 @@ pub mod Reading
 pub mod Content
 pub mod Calls
 pub mod Forms
+pub mod Shows
 pub use Rattle.bsp_store_schema.specs.Schema

@@ -1,18 +1,14 @@
 //! The table of airlines' tokens.
 
-ghost use Rattle.std.specs.Prelude.{◌≡◌, ℕ, List, is_some, map, None, false, true, ⊤, OnOk, OnErr, IfOk, IsPermutation};
-ghost use Rattle.std.specs.FinMap.{get, entries, insert, remove};
-ghost use Rattle.sqlite.specs.Held.{state};
-ghost use Rattle.sqlite.specs.State.{HasCleanDisk};
+ghost use Rattle.std.specs.Prelude.{◌≡◌, is_some, None, true, ⊤, OnOk, OnErr};
+ghost use Rattle.std.specs.FinMap.{get, insert, remove};
 ghost use Rattle.sqlite.specs.Values.{bound};
-ghost use Rattle.bsp_store_base.specs.Kept.{Reads, columns_of, KeepsRows, Spares};
-ghost use Rattle.bsp_store_base.specs.Schema.{our_schema};
 ghost use Rattle.bsp_store_base.specs.Columns.{airline_token_row};
-ghost use Rattle.bsp_store_base.specs.Content.{Content, form};
+ghost use Rattle.bsp_store_base.specs.Content.{airline_token_part};
+ghost use Rattle.bsp_store_base.specs.Shows.{ShowsAll};
 ghost use Rattle.bsp_store_base.specs.Calls.{Changes, GivesUp};
 ghost use Rattle.bsp_store_base.specs.Synced.{with_value};
 ghost use Rattle.bsp_store_callers.specs.Callers.{airline_texts};
-ghost use Rattle.bsp_store_base.specs.Forms.{IsFormed};
 
 use bsp_rows::{AirlineCode, Token};
 use bsp_store_base::airline_digits;
@@ -127,11 +123,7 @@ pub fn put_airline_token<S: Alter>(
 ///
 /// Those of the store.
 pub fn all_airline_tokens<S: Alter>(conn: &mut Connection<S>) -> Result<Vec<Row>, Error>
-    ensures rows { HasCleanDisk (state S.Store conn.new) → IfOk result (λ found. (state S.Store conn.old).now.schema ≡ our_schema → IsPermutation (map (columns_of 2) ((state S.Store conn.old).now.trees 10)) found.items) }
-    ensures read { OnOk result (conn.old.schema ≡ our_schema → Reads S.Store conn.old conn.new) }
-    ensures mode { conn.old.in_transaction ≡ false → conn.new.in_transaction ≡ false }
-    ensures order { HasCleanDisk (state S.Store conn.new) → IfOk result (λ found. (state S.Store conn.old).now.schema ≡ our_schema → (c : Content) → IsFormed c → KeepsRows form c (state S.Store conn.old).now.trees → found.items ≡ map airline_token_row (entries c.airlines)) }
-    ensures spares { conn.old.schema ≡ our_schema → Spares S.Store conn.old conn.new }
+    ensures { ShowsAll airline_token_part S.Store conn.old conn.new result }
 {
     conn.query_all(
         "SELECT airline, token FROM airline_token ORDER BY airline",

@@ -1,19 +1,13 @@
 //! Reading the items back.
 
-ghost use Rattle.std.specs.Prelude.{◌≡◌, ◌≢◌, false, map, None, IfOk, IsTrue, OnOk, IsPermutation};
-ghost use Rattle.sqlite.specs.Held.{state};
-ghost use Rattle.sqlite.specs.State.{HasCleanDisk};
+ghost use Rattle.std.specs.Prelude.{◌≡◌, ◌≢◌, None, IsTrue};
 ghost use Rattle.sqlite_value.specs.Order.{column};
 ghost use Rattle.sqlite_value.specs.declared.value.Value.TheVariants.{Int};
 ghost use Rattle.bsp_fields.specs.CivilDay.{CivilDay, is_day};
 ghost use Rattle.bsp_fields.specs.Days.{day_number};
-ghost use Rattle.bsp_store_base.specs.Schema.{our_schema};
-ghost use Rattle.bsp_store_base.specs.Kept.{Reads, columns_of, KeepsRows, Spares};
 ghost use Rattle.bsp_store_items.specs.Reading.{amounts_in, card_in, document_in, entry_in, item_in, key_in, related_in, transaction_in};
-ghost use Rattle.std.specs.FinMap.{entries};
-ghost use Rattle.bsp_store_base.specs.Content.{Content, form};
-ghost use Rattle.bsp_store_base.specs.Forms.{IsFormed};
-ghost use Rattle.bsp_store_base.specs.Columns.{item_row};
+ghost use Rattle.bsp_store_base.specs.Content.{item_part};
+ghost use Rattle.bsp_store_base.specs.Shows.{ShowsAll};
 ghost use Rattle.bsp_store_base.specs.Reading.{amount_in, if_there};
 
 use crate::columns::{read_byte, read_flag, read_kind, read_rate, read_taxes, read_wide};
@@ -28,11 +22,7 @@ use sqlite::{Alter, Connection, Error, Row};
 ///
 /// What the connection answers.
 pub fn all_items<S: Alter>(conn: &mut Connection<S>) -> Result<Vec<Row>, Error>
-    ensures rows { HasCleanDisk (state S.Store conn.new) → IfOk result (λ found. (state S.Store conn.old).now.schema ≡ our_schema → IsPermutation (map (columns_of 21) ((state S.Store conn.old).now.trees 14)) found.items) }
-    ensures read { OnOk result (conn.old.schema ≡ our_schema → Reads S.Store conn.old conn.new) }
-    ensures mode { conn.old.in_transaction ≡ false → conn.new.in_transaction ≡ false }
-    ensures order { HasCleanDisk (state S.Store conn.new) → IfOk result (λ found. (state S.Store conn.old).now.schema ≡ our_schema → (c : Content) → IsFormed c → KeepsRows form c (state S.Store conn.old).now.trees → found.items ≡ map item_row (entries c.items)) }
-    ensures spares { conn.old.schema ≡ our_schema → Spares S.Store conn.old conn.new }
+    ensures { ShowsAll item_part S.Store conn.old conn.new result }
 {
     conn.query_all(
         "SELECT agent, number, canx, check_digit, airline, code, issued, period, alive, name, fare, taxes, \

@@ -1,18 +1,15 @@
-ghost use Rattle.std.specs.Prelude.{◌≡◌, false, is_some, map, None, true, ⊤, OnOk, OnErr, IfOk, IsPermutation, List, ℕ, option_map};
-ghost use Rattle.std.specs.FinMap.{get, insert, remove, entries};
+ghost use Rattle.std.specs.Prelude.{◌≡◌, is_some, None, true, ⊤, OnOk, OnErr, option_map};
+ghost use Rattle.std.specs.FinMap.{get, insert, remove};
 ghost use Rattle.sqlite_value.specs.Value.{owned};
 ghost use Rattle.sqlite_value.specs.declared.value.Value.TheVariants.{Text};
 ghost use Rattle.sqlite.specs.Held.{state};
-ghost use Rattle.sqlite.specs.State.{HasCleanDisk};
 ghost use Rattle.sqlite.specs.Values.{bound, bound_value, or_null};
 ghost use Rattle.bsp_store_base.specs.Columns.{code_digits, memo_row};
-ghost use Rattle.bsp_store_base.specs.Content.{Content, form};
-ghost use Rattle.bsp_store_base.specs.Schema.{our_schema};
-ghost use Rattle.bsp_store_base.specs.Kept.{Reads, columns_of, KeepsRows, Spares};
+ghost use Rattle.bsp_store_base.specs.Content.{memo_part};
+ghost use Rattle.bsp_store_base.specs.Shows.{ShowsAll};
 ghost use Rattle.bsp_store_base.specs.Calls.{Changes, GivesUp};
 ghost use Rattle.bsp_store_base.specs.Synced.{with_value};
 ghost use Rattle.bsp_store_memos.specs.Written.{memo_written};
-ghost use Rattle.bsp_store_base.specs.Forms.{IsFormed};
 
 use bsp_rows::{Memo, MemoKey, MemoKind, MemoState, PeriodCode, Reason};
 use bsp_store_base::{agent_digits, airline_digits, number_digits, period_digits};
@@ -168,11 +165,7 @@ pub fn put_memo<S: Alter>(
 ///
 /// Where the store fails.
 pub fn all_memos<S: Alter>(conn: &mut Connection<S>) -> Result<Vec<Row>, Error>
-    ensures rows { HasCleanDisk (state S.Store conn.new) → IfOk result (λ found. (state S.Store conn.old).now.schema ≡ our_schema → IsPermutation (map (columns_of 10) ((state S.Store conn.old).now.trees 16)) found.items) }
-    ensures read { OnOk result (conn.old.schema ≡ our_schema → Reads S.Store conn.old conn.new) }
-    ensures mode { conn.old.in_transaction ≡ false → conn.new.in_transaction ≡ false }
-    ensures order { HasCleanDisk (state S.Store conn.new) → IfOk result (λ found. (state S.Store conn.old).now.schema ≡ our_schema → (c : Content) → IsFormed c → KeepsRows form c (state S.Store conn.old).now.trees → found.items ≡ map memo_row (entries c.memos)) }
-    ensures spares { conn.old.schema ≡ our_schema → Spares S.Store conn.old conn.new }
+    ensures { ShowsAll memo_part S.Store conn.old conn.new result }
 {
     conn.query_all(
         "SELECT airline, number, agent, kind, amount, first_amount, reason, issued, state, billed FROM memo \

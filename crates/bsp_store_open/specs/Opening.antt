@@ -14,7 +14,7 @@ use Rattle.bsp_book.specs.Listed.{meaning as listed}
 use Rattle.bsp_book.specs.declared.list.ListBook.{ListBook}
 use Rattle.bsp_store_schema.specs.Order.{AreInOrder}
 use Rattle.bsp_store_load.specs.Schema.{no_schema, our_schema}
-use Rattle.bsp_store_load.specs.Kept.{IsOutside, KeepsRows, Part, Reads, Stands, columns_of}
+use Rattle.bsp_store_load.specs.Kept.{IsOutside, KeepsRows, Part, Reads, HasContents, columns_of}
 use Rattle.bsp_store_load.specs.Columns.{count, version}
 use Rattle.bsp_store_load.specs.Content.{Content, agent_part, airline_part, airline_token_part, form, item_part, memo_part, meta_part, period_part, rate_part, stock_part, tally_part, terms_part, width_of}
 use Rattle.bsp_store_load.specs.Contents.{IsContentOf, KeepsBook}
@@ -120,7 +120,7 @@ module _ {S : Type 0} (g : Ghosts S) where
 
   -- no transaction of the connection is open, and its tables have these rows
   abbrev pub KeepsAtRest : Held S → Rows → Type 0
-  KeepsAtRest h rows = (c : Content) × IsContentOf rows c × (Stands form g h c c c c × IsOutside form g h)
+  KeepsAtRest h rows = (c : Content) × IsContentOf rows c × (HasContents form g h c c c c × IsOutside form g h)
 
   -- the book in memory has these rows, which are sound, and the tables keep them
   pub record IsRead (old new : Held S) (list : ListBook) (rows : Rows) : Type 0 where

@@ -1,31 +1,43 @@
 -- The table of the airlines.
-use Rattle.std.proofs.Common.{◌≡◌, ℕ, ◌+◌, List, [], ◌∷◌, ◌++◌, codes, map, length, true, false, Ok, refl, sym, ap₂, subst, IsPermutation}
-use Rattle.std.specs.Prelude.{⊤}
+use Rattle.std.proofs.Common.{◌≡◌, ℕ, List, [], ◌∷◌, codes, map, false, refl}
 use Rattle.std.specs.List.{range_with_len}
-use Rattle.sqlite_value.specs.declared.value.Value.TheVariants.{Null}
 use Rattle.sqlite_value.specs.declared.keys.Collation.TheVariants.{Binary}
 use Rattle.sqlite_value.specs.Keys.{ascending}
-use Rattle.sqlite_trees.specs.declared.store.Store.{Ghosts}
-use Rattle.sqlite_sql.specs.Term.{lit, col}
-use Rattle.sqlite_schema.specs.declared.command.Source.TheVariants.{Values}
-use Rattle.sqlite_schema.specs.declared.command.Command.TheVariants.{Insert, Delete, Select}
+use Rattle.sqlite_sql.specs.Term.{col}
+use Rattle.sqlite_schema.specs.declared.command.Command.TheVariants.{Select}
 use Rattle.sqlite_schema.specs.declared.schema.Column.{Column}
 use Rattle.sqlite_tied.specs.Compute.{everything}
 use Rattle.sqlite.specs.Listing.{understood, reads_listing}
-use Rattle.sqlite.specs.State.{State, Executes}
-use Rattle.sqlite.specs.Held.{Held, state}
 use Rattle.sqlite.proofs.Callers.{IsPlain, command_of}
-use Rattle.bsp_store_base.specs.Kept.{Keeps}
-use Rattle.bsp_store_base.specs.Simple.{simple}
-use Rattle.bsp_store_base.proofs.Writing.{inserts, deletes}
-use Rattle.bsp_store_base.proofs.Parts.{wrote}
-use Rattle.bsp_store_base.proofs.Held.{writes}
-use Rattle.bsp_store_base.proofs.Values.{cast_int, cast_null, cast_same}
+use Rattle.bsp_store_base.specs.Columns.{airline_row}
+use Rattle.bsp_store_base.specs.Content.{Content}
 use Rattle.bsp_store_base.specs.Schema.{our_schema, airline_table, airline_columns}
-use Rattle.bsp_store_base.specs.Columns.{airline_row, placed}
-use Rattle.bsp_store_base.specs.Content.{Content, form}
-use Rattle.bsp_store_base.proofs.Writes.{no_work, Does}
-use Rattle.bsp_store_plan.proofs.Sharing.{no_rows, placed_more}
+use Rattle.bsp_store_base.specs.Simple.{simple}
+use Rattle.bsp_store_base.proofs.Values.{cast_int}
+use Rattle.bsp_store_plan.proofs.PlacedTables.{PlacedTable, deletion, insertion}
+
+-- ---- the table
+
+abbrev pub with : List ℕ → Content → Content
+with entries now = record now { published = entries }
+
+abbrev pub airlines_list : PlacedTable ℕ
+airlines_list = record {
+  at = 2;
+  table = airline_table;
+  of = λ c. c.published;
+  with = with;
+  row_of = airline_row;
+  is_at = refl;
+  uncounted = refl;
+  plain_tree = λ db. refl;
+  here = λ c trees kept. kept.1.1.0;
+  moved = λ c l rows same. (refl, (refl, (same, (refl, (refl, (refl, (refl, (refl, (refl, (refl, (refl, tt)))))))))));
+  again = λ r. refl;
+  wide = λ id e. refl;
+  kinds = λ e. (refl, (cast_int _, tt));
+  sourced = λ e. refl;
+}
 
 -- ---- the texts
 
@@ -38,11 +50,11 @@ add_text = codes "INSERT INTO airline (code, place) VALUES (?1, ?2)"
 abbrev pub all_text : List ℕ
 all_text = codes "SELECT code, place FROM airline ORDER BY place"
 
-clear_is : (command_of (understood our_schema clear_text) ≡ Delete 2 (record { lets = []; body = simple 2 [] (col 1 0 ∷ []) [] })) × IsPlain (understood our_schema clear_text)
+pub clear_is : (command_of (understood our_schema clear_text) ≡ deletion airlines_list) × IsPlain (understood our_schema clear_text)
 unfolding understood everything
 clear_is = (refl, (refl, refl))
 
-add_is : (command_of (understood our_schema add_text) ≡ Insert 2 (Values (lit Null ∷ map (col 0) (range_with_len 0 2)) 3)) × IsPlain (understood our_schema add_text)
+pub add_is : (command_of (understood our_schema add_text) ≡ insertion airlines_list) × IsPlain (understood our_schema add_text)
 unfolding understood everything
 add_is = (refl, (refl, refl))
 
@@ -52,40 +64,3 @@ names = map (λ (c : Column). c.name) airline_columns
 pub all_is : (command_of (understood our_schema all_text) ≡ Select (record { lets = []; body = simple 2 [] (map (col 1) (range_with_len 1 2)) ((col 1 2, ascending Binary) ∷ []) }) names) × IsPlain (understood our_schema all_text) × (reads_listing our_schema all_text ≡ false)
 unfolding understood everything
 all_is = (refl, (refl, refl), refl)
-
--- ---- the content
-
-abbrev pub with : List ℕ → Content → Content
-with entries now = record now { published = entries }
-
-abbrev pub is_next : ℕ → Content → Type 0
-is_next place now = place ≡ length now.published + 1
-
-abbrev pub with_more : ℕ → Content → Content
-with_more entry now = with (now.published ++ entry ∷ []) now
-
-clears : (old new : State) (count : ℕ) (now : Content) → Keeps form now old.now → Executes clear_text [] old new (Ok count) → Keeps form (with [] now) new.now
-clears old new count now keeps h =
-    let entries = placed 0 now.published in
-    let it = deletes our_schema 2 airline_table refl refl (λ db. refl) 2 (no_work 2) clear_text clear_is.1 [] [] clear_is.0 airline_row (λ e. true) (λ r. refl) (λ r. refl) (λ e. refl) (λ e. refl)
-    old new keeps.schema count h entries keeps.kept.1.1.0 in
-    wrote form old.now new.now 2 now (with [] now) _ it.same it.kept it.others (refl, (refl, (no_rows airline_row entries, (refl, (refl, (refl, (refl, (refl, (refl, (refl, (refl, tt))))))))))) keeps
-
-adds : (old new : State) (place : ℕ) (entry : ℕ) (count : ℕ) (now : Content) → is_next place now → Keeps form now old.now → Executes add_text (airline_row (place, entry)) old new (Ok count) → Keeps form (with_more entry now) new.now
-adds old new place entry count now next keeps h =
-    let row = airline_row (place, entry) in
-    let it = inserts our_schema 2 airline_table refl refl (λ db. refl) 2 (no_work 2) add_text add_is.1 row _ 3 add_is.0 (Null ∷ row) row refl
-    (ap₂ ◌∷◌ cast_null (cast_same airline_columns row (refl, (cast_int _, tt)))) (λ id. refl) old new keeps.schema count h _ keeps.kept.1.1.0 in
-    let more = subst (λ p. IsPermutation (map airline_row (placed 0 (now.published ++ entry ∷ []))) (airline_row (p, entry) ∷ map airline_row (placed 0 now.published))) (sym next) (placed_more airline_row now.published entry) in
-    wrote form old.now new.now 2 now (with_more entry now) _ it.same it.kept it.others (refl, (refl, (more, (refl, (refl, (refl, (refl, (refl, (refl, (refl, (refl, tt))))))))))) keeps
-
--- ---- the calls
-
-module _ {S : Type 0} (g : Ghosts S) (old new : Held S) where
-  pub clearing : Does g old new clear_text [] (λ now. ⊤) (with [])
-  clearing r kept ran = writes form g old new clear_text [] _ clear_is.0 clear_is.1 (λ is. cc) (λ name is. cc) (λ o n count w. w) r kept ran (λ now. ⊤) (with [])
-      (λ now count may keeps h. clears (state g old) (state g new) count now keeps h)
-
-  pub adding : (place : ℕ) (entry : ℕ) → Does g old new add_text (airline_row (place, entry)) (is_next place) (with_more entry)
-  adding place entry r kept ran = writes form g old new add_text (airline_row (place, entry)) _ add_is.0 add_is.1 (λ is. cc) (λ name is. cc) (λ o n count w. w) r kept ran (is_next place) (with_more entry)
-      (λ now count may keeps h. adds (state g old) (state g new) place entry count now may keeps h)

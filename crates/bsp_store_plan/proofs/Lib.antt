@@ -3,5 +3,6 @@ pub mod Sharing
 pub mod MetaTable
 pub mod TermsTable
 pub mod AirlineTable
+pub mod PlacedTables
 pub mod RateTable
 pub mod PeriodTable

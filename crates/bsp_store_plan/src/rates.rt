@@ -1,14 +1,10 @@
-ghost use Rattle.std.specs.Prelude.{◌≡◌, ◌<◌, ◌^◌, ◌+◌, ◌++◌, ◌∷◌, [], length, map, OnOk, OnErr, IfOk, false, IsPermutation, ⊤, take};
+ghost use Rattle.std.specs.Prelude.{◌≡◌, ◌<◌, ◌^◌, ◌+◌, ◌++◌, ◌∷◌, [], length, OnOk, OnErr, ⊤, take};
 ghost use Rattle.sqlite.specs.Values.{bound};
-ghost use Rattle.sqlite.specs.Held.{state};
-ghost use Rattle.sqlite.specs.State.{HasCleanDisk};
-ghost use Rattle.bsp_store_base.specs.Kept.{columns_of, Reads, KeepsRows, Spares};
 ghost use Rattle.bsp_store_base.specs.Calls.{Changes, GivesUp, GivesUpIf};
-ghost use Rattle.bsp_store_base.specs.Schema.{our_schema};
-ghost use Rattle.bsp_store_base.specs.Columns.{rate_row, placed};
-ghost use Rattle.bsp_store_base.specs.Content.{Content, form};
+ghost use Rattle.bsp_store_base.specs.Columns.{rate_row};
+ghost use Rattle.bsp_store_base.specs.Content.{rate_part};
+ghost use Rattle.bsp_store_base.specs.Shows.{ShowsAll};
 ghost use Rattle.bsp_store_plan.specs.Values.{rate_values};
-ghost use Rattle.bsp_store_base.specs.Forms.{IsFormed};
 
 use bsp_rows::Rate;
 use bsp_store_base::airline_digits;
@@ -100,11 +96,7 @@ pub fn add_rates<S: Alter>(
 ///
 /// That of the statement which failed.
 pub fn all_rates<S: Alter>(conn: &mut Connection<S>) -> Result<Vec<Row>, Error>
-    ensures rows { HasCleanDisk (state S.Store conn.new) → IfOk result (λ found. (state S.Store conn.old).now.schema ≡ our_schema → IsPermutation (map (columns_of 4) ((state S.Store conn.old).now.trees 4)) found.items) }
-    ensures read { OnOk result (conn.old.schema ≡ our_schema → Reads S.Store conn.old conn.new) }
-    ensures mode { conn.old.in_transaction ≡ false → conn.new.in_transaction ≡ false }
-    ensures order { HasCleanDisk (state S.Store conn.new) → IfOk result (λ found. (state S.Store conn.old).now.schema ≡ our_schema → (c : Content) → IsFormed c → KeepsRows form c (state S.Store conn.old).now.trees → found.items ≡ map rate_row (placed 0 c.rates)) }
-    ensures spares { conn.old.schema ≡ our_schema → Spares S.Store conn.old conn.new }
+    ensures { ShowsAll rate_part S.Store conn.old conn.new result }
 {
     conn.query_all(
         "SELECT airline, begins, place, hundredths FROM rate ORDER BY place",

@@ -1,14 +1,10 @@
-ghost use Rattle.std.specs.Prelude.{◌≡◌, ◌<◌, ◌^◌, map, None, Some, OnOk, OnErr, IfOk, false, IsPermutation, ⊤};
+ghost use Rattle.std.specs.Prelude.{◌≡◌, ◌<◌, ◌^◌, None, Some, OnOk, OnErr, ⊤};
 ghost use Rattle.sqlite.specs.Values.{bound};
-ghost use Rattle.sqlite.specs.Held.{state};
-ghost use Rattle.sqlite.specs.State.{HasCleanDisk};
-ghost use Rattle.bsp_store_base.specs.Kept.{columns_of, Reads, KeepsRows, Spares};
 ghost use Rattle.bsp_store_base.specs.Calls.{Changes, GivesUp};
-ghost use Rattle.bsp_store_base.specs.Schema.{our_schema};
-ghost use Rattle.bsp_store_base.specs.Columns.{terms_row, terms_rows};
-ghost use Rattle.bsp_store_base.specs.Content.{Content, form};
+ghost use Rattle.bsp_store_base.specs.Columns.{terms_row};
+ghost use Rattle.bsp_store_base.specs.Content.{terms_part};
+ghost use Rattle.bsp_store_base.specs.Shows.{ShowsAll};
 ghost use Rattle.bsp_store_plan.specs.Values.{terms_values};
-ghost use Rattle.bsp_store_base.specs.Forms.{IsFormed};
 
 use bsp_rows::Terms;
 use sqlite::{Alter, Connection, Error, Row};
@@ -87,11 +83,7 @@ pub fn put_terms<S: Alter>(conn: &mut Connection<S>, terms: Option<Terms>) -> Re
 ///
 /// That of the statement which failed.
 pub fn all_terms<S: Alter>(conn: &mut Connection<S>) -> Result<Vec<Row>, Error>
-    ensures rows { HasCleanDisk (state S.Store conn.new) → IfOk result (λ found. (state S.Store conn.old).now.schema ≡ our_schema → IsPermutation (map (columns_of 3) ((state S.Store conn.old).now.trees 1)) found.items) }
-    ensures read { OnOk result (conn.old.schema ≡ our_schema → Reads S.Store conn.old conn.new) }
-    ensures mode { conn.old.in_transaction ≡ false → conn.new.in_transaction ≡ false }
-    ensures order { HasCleanDisk (state S.Store conn.new) → IfOk result (λ found. (state S.Store conn.old).now.schema ≡ our_schema → (c : Content) → IsFormed c → KeepsRows form c (state S.Store conn.old).now.trees → found.items ≡ terms_rows c.terms) }
-    ensures spares { conn.old.schema ≡ our_schema → Spares S.Store conn.old conn.new }
+    ensures { ShowsAll terms_part S.Store conn.old conn.new result }
 {
     conn.query_all("SELECT currency, review, documents FROM terms", &[])
 }

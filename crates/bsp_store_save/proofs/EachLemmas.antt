@@ -17,7 +17,7 @@ use Rattle.bsp_store_load.proofs.Syncing.{get-synced, get-with_value}
 use Rattle.bsp_store_load.proofs.Rising.{entries_rise}
 use Rattle.bsp_store_load.specs.Calls.{Changes, GivesUpIf}
 use Rattle.bsp_store_load.specs.Content.{Content, form}
-use Rattle.bsp_store_load.specs.Kept.{IsInside, Stands}
+use Rattle.bsp_store_load.specs.Kept.{IsInside, HasContents}
 use Rattle.bsp_store_save.specs.Each.{AreThere, with_each}
 
 apart : {K : Type 0} {R : K → K → Ordering} (o : IsTotalOrder R) (a b : K) → R a b ≡ Less → eq_by_cmp R b a ≡ false
@@ -101,7 +101,7 @@ module _ {K V W : Type 0} {R : K → K → Ordering} (o : IsTotalOrder R) (exact
   module _ {S : Type 0} (g : Ghosts S) (old new : Held S) where
     pub saved : Changes g old new (AreThere set (get raw) (λ k c. is_some (get (field c) k)) (λ v. is_some (h v)) (entries olds)) (with_each set (get raw) (entries olds)) → Changes g old new (λ c. field c ≡ f was) (put (f raw))
     saved changes now last a b had stands inside =
-        subst (λ c. Stands form g new c last a b × IsInside form g new) (all_set now had) (changes now last a b (are_there now had) stands inside)
+        subst (λ c. HasContents form g new c last a b × IsInside form g new) (all_set now had) (changes now last a b (are_there now had) stands inside)
 
     pub not_saved : GivesUpIf g old new (AreThere set (get raw) (λ k c. is_some (get (field c) k)) (λ v. is_some (h v)) (entries olds)) → GivesUpIf g old new (λ c. field c ≡ f was)
     not_saved fails now last a b had stands inside = fails now last a b (are_there now had) stands inside

@@ -8,7 +8,7 @@ use Rattle.bsp_rows.specs.Published.{Published}
 use Rattle.bsp_store_load.specs.Calls.{Changes, GivesUp, GivesUpIf}
 use Rattle.bsp_store_load.specs.Columns.{Meta}
 use Rattle.bsp_store_load.specs.Content.{Content, form}
-use Rattle.bsp_store_load.specs.Kept.{IsInside, Stands}
+use Rattle.bsp_store_load.specs.Kept.{IsInside, HasContents}
 use Rattle.bsp_store_save.specs.Saving.{HasPlan, meta_of}
 use Rattle.std.proofs.lemmas.Bool.{and_parts}
 use Rattle.std.specs.Cmp.Lexicographic.{pointwise}
@@ -24,7 +24,7 @@ module _ {S : Type 0} (g : Ghosts S) (first second third : Held S) where
   pub meta_saved : (p : Published) (was : Meta) (day : CivilDay) (closed : ℕ) → day ≡ p.day → closed ≡ length p.closed → Changes g first second (λ now. is_some now.meta ≡ true) (λ now. record now { meta = Some (record { day = day; closed = closed }) })
       → Changes g first second (λ c. c.meta ≡ Some was) (λ c. record c { meta = Some (meta_of p) })
   meta_saved p was day closed d n made now last a b met stands inside =
-      subst (λ c. Stands form g second c last a b × IsInside form g second) (λ i. record now { meta = Some (record { day = d i; closed = n i }) }) (made now last a b (ap is_some met) stands inside)
+      subst (λ c. HasContents form g second c last a b × IsInside form g second) (λ i. record now { meta = Some (record { day = d i; closed = n i }) }) (made now last a b (ap is_some met) stands inside)
 
   pub meta_not_saved : (was : Meta) → GivesUp g first second → GivesUpIf g first second (λ c. c.meta ≡ Some was)
   meta_not_saved was fails now last a b met stands inside = fails now last a b stands inside
@@ -37,7 +37,7 @@ module _ {S : Type 0} (g : Ghosts S) (first second third : Held S) where
 
     pub more_saved : (from : ℕ) → from ≡ length kept → kept ≡ take (length kept) all → Changes g first second (λ c. field c ≡ take from all) (put all) → Saved first second
     more_saved from is front made now last a b met stands inside =
-        subst (λ l. Stands form g second (put l now) last a b × IsInside form g second) alike
+        subst (λ l. HasContents form g second (put l now) last a b × IsInside form g second) alike
         (made now last a b (met ∙ sym same ∙ front ∙ ap (λ n. take n all) (sym is)) stands inside)
 
     pub more_not_saved : (from : ℕ) → from ≡ length kept → kept ≡ take (length kept) all → GivesUpIf g first second (λ c. field c ≡ take from all) → GivesUpIf g first second (λ c. field c ≡ was)
@@ -46,7 +46,7 @@ module _ {S : Type 0} (g : Ghosts S) (first second third : Held S) where
     pub all_saved : Changes g first second (λ c. ⊤) (put []) → Changes g second third (λ c. field c ≡ take 0 all) (put all) → Saved first third
     all_saved cleared made now last a b met stands inside =
         let half = cleared now last a b tt stands inside in
-        subst (λ c. Stands form g third c last a b × IsInside form g third) (twice all [] now ∙ ap (λ l. put l now) alike) (made (put [] now) last a b (seen [] now) half.0 half.1)
+        subst (λ c. HasContents form g third c last a b × IsInside form g third) (twice all [] now ∙ ap (λ l. put l now) alike) (made (put [] now) last a b (seen [] now) half.0 half.1)
 
     pub all_not_saved : Changes g first second (λ c. ⊤) (put []) → GivesUpIf g second third (λ c. field c ≡ take 0 all) → GivesUpIf g first third (λ c. field c ≡ was)
     all_not_saved cleared fails now last a b met stands inside =

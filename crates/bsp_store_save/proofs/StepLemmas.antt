@@ -4,7 +4,7 @@ use Rattle.sqlite.specs.Held.{Held}
 use Rattle.sqlite_trees.specs.declared.store.Store.{Ghosts}
 use Rattle.bsp_store_load.specs.Calls.{Changes, GivesUp, GivesUpIf}
 use Rattle.bsp_store_load.specs.Content.{Content, form}
-use Rattle.bsp_store_load.specs.Kept.{IsInside, Stands}
+use Rattle.bsp_store_load.specs.Kept.{IsInside, HasContents}
 use Rattle.bsp_store_load.proofs.Held.{fallen_from}
 use Rattle.bsp_store_save.specs.Each.{AreThere, with_each}
 
@@ -32,7 +32,7 @@ module _ {S : Type 0} (g : Ghosts S) where
 
   -- where nothing changes, since the content is as it is to be
   pub as_it_is : (h : Held S) (P : Content → Type 0) (f : Content → Content) → ((c : Content) → P c → f c ≡ c) → Changes g h h P f
-  as_it_is h P f same now last a b met stands inside = (subst (λ c. Stands form g h c last a b) (sym (same now met)) stands, inside)
+  as_it_is h P f same now last a b met stands inside = (subst (λ c. HasContents form g h c last a b) (sym (same now met)) stands, inside)
 
   module _ (first second third : Held S) (W P Q : Content → Type 0) (f : Content → Content) (at_first : (now : Content) → W now → P now) (at_second : (now : Content) → W now → Q (f now)) (one : Changes g first second P f) where
     pub then : (h : Content → Content) → Changes g second third Q h → Changes g first third W (λ now. h (f now))
@@ -51,8 +51,8 @@ module _ {S : Type 0} (g : Ghosts S) where
     -- up to those that are left
     abbrev pub IsPut : Held S → List (K × Option W) → Type 0
     IsPut h left =
-        (now last a b : Content) → AreThere set at holds rows all now → Stands form g first now last a b → IsInside form g first
-        → (mid : Content) × AreThere set at holds rows left mid × (with_each set at left mid ≡ with_each set at all now) × Stands form g h mid last a b × IsInside form g h
+        (now last a b : Content) → AreThere set at holds rows all now → HasContents form g first now last a b → IsInside form g first
+        → (mid : Content) × AreThere set at holds rows left mid × (with_each set at left mid ≡ with_each set at all now) × HasContents form g h mid last a b × IsInside form g h
 
     pub none_put : (left : List (K × Option W)) → left ≡ all → IsPut first left
     none_put left is now last a b there stands inside = (now, subst (λ l. AreThere set at holds rows l now) (sym is) there, ap (λ l. with_each set at l now) is, stands, inside)
@@ -66,13 +66,13 @@ module _ {S : Type 0} (g : Ghosts S) where
           let here : holds k mid ≡ was = ap (λ x. holds x mid) key ∙ these.0 ∙ sym old in
           let done = changes mid last a b here so_far.3 so_far.4 in
           let same : set k v mid ≡ set e.0 (at e.0) mid = ap (λ x. set x v mid) key ∙ ap (λ y. set e.0 y mid) (value ∙ ap at key) in
-          (set e.0 (at e.0) mid, these.1, subst (λ l. with_each set at l mid ≡ with_each set at all now) is so_far.2, subst (λ c. Stands form g next c last a b) same done.0, done.1)
+          (set e.0 (at e.0) mid, these.1, subst (λ l. with_each set at l mid ≡ with_each set at all now) is so_far.2, subst (λ c. HasContents form g next c last a b) same done.0, done.1)
 
     pub all_put : (h : Held S) (left : List (K × Option W)) → left ≡ [] → IsPut h left → Changes g first h (AreThere set at holds rows all) (with_each set at all)
     all_put h left none put now last a b there stands inside =
         let end = put now last a b there stands inside in
         let same : end.0 ≡ with_each set at all now = sym (ap (λ l. with_each set at l end.0) none) ∙ end.2 in
-        (subst (λ c. Stands form g h c last a b) same end.3, end.4)
+        (subst (λ c. HasContents form g h c last a b) same end.3, end.4)
 
     pub not_put : (h next : Held S) (left : List (K × Option W)) → IsPut h left → GivesUp g h next → GivesUpIf g first next (AreThere set at holds rows all)
     not_put h next left put fails now last a b there stands inside =

@@ -2,7 +2,7 @@
 
 ghost use Rattle.std.specs.Prelude.{◌≡◌, OnOk, OnErr};
 ghost use Rattle.bsp_store_load.specs.Content.{form};
-ghost use Rattle.bsp_store_load.specs.Kept.{Falls};
+ghost use Rattle.bsp_store_load.specs.Kept.{HasCommitted};
 ghost use Rattle.bsp_store_load.specs.Calls.{Changes, GivesUpIf, IsKept};
 ghost use Rattle.bsp_store_load.specs.Contents.{content_before, content_now};
 ghost use Rattle.bsp_store_save.specs.Saving.{HasCallers, HasDocuments, with_callers, with_documents};
@@ -69,7 +69,7 @@ fn save_tables<S: Alter>(
 /// keep.
 pub fn save<S: Alter>(alloc: Global, conn: &mut Connection<S>, tables: &Tables) -> Result<(), Error>
     ensures ok { OnOk result (IsKept S.Store conn.old (content_before tables.now) → IsKept S.Store conn.new (content_now tables.now)) }
-    ensures err { OnErr result (IsKept S.Store conn.old (content_before tables.now) → Falls form S.Store conn.new (content_before tables.now) (content_before tables.now) (content_now tables.now)) }
+    ensures err { OnErr result (IsKept S.Store conn.old (content_before tables.now) → HasCommitted form S.Store conn.new (content_before tables.now) (content_before tables.now) (content_now tables.now)) }
 {
     open_transaction(conn)?;
     save_tables(alloc, conn, tables)?;

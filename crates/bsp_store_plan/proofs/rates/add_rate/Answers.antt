@@ -1,13 +1,14 @@
 use Rattle.std.proofs.Common.{◌∙◌}
-use Rattle.bsp_store_plan.proofs.RateTable.{adding}
+use Rattle.bsp_store_plan.proofs.PlacedTables.{adding}
+use Rattle.bsp_store_plan.proofs.RateTable.{add_is, add_text, rates_list}
 use Rattle.bsp_store_plan.proofs.rates.add_rate.Goals as goal
 
 pub returns-clause-ok : goal.returns-clause-ok
 returns-clause-ok g c =
     let is = c.values.ensures ∙ c.of-row.ensures in
-    (adding g.S.Store c.args.conn.now c.execute.new.self c.args.place c.args.rate.now c.execute.result (rw is at c.execute.ensures.survives) (λ clean. rw is at (c.execute.ensures.runs clean))).0
+    (adding rates_list g.S.Store c.args.conn.now c.execute.new.self add_text add_is.0 add_is.1 c.args.place c.args.rate.now c.execute.result (rw is at c.execute.ensures.survives) (λ clean. rw is at (c.execute.ensures.runs clean))).0
 
 pub returns-clause-err : goal.returns-clause-err
 returns-clause-err g c =
     let is = c.values.ensures ∙ c.of-row.ensures in
-    (adding g.S.Store c.args.conn.now c.execute.new.self c.args.place c.args.rate.now c.execute.result (rw is at c.execute.ensures.survives) (λ clean. rw is at (c.execute.ensures.runs clean))).1
+    (adding rates_list g.S.Store c.args.conn.now c.execute.new.self add_text add_is.0 add_is.1 c.args.place c.args.rate.now c.execute.result (rw is at c.execute.ensures.survives) (λ clean. rw is at (c.execute.ensures.runs clean))).1

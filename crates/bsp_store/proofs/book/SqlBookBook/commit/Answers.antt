@@ -2,7 +2,7 @@ use Rattle.std.proofs.Common.{sym, subst}
 use Rattle.bsp_store_save.specs.Tables.{Tables}
 use Rattle.bsp_store_save.specs.Content.{form}
 use Rattle.bsp_store_save.specs.Contents.{content_before, content_now}
-use Rattle.bsp_store_save.specs.Kept.{Falls}
+use Rattle.bsp_store_save.specs.Kept.{HasCommitted}
 use Rattle.bsp_store_save.specs.Calls.{IsKept}
 use Rattle.bsp_store.proofs.CommitLemmas.{giving_up, keeping}
 use Rattle.bsp_store.proofs.book.SqlBookBook.commit.Goals as goal
@@ -19,5 +19,5 @@ returns-in-Ok-clause-fault g c =
 
 pub returns-in-Err-clause-fault : goal.returns-in-Err-clause-fault
 returns-in-Err-clause-fault g c =
-    let fell = subst (λ (t : Tables). IsKept g.S.Store c.args.self.now.conn (content_before t) → Falls form g.S.Store c.save.new.conn (content_before t) (content_before t) (content_now t)) c.tables.ensures c.in-Err.ensures.err in
+    let fell = subst (λ (t : Tables). IsKept g.S.Store c.args.self.now.conn (content_before t) → HasCommitted form g.S.Store c.save.new.conn (content_before t) (content_before t) (content_now t)) c.tables.ensures c.in-Err.ensures.err in
     giving_up g.S.Store c.args.self.now c.give_up.new.self c.save.new.conn fell c.give_up.result c.if-self.false c.give_up.ensures.full c.give_up.ensures.failed c.give_up.ensures.stop
