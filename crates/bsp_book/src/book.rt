@@ -17,9 +17,9 @@ use bsp_rows::{
 
 /// The rows of all callers, however they are kept, and the published plan.
 ///
-/// Look-ups and writes are made in an open transaction; `begin` opens one, `commit` keeps what it wrote and
-/// `roll_back` undoes it. A call that finds no room undoes what the open transaction wrote, and none is open
-/// then. From its first `Failed` on a book answers `Failed` to each call.
+/// Look-ups are made in an open transaction or outside, and writes in an open one; `begin` opens one, `commit` keeps
+/// what it wrote and `roll_back` undoes it. A call that finds no room undoes what the open transaction wrote, and none
+/// is open then. From its first `Failed` on a book answers `Failed` to each call.
 ///
 /// A look-up by a key takes time that grows with the rows that it gives, and with the logarithm of
 /// the rows of the book. Those that read more say so.

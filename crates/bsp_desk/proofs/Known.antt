@@ -80,7 +80,7 @@ pub serves_as : {B : Type 0} (m : Meaning B Rows) (old mid new : B) (answer othe
     → Serves m mid new result answer next → Serves m old new result other left
 serves_as m old mid new answer other next left (Ok message) trust keeps same served = λ t now last sound h.
     let e = same (trust t) now last h in
-    let s = served t now last sound (keeps now last h) in
+    let s = served t now last sound (keeps now (Some last) h) in
     (subst (λ (a : Answer). Says a message) (sym e.0) s.0, subst (λ (rows : Rows). m.holds new rows (Some last)) (sym e.1) s.1)
 serves_as m old mid new answer other next left (Err fault) trust keeps same served = tt
 
@@ -91,4 +91,4 @@ pub forbids : {B : Type 0} (m : Meaning B Rows) (old new : B) (asked : Asked) (a
 forbids m old new asked answer keeps is = λ t now last sound h.
     let e = is t now last h in
     let stays : asked_after asked (answer now) now ≡ now = ap (λ (a : Answer). asked_after asked a now) e ∙ unchanged now (record { token = None; asked = asked }) (Refused Forbidden) refl refl in
-    (subst (λ (a : Answer). Says a (message.Refused Forbidden)) (sym e) refl, subst (λ (rows : Rows). m.holds new rows (Some last)) (sym stays) (keeps now last h))
+    (subst (λ (a : Answer). Says a (message.Refused Forbidden)) (sym e) refl, subst (λ (rows : Rows). m.holds new rows (Some last)) (sym stays) (keeps now (Some last) h))

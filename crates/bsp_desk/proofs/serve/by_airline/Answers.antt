@@ -1,4 +1,4 @@
-use Rattle.std.proofs.Common.{◌∙◌, sym, []}
+use Rattle.std.proofs.Common.{◌∙◌, sym, [], Some}
 use Rattle.bsp_desk_base.specs.After.{airline_after}
 use Rattle.bsp_desk_base.specs.AirlineLedger.{airline_answer, airline_ledger_of}
 use Rattle.bsp_desk_base.specs.Requests.Asked.{ByAirline}
@@ -14,5 +14,5 @@ returns-in-Some-clause-served g c = λ request is.
     let code = c.args.code.now in
     serves_as g.B.Book.means c.args.book.now c.known_airline.new.book c.serve_airline.new.book (λ rows. airline_answer airline (airline_ledger_of airline rows) request) (asked_answer [] given (ByAirline code request)) (airline_after airline request) (λ rows. asked_after (ByAirline code request) (asked_answer [] given (ByAirline code request) rows) rows) c.serve_airline.result
     c.serve_airline.ensures.fault.trust c.in_ok-airline.ensures.ok
-    (λ t now last h. let e = sym (c.in_ok-airline.ensures.found t now last h) ∙ c.in-Some.is in (airline_answered given code request now airline e, airline_next given code request now airline e))
+    (λ t now last h. let e = sym (c.in_ok-airline.ensures.found t now (Some last) h) ∙ c.in-Some.is in (airline_answered given code request now airline e, airline_next given code request now airline e))
     (c.serve_airline.ensures.served request is)

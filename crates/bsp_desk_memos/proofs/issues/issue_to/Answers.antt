@@ -15,9 +15,9 @@ use Rattle.bsp_desk_memos.proofs.issues.issue_to.Goals as goal
 
 pub returns-then-is_none-clause-served : goal.returns-then-is_none-clause-served
 returns-then-is_none-clause-served g c = λ trust now last s h.
-    let unknown = sym (ap is_some (c.in_ok-agent_token.ensures.found trust now last h)) ∙ c.if-is_none.ensures in
+    let unknown = sym (ap is_some (c.in_ok-agent_token.ensures.found trust now (Some last) h)) ∙ c.if-is_none.ensures in
     refuses g.B.Book.means c.agent_token.new.self c.args.airline c.args.agent c.args.issue.now now last AgentNotRegistered
-    (not_registered c.args.airline c.args.agent c.args.issue.now now unknown) (c.in_ok-agent_token.ensures.ok now last h)
+    (not_registered c.args.airline c.args.agent c.args.issue.now now unknown) (c.in_ok-agent_token.ensures.ok now (Some last) h)
 
 pub returns-in-Ok-clause-served : goal.returns-in-Ok-clause-served
 returns-in-Ok-clause-served g c =
@@ -27,7 +27,7 @@ returns-in-Ok-clause-served g c =
     subst (λ (z : ℤ). ◌≡◌ {A = Result MemoFields MemoFault} (Ok c.in-Ok.memo) (cond (not (is_amount z)) (Err AmountOutOfRange) (Ok (issued_memo c.args.airline issue.document c.args.agent issue.kind z issue.reason c.day-day.result)))) (to_z-of_z w64 issue.amount fits) c.in-Ok.ensures in
     let made = made_of (is_amount issue.amount) _ c.in-Ok.memo told in
     issues g.B.Book.means c.args.book.now c.agent_token.new.self c.place.new.book c.place.result c.args.airline c.args.agent issue c.in-Ok.memo
-    c.place.ensures.fault.trust (λ trust now last h. sym (ap is_some (c.in_ok-agent_token.ensures.found trust now last h)) ∙ c.if-is_none.ensures) c.in_ok-agent_token.ensures.ok made.0
+    c.place.ensures.fault.trust (λ trust now last h. sym (ap is_some (c.in_ok-agent_token.ensures.found trust now (Some last) h)) ∙ c.if-is_none.ensures) c.in_ok-agent_token.ensures.ok made.0
     (λ trust now last h.
     let day = c.day-day.ensures ∙ ap (λ (p : Published). p.day) (c.plan.ensures trust now (Some last) h) in
     made.1 ∙ ap (λ (d : CivilDay). issued_memo c.args.airline issue.document c.args.agent issue.kind issue.amount issue.reason d) day)
@@ -44,6 +44,6 @@ returns-in-Err-clause-served g c = λ trust now last s h.
     let told : Err c.in-Err.fault ≡ cond (not (is_amount issue.amount)) (Err AmountOutOfRange) (Ok (issued_memo c.args.airline issue.document c.args.agent issue.kind issue.amount issue.reason c.day-day.result)) =
     subst (λ (z : ℤ). ◌≡◌ {A = Result MemoFields MemoFault} (Err c.in-Err.fault) (cond (not (is_amount z)) (Err AmountOutOfRange) (Ok (issued_memo c.args.airline issue.document c.args.agent issue.kind z issue.reason c.day-day.result)))) (to_z-of_z w64 issue.amount fits) c.in-Err.ensures in
     let refused = refused_of (is_amount issue.amount) _ c.in-Err.fault told in
-    let known = sym (ap is_some (c.in_ok-agent_token.ensures.found trust now last h)) ∙ c.if-is_none.ensures in
+    let known = sym (ap is_some (c.in_ok-agent_token.ensures.found trust now (Some last) h)) ∙ c.if-is_none.ensures in
     refuses g.B.Book.means c.agent_token.new.self c.args.airline c.args.agent issue now last c.in-Err.fault
-    (out_of_range c.args.airline c.args.agent issue now known refused.0 ∙ ap (λ (f : MemoFault). Refused (refusal.Memo f)) (sym refused.1)) (c.in_ok-agent_token.ensures.ok now last h)
+    (out_of_range c.args.airline c.args.agent issue now known refused.0 ∙ ap (λ (f : MemoFault). Refused (refusal.Memo f)) (sym refused.1)) (c.in_ok-agent_token.ensures.ok now (Some last) h)

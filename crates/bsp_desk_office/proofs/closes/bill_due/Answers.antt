@@ -16,9 +16,9 @@ loop-memo-init g c =
       trust = look.fault.trust;
       works = search rules;
       billed = λ t now last s h.
-          let kept = look.ok now last h in
+          let kept = look.ok now (Some last) h in
           begun m now last c.review_days-review_days.result c.args.period c.day-day.result c.memos.new.self c.deref-memo-items.result.now s
-          (c.deref-memo-items.ensures.value ∙ look.found t now last h)
+          (c.deref-memo-items.ensures.value ∙ look.found t now (Some last) h)
           (c.day-day.ensures ∙ ap (λ p. p.day) (c.plan.ensures t now (Some last) kept))
           (c.review_days-review_days.ensures ∙ ap review_of (c.terms.ensures ∙ ap (λ p. p.terms) (c.plan-2.ensures t now (Some last) kept)))
           kept;

@@ -16,8 +16,8 @@ shown_as item state = record { item = item; state = state }
 pub returns-in-Some-clause-served : goal.returns-in-Some-clause-served
 returns-in-Some-clause-served g c = λ trust now last sound h.
     let number = c.in-Ok.document in
-    let kept = c.in_ok-items.ensures.ok now last h in
-    let items = c.deref.ensures.value ∙ c.in_ok-items.ensures.found trust now last h in
+    let kept = c.in_ok-items.ensures.ok now (Some last) h in
+    let items = c.deref.ensures.value ∙ c.in_ok-items.ensures.found trust now (Some last) h in
     let item = c.in-Some.item in
     let state = ap (λ (s : DocumentState). shown_as item s) (c.state_of-state.ensures ∙ ap (λ (xs : List Item). state_of xs item) (c.deref-in-Some.ensures.value ∙ sym c.deref.ensures.value)) in (
       document_says now sound c.args.agent number (check_digit_of number) c.digits.result c.digits.ensures.reads_back c.args.number.now (ap result_ok c.in-Ok.ensures.value) c.deref.result.now items item c.in-Some.ensures (shown_as item c.state_of-state.result) state,
@@ -27,8 +27,8 @@ returns-in-Some-clause-served g c = λ trust now last sound h.
 pub returns-clause-served : goal.returns-clause-served
 returns-clause-served g c = λ trust now last sound h.
     let number = c.in-Ok.document in
-    let kept = c.in_ok-items.ensures.ok now last h in
-    let items = c.deref.ensures.value ∙ c.in_ok-items.ensures.found trust now last h in (
+    let kept = c.in_ok-items.ensures.ok now (Some last) h in
+    let items = c.deref.ensures.value ∙ c.in_ok-items.ensures.found trust now (Some last) h in (
       no_document now sound c.args.agent number (check_digit_of number) c.digits.result c.digits.ensures.reads_back c.args.number.now (ap result_ok c.in-Ok.ensures.value) c.deref.result.now items c.in-None.ensures,
       subst (λ (rows : Rows). g.B.Book.means.holds c.items.new.self rows (Some last)) (sym (same_rows _ now)) kept,
     )

@@ -12,8 +12,8 @@ use Rattle.bsp_desk_reports.proofs.settlements.settlement.Goals as goal
 pub returns-in-Ok-settlement_of-clause-served : goal.returns-in-Ok-settlement_of-clause-served
 returns-in-Ok-settlement_of-clause-served g c = λ trust now last sound h.
     let code = c.in-Ok.code in
-    let kept = c.in_ok-tallies.ensures.ok now last h in
-    let found = c.in_ok-tallies.ensures.found trust now last h in
+    let kept = c.in_ok-tallies.ensures.ok now (Some last) h in
+    let found = c.in_ok-tallies.ensures.found trust now (Some last) h in
     let plan = c.plan-2.ensures trust now (Some last) kept in
     let items = asked_items (In code) now in
     let memos = asked_memos (In code) now in

@@ -13,8 +13,8 @@ pub returns-in-Ok-statement_of-clause-served : goal.returns-in-Ok-statement_of-c
 returns-in-Ok-statement_of-clause-served g c = λ trust now last sound h.
     let code = c.in-Ok.code in
     let agent = c.args.agent in
-    let kept = c.in_ok-tallies.ensures.ok now last h in
-    let found = c.in_ok-tallies.ensures.found trust now last h in
+    let kept = c.in_ok-tallies.ensures.ok now (Some last) h in
+    let found = c.in_ok-tallies.ensures.found trust now (Some last) h in
     let plan = c.plan-2.ensures trust now (Some last) kept in
     let items = asked_items (OfAgentIn agent code) now in
     let memos = asked_memos (OfAgentIn agent code) now in
