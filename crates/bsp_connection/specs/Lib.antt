@@ -1,6 +1,7 @@
 -- What the contracts of a connection cite.
 pub mod Bodies
 pub mod Exchanges
+pub mod Taken
 pub mod Arrivals
 pub mod Responding
 pub mod Ends

@@ -1,8 +1,8 @@
 //! Waiting for a head.
 
-ghost use Rattle.std.specs.Prelude.{◌≡◌, ℕ, ◌+◌, ◌<◌, ◌≤◌, true, false, List, ◌++◌, length, Ok, None, IfOk, OnErr};
+ghost use Rattle.std.specs.Prelude.{◌≡◌, ℕ, ◌+◌, ◌<◌, ◌≤◌, true, false, List, ◌++◌, length, take, Ok, None, IfOk, OnErr};
 ghost use Rattle.std.specs.Io.KnownBytes.{Consumes, IsAtEnd, Keeps};
-ghost use Rattle.bsp_heads.specs.Scan.{head_len};
+ghost use Rattle.bsp_heads.specs.Scan.{HasScanned, head_len};
 ghost use Rattle.bsp_connection.specs.Arrivals.{HasArrived};
 ghost use Rattle.bsp_connection.specs.Noted.{empty_reads, failed_by};
 ghost use Rattle.bsp_connection.specs.Reads.{most_empty_of_head};
@@ -14,7 +14,7 @@ use bsp_heads::Scan;
 use std::io::{Read, Write};
 
 /// What came while a head was waited for.
-#[derive(Clone, Copy, Debug, PartialEq, Eq)]
+#[derive(Clone, Copy)]
 pub(crate) enum Arrived {
     /// A head of so many bytes.
     Head(usize),
@@ -42,6 +42,20 @@ fn receive<R: Read, W: Write>(
     received.fill(reader)
 }
 
+/// Goes on with the search for the end of a head, in the bytes behind those that it has seen. Answers how many bytes
+/// the head has.
+fn search_on(scan: &mut Scan, received: &Received, seen: usize) -> Option<usize>
+    requires within { seen ≤ length received.now }
+    requires seen { HasScanned (take seen received.now) scan.old }
+    ensures found { result ≡ head_len received.now }
+    ensures scanned { result ≡ None → HasScanned received.now scan.new }
+{
+    let Some(more) = scan.go_on(&received.bytes()[seen..]) else {
+        return None;
+    };
+    Some(seen + more)
+}
+
 /// Reads until a head is received, no more can be received, or the input ends. Each byte is looked at once. Before
 /// the peer is waited for, it is sent what the writer holds back.
 pub(crate) fn await_head<R: Read, W: Write>(
@@ -63,15 +77,18 @@ pub(crate) fn await_head<R: Read, W: Write>(
     let mut seen = 0;
     'wait: loop {
         let held = received.len();
-        if let Some(more) = scan.go_on(&received.bytes()[seen..]) {
-            return Ok(Arrived::Head(seen + more));
+        if let Some(len) = search_on(&mut scan, received, seen) {
+            return Ok(Arrived::Head(len));
         }
         seen = held;
         if received.is_full() {
             return Ok(Arrived::TooLong);
         }
         send_on(writer);
-        if receive(reader, writer, received)? == 0 {
+        let Ok(count) = receive(reader, writer, received) else {
+            return Err(ReadFault);
+        };
+        if count == 0 {
             return Ok(Arrived::Ended);
         }
     }

@@ -1,10 +1,11 @@
 //! Reading the body of a message, and asking the service.
 
-ghost use Rattle.std.specs.Prelude.{◌≡◌, ℕ, ◌+◌, ◌<◌, ◌≤◌, List, length, Err, IfOk, OnErr};
+ghost use Rattle.std.specs.Prelude.{◌≡◌, ◌≢◌, ℕ, ◌+◌, ◌<◌, ◌≤◌, List, length, Err, IfOk, OnErr};
 ghost use Rattle.std.specs.Io.KnownBytes.{Consumes, IsAtEnd};
 ghost use Rattle.bsp_connection.specs.Bodies.{HasRet};
+ghost use Rattle.bsp_connection.specs.Taken.{HasBody, IsRead};
 ghost use Rattle.bsp_connection.specs.Arrivals.{IsAsked};
-ghost use Rattle.bsp_connection.specs.Exchanges.{answer_text, request_of};
+ghost use Rattle.bsp_connection.specs.Exchanges.{answer_text, request_of, used};
 ghost use Rattle.bsp_connection.specs.Reads.{failed_by_body, most_empty_of_body};
 
 use crate::noted::Noted;
@@ -25,67 +26,31 @@ pub(crate) struct Place<'r> {
     pub(crate) body: usize,
 }
 
-/// Drops the body, and asks the service.
-fn ask_ignoring<R: Read, D, S: Service<D>>(
+/// Reads the body of a message, as it is used. Answers how many bytes of it were received before.
+fn read_body<R: Read>(
     reader: &mut Noted<R>,
     place: Place<'_>,
     bodies: &mut Bodies,
-    service: &S,
-    desk: &mut D,
-    message: &Message<'_>,
-    found: S::Found,
-) -> Result<(usize, Answer), Short>
-    requires finds { S.finds message.now.method.now message.now.target.now found }
-    requires within { place.head ≤ length place.received.now }
-    requires use_is { S.means.uses message.now.method.now message.now.target.now BodyUse.Ignored }
-    ensures asked { (got : List ℕ) × Consumes (R.remaining reader.old.inner) (R.remaining reader.new.inner) got
-        × IsAsked S.means message.now place.entry.head place.entry.body place.entry.received.now got desk.old desk.new result }
+    kind: BodyUse,
+) -> Result<usize, Short>
+    requires { place.head ≤ length place.received.now }
+    ensures read { (got : List ℕ) × Consumes (R.remaining reader.old.inner) (R.remaining reader.new.inner) got
+        × IsRead kind place.entry.head place.entry.body place.entry.received.now got bodies.new result }
     ensures end { result ≡ Err Short.Cut → IsAtEnd (R.remaining reader.new.inner) }
     ensures failed { reader.new.failed ≡ failed_by_body reader.old.failed result }
     ensures empty { reader.new.empty ≤ reader.old.empty + most_empty_of_body result }
 {
-    let have = pass(
-        reader,
-        place.received,
-        place.head,
-        place.body,
-        &mut bodies.chunk,
-        &mut IgnoredBody,
-    )?;
-    Ok((have, service.answer(desk, message, found, b"")))
-}
-
-/// Keeps the body whole, and asks the service.
-fn ask_keeping<R: Read, D, S: Service<D>>(
-    reader: &mut Noted<R>,
-    place: Place<'_>,
-    bodies: &mut Bodies,
-    service: &S,
-    desk: &mut D,
-    message: &Message<'_>,
-    found: S::Found,
-) -> Result<(usize, Answer), Short>
-    requires finds { S.finds message.now.method.now message.now.target.now found }
-    requires within { place.head ≤ length place.received.now }
-    requires use_is { S.means.uses message.now.method.now message.now.target.now BodyUse.Kept }
-    ensures asked { (got : List ℕ) × Consumes (R.remaining reader.old.inner) (R.remaining reader.new.inner) got
-        × IsAsked S.means message.now place.entry.head place.entry.body place.entry.received.now got desk.old desk.new result }
-    ensures end { result ≡ Err Short.Cut → IsAtEnd (R.remaining reader.new.inner) }
-    ensures failed { reader.new.failed ≡ failed_by_body reader.old.failed result }
-    ensures empty { reader.new.empty ≤ reader.old.empty + most_empty_of_body result }
-{
-    let have = pass(
-        reader,
-        place.received,
-        place.head,
-        place.body,
-        &mut bodies.chunk,
-        &mut bodies.kept,
-    )?;
-    Ok((
-        have,
-        service.answer(desk, message, found, bodies.kept.bytes()),
-    ))
+    let Place {
+        received,
+        head,
+        body,
+    } = place;
+    let chunk = &mut bodies.chunk;
+    match kind {
+        BodyUse::Ignored => pass(reader, received, head, body, chunk, &mut IgnoredBody),
+        BodyUse::Kept => pass(reader, received, head, body, chunk, &mut bodies.kept),
+        BodyUse::RetFile => pass(reader, received, head, body, chunk, &mut bodies.file),
+    }
 }
 
 /// Asks the service with the RET file that the body is, or its first fault.
@@ -114,36 +79,28 @@ fn answer_read<D, S: Service<D>>(
     }
 }
 
-/// Reads the body as a RET file, and asks the service.
-fn ask_reading<R: Read, D, S: Service<D>>(
-    reader: &mut Noted<R>,
-    place: Place<'_>,
+/// Asks the service with the body that was read.
+///
+/// # Errors
+///
+/// `NoRoom` where there was no memory for the file that the body is. The desk is then as it was.
+fn answer_body<D, S: Service<D>>(
     bodies: &mut Bodies,
+    kind: BodyUse,
     service: &S,
     desk: &mut D,
     message: &Message<'_>,
     found: S::Found,
-) -> Result<(usize, Answer), Short>
+) -> Result<Answer, NoRoom>
     requires finds { S.finds message.now.method.now message.now.target.now found }
-    requires within { place.head ≤ length place.received.now }
-    requires use_is { S.means.uses message.now.method.now message.now.target.now BodyUse.RetFile }
-    ensures asked { (got : List ℕ) × Consumes (R.remaining reader.old.inner) (R.remaining reader.new.inner) got
-        × IsAsked S.means message.now place.entry.head place.entry.body place.entry.received.now got desk.old desk.new result }
-    ensures end { result ≡ Err Short.Cut → IsAtEnd (R.remaining reader.new.inner) }
-    ensures failed { reader.new.failed ≡ failed_by_body reader.old.failed result }
-    ensures empty { reader.new.empty ≤ reader.old.empty + most_empty_of_body result }
+    requires use_is { S.means.uses message.now.method.now message.now.target.now kind }
+    ensures answered { IfOk result (λ answer. (bytes : List ℕ) → HasBody kind bodies.old bytes → S.means.steps desk.old (request_of message.now (used kind bytes)) (answer_text answer) desk.new) }
+    ensures refused { OnErr result ((desk.new ≡ desk.old) × (kind ≢ BodyUse.Ignored) × ((bytes : List ℕ) → HasBody kind bodies.old bytes → 0 < length bytes)) }
 {
-    let have = pass(
-        reader,
-        place.received,
-        place.head,
-        place.body,
-        &mut bodies.chunk,
-        &mut bodies.file,
-    )?;
-    match answer_read(&mut bodies.file, service, desk, message, found) {
-        Ok(answer) => Ok((have, answer)),
-        Err(_) => Err(Short::NoRoom),
+    match kind {
+        BodyUse::Ignored => Ok(service.answer(desk, message, found, b"")),
+        BodyUse::Kept => Ok(service.answer(desk, message, found, bodies.kept.bytes())),
+        BodyUse::RetFile => answer_read(&mut bodies.file, service, desk, message, found),
     }
 }
 
@@ -169,9 +126,13 @@ pub(crate) fn ask<R: Read, D, S: Service<D>>(
     ensures empty { reader.new.empty ≤ reader.old.empty + most_empty_of_body result }
 {
     let found = service.find(message.method, message.target);
-    match service.body_use(message, found) {
-        BodyUse::Ignored => ask_ignoring(reader, place, bodies, service, desk, message, found),
-        BodyUse::Kept => ask_keeping(reader, place, bodies, service, desk, message, found),
-        BodyUse::RetFile => ask_reading(reader, place, bodies, service, desk, message, found),
+    let kind = service.body_use(message, found);
+    let have = match read_body(reader, place, bodies, kind) {
+        Ok(have) => have,
+        Err(short) => return Err(short),
+    };
+    match answer_body(bodies, kind, service, desk, message, found) {
+        Ok(answer) => Ok((have, answer)),
+        Err(_) => Err(Short::NoRoom),
     }
 }

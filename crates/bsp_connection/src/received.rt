@@ -1,6 +1,6 @@
 //! A buffer with a position, and one read from the peer.
 
-ghost use Rattle.std.specs.Prelude.{◌≡◌, ℕ, ◌+◌, ◌<◌, ◌≤◌, ◌==◌, List, [], ◌++◌, length, take, drop, IfOk, OnOk, OnErr, vec_len};
+ghost use Rattle.std.specs.Prelude.{◌≡◌, ℕ, ◌+◌, ◌-◌, ◌<◌, ◌≤◌, ◌==◌, List, [], ◌++◌, length, take, drop, IfOk, OnOk, OnErr, vec_len};
 ghost use Rattle.std.specs.Io.KnownBytes.{Consumes, Keeps, IsAtEnd};
 ghost use Rattle.bsp_connection.specs.Noted.{empty_reads, failed_by};
 
@@ -97,14 +97,12 @@ impl Received {
         ensures failed { reader.new.failed ≡ failed_by reader.old.failed result }
         ensures empty { reader.new.empty ≡ empty_reads reader.old.empty result }
     {
-        if self.end == CAPACITY {
-            self.room
-                .as_mut_slice()
-                .copy_within(self.start..self.end, 0);
-            self.end -= self.start;
-            self.start = 0;
-        }
-        let count = read_from(reader, self.room.as_mut_slice(), self.end)?;
+        let (start, end) = make_room(self.room.as_mut_slice(), self.start, self.end);
+        self.start = start;
+        self.end = end;
+        let Ok(count) = read_from(reader, self.room.as_mut_slice(), self.end) else {
+            return Err(ReadFault);
+        };
         self.end += count;
         Ok(count)
     }
@@ -120,6 +118,24 @@ impl Received {
             self.end = 0;
         }
     }
+}
+
+/// Makes room behind the bytes between two places: where there is none, they are moved to the front. Answers the places
+/// between which they are then.
+fn make_room(room: &mut [u8], start: usize, end: usize) -> (usize, usize)
+    requires order { start ≤ end }
+    requires within { end ≤ length room.old }
+    requires few { end - start < length room.old }
+    ensures len { length room.new ≡ length room.old }
+    ensures same { drop result.0 (take result.1 room.new) ≡ drop start (take end room.old) }
+    ensures order { result.0 ≤ result.1 }
+    ensures space { result.1 < length room.new }
+{
+    if end < room.len() {
+        return (start, end);
+    }
+    room.copy_within(start..end, 0);
+    (0, end - start)
 }
 
 /// Reads once, into the room from a place on, and answers how many bytes came. `Ok(0)` where there was room is

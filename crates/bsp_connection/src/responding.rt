@@ -25,19 +25,24 @@ fn behind(closes: bool, written: Result<(), WriteFault>) -> Result<Option<End>, 
     }
 }
 
-/// Answers a message. `bare`: the response leaves its body out.
-pub(crate) fn respond<W: Write>(
+/// Answers a message, of whose reply the service takes note. `bare`: the response leaves its body out.
+pub(crate) fn respond<W: Write, D, S: Service<D>>(
     writer: &mut Noted<W>,
-    answer: &Answer,
+    service: &S,
+    desk: &D,
+    message: &Message<'_>,
+    answer: Answer,
     bare: bool,
     closes: bool,
 ) -> Result<Option<End>, ServeFault>
-    ensures responded { IsResponded (W.contents writer.old.inner) (W.contents writer.new.inner) (response bare closes (answer_text answer.now)) closes result }
+    ensures responded { IsResponded (W.contents writer.old.inner) (W.contents writer.new.inner) (response bare closes (answer_text answer)) closes result }
     ensures cause { result ≡ Err ServeFault.Write → writer.new.failed ≡ true }
     ensures noted { writer.old.failed ≡ true → writer.new.failed ≡ true }
     ensures failed { (before : Bool) → failed_by_reads before result ≡ before }
 {
-    let written = send_response(writer, answer.reply(), bare, closes);
+    let reply = answer.reply();
+    service.note(desk, Some(message), &reply);
+    let written = send_response(writer, reply, bare, closes);
     behind(closes, written)
 }
 
@@ -80,8 +85,7 @@ pub(crate) fn stop<W: Write, D, S: Service<D>>(
         Short::Read => Err(ServeFault::Read),
         Short::NoRoom => {
             let answer = service.no_room();
-            service.note(desk, Some(message), &answer.reply());
-            respond(writer, &answer, bare, true)
+            respond(writer, service, desk, message, answer, bare, true)
         }
     }
 }

@@ -98,10 +98,10 @@ fn answer_message<R: Read, W: Write, D, S: Service<D>>(
         Ok(asked) => asked,
         Err(short) => return stop(short, writer, service, desk, &message, wanted.bare),
     };
-    service.note(desk, Some(&message), &answer.reply());
-    room.received.skip(head + have);
     let closes = closes_behind(wanted.closes, count);
-    respond(writer, &answer, wanted.bare, closes)
+    let end = respond(writer, service, desk, &message, answer, wanted.bare, closes);
+    room.received.skip(head + have);
+    end
 }
 
 /// Where a body is waited for, sends the peer what the writer holds back.

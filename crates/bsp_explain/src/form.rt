@@ -1,61 +1,74 @@
 //! The form that a field has to have.
 
 ghost use Rattle.std.specs.Prelude.{◌≡◌, length, true};
-ghost use Rattle.bsp_explain.specs.Fields.{fits, takes_width};
+ghost use Rattle.bsp_explain.specs.Fields.{fits, is_document_code, is_form_of_payment, is_transaction_code, takes_width};
 
 use bsp_records::{
     all_digits, all_letters, all_letters_or_digits, all_spaces, is_amount, is_record_day, is_total,
     spells_at_most, tax_code,
 };
-use thiserror::Error;
+use std::error::Error;
+use std::fmt;
 
 /// The form that the characters of a field have to have. It is displayed as what is wrong with a field
-/// that is not in it, by the text beside it here.
-#[derive(Clone, Copy, Debug, Error)]
+/// that is not in it.
+#[derive(Clone, Copy, Debug)]
 pub enum Form {
     /// `1`, the identifier of a header.
-    #[error("is not `1`")]
     HeaderMark,
     /// `001`, the profile of a RET file.
-    #[error("is not `001`")]
     Profile,
     /// `PROD`, of a file that is no test.
-    #[error("is not `PROD`")]
     Production,
     /// `PROD001`, of a HOT file.
-    #[error("is not `PROD001`")]
     ProductionProfile,
-    #[error("has a character that is not a letter from A to Z")]
+    /// Letters from A to Z.
     Letters,
-    #[error("has a character that is neither a digit nor a letter from A to Z")]
+    /// Digits, and letters from A to Z.
     LettersOrDigits,
-    #[error("has a character that is not a digit")]
+    /// Digits.
     Digits,
     /// Digits that write this number or less.
-    #[error("is not a number in digits up to {0}")]
     AtMost(u16),
-    #[error("is not a day YYMMDD of the years 2000 to 2099")]
+    /// A day YYMMDD of the years 2000 to 2099.
     Day,
     /// An amount, a signed zoned decimal of 11 characters.
-    #[error("is not a signed zoned decimal")]
     Amount,
     /// A total, a signed zoned decimal of 15 characters.
-    #[error("is not a signed zoned decimal")]
     Total,
-    #[error("is not TKTT, RFND or CANX")]
+    /// TKTT, RFND or CANX.
     TransactionCode,
-    #[error("is not TKTT, RFND, CANX, ADMA or ACMA")]
+    /// TKTT, RFND, CANX, ADMA or ACMA.
     DocumentCode,
-    #[error("is not CA, CC or EX")]
+    /// CA, CC or EX.
     FormOfPayment,
     /// Two characters that as a number are above this one: a tax code above the one before it.
-    #[error("has a code that is not above the one before it")]
     Above(u16),
-    #[error("has a character that is not a space")]
+    /// Spaces.
     Spaces,
     /// Spaces, in a tax place after an unused one.
-    #[error("is used after an unused one")]
     Unused,
+}
+
+/// Whether a text is the code of a transaction.
+fn is_transaction_code(text: &[u8]) -> bool
+    ensures { result ≡ is_transaction_code text.now }
+{
+    matches!(text, b"TKTT" | b"RFND" | b"CANX")
+}
+
+/// Whether a text is the code of a document or of a memo.
+fn is_document_code(text: &[u8]) -> bool
+    ensures { result ≡ is_document_code text.now }
+{
+    is_transaction_code(text) || text == b"ADMA".as_slice() || text == b"ACMA".as_slice()
+}
+
+/// Whether a text is a form of payment.
+fn is_form_of_payment(text: &[u8]) -> bool
+    ensures { result ≡ is_form_of_payment text.now }
+{
+    matches!(text, b"CA" | b"CC" | b"EX")
 }
 
 impl Form {
@@ -77,11 +90,47 @@ impl Form {
             Form::Day => is_record_day(text),
             Form::Amount => is_amount(text),
             Form::Total => is_total(text),
-            Form::TransactionCode => matches!(text, b"TKTT" | b"RFND" | b"CANX"),
-            Form::DocumentCode => matches!(text, b"TKTT" | b"RFND" | b"CANX" | b"ADMA" | b"ACMA"),
-            Form::FormOfPayment => matches!(text, b"CA" | b"CC" | b"EX"),
+            Form::TransactionCode => is_transaction_code(text),
+            Form::DocumentCode => is_document_code(text),
+            Form::FormOfPayment => is_form_of_payment(text),
             Form::Above(before) => before < tax_code(text),
             Form::Spaces | Form::Unused => all_spaces(text),
         }
     }
+
+    /// What is wrong with a field that is not in the form, without the number that it is up to.
+    fn text(self) -> &'static str {
+        match self {
+            Form::HeaderMark => "is not `1`",
+            Form::Profile => "is not `001`",
+            Form::Production => "is not `PROD`",
+            Form::ProductionProfile => "is not `PROD001`",
+            Form::Letters => "has a character that is not a letter from A to Z",
+            Form::LettersOrDigits =>
+                "has a character that is neither a digit nor a letter from A to Z",
+            Form::Digits => "has a character that is not a digit",
+            Form::AtMost(_) => "is not a number in digits up to",
+            Form::Day => "is not a day YYMMDD of the years 2000 to 2099",
+            Form::Amount => "is not a signed zoned decimal",
+            Form::Total => "is not a signed zoned decimal",
+            Form::TransactionCode => "is not TKTT, RFND or CANX",
+            Form::DocumentCode => "is not TKTT, RFND, CANX, ADMA or ACMA",
+            Form::FormOfPayment => "is not CA, CC or EX",
+            Form::Above(_) => "has a code that is not above the one before it",
+            Form::Spaces => "has a character that is not a space",
+            Form::Unused => "is used after an unused one",
+        }
+    }
 }
+
+impl fmt::Display for Form {
+    fn fmt<W: fmt::Write>(&self, f: &mut fmt::Formatter<W>) -> fmt::Result {
+        f.write_str(self.text())?;
+        match self {
+            Form::AtMost(most) => write!(f, " {most}"),
+            _ => Ok(()),
+        }
+    }
+}
+
+impl Error for Form {}

@@ -1,96 +1,167 @@
 //! The names of fields.
 
-use thiserror::Error;
+use std::error::Error;
+use std::fmt;
 
-/// What a field is. It is displayed as people name it, by the text beside it here.
-#[derive(Clone, Copy, Debug, Error)]
+/// What a field is. It is displayed as people name it.
+#[derive(Clone, Copy, Debug)]
 pub enum Name {
     /// The kind of a record of a RET file.
-    #[error("the identifier")]
     Identifier,
-    #[error("the profile")]
+    /// The profile.
     Profile,
-    #[error("the production status")]
+    /// The production status.
     Production,
     /// The system that wrote a RET file.
-    #[error("the system id")]
     SystemId,
     /// The day of a RET file.
-    #[error("the date")]
     Date,
-    #[error("the hour")]
+    /// The hour.
     Hours,
-    #[error("the minute")]
+    /// The minute.
     Minutes,
     /// The country of a RET file.
-    #[error("the country")]
     Country,
-    #[error("the file number")]
+    /// The file number.
     FileNumber,
     /// The code of a transaction.
-    #[error("the code")]
     TransactionCode,
-    #[error("the agent")]
+    /// The agent.
     Agent,
-    #[error("the airline")]
+    /// The airline.
     Airline,
-    #[error("the document")]
+    /// The document.
     Document,
-    #[error("the check digit")]
+    /// The check digit.
     CheckDigit,
-    #[error("the date of issue")]
+    /// The date of issue.
     DateOfIssue,
-    #[error("the fare")]
+    /// The fare.
     Fare,
     /// The tax place of that number, from 1 to 6.
-    #[error("tax place {0}")]
     TaxPlace(u8),
-    #[error("the code in tax place {0}")]
+    /// The code in the tax place of that number.
     TaxCode(u8),
-    #[error("the amount in tax place {0}")]
+    /// The amount in the tax place of that number.
     TaxAmount(u8),
-    #[error("the rate of commission")]
+    /// The rate of commission.
     Rate,
-    #[error("the commission")]
+    /// The commission.
     Commission,
-    #[error("the form of payment")]
+    /// The form of payment.
     FormOfPayment,
-    #[error("the amount")]
+    /// The amount.
     Amount,
-    #[error("the card vendor")]
+    /// The card vendor.
     CardVendor,
-    #[error("the number of records")]
+    /// The number of records.
     RecordCount,
-    #[error("the number of transactions")]
+    /// The number of transactions.
     TransactionCount,
-    #[error("the sum")]
+    /// The sum.
     Sum,
-    #[error("the period")]
+    /// The period.
     Period,
-    #[error("the first day")]
+    /// The first day.
     FirstDay,
-    #[error("the last day")]
+    /// The last day.
     LastDay,
-    #[error("the day of remittance")]
+    /// The day of remittance.
     RemittanceDay,
-    #[error("the currency")]
+    /// The currency.
     Currency,
-    #[error("the transaction number")]
+    /// The transaction number.
     TransactionNumber,
     /// The code of a document or a memo.
-    #[error("the code")]
     DocumentCode,
-    #[error("the number of documents")]
+    /// The number of documents.
     Documents,
-    #[error("the number of offices")]
+    /// The number of offices.
     Offices,
-    #[error("the total of cash")]
+    /// The total of cash.
     Cash,
-    #[error("the total of credit")]
+    /// The total of credit.
     Credit,
-    #[error("the net total")]
+    /// The net total.
     Net,
     /// Columns that no field uses.
-    #[error("the rest of the record")]
     Unused,
 }
+
+impl Name {
+    /// What people call the field, without the number of a tax place.
+    fn text(self) -> &'static str {
+        match self {
+            Name::Identifier => "the identifier",
+            Name::Profile => "the profile",
+            Name::Production => "the production status",
+            Name::SystemId => "the system id",
+            Name::Date => "the date",
+            Name::Hours => "the hour",
+            Name::Minutes => "the minute",
+            Name::Country => "the country",
+            Name::FileNumber => "the file number",
+            Name::TransactionCode => "the code",
+            Name::Agent => "the agent",
+            Name::Airline => "the airline",
+            Name::Document => "the document",
+            Name::CheckDigit => "the check digit",
+            Name::DateOfIssue => "the date of issue",
+            Name::Fare => "the fare",
+            Name::TaxPlace(_) => "tax place",
+            Name::TaxCode(_) => "the code in tax place",
+            Name::TaxAmount(_) => "the amount in tax place",
+            Name::Rate => "the rate of commission",
+            Name::Commission => "the commission",
+            Name::FormOfPayment => "the form of payment",
+            Name::Amount => "the amount",
+            Name::CardVendor => "the card vendor",
+            _ => self.text_in_totals(),
+        }
+    }
+
+    /// As `text`, of the fields of trailers and of a HOT file.
+    fn text_in_totals(self) -> &'static str {
+        match self {
+            Name::RecordCount => "the number of records",
+            Name::TransactionCount => "the number of transactions",
+            Name::Sum => "the sum",
+            Name::Period => "the period",
+            Name::FirstDay => "the first day",
+            Name::LastDay => "the last day",
+            Name::RemittanceDay => "the day of remittance",
+            Name::Currency => "the currency",
+            Name::TransactionNumber => "the transaction number",
+            Name::DocumentCode => "the code",
+            Name::Documents => "the number of documents",
+            Name::Offices => "the number of offices",
+            Name::Cash => "the total of cash",
+            Name::Credit => "the total of credit",
+            Name::Net => "the net total",
+            // (`Unused`: `text` names all others)
+            _ => "the rest of the record",
+        }
+    }
+
+    /// The number of the tax place that it is, or lies in.
+    fn tax_place(self) -> Option<u8> {
+        match self {
+            Name::TaxPlace(number) | Name::TaxCode(number) | Name::TaxAmount(number) => Some(
+                number,
+            ),
+            _ => None,
+        }
+    }
+}
+
+impl fmt::Display for Name {
+    fn fmt<W: fmt::Write>(&self, f: &mut fmt::Formatter<W>) -> fmt::Result {
+        f.write_str(self.text())?;
+        match self.tax_place() {
+            Some(number) => write!(f, " {number}"),
+            None => Ok(()),
+        }
+    }
+}
+
+impl Error for Name {}

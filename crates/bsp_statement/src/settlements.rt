@@ -13,7 +13,7 @@ ghost use Rattle.bsp_postings.specs.declared.tally.Tally.{Tally as TallyRow};
 ghost use Rattle.bsp_postings.specs.Tallies.{AreTallies, tally_postings};
 ghost use Rattle.bsp_postings.specs.Postings.{postings};
 ghost use Rattle.bsp_postings.specs.Nets.{agent_net, airline_net};
-ghost use Rattle.bsp_statement.specs.Texts.{agent_line, airline_net_line, period_text, settlement_text};
+ghost use Rattle.bsp_statement.specs.Texts.{agent_line, airline_net_line, period_text, settlement_lines, settlement_text};
 ghost use Rattle.bsp_statement.specs.Reports.{Answers, HasOneSum, IsSameSettlement, IsSettlement, agent_net_of, airline_net_of, of_period};
 
 use crate::columns::push_net;
@@ -87,6 +87,22 @@ fn push_airlines(alloc: Global, out: &mut String, nets: &[AirlineNet]) -> Result
     Ok(())
 }
 
+/// Appends the lines of both sides, each with its total.
+fn push_sides(
+    alloc: Global,
+    out: &mut String,
+    agents: &[AgentNet],
+    airlines: &[AirlineNet],
+    total: i128,
+) -> Result<(), NoRoom>
+    ensures { OnOk result (string_bytes out.new ≡ string_bytes out.old ++ settlement_lines agents.now airlines.now total) }
+{
+    push_agents(alloc, out, agents)?;
+    push_net(alloc, out, "TOTAL", "AGENTS", total)?;
+    push_airlines(alloc, out, airlines)?;
+    push_net(alloc, out, "TOTAL", "AIRLINES", total)
+}
+
 /// The report over these nets.
 fn settlement_text(
     alloc: Global,
@@ -100,10 +116,7 @@ fn settlement_text(
 {
     let mut text = String::from_str(alloc, "SETTLEMENT ")?;
     push_period(alloc, &mut text, period, currency)?;
-    push_agents(alloc, &mut text, agents)?;
-    push_net(alloc, &mut text, "TOTAL", "AGENTS", total)?;
-    push_airlines(alloc, &mut text, airlines)?;
-    push_net(alloc, &mut text, "TOTAL", "AIRLINES", total)?;
+    push_sides(alloc, &mut text, agents, airlines, total)?;
     Ok(text)
 }
 

@@ -1,7 +1,7 @@
 //! The billing statement of an agent.
 
 ghost use Rattle.std.specs.List.Sorted.{IsPermutation};
-ghost use Rattle.std.specs.Prelude.{◌≡◌, ℕ, ◌++◌, List, Some, IfOk, OnOk, string_bytes};
+ghost use Rattle.std.specs.Prelude.{◌≡◌, ℕ, ◌^◌, ◌≤◌, ◌++◌, List, length, map, Some, IfOk, OnOk, string_bytes};
 ghost use Rattle.std.specs.List.{flat_map};
 ghost use Rattle.bsp_fields.specs.Decimal.{fixed_digits};
 ghost use Rattle.bsp_calendar.specs.Published.{closed_period};
@@ -13,7 +13,8 @@ ghost use Rattle.bsp_postings.specs.declared.tally.Tally.{Tally as TallyRow};
 ghost use Rattle.bsp_postings.specs.Tallies.{AreTallies, tally_postings};
 ghost use Rattle.bsp_postings.specs.Postings.{of_agent, postings};
 ghost use Rattle.bsp_postings.specs.Nets.{agent_net, net_of_postings};
-ghost use Rattle.bsp_statement.specs.Texts.{figures_line, period_text};
+ghost use Rattle.bsp_statement.specs.Sums.{AreCodes};
+ghost use Rattle.bsp_statement.specs.Texts.{figures_line, period_text, statement_lines};
 ghost use Rattle.bsp_statement.specs.Reports.{Answers, IsStatement, of_period};
 
 use crate::columns::{push_figures, push_heading};
@@ -43,6 +44,17 @@ fn push_airlines(
     Ok(())
 }
 
+/// Appends the heading, a line for each airline of the postings, and the line over all of them.
+fn push_lines(alloc: Global, out: &mut String, postings: &[Posting]) -> Result<(), NoRoom>
+    requires { length postings.now ≤ 2 ^ 60 }
+    ensures { OnOk result ((airlines : List ℕ) × AreCodes airlines (map (λ p. p.airline) postings.now) × (string_bytes out.new ≡ string_bytes out.old ++ statement_lines airlines postings.now)) }
+{
+    let sums = by_airline(alloc, postings)?;
+    push_heading(out)?;
+    push_airlines(alloc, out, &sums)?;
+    push_figures(alloc, out, "TOT", &total(postings))
+}
+
 /// The statement over an agent's postings.
 fn write_statement(
     alloc: Global,
@@ -56,12 +68,9 @@ fn write_statement(
     if postings.len() > MOST_POSTINGS {
         return Err(NoRoom);
     }
-    let sums = by_airline(alloc, postings)?;
     let mut text = format!(in alloc; "STATEMENT {agent} ")?;
     push_period(alloc, &mut text, period, currency)?;
-    push_heading(&mut text)?;
-    push_airlines(alloc, &mut text, &sums)?;
-    push_figures(alloc, &mut text, "TOT", &total(postings))?;
+    push_lines(alloc, &mut text, postings)?;
     Ok(text)
 }
 
@@ -86,7 +95,6 @@ fn keep_agent(postings: &mut Vec<Posting>, agent: AgentCode)
 ///
 /// `NotClosed` where the period is unknown or not closed, and `NoMemory` where it is closed and an
 /// allocation was refused.
-#[tactic(auto, using(bsp_postings::proofs::NetLemmas::agent_net_is))]
 pub fn statement(
     alloc: Global,
     agent: AgentCode,

@@ -15,7 +15,7 @@ use Rattle.bsp_store_save.specs.Kept.{HasCommitted, HasContents}
 use Rattle.bsp_store_save.specs.Calls.{IsKept}
 use Rattle.bsp_store.specs.Meanings.{Holds, meaning}
 use Rattle.bsp_store.specs.declared.book.SqlBook.{SqlBook}
-use Rattle.bsp_store_save.proofs.Tallies.{content_is, one_content}
+use Rattle.bsp_store_save.proofs.TallyLemmas.{content_is, one_content}
 
 -- ---- what the store has, and is to have
 

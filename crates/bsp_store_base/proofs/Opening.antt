@@ -1,5 +1,5 @@
 -- What a query for a whole table shows.
-use Rattle.std.proofs.Common.{◌≡◌, inl, inr, Less, ℕ, List, [], ◌∷◌, map, filter, false, Vec, Global, Ok, Err, Result, IfOk, OnOk, refl, sym, ap, ap₂, ◌∙◌, subst, IsPermutation, arith}
+use Rattle.std.proofs.Common.{◌≡◌, inl, inr, Less, ℕ, List, [], ◌∷◌, ◌++◌, map, filter, false, Vec, Global, Ok, Err, Result, IfOk, OnOk, refl, sym, ap, ap₂, ◌∙◌, subst, IsPermutation, arith}
 use Rattle.std.specs.List.{range_with_len}
 use Rattle.std.proofs.lemmas.List.Sorted.{IsPermutation-refl, IsPermutation-map}
 use Rattle.sqlite_value.specs.declared.value.Value.TheVariants.{Null}
@@ -10,20 +10,23 @@ use Rattle.sqlite_trees.specs.declared.store.Store.{Ghosts}
 use Rattle.sqlite_trees.proofs.ListLemmas.{map-map, filter_all, all_of}
 use Rattle.sqlite_keyed.proofs.ListLemmas.{ascending-map}
 use Rattle.sqlite_sql.specs.Term.{Term, col}
-use Rattle.sqlite_sql.specs.Query.{IsAnswer, Output, output_cmp}
+use Rattle.sqlite_sql.specs.Query.{IsAnswer, Output, Query, output_cmp}
 use Rattle.sqlite_sql.specs.Program.{overlay}
 use Rattle.sqlite_schema.specs.declared.schema.Schema.{Schema}
 use Rattle.sqlite_schema.specs.declared.command.Command.TheVariants.{Select}
 use Rattle.sqlite.specs.declared.error.Error.{Error}
+use Rattle.sqlite_resolve.specs.declared.compiled.Compiled.{Compiled}
+use Rattle.sqlite_resolve.specs.declared.error.CompileError.{CompileError}
+use Rattle.sqlite.specs.Clock.{timed}
 use Rattle.sqlite.specs.Listing.{understood, reads_listing}
-use Rattle.sqlite.specs.State.{State, HasCleanDisk, Shown, Survives, CommitsShowing}
+use Rattle.sqlite.specs.State.{State, Begins, HasCleanDisk, IsUnchanged, Shown, Survives, CommitsShowing}
 use Rattle.sqlite.specs.Held.{Held, state}
-use Rattle.sqlite.proofs.Callers.{reads_as, IsPlain, command_of, never_commits}
+use Rattle.sqlite.proofs.Callers.{EndsIn, reads_as, IsPlain, begins_shown, command_of, never_commits}
 use Rattle.bsp_store_base.specs.Schema.{our_schema}
 use Rattle.bsp_store_base.specs.Content.{Content, form, width_of}
 use Rattle.bsp_store_base.specs.Forms.{IsFormed}
 use Rattle.bsp_store_base.specs.Kept.{KeepsRows, Part, Reads, Spares, columns_of}
-use Rattle.bsp_store_base.specs.Shows.{ShowsAll}
+use Rattle.bsp_store_base.specs.Shows.{AreAllOf, IsQuery, ShowsAll, ShowsTable}
 use Rattle.bsp_store_base.proofs.Held.{unchanged_by}
 use Rattle.bsp_store_base.proofs.Rising.{keys_of, IsBefore}
 use Rattle.bsp_store_base.proofs.ReadingLemmas.{simple, passes, out, rows_are, rows_in_order}
@@ -118,3 +121,47 @@ all_shown part sql names order is plain unlisted plain_tree lists sees rise same
   mode = mode;
   spares = all_spares our_schema sql names part.tree (width_of part.tree) order is plain unlisted plain_tree lists g old new kept;
 }
+
+query_is : (r : Result Compiled CompileError) (query : Query) (names : List (List ℕ)) → command_of r ≡ Select (record { lets = []; body = query }) names → IsQuery r query names
+query_is (Ok c) query names is = is
+query_is (Err e) query names is = absurd (cc is)
+
+command_is : (r : Result Compiled CompileError) (query : Query) (names : List (List ℕ)) → IsQuery r query names → command_of r ≡ Select (record { lets = []; body = query }) names
+command_is (Ok c) query names is = is
+command_is (Err e) query names is = absurd is
+
+-- the same of a text whose rows are read one at a time
+pub table_shown : (part : Part Content) (sql : List ℕ) (names : List (List ℕ)) (order : List (Term × Key))
+    (is : command_of (understood our_schema sql) ≡ Select (record { lets = []; body = simple part.tree [] (map (col 1) (range_with_len 1 (width_of part.tree))) order }) names)
+    → IsPlain (understood our_schema sql) → reads_listing our_schema sql ≡ false → ((db : Trees) → overlay db [] part.tree ≡ db part.tree)
+    → ((trees : Trees) (r : Row) → (out part.tree [] (map (col 1) (range_with_len 1 (width_of part.tree))) order trees [] r).1 ≡ columns_of (width_of part.tree) r)
+    → ((trees : Trees) (r : Row) → (out part.tree [] (map (col 1) (range_with_len 1 (width_of part.tree))) order trees [] r).0 ≡ keys_of order (columns_of (width_of part.tree) r))
+    → ((c : Content) → IsFormed c → IsAscending (IsBefore order) (part.rows c))
+    → ((c : Content) (trees : Trees) → KeepsRows form c trees → IsPermutation (part.rows c) (map (columns_of (width_of part.tree)) (trees part.tree)))
+    → ShowsTable part sql
+table_shown part sql names order is plain unlisted plain_tree lists sees rise same = record {
+  query = simple part.tree [] (map (col 1) (range_with_len 1 (width_of part.tree))) order;
+  names = names;
+  is = query_is (understood our_schema sql) _ names is;
+  plain = plain;
+  unlisted = unlisted;
+  all = λ trees rows answer. record {
+    in_any_order = in_any_order our_schema sql names part.tree (width_of part.tree) order is plain unlisted plain_tree lists trees rows answer;
+    in_order = λ c formed keeps. in_order our_schema sql names part.tree (width_of part.tree) order is plain unlisted plain_tree lists sees trees rows answer (part.rows c) (same c trees keeps) (rise c formed);
+  };
+}
+
+-- ---- what is known of a table whose rows are read one at a time
+
+module _ (part : Part Content) (sql : List ℕ) (shows : ShowsTable part sql) where
+  -- the rows that are shown are all
+  pub whole_shown : (old new : State) → old.now.schema ≡ our_schema → (rows : List Row) → Shown sql [] old new rows → AreAllOf part old.now.trees rows
+  whole_shown old new has rows shown =
+      shows.all old.now.trees rows ((reads_as sql [] old new our_schema has _ (command_is (understood our_schema sql) shows.query shows.names shows.is) shows.plain shows.unlisted rows shown).answer Null)
+
+  -- the rows that were read so far are the first of all
+  pub rest_shown : (old new : State) → old.now.schema ≡ our_schema → IsUnchanged old new → (rows : List Row) → Begins sql [] old rows → (tail : List Row) × Shown sql [] old new (rows ++ tail)
+  rest_shown old new has unchanged rows first =
+      begins_shown sql [] old new rows first unchanged
+      (λ compiled db it source.
+      subst (λ k. EndsIn k db (timed [] compiled.formats it.now)) (sym (ap command_of (sym (ap (λ s. understood s sql) (sym has) ∙ it.is)) ∙ command_is (understood our_schema sql) shows.query shows.names shows.is)) tt)

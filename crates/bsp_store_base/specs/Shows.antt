@@ -1,11 +1,19 @@
 -- What a query for a whole table of the book shows.
-use Rattle.std.specs.Prelude.{◌≡◌, false, map, Vec, Result, IfOk, OnOk, IsPermutation}
+use Rattle.std.specs.Prelude.{◌≡◌, ℕ, List, [], false, map, Vec, Result, Ok, Err, IfOk, OnOk, IsPermutation}
 use Rattle.std.specs.Global.{Global}
 use Rattle.sqlite_value.specs.Order.{Row}
+use Rattle.sqlite_trees.specs.Tree.{Trees}
 use Rattle.sqlite_trees.specs.declared.store.Store.{Ghosts}
 use Rattle.sqlite.specs.declared.error.Error.{Error}
+use Rattle.sqlite.specs.Given.{IsPlain}
 use Rattle.sqlite.specs.Held.{Held, state}
+use Rattle.sqlite.specs.Listing.{reads_listing, understood}
 use Rattle.sqlite.specs.State.{HasCleanDisk}
+use Rattle.sqlite_resolve.specs.declared.compiled.Compiled.{Compiled}
+use Rattle.sqlite_resolve.specs.declared.error.CompileError.{CompileError}
+use Rattle.sqlite_schema.specs.declared.command.Command.TheVariants.{Select}
+use Rattle.sqlite_sql.specs.Program.{overlay}
+use Rattle.sqlite_sql.specs.Query.{IsAnswer, Query}
 use Rattle.bsp_store_schema.specs.Schema.{our_schema}
 use Rattle.bsp_store_base.specs.Content.{Content, form, width_of}
 use Rattle.bsp_store_base.specs.Forms.{IsFormed}
@@ -21,3 +29,23 @@ pub record ShowsAll (part : Part Content) {S : Type 0} (g : Ghosts S) (old new :
   -- where no transaction was open, none is
   pub mode : old.in_transaction ≡ false → new.in_transaction ≡ false
   pub spares : old.schema ≡ our_schema → Spares g old new
+
+-- all rows of a table: those of its tree in some order, and in the order of the content, where the trees keep one whose
+-- values the program's types have
+pub record AreAllOf (part : Part Content) (trees : Trees) (rows : List Row) : Type 0 where
+  pub in_any_order : IsPermutation (map (columns_of (width_of part.tree)) (trees part.tree)) rows
+  pub in_order : (c : Content) → IsFormed c → KeepsRows form c trees → rows ≡ part.rows c
+
+-- a text means this query
+abbrev pub IsQuery : Result Compiled CompileError → Query → List (List ℕ) → Type 0
+IsQuery (Ok c) query names = c.command ≡ Select (record { lets = []; body = query }) names
+IsQuery (Err e) query names = ⊥
+
+-- a text for all rows of a table
+pub record ShowsTable (part : Part Content) (text : List ℕ) : Type 0 where
+  pub query : Query
+  pub names : List (List ℕ)
+  pub is : IsQuery (understood our_schema text) query names
+  pub plain : IsPlain (understood our_schema text)
+  pub unlisted : reads_listing our_schema text ≡ false
+  pub all : (trees : Trees) (rows : List Row) → IsAnswer query (overlay trees []) [] rows → AreAllOf part trees rows

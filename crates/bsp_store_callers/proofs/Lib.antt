@@ -1,4 +1,5 @@
 pub mod Back
 pub mod CallerTables
 pub mod Orders
+pub mod Shown
 pub mod Texts

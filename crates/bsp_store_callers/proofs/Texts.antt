@@ -38,8 +38,8 @@ pub update_agent_is : (command_of (understood our_schema update_agent) ≡ chang
 unfolding understood everything
 update_agent_is = (refl, (refl, refl))
 
-abbrev pub all_agents : List ℕ
-all_agents = codes "SELECT code, token FROM agent ORDER BY code"
+abbrev pub agents_query : List ℕ
+agents_query = codes "SELECT code, token FROM agent ORDER BY code"
 
 abbrev pub agent_names : List (List ℕ)
 agent_names = map (λ (c : Column). c.name) agent_columns
@@ -48,7 +48,7 @@ agent_names = map (λ (c : Column). c.name) agent_columns
 abbrev pub by_code : List (Term × Key)
 by_code = (col 1 1, ascending Binary) ∷ []
 
-pub all_agents_is : (command_of (understood our_schema all_agents) ≡ Select (record { lets = []; body = simple 8 [] (map (col 1) (range_with_len 1 2)) by_code }) agent_names) × IsPlain (understood our_schema all_agents) × (reads_listing our_schema all_agents ≡ false)
+pub all_agents_is : (command_of (understood our_schema agents_query) ≡ Select (record { lets = []; body = simple 8 [] (map (col 1) (range_with_len 1 2)) by_code }) agent_names) × IsPlain (understood our_schema agents_query) × (reads_listing our_schema agents_query ≡ false)
 unfolding understood everything
 all_agents_is = (refl, (refl, refl), refl)
 
@@ -75,13 +75,13 @@ pub update_airline_token_is : (command_of (understood our_schema update_airline_
 unfolding understood everything
 update_airline_token_is = (refl, (refl, refl))
 
-abbrev pub all_airline_tokens : List ℕ
-all_airline_tokens = codes "SELECT airline, token FROM airline_token ORDER BY airline"
+abbrev pub airline_tokens_query : List ℕ
+airline_tokens_query = codes "SELECT airline, token FROM airline_token ORDER BY airline"
 
 abbrev pub airline_token_names : List (List ℕ)
 airline_token_names = map (λ (c : Column). c.name) airline_token_columns
 
-pub all_airline_tokens_is : (command_of (understood our_schema all_airline_tokens) ≡ Select (record { lets = []; body = simple 10 [] (map (col 1) (range_with_len 1 2)) by_code }) airline_token_names) × IsPlain (understood our_schema all_airline_tokens) × (reads_listing our_schema all_airline_tokens ≡ false)
+pub all_airline_tokens_is : (command_of (understood our_schema airline_tokens_query) ≡ Select (record { lets = []; body = simple 10 [] (map (col 1) (range_with_len 1 2)) by_code }) airline_token_names) × IsPlain (understood our_schema airline_tokens_query) × (reads_listing our_schema airline_tokens_query ≡ false)
 unfolding understood everything
 all_airline_tokens_is = (refl, (refl, refl), refl)
 
@@ -108,8 +108,8 @@ pub update_range_is : (command_of (understood our_schema update_range) ≡ chang
 unfolding understood everything
 update_range_is = (refl, (refl, refl))
 
-abbrev pub all_ranges : List ℕ
-all_ranges = codes "SELECT agent, lo, hi FROM stock ORDER BY agent, lo"
+abbrev pub ranges_query : List ℕ
+ranges_query = codes "SELECT agent, lo, hi FROM stock ORDER BY agent, lo"
 
 abbrev pub range_names : List (List ℕ)
 range_names = map (λ (c : Column). c.name) stock_columns
@@ -118,6 +118,6 @@ range_names = map (λ (c : Column). c.name) stock_columns
 abbrev pub by_range : List (Term × Key)
 by_range = (col 1 1, ascending Binary) ∷ (col 1 2, ascending Binary) ∷ []
 
-pub all_ranges_is : (command_of (understood our_schema all_ranges) ≡ Select (record { lets = []; body = simple 12 [] (map (col 1) (range_with_len 1 3)) by_range }) range_names) × IsPlain (understood our_schema all_ranges) × (reads_listing our_schema all_ranges ≡ false)
+pub all_ranges_is : (command_of (understood our_schema ranges_query) ≡ Select (record { lets = []; body = simple 12 [] (map (col 1) (range_with_len 1 3)) by_range }) range_names) × IsPlain (understood our_schema ranges_query) × (reads_listing our_schema ranges_query ≡ false)
 unfolding understood everything
 all_ranges_is = (refl, (refl, refl), refl)

@@ -4,15 +4,15 @@ ghost use Rattle.std.specs.Prelude.{◌≡◌, is_some, None, true, ⊤, OnOk, O
 ghost use Rattle.std.specs.FinMap.{get, insert, remove};
 ghost use Rattle.sqlite.specs.Values.{bound};
 ghost use Rattle.bsp_store_base.specs.Columns.{agent_row};
-ghost use Rattle.bsp_store_base.specs.Content.{agent_part};
-ghost use Rattle.bsp_store_base.specs.Shows.{ShowsAll};
 ghost use Rattle.bsp_store_base.specs.Calls.{Changes, GivesUp};
 ghost use Rattle.bsp_store_base.specs.Synced.{with_value};
+ghost use Rattle.bsp_store_base.specs.Content.{agent_part};
+ghost use Rattle.bsp_store_base.specs.Shows.{ShowsTable};
 ghost use Rattle.bsp_store_callers.specs.Callers.{agent_texts};
 
 use bsp_rows::{AgentCode, Token};
 use bsp_store_base::agent_digits;
-use sqlite::{Alter, Connection, Error, Row};
+use sqlite::{Alter, Connection, Error};
 use sqlite_value::value::ValueRef;
 
 /// The texts of an agent's row.
@@ -107,13 +107,9 @@ pub fn put_agent<S: Alter>(
     Ok(())
 }
 
-/// The rows of all agents, in the order of their codes.
-///
-/// # Errors
-///
-/// Those of the store.
-pub fn all_agents<S: Alter>(conn: &mut Connection<S>) -> Result<Vec<Row>, Error>
-    ensures { ShowsAll agent_part S.Store conn.old conn.new result }
+/// The query for the rows of all agents, in the order of their codes.
+pub fn agents_query() -> &'static str
+    ensures { ShowsTable agent_part result.now }
 {
-    conn.query_all("SELECT code, token FROM agent ORDER BY code", &[])
+    "SELECT code, token FROM agent ORDER BY code"
 }

@@ -4,15 +4,15 @@ ghost use Rattle.std.specs.Prelude.{◌≡◌, is_some, None, true, ⊤, OnOk, O
 ghost use Rattle.std.specs.FinMap.{get, insert, remove};
 ghost use Rattle.sqlite.specs.Values.{bound};
 ghost use Rattle.bsp_store_base.specs.Columns.{airline_token_row};
-ghost use Rattle.bsp_store_base.specs.Content.{airline_token_part};
-ghost use Rattle.bsp_store_base.specs.Shows.{ShowsAll};
 ghost use Rattle.bsp_store_base.specs.Calls.{Changes, GivesUp};
 ghost use Rattle.bsp_store_base.specs.Synced.{with_value};
+ghost use Rattle.bsp_store_base.specs.Content.{airline_token_part};
+ghost use Rattle.bsp_store_base.specs.Shows.{ShowsTable};
 ghost use Rattle.bsp_store_callers.specs.Callers.{airline_texts};
 
 use bsp_rows::{AirlineCode, Token};
 use bsp_store_base::airline_digits;
-use sqlite::{Alter, Connection, Error, Row};
+use sqlite::{Alter, Connection, Error};
 use sqlite_value::value::ValueRef;
 
 /// The texts of the row of an airline's token.
@@ -117,16 +117,9 @@ pub fn put_airline_token<S: Alter>(
     Ok(())
 }
 
-/// The rows of all airlines' tokens, in the order of their codes.
-///
-/// # Errors
-///
-/// Those of the store.
-pub fn all_airline_tokens<S: Alter>(conn: &mut Connection<S>) -> Result<Vec<Row>, Error>
-    ensures { ShowsAll airline_token_part S.Store conn.old conn.new result }
+/// The query for the rows of all airlines' tokens, in the order of their codes.
+pub fn airline_tokens_query() -> &'static str
+    ensures { ShowsTable airline_token_part result.now }
 {
-    conn.query_all(
-        "SELECT airline, token FROM airline_token ORDER BY airline",
-        &[],
-    )
+    "SELECT airline, token FROM airline_token ORDER BY airline"
 }

@@ -1,7 +1,7 @@
 //! The tables of a book's callers: agents, the tokens of airlines, and ranges of stock.
 //!
 //! Each table has a row that is made from an entry, and a write that leaves a value or none at a
-//! key. It also has a query for all its rows, and a reader of one row.
+//! key. It also has the text of a query for all its rows, and a reader of one row.
 #![tactic(auto)]
 
 mod agents;
@@ -9,7 +9,7 @@ mod airline_tokens;
 mod ranges;
 mod reading;
 
-pub use agents::{AgentRow, all_agents, put_agent};
-pub use airline_tokens::{AirlineTokenRow, all_airline_tokens, put_airline_token};
-pub use ranges::{RangeRow, all_ranges, put_range};
+pub use agents::{AgentRow, agents_query, put_agent};
+pub use airline_tokens::{AirlineTokenRow, airline_tokens_query, put_airline_token};
+pub use ranges::{RangeRow, put_range, ranges_query};
 pub use reading::{read_agent, read_airline_token, read_range};

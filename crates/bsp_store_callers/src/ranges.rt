@@ -4,15 +4,15 @@ ghost use Rattle.std.specs.Prelude.{◌≡◌, is_some, None, true, ⊤, OnOk, O
 ghost use Rattle.std.specs.FinMap.{get, insert, remove};
 ghost use Rattle.sqlite.specs.Values.{bound};
 ghost use Rattle.bsp_store_base.specs.Columns.{stock_row};
-ghost use Rattle.bsp_store_base.specs.Content.{stock_part};
-ghost use Rattle.bsp_store_base.specs.Shows.{ShowsAll};
 ghost use Rattle.bsp_store_base.specs.Calls.{Changes, GivesUp};
 ghost use Rattle.bsp_store_base.specs.Synced.{with_value};
+ghost use Rattle.bsp_store_base.specs.Content.{stock_part};
+ghost use Rattle.bsp_store_base.specs.Shows.{ShowsTable};
 ghost use Rattle.bsp_store_callers.specs.Callers.{range_texts};
 
 use bsp_rows::{DocNumber, RangeKey};
 use bsp_store_base::{agent_digits, number_digits};
-use sqlite::{Alter, Connection, Error, Row};
+use sqlite::{Alter, Connection, Error};
 use sqlite_value::value::ValueRef;
 
 /// The texts of the row of a range.
@@ -118,13 +118,9 @@ pub fn put_range<S: Alter>(
     Ok(())
 }
 
-/// The rows of all ranges, in the order of their agents and first numbers.
-///
-/// # Errors
-///
-/// Those of the store.
-pub fn all_ranges<S: Alter>(conn: &mut Connection<S>) -> Result<Vec<Row>, Error>
-    ensures { ShowsAll stock_part S.Store conn.old conn.new result }
+/// The query for the rows of all ranges, in the order of their agents and first numbers.
+pub fn ranges_query() -> &'static str
+    ensures { ShowsTable stock_part result.now }
 {
-    conn.query_all("SELECT agent, lo, hi FROM stock ORDER BY agent, lo", &[])
+    "SELECT agent, lo, hi FROM stock ORDER BY agent, lo"
 }

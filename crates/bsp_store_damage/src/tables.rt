@@ -1,6 +1,6 @@
 //! The tables of a book, by their names.
 
-use bsp_store_load::StoredRows;
+use bsp_store_load::PlanRows;
 use sqlite::Row;
 use std::fmt;
 
@@ -46,6 +46,15 @@ pub(crate) const TABLES: [Table; 11] = [
     Table::Tally,
 ];
 
+/// The tables of the plan.
+pub(crate) const PLAN_TABLES: [Table; 5] = [
+    Table::Meta,
+    Table::Terms,
+    Table::Airline,
+    Table::Rate,
+    Table::Period,
+];
+
 impl Table {
     /// Its name in SQL.
     pub fn name(self) -> &'static str {
@@ -74,20 +83,15 @@ impl Table {
         }
     }
 
-    /// Its rows among those of all tables.
-    pub(crate) fn rows(self, rows: &StoredRows) -> &[Row] {
+    /// Its rows among those of the plan. Another table has none there.
+    pub(crate) fn rows(self, rows: &PlanRows) -> &[Row] {
         match self {
             Table::Meta => &rows.meta,
             Table::Terms => &rows.terms,
             Table::Airline => &rows.airlines,
             Table::Rate => &rows.rates,
             Table::Period => &rows.periods,
-            Table::Agent => &rows.agents,
-            Table::AirlineToken => &rows.airline_tokens,
-            Table::Stock => &rows.ranges,
-            Table::Item => &rows.items,
-            Table::Memo => &rows.memos,
-            Table::Tally => &rows.tallies,
+            _ => &[],
         }
     }
 }

@@ -2,12 +2,16 @@
 
 use crate::tables::Table;
 use bsp_memory_tables::TallyTable;
-use bsp_store_memos::read_tally;
+use bsp_store_load::is_row;
+use bsp_store_memos::{TallyRow, read_tally};
 use sqlite::Row;
 
 fn is_sum(row: &Row, table: &TallyTable) -> bool {
     match read_tally(row) {
-        Some((key, tally)) => table.map().get(&key).copied() == Some(tally),
+        Some((key, tally)) => {
+            is_row(row, &TallyRow::of(&key, &tally).values())
+                && table.map().get(&key).copied() == Some(tally)
+        }
         None => false,
     }
 }

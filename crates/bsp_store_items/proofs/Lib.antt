@@ -3,3 +3,4 @@ pub mod Orders
 pub mod ItemTable
 pub mod Texts
 pub mod Written
+pub mod Shown

@@ -40,8 +40,8 @@ update_is = (refl, (refl, refl))
 
 -- ---- all rows
 
-abbrev pub all_text : List ℕ
-all_text = codes "SELECT agent, number, canx, check_digit, airline, code, issued, period, alive, name, fare, taxes, rate, commission, rel_airline, rel_number, rel_check, ca, cc, ex, vendor FROM item ORDER BY agent, number, canx"
+abbrev pub items_query : List ℕ
+items_query = codes "SELECT agent, number, canx, check_digit, airline, code, issued, period, alive, name, fare, taxes, rate, commission, rel_airline, rel_number, rel_check, ca, cc, ex, vendor FROM item ORDER BY agent, number, canx"
 
 abbrev pub names : List (List ℕ)
 names = map (λ (c : Column). c.name) item_columns
@@ -49,6 +49,6 @@ names = map (λ (c : Column). c.name) item_columns
 abbrev pub order : List (Term × Key)
 order = (col 1 1, ascending Binary) ∷ (col 1 2, ascending Binary) ∷ (col 1 3, ascending Binary) ∷ []
 
-pub all_is : (command_of (understood our_schema all_text) ≡ Select (record { lets = []; body = simple 14 [] (map (col 1) (range_with_len 1 21)) order }) names) × IsPlain (understood our_schema all_text) × (reads_listing our_schema all_text ≡ false)
+pub all_is : (command_of (understood our_schema items_query) ≡ Select (record { lets = []; body = simple 14 [] (map (col 1) (range_with_len 1 21)) order }) names) × IsPlain (understood our_schema items_query) × (reads_listing our_schema items_query ≡ false)
 unfolding understood everything
 all_is = (refl, (refl, refl), refl)

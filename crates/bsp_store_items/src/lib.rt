@@ -6,6 +6,6 @@ mod reading;
 mod row;
 mod writing;
 
-pub use reading::{all_items, read_item};
+pub use reading::{items_query, read_item};
 pub use row::ItemRow;
 pub use writing::put_item;

@@ -7,29 +7,22 @@ ghost use Rattle.bsp_fields.specs.CivilDay.{CivilDay, is_day};
 ghost use Rattle.bsp_fields.specs.Days.{day_number};
 ghost use Rattle.bsp_store_items.specs.Reading.{amounts_in, card_in, document_in, entry_in, item_in, key_in, related_in, transaction_in};
 ghost use Rattle.bsp_store_base.specs.Content.{item_part};
-ghost use Rattle.bsp_store_base.specs.Shows.{ShowsAll};
+ghost use Rattle.bsp_store_base.specs.Shows.{ShowsTable};
 ghost use Rattle.bsp_store_base.specs.Reading.{amount_in, if_there};
 
 use crate::columns::{read_byte, read_flag, read_kind, read_rate, read_taxes, read_wide};
 use bsp_fields::{Amount, Day, DocNumber};
 use bsp_rows::{Amounts, CardPayment, Item, ItemKey, ReportedDocument, Transaction};
 use bsp_store_base::{agent_at, airline_at, amount_at, day_at, is_null, number_at, period_at};
-use sqlite::{Alter, Connection, Error, Row};
+use sqlite::Row;
 
-/// The rows of the items, in the order of their keys.
-///
-/// # Errors
-///
-/// What the connection answers.
-pub fn all_items<S: Alter>(conn: &mut Connection<S>) -> Result<Vec<Row>, Error>
-    ensures { ShowsAll item_part S.Store conn.old conn.new result }
+/// The query for the rows of the items, in the order of their keys.
+pub fn items_query() -> &'static str
+    ensures { ShowsTable item_part result.now }
 {
-    conn.query_all(
-        "SELECT agent, number, canx, check_digit, airline, code, issued, period, alive, name, fare, taxes, \
-         rate, commission, rel_airline, rel_number, rel_check, ca, cc, ex, vendor FROM item \
-         ORDER BY agent, number, canx",
-        &[],
-    )
+    "SELECT agent, number, canx, check_digit, airline, code, issued, period, alive, name, fare, taxes, \
+     rate, commission, rel_airline, rel_number, rel_check, ca, cc, ex, vendor FROM item \
+     ORDER BY agent, number, canx"
 }
 
 /// Reads an item and its key out of a row, whatever another program wrote there.

@@ -1,6 +1,6 @@
 -- The closed periods of a plan, closed one after another.
-use Rattle.std.proofs.Common.{◌≡◌, ℕ, List, [], ◌∷◌, map, refl, sym, ap, subst, ◌∙◌}
-use Rattle.std.specs.Prelude.{IsOk, Some}
+use Rattle.std.proofs.Common.{◌≡◌, ℕ, Bool, true, List, [], ◌∷◌, map, Result, Ok, Err, refl, sym, ap, subst, ◌∙◌}
+use Rattle.std.specs.Prelude.{IfOk, IsOk, Some}
 use Rattle.std.specs.FinMap.{FinMap, entries, get}
 use Rattle.std.specs.List.{AllByRecursion, Contains}
 use Rattle.std.specs.declared.cmp.Ordering.{Ordering}
@@ -10,17 +10,15 @@ use Rattle.bsp_rows.specs.History.{IsReached}
 use Rattle.bsp_rows.specs.History.Request.{Close}
 use Rattle.bsp_rows.specs.Published.{Published}
 use Rattle.bsp_rows.proofs.ListLemmas.{contains_head, contains_tail}
+use Rattle.sqlite_value.specs.Order.{Row}
 use Rattle.bsp_rows.specs.Period.{Period}
 use Rattle.bsp_rows.specs.Rows.{Rows}
-use Rattle.bsp_rows.specs.Writes.{after_request, request_answer}
+use Rattle.bsp_rows.specs.Writes.{request_answer}
 use Rattle.bsp_rows.proofs.MapLemmas.{entry_get}
+use Rattle.bsp_store_base.specs.Columns.{period_row}
+use Rattle.bsp_store_base.specs.Forms.{IsPeriod}
 use Rattle.bsp_store_load.specs.Entries.{MayAll, after_all}
-
-abbrev pub closing : ℕ × Period → Rows → Rows
-closing e = after_request (Close e.1.code)
-
-abbrev pub MayClose : (Period → Type 0) → ℕ × Period → Rows → Type 0
-MayClose P e rows = P e.1 × IsOk (request_answer (Close e.1.code) rows)
+use Rattle.bsp_store_load.specs.Stored.{MayClose, closing}
 
 pub record Closes (P : Period → Type 0) (es : List (ℕ × Period)) (rows : Rows) (p : Published) : Type 0 where
   pub may : MayAll closing (MayClose P) es rows
@@ -45,3 +43,16 @@ of_each P (x ∷ xs) each = (each x (contains_head x xs), of_each P xs (λ y has
 module _ {K X : Type 0} {R : K → K → Ordering} (o : IsTotalOrder R) (exact : IsAntisymmetric R) where
   pub of_entries : (P : K × X → Type 0) (m : FinMap R X) → ((k : K) (v : X) → get m k ≡ Some v → P (k, v)) → AllByRecursion P (entries m)
   of_entries P m each = of_each P (entries m) (λ e has. each e.0 e.1 (entry_get o exact m e.0 e.1 has))
+
+-- one after the other changes the plan alone
+pub plan_alone : (old mid new : Rows) → mid ≡ record old { published = mid.published } → new ≡ record mid { published = new.published } → new ≡ record old { published = new.published }
+plan_alone old mid new first second = let with_plan : Rows → Rows = λ r. record r { published = new.published } in second ∙ ap with_plan first
+
+-- what a call that closes the periods of rows ensures
+abbrev pub Closed : Rows → Rows → List Row → Bool → Type 0
+Closed old new list done = (es : List (ℕ × Period)) → MayAll closing (MayClose IsPeriod) es old → list ≡ map period_row es → (done ≡ true) × (new ≡ after_all closing es old)
+
+-- what holds of an answer, by what holds of it
+pub if_ok_of : {A E : Type 0} (P Q : A → Type 0) (r : Result A E) → IfOk r P → ((x : A) → P x → Q x) → IfOk r Q
+if_ok_of P Q (Ok x) h so = so x h
+if_ok_of P Q (Err e) h so = tt

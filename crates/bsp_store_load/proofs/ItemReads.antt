@@ -1,5 +1,5 @@
 -- A row of an item, read back.
-use Rattle.std.proofs.Common.{◌≡◌, Bool, true, not, Option, Some, None, IsTrue, is_some, sym, ap, subst, ◌∙◌}
+use Rattle.std.proofs.Common.{◌≡◌, Option, Some, None, IsTrue, sym, ap, subst, ◌∙◌}
 use Rattle.std.specs.Prelude.{SomeIff}
 use Rattle.sqlite_value.specs.declared.value.Value.TheVariants.{Int}
 use Rattle.sqlite_value.specs.Order.{Row, column}
@@ -29,7 +29,11 @@ module _ (row : Row) (read : Option (ItemKey × Item)) (e : ItemKey × Item) (ke
   pub item_same : read ≡ Some (key, item) → IsItemEntry e → IsRight e.0 e.1 → row ≡ item_row e → item ≡ e.1
   item_same some formed right is = ap (λ (p : ItemKey × Item). p.1) (same_Some (key, item) e (sym some ∙ read_is row read e reads formed right is))
 
--- it has a key
-pub item_numbered : (item : Item) (e : ItemKey × Item) → item ≡ e.1 → IsRight e.0 e.1 → (found : Option ItemKey) → SomeIff found (HasNumberKey item) (key_of item) → (none : Bool) → is_some found ≡ not none → none ≡ true → ⊥
-item_numbered item e same right None iff b is none = iff (subst HasNumberKey (sym same) right.numbered)
-item_numbered item e same right (Some k) iff b is none = let no : true ≡ not true = is ∙ ap not none in cc no
+-- its key is found
+pub item_keyed : (item : Item) (e : ItemKey × Item) → item ≡ e.1 → IsRight e.0 e.1 → (found : Option ItemKey) → SomeIff found (HasNumberKey item) (key_of item) → found ≡ None → ⊥
+item_keyed item e same right None iff none = iff (subst HasNumberKey (sym same) right.numbered)
+item_keyed item e same right (Some k) iff none = cc none
+
+pub key_is : (item : Item) (found : Option ItemKey) (key : ItemKey) → SomeIff found (HasNumberKey item) (key_of item) → found ≡ Some key → key ≡ key_of item
+key_is item None key iff is = absurd (cc is)
+key_is item (Some k) key iff is = sym (same_Some k key is) ∙ iff.1

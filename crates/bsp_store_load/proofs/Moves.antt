@@ -20,8 +20,9 @@ use Rattle.bsp_rows.specs.Rows.{Rows}
 use Rattle.bsp_rows.specs.Writes.{after_request, change_or_fault, is_held, plan_left, request_answer}
 use Rattle.bsp_store_load.specs.Entries.{MayAll, after_all}
 use Rattle.bsp_store_load.specs.Stored.{AreRowsOfPlan, IsFormedPlan}
-use Rattle.bsp_store_load.specs.declared.stored.StoredRows.{StoredRows}
-use Rattle.bsp_store_load.proofs.CloseLemmas.{MayClose, closes_all, closing}
+use Rattle.bsp_store_load.specs.declared.plan_rows.PlanRows.{PlanRows}
+use Rattle.bsp_store_load.specs.Stored.{MayClose, closing}
+use Rattle.bsp_store_load.proofs.CloseLemmas.{closes_all}
 use Rattle.bsp_store_load.proofs.PlanReads.{length-placed}
 
 first_closes : (n before : ℕ) (qs : List Period) → map (λ (e : ℕ × Period). Close e.1.code) (take n (placed before qs)) ≡ map (λ code. Close code) (first_codes qs n)
@@ -34,7 +35,7 @@ first_all P zero before qs all = tt
 first_all P (suc n) before [] all = tt
 first_all P (suc n) before (q ∷ qs) all = (all.0, first_all P n (before + 1) qs all.1)
 
-module _ (p : Published) (s : IsSoundPlan p) (formed : IsFormedPlan p) (stored : StoredRows) (are : AreRowsOfPlan p stored) where
+module _ (p : Published) (s : IsSoundPlan p) (formed : IsFormedPlan p) (stored : PlanRows) (are : AreRowsOfPlan p stored) where
   pub meta_read : (rows : List Row) (o : Option (CivilDay × ℕ)) → rows ≡ stored.meta.items → ((meta : Meta) → IsMeta meta → rows ≡ meta_rows (Some meta) → o ≡ Some (meta.day, meta.closed)) → o ≡ Some (p.day, length p.closed)
   meta_read rows o same reads = reads (record { day = p.day; closed = length p.closed }) (record { has_day = formed.day; has_closed = formed.closed }) (same ∙ are.meta)
 

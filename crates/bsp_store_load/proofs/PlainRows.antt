@@ -7,7 +7,9 @@ use Rattle.bsp_rows.specs.Amounts.{Amounts}
 use Rattle.bsp_rows.specs.GroupValues.{related_of}
 use Rattle.bsp_rows.specs.Item.{Item}
 use Rattle.bsp_rows.specs.declared.keys.ItemKey.{ItemKey}
-use Rattle.bsp_store_base.specs.Columns.{airline_text, count, item_row, taxes_text}
+use Rattle.bsp_rows.specs.MemoFields.{MemoFields}
+use Rattle.bsp_rows.specs.declared.keys.MemoKey.{MemoKey}
+use Rattle.bsp_store_base.specs.Columns.{airline_text, count, item_row, memo_row, period_text, taxes_text}
 use Rattle.bsp_store_load.specs.Entries.{has_real, is_real}
 
 plain_or : {A : Type 0} (f : A → Value) (o : Option A) → ((x : A) → is_real (f x) ≡ false) → is_real (or_null f o) ≡ false
@@ -30,3 +32,6 @@ plain_item e =
       plain_or Int t.exchange (λ n. refl),
       plain_or (λ p. Text p.vendor) t.credit (λ p. refl),
     ) refl
+
+pub plain_memo : (e : MemoKey × MemoFields) → has_real (memo_row e) ≡ false
+plain_memo e = rw (plain_or period_text e.1.billed (λ p. refl)) refl

@@ -18,7 +18,7 @@ use Rattle.bsp_store_base.specs.Columns.{terms_rows}
 use Rattle.bsp_rows.specs.Rows.{Rows}
 use Rattle.bsp_rows.specs.Writes.{after_request, change_or_fault, is_held, plan_left, request_answer}
 use Rattle.bsp_store_load.specs.Stored.{AreRowsOfPlan, IsFormedPlan}
-use Rattle.bsp_store_load.specs.declared.stored.StoredRows.{StoredRows}
+use Rattle.bsp_store_load.specs.declared.plan_rows.PlanRows.{PlanRows}
 
 -- what is left is the business day and the closes
 abbrev pub Follows : Bool → Rows → Rows → Published → Type 0
@@ -55,7 +55,7 @@ module _ (p : Published) (s : IsSoundPlan p) where
         let out : outcome old.published (Publish text) ≡ Ok made.0 = ap (λ q. outcome q (Publish text)) start ∙ made.1 in
         (ap is_ok told ∙ ap (λ r. is_ok (change_or_fault (is_held old.published (Publish text)) r)) out, made.0, after ∙ ap (λ r. record old { published = plan_left old.published r }) out, made.2)
 
-    module _ (formed : IsFormedPlan p) (stored : StoredRows) (are : AreRowsOfPlan p stored) where
+    module _ (formed : IsFormedPlan p) (stored : PlanRows) (are : AreRowsOfPlan p stored) where
       pub without_terms : (length stored.terms.items == 0) ≡ true → Follows true old old p
       without_terms none = day_alone (no_terms p.terms stored.terms.items are.terms none)
 

@@ -62,11 +62,6 @@ module _ {K X : Type 0} {R : K → K → Ordering} (o : IsTotalOrder R) where
       let up : IsStrictlySortedBy R (keys_of (entries (empty {X = X} {R = R}) ++ entries m)) = subst (λ l. IsStrictlySortedBy R (keys_of (l ++ entries m))) (sym none) (strictly R (entries m) (entries_sorted m)) in
       same_entries_map _ _ (entries-inserted o empty (entries m) up ∙ ap (λ l. l ++ entries m) none)
 
--- a condition that the whole does not change
-pub may_all : {E W : Type 0} (step : E → W → W) (P : E → Type 0) (es : List E) (w : W) → AllByRecursion P es → MayAll step (λ e v. P e) es w
-may_all step P [] w all = tt
-may_all step P (e ∷ es) w all = (all.0, may_all step P es (step e w) all.1)
-
 -- ---- one entry after another
 
 module _ {E R : Type 0} (row_of : E → R) where

@@ -1,9 +1,8 @@
 -- The content of the tables that keep rows.
-use Rattle.std.specs.Prelude.{◌≡◌, if◌then◌else◌, length, Option, Some, None}
+use Rattle.std.specs.Prelude.{◌≡◌, if◌then◌else◌, Option, Some, None}
 use Rattle.std.specs.FinMap.{FinMap, get, entries, from_entries}
 use Rattle.std.specs.List.{filter}
 use Rattle.sqlite_trees.specs.Tree.{Trees}
-use Rattle.bsp_rows.specs.Published.{Published}
 use Rattle.bsp_rows.specs.Tally.{Tally}
 use Rattle.bsp_rows.specs.declared.keys.TallyKey.{TallyKey}
 use Rattle.bsp_rows.specs.Rows.{Rows}

@@ -1,5 +1,7 @@
 pub mod Entries
-pub mod Ranges
+pub mod Loading
+pub mod Adding
+pub mod Nothing
 pub mod Stored
 pub mod Contents
 pub use Rattle.bsp_memory_rows.specs.Plans
@@ -11,4 +13,8 @@ pub use Rattle.bsp_store_base.specs.Content
 pub use Rattle.bsp_store_base.specs.Forms
 pub use Rattle.bsp_store_base.specs.Kept
 pub use Rattle.bsp_store_base.specs.Schema
+pub use Rattle.bsp_store_base.specs.Shows
 pub use Rattle.bsp_store_base.specs.Synced
+pub use Rattle.bsp_rows.specs.Memos
+pub use Rattle.bsp_rows.specs.Published
+pub use Rattle.bsp_rows.specs.SoundPlan

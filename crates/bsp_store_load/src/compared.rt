@@ -1,33 +1,60 @@
-//! Whether the tables in memory are what the rows of a store say.
+//! Tables in memory with the plan of a store.
 
-ghost use Rattle.std.specs.Prelude.{IsTrue};
-ghost use Rattle.bsp_store_load.specs.Contents.{content_now};
-ghost use Rattle.bsp_store_base.specs.Forms.{IsFormed};
-ghost use Rattle.bsp_store_load.specs.Stored.{AreRowsOf};
+ghost use Rattle.std.specs.Prelude.{◌≡◌, true, IfOk, IfSome, IsSomeAnd, IsTrue, OnOk};
+ghost use Rattle.bsp_rows.specs.Published.{Published, opening};
+ghost use Rattle.bsp_rows.specs.SoundPlan.{IsSoundPlan};
+ghost use Rattle.bsp_rows.specs.Rows.{Rows, no_rows};
+ghost use Rattle.bsp_memory_rows.specs.Tables.{IsDerived, rows_of};
+ghost use Rattle.bsp_store_load.specs.Stored.{AreRowsOfPlan, IsFormedPlan};
 
-use crate::callers::{are_agents, are_airline_tokens, are_ranges};
-use crate::items::are_items;
-use crate::memos::{are_memos, are_tallies};
 use crate::plan::{are_airlines, are_meta, are_periods, are_rates, are_terms};
-use crate::stored::StoredRows;
-use bsp_memory_rows::Tables;
+use crate::plan_rows::PlanRows;
+use crate::published::put_plan;
+use bsp_memory_rows::{NoRoom, Tables};
+use bsp_rows::Plan;
+use std::alloc::Global;
 
-/// Whether the rows are those of the tables in memory, table by table and in the same order. It takes no
-/// memory, and time in proportion to the rows.
-pub fn are_rows(rows: &StoredRows, tables: &Tables) -> bool
-    ensures same { IsTrue result → AreRowsOf (content_now tables.now) rows.now }
-    ensures whole { IsFormed (content_now tables.now) → AreRowsOf (content_now tables.now) rows.now → IsTrue result }
+/// Whether the rows are those of the plan, table by table and in the same order.
+fn are_rows_of_plan(rows: &PlanRows, plan: &Plan) -> bool
+    ensures same { IsTrue result → AreRowsOfPlan plan.now rows.now }
+    ensures whole { IsFormedPlan plan.now → AreRowsOfPlan plan.now rows.now → IsTrue result }
 {
-    let plan = tables.plan();
     are_meta(&rows.meta, plan)
         && are_terms(&rows.terms, plan)
         && are_airlines(&rows.airlines, plan)
         && are_rates(&rows.rates, plan)
         && are_periods(&rows.periods, plan)
-        && are_agents(&rows.agents, tables)
-        && are_airline_tokens(&rows.airline_tokens, tables)
-        && are_ranges(&rows.ranges, tables.range_table())
-        && are_items(&rows.items, tables.item_table())
-        && are_memos(&rows.memos, tables.memo_table())
-        && are_tallies(&rows.tallies, tables.tally_table())
+}
+
+/// Makes the plan that rows say in tables that have none, and answers false where they are the rows of no plan.
+fn put_whole_plan(alloc: Global, tables: &mut Tables, rows: &PlanRows) -> Result<bool, NoRoom>
+    ensures derived { OnOk result (IsDerived tables.old → IsDerived tables.new) }
+    ensures others { OnOk result (rows_of tables.new ≡ record (rows_of tables.old) { published = (rows_of tables.new).published }) }
+    ensures rows { IfOk result (λ done. IsTrue done → AreRowsOfPlan (rows_of tables.new).published rows.now) }
+    ensures plan { IfOk result (λ done. (p : Published) → IsSoundPlan p → IsFormedPlan p → AreRowsOfPlan p rows.now → (rows_of tables.old).published ≡ opening
+        → (done ≡ true) × (rows_of tables.new ≡ record (rows_of tables.old) { published = p })) }
+{
+    if !put_plan(alloc, tables, rows)? {
+        return Ok(false);
+    }
+    Ok(are_rows_of_plan(rows, tables.plan()))
+}
+
+/// Tables in memory with the plan whose rows these are, and nothing else; none where they are the rows of no plan.
+///
+/// # Errors
+///
+/// `NoRoom` where an allocation was refused.
+pub fn plan_tables(alloc: Global, rows: &PlanRows) -> Result<Option<Tables>, NoRoom>
+    ensures derived { IfOk result (λ found. IfSome found IsDerived) }
+    ensures rows { IfOk result (λ found. IfSome found (λ tables. AreRowsOfPlan (rows_of tables).published rows.now)) }
+    ensures alone { IfOk result (λ found. IfSome found (λ tables. rows_of tables ≡ record no_rows { published = (rows_of tables).published })) }
+    ensures plan { IfOk result (λ found. (p : Published) → IsSoundPlan p → IsFormedPlan p → AreRowsOfPlan p rows.now → IsSomeAnd found (λ tables. rows_of tables ≡ record no_rows { published = p })) }
+{
+    let mut tables = Tables::new(alloc);
+    if put_whole_plan(alloc, &mut tables, rows)? {
+        Ok(Some(tables))
+    } else {
+        Ok(None)
+    }
 }

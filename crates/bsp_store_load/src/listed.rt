@@ -25,20 +25,6 @@ pub trait RowOf<K, V> {
         ensures whole { has_row (key.now, value.now) → row.now ≡ row_of (key.now, value.now) → IsTrue result };
 }
 
-/// Each entry has a row.
-#[derive(Clone, Copy, Debug)]
-pub struct Each;
-
-impl<K, V> Rule<K, V> for Each {
-    ghost use Rattle.std.specs.Prelude.{true};
-
-    ghost holds = { λ rule key value. true };
-
-    fn holds(&self, _key: &K, _value: &V) -> bool {
-        true
-    }
-}
-
 /// Whether the rows are those of the entries of which a rule holds, in their order.
 pub fn are_rows_of<K: Ord + Copy + Drop, V: Copy + Drop, T: RowOf<K, V>, H: Rule<K, V>>(
     table: &T,

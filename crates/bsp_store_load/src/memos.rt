@@ -1,72 +1,57 @@
-//! The tables of memos and of tallies: each row against those in memory.
-
-ghost use Rattle.std.specs.Prelude.{◌≡◌, ◌↔◌, map, IsTrue};
-ghost use Rattle.std.specs.FinMap.{entries};
-ghost use Rattle.bsp_store_base.specs.Columns.{memo_row, tally_row};
-ghost use Rattle.bsp_store_load.specs.Contents.{used_tallies};
-ghost use Rattle.bsp_memory_tables.specs.MemoTables.{memo_rows};
-ghost use Rattle.bsp_memory_tables.specs.TallyTables.{tally_rows};
+//! The table of memos: each row, put into memory.
 
 use crate::equal::is_row;
-use crate::listed::{Each, RowOf, are_rows_of};
-use bsp_maps::Rule;
-use bsp_memory_tables::{MemoTable, TallyTable};
-use bsp_rows::{Memo, MemoKey, Tally, TallyKey};
-use bsp_store_memos::{MemoRow, TallyRow};
+use crate::load::StoredTable;
+use bsp_memory_rows::{NoRoom, Tables};
+use bsp_rows::{Memo, MemoKey};
+use bsp_store_memos::{MemoRow, memos_query, read_memo};
 use sqlite::Row;
 
 /// Memos.
 #[derive(Clone, Copy, Debug)]
-pub(crate) struct StoredMemos;
+pub struct StoredMemos;
 
-impl RowOf<MemoKey, Memo> for StoredMemos {
+impl StoredTable<MemoKey, Memo> for StoredMemos {
+    ghost use Rattle.std.specs.Prelude.{◌≡◌, map, None, true};
+    ghost use Rattle.std.specs.FinMap.{entries, get};
+    ghost use Rattle.bsp_rows.specs.Memos.{is_memo};
+    ghost use Rattle.bsp_rows.specs.Rows.{memo_key};
+    ghost use Rattle.bsp_rows.specs.Writes.{with_memo};
     ghost use Rattle.bsp_store_base.specs.Columns.{memo_row};
+    ghost use Rattle.bsp_store_base.specs.Content.{memo_part};
+    ghost use Rattle.bsp_store_base.specs.Forms.{IsMemoEntry};
+    ghost use Rattle.bsp_store_load.specs.Adding.{memo_added};
+
+    ghost part = { memo_part };
 
     ghost row_of = { memo_row };
 
-    fn is_row_of(&self, row: &Row, key: &MemoKey, memo: &Memo) -> bool {
-        is_row(row, &MemoRow::of(key, memo).values())
+    ghost with_entry = { λ e. with_memo e.1 };
+
+    ghost fits = { λ e. IsMemoEntry e × (memo_key e.1 ≡ e.0) × (is_memo e.1 ≡ true) };
+
+    ghost lacks = { λ e rows. (memo_key e.1 ≡ e.0) × (get rows.memos e.0 ≡ None) };
+
+    ghost rows_in = { λ rows. map memo_row (entries rows.memos) };
+
+    ghost adds = { memo_added };
+
+    fn query(&self) -> &'static str {
+        memos_query()
     }
-}
 
-/// Tallies.
-#[derive(Clone, Copy, Debug)]
-struct StoredTallies;
-
-impl RowOf<TallyKey, Tally> for StoredTallies {
-    ghost use Rattle.bsp_store_base.specs.Columns.{tally_row};
-
-    ghost row_of = { tally_row };
-
-    fn is_row_of(&self, row: &Row, key: &TallyKey, tally: &Tally) -> bool {
-        is_row(row, &TallyRow::of(key, tally).values())
+    fn put(&self, tables: &mut Tables, row: &Row) -> Result<bool, NoRoom> {
+        let Some((_, memo)) = read_memo(row) else {
+            return Ok(false);
+        };
+        let key = MemoKey::of(memo.fields());
+        if !is_row(row, &MemoRow::of(&key, &memo).values()) {
+            return Ok(false);
+        }
+        if tables.memo(key).is_some() {
+            return Ok(false);
+        }
+        tables.put_memo(&memo)?;
+        Ok(true)
     }
-}
-
-/// A tally to which some row adds has a row.
-#[derive(Clone, Copy, Debug)]
-struct Used;
-
-impl Rule<TallyKey, Tally> for Used {
-    ghost use Rattle.bsp_memory_rows.specs.Lookups.{has_rows};
-
-    ghost holds = { λ rule key tally. has_rows tally };
-
-    fn holds(&self, _key: &TallyKey, tally: &Tally) -> bool {
-        tally.accepted > 0 || tally.memo_count > 0
-    }
-}
-
-/// Whether the rows are those of the memos.
-pub(crate) fn are_memos(rows: &[Row], table: &MemoTable) -> bool
-    ensures { IsTrue result ↔ (rows.now ≡ map memo_row (entries (memo_rows table.now))) }
-{
-    are_rows_of(&StoredMemos, &Each, rows, table.map())
-}
-
-/// Whether the rows are those of the tallies to which some row adds.
-pub(crate) fn are_tallies(rows: &[Row], table: &TallyTable) -> bool
-    ensures { IsTrue result ↔ (rows.now ≡ map tally_row (entries (used_tallies (tally_rows table.now)))) }
-{
-    are_rows_of(&StoredTallies, &Used, rows, table.map())
 }

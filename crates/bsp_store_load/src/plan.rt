@@ -52,7 +52,7 @@ impl RowOf<usize, Rate> for Rates {
 
 /// Billing periods.
 #[derive(Clone, Copy, Debug)]
-pub(crate) struct Periods;
+struct Periods;
 
 impl RowOf<usize, Period> for Periods {
     ghost use Rattle.bsp_store_base.specs.Columns.{period_row};

@@ -12,11 +12,10 @@ ghost use Rattle.bsp_rows.specs.Terms.{Terms as TermsEntry};
 ghost use Rattle.bsp_store_base.specs.Columns.{Meta, airline_row, meta_rows, period_row, placed, rate_row, terms_rows};
 ghost use Rattle.bsp_store_base.specs.Forms.{AreTerms, IsAirline, IsMeta, IsPeriod, IsRate};
 ghost use Rattle.bsp_memory_rows.specs.Tables.{IsDerived, rows_of};
-ghost use Rattle.bsp_store_load.specs.Stored.{AreRowsOfPlan, IsFormedPlan};
+ghost use Rattle.bsp_store_load.specs.Entries.{MayAll, after_all};
+ghost use Rattle.bsp_store_load.specs.Stored.{AreRowsOfPlan, IsFormedPlan, MayClose, closing};
 
-use crate::plan::Periods;
-use crate::puts::put_rows;
-use crate::stored::StoredRows;
+use crate::plan_rows::PlanRows;
 use bsp_memory_rows::{NoRoom, Tables};
 use bsp_rows::{AirlineCode, Day, Period, PlanText, Rate, Terms};
 use bsp_store_plan::{read_airline, read_meta, read_period, read_rate, read_terms};
@@ -81,7 +80,7 @@ fn periods_in(alloc: Global, rows: &[Row]) -> Result<Option<Vec<Period>>, AllocE
 
 /// The plan's text that rows of terms say, with the airlines, rates and periods; none where there are no terms,
 /// or a row reads as none.
-fn text_of(alloc: Global, rows: &StoredRows) -> Result<Option<PlanText>, AllocError>
+fn text_of(alloc: Global, rows: &PlanRows) -> Result<Option<PlanText>, AllocError>
     ensures { IfOk result (λ found. (p : Published) (terms : TermsEntry) → p.terms ≡ Some terms → IsFormedPlan p → AreRowsOfPlan p rows.now → IsSomeAnd found (IsTextOf p)) }
 {
     let Some(terms) = terms_in(&rows.terms) else {
@@ -105,8 +104,9 @@ fn text_of(alloc: Global, rows: &StoredRows) -> Result<Option<PlanText>, AllocEr
 }
 
 /// Publishes the entries that rows say, if there are terms, and answers false where that is refused.
-fn publish_rows(alloc: Global, tables: &mut Tables, rows: &StoredRows) -> Result<bool, NoRoom>
+fn publish_rows(alloc: Global, tables: &mut Tables, rows: &PlanRows) -> Result<bool, NoRoom>
     ensures derived { OnOk result (IsDerived tables.old → IsDerived tables.new) }
+    ensures others { OnOk result (rows_of tables.new ≡ record (rows_of tables.old) { published = (rows_of tables.new).published }) }
     ensures plan { IfOk result (λ done. (p : Published) → IsSoundPlan p → IsFormedPlan p → AreRowsOfPlan p rows.now → (rows_of tables.old).published ≡ opening
         → (done ≡ true) × (next : Published) × (rows_of tables.new ≡ record (rows_of tables.old) { published = next }) × IsReached next (SetDay p.day ∷ map (λ code. Close code) p.closed) p) }
 {
@@ -120,9 +120,36 @@ fn publish_rows(alloc: Global, tables: &mut Tables, rows: &StoredRows) -> Result
     }
 }
 
-/// Sets the business day and closes the periods that rows say, and answers false where that is refused.
-fn move_on(tables: &mut Tables, rows: &StoredRows) -> Result<bool, NoRoom>
+/// Closes the period of a row, and answers false where the row is none or the period is not closed.
+fn close_period(tables: &mut Tables, row: &Row) -> Result<bool, NoRoom>
     ensures derived { OnOk result (IsDerived tables.old → IsDerived tables.new) }
+    ensures others { OnOk result (rows_of tables.new ≡ record (rows_of tables.old) { published = (rows_of tables.new).published }) }
+    ensures entry { IfOk result (λ done. (e : ℕ × PeriodEntry) → MayClose IsPeriod e (rows_of tables.old) → row.now ≡ period_row e → (done ≡ true) × (rows_of tables.new ≡ closing e (rows_of tables.old))) }
+{
+    let Some(period) = read_period(row) else {
+        return Ok(false);
+    };
+    Ok(tables.close(period.code)?.is_ok())
+}
+
+/// Closes the periods of rows, one after another, and answers false at the first that is not closed.
+fn close_periods(tables: &mut Tables, rows: &[Row]) -> Result<bool, NoRoom>
+    ensures derived { OnOk result (IsDerived tables.old → IsDerived tables.new) }
+    ensures others { OnOk result (rows_of tables.new ≡ record (rows_of tables.old) { published = (rows_of tables.new).published }) }
+    ensures entries { IfOk result (λ done. (es : List (ℕ × PeriodEntry)) → MayAll closing (MayClose IsPeriod) es (rows_of tables.old) → rows.now ≡ map period_row es → (done ≡ true) × (rows_of tables.new ≡ after_all closing es (rows_of tables.old))) }
+{
+    for row in rows {
+        if !close_period(tables, row)? {
+            return Ok(false);
+        }
+    }
+    Ok(true)
+}
+
+/// Sets the business day and closes the periods that rows say, and answers false where that is refused.
+fn move_on(tables: &mut Tables, rows: &PlanRows) -> Result<bool, NoRoom>
+    ensures derived { OnOk result (IsDerived tables.old → IsDerived tables.new) }
+    ensures others { OnOk result (rows_of tables.new ≡ record (rows_of tables.old) { published = (rows_of tables.new).published }) }
     ensures plan { IfOk result (λ done. (p : Published) → IsSoundPlan p → IsFormedPlan p → AreRowsOfPlan p rows.now → IsReached (rows_of tables.old).published (SetDay p.day ∷ map (λ code. Close code) p.closed) p
         → (done ≡ true) × (rows_of tables.new ≡ record (rows_of tables.old) { published = p })) }
 {
@@ -137,16 +164,13 @@ fn move_on(tables: &mut Tables, rows: &StoredRows) -> Result<bool, NoRoom>
     if tables.set_day(day)?.is_err() {
         return Ok(false);
     }
-    put_rows(&Periods, tables, &periods[..closed])
+    close_periods(tables, &periods[..closed])
 }
 
 /// Makes the plan that rows say, and answers false where there is none.
-pub(crate) fn put_plan(
-    alloc: Global,
-    tables: &mut Tables,
-    rows: &StoredRows,
-) -> Result<bool, NoRoom>
+pub(crate) fn put_plan(alloc: Global, tables: &mut Tables, rows: &PlanRows) -> Result<bool, NoRoom>
     ensures derived { OnOk result (IsDerived tables.old → IsDerived tables.new) }
+    ensures others { OnOk result (rows_of tables.new ≡ record (rows_of tables.old) { published = (rows_of tables.new).published }) }
     ensures plan { IfOk result (λ done. (p : Published) → IsSoundPlan p → IsFormedPlan p → AreRowsOfPlan p rows.now → (rows_of tables.old).published ≡ opening
         → (done ≡ true) × (rows_of tables.new ≡ record (rows_of tables.old) { published = p })) }
 {

@@ -3,3 +3,4 @@ pub mod Orders
 pub mod TallyTable
 pub mod MemoTable
 pub mod OtherTexts
+pub mod Shown

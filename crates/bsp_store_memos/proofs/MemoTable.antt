@@ -84,9 +84,6 @@ insert_text = codes "INSERT INTO memo (airline, number, agent, kind, amount, fir
 abbrev pub update_text : List ℕ
 update_text = codes "UPDATE memo SET agent = ?3, kind = ?4, amount = ?5, first_amount = ?6, reason = ?7, issued = ?8, state = ?9, billed = ?10 WHERE airline = ?1 AND number = ?2"
 
-abbrev pub all_text : List ℕ
-all_text = codes "SELECT airline, number, agent, kind, amount, first_amount, reason, issued, state, billed FROM memo ORDER BY airline, number"
-
 pub delete_is : (command_of (understood our_schema delete_text) ≡ deletion memo_map) × IsPlain (understood our_schema delete_text)
 unfolding understood everything
 delete_is = (refl, (refl, refl))
@@ -99,12 +96,15 @@ pub update_is : (command_of (understood our_schema update_text) ≡ change memo_
 unfolding understood everything
 update_is = (refl, (refl, refl))
 
+abbrev pub memos_query : List ℕ
+memos_query = codes "SELECT airline, number, agent, kind, amount, first_amount, reason, issued, state, billed FROM memo ORDER BY airline, number"
+
 abbrev pub names : List (List ℕ)
 names = map (λ (c : Column). c.name) memo_columns
 
 abbrev pub order : List (Term × Key)
 order = (col 1 1, ascending Binary) ∷ (col 1 2, ascending Binary) ∷ []
 
-pub all_is : (command_of (understood our_schema all_text) ≡ Select (record { lets = []; body = simple 16 [] (map (col 1) (range_with_len 1 10)) order }) names) × IsPlain (understood our_schema all_text) × (reads_listing our_schema all_text ≡ false)
+pub all_is : (command_of (understood our_schema memos_query) ≡ Select (record { lets = []; body = simple 16 [] (map (col 1) (range_with_len 1 10)) order }) names) × IsPlain (understood our_schema memos_query) × (reads_listing our_schema memos_query ≡ false)
 unfolding understood everything
 all_is = (refl, (refl, refl), refl)

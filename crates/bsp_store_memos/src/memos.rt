@@ -5,15 +5,15 @@ ghost use Rattle.sqlite_value.specs.declared.value.Value.TheVariants.{Text};
 ghost use Rattle.sqlite.specs.Held.{state};
 ghost use Rattle.sqlite.specs.Values.{bound, bound_value, or_null};
 ghost use Rattle.bsp_store_base.specs.Columns.{code_digits, memo_row};
-ghost use Rattle.bsp_store_base.specs.Content.{memo_part};
-ghost use Rattle.bsp_store_base.specs.Shows.{ShowsAll};
 ghost use Rattle.bsp_store_base.specs.Calls.{Changes, GivesUp};
 ghost use Rattle.bsp_store_base.specs.Synced.{with_value};
+ghost use Rattle.bsp_store_base.specs.Content.{memo_part};
+ghost use Rattle.bsp_store_base.specs.Shows.{ShowsTable};
 ghost use Rattle.bsp_store_memos.specs.Written.{memo_written};
 
 use bsp_rows::{Memo, MemoKey, MemoKind, MemoState, PeriodCode, Reason};
 use bsp_store_base::{agent_digits, airline_digits, number_digits, period_digits};
-use sqlite::{Alter, Connection, Error, Row};
+use sqlite::{Alter, Connection, Error};
 use sqlite_value::value::ValueRef;
 
 /// What is written of a memo: its key and its other codes in digits, and the rest of its fields.
@@ -159,17 +159,10 @@ pub fn put_memo<S: Alter>(
     Ok(())
 }
 
-/// All rows of the table, in the order of their keys.
-///
-/// # Errors
-///
-/// Where the store fails.
-pub fn all_memos<S: Alter>(conn: &mut Connection<S>) -> Result<Vec<Row>, Error>
-    ensures { ShowsAll memo_part S.Store conn.old conn.new result }
+/// The query for all rows of the table, in the order of their keys.
+pub fn memos_query() -> &'static str
+    ensures { ShowsTable memo_part result.now }
 {
-    conn.query_all(
-        "SELECT airline, number, agent, kind, amount, first_amount, reason, issued, state, billed FROM memo \
-         ORDER BY airline, number",
-        &[],
-    )
+    "SELECT airline, number, agent, kind, amount, first_amount, reason, issued, state, billed FROM memo \
+     ORDER BY airline, number"
 }

@@ -1,1 +1,2 @@
 pub mod OpeningLemmas
+pub mod LoadedLemmas

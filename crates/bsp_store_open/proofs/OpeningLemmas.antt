@@ -1,5 +1,5 @@
 -- From the rows that an opening read to what the tables keep.
-use Rattle.std.proofs.Common.{◌≡◌, ℕ, List, [], ◌∷◌, length, map, None, false, Result, Ok, Err, IfOk, IsTrue, IsPermutation, inl, inr, refl, sym, ap, subst, ◌∙◌, arith}
+use Rattle.std.proofs.Common.{◌≡◌, ℕ, List, [], ◌∷◌, length, map, None, false, Result, Ok, Err, IfOk, OnOk, IsTrue, IsPermutation, inl, inr, refl, sym, ap, subst, ◌∙◌, arith}
 use Rattle.std.specs.Prelude.{◌⊎◌, IfErr, IsErrAnd, true}
 use Rattle.std.specs.List.{AllByRecursion}
 use Rattle.std.proofs.lemmas.List.Sorted.{IsPermutation-sym}
@@ -25,13 +25,15 @@ use Rattle.bsp_store_load.specs.Columns.{Meta, count, meta_row, meta_rows, versi
 use Rattle.bsp_store_load.specs.Content.{Content, form, meta_part, width_of}
 use Rattle.bsp_store_load.specs.Contents.{IsContentOf, KeepsBook, content_now}
 use Rattle.bsp_store_load.specs.Forms.{IsFormed}
-use Rattle.bsp_store_load.specs.declared.stored.StoredRows.{StoredRows}
-use Rattle.bsp_store_load.specs.Stored.{AreNoBook, AreRowsOf}
+use Rattle.bsp_store_load.specs.Loading.{HasRows}
+use Rattle.bsp_store_load.specs.Shows.{AreAllOf}
+use Rattle.bsp_store_load.specs.Stored.{AreCommitted}
 use Rattle.bsp_store_open.specs.Faults.{is_refusal}
 use Rattle.bsp_store_open.specs.declared.fault.OpenFault.{OpenFault}
-use Rattle.bsp_store_open.specs.declared.fault.OpenFault.TheVariants.{NoRoom, Damaged}
-use Rattle.bsp_store_open.specs.Opening.{AreAllOf, AreAllRows, Finds, HasNoBook, IsNoBook, IsOfOther, IsOfVersion, IsOrdered, IsRead, KeepsAtRest, LeavesCommitted, Reopens, Reports, SparesStore, WasForeign, WasNoBook}
-use Rattle.bsp_store_load.proofs.Tallies.{content_is}
+use Rattle.bsp_store_open.specs.declared.fault.OpenFault.TheVariants.{NoRoom}
+use Rattle.bsp_store_open.specs.Loaded.{IsAllLoaded}
+use Rattle.bsp_store_open.specs.Opening.{Finds, HasNoBook, IsNoBook, IsOfOther, IsOfVersion, IsOrdered, IsRead, KeepsAtRest, LeavesCommitted, Misses, Reopens, Reports, SparesStore, WasForeign, WasNoBook}
+use Rattle.bsp_store_load.proofs.TallyLemmas.{content_is}
 
 -- ---- one query after another
 
@@ -40,26 +42,18 @@ pub passed_on : {X E : Type 0} (P : E → Type 0) (r : Result X E) (e : E) → I
 passed_on P (Ok x) e is p = tt
 passed_on P (Err f) e is p = subst P (sym is) p
 
+pub on_ok : {X E : Type 0} (P Q : Type 0) (r : Result X E) → OnOk r P → (P → Q) → OnOk r Q
+on_ok P Q (Ok x) it so = so it
+on_ok P Q (Err e) it so = tt
+
+pub if_err : {X E : Type 0} (P Q : E → Type 0) (r : Result X E) → IfErr r P → ((e : E) → P e → Q e) → IfErr r Q
+if_err P Q (Ok x) it so = tt
+if_err P Q (Err e) it so = so e it
+
 -- a value was given, and what is known of it is enough
 pub if_read : {X E : Type 0} (P Q : X → Type 0) (r : Result X E) → IfOk r P → ((x : X) → P x → Q x) → IfOk r Q
 if_read P Q (Ok x) it so = so x it
 if_read P Q (Err e) it so = tt
-
--- the rows of a content that the trees keep are read in its order
-in_order_all : (stored : StoredRows) (trees : Trees) → AreAllRows trees stored → (c : Content) → IsFormed c → KeepsRows form c trees → AreRowsOf c stored
-in_order_all stored trees all c formed keeps = record {
-  meta = all.meta.in_order c formed keeps;
-  terms = all.terms.in_order c formed keeps;
-  airlines = all.airlines.in_order c formed keeps;
-  rates = all.rates.in_order c formed keeps;
-  periods = all.periods.in_order c formed keeps;
-  agents = all.agents.in_order c formed keeps;
-  airline_tokens = all.airline_tokens.in_order c formed keeps;
-  ranges = all.ranges.in_order c formed keeps;
-  items = all.items.in_order c formed keeps;
-  memos = all.memos.in_order c formed keeps;
-  tallies = all.tallies.in_order c formed keeps;
-}
 
 module _ {S : Type 0} (g : Ghosts S) where
   pub asked : (old new : Held S) (part : Part Content) (rows : List Row) → old.schema ≡ our_schema → Reads g old new
@@ -88,14 +82,15 @@ module _ {S : Type 0} (g : Ghosts S) where
       let was_clean = spares.earlier clean in
       subst (IsNoBook fault) (finds.read.same was_clean) (none clean)
 
-  -- no rows of a book are these
-  pub no_book_of : (fault : OpenFault) (old new : Held S) (stored : StoredRows) → Finds g old new (λ trees. AreAllRows trees stored) → AreNoBook stored → Reports fault stored.meta.items → HasNoBook g fault old new
-  no_book_of fault old new stored finds none reports clean ours = record {
-    none = λ rows c sound content formed keeps. none rows c sound content formed (in_order_all stored _ (finds.found clean) c formed keeps);
-    meta = stored.meta.items;
-    all = (finds.found clean).meta.in_any_order;
-    reports = reports;
-  }
+  -- the tables are as they were when something was found of them
+  pub missed_after : (a b c : Held S) (F P : Trees → Type 0) → Finds g a b F → Spares g b c → Misses g b c P → Misses g a c (λ trees. F trees × P trees)
+  missed_after a b c F P finds spares misses clean ours =
+      let was_clean = spares.earlier clean in
+      let same = finds.read.same was_clean in
+      (finds.found was_clean, subst (λ (db : Database). P db.trees) same (misses clean (ap (λ (db : Database). db.schema) same ∙ ours)))
+
+  pub misses_more : (a b : Held S) (P Q : Trees → Type 0) → Misses g a b P → ((trees : Trees) → P trees → Q trees) → Misses g a b Q
+  misses_more a b P Q misses so clean ours = so _ (misses clean ours)
 
   -- what is found of the same tables one after the other
   pub both : (a b c : Held S) (F G : Trees → Type 0) → Finds g a b F → Finds g b c G → Finds g a c (λ trees. F trees × G trees)
@@ -130,54 +125,36 @@ other_version g fault old new read finds other reports clean ours = record {
 }
 
 -- rows of `meta` with the version of this crate have no other one
-not_other : (rows : List Row) → IsOfVersion rows → IsOfOther rows → ⊥
+pub not_other : (rows : List Row) → IsOfVersion rows → IsOfOther rows → ⊥
 not_other rows is other =
     let rows_are : is.row ∷ is.more ≡ other.row ∷ other.more = sym is.first ∙ other.first in
     let same : is.row ≡ other.row = cc rows_are in
     let value : Int other.found ≡ count version = sym other.has ∙ ap (λ (r : Row). column r 0) (sym same) ∙ is.version in
     other.other (cc value)
 
--- a store whose rows of `meta` have that version is damaged, if anything
-pub reports_damage : (fault : OpenFault) (rows : List Row) → (fault ≡ NoRoom) ⊎ (fault ≡ Damaged) → IsOfVersion rows → Reports fault rows
-reports_damage fault rows which is = elim which [ inl full ↦ subst (λ f. Reports f rows) (sym full) tt | inr damaged ↦ subst (λ f. Reports f rows) (sym damaged) (not_other rows is) ]
-
 -- ---- the tables keep the rows
 
-keeps_table : (width : ℕ) (content tree rows : List Row) → IsTable tree × AllByRecursion (λ r. IsTrue (is_int (rowid r))) tree → IsPermutation (map (columns_of width) tree) rows → rows ≡ content
-    → KeepsTable width content tree
-keeps_table width content tree rows order all is = record {
-  table = order.0;
-  keyed = order.1;
-  rows = IsPermutation-sym _ _ (subst (IsPermutation (map (columns_of width) tree)) is all);
-}
+keeps_table : (width : ℕ) (content tree : List Row) → IsTable tree × AllByRecursion (λ r. IsTrue (is_int (rowid r))) tree → IsPermutation (map (columns_of width) tree) content → KeepsTable width content tree
+keeps_table width content tree order all = record { table = order.0; keyed = order.1; rows = IsPermutation-sym _ _ all }
 
-keeps_all : (c : Content) (trees : Trees) (rows : StoredRows) → AreInOrder trees → AreAllRows trees rows → AreRowsOf c rows → KeepsRows form c trees
-keeps_all c trees rows (o0, (o1, (o2, (o4, (o6, (o8, (o10, (o12, (o14, (o16, (o18, _))))))))))) all are = (
-  keeps_table 3 _ (trees 0) _ o0 all.meta.in_any_order are.meta,
+keeps_all : (c : Content) (trees : Trees) → AreInOrder trees → AllByRecursion (λ (p : Part Content). HasRows p c trees) form.parts → KeepsRows form c trees
+keeps_all c trees (o0, (o1, (o2, (o4, (o6, (o8, (o10, (o12, (o14, (o16, (o18, _))))))))))) (p0, (p1, (p2, (p4, (p6, (p8, (p10, (p12, (p14, (p16, (p18, _))))))))))) = (
+  keeps_table 3 _ (trees 0) o0 p0,
   (
-    keeps_table 3 _ (trees 1) _ o1 all.terms.in_any_order are.terms,
+    keeps_table 3 _ (trees 1) o1 p1,
     (
-      keeps_table 2 _ (trees 2) _ o2 all.airlines.in_any_order are.airlines,
+      keeps_table 2 _ (trees 2) o2 p2,
       (
-        keeps_table 4 _ (trees 4) _ o4 all.rates.in_any_order are.rates,
+        keeps_table 4 _ (trees 4) o4 p4,
         (
-          keeps_table 5 _ (trees 6) _ o6 all.periods.in_any_order are.periods,
+          keeps_table 5 _ (trees 6) o6 p6,
           (
-            keeps_table 2 _ (trees 8) _ o8 all.agents.in_any_order are.agents,
+            keeps_table 2 _ (trees 8) o8 p8,
             (
-              keeps_table 2 _ (trees 10) _ o10 all.airline_tokens.in_any_order are.airline_tokens,
+              keeps_table 2 _ (trees 10) o10 p10,
               (
-                keeps_table 3 _ (trees 12) _ o12 all.ranges.in_any_order are.ranges,
-                (
-                  keeps_table 21 _ (trees 14) _ o14 all.items.in_any_order are.items,
-                  (
-                    keeps_table 10 _ (trees 16) _ o16 all.memos.in_any_order are.memos,
-                    (
-                      keeps_table 11 _ (trees 18) _ o18 all.tallies.in_any_order are.tallies,
-                      tt,
-                    ),
-                  ),
-                ),
+                keeps_table 3 _ (trees 12) o12 p12,
+                (keeps_table 21 _ (trees 14) o14 p14, (keeps_table 10 _ (trees 16) o16 p16, (keeps_table 11 _ (trees 18) o18 p18, tt))),
               ),
             ),
           ),
@@ -187,10 +164,10 @@ keeps_all c trees rows (o0, (o1, (o2, (o4, (o6, (o8, (o10, (o12, (o14, (o16, (o1
   ),
 )
 
-module _ {S : Type 0} (g : Ghosts S) (old new : Held S) (order : IsOrdered g old) (stored : StoredRows) (finds : Finds g old new (λ trees. AreAllRows trees stored)) (c : Content) (are : AreRowsOf c stored)
+module _ {S : Type 0} (g : Ghosts S) (old new : Held S) (order : IsOrdered g old) (c : Content) (finds : Finds g old new (λ trees. AllByRecursion (λ (p : Part Content). HasRows p c trees) form.parts))
     (rows : Rows) (content : IsContentOf rows c) where
   keeps_old : HasCleanDisk (state g new) → KeepsRows form c (state g old).now.trees
-  keeps_old clean = keeps_all c (state g old).now.trees stored (order (finds.read.earlier clean) finds.ours) (finds.found clean) are
+  keeps_old clean = keeps_all c (state g old).now.trees (order (finds.read.earlier clean) finds.ours) (finds.found clean)
 
   pub found_of : HasCleanDisk (state g new) → KeepsBook rows (state g old).now.trees
   found_of clean = (c, content, keeps_old clean)
@@ -216,27 +193,21 @@ module _ {S : Type 0} (g : Ghosts S) (old new : Held S) (order : IsOrdered g old
     ),
   )
 
--- the tables have the rows of a book in memory
-module _ {S : Type 0} (g : Ghosts S) (old new : Held S) (order : IsOrdered g old) (stored : StoredRows) (finds : Finds g old new (λ trees. AreAllRows trees stored)) where
-  pub list_read : (list : ListBook) (rows : Rows) → ListHolds list rows None → Sound rows → AreRowsOf (content_now list.tables) stored → new.in_transaction ≡ false
+-- the tables have the rows of tables in memory, which become a book
+module _ {S : Type 0} (g : Ghosts S) (old new : Held S) (order : IsOrdered g old) (tables : Tables) (kept : AreCommitted tables) (finds : Finds g old new (λ trees. IsAllLoaded trees tables)) where
+  pub tables_read : (list : ListBook) (rows : Rows) → list.tables ≡ tables → ListHolds list (rows_of tables) None → rows_of tables ≡ rows → Sound rows → new.in_transaction ≡ false
       → (IsTrue (state g new).is_open → (state g new).now ≡ (state g new).committed) → ((db : Trees) → IsTrue (state g new).is_open → (state g new).may_leave db → db ≡ (state g new).committed.trees)
       → IsRead g old new list rows
-  list_read list rows holds sound are outside settled leaves =
-      let content : IsContentOf rows (content_now list.tables) = subst (λ r. IsContentOf r (content_now list.tables)) (sym holds.rows) (content_is (rows_of list.tables) _ holds.derived.totals) in
+  tables_read list rows same holds is sound outside settled leaves =
+      let content : IsContentOf rows (content_now tables) = subst (λ r. IsContentOf r (content_now tables)) is (content_is (rows_of tables) _ kept.derived.totals) in
+      let has = weaker g old new _ _ (λ trees loaded. loaded.rows) finds in
       record {
-        listed = holds;
+        listed = subst (λ r. ListHolds list r None) is holds;
         sound = sound;
-        kept = at_rest g old new order stored finds (content_now list.tables) are rows content outside settled leaves;
-        earlier = finds.read.earlier;
-        found = found_of g old new order stored finds (content_now list.tables) are rows content;
+        kept = at_rest g old new order (content_now tables) has rows content outside settled leaves;
+        earlier = has.read.earlier;
+        found = found_of g old new order (content_now tables) has rows content;
       }
-
-  -- or of tables that become one
-  pub tables_read : (list : ListBook) (tables : Tables) → list.tables ≡ tables → ListHolds list (rows_of tables) None → Sound (rows_of tables) → AreRowsOf (content_now tables) stored → new.in_transaction ≡ false
-      → (IsTrue (state g new).is_open → (state g new).now ≡ (state g new).committed) → ((db : Trees) → IsTrue (state g new).is_open → (state g new).may_leave db → db ≡ (state g new).committed.trees)
-      → IsRead g old new list (rows_of list.tables)
-  tables_read list tables same holds sound are outside settled leaves =
-      list_read list (rows_of list.tables) (subst (λ t. ListHolds list (rows_of t) None) (sym same) holds) (subst (λ t. Sound (rows_of t)) (sym same) sound) (subst (λ t. AreRowsOf (content_now t) stored) (sym same) are) outside settled leaves
 
 -- ---- an opening that is refused
 

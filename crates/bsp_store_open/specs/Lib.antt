@@ -1,4 +1,5 @@
 pub mod Faults
 pub mod Opening
+pub mod Loaded
 pub use Rattle.bsp_store_load.specs.Contents
 pub use Rattle.bsp_store_load.specs.Schema

@@ -14,26 +14,17 @@ use Rattle.bsp_book.specs.Listed.{meaning as listed}
 use Rattle.bsp_book.specs.declared.list.ListBook.{ListBook}
 use Rattle.bsp_store_schema.specs.Order.{AreInOrder}
 use Rattle.bsp_store_load.specs.Schema.{no_schema, our_schema}
-use Rattle.bsp_store_load.specs.Kept.{IsOutside, KeepsRows, Part, Reads, HasContents, columns_of}
+use Rattle.bsp_store_load.specs.Kept.{IsOutside, KeepsRows, Reads, HasContents, columns_of}
 use Rattle.bsp_store_load.specs.Columns.{count, version}
-use Rattle.bsp_store_load.specs.Content.{Content, agent_part, airline_part, airline_token_part, form, item_part, memo_part, meta_part, period_part, rate_part, stock_part, tally_part, terms_part, width_of}
+use Rattle.bsp_store_load.specs.Content.{Content, airline_part, form, meta_part, period_part, rate_part, terms_part, width_of}
 use Rattle.bsp_store_load.specs.Contents.{IsContentOf, KeepsBook}
 use Rattle.bsp_store_load.specs.Forms.{IsFormed}
-use Rattle.bsp_store_load.specs.declared.stored.StoredRows.{StoredRows}
+use Rattle.bsp_store_load.specs.Shows.{AreAllOf}
+use Rattle.bsp_store_load.specs.declared.plan_rows.PlanRows.{PlanRows}
 use Rattle.bsp_store_open.specs.declared.fault.OpenFault.{OpenFault}
 use Rattle.bsp_store_open.specs.declared.fault.OpenFault.TheVariants.{NoRoom, Damaged, Failed, OtherVersion}
-use Rattle.bsp_store_open.specs.Faults.{is_refusal}
-use Rattle.bsp_store_open.specs.declared.reading.PlanRows.{PlanRows}
-use Rattle.bsp_store_open.specs.declared.reading.CallerRows.{CallerRows}
-use Rattle.bsp_store_open.specs.declared.reading.DocumentRows.{DocumentRows}
 
 -- ---- all rows
-
--- all rows of a table: those of its tree in some order, and in the order of the content, where the trees keep one whose
--- values the program's types have
-pub record AreAllOf (part : Part Content) (trees : Trees) (rows : List Row) : Type 0 where
-  pub in_any_order : IsPermutation (map (columns_of (width_of part.tree)) (trees part.tree)) rows
-  pub in_order : (c : Content) → IsFormed c → KeepsRows form c trees → rows ≡ part.rows c
 
 pub record ArePlanRows (trees : Trees) (rows : PlanRows) : Type 0 where
   pub meta : AreAllOf meta_part trees rows.meta.items
@@ -41,29 +32,6 @@ pub record ArePlanRows (trees : Trees) (rows : PlanRows) : Type 0 where
   pub airlines : AreAllOf airline_part trees rows.airlines.items
   pub rates : AreAllOf rate_part trees rows.rates.items
   pub periods : AreAllOf period_part trees rows.periods.items
-
-pub record AreCallerRows (trees : Trees) (rows : CallerRows) : Type 0 where
-  pub agents : AreAllOf agent_part trees rows.agents.items
-  pub airline_tokens : AreAllOf airline_token_part trees rows.airline_tokens.items
-  pub ranges : AreAllOf stock_part trees rows.ranges.items
-
-pub record AreDocumentRows (trees : Trees) (rows : DocumentRows) : Type 0 where
-  pub items : AreAllOf item_part trees rows.items.items
-  pub memos : AreAllOf memo_part trees rows.memos.items
-  pub tallies : AreAllOf tally_part trees rows.tallies.items
-
-pub record AreAllRows (trees : Trees) (rows : StoredRows) : Type 0 where
-  pub meta : AreAllOf meta_part trees rows.meta.items
-  pub terms : AreAllOf terms_part trees rows.terms.items
-  pub airlines : AreAllOf airline_part trees rows.airlines.items
-  pub rates : AreAllOf rate_part trees rows.rates.items
-  pub periods : AreAllOf period_part trees rows.periods.items
-  pub agents : AreAllOf agent_part trees rows.agents.items
-  pub airline_tokens : AreAllOf airline_token_part trees rows.airline_tokens.items
-  pub ranges : AreAllOf stock_part trees rows.ranges.items
-  pub items : AreAllOf item_part trees rows.items.items
-  pub memos : AreAllOf memo_part trees rows.memos.items
-  pub tallies : AreAllOf tally_part trees rows.tallies.items
 
 -- the first row of `meta` has the version of this crate
 pub record IsOfVersion (rows : List Row) : Type 0 where
@@ -113,6 +81,10 @@ module _ {S : Type 0} (g : Ghosts S) where
     pub ours : old.schema ≡ our_schema
     pub read : Reads g old new
     pub found : HasCleanDisk (state g new) → Found (state g old).now.trees
+
+  -- this is found of the tables of a book, though what is looked for was missed
+  abbrev pub Misses : Held S → Held S → (Trees → Type 0) → Type 0
+  Misses old new Found = HasCleanDisk (state g new) → old.schema ≡ our_schema → Found (state g old).now.trees
 
   -- what was read shows that there is no book of this version
   abbrev pub HasNoBook : OpenFault → Held S → Held S → Type 0

@@ -1,15 +1,18 @@
 //! A store read as a book, before the book is opened.
 //!
 //! [`kept_list`] reads all rows of a store and answers the book in memory that they keep, and [`empty_list`] does so in a
-//! new store. [`stored_rows`] answers the rows alone. [`again`] opens a connection again over its own store. [`OpenFault`] says
-//! why a store is refused.
+//! new store. [`plan_rows`] and [`tallies`] answer rows as they are, and [`load_rows`] puts those of a further table into
+//! memory. [`again`] opens a connection again over its own store.
+//! [`OpenFault`] says why a store is refused.
 #![tactic(auto)]
 
 mod fault;
 mod opening;
 mod reading;
+mod tables;
 
 pub use bsp_store_schema::{is_bare, is_ours};
 pub use fault::OpenFault;
 pub use opening::{again, empty_list, kept_list};
-pub use reading::{refusal, stored_rows};
+pub use reading::{plan_rows, refusal, tallies};
+pub use tables::load_rows;

@@ -2,20 +2,17 @@
 
 ghost use Rattle.std.specs.Prelude.{◌≡◌, ◌⊎◌, true, false, IfErr, IfOk, None, OnOk, IsTrue};
 ghost use Rattle.sqlite.specs.Held.{state};
-ghost use Rattle.bsp_book.specs.Listed.{meaning as listed};
 ghost use Rattle.bsp_book.specs.Rows.{no_rows};
 ghost use Rattle.bsp_book.specs.Sound.{Sound};
 ghost use Rattle.bsp_store_load.specs.MemoryRowsTables.{rows_of};
-ghost use Rattle.bsp_store_load.specs.Contents.{content_now};
-ghost use Rattle.bsp_store_load.specs.Stored.{AreCommitted, AreNoBook, AreRowsOf};
 ghost use Rattle.bsp_store_load.specs.Kept.{Spares};
 ghost use Rattle.bsp_store_open.specs.Faults.{is_refusal};
 ghost use Rattle.bsp_store_open.specs.Opening.{HasNoBook, IsOrdered, IsRead, LeavesCommitted, Reopens};
 
 use crate::fault::OpenFault;
-use crate::reading::stored_rows;
+use crate::tables::kept_tables;
 use bsp_book::ListBook;
-use bsp_store_load::{StoredRows, Tables, are_rows, tables_of};
+use bsp_store_load::{Tables, has_nothing};
 use bsp_store_schema::reopen;
 use sqlite::{Alter, Connection, Error, ErrorCode};
 use std::alloc::Global;
@@ -33,21 +30,15 @@ fn expect_rest<S: Alter>(conn: &Connection<S>) -> Result<(), OpenFault>
     }
 }
 
-/// The tables in memory whose rows these are, if they are sound.
-fn sound_tables(alloc: Global, rows: &StoredRows) -> Result<Tables, OpenFault>
-    ensures committed { IfOk result AreCommitted }
-    ensures rows { IfOk result (λ tables. AreRowsOf (content_now tables) rows.now) }
-    ensures sound { IfOk result (λ tables. Sound (rows_of tables)) }
-    ensures refused { IfErr result (λ fault. is_refusal fault ≡ true → AreNoBook rows.now) }
-    ensures fault { IfErr result (λ fault. (fault ≡ OpenFault.NoRoom) ⊎ (fault ≡ OpenFault.Damaged)) }
+/// Refuses tables in memory whose rows are not sound.
+fn expect_sound(alloc: Global, tables: &Tables) -> Result<(), OpenFault>
+    ensures sound { OnOk result (Sound (rows_of tables.now)) }
+    ensures refused { IfErr result (λ fault. is_refusal fault ≡ true → (fault ≡ OpenFault.Damaged) × ¬ Sound (rows_of tables.now)) }
 {
-    let Some(tables) = tables_of(alloc, rows)? else {
-        return Err(OpenFault::Damaged);
-    };
     if !tables.are_sound(alloc)? {
         return Err(OpenFault::Damaged);
     }
-    Ok(tables)
+    Ok(())
 }
 
 /// The book in memory that the tables of a store keep.
@@ -62,21 +53,20 @@ pub fn kept_list<S: Alter>(alloc: Global, conn: &mut Connection<S>) -> Result<Li
     ensures refused { IfErr result (λ fault. is_refusal fault ≡ true → HasNoBook S.Store fault conn.old conn.new) }
     ensures spares { Spares S.Store conn.old conn.new }
 {
-    let rows = stored_rows(conn)?;
+    let tables = kept_tables(alloc, conn)?;
     expect_rest(conn)?;
-    let tables = sound_tables(alloc, &rows)?;
+    expect_sound(alloc, &tables)?;
     Ok(ListBook::over(alloc, tables))
 }
 
-/// An empty book in memory, if these are its rows.
-fn new_list(alloc: Global, rows: &StoredRows) -> Result<ListBook, OpenFault>
-    ensures { IfOk result (λ list. listed.holds list no_rows None × AreRowsOf (content_now list.tables) rows.now) }
+/// Refuses tables in memory that have a row, or a plan.
+fn expect_none(alloc: Global, tables: &Tables) -> Result<(), OpenFault>
+    ensures { OnOk result (rows_of tables.now ≡ no_rows) }
 {
-    let list = ListBook::new(alloc);
-    if !are_rows(rows, list.tables()) {
+    if !has_nothing(alloc, tables) {
         return Err(OpenFault::Damaged);
     }
-    Ok(list)
+    Ok(())
 }
 
 /// An empty book in memory, which the tables of a store keep.
@@ -87,9 +77,10 @@ fn new_list(alloc: Global, rows: &StoredRows) -> Result<ListBook, OpenFault>
 pub fn empty_list<S: Alter>(alloc: Global, conn: &mut Connection<S>) -> Result<ListBook, OpenFault>
     ensures { IfOk result (λ list. IsOrdered S.Store conn.old → IsRead S.Store conn.old conn.new list no_rows) }
 {
-    let rows = stored_rows(conn)?;
+    let tables = kept_tables(alloc, conn)?;
     expect_rest(conn)?;
-    new_list(alloc, &rows)
+    expect_none(alloc, &tables)?;
+    Ok(ListBook::over(alloc, tables))
 }
 
 /// Opens a connection again over its own store.

@@ -1,17 +1,17 @@
-//! All rows of a store.
+//! All rows of the plan's tables of a store, and of its tallies.
 
 ghost use Rattle.std.specs.Prelude.{◌≡◌, true, IfErr, IfOk, MatchResult, OnOk};
 ghost use Rattle.sqlite.specs.Held.{state};
 ghost use Rattle.bsp_store_load.specs.Schema.{our_schema};
 ghost use Rattle.bsp_store_load.specs.Kept.{Spares};
-ghost use Rattle.bsp_store_load.specs.Content.{agent_part, airline_part, airline_token_part, item_part, memo_part, meta_part, period_part, rate_part, stock_part, tally_part, terms_part};
+ghost use Rattle.bsp_store_load.specs.Content.{airline_part, meta_part, period_part, rate_part, tally_part, terms_part};
+ghost use Rattle.bsp_store_load.specs.Shows.{AreAllOf};
 ghost use Rattle.bsp_store_open.specs.Faults.{is_refusal};
-ghost use Rattle.bsp_store_open.specs.Opening.{AreAllOf, AreAllRows, AreCallerRows, AreDocumentRows, ArePlanRows, Finds, HasNoBook, IsOfVersion, Reports};
+ghost use Rattle.bsp_store_open.specs.Opening.{ArePlanRows, Finds, HasNoBook, IsOfVersion, Reports};
 
 use crate::fault::{OpenFault, fault_of};
 use bsp_store_load::{
-    StoredRows, all_agents, all_airline_tokens, all_airlines, all_items, all_memos, all_meta,
-    all_periods, all_ranges, all_rates, all_tallies, all_terms, read_version,
+    PlanRows, all_airlines, all_meta, all_periods, all_rates, all_tallies, all_terms, read_version,
 };
 use bsp_store_schema::is_ours;
 use sqlite::{Alter, Connection, Error as StoreError, Row};
@@ -19,36 +19,11 @@ use sqlite::{Alter, Connection, Error as StoreError, Row};
 /// The version of the tables.
 const VERSION: i64 = 1;
 
-/// The rows of the plan's tables.
-#[derive(Debug, Drop)]
-struct PlanRows {
-    meta: Vec<Row>,
-    terms: Vec<Row>,
-    airlines: Vec<Row>,
-    rates: Vec<Row>,
-    periods: Vec<Row>,
-}
-
-/// The rows of the tables of callers.
-#[derive(Debug, Drop)]
-struct CallerRows {
-    agents: Vec<Row>,
-    airline_tokens: Vec<Row>,
-    ranges: Vec<Row>,
-}
-
-/// The rows of the tables of items, memos and tallies.
-#[derive(Debug, Drop)]
-struct DocumentRows {
-    items: Vec<Row>,
-    memos: Vec<Row>,
-    tallies: Vec<Row>,
-}
-
 /// Refuses a store that has other tables than a book. A query says nothing of the tables after it on a disk that gave
 /// wrong bytes, so each is preceded by this test.
-fn expect_tables<S: Alter>(conn: &Connection<S>) -> Result<(), OpenFault>
-    ensures { MatchResult result (λ done. conn.now.schema ≡ our_schema) (λ fault. ¬ (conn.now.schema ≡ our_schema)) }
+pub(crate) fn expect_tables<S: Alter>(conn: &Connection<S>) -> Result<(), OpenFault>
+    ensures tables { MatchResult result (λ done. conn.now.schema ≡ our_schema) (λ fault. ¬ (conn.now.schema ≡ our_schema)) }
+    ensures damaged { IfErr result (λ fault. fault ≡ OpenFault.Damaged) }
 {
     if is_ours(conn.schema()) {
         Ok(())
@@ -118,62 +93,27 @@ fn periods<S: Alter>(conn: &mut Connection<S>) -> Result<Vec<Row>, OpenFault>
     Ok(all_periods(conn)?)
 }
 
-fn agents<S: Alter>(conn: &mut Connection<S>) -> Result<Vec<Row>, OpenFault>
-    ensures found { IfOk result (λ rows. Finds S.Store conn.old conn.new (λ trees. AreAllOf agent_part trees rows.items)) }
-    ensures spares { Spares S.Store conn.old conn.new }
-    ensures refused { IfErr result (λ fault. is_refusal fault ≡ true → HasNoBook S.Store fault conn.old conn.new) }
-{
-    expect_tables(conn)?;
-    Ok(all_agents(conn)?)
-}
-
-fn airline_tokens<S: Alter>(conn: &mut Connection<S>) -> Result<Vec<Row>, OpenFault>
-    ensures found { IfOk result (λ rows. Finds S.Store conn.old conn.new (λ trees. AreAllOf airline_token_part trees rows.items)) }
-    ensures spares { Spares S.Store conn.old conn.new }
-    ensures refused { IfErr result (λ fault. is_refusal fault ≡ true → HasNoBook S.Store fault conn.old conn.new) }
-{
-    expect_tables(conn)?;
-    Ok(all_airline_tokens(conn)?)
-}
-
-fn ranges<S: Alter>(conn: &mut Connection<S>) -> Result<Vec<Row>, OpenFault>
-    ensures found { IfOk result (λ rows. Finds S.Store conn.old conn.new (λ trees. AreAllOf stock_part trees rows.items)) }
-    ensures spares { Spares S.Store conn.old conn.new }
-    ensures refused { IfErr result (λ fault. is_refusal fault ≡ true → HasNoBook S.Store fault conn.old conn.new) }
-{
-    expect_tables(conn)?;
-    Ok(all_ranges(conn)?)
-}
-
-fn items<S: Alter>(conn: &mut Connection<S>) -> Result<Vec<Row>, OpenFault>
-    ensures found { IfOk result (λ rows. Finds S.Store conn.old conn.new (λ trees. AreAllOf item_part trees rows.items)) }
-    ensures spares { Spares S.Store conn.old conn.new }
-    ensures refused { IfErr result (λ fault. is_refusal fault ≡ true → HasNoBook S.Store fault conn.old conn.new) }
-{
-    expect_tables(conn)?;
-    Ok(all_items(conn)?)
-}
-
-fn memos<S: Alter>(conn: &mut Connection<S>) -> Result<Vec<Row>, OpenFault>
-    ensures found { IfOk result (λ rows. Finds S.Store conn.old conn.new (λ trees. AreAllOf memo_part trees rows.items)) }
-    ensures spares { Spares S.Store conn.old conn.new }
-    ensures refused { IfErr result (λ fault. is_refusal fault ≡ true → HasNoBook S.Store fault conn.old conn.new) }
-{
-    expect_tables(conn)?;
-    Ok(all_memos(conn)?)
-}
-
-fn tallies<S: Alter>(conn: &mut Connection<S>) -> Result<Vec<Row>, OpenFault>
+/// All rows of the table of tallies.
+///
+/// # Errors
+///
+/// `Damaged`, where the tables are not those of a book. Those of the store.
+pub fn tallies<S: Alter>(conn: &mut Connection<S>) -> Result<Vec<Row>, OpenFault>
     ensures found { IfOk result (λ rows. Finds S.Store conn.old conn.new (λ trees. AreAllOf tally_part trees rows.items)) }
     ensures spares { Spares S.Store conn.old conn.new }
-    ensures refused { IfErr result (λ fault. is_refusal fault ≡ true → HasNoBook S.Store fault conn.old conn.new) }
+    ensures refused { IfErr result (λ fault. is_refusal fault ≡ true → (fault ≡ OpenFault.Damaged) × ¬ (conn.old.schema ≡ our_schema)) }
 {
     expect_tables(conn)?;
     Ok(all_tallies(conn)?)
 }
 
-/// The rows of the plan, where the tables are of this version.
-fn plan_rows<S: Alter>(conn: &mut Connection<S>) -> Result<PlanRows, OpenFault>
+/// All rows of the plan's tables.
+///
+/// # Errors
+///
+/// `OtherVersion`, where the tables are of another version. `Damaged`, where they are not those of a book. Those of the
+/// store.
+pub fn plan_rows<S: Alter>(conn: &mut Connection<S>) -> Result<PlanRows, OpenFault>
     ensures found { IfOk result (λ rows. Finds S.Store conn.old conn.new (λ trees. ArePlanRows trees rows)) }
     ensures version { IfOk result (λ rows. IsOfVersion rows.meta.items) }
     ensures spares { Spares S.Store conn.old conn.new }
@@ -191,66 +131,6 @@ fn plan_rows<S: Alter>(conn: &mut Connection<S>) -> Result<PlanRows, OpenFault>
         airlines,
         rates,
         periods,
-    })
-}
-
-fn caller_rows<S: Alter>(conn: &mut Connection<S>) -> Result<CallerRows, OpenFault>
-    ensures found { IfOk result (λ rows. Finds S.Store conn.old conn.new (λ trees. AreCallerRows trees rows)) }
-    ensures spares { Spares S.Store conn.old conn.new }
-    ensures refused { IfErr result (λ fault. is_refusal fault ≡ true → HasNoBook S.Store fault conn.old conn.new) }
-{
-    let agents = agents(conn)?;
-    let airline_tokens = airline_tokens(conn)?;
-    let ranges = ranges(conn)?;
-    Ok(CallerRows {
-        agents,
-        airline_tokens,
-        ranges,
-    })
-}
-
-fn document_rows<S: Alter>(conn: &mut Connection<S>) -> Result<DocumentRows, OpenFault>
-    ensures found { IfOk result (λ rows. Finds S.Store conn.old conn.new (λ trees. AreDocumentRows trees rows)) }
-    ensures spares { Spares S.Store conn.old conn.new }
-    ensures refused { IfErr result (λ fault. is_refusal fault ≡ true → HasNoBook S.Store fault conn.old conn.new) }
-{
-    let items = items(conn)?;
-    let memos = memos(conn)?;
-    let tallies = tallies(conn)?;
-    Ok(DocumentRows {
-        items,
-        memos,
-        tallies,
-    })
-}
-
-/// All rows of the tables of a book.
-///
-/// # Errors
-///
-/// `OtherVersion`, where the tables are of another version. `Damaged`, where they are not those of a book. Those of the
-/// store.
-pub fn stored_rows<S: Alter>(conn: &mut Connection<S>) -> Result<StoredRows, OpenFault>
-    ensures found { IfOk result (λ rows. Finds S.Store conn.old conn.new (λ trees. AreAllRows trees rows)) }
-    ensures version { IfOk result (λ rows. IsOfVersion rows.meta.items) }
-    ensures spares { Spares S.Store conn.old conn.new }
-    ensures refused { IfErr result (λ fault. is_refusal fault ≡ true → HasNoBook S.Store fault conn.old conn.new) }
-{
-    let plan = plan_rows(conn)?;
-    let callers = caller_rows(conn)?;
-    let documents = document_rows(conn)?;
-    Ok(StoredRows {
-        meta: plan.meta,
-        terms: plan.terms,
-        airlines: plan.airlines,
-        rates: plan.rates,
-        periods: plan.periods,
-        agents: callers.agents,
-        airline_tokens: callers.airline_tokens,
-        ranges: callers.ranges,
-        items: documents.items,
-        memos: documents.memos,
-        tallies: documents.tallies,
     })
 }
 

@@ -3,4 +3,4 @@ pub mod PlanLemmas
 pub mod StepLemmas
 pub mod WrittenLemmas
 pub mod TransactionLemmas
-pub use Rattle.bsp_store_load.proofs.Tallies
+pub use Rattle.bsp_store_load.proofs.TallyLemmas

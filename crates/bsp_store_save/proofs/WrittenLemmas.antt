@@ -35,7 +35,7 @@ use Rattle.bsp_store_load.specs.Content.{Content}
 use Rattle.bsp_store_load.specs.Contents.{used_at, used_tallies}
 use Rattle.bsp_store_load.specs.Calls.{Changes, GivesUpIf}
 use Rattle.bsp_store_save.specs.Each.{AreThere, with_each}
-use Rattle.bsp_store_load.proofs.Tallies.{get-used}
+use Rattle.bsp_store_load.proofs.TallyLemmas.{get-used}
 use Rattle.bsp_store_save.proofs.EachLemmas.{not_saved, same_present, saved}
 
 module _ {S : Type 0} (g : Ghosts S) (old new : Held S) where

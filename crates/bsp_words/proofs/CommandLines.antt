@@ -9,7 +9,7 @@ use Rattle.clap.proofs.WalkLemmas.{both, one_text-rows}
 use Rattle.clap.specs.ValueTests.{is_numeral}
 use Rattle.clap.specs.Matches.{ReadsOne, one_text}
 use Rattle.clap.specs.declared.parser.matches.Found.{Found}
-use Rattle.clap.specs.Words.{App, FailsBy, HasKind, HasMatchesOf, Row, Rule, Shape, Text, built, fault_of, is_simple, is_simple_and_free, rows_of, subcommand_of, subcommand_rows_of, with_rule, with_subcommand}
+use Rattle.clap.specs.Words.{App, FailsBy, HasKind, HasMatchesOf, Row, Shape, Text, built, fault_of, is_simple, is_simple_and_free, rows_of, subcommand_of, subcommand_rows_of}
 use Rattle.clap.specs.declared.error.Error.{Error}
 use Rattle.clap.specs.declared.parser.matches.ArgMatches.{ArgMatches}
 use Rattle.clap.specs.Simple.{argument_words, entered, names_of}
@@ -19,10 +19,6 @@ use Rattle.clap.specs.Walk.{Held, Names, finished, nothing_held, settled, walk, 
 use Rattle.bsp_words.specs.declared.work.Work.{Work}
 use Rattle.bsp_words.specs.declared.work.WordsFault.TheVariants.{OutOfForm}
 use Rattle.bsp_words.specs.CommandLine.{AnswersWords, number_in, number_read, office, work_from, work_in, work_of}
-
--- equal commands with equal subcommands
-pub same_with : (a b : App) (s t : Shape) → a ≡ b → s ≡ t → with_subcommand a s ≡ with_subcommand b t
-same_with a b s t e f = rw (e, f) refl
 
 -- ---- numbers
 
@@ -63,9 +59,6 @@ found_number k id f r none some = go (one_text f id) refl
     go (Some t) is = some t is ∙ ap (option_and_then (number_read k)) (sym is ∙ one_text-rows f id)
 
 -- ---- words
-
-pub ruled : (a b : App) (r s : Rule) → a ≡ b → r ≡ s → with_rule a r ≡ with_rule b s
-ruled a b r s same_app same_rule = rw (same_app, same_rule) refl
 
 last_none : (a b c d last : Kinds) → or_else a (or_else b (or_else c (or_else d last))) ≡ [] → last ≡ []
 last_none [] [] [] [] last none = none

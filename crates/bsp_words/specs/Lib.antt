@@ -1,2 +1,3 @@
 -- What the contracts of the words cite.
 pub mod CommandLine
+pub mod Filling

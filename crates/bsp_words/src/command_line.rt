@@ -1,13 +1,14 @@
 //! The command line, as `clap` reads it.
+//!
+//! Each command is filled from a list of its arguments, and the office from a list of its commands.
 
-ghost use Rattle.std.specs.Prelude.{◌≡◌, IfOk, IfErr, codes, false};
-ghost use Rattle.clap.specs.Words.{app_of, kind_of, rule_of, shape_of, with_subcommand};
-ghost use Rattle.clap.specs.declared.builder.command.Command.TheViews.{out-Command as fields_of};
-ghost use Rattle.bsp_words.specs.CommandLine.{connections_rule, file_app, flag_rule, named_option, office, port_rule, run_app, serve_app, timeout_rule, with_db, with_limits, with_tokens};
+ghost use Rattle.std.specs.Prelude.{◌≡◌, ◌++◌, ◌∷◌, List, [], IfOk, IsOkAnd, OnOk, codes, false};
+ghost use Rattle.clap.specs.Words.{Rule, app_of, new_app, rule_of};
+ghost use Rattle.bsp_words.specs.CommandLine.{connections_rule, file_app, flag_rule, named_option, office, port_rule, run_app, serve_app, timeout_rule, wanted_word};
+ghost use Rattle.bsp_words.specs.Filling.{of_one, rules_in, shapes_in, with_rules};
 
-use clap::error::ErrorKind;
-use clap::{Arg, ArgAction, Command, Error};
-use std::alloc::Global;
+use clap::{Arg, ArgAction, Command};
+use std::alloc::{AllocError, Global};
 
 /// The version of the program.
 const VERSION: &str = "1.0.0";
@@ -23,98 +24,12 @@ fn flag<'a>(alloc: Global, id: &'a str, help: &'a str) -> Arg<'a>
         .help(help)
 }
 
-/// A command of that name with a FILE behind it.
-fn file_command<'a>(alloc: Global, name: &'a str, about: &'a str) -> Result<Command<'a>, Error>
-    ensures ok { IfOk result (λ c. (shape_of c ≡ (file_app name.entry.now).top) × ((fields_of c).has_globals ≡ false)) }
-    ensures err { IfErr result (λ e. kind_of e ≡ ErrorKind.OutOfMemory) }
-{
-    let file = Arg::new(alloc, "FILE")
-        .help("the file, or - for standard input")
-        .required(true);
-    let quiet = flag(alloc, "quiet", "says nothing of the file on standard error");
-    let command = Command::new(alloc, name).about(about).arg(quiet)?;
-    let command = command.arg(file)?;
-    Ok(command)
-}
-
-fn check_command<'a>(alloc: Global) -> Result<Command<'a>, Error>
-    ensures ok { IfOk result (λ c. (shape_of c ≡ (file_app (codes "check")).top) × ((fields_of c).has_globals ≡ false)) }
-    ensures err { IfErr result (λ e. kind_of e ≡ ErrorKind.OutOfMemory) }
-{
-    file_command(
-        alloc,
-        "check",
-        "Reads a RET file and prints its transactions and their sum, or its first fault",
-    )
-}
-
-fn hotcheck_command<'a>(alloc: Global) -> Result<Command<'a>, Error>
-    ensures ok { IfOk result (λ c. (shape_of c ≡ (file_app (codes "hotcheck")).top) × ((fields_of c).has_globals ≡ false)) }
-    ensures err { IfErr result (λ e. kind_of e ≡ ErrorKind.OutOfMemory) }
-{
-    file_command(
-        alloc,
-        "hotcheck",
-        "Reads a HOT file and prints its totals, or its first record at fault",
-    )
-}
-
 /// The option `--ID VALUE`.
 fn option<'a>(alloc: Global, id: &'a str, value: &'a str, help: &'a str) -> Arg<'a>
     ensures rule { rule_of result ≡ named_option id.entry.now }
     ensures local { result.global ≡ false }
 {
     Arg::new(alloc, id).long(id).value_name(value).help(help)
-}
-
-/// The command with the options that give the office's token.
-fn taking_token<'a>(alloc: Global, command: Command<'a>) -> Result<Command<'a>, Error>
-    requires { (fields_of command).has_globals ≡ false }
-    ensures ok { IfOk result (λ c. (app_of c ≡ with_tokens (app_of command.entry)) × ((fields_of c).has_globals ≡ false)) }
-    ensures err { IfErr result (λ e. kind_of e ≡ ErrorKind.OutOfMemory) }
-{
-    let token = option(
-        alloc,
-        "token",
-        "T",
-        "the office's token, of 16 to 64 letters and digits",
-    );
-    let file = option(
-        alloc,
-        "token-file",
-        "FILE",
-        "a file whose first line is the token: other users of the machine do not see it",
-    );
-    let command = command.arg(token)?;
-    let command = command.arg(file)?;
-    Ok(command)
-}
-
-/// The command with the option that names the file of the book.
-fn taking_book<'a>(alloc: Global, command: Command<'a>) -> Result<Command<'a>, Error>
-    requires { (fields_of command).has_globals ≡ false }
-    ensures ok { IfOk result (λ c. (app_of c ≡ with_db (app_of command.entry)) × ((fields_of c).has_globals ≡ false)) }
-    ensures err { IfErr result (λ e. kind_of e ≡ ErrorKind.OutOfMemory) }
-{
-    let file = option(
-        alloc,
-        "db",
-        "FILE",
-        "the file that keeps the book, made where it is not there; without it the book is in memory",
-    );
-    let command = command.arg(file)?;
-    Ok(command)
-}
-
-fn run_command<'a>(alloc: Global) -> Result<Command<'a>, Error>
-    ensures ok { IfOk result (λ c. (shape_of c ≡ run_app.top) × ((fields_of c).has_globals ≡ false)) }
-    ensures err { IfErr result (λ e. kind_of e ≡ ErrorKind.OutOfMemory) }
-{
-    let command = Command::new(alloc, "run").about(
-        "Serves one connection of HTTP on standard input and output",
-    );
-    let command = taking_token(alloc, command)?;
-    taking_book(alloc, command)
 }
 
 fn port_option<'a>(alloc: Global) -> Arg<'a>
@@ -154,91 +69,197 @@ fn timeout_option<'a>(alloc: Global) -> Arg<'a>
     .default_value("30")
 }
 
-/// The command with the options that limit the connections and the time for which a peer is waited for, and with
-/// `--log`.
-fn taking_limits<'a>(alloc: Global, command: Command<'a>) -> Result<Command<'a>, Error>
-    requires { (fields_of command).has_globals ≡ false }
-    ensures ok { IfOk result (λ c. (app_of c ≡ with_limits (app_of command.entry)) × ((fields_of c).has_globals ≡ false)) }
-    ensures err { IfErr result (λ e. kind_of e ≡ ErrorKind.OutOfMemory) }
+/// The word FILE.
+fn file_word<'a>(alloc: Global) -> Arg<'a>
+    ensures rule { rule_of result ≡ wanted_word (codes "FILE") }
+    ensures local { result.global ≡ false }
 {
-    let connections = connections_option(alloc);
-    let timeout = timeout_option(alloc);
+    Arg::new(alloc, "FILE")
+        .help("the file, or - for standard input")
+        .required(true)
+}
+
+/// Adds an item to a list.
+fn push<T: Drop>(items: &mut Vec<T>, item: T) -> Result<(), AllocError>
+    ensures { OnOk result (items.new.items ≡ items.old.items ++ item ∷ []) }
+{
+    items.push(item)?;
+    Ok(())
+}
+
+/// Adds an argument that one command alone takes.
+fn push_argument<'a>(arguments: &mut Vec<Arg<'a>>, argument: Arg<'a>) -> Result<(), AllocError>
+    requires { argument.global ≡ false }
+    ensures { OnOk result (rules_in arguments.new.items ≡ rules_in arguments.old.items ++ of_one (rule_of argument.entry ∷ [])) }
+{
+    push(arguments, argument)
+}
+
+/// Adds an item to a list, unless it could not be made.
+fn push_made<T: Drop>(items: &mut Vec<T>, item: Result<T, AllocError>) -> Result<(), AllocError>
+    ensures { OnOk result (IsOkAnd item (λ made. items.new.items ≡ items.old.items ++ made ∷ [])) }
+{
+    push(items, item?)
+}
+
+/// Adds the command of that name with these arguments.
+fn push_command<'a>(
+    alloc: Global,
+    commands: &mut Vec<Command<'a>>,
+    name: &'a str,
+    about: &'a str,
+    arguments: Vec<Arg<'a>>,
+) -> Result<(), AllocError>
+    ensures { (rules : List Rule) → rules_in arguments.entry.items ≡ of_one rules → OnOk result (shapes_in commands.new.items ≡ shapes_in commands.old.items ++ of_one ((with_rules (new_app name.entry.now) rules).top ∷ [])) }
+{
+    let command = Command::new(alloc, name).about(about).args(arguments);
+    push_made(commands, command)
+}
+
+/// Adds `--quiet` and FILE.
+fn push_file<'a>(alloc: Global, arguments: &mut Vec<Arg<'a>>) -> Result<(), AllocError>
+    ensures { OnOk result (rules_in arguments.new.items ≡ rules_in arguments.old.items ++ of_one (flag_rule (codes "quiet") ∷ wanted_word (codes "FILE") ∷ [])) }
+{
+    let quiet = flag(alloc, "quiet", "says nothing of the file on standard error");
+    push_argument(arguments, quiet)?;
+    push_argument(arguments, file_word(alloc))
+}
+
+/// Adds a command of that name with a FILE behind it.
+fn push_file_command<'a>(
+    alloc: Global,
+    commands: &mut Vec<Command<'a>>,
+    name: &'a str,
+    about: &'a str,
+) -> Result<(), AllocError>
+    ensures { OnOk result (shapes_in commands.new.items ≡ shapes_in commands.old.items ++ of_one ((file_app name.entry.now).top ∷ [])) }
+{
+    let mut arguments = Vec::new(alloc);
+    push_file(alloc, &mut arguments)?;
+    push_command(alloc, commands, name, about, arguments)
+}
+
+fn push_check<'a>(alloc: Global, commands: &mut Vec<Command<'a>>) -> Result<(), AllocError>
+    ensures { OnOk result (shapes_in commands.new.items ≡ shapes_in commands.old.items ++ of_one ((file_app (codes "check")).top ∷ [])) }
+{
+    push_file_command(
+        alloc,
+        commands,
+        "check",
+        "Reads a RET file and prints its transactions and their sum, or its first fault",
+    )
+}
+
+fn push_hotcheck<'a>(alloc: Global, commands: &mut Vec<Command<'a>>) -> Result<(), AllocError>
+    ensures { OnOk result (shapes_in commands.new.items ≡ shapes_in commands.old.items ++ of_one ((file_app (codes "hotcheck")).top ∷ [])) }
+{
+    push_file_command(
+        alloc,
+        commands,
+        "hotcheck",
+        "Reads a HOT file and prints its totals, or its first record at fault",
+    )
+}
+
+/// Adds the options that give the office's token.
+fn push_token<'a>(alloc: Global, arguments: &mut Vec<Arg<'a>>) -> Result<(), AllocError>
+    ensures { OnOk result (rules_in arguments.new.items ≡ rules_in arguments.old.items ++ of_one (named_option (codes "token") ∷ named_option (codes "token-file") ∷ [])) }
+{
+    let token = option(
+        alloc,
+        "token",
+        "T",
+        "the office's token, of 16 to 64 letters and digits",
+    );
+    push_argument(arguments, token)?;
+    let file = option(
+        alloc,
+        "token-file",
+        "FILE",
+        "a file whose first line is the token: other users of the machine do not see it",
+    );
+    push_argument(arguments, file)
+}
+
+/// Adds the option that names the file of the book.
+fn push_book<'a>(alloc: Global, arguments: &mut Vec<Arg<'a>>) -> Result<(), AllocError>
+    ensures { OnOk result (rules_in arguments.new.items ≡ rules_in arguments.old.items ++ of_one (named_option (codes "db") ∷ [])) }
+{
+    let file = option(
+        alloc,
+        "db",
+        "FILE",
+        "the file that keeps the book, made where it is not there; without it the book is in memory",
+    );
+    push_argument(arguments, file)
+}
+
+fn push_run<'a>(alloc: Global, commands: &mut Vec<Command<'a>>) -> Result<(), AllocError>
+    ensures { OnOk result (shapes_in commands.new.items ≡ shapes_in commands.old.items ++ of_one (run_app.top ∷ [])) }
+{
+    let mut arguments = Vec::new(alloc);
+    push_token(alloc, &mut arguments)?;
+    push_book(alloc, &mut arguments)?;
+    push_command(
+        alloc,
+        commands,
+        "run",
+        "Serves one connection of HTTP on standard input and output",
+        arguments,
+    )
+}
+
+/// Adds the options that limit the connections and the time for which a peer is waited for, and `--log`.
+fn push_limits<'a>(alloc: Global, arguments: &mut Vec<Arg<'a>>) -> Result<(), AllocError>
+    ensures { OnOk result (rules_in arguments.new.items ≡ rules_in arguments.old.items ++ of_one (connections_rule ∷ timeout_rule ∷ flag_rule (codes "log") ∷ [])) }
+{
+    push_argument(arguments, connections_option(alloc))?;
+    push_argument(arguments, timeout_option(alloc))?;
     let log = flag(
         alloc,
         "log",
         "prints a line for each reply on standard error",
     );
-    let command = command.arg(connections)?;
-    let command = command.arg(timeout)?;
-    let command = command.arg(log)?;
-    Ok(command)
+    push_argument(arguments, log)
 }
 
-fn serve_command<'a>(alloc: Global) -> Result<Command<'a>, Error>
-    ensures ok { IfOk result (λ c. (shape_of c ≡ serve_app.top) × ((fields_of c).has_globals ≡ false)) }
-    ensures err { IfErr result (λ e. kind_of e ≡ ErrorKind.OutOfMemory) }
+fn push_serve<'a>(alloc: Global, commands: &mut Vec<Command<'a>>) -> Result<(), AllocError>
+    ensures { OnOk result (shapes_in commands.new.items ≡ shapes_in commands.old.items ++ of_one (serve_app.top ∷ [])) }
 {
-    let command = Command::new(alloc, "serve")
-        .about("Serves HTTP on a port of 127.0.0.1, one connection after the other")
-        .arg(port_option(alloc))?;
-    let command = taking_token(alloc, command)?;
-    let command = taking_book(alloc, command)?;
-    taking_limits(alloc, command)
+    let mut arguments = Vec::new(alloc);
+    push_argument(&mut arguments, port_option(alloc))?;
+    push_token(alloc, &mut arguments)?;
+    push_book(alloc, &mut arguments)?;
+    push_limits(alloc, &mut arguments)?;
+    push_command(
+        alloc,
+        commands,
+        "serve",
+        "Serves HTTP on a port of 127.0.0.1, one connection after the other",
+        arguments,
+    )
 }
 
-/// The command with the subcommand `check`.
-fn with_check<'a>(alloc: Global, command: Command<'a>) -> Result<Command<'a>, Error>
-    ensures ok { IfOk result (λ c. app_of c ≡ with_subcommand (app_of command.entry) (file_app (codes "check")).top) }
-    ensures err { IfErr result (λ e. kind_of e ≡ ErrorKind.OutOfMemory) }
+/// Adds each command.
+fn push_commands<'a>(alloc: Global, commands: &mut Vec<Command<'a>>) -> Result<(), AllocError>
+    ensures { OnOk result (shapes_in commands.new.items ≡ shapes_in commands.old.items ++ of_one ((file_app (codes "check")).top ∷ (file_app (codes "hotcheck")).top ∷ run_app.top ∷ serve_app.top ∷ [])) }
 {
-    let added = check_command(alloc)?;
-    let command = command.subcommand(added)?;
-    Ok(command)
-}
-
-/// The command with the subcommand `hotcheck`.
-fn with_hotcheck<'a>(alloc: Global, command: Command<'a>) -> Result<Command<'a>, Error>
-    ensures ok { IfOk result (λ c. app_of c ≡ with_subcommand (app_of command.entry) (file_app (codes "hotcheck")).top) }
-    ensures err { IfErr result (λ e. kind_of e ≡ ErrorKind.OutOfMemory) }
-{
-    let added = hotcheck_command(alloc)?;
-    let command = command.subcommand(added)?;
-    Ok(command)
-}
-
-/// The command with the subcommand `run`.
-fn with_run<'a>(alloc: Global, command: Command<'a>) -> Result<Command<'a>, Error>
-    ensures ok { IfOk result (λ c. app_of c ≡ with_subcommand (app_of command.entry) run_app.top) }
-    ensures err { IfErr result (λ e. kind_of e ≡ ErrorKind.OutOfMemory) }
-{
-    let added = run_command(alloc)?;
-    let command = command.subcommand(added)?;
-    Ok(command)
-}
-
-/// The command with the subcommand `serve`.
-fn with_serve<'a>(alloc: Global, command: Command<'a>) -> Result<Command<'a>, Error>
-    ensures ok { IfOk result (λ c. app_of c ≡ with_subcommand (app_of command.entry) serve_app.top) }
-    ensures err { IfErr result (λ e. kind_of e ≡ ErrorKind.OutOfMemory) }
-{
-    let added = serve_command(alloc)?;
-    let command = command.subcommand(added)?;
-    Ok(command)
+    push_check(alloc, commands)?;
+    push_hotcheck(alloc, commands)?;
+    push_run(alloc, commands)?;
+    push_serve(alloc, commands)
 }
 
 /// The command line of the program.
-pub(crate) fn office_command<'a>(alloc: Global) -> Result<Command<'a>, Error>
-    ensures ok { IfOk result (λ c. app_of c ≡ office) }
-    ensures err { IfErr result (λ e. kind_of e ≡ ErrorKind.OutOfMemory) }
+pub(crate) fn office_command<'a>(alloc: Global) -> Result<Command<'a>, AllocError>
+    ensures { IfOk result (λ c. app_of c ≡ office) }
 {
-    let office = Command::new(alloc, "bsp_office")
+    let mut commands = Vec::new(alloc);
+    push_commands(alloc, &mut commands)?;
+    Command::new(alloc, "bsp_office")
         .about("The office of a billing and settlement plan")
         .version(VERSION)
         .subcommand_required(true)
-        .disable_help_subcommand(true);
-    let office = with_check(alloc, office)?;
-    let office = with_hotcheck(alloc, office)?;
-    let office = with_run(alloc, office)?;
-    let office = with_serve(alloc, office)?;
-    Ok(office)
+        .disable_help_subcommand(true)
+        .subcommands(commands)
 }

@@ -1,7 +1,7 @@
 //! From the words of a command line to the work that they ask for.
 //!
-//! A further command is a variant of [`Work`], a function that makes its `Command`, and a function
-//! that makes its work of the values found. It also has a row in `office_command` and in `work_in`.
+//! A further command is a variant of [`Work`], a function that adds its `Command`, and a function
+//! that makes its work of the values found. It also has a row in `push_commands` and in `work_in`.
 
 ghost use Rattle.std.specs.Prelude.{◌≡◌, IfOk, IfErr, [], codes, map, option_map};
 ghost use Rattle.clap.specs.Words.{HasKind, fault_of, first_of, found_of, rows_of, subcommand_of, subcommand_rows_of};
@@ -93,7 +93,9 @@ fn flag_given(matches: &ArgMatches<'_>, id: &str) -> bool
 fn check_given<'a>(matches: &ArgMatches<'a>) -> Option<Work<'a>>
     ensures { option_map work_of result ≡ check_work (rows_of (found_of matches.now)) }
 {
-    let file = value_of(matches, "FILE")?;
+    let Some(file) = value_of(matches, "FILE") else {
+        return None;
+    };
     let quiet = flag_given(matches, "quiet");
     Some(Work::Check { file, quiet })
 }
@@ -101,7 +103,9 @@ fn check_given<'a>(matches: &ArgMatches<'a>) -> Option<Work<'a>>
 fn hotcheck_given<'a>(matches: &ArgMatches<'a>) -> Option<Work<'a>>
     ensures { option_map work_of result ≡ hotcheck_work (rows_of (found_of matches.now)) }
 {
-    let file = value_of(matches, "FILE")?;
+    let Some(file) = value_of(matches, "FILE") else {
+        return None;
+    };
     let quiet = flag_given(matches, "quiet");
     Some(Work::Hotcheck { file, quiet })
 }
@@ -166,9 +170,15 @@ fn timeout_given(matches: &ArgMatches<'_>) -> Option<u32>
 fn serve_given<'a>(matches: &ArgMatches<'a>) -> Option<Work<'a>>
     ensures { option_map work_of result ≡ serve_work (rows_of (found_of matches.now)) }
 {
-    let port = port_given(matches)?;
-    let connections = connections_given(matches)?;
-    let timeout = timeout_given(matches)?;
+    let Some(port) = port_given(matches) else {
+        return None;
+    };
+    let Some(connections) = connections_given(matches) else {
+        return None;
+    };
+    let Some(timeout) = timeout_given(matches) else {
+        return None;
+    };
     let log = flag_given(matches, "log");
     let Some(token) = token_given(matches) else {
         return None;
@@ -202,7 +212,9 @@ fn work_given<'a>(name: &str, matches: &ArgMatches<'a>) -> Option<Work<'a>>
 fn work_found<'a>(matches: &ArgMatches<'a>) -> Option<Work<'a>>
     ensures { option_map work_of result ≡ work_from (subcommand_rows_of matches.now) }
 {
-    let (name, inner) = matches.subcommand()?;
+    let Some((name, inner)) = matches.subcommand() else {
+        return None;
+    };
     work_given(name, inner)
 }
 

@@ -3,14 +3,11 @@ use Rattle.bsp_rows.specs.History.{IsReached}
 use Rattle.bsp_rows.specs.History.Request.{Close, SetDay}
 use Rattle.bsp_rows.specs.Published.{Published}
 use Rattle.bsp_rows.specs.SoundPlan.{IsSoundPlan}
-use Rattle.bsp_store_base.specs.Columns.{period_row}
-use Rattle.bsp_store_base.specs.Forms.{IsPeriod}
 use Rattle.bsp_store_load.specs.Stored.{AreRowsOfPlan, IsFormedPlan}
-use Rattle.bsp_store_load.proofs.CloseLemmas.{MayClose, closing}
 use Rattle.bsp_rows.specs.Writes.{after_request, request_answer}
 use Rattle.bsp_memory_rows.specs.Tables.{rows_of}
 use Rattle.bsp_store_load.proofs.Moves.{all_closed, day_set, few_closed, meta_is, meta_read}
-use Rattle.bsp_store_load.proofs.Puttings.{Puts, if_ok_of}
+use Rattle.bsp_store_load.proofs.CloseLemmas.{Closed, if_ok_of}
 use Rattle.bsp_store_load.proofs.published.move_on.Goals as goal
 
 pub returns-in_default-clause-plan : goal.returns-in_default-clause-plan
@@ -36,11 +33,11 @@ returns-then-is_err-clause-plan c = λ p s formed are reached.
 pub returns-clause-plan : goal.returns-clause-plan
 returns-clause-plan c =
     let set : rows_of c.set_day.new.self ≡ after_request (SetDay c.in-Some.day) (rows_of c.args.tables.now) = search rules in
-    if_ok_of (Puts period_row closing (MayClose IsPeriod) (rows_of c.set_day.new.self) (rows_of c.put_rows.new.tables) (take _ c.as_slice-periods.result.now))
+    if_ok_of (Closed (rows_of c.set_day.new.self) (rows_of c.close_periods.new.tables) (take _ c.as_slice-periods.result.now))
     (λ done. (p : Published) → IsSoundPlan p → IsFormedPlan p → AreRowsOfPlan p c.args.rows.now → IsReached (rows_of c.args.tables.now).published (SetDay p.day ∷ map (λ code. Close code) p.closed) p
-    → (done ≡ true) × (rows_of c.put_rows.new.tables ≡ record (rows_of c.args.tables.now) { published = p }))
-    c.put_rows.result c.put_rows.ensures.entries
+    → (done ≡ true) × (rows_of c.close_periods.new.tables ≡ record (rows_of c.args.tables.now) { published = p }))
+    c.close_periods.result c.close_periods.ensures.entries
     (λ done put p s formed are reached.
     let meta = meta_is p s formed c.args.rows.now are c.deref.result.now c.meta_in.result c.in-Some.day c.in-Some.closed c.deref.ensures.value c.meta_in.ensures c.in-Some.is in
-    all_closed p s formed c.args.rows.now are (rows_of c.args.tables.now) reached c.in-Some.day _ (rows_of c.set_day.new.self) (rows_of c.put_rows.new.tables) c.as_slice-periods.result.now done
+    all_closed p s formed c.args.rows.now are (rows_of c.args.tables.now) reached c.in-Some.day _ (rows_of c.set_day.new.self) (rows_of c.close_periods.new.tables) c.as_slice-periods.result.now done
     meta.0 set c.as_slice-periods.ensures.value put (search (rules, meta.1)))

@@ -4,5 +4,5 @@ use Rattle.bsp_store_open.proofs.reading.tallies.Goals as goal
 
 pub returns-clause-found : goal.returns-clause-found
 returns-clause-found g c =
-    let ours = c.in_ok-expect_tables.ensures in
+    let ours = c.in_ok-expect_tables.ensures.tables in
     asked g.S.Store c.args.conn.now c.all_tallies.new.conn tally_part _ ours (c.in_ok-all_tallies.ensures.read ours) (λ clean. c.in_ok-all_tallies.ensures.rows clean ours) (λ clean. c.in_ok-all_tallies.ensures.order clean ours)

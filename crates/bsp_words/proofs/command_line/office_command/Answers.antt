@@ -1,14 +1,13 @@
-use Rattle.std.proofs.Common.{◌≡◌, refl, rules, codes, ◌∙◌}
-use Rattle.clap.specs.Words.{app_of, new_app}
+use Rattle.std.proofs.Common.{[], ◌∷◌, ◌≡◌, rules, codes}
 use Rattle.clap.specs.Simple.{on_top}
-use Rattle.bsp_words.specs.CommandLine.{needs_subcommand}
-use Rattle.bsp_words.proofs.CommandLines.{same_with}
+use Rattle.clap.specs.Words.{app_of, new_app}
+use Rattle.bsp_words.specs.CommandLine.{file_app, needs_subcommand, run_app, serve_app}
+use Rattle.bsp_words.proofs.FillingLemmas.{filled_from}
 use Rattle.bsp_words.proofs.command_line.office_command.Goals as goal
 
-pub returns-clause-ok : goal.returns-clause-ok
-returns-clause-ok c =
-    let bare : app_of c.disable_help_subcommand-office.result ≡ on_top needs_subcommand (new_app (codes "bsp_office")) = search rules in
-    let with_check = c.in_ok-office.ensures.ok ∙ same_with _ _ _ _ bare refl in
-    let with_hotcheck = c.in_ok-office-2.ensures.ok ∙ same_with _ _ _ _ with_check refl in
-    let with_run = c.in_ok-office-3.ensures.ok ∙ same_with _ _ _ _ with_hotcheck refl in
-    c.in_ok-office-4.ensures.ok ∙ same_with _ _ _ _ with_run refl
+pub returns : goal.returns
+returns c =
+    let start : app_of c.disable_help_subcommand.result ≡ on_top needs_subcommand (new_app (codes "bsp_office")) = search rules in
+    filled_from c.disable_help_subcommand.result (on_top needs_subcommand (new_app (codes "bsp_office"))) c.push_commands.new.commands.items
+    ((file_app (codes "check")).top ∷ (file_app (codes "hotcheck")).top ∷ run_app.top ∷ serve_app.top ∷ []) c.subcommands.result
+    start (rw c.new-commands.ensures.items at c.in_ok-push_commands.ensures) c.subcommands.ensures

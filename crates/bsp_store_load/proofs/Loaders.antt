@@ -1,0 +1,74 @@
+-- A table whose rows are put into memory as the entries of a map: what is known of it, and of a call that puts its rows.
+use Rattle.std.proofs.Common.{◌≡◌, Bool, true, List, [], ◌∷◌, ◌++◌, map, IsTrue, refl, sym, ap, subst, ◌∙◌, Ordering, append-nil}
+use Rattle.std.specs.Cmp.{IsTotalOrder}
+use Rattle.std.specs.FinMap.{FinMap, empty, entries, entries_sorted, get, insert}
+use Rattle.std.specs.List.{AllByRecursion}
+use Rattle.std.specs.Prelude.{None}
+use Rattle.std.proofs.lemmas.List.Sorted.{IsPermutation-trans}
+use Rattle.std.specs.Prelude.{IsPermutation}
+use Rattle.sqlite_value.specs.Order.{Row}
+use Rattle.sqlite_trees.specs.Tree.{Trees}
+use Rattle.bsp_rows.specs.Rows.{Rows}
+use Rattle.bsp_store_base.specs.Content.{Content, form, width_of}
+use Rattle.bsp_store_base.specs.Forms.{IsFormed}
+use Rattle.bsp_store_base.specs.Kept.{KeepsRows, Part, columns_of}
+use Rattle.bsp_store_load.specs.Entries.{after_all}
+use Rattle.bsp_store_load.specs.Loading.{IsLoaded}
+use Rattle.bsp_store_load.proofs.Fresh.{all_may, no_entries, none_in}
+use Rattle.bsp_store_load.proofs.PutLemmas.{inserted, inserted_all}
+
+pub record Loader (K V : Type 0) (R : K → K → Ordering) (fits : K × V → Type 0) (lacks : K × V → Rows → Type 0) : Type 0 where
+  pub total : IsTotalOrder R
+  pub part : Part Content
+  pub row_of : K × V → Row
+  pub step : K × V → Rows → Rows
+  -- the map in memory, and that of a content
+  pub of : Rows → FinMap R V
+  pub with : FinMap R V → Rows → Rows
+  pub in_content : Content → FinMap R V
+  pub steps : (e : K × V) (rows : Rows) → fits e → of (step e rows) ≡ insert (of rows) e.0 e.1
+  pub free : (e : K × V) (rows : Rows) → fits e → get (of rows) e.0 ≡ None → lacks e rows
+  pub alone : (e : K × V) (rows : Rows) → step e rows ≡ with (of (step e rows)) rows
+  pub with_of : (rows : Rows) → with (of rows) rows ≡ rows
+  pub with_with : (m n : FinMap R V) (rows : Rows) → with m (with n rows) ≡ with m rows
+  pub rows_are : (c : Content) → part.rows c ≡ map row_of (entries (in_content c))
+
+module _ {K V : Type 0} {R : K → K → Ordering} {fits : K × V → Type 0} {lacks : K × V → Rows → Type 0} (t : Loader K V R fits lacks) where
+  abbrev pub rows_in : Rows → List Row
+  rows_in rows = map t.row_of (entries (t.of rows))
+
+  -- what a call for the table ensures
+  abbrev pub Loads : Trees → Rows → Rows → Bool → Type 0
+  Loads = IsLoaded t.part t.row_of t.step fits lacks rows_in
+
+  -- no other table is changed
+  changes : (es : List (K × V)) (rows : Rows) → after_all t.step es rows ≡ t.with (t.of (after_all t.step es rows)) rows
+  changes [] rows = sym (t.with_of rows)
+  changes (e ∷ es) rows =
+      let last = t.of (after_all t.step es (t.step e rows)) in
+      changes es (t.step e rows) ∙ ap (t.with last) (t.alone e rows) ∙ t.with_with last (t.of (t.step e rows)) rows
+
+  -- entries one after another are inserted
+  inserts : (es : List (K × V)) (rows : Rows) → AllByRecursion fits es → t.of (after_all t.step es rows) ≡ inserted (t.of rows) es
+  inserts [] rows fit = refl
+  inserts (e ∷ es) rows fit = inserts es (t.step e rows) fit.1 ∙ ap (λ m. inserted m es) (t.steps e rows fit.0)
+
+  module _ (trees : Trees) (old new : Rows) (all : Bool) (loaded : Loads trees old new all) where
+    pub others : IsTrue all → new ≡ t.with (t.of new) old
+    others done = let made = loaded.made done in made.1 ∙ changes made.0 old ∙ ap (λ r. t.with (t.of r) old) (sym made.1)
+
+    module _ (none : t.of old ≡ empty) where
+      -- all rows of the table are in memory
+      pub rows_here : IsTrue all → IsPermutation (map (columns_of (width_of t.part.tree)) (trees t.part.tree)) (rows_in new)
+      rows_here done =
+          let bare : rows_in old ≡ [] = ap (map t.row_of) (no_entries (t.of old) none) in
+          let put = subst (λ l. IsPermutation l (rows_in new)) (ap (λ l. loaded.shown ++ l) bare ∙ append-nil loaded.shown) (loaded.put done) in
+          IsPermutation-trans _ _ _ loaded.are.in_any_order put
+
+      -- where the trees keep a content, its map is put whole
+      pub whole_here : (c : Content) → IsFormed c → KeepsRows form c trees → AllByRecursion fits (entries (t.in_content c)) → (all ≡ true) × (new ≡ t.with (t.in_content c) old)
+      whole_here c formed keeps fit =
+          let m = t.in_content c in
+          let it = loaded.entries (entries m) (all_may t.total t.of t.step fits lacks t.steps t.free (entries m) old (entries_sorted m) fit (none_in t.total (t.of old) none (entries m))) (loaded.are.in_order c formed keeps ∙ t.rows_are c) in
+          let is : t.of new ≡ m = ap t.of it.1 ∙ inserts (entries m) old fit ∙ ap (λ n. inserted n (entries m)) none ∙ inserted_all t.total m in
+          (it.0, it.1 ∙ changes (entries m) old ∙ ap (λ r. t.with (t.of r) old) (sym it.1) ∙ ap (λ n. t.with n old) is)

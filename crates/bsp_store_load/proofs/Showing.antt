@@ -1,0 +1,137 @@
+-- The rows of a table, read one at a time and put.
+use Rattle.std.proofs.Common.{◌≡◌, inl, inr, ℕ, Bool, true, false, List, [], ◌∷◌, ◌++◌, Some, None, IsPermutation, refl, sym, ap, subst, ◌∙◌, append_assoc, arith}
+use Rattle.std.proofs.lemmas.List.Sorted.{IsPermutation-refl}
+use Rattle.sqlite_value.specs.Order.{Row}
+use Rattle.sqlite_trees.specs.declared.store.Store.{Ghosts}
+use Rattle.sqlite.specs.Effect.{Database}
+use Rattle.sqlite.specs.Given.{Advances, HasBegun, HasGiven}
+use Rattle.sqlite.specs.Held.{Held, state}
+use Rattle.sqlite.specs.Listing.{understood}
+use Rattle.sqlite.specs.State.{CommitsShowing, IsUnchanged, State, Survives}
+use Rattle.sqlite.proofs.Callers.{IsPlain, begun_plain, given_begin, never_commits}
+use Rattle.sqlite.proofs.StateLemmas.{survives_weaker}
+use Rattle.bsp_rows.specs.Rows.{Rows}
+use Rattle.bsp_store_base.specs.Content.{Content}
+use Rattle.bsp_store_base.specs.Kept.{Part, Spares}
+use Rattle.bsp_store_base.specs.Schema.{our_schema}
+use Rattle.bsp_store_base.specs.Shows.{AreAllOf, ShowsTable}
+use Rattle.bsp_store_base.proofs.Opening.{rest_shown, whole_shown}
+use Rattle.bsp_store_load.specs.Entries.{after_all}
+use Rattle.bsp_store_load.specs.Loading.{IsLoaded}
+use Rattle.bsp_store_load.proofs.Following.{Follows, Puts, after_append, more_rows, none_yet, one_more, put_then}
+
+-- ---- calls that change nothing
+
+unchanged_both : (a b c : State) → IsUnchanged a b → IsUnchanged b c → IsUnchanged a c
+unchanged_both a b c first second = (
+  record {
+    was_open = first.0.was_open;
+    is_open = second.0.is_open;
+    now_is = second.0.now_is ∙ first.0.now_is;
+    committed_is = second.0.committed_is ∙ first.0.committed_is;
+    mode = second.0.mode ∙ first.0.mode;
+  },
+  record { changes = second.1.changes ∙ first.1.changes; last_rowid = second.1.last_rowid ∙ first.1.last_rowid },
+  second.2 ∙ first.2,
+)
+
+unchanged_itself : (a b : State) → IsUnchanged a b → IsUnchanged b b
+unchanged_itself a b same = (record { was_open = same.0.is_open; is_open = same.0.is_open; now_is = refl; committed_is = refl; mode = refl }, record { changes = refl; last_rowid = refl }, refl)
+
+module _ {S : Type 0} (g : Ghosts S) (old new : Held S) where
+  pub spares_of : Survives (state g old) (state g new) (λ _. ⊥) → Spares g old new
+  spares_of kept = record { earlier = λ clean. omega (arith, kept.clean); leaves = λ clean db may. elim (kept.crash clean db may) [ inl before ↦ before | inr made ↦ absurd made ] }
+
+  -- a query commits nothing
+  pub commits_nothing : (text : List ℕ) → IsPlain (understood our_schema text) → old.schema ≡ our_schema → Survives (state g old) (state g new) (CommitsShowing text [] (state g old)) → Survives (state g old) (state g new) (λ _. ⊥)
+  commits_nothing text plain ours = survives_weaker (state g old) (state g new) _ _ (λ _ db. never_commits text [] (state g old) db (subst (λ s. IsPlain (understood s text)) (sym ours) plain))
+
+-- ---- a table
+
+module _ (part : Part Content) {E : Type 0} (row_of : E → Row) (with_entry : E → Rows → Rows) (fits : E → Type 0) (lacks : E → Rows → Type 0) (rows_in : Rows → List Row) where
+  abbrev may : E → Rows → Type 0
+  may e rows = fits e × lacks e rows
+
+  module _ {S : Type 0} (g : Ghosts S) where
+    -- the rows so far were put
+    pub record IsSoFar (old now : Held S) (zero rows : Rows) : Type 0 where
+      pub text : List ℕ
+      pub shows : ShowsTable part text
+      pub unchanged : IsUnchanged (state g old) (state g now)
+      pub before : List Row
+      pub given : HasGiven g text [] now before
+      pub put : IsPermutation (before ++ rows_in zero) (rows_in rows)
+      pub entries : List E
+      pub made : rows ≡ after_all with_entry entries zero
+      pub follows : Follows row_of with_entry may before zero rows
+
+    pub begun : (text : List ℕ) → ShowsTable part text → (old now : Held S) (zero : Rows) → old.schema ≡ our_schema → HasBegun g text [] old now → IsSoFar old now zero zero
+    begun text shows old now zero ours made =
+        let first = begun_plain g text [] old now (subst (λ s. IsPlain (understood s text)) (sym ours) shows.plain) made in
+        record {
+          text = text;
+          shows = shows;
+          unchanged = first.1;
+          before = [];
+          given = first.0;
+          put = IsPermutation-refl _;
+          entries = [];
+          made = refl;
+          follows = none_yet row_of with_entry may zero;
+        }
+
+    module _ (old now next : Held S) (ours : old.schema ≡ our_schema) (zero rows : Rows) (so_far : IsSoFar old now zero rows) (same : IsUnchanged (state g now) (state g next)) where
+      whole : IsUnchanged (state g old) (state g next)
+      whole = unchanged_both (state g old) (state g now) (state g next) so_far.unchanged same
+
+      now_ours : (state g now).now.schema ≡ our_schema
+      now_ours = ap (λ (d : Database). d.schema) so_far.unchanged.0.now_is ∙ ours
+
+      next_ours : (state g next).now.schema ≡ our_schema
+      next_ours = ap (λ (d : Database). d.schema) whole.0.now_is ∙ ours
+
+      -- no row is to come
+      pub all_put : Advances g now next None → IsLoaded part row_of with_entry fits lacks rows_in (state g old).now.trees zero rows true
+      all_put moved = record {
+        shown = so_far.before;
+        are = subst (λ (d : Database). AreAllOf part d.trees so_far.before) so_far.unchanged.0.now_is
+            (whole_shown part so_far.text so_far.shows (state g now) (state g next) now_ours so_far.before (moved so_far.text [] so_far.before so_far.given));
+        put = λ done. so_far.put;
+        made = λ done. (so_far.entries, so_far.made);
+        entries = λ es all is. (refl, so_far.follows es all is);
+      }
+
+      module _ (row : Row) (moved : Advances g now next (Some row)) (more : Rows) (done : Bool) (puts : Puts row_of with_entry may row rows more done) where
+        given : HasGiven g so_far.text [] next (so_far.before ++ row ∷ [])
+        given = moved so_far.text [] so_far.before so_far.given
+
+        pub row_put : (e : E) → lacks e rows → row ≡ row_of e → more ≡ with_entry e rows → ((entry : E) (all : Rows) → lacks entry all → IsPermutation (row_of entry ∷ rows_in all) (rows_in (with_entry entry all))) → IsSoFar old next zero more
+        row_put e new is made adds = record {
+          text = so_far.text;
+          shows = so_far.shows;
+          unchanged = whole;
+          before = so_far.before ++ row ∷ [];
+          given = given;
+          put = more_rows so_far.before row (rows_in zero) (rows_in rows) (rows_in more) so_far.put
+              (subst (λ r. IsPermutation (r ∷ rows_in rows) (rows_in more)) (sym is) (subst (λ all. IsPermutation (row_of e ∷ rows_in rows) (rows_in all)) (sym made) (adds e rows new)));
+          entries = so_far.entries ++ e ∷ [];
+          made = made ∙ ap (with_entry e) so_far.made ∙ sym (after_append row_of with_entry so_far.entries (e ∷ []) zero);
+          follows = one_more row_of with_entry may so_far.before row zero rows more done so_far.follows puts;
+        }
+
+        -- a row that is not put
+        pub row_left : done ≡ false → IsLoaded part row_of with_entry fits lacks rows_in (state g old).now.trees zero more false
+        row_left none =
+            let first = so_far.before ++ row ∷ [] in
+            let itself = unchanged_itself (state g now) (state g next) same in
+            let rest = rest_shown part so_far.text so_far.shows (state g next) (state g next) next_ours itself first (given_begin g so_far.text [] next first given) in
+            let all = whole_shown part so_far.text so_far.shows (state g next) (state g next) next_ours (first ++ rest.0) rest.1 in
+            record {
+              shown = first ++ rest.0;
+              are = subst (λ (d : Database). AreAllOf part d.trees (first ++ rest.0)) whole.0.now_is all;
+              put = λ t. absurd (cc t);
+              made = λ t. absurd (cc t);
+              entries = λ es may_be is.
+                  let yes_done = put_then row_of with_entry may so_far.before row zero rows more done so_far.follows puts rest.0 es may_be (sym (append_assoc so_far.before (row ∷ []) rest.0) ∙ is) in
+                  absurd (cc (yes_done, none));
+            }

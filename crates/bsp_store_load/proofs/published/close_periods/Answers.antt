@@ -1,0 +1,33 @@
+use Rattle.std.proofs.Common.{refl}
+use Rattle.bsp_memory_rows.specs.Tables.{rows_of}
+use Rattle.bsp_store_base.specs.Columns.{period_row}
+use Rattle.bsp_store_base.specs.Forms.{IsPeriod}
+use Rattle.bsp_store_load.specs.Stored.{MayClose, closing}
+use Rattle.bsp_store_load.proofs.CloseLemmas.{plan_alone}
+use Rattle.bsp_store_load.proofs.PutLemmas.{all_gone, begun, gone_on}
+use Rattle.bsp_store_load.proofs.published.close_periods.Goals as goal
+
+pub loop-row-init : goal.loop-row-init
+loop-row-init c = record {
+  derived = λ is. is;
+  others = refl;
+  entries = λ es may same. begun period_row closing (MayClose IsPeriod) es (rows_of c.args.tables.now) may;
+}
+
+pub loop-row-preserved : goal.loop-row-preserved
+loop-row-preserved c = record {
+  derived = λ is. c.in_ok-close_period.ensures.derived (c.loop-row.invariant.derived is);
+  others = plan_alone (rows_of c.args.tables.now) (rows_of c.loop-row.tables) (rows_of c.close_period.new.tables) c.loop-row.invariant.others c.in_ok-close_period.ensures.others;
+  entries = λ es may same. (gone_on period_row closing (MayClose IsPeriod) es c.args.rows.now c.loop-row.row-index c.row-item.result (rows_of c.args.tables.now) (rows_of c.loop-row.tables) (rows_of c.close_period.new.tables) _
+      same c.loop-row-test.true c.row-item.is (c.loop-row.invariant.entries es may same) c.in_ok-close_period.ensures.entry).1;
+}
+
+pub returns-then-not-branch-clause-entries : goal.returns-then-not-branch-clause-entries
+returns-then-not-branch-clause-entries c = λ es may same.
+    let gone = gone_on period_row closing (MayClose IsPeriod) es c.args.rows.now c.loop-row.row-index c.row-item.result (rows_of c.args.tables.now) (rows_of c.loop-row.tables) (rows_of c.close_period.new.tables) _
+    same c.loop-row-test.true c.row-item.is (c.loop-row.invariant.entries es may same) c.in_ok-close_period.ensures.entry in
+    absurd (cc (gone.0, c.if-not-branch.true))
+
+pub returns-clause-entries : goal.returns-clause-entries
+returns-clause-entries c = λ es may same.
+    (refl, all_gone period_row closing (MayClose IsPeriod) es c.args.rows.now c.loop-row.row-index (rows_of c.args.tables.now) (rows_of c.loop-row.tables) same c.loop-row-test.false (c.loop-row.invariant.entries es may same))

@@ -1,0 +1,18 @@
+//! All rows of the plan's tables.
+
+use sqlite::Row;
+
+/// All rows of the plan's five tables, those of each in the order of its keys or of its places.
+#[derive(Debug, Drop)]
+pub struct PlanRows {
+    /// Version, business day and the count of closed periods.
+    pub meta: Vec<Row>,
+    /// Terms of the market.
+    pub terms: Vec<Row>,
+    /// Published airlines.
+    pub airlines: Vec<Row>,
+    /// Rates of commission.
+    pub rates: Vec<Row>,
+    /// Billing periods.
+    pub periods: Vec<Row>,
+}

@@ -1,0 +1,50 @@
+//! The table of tallies: each row against those in memory.
+
+ghost use Rattle.std.specs.Prelude.{◌≡◌, ◌↔◌, map, IsTrue};
+ghost use Rattle.std.specs.FinMap.{entries};
+ghost use Rattle.bsp_store_base.specs.Columns.{tally_row};
+ghost use Rattle.bsp_store_load.specs.Contents.{used_tallies};
+ghost use Rattle.bsp_memory_tables.specs.TallyTables.{tally_rows};
+
+use crate::equal::is_row;
+use crate::listed::{RowOf, are_rows_of};
+use bsp_maps::Rule;
+use bsp_memory_tables::TallyTable;
+use bsp_rows::{Tally, TallyKey};
+use bsp_store_memos::TallyRow;
+use sqlite::Row;
+
+/// Tallies.
+#[derive(Clone, Copy, Debug)]
+struct StoredTallies;
+
+impl RowOf<TallyKey, Tally> for StoredTallies {
+    ghost use Rattle.bsp_store_base.specs.Columns.{tally_row};
+
+    ghost row_of = { tally_row };
+
+    fn is_row_of(&self, row: &Row, key: &TallyKey, tally: &Tally) -> bool {
+        is_row(row, &TallyRow::of(key, tally).values())
+    }
+}
+
+/// A tally to which some row adds has a row.
+#[derive(Clone, Copy, Debug)]
+struct Used;
+
+impl Rule<TallyKey, Tally> for Used {
+    ghost use Rattle.bsp_memory_rows.specs.Lookups.{has_rows};
+
+    ghost holds = { λ rule key tally. has_rows tally };
+
+    fn holds(&self, _key: &TallyKey, tally: &Tally) -> bool {
+        tally.accepted > 0 || tally.memo_count > 0
+    }
+}
+
+/// Whether the rows are those of the tallies to which some row adds.
+pub fn are_tallies(rows: &[Row], table: &TallyTable) -> bool
+    ensures { IsTrue result ↔ (rows.now ≡ map tally_row (entries (used_tallies (tally_rows table.now)))) }
+{
+    are_rows_of(&StoredTallies, &Used, rows, table.map())
+}

@@ -1,0 +1,252 @@
+-- From one table to the next, as they are put into memory.
+use Rattle.std.proofs.Common.{◌≡◌, Bool, true, false, Option, Some, None, is_some, refl, sym, ap, subst, ◌∙◌, IsPermutation, map}
+use Rattle.std.specs.Prelude.{is_none}
+use Rattle.std.specs.List.{AllByRecursion}
+use Rattle.std.specs.FinMap.{empty, entries}
+use Rattle.sqlite_trees.specs.Tree.{Trees}
+use Rattle.bsp_store_load.specs.Memos.{is_memo}
+use Rattle.bsp_book.specs.Rows.{Rows, memo_key, no_rows}
+use Rattle.bsp_book.specs.Sound.{IsRight, Sound}
+use Rattle.bsp_store_load.specs.MemoryRowsTables.{IsDerived, rows_of}
+use Rattle.bsp_store_load.specs.Tables.{Tables}
+use Rattle.bsp_store_load.specs.Kept.{KeepsRows, Part, columns_of}
+use Rattle.bsp_store_load.specs.Content.{Content, airline_part, form, meta_part, period_part, rate_part, tally_part, terms_part}
+use Rattle.bsp_store_load.specs.Contents.{IsContentOf, content_now}
+use Rattle.bsp_store_load.specs.Forms.{IsFormed}
+use Rattle.bsp_store_load.specs.Loading.{HasRows}
+use Rattle.bsp_store_load.proofs.Building.{content_of, formed_plan}
+use Rattle.bsp_store_load.proofs.CallerLoaders.{agents_loader, airlines_loader, ranges_loader}
+use Rattle.bsp_store_load.proofs.Loaders.{Loads, others, rows_here, whole_here}
+use Rattle.bsp_store_load.proofs.SaleLoaders.{items_loader, memos_loader}
+use Rattle.bsp_store_load.proofs.TableLemmas.{both_all, items_right, memos_fit, memos_may}
+use Rattle.bsp_store_open.specs.Loaded.{AreCallersLoaded, AreRight, AreSalesLoaded, HasNoCallers, HasNoSales, IsAllLoaded, IsPlanned, NoCallers, NoSales}
+use Rattle.bsp_store_load.specs.Stored.{AreRowsOfPlan, IsFormedPlan}
+use Rattle.bsp_store_load.specs.Published.{Published}
+use Rattle.bsp_store_load.specs.SoundPlan.{IsSoundPlan}
+use Rattle.bsp_store_load.specs.declared.plan_rows.PlanRows.{PlanRows}
+use Rattle.bsp_store_load.proofs.TallyLemmas.{content_is}
+use Rattle.bsp_store_open.specs.Opening.{ArePlanRows, IsOfVersion, Reports, ShowsNoBook}
+use Rattle.bsp_store_open.specs.declared.fault.OpenFault.{OpenFault}
+use Rattle.bsp_store_open.specs.declared.fault.OpenFault.TheVariants.{Damaged}
+use Rattle.bsp_store_open.proofs.OpeningLemmas.{not_other}
+
+-- all rows were put, or one was left
+pub none_left : {X : Type 0} (o : Option X) (b : Bool) → b ≡ is_some o → b ≡ false → is_none o ≡ true
+none_left None b is none = refl
+none_left (Some x) b is none = absurd (cc (is, none))
+
+pub one_left : {X : Type 0} (o : Option X) (b : Bool) → b ≡ is_some o → b ≡ true → is_none o ≡ false
+one_left None b is some = absurd (cc (is, some))
+one_left (Some x) b is some = refl
+
+-- ---- callers
+
+module _ (trees : Trees) (zero one two three : Rows) (none : HasNoCallers zero) where
+  module _ (agents : Loads agents_loader trees zero one true) where
+    agents_only : one ≡ record zero { agents = one.agents }
+    agents_only = others agents_loader trees zero one true agents refl
+
+    no_airlines : one.airlines ≡ empty
+    no_airlines = ap (λ (r : Rows). r.airlines) agents_only ∙ none.airlines
+
+    module _ (airlines : Loads airlines_loader trees one two true) where
+      airlines_only : two ≡ record one { airlines = two.airlines }
+      airlines_only = others airlines_loader trees one two true airlines refl
+
+      no_ranges : two.ranges ≡ empty
+      no_ranges = ap (λ (r : Rows). r.ranges) airlines_only ∙ ap (λ (r : Rows). r.ranges) agents_only ∙ none.ranges
+
+      pub callers_loaded : Loads ranges_loader trees two three true → AreCallersLoaded trees zero three
+      callers_loaded ranges =
+          let ranges_only : three ≡ record two { ranges = three.ranges } = others ranges_loader trees two three true ranges refl in
+          let same_airlines : three.airlines ≡ two.airlines = ap (λ (r : Rows). r.airlines) ranges_only in
+          let same_agents : three.agents ≡ one.agents = ap (λ (r : Rows). r.agents) ranges_only ∙ ap (λ (r : Rows). r.agents) airlines_only in
+          let put_airlines : Rows → Rows = λ r. record r { airlines = two.airlines } in
+          let put_ranges : Rows → Rows = λ r. record r { ranges = three.ranges } in
+          let whole : three ≡ record zero { agents = one.agents; airlines = two.airlines; ranges = three.ranges } = ranges_only ∙ ap put_ranges (airlines_only ∙ ap put_airlines agents_only) in
+          record {
+            others = whole ∙ (λ i. record zero { agents = sym same_agents i; airlines = sym same_airlines i; ranges = three.ranges });
+            agents = subst (λ m. IsPermutation (map (columns_of 2) (trees 8)) (map agents_loader.row_of (entries m))) (sym same_agents) (rows_here agents_loader trees zero one true agents none.agents refl);
+            airlines = subst (λ m. IsPermutation (map (columns_of 2) (trees 10)) (map airlines_loader.row_of (entries m))) (sym same_airlines) (rows_here airlines_loader trees one two true airlines no_airlines refl);
+            ranges = rows_here ranges_loader trees two three true ranges no_ranges refl;
+            whole = λ c formed keeps.
+                let with_airlines : Rows → Rows = λ r. record r { airlines = c.airlines } in
+                let with_ranges : Rows → Rows = λ r. record r { ranges = c.ranges } in
+                (whole_here ranges_loader trees two three true ranges no_ranges c formed keeps formed.ranges).1
+                ∙ ap with_ranges ((whole_here airlines_loader trees one two true airlines no_airlines c formed keeps formed.airlines).1
+                ∙ ap with_airlines (whole_here agents_loader trees zero one true agents none.agents c formed keeps formed.agents).1);
+          }
+
+      pub no_ranges_loaded : Loads ranges_loader trees two three false → NoCallers trees
+      no_ranges_loaded ranges c formed keeps = cc (whole_here ranges_loader trees two three false ranges no_ranges c formed keeps formed.ranges).0
+
+    pub no_airlines_loaded : Loads airlines_loader trees one two false → NoCallers trees
+    no_airlines_loaded airlines c formed keeps = cc (whole_here airlines_loader trees one two false airlines no_airlines c formed keeps formed.airlines).0
+
+  pub no_agents_loaded : Loads agents_loader trees zero one false → NoCallers trees
+  no_agents_loaded agents c formed keeps = cc (whole_here agents_loader trees zero one false agents none.agents c formed keeps formed.agents).0
+
+-- ---- items and memos
+
+module _ (trees : Trees) (zero one two : Rows) (none : HasNoSales zero) where
+  module _ (items : Loads items_loader trees zero one true) where
+    items_only : one ≡ record zero { items = one.items }
+    items_only = others items_loader trees zero one true items refl
+
+    no_memos : one.memos ≡ empty
+    no_memos = ap (λ (r : Rows). r.memos) items_only ∙ none.memos
+
+    pub sales_loaded : Loads memos_loader trees one two true → AreSalesLoaded trees zero two
+    sales_loaded memos =
+        let memos_only : two ≡ record one { memos = two.memos } = others memos_loader trees one two true memos refl in
+        let same_items : two.items ≡ one.items = ap (λ (r : Rows). r.items) memos_only in
+        let put_memos : Rows → Rows = λ r. record r { memos = two.memos } in
+        let whole : two ≡ record zero { items = one.items; memos = two.memos } = memos_only ∙ ap put_memos items_only in
+        record {
+          others = whole ∙ (λ i. record zero { items = sym same_items i; memos = two.memos });
+          items = subst (λ m. IsPermutation (map (columns_of 21) (trees 14)) (map items_loader.row_of (entries m))) (sym same_items) (rows_here items_loader trees zero one true items none.items refl);
+          memos = rows_here memos_loader trees one two true memos no_memos refl;
+          whole = λ c formed right keeps.
+              let with_memos : Rows → Rows = λ r. record r { memos = c.memos } in
+              (whole_here memos_loader trees one two true memos no_memos c formed keeps (memos_may (entries c.memos) formed.memos right.memos)).1
+              ∙ ap with_memos (whole_here items_loader trees zero one true items none.items c formed keeps (both_all _ _ (entries c.items) formed.items right.items)).1;
+        }
+
+    pub no_memos_loaded : Loads memos_loader trees one two false → NoSales trees
+    no_memos_loaded memos c formed right keeps = cc (whole_here memos_loader trees one two false memos no_memos c formed keeps (memos_may (entries c.memos) formed.memos right.memos)).0
+
+  pub no_items_loaded : Loads items_loader trees zero one false → NoSales trees
+  no_items_loaded items c formed right keeps = cc (whole_here items_loader trees zero one false items none.items c formed keeps (both_all _ _ (entries c.items) formed.items right.items)).0
+
+-- ---- all tables
+
+module _ (trees : Trees) (zero : Rows) (planned : IsPlanned trees zero) where
+  pub callers_none : HasNoCallers zero
+  callers_none = record {
+    agents = ap (λ (r : Rows). r.agents) planned.alone;
+    airlines = ap (λ (r : Rows). r.airlines) planned.alone;
+    ranges = ap (λ (r : Rows). r.ranges) planned.alone;
+  }
+
+  -- the trees keep no book
+  pub shows_none : (fault : OpenFault) → fault ≡ Damaged → ((book : Rows) (c : Content) → Sound book → IsContentOf book c → IsFormed c → KeepsRows form c trees → ⊥) → ShowsNoBook fault trees
+  shows_none fault damaged none = record {
+    none = none;
+    meta = planned.stored.meta.items;
+    all = planned.are.meta.in_any_order;
+    reports = subst (λ f. Reports f planned.stored.meta.items) (sym damaged) (not_other planned.stored.meta.items planned.version);
+  }
+
+  module _ (one : Rows) (callers : AreCallersLoaded trees zero one) where
+    pub sales_none : HasNoSales one
+    sales_none = record {
+      items = ap (λ (r : Rows). r.items) callers.others ∙ ap (λ (r : Rows). r.items) planned.alone;
+      memos = ap (λ (r : Rows). r.memos) callers.others ∙ ap (λ (r : Rows). r.memos) planned.alone;
+    }
+
+    module _ (book : Rows) (c : Content) (sound : Sound book) (of : IsContentOf book c) (formed : IsFormed c) (keeps : KeepsRows form c trees) where
+      pub right : AreRight c
+      right = record {
+        items = subst (λ m. AllByRecursion (λ e. IsRight e.0 e.1) (entries m)) (sym (ap (λ (d : Content). d.items) of.same)) (items_right book sound);
+        memos = subst (λ m. AllByRecursion (λ e. (memo_key e.1 ≡ e.0) × (is_memo e.1 ≡ true)) (entries m)) (sym (ap (λ (d : Content). d.memos) of.same)) (memos_fit book sound);
+      }
+
+      plan_is : zero ≡ record no_rows { published = book.published }
+      plan_is = planned.only book.published sound.plan (formed_plan book c of formed) (record {
+        meta = planned.are.meta.in_order c formed keeps ∙ ap meta_part.rows of.same;
+        terms = planned.are.terms.in_order c formed keeps ∙ ap terms_part.rows of.same;
+        airlines = planned.are.airlines.in_order c formed keeps ∙ ap airline_part.rows of.same;
+        rates = planned.are.rates.in_order c formed keeps ∙ ap rate_part.rows of.same;
+        periods = planned.are.periods.in_order c formed keeps ∙ ap period_part.rows of.same;
+      })
+
+      pub book_is : (two : Rows) → AreSalesLoaded trees one two → two ≡ book
+      book_is two sales =
+          let with_callers : Rows → Rows = λ r. record r { agents = c.agents; airlines = c.airlines; ranges = c.ranges } in
+          let with_sales : Rows → Rows = λ r. record r { items = c.items; memos = c.memos } in
+          let rows_in : Content → Rows = λ d. record { published = book.published; agents = d.agents; airlines = d.airlines; ranges = d.ranges; items = d.items; memos = d.memos } in
+          sales.whole c formed right keeps ∙ ap with_sales (callers.whole c formed keeps ∙ ap with_callers plan_is) ∙ ap rows_in of.same
+
+    module _ (tables : Tables) (sales : AreSalesLoaded trees one (rows_of tables)) where
+      -- the rows are those of a book that the trees keep, and the content too
+      pub same_content : IsDerived tables → (book : Rows) (c : Content) → Sound book → IsContentOf book c → IsFormed c → KeepsRows form c trees → c ≡ content_now tables
+      same_content derived book c sound of formed keeps = content_of tables book c derived (book_is book c sound of formed keeps (rows_of tables) sales) of
+
+      same_plan : (rows_of tables).published ≡ zero.published
+      same_plan = ap (λ (r : Rows). r.published) sales.others ∙ ap (λ (r : Rows). r.published) callers.others
+
+      plan_rows_are : AreRowsOfPlan (rows_of tables).published planned.stored
+      plan_rows_are = subst (λ p. AreRowsOfPlan p planned.stored) (sym same_plan) planned.of
+
+      pub all_loaded : HasRows tally_part (content_now tables) trees → IsAllLoaded trees tables
+      all_loaded tallies =
+          let are = plan_rows_are in
+          record {
+            rows = (
+              subst (IsPermutation _) are.meta planned.are.meta.in_any_order,
+              (
+                subst (IsPermutation _) are.terms planned.are.terms.in_any_order,
+                (
+                  subst (IsPermutation _) are.airlines planned.are.airlines.in_any_order,
+                  (
+                    subst (IsPermutation _) are.rates planned.are.rates.in_any_order,
+                    (
+                      subst (IsPermutation _) are.periods planned.are.periods.in_any_order,
+                      (
+                        subst (λ m. IsPermutation (map (columns_of 2) (trees 8)) (map agents_loader.row_of (entries m))) (sym (ap (λ (r : Rows). r.agents) sales.others)) callers.agents,
+                        (
+                          subst (λ m. IsPermutation (map (columns_of 2) (trees 10)) (map airlines_loader.row_of (entries m))) (sym (ap (λ (r : Rows). r.airlines) sales.others)) callers.airlines,
+                          (
+                            subst (λ m. IsPermutation (map (columns_of 3) (trees 12)) (map ranges_loader.row_of (entries m))) (sym (ap (λ (r : Rows). r.ranges) sales.others)) callers.ranges,
+                            (sales.items, (sales.memos, (tallies, tt))),
+                          ),
+                        ),
+                      ),
+                    ),
+                  ),
+                ),
+              ),
+            );
+            only = λ book c sound of formed keeps. book_is book c sound of formed keeps (rows_of tables) sales;
+            stored = planned.stored;
+            are = planned.are;
+            version = planned.version;
+          }
+
+-- a commit in memory keeps what was loaded
+pub still_loaded : (trees : Trees) (a b : Tables) → IsDerived a → IsDerived b → rows_of b ≡ rows_of a → IsAllLoaded trees a → IsAllLoaded trees b
+still_loaded trees a b was derived same loaded =
+    let content : content_now a ≡ content_now b = content_of b (rows_of a) (content_now a) derived same (content_is (rows_of a) _ was.totals) in
+    record {
+      rows = subst (λ c. AllByRecursion (λ (p : Part Content). HasRows p c trees) form.parts) content loaded.rows;
+      only = λ book c sound of formed keeps. same ∙ loaded.only book c sound of formed keeps;
+      stored = loaded.stored;
+      are = loaded.are;
+      version = loaded.version;
+    }
+
+-- ---- what is refused
+
+-- rows that are those of no plan
+pub no_plan : (trees : Trees) (stored : PlanRows) → ArePlanRows trees stored → IsOfVersion stored.meta.items → ((p : Published) → IsSoundPlan p → IsFormedPlan p → AreRowsOfPlan p stored → ⊥) → ShowsNoBook Damaged trees
+no_plan trees stored are version none = record {
+  none = λ book c sound of formed keeps. none book.published sound.plan (formed_plan book c of formed) (record {
+    meta = are.meta.in_order c formed keeps ∙ ap meta_part.rows of.same;
+    terms = are.terms.in_order c formed keeps ∙ ap terms_part.rows of.same;
+    airlines = are.airlines.in_order c formed keeps ∙ ap airline_part.rows of.same;
+    rates = are.rates.in_order c formed keeps ∙ ap rate_part.rows of.same;
+    periods = are.periods.in_order c formed keeps ∙ ap period_part.rows of.same;
+  });
+  meta = stored.meta.items;
+  all = are.meta.in_any_order;
+  reports = not_other stored.meta.items version;
+}
+
+-- tables whose rows are not sound
+pub not_sound : (fault : OpenFault) (trees : Trees) (tables : Tables) → IsAllLoaded trees tables → (fault ≡ Damaged) × ¬ Sound (rows_of tables) → ShowsNoBook fault trees
+not_sound fault trees tables loaded unsound = record {
+  none = λ book c sound of formed keeps. unsound.1 (subst Sound (sym (loaded.only book c sound of formed keeps)) sound);
+  meta = loaded.stored.meta.items;
+  all = loaded.are.meta.in_any_order;
+  reports = subst (λ f. Reports f loaded.stored.meta.items) (sym unsound.0) (not_other loaded.stored.meta.items loaded.version);
+}

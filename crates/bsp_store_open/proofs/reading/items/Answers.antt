@@ -1,8 +1,0 @@
-use Rattle.bsp_store_load.specs.Content.{item_part}
-use Rattle.bsp_store_open.proofs.OpeningLemmas.{asked}
-use Rattle.bsp_store_open.proofs.reading.items.Goals as goal
-
-pub returns-clause-found : goal.returns-clause-found
-returns-clause-found g c =
-    let ours = c.in_ok-expect_tables.ensures in
-    asked g.S.Store c.args.conn.now c.all_items.new.conn item_part _ ours (c.in_ok-all_items.ensures.read ours) (λ clean. c.in_ok-all_items.ensures.rows clean ours) (λ clean. c.in_ok-all_items.ensures.order clean ours)
