@@ -3,8 +3,9 @@
 RULES has changes of rows: what is wrong, SQL with a mark ?, two texts for the mark, and what the program says is at fault.
 With the first text a rule of the audit (docs/BOOK.md) is broken, and no other; with the second none is. All tallies are made
 anew after both. So a book with the first is refused for that rule alone, and one with the second is opened. Some of the rules no row can break: what rule 6
-compares is one column, and so are the keys of the rules 5 and 17, but for `canx`, which is in DAMAGES. Rule 8 follows from
-the rules 2 and 9.
+compares is one column, and so are the keys of the rules 5 and 17, but for `canx`, which is in DAMAGES; check digits have no
+column. Rule 8 follows from the rules 2 and 9. Where the first text breaks a foreign key (NO_PARENT), SQLite's audit of the file
+refuses it before the rows are read.
 
 DAMAGES has changes of keys, texts, tallies and tables, each with what is at fault, and VERSIONS those that make it a book of
 another version. Each is refused; its tallies stay as they are.
@@ -19,8 +20,8 @@ import datetime
 A, B, NOBODY = "'12345675'", "'76543213'", "'12345686'"
 EXCHANGED, EXCHANGE, CANCELLED, CARD = "'1300000001'", "'1300000003'", "'1300000005'", "'1300000008'"
 REFUND = "'1300000009'"
-ITEM = """agent number canx check_digit airline code issued period alive name fare taxes rate commission
-    rel_airline rel_number rel_check ca cc ex vendor""".split()
+ITEM = """agent number canx airline code issued period alive name fare taxes rate commission rel_airline rel_number
+    ca cc ex vendor""".split()
 
 
 def day(text):
@@ -36,15 +37,14 @@ def item_like(ticket, **other):
 
 def refund(ticket, number=1300000009, **other):
     """Puts in the refund of a ticket."""
-    related = {"rel_airline": "airline", "rel_number": "number", "rel_check": "check_digit"}
+    related = {"rel_airline": "airline", "rel_number": "number"}
     amounts = {"fare": "-fare", "taxes": "replace(taxes, '{', '}')", "commission": "-commission", "ca": "-ca", "cc": "-cc"}
-    return item_like(ticket, number=f"'{number}'", check_digit=number % 7, code="'RFND'", alive=1, ex="NULL",
-                     **{**related, **amounts, **other})
+    return item_like(ticket, number=f"'{number}'", code="'RFND'", alive=1, ex="NULL", **{**related, **amounts, **other})
 
 
 def canx(ticket, alive="canx", **other):
     """Puts in the CANX of a ticket, and says whether the two live."""
-    return item_like(ticket, canx=1, code="'CANX'", **dict.fromkeys(ITEM[10:], "NULL"), **other) + \
+    return item_like(ticket, canx=1, code="'CANX'", **dict.fromkeys(ITEM[ITEM.index("fare"):], "NULL"), **other) + \
         f"UPDATE item SET alive = {alive} WHERE number = {ticket}"
 
 
@@ -64,6 +64,7 @@ def item(number, agent=A, is_canx=0):
 
 
 MEMO = 'memo "125" "6000000002"'
+NO_PARENT = None
 NO_PLAN = "no plan has these terms, airlines, rates, periods and closes"
 MANY = "ranges meet, two items relate to one ticket, or a limit is passed"
 
@@ -74,23 +75,21 @@ PLAN = {
 }
 
 RANGES = {
-    "a range of no agent": ("INSERT INTO stock VALUES (?, '1600000000', '1600000009')", NOBODY, B, 'stock "12345686" "1600000000"'),
+    "a range of no agent": ("INSERT INTO stock VALUES (?, '1600000000', '1600000009')", NOBODY, B, NO_PARENT),
     "a range without a number": (f"INSERT INTO stock VALUES ({B}, '1600000001', ?)", "'1600000000'", "'1600000001'", MANY),
     "a range that meets another agent's": (f"UPDATE stock SET lo = ? WHERE agent = {B}", "'1300000099'", "'1300000100'", MANY),
 }
 
 ITEMS = {
-    "a wrong check digit": (item_with("number = '1300000009', check_digit = ?"), "6", "0", item(REFUND)),
     "a ticket without a form of payment": (item_with("ca = ?", EXCHANGED), "NULL", "1", item(EXCHANGED)),
     "a refund of nothing": (
-        refund(CARD, rel_airline="iif(?, airline, NULL)", rel_number="iif(?, number, NULL)",
-               rel_check="iif(?, check_digit, NULL)"), "0", "1", item(REFUND)),
+        refund(CARD, rel_airline="iif(?, airline, NULL)", rel_number="iif(?, number, NULL)"), "0", "1", item(REFUND)),
     "a sale out of another agent's stock": (
-        item_with(f"agent = {B}, number = ?, check_digit = 1"), "'1300000010'", "'1400000001'", item("'1300000010'", B)),
-    "a sale out of stock": (item_with("number = ?, check_digit = 0"), "'1300000100'", "'1300000093'", item("'1300000100'")),
+        item_with(f"agent = {B}, number = ?"), "'1300000010'", "'1400000001'", item("'1300000010'", B)),
+    "a sale out of stock": (item_with("number = ?"), "'1300000100'", "'1300000093'", item("'1300000100'")),
     "a sale issued after the business day": (item_with("period = '24012', issued = ?"), day("17"), day("16"), item(CARD)),
     "a sale issued after its period": (item_with("issued = ?"), day("16"), day("15"), item(CARD)),
-    "a sale of no period": (item_with("period = ?"), "'24013'", "'24012'", item(CARD)),
+    "a sale of no period": (item_with("period = ?"), "'24013'", "'24012'", NO_PARENT),
 }
 
 RELATED_ITEMS = {
@@ -110,7 +109,7 @@ RELATED_ITEMS = {
 }
 
 MEMOS = {
-    "a memo to no agent": (memo_with("agent = ?"), NOBODY, B, MEMO),
+    "a memo to no agent": (memo_with("agent = ?"), NOBODY, B, NO_PARENT),
     "a memo issued after the business day": (memo_with("issued = ?"), day("17"), day("16"), MEMO),
     "a memo billed in an open period": (memo_with("state = 'agreed', billed = ?"), "'24012'", "'24011'", MEMO),
     "a disputed memo that is billed": (memo_with("state = ?, billed = '24011'"), "'disputed'", "'agreed'", MEMO),
@@ -135,7 +134,8 @@ DAMAGES = {
         f"UPDATE tally SET cash = cash + 1 WHERE agent = {A} AND airline = '125'", 'tally "12345675" "125" "24011"'),
     "a tally too few": (f"DELETE FROM tally WHERE agent = {A} AND airline = '220'", "tally" + COUNT),
     "no tallies": ("DELETE FROM tally", "tally" + COUNT),
-    "a second row of the day": ("INSERT INTO meta SELECT * FROM meta", "meta" + COUNT),
+    "a second row of the day": ("INSERT INTO meta SELECT 2, version, day, closed FROM meta", "meta" + COUNT),
+    "a row of the day under another key": ("UPDATE meta SET id = 2", "meta 2"),
     "no row of the day": ("DELETE FROM meta", "meta" + COUNT),
     "no table of memos": ("DROP TABLE memo", "the table memo is missing or another"),
     "another column of the tallies": ("ALTER TABLE tally ADD COLUMN note TEXT", "the table tally is missing or another"),
@@ -143,7 +143,7 @@ DAMAGES = {
     "an index": ("CREATE INDEX item_period ON item (period)", 'the index "item_period" is none of a book'),
     "statistics": ("ANALYZE", 'the table "sqlite_stat1" is none of a book'),
     "a view": ("CREATE VIEW living AS SELECT * FROM item WHERE alive", 'the object "living" is none of a book'),
-    "a trigger": ("CREATE TRIGGER noted AFTER INSERT ON item BEGIN SELECT 1; END", 'the object "noted" is none of a book'),
+    "a trigger": ("CREATE TRIGGER noted AFTER INSERT ON tally BEGIN SELECT 1; END", 'the object "noted" is none of a book'),
 }
 
 VERSIONS = {

@@ -394,6 +394,8 @@ def on_standard_input():
         reply = b"HTTP/1.1 100 Continue\r\n\r\nHTTP/1.1 200 OK\r\nContent-Type: application/json\r\n" \
             b'Content-Length: 17\r\n\r\n{"result":"%s"}' % result
         expect_end(f"run, {result.decode()}", (0, reply, f"bsp_office: run.db: {book}\n".encode()), [*RUN, "run.db"], input=asked)
+    shutil.copy("run.db", "alone.db")
+    expect("the file alone, after an opening", [(damages.day("05"),)], rows_of("alone.db", "SELECT day FROM meta"))
 
 
 def refusal(what, file, cause, status):
@@ -422,7 +424,10 @@ def rules_broken():
     for what, (change, *texts, fault) in damages.RULES.items():
         broken, sound = (f"{change.replace('?', str(it))}; {anew}" for it in texts)
         changed(broken)
-        refusal(what, "copy.db", f"{DAMAGED}: {fault}", 1)
+        if fault is damages.NO_PARENT:
+            refusal(what, "copy.db", NO_DATABASE, 3)
+        else:
+            refusal(what, "copy.db", f"{DAMAGED}: {fault}", 1)
         changed(sound)
         ended = subprocess.run([*RUN, "copy.db"], input=b"", capture_output=True, timeout=60)
         opened_it = re.fullmatch(rb"bsp_office: copy\.db: day .*\n", ended.stderr) is not None

@@ -170,7 +170,7 @@ def rows_of(book, sales):
     for it in sales:
         item, = book.execute("SELECT * FROM item WHERE agent = ? AND number = ? AND canx = 0", (it.agent, str(it.number)))
         lines.append(line_of("item", item))
-        tallies[item[0], item[4], item[7]] = None
+        tallies[item[0], item[3], item[6]] = None
     for key in tallies:
         tally, = book.execute("SELECT * FROM tally WHERE agent = ? AND airline = ? AND period = ?", key)
         lines.append(line_of("tally", tally))

@@ -2,7 +2,8 @@
    twin BOOK ROWS
    A line of ROWS is `item` or `tally` with the values of a row, with tabs between, or `commit`: iN is an integer,
    tTEXT a text, n NULL. The lines up to a `commit` are one transaction: an INSERT for an item; for a tally an UPDATE,
-   and an INSERT where there is none. The log is a WAL, and each commit is synced, as by the program. Prints the
+   and an INSERT where there is none. Foreign keys are enforced, the log is a WAL, and each commit is synced, as by the
+   program. Prints the
    nanoseconds of each transaction. */
 #include <sqlite3.h>
 #include <stdio.h>
@@ -10,7 +11,7 @@
 #include <string.h>
 #include <time.h>
 
-enum { ITEM = 21, TALLY = 11 };
+enum { ITEM = 19, TALLY = 11 };
 
 static sqlite3 *book;
 
@@ -69,7 +70,7 @@ static long long now(void) {
 int main(int count, char **words) {
     if (count != 3) return 2;
     expect(sqlite3_open(words[1], &book), SQLITE_OK, words[1]);
-    expect(sqlite3_exec(book, "PRAGMA journal_mode = WAL; PRAGMA synchronous = FULL", NULL, NULL, NULL), SQLITE_OK, "WAL");
+    expect(sqlite3_exec(book, "PRAGMA foreign_keys = ON; PRAGMA journal_mode = WAL; PRAGMA synchronous = FULL", NULL, NULL, NULL), SQLITE_OK, "WAL");
     sqlite3_stmt *begin = prepared("BEGIN"), *commit = prepared("COMMIT");
     sqlite3_stmt *item = insertion("item", ITEM), *tally = insertion("tally", TALLY);
     sqlite3_stmt *change = prepared("UPDATE tally SET accepted = ?4, living = ?5, canx = ?6, memo_count = ?7, cash = ?8, "

@@ -26,7 +26,7 @@ use Rattle.bsp_rules.specs.declared.verdict.Reporter.{Reporter}
 use Rattle.bsp_rules.specs.FactsOf.{facts_in, own_number, related_document, counts, count_in}
 use Rattle.bsp_rules.specs.Rows.{has_number, is_canx, is_living_relation, is_ticket, used, cancelled, relates, ticket, contains}
 use Rattle.bsp_rules.specs.SameContent.{same_code}
-use Rattle.bsp_rules.specs.Verdicts.{is_missing, is_ended, is_cancelled, limit_of, is_number_used, has_wrong_agent, is_other_agent}
+use Rattle.bsp_rules.specs.Verdicts.{is_missing, is_ended, is_cancelled, limit_of, is_number_used, is_wrong_place, has_wrong_agent, is_other_agent}
 use Rattle.bsp_rows.specs.declared.keys.ItemKey.{ItemKey}
 use Rattle.bsp_rows.specs.Rows.{Rows, key_of, HasNumberKey, agent_items, ranges_of}
 use Rattle.bsp_rows.specs.Sound.{IsInStock, AreSoundItems, ticket_key, is_counted}
@@ -35,7 +35,7 @@ use Rattle.bsp_rules.proofs.MeaningLemmas.{tickets_live, canx_free}
 use Rattle.bsp_calendar.proofs.ListLemmas.{find_contains}
 use Rattle.bsp_rows.proofs.RowLemmas.{mapped, among_items, item_among, range_among}
 use Rattle.bsp_fields.proofs.DocumentLemmas.{one_number}
-use Rattle.bsp_rows.proofs.GroupLemmas.{own_reads, unrelated}
+use Rattle.bsp_rows.proofs.GroupLemmas.{own_reads, related_read, unrelated}
 
 -- ---- small steps
 
@@ -113,6 +113,7 @@ count_is agent airline period (e ∷ es) =
 pub record IsCleared (rows : Rows) (item : Item) : Type 0 where
   pub registered : IsSome (get rows.agents item.agent)
   pub reads : HasNumberKey item
+  pub checked : list_any is_wrong_place item.transaction.related ≡ false
   pub in_stock : IsInStock rows.ranges item.agent (number_of item.transaction.document.number)
   pub issued : is_up_to item.transaction.issued rows.published.day ≡ true
   pub target : target_of rows.published item.transaction.issued ≡ Some item.period
@@ -214,6 +215,7 @@ module _ (reporter : Reporter) (rows : Rows) (item : Item) (sound : AreSoundItem
   cleared = record {
     registered = (registered_is reporter item.transaction (is_some (get rows.agents item.agent)) (ranges_of item.agent rows) (agent_items item.agent rows) rows.published h.agent);
     reads = own;
+    checked = related_read item.transaction h.check_digits;
     in_stock = stock_is rows item.agent (is_some (get rows.agents item.agent)) (agent_items item.agent rows) item.transaction rows.published h.in_stock;
     issued = up_to_from (day_number item.transaction.issued) (day_number rows.published.day) (not_before (day_number rows.published.day) (day_number item.transaction.issued) h.issued);
     target = h.target;

@@ -20,6 +20,10 @@ pub own_reads : (t : Transaction) → has_wrong_check_digit t ≡ false → docu
 unfolding has_wrong_check_digit
 own_reads t h = reads_without_fault t.document.number t.document.check_digit (or_parts (is_wrong t.document) (list_any is_wrong_place t.related) h).0
 
+pub related_read : (t : Transaction) → has_wrong_check_digit t ≡ false → list_any is_wrong_place t.related ≡ false
+unfolding has_wrong_check_digit
+related_read t h = (or_parts (is_wrong t.document) (list_any is_wrong_place t.related) h).1
+
 -- ---- the parts of a group
 
 parts : (code : TransactionCode) (related amounts cash credit exchange : Bool) → has_parts code related amounts cash credit exchange ≡ true → ends_tickets code exchange ≡ false → related ≡ false

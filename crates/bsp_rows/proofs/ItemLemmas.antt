@@ -104,7 +104,7 @@ module _ (rows : Rows) (item : Item) (sound : AreSoundItems rows.published rows.
 
   item_sound : IsSoundItem rows.published rows.agents rows.ranges new key item
   item_sound = record {
-    right = record { keyed = refl; bears = bears; numbered = c.reads; group = group };
+    right = record { keyed = refl; bears = bears; numbered = c.reads; checked = c.checked; group = group };
     registered = c.registered;
     in_stock = c.in_stock;
     in_time = timely rows.published item.transaction.issued item.period apart c.issued c.target;
@@ -127,7 +127,7 @@ module _ (rows : Rows) (item : Item) (sound : AreSoundItems rows.published rows.
   old_sound k i there =
       let s = sound.each k i there in
       record {
-        right = record { keyed = s.right.keyed; bears = s.right.bears; numbered = s.right.numbered; group = s.right.group };
+        right = record { keyed = s.right.keyed; bears = s.right.bears; numbered = s.right.numbered; checked = s.right.checked; group = s.right.group };
         registered = s.registered;
         in_stock = s.in_stock;
         in_time = s.in_time;

@@ -1,6 +1,6 @@
 -- Sound rows: the rules that an audit demands, table by table.
 use Rattle.std.specs.Prelude.{◌≡◌, ℕ, ◌≤◌, ◌==◌, ◌&&◌, ◌||◌, not, Bool, true, false, List, count_by, Some, IsSome, is_some, Ok}
-use Rattle.std.specs.List.{Contains}
+use Rattle.std.specs.List.{Contains, list_any}
 use Rattle.std.specs.FinMap.{FinMap, get, entries}
 use Rattle.std.specs.Ordering.{nat_cmp}
 use Rattle.bsp_fields.specs.CivilDay.{CivilDay}
@@ -16,7 +16,7 @@ use Rattle.bsp_ret_records.specs.declared.transactions.ReportedDocument.{Reporte
 use Rattle.bsp_rules.specs.declared.rows.Item.{Item}
 use Rattle.bsp_rules.specs.Rows.{is_canx, is_living_relation, is_ticket}
 use Rattle.bsp_rules.specs.FactsOf.{counts}
-use Rattle.bsp_rules.specs.Verdicts.{limit_of}
+use Rattle.bsp_rules.specs.Verdicts.{is_wrong_place, limit_of}
 use Rattle.bsp_memos.specs.declared.fields.MemoFields.{MemoFields}
 use Rattle.bsp_memos.specs.Billing.{is_rightly_billed}
 use Rattle.bsp_memos.specs.Memos.{is_memo}
@@ -50,11 +50,12 @@ pub record AreSoundRanges (agents : FinMap nat_cmp (List ℕ)) (ranges : FinMap 
 abbrev pub ticket_key : ℕ → ReportedDocument → ItemKey
 ticket_key agent d = record { agent = agent; number = number_of d.number; is_canx = false }
 
--- by itself: at its key, of the agent that it bears, its number and its content in their forms
+-- by itself: at its key, of the agent that it bears, its number, those of its related documents and its content in their forms
 pub record IsRight (k : ItemKey) (i : Item) : Type 0 where
   pub keyed : key_of i ≡ k
   pub bears : agent_reading i.transaction.agent ≡ Ok i.agent
   pub numbered : HasNumberKey i
+  pub checked : list_any is_wrong_place i.transaction.related ≡ false
   pub group : is_group_values i.transaction ≡ true
 
 -- a range of the agent has the number

@@ -1,13 +1,14 @@
 //! What the audit demands of each item.
 
-ghost use Rattle.std.specs.Prelude.{◌≡◌, ◌==◌, ◌&&◌, ◌||◌, not, Ok, Some, IfSome, is_some};
+ghost use Rattle.std.specs.Prelude.{◌≡◌, ◌==◌, ◌&&◌, ◌||◌, false, not, Ok, Some, IfSome, is_some};
 ghost use Rattle.std.specs.Bool.{Decides};
 ghost use Rattle.std.specs.FinMap.{get};
-ghost use Rattle.std.specs.List.{Contains};
+ghost use Rattle.std.specs.List.{Contains, list_any};
 ghost use Rattle.bsp_fields.specs.Codes.{agent_reading};
 ghost use Rattle.bsp_calendar.specs.DayOrder.{is_up_to};
 ghost use Rattle.bsp_ret_records.specs.declared.transactions.ReportedDocument.{ReportedDocument as Document};
 ghost use Rattle.bsp_rules.specs.Rows.{is_ticket};
+ghost use Rattle.bsp_rules.specs.Verdicts.{is_wrong_place};
 ghost use Rattle.bsp_rules.specs.declared.rows.Item.{Item as ItemValue};
 ghost use Rattle.bsp_rows.specs.Audit.{AreTicketsFound, IsInLastRange, IsLastUpTo, IsTicketFound, as_map, is_living_sale};
 ghost use Rattle.bsp_rows.specs.Rows.{HasNumberKey, canx_of, item_cmp, key_of, range_cmp};
@@ -17,7 +18,7 @@ use crate::demands::{Demand, at};
 use crate::keys::{ItemKey, RangeKey, is_canx};
 use bsp_calendar::Plan;
 use bsp_fields::{AgentCode, AirlineCode, Day, DocNumber};
-use bsp_ret_records::{ReportedDocument, TransactionCode};
+use bsp_ret_records::{ReportedDocument, Transaction, TransactionCode};
 use bsp_ret_writer::is_group;
 use bsp_rules::Item;
 use std::collections::BTreeMap;
@@ -49,8 +50,18 @@ fn bears_agent(item: &Item) -> bool
     }
 }
 
+/// Whether each related document of a transaction has ten digits with their check digit.
+fn are_related_checked(transaction: &Transaction) -> bool
+    ensures { Decides result (list_any is_wrong_place transaction.now.related ≡ false) }
+{
+    !transaction.related.iter().any(|place| match place {
+        Some(document) => DocNumber::read(&document.number, document.check_digit).is_err(),
+        None => false,
+    })
+}
+
 /// An item is at its own key, and is of the agent that its transaction bears. Its transaction is a
-/// group of the RET format with the right check digit.
+/// group of the RET format with right check digits.
 #[derive(Clone, Copy)]
 pub(crate) struct Right;
 
@@ -58,7 +69,10 @@ impl Demand<ItemKey, Item> for Right {
     ghost asks = { λ rule k i. IsRight k i };
 
     fn is_met(&self, key: &ItemKey, item: &Item) -> bool {
-        is_keyed(key, item) && bears_agent(item) && is_group(&item.transaction)
+        is_keyed(key, item)
+            && bears_agent(item)
+            && are_related_checked(&item.transaction)
+            && is_group(&item.transaction)
     }
 }
 

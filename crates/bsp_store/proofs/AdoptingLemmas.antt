@@ -46,6 +46,25 @@ module _ {S E : Type 0} (g : Ghosts S) (before now : Held S) (again : Reopens g 
       let it = found again.ordered in
       record { rows = it.rows; sound = it.sound; holds = it.holds; those = inl (λ clean. subst (KeepsBook it.rows) (again.trees (it.earlier clean)) (it.found clean)) }
 
+-- ---- of each connection before it
+
+module _ {H X F : Type 0} (Was : H → Type 0) where
+  pub each_ok : (r : Result X F) (Is : H → X → Type 0) → ((h : H) → Was h → IfOk r (Is h)) → IfOk r (λ x. (h : H) → Was h → Is h x)
+  each_ok (Ok x) Is so = so
+  each_ok (Err e) Is so = tt
+
+  pub each_err : (r : Result X F) (Is : H → F → Type 0) → ((h : H) → Was h → IfErr r (Is h)) → IfErr r (λ e. (h : H) → Was h → Is h e)
+  each_err (Ok x) Is so = tt
+  each_err (Err e) Is so = so
+
+  pub one_ok : (r : Result X F) (Is : H → X → Type 0) → IfOk r (λ x. (h : H) → Was h → Is h x) → (h : H) → Was h → IfOk r (Is h)
+  one_ok (Ok x) Is so h was = so h was
+  one_ok (Err e) Is so h was = tt
+
+  pub one_err : (r : Result X F) (Is : H → F → Type 0) → IfErr r (λ e. (h : H) → Was h → Is h e) → (h : H) → Was h → IfErr r (Is h)
+  one_err (Ok x) Is so h was = tt
+  one_err (Err e) Is so h was = so h was
+
 -- ---- without the store that comes with a fault
 
 pub ok_without : {X F S : Type 0} (r : Result X (F × S)) (out : Result X F) → MatchResult r (λ x. out ≡ Ok x) (λ e. out ≡ Err e.0) → (P Q : X → Type 0) → IfOk r P → ((x : X) → P x → Q x) → IfOk out Q

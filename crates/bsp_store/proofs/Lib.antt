@@ -1,2 +1,3 @@
 pub mod AdoptingLemmas
 pub mod CommitLemmas
+pub mod Settling

@@ -1,25 +1,27 @@
 //! A store opened as a book.
 
-ghost use Rattle.std.specs.Prelude.{◌≡◌, ◌⊎◌, true, Err, IfErr, IfOk, MatchResult, None, Ok};
+ghost use Rattle.std.specs.Prelude.{◌≡◌, ◌⊎◌, false, true, Err, IfErr, IfOk, MatchResult, None, Ok};
 ghost use Rattle.sqlite_trees.specs.View.{IsClean};
-ghost use Rattle.sqlite.specs.Held.{state};
+ghost use Rattle.sqlite.specs.Held.{Held, state};
 ghost use Rattle.sqlite.specs.Steps.{over_memory};
 ghost use Rattle.sqlite.specs.Start.{FindsIn};
 ghost use Rattle.sqlite.specs.State.{HasCleanDisk};
 ghost use Rattle.sqlite_wal.specs.Files.{image_at};
 ghost use Rattle.sqlite.specs.Files.{file_state, over_files};
 ghost use Rattle.bsp_rows.specs.Rows.{no_rows};
-ghost use Rattle.bsp_store_open.specs.Schema.{our_schema};
 ghost use Rattle.bsp_store_open.specs.Faults.{is_refusal};
-ghost use Rattle.bsp_store_open.specs.Opening.{IsNoBook, IsOrdered, LeavesCommitted, Refuses, SparesStore, WasForeign, WasNoBook};
+ghost use Rattle.bsp_store_open.specs.Opening.{IsNoBook, IsOrdered, LeavesCommitted, Refuses, Reopens, SparesStore, WasBare, WasNoBook};
 ghost use Rattle.bsp_store.specs.Meanings.{Holds};
 ghost use Rattle.bsp_store.specs.Adopting.{Adopts, IfRefused, IsFoundIn};
 
 use crate::book::SqlBook;
 use bsp_store_damage::{Damage, find_damage};
-use bsp_store_open::{OpenFault, again, empty_list, is_bare, is_ours, kept_list, refusal};
+use bsp_store_open::{
+    OpenFault, again, empty_list, is_bare, is_ours, kept_list, open_in_order, refusal,
+};
 use bsp_store_save::make_book;
-use sqlite::{Alter, Connection, FileFrom, FileStore, MemStore, Start};
+use sqlite::{Alter, Connection, Error, ErrorCode, FileFrom, FileStore, MemStore, Start};
+use sqlite_trees::store::Store;
 use std::alloc::Global;
 
 /// Opens the book that a store with tables keeps.
@@ -29,7 +31,7 @@ fn kept_book<S: Alter + Drop>(
 ) -> Result<SqlBook<S>, (OpenFault, S)>
     ensures found { IfOk result (λ book. IsOrdered S.Store conn → IsFoundIn S.Store conn book) }
     ensures refused { IfErr result (λ e. is_refusal e.0 ≡ true → IsClean (S.Store.view e.1) → IsNoBook e.0 (state S.Store conn).now) }
-    ensures left { IfErr result (λ e. (conn.schema ≡ our_schema → ⊥) ⊎ SparesStore S.Store conn e.1) }
+    ensures left { IfErr result (λ e. SparesStore S.Store conn e.1) }
 {
     if !is_ours(conn.schema()) {
         return Err((refusal(&mut conn), conn.into_store()));
@@ -57,6 +59,43 @@ fn new_book<S: Alter + Drop>(
     }
 }
 
+/// What a store that was just opened again has, as a book. A store without any table gets those of an empty book.
+fn opened<S: Alter + Drop>(alloc: Global, conn: Connection<S>) -> Result<SqlBook<S>, (OpenFault, S)>
+    ensures ok { IfOk result (λ book. (before : Held S) → Reopens S.Store before conn → Adopts S.Store before book) }
+    ensures refused { IfErr result (λ e. (before : Held S) → Reopens S.Store before conn → is_refusal e.0 ≡ true → WasNoBook S.Store e.0 before e.1) }
+    ensures left { IfErr result (λ e. (before : Held S) → Reopens S.Store before conn → WasBare S.Store before ⊎ LeavesCommitted S.Store before e.1) }
+{
+    if is_bare(&conn) {
+        new_book(alloc, conn)
+    } else {
+        kept_book(alloc, conn)
+    }
+}
+
+/// Opens a connection again over its own files, after what the log has is copied into the main file. Where the copying
+/// fails, the log still has it.
+fn settled<T: Start>(
+    alloc: Global,
+    conn: Connection<FileStore<FileFrom<T>>>,
+) -> Result<Connection<FileStore<FileFrom<T>>>, (OpenFault, FileStore<FileFrom<T>>)>
+    ensures ok { IfOk result (Reopens over_files conn) }
+    ensures refused { IfErr result (λ e. is_refusal e.0 ≡ false) }
+    ensures left { IfErr result (λ e. LeavesCommitted over_files conn e.1) }
+{
+    let mut store = conn.into_store();
+    let _ = store.checkpoint();
+    if store.is_broken() {
+        return Err((
+            OpenFault::Failed(Error::SqliteFailure(ErrorCode::Closed)),
+            store,
+        ));
+    }
+    match open_in_order(alloc, store) {
+        Ok(conn) => Ok(conn),
+        Err((error, store)) => Err((OpenFault::from(error), store)),
+    }
+}
+
 /// What an opening answers, without the store that comes with a fault.
 fn without_store<S: Alter + Drop>(
     opened: Result<SqlBook<S>, (OpenFault, S)>,
@@ -67,6 +106,19 @@ fn without_store<S: Alter + Drop>(
         Ok(book) => Ok(book),
         Err((fault, _)) => Err(fault),
     }
+}
+
+/// Opens the book that files keep, after what the log has is copied into the main file.
+fn settled_book<T: Start>(
+    alloc: Global,
+    conn: Connection<FileStore<FileFrom<T>>>,
+) -> Result<SqlBook<FileStore<FileFrom<T>>>, (OpenFault, FileStore<FileFrom<T>>)>
+    ensures ok { IfOk result (Adopts over_files conn) }
+    ensures refused { IfErr result (λ e. is_refusal e.0 ≡ true → WasNoBook over_files e.0 conn e.1) }
+    ensures left { IfErr result (λ e. WasBare over_files conn ⊎ LeavesCommitted over_files conn e.1) }
+{
+    let conn = settled(alloc, conn)?;
+    opened(alloc, conn)
 }
 
 impl<S: Alter + Drop> SqlBook<S> {
@@ -84,14 +136,10 @@ impl<S: Alter + Drop> SqlBook<S> {
     pub fn adopt(alloc: Global, conn: Connection<S>) -> Result<SqlBook<S>, (OpenFault, S)>
         ensures ok { IfOk result (Adopts S.Store conn) }
         ensures refused { IfErr result (λ e. is_refusal e.0 ≡ true → WasNoBook S.Store e.0 conn e.1) }
-        ensures left { IfErr result (λ e. WasForeign S.Store conn ⊎ LeavesCommitted S.Store conn e.1) }
+        ensures left { IfErr result (λ e. WasBare S.Store conn ⊎ LeavesCommitted S.Store conn e.1) }
     {
         let conn = again(alloc, conn)?;
-        if is_bare(&conn) {
-            new_book(alloc, conn)
-        } else {
-            kept_book(alloc, conn)
-        }
+        opened(alloc, conn)
     }
 }
 
@@ -110,8 +158,8 @@ impl SqlBook<MemStore> {
 }
 
 impl<T: Start> SqlBook<FileStore<FileFrom<T>>> {
-    /// Opens the book in the file at a path, with its log beside it, or makes both. `start` says what a torn write may
-    /// leave: with `Wary` each commit syncs twice.
+    /// Opens the book in the file at a path, with its log beside it, or makes both. What the log has is first copied into
+    /// the file. `start` says what a torn write may leave: with `Wary` each commit syncs twice.
     ///
     /// # Errors
     ///
@@ -129,7 +177,7 @@ impl<T: Start> SqlBook<FileStore<FileFrom<T>>> {
             Ok(conn) => conn,
             Err((error, _)) => return Err(OpenFault::from(error)),
         };
-        without_store(SqlBook::adopt(rt.alloc(), conn))
+        without_store(settled_book(rt.alloc(), conn))
     }
 }
 

@@ -1,5 +1,5 @@
 -- What a write to one of our tables ensures, whichever table it is.
-use Rattle.std.proofs.Common.{◌≡◌, ℕ, ◌+◌, ◌-◌, List, [], ◌∷◌, ◌++◌, map, Ok, Err, Result, OnOk, OnErr, refl}
+use Rattle.std.proofs.Common.{◌≡◌, ℕ, ◌+◌, ◌-◌, ◌==◌, Bool, true, false, List, [], ◌∷◌, ◌++◌, map, length, Ok, Err, Result, OnOk, OnErr, refl}
 use Rattle.std.specs.List.{range_with_len}
 use Rattle.std.specs.Prelude.{⊤}
 use Rattle.sqlite_value.specs.Order.{Row}
@@ -29,9 +29,13 @@ key_test keys = map (λ i. eq (i + 1) i) (range_with_len 0 keys)
 abbrev pub key_project : ℕ → ℕ → List Term
 key_project keys width = col 1 0 ∷ col 1 0 ∷ (map (col 1) (range_with_len 1 keys) ++ map (col 0) (range_with_len keys (width - keys)))
 
--- no foreign key acts: there is none
+-- no foreign key acts: each has NO ACTION
+no_deed : (tree : ℕ) (olds news : List Row) (deletes : Bool) → (length news == 0) ≡ deletes → works our_schema Enforced 0 tree olds news ≡ []
+no_deed tree olds news true is = rw is refl
+no_deed tree olds news false is = rw is refl
+
 pub no_work : (tree : ℕ) (olds news : List Row) → works our_schema Enforced 0 tree olds news ≡ []
-no_work tree olds news = refl
+no_work tree olds news = no_deed tree olds news (length news == 0) refl
 
 module _ {S : Type 0} (g : Ghosts S) (old new : Held S) where
   -- what a write of this text, with these parameters, ensures of a content that meets a condition

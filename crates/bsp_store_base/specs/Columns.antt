@@ -55,6 +55,10 @@ abbrev pub placed : {A : Type 0} → ℕ → List A → List (ℕ × A)
 placed before [] = []
 placed before (x ∷ xs) = (before + 1, x) ∷ placed (before + 1) xs
 
+-- the key of a table's only row
+abbrev pub only_id : Value
+only_id = Int (pos 1)
+
 -- the version of the tables
 abbrev pub version : ℕ
 version = 1
@@ -65,14 +69,14 @@ pub record Meta : Type 0 where
   pub closed : ℕ
 
 abbrev pub meta_row : Meta → Row
-meta_row meta = count version ∷ Int (day_number meta.day) ∷ count meta.closed ∷ []
+meta_row meta = only_id ∷ count version ∷ Int (day_number meta.day) ∷ count meta.closed ∷ []
 
 abbrev pub meta_rows : Option Meta → List Row
 meta_rows None = []
 meta_rows (Some meta) = meta_row meta ∷ []
 
 abbrev pub terms_row : Terms → Row
-terms_row terms = Text terms.currency ∷ count terms.review_days ∷ count terms.documents_limit ∷ []
+terms_row terms = only_id ∷ Text terms.currency ∷ count terms.review_days ∷ count terms.documents_limit ∷ []
 
 abbrev pub terms_rows : Option Terms → List Row
 terms_rows None = []
@@ -106,9 +110,9 @@ taxes_text a = Text (concat (map tax_text a.taxes))
 abbrev pub item_row : ItemKey × Item → Row
 item_row e = let t = e.1.transaction in
     agent_text e.0.agent ∷ number_text e.0.number ∷ flag e.0.is_canx
-    ∷ count t.document.check_digit ∷ airline_text t.document.airline ∷ Text (transaction_code_text t.code) ∷ Int (day_number t.issued) ∷ period_text e.1.period ∷ flag e.1.lives ∷ Text t.passenger
+    ∷ airline_text t.document.airline ∷ Text (transaction_code_text t.code) ∷ Int (day_number t.issued) ∷ period_text e.1.period ∷ flag e.1.lives ∷ Text t.passenger
     ∷ or_null (λ (a : Amounts). Int a.fare) t.amounts ∷ or_null taxes_text t.amounts ∷ or_null (λ (a : Amounts). count a.rate) t.amounts ∷ or_null (λ (a : Amounts). Int a.commission) t.amounts
-    ∷ or_null (λ d. airline_text d.airline) (related_of t) ∷ or_null (λ d. Text d.number) (related_of t) ∷ or_null (λ d. count d.check_digit) (related_of t)
+    ∷ or_null (λ d. airline_text d.airline) (related_of t) ∷ or_null (λ d. Text d.number) (related_of t)
     ∷ or_null Int t.cash ∷ or_null (λ p. Int p.amount) t.credit ∷ or_null Int t.exchange ∷ or_null (λ p. Text p.vendor) t.credit ∷ []
 
 abbrev pub memo_row : MemoKey × MemoFields → Row

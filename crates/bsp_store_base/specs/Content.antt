@@ -11,7 +11,7 @@ use Rattle.bsp_rows.specs.Tally.{Tally}
 use Rattle.bsp_rows.specs.Rows.{Rows, item_cmp, memo_cmp, range_cmp}
 use Rattle.bsp_rows.specs.Tallies.{tally_cmp}
 use Rattle.bsp_store_base.specs.Columns.{Meta, airline_row, airline_token_row, agent_row, item_row, memo_row, meta_rows, period_row, placed, rate_row, stock_row, tally_row, terms_rows}
-use Rattle.bsp_store_schema.specs.Schema.{our_schema}
+use Rattle.bsp_store_schema.specs.Schema.{our_schema, meta_table, terms_table, airline_table, rate_table, period_table, agent_table, airline_token_table, stock_table, item_table, memo_table, tally_table}
 use Rattle.bsp_store_base.specs.Kept.{Form, Part}
 
 pub record Content : Type 0 where
@@ -48,41 +48,41 @@ content_with rows tallies = record {
 -- ---- the rows of each table
 
 abbrev pub meta_part : Part Content
-meta_part = record { tree = 0; rows = λ c. meta_rows c.meta }
+meta_part = record { tree = meta_table.tree; rows = λ c. meta_rows c.meta }
 
 abbrev pub terms_part : Part Content
-terms_part = record { tree = 1; rows = λ c. terms_rows c.terms }
+terms_part = record { tree = terms_table.tree; rows = λ c. terms_rows c.terms }
 
 abbrev pub airline_part : Part Content
-airline_part = record { tree = 2; rows = λ c. map airline_row (placed 0 c.published) }
+airline_part = record { tree = airline_table.tree; rows = λ c. map airline_row (placed 0 c.published) }
 
 abbrev pub rate_part : Part Content
-rate_part = record { tree = 4; rows = λ c. map rate_row (placed 0 c.rates) }
+rate_part = record { tree = rate_table.tree; rows = λ c. map rate_row (placed 0 c.rates) }
 
 abbrev pub period_part : Part Content
-period_part = record { tree = 6; rows = λ c. map period_row (placed 0 c.periods) }
+period_part = record { tree = period_table.tree; rows = λ c. map period_row (placed 0 c.periods) }
 
 abbrev pub agent_part : Part Content
-agent_part = record { tree = 8; rows = λ c. map agent_row (entries c.agents) }
+agent_part = record { tree = agent_table.tree; rows = λ c. map agent_row (entries c.agents) }
 
 abbrev pub airline_token_part : Part Content
-airline_token_part = record { tree = 10; rows = λ c. map airline_token_row (entries c.airlines) }
+airline_token_part = record { tree = airline_token_table.tree; rows = λ c. map airline_token_row (entries c.airlines) }
 
 abbrev pub stock_part : Part Content
-stock_part = record { tree = 12; rows = λ c. map stock_row (entries c.ranges) }
+stock_part = record { tree = stock_table.tree; rows = λ c. map stock_row (entries c.ranges) }
 
 abbrev pub item_part : Part Content
-item_part = record { tree = 14; rows = λ c. map item_row (entries c.items) }
+item_part = record { tree = item_table.tree; rows = λ c. map item_row (entries c.items) }
 
 abbrev pub memo_part : Part Content
-memo_part = record { tree = 16; rows = λ c. map memo_row (entries c.memos) }
+memo_part = record { tree = memo_table.tree; rows = λ c. map memo_row (entries c.memos) }
 
 abbrev pub tally_part : Part Content
-tally_part = record { tree = 18; rows = λ c. map tally_row (entries c.tallies) }
+tally_part = record { tree = tally_table.tree; rows = λ c. map tally_row (entries c.tallies) }
 
 -- how many columns the table of a tree has; the trees between are those of indexes
 abbrev pub widths : List ℕ
-widths = 3 ∷ 3 ∷ 2 ∷ 0 ∷ 4 ∷ 0 ∷ 5 ∷ 0 ∷ 2 ∷ 0 ∷ 2 ∷ 0 ∷ 3 ∷ 0 ∷ 21 ∷ 0 ∷ 10 ∷ 0 ∷ 11 ∷ []
+widths = 4 ∷ 0 ∷ 4 ∷ 0 ∷ 2 ∷ 0 ∷ 4 ∷ 0 ∷ 5 ∷ 0 ∷ 2 ∷ 0 ∷ 2 ∷ 0 ∷ 3 ∷ 0 ∷ 19 ∷ 0 ∷ 10 ∷ 0 ∷ 11 ∷ []
 
 abbrev pub width_of : ℕ → ℕ
 width_of tree = slice_index_or widths tree 0

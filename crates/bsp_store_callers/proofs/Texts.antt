@@ -11,7 +11,7 @@ use Rattle.sqlite_tied.specs.Compute.{everything}
 use Rattle.sqlite.specs.Listing.{understood, reads_listing}
 use Rattle.sqlite.proofs.Callers.{IsPlain, command_of}
 use Rattle.bsp_store_base.specs.Simple.{simple}
-use Rattle.bsp_store_base.specs.Schema.{our_schema, agent_columns, airline_token_columns, stock_columns}
+use Rattle.bsp_store_base.specs.Schema.{our_schema, agent_columns, agent_table, airline_token_columns, airline_token_table, stock_columns, stock_table}
 use Rattle.bsp_store_base.proofs.MapTables.{change, deletion, insertion}
 use Rattle.bsp_store_callers.proofs.CallerTables.{agents_table, airline_tokens_table, ranges_table}
 
@@ -48,7 +48,7 @@ agent_names = map (λ (c : Column). c.name) agent_columns
 abbrev pub by_code : List (Term × Key)
 by_code = (col 1 1, ascending Binary) ∷ []
 
-pub all_agents_is : (command_of (understood our_schema agents_query) ≡ Select (record { lets = []; body = simple 8 [] (map (col 1) (range_with_len 1 2)) by_code }) agent_names) × IsPlain (understood our_schema agents_query) × (reads_listing our_schema agents_query ≡ false)
+pub all_agents_is : (command_of (understood our_schema agents_query) ≡ Select (record { lets = []; body = simple agent_table.tree [] (map (col 1) (range_with_len 1 2)) by_code }) agent_names) × IsPlain (understood our_schema agents_query) × (reads_listing our_schema agents_query ≡ false)
 unfolding understood everything
 all_agents_is = (refl, (refl, refl), refl)
 
@@ -81,7 +81,7 @@ airline_tokens_query = codes "SELECT airline, token FROM airline_token ORDER BY 
 abbrev pub airline_token_names : List (List ℕ)
 airline_token_names = map (λ (c : Column). c.name) airline_token_columns
 
-pub all_airline_tokens_is : (command_of (understood our_schema airline_tokens_query) ≡ Select (record { lets = []; body = simple 10 [] (map (col 1) (range_with_len 1 2)) by_code }) airline_token_names) × IsPlain (understood our_schema airline_tokens_query) × (reads_listing our_schema airline_tokens_query ≡ false)
+pub all_airline_tokens_is : (command_of (understood our_schema airline_tokens_query) ≡ Select (record { lets = []; body = simple airline_token_table.tree [] (map (col 1) (range_with_len 1 2)) by_code }) airline_token_names) × IsPlain (understood our_schema airline_tokens_query) × (reads_listing our_schema airline_tokens_query ≡ false)
 unfolding understood everything
 all_airline_tokens_is = (refl, (refl, refl), refl)
 
@@ -118,6 +118,6 @@ range_names = map (λ (c : Column). c.name) stock_columns
 abbrev pub by_range : List (Term × Key)
 by_range = (col 1 1, ascending Binary) ∷ (col 1 2, ascending Binary) ∷ []
 
-pub all_ranges_is : (command_of (understood our_schema ranges_query) ≡ Select (record { lets = []; body = simple 12 [] (map (col 1) (range_with_len 1 3)) by_range }) range_names) × IsPlain (understood our_schema ranges_query) × (reads_listing our_schema ranges_query ≡ false)
+pub all_ranges_is : (command_of (understood our_schema ranges_query) ≡ Select (record { lets = []; body = simple stock_table.tree [] (map (col 1) (range_with_len 1 3)) by_range }) range_names) × IsPlain (understood our_schema ranges_query) × (reads_listing our_schema ranges_query ≡ false)
 unfolding understood everything
 all_ranges_is = (refl, (refl, refl), refl)

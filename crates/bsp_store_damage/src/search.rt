@@ -115,22 +115,22 @@ fn table_damage(alloc: Global, stored: &[Row], tables: &Tables) -> Result<Damage
     }
 }
 
-/// What damages the rows beside those of the plan.
+/// What damages the rows beside those of the plan, which are put into memory.
 fn rest_damage<S: Alter>(
     alloc: Global,
     conn: &mut Connection<S>,
-    mut tables: Tables,
+    tables: &mut Tables,
 ) -> Result<Damage, OpenFault>
     ensures spares { Spares S.Store conn.old conn.new }
 {
-    if let Some(damage) = caller_damage(alloc, conn, &mut tables)? {
+    if let Some(damage) = caller_damage(alloc, conn, tables)? {
         return Ok(damage);
     }
-    if let Some(damage) = sale_damage(alloc, conn, &mut tables)? {
+    if let Some(damage) = sale_damage(alloc, conn, tables)? {
         return Ok(damage);
     }
     let stored = tallies(conn)?;
-    Ok(table_damage(alloc, &stored, &tables)?)
+    Ok(table_damage(alloc, &stored, tables)?)
 }
 
 /// What damages the rows of a book's tables.
@@ -145,7 +145,7 @@ fn all_damage<S: Alter>(
         return Ok(damage);
     }
     match plan_tables(alloc, rows)? {
-        Some(tables) => rest_damage(alloc, conn, tables),
+        Some(mut tables) => rest_damage(alloc, conn, &mut tables),
         None => Ok(Damage::Plan),
     }
 }

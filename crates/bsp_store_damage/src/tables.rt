@@ -76,8 +76,12 @@ impl Table {
     /// How many columns its key has; they are its first.
     pub(crate) fn key_columns(self) -> usize {
         match self {
-            Table::Meta | Table::Terms => 0,
-            Table::Airline | Table::Period | Table::Agent | Table::AirlineToken => 1,
+            Table::Meta
+            | Table::Terms
+            | Table::Airline
+            | Table::Period
+            | Table::Agent
+            | Table::AirlineToken => 1,
             Table::Rate | Table::Stock | Table::Memo => 2,
             Table::Item | Table::Tally => 3,
         }

@@ -1,21 +1,22 @@
 -- What is read back of an item's row is the item.
 use Rattle.std.proofs.Common.{[], ◌∷◌, ◌++◌, ◌==◌, ◌≤◌, ◌*◌, ◌&&◌, not, false, ℤ, is_none, length-append, arith, ◌≡◌, ℕ, ◌<◌, ◌^◌, ◌%◌, ◌/◌, List, length, map, Bool, true, Some, None, Option, Ok, refl, sym, ap, ◌∙◌, subst}
 use Rattle.std.specs.Prelude.{IfSome, unsigned_abs, nat_lt, nat_le, slice_index, slice_index_or}
-use Rattle.std.specs.List.{concat, list_all}
+use Rattle.std.specs.List.{concat, list_all, list_any}
 use Rattle.std.specs.Result.{result_ok}
 use Rattle.std.specs.Str.{all_ascii_digits}
-use Rattle.std.proofs.lemmas.Bool.{lt-ltb, le-leb, leb-true, eq-eqb, eqb-true, and_parts, not-false}
+use Rattle.std.proofs.lemmas.Bool.{lt-ltb, le-leb, leb-true, eq-eqb, eqb-true, and_parts, or_parts, not-false}
 use Rattle.std.proofs.lemmas.Grind.{common_steps}
 use Rattle.std.proofs.lemmas.List.{take_at, drop_at, take_all}
 use Rattle.sqlite_value.specs.declared.value.Value.TheVariants.{Int, Text}
 use Rattle.sqlite_value.specs.Order.{Row, column}
 use Rattle.sqlite.specs.Values.{or_null}
 use Rattle.bsp_fields.specs.CivilDay.{CivilDay}
-use Rattle.bsp_fields.specs.Codes.{agent_reading, check_digit_of}
+use Rattle.bsp_fields.specs.Codes.{agent_reading, check_digit_of, document_reading}
 use Rattle.bsp_fields.specs.Decimal.{number_of, fixed_digits}
 use Rattle.bsp_fields.specs.Zoned.{spelling, zoned_reading}
 use Rattle.bsp_fields.specs.declared.fault.FieldFault.TheVariants.{Width, NotDigit, CheckDigit}
 use Rattle.bsp_fields.proofs.CodeLemmas.{code_reading-fixed_digits}
+use Rattle.bsp_fields.proofs.DocumentLemmas.{reads_without_fault}
 use Rattle.bsp_fields.proofs.DecimalLemmas.{number_of-lt, fixed_digits-number_of}
 use Rattle.bsp_fields.proofs.FirstFaultLemmas.{row_passed, value_told}
 use Rattle.bsp_ret_writer.specs.Columns.{columns, is_letter_or_digit}
@@ -31,17 +32,18 @@ use Rattle.bsp_rows.specs.CardPayment.{CardPayment}
 use Rattle.bsp_rows.specs.ReportedDocument.{ReportedDocument}
 use Rattle.bsp_rows.specs.Tax.{Tax}
 use Rattle.bsp_rows.specs.Transaction.{Transaction}
-use Rattle.bsp_ret_writer.specs.GroupValues.{are_taxes, are_amounts, is_document, related_of}
+use Rattle.bsp_ret_writer.specs.GroupValues.{are_taxes, are_amounts, related_of}
 use Rattle.bsp_ret_writer.specs.Stored.{InEach, IsStored, IsStoredTax, IsStoredAmount, IsStoredAmounts, IsStoredCard, IsStoredDocument}
 use Rattle.bsp_ret_writer.specs.Writing.{tax_text}
 use Rattle.bsp_ret_writer.proofs.WrittenGroup.{facts_from}
 use Rattle.bsp_rows.specs.Item.{Item}
 use Rattle.bsp_rows.specs.Sound.{IsRight}
+use Rattle.bsp_rows.specs.Verdicts.{is_wrong_place}
 use Rattle.bsp_rows.specs.declared.keys.ItemKey.{ItemKey}
 use Rattle.bsp_store_base.specs.Columns.{code_digits, airline_text, flag, taxes_text, count, item_row}
 use Rattle.bsp_store_base.specs.Reading.{agent_in, amount_in, below, code_in, if_there}
 use Rattle.bsp_store_base.proofs.Keys.{code_digits-fits}
-use Rattle.bsp_store_items.specs.Reading.{amounts_in, card_in, document_in, entry_in, flag_in, item_in, key_in, kind_in, related_in, tax_in, taxes_in, transaction_in, wide_in}
+use Rattle.bsp_store_items.specs.Reading.{amounts_in, card_in, document_in, entry_in, flag_in, item_in, key_in, kind_in, numbered, related_in, tax_in, taxes_in, transaction_in, wide_in}
 
 abbrev places_text : List (Option Tax) → List ℕ
 places_text taxes = concat (map tax_text taxes)
@@ -72,6 +74,33 @@ is_spelled text agent reads =
 
 agent_back : (text : List ℕ) (agent : ℕ) → agent_reading text ≡ Ok agent → IsSpelled text agent → agent_in (Text (code_digits 8 agent)) ≡ Some agent
 agent_back text agent reads is = ap (λ t. agent_in (Text t)) (code_digits-fits 8 agent is.fits ∙ is.spelled) ∙ ap result_ok reads
+
+-- a document's ten digits, of this number, with their check digit
+record IsChecked (text : List ℕ) (check number : ℕ) : Type 0 where
+  fits : number < 10 ^ 10
+  spelled : fixed_digits 10 number ≡ text
+  checked : check ≡ check_digit_of number
+
+is_checked : (text : List ℕ) (check number : ℕ) → document_reading text check ≡ Ok number → IsChecked text check number
+is_checked text check number reads =
+    let n = number_of text in
+    let wide = row_passed (not (length text == 10)) Width ((not (all_ascii_digits text), NotDigit) ∷ (not (check == check_digit_of n), CheckDigit) ∷ []) n number reads in
+    let digit = row_passed (not (all_ascii_digits text)) NotDigit ((not (check == check_digit_of n), CheckDigit) ∷ []) n number wide.1 in
+    let last = row_passed (not (check == check_digit_of n)) CheckDigit [] n number digit.1 in
+    let is : n ≡ number = value_told n number last.1 in
+    let ten : length text ≡ 10 = eqb-true _ _ (not-false _ wide.0) in
+    let digits = not-false _ digit.0 in
+    record {
+      fits = subst (λ m. m < 10 ^ 10) is (number_of-lt text 10 digits (omega (arith, ten)));
+      spelled = subst (λ m. fixed_digits 10 m ≡ text) is (fixed_digits-number_of 10 text ten digits);
+      checked = eqb-true _ _ (not-false _ last.0) ∙ ap check_digit_of is;
+    }
+
+number_back : (text : List ℕ) (number : ℕ) → number < 10 ^ 10 → fixed_digits 10 number ≡ text → code_in 10 (Text text) ≡ Some number
+number_back text number fits spelled = subst (λ t. code_in 10 (Text t) ≡ Some number) spelled (ap result_ok (code_reading-fixed_digits 10 number fits))
+
+same_document : (d : ReportedDocument) (number : ℕ) → IsChecked d.number d.check_digit number → numbered d.airline number ≡ d
+same_document d number is = λ i. record { airline = d.airline; number = is.spelled i; check_digit = (sym is.checked) i }
 
 -- ---- single columns
 
@@ -146,22 +175,16 @@ length-taxes (tax ∷ taxes) stored = length-append (tax_text tax) (places_text 
 
 -- ---- parts of a transaction, in a row that has their columns
 
-one_digit : (d : ReportedDocument) → is_document d ≡ true → d.check_digit < 2 ^ 8
-unfolding is_document
-one_digit d fits =
-    let few : d.check_digit ≤ 9 = leb-true d.check_digit 9 ((and_parts (all_ascii_digits d.number) (nat_le d.check_digit 9) fits).1) in
-    omega (arith, few)
+document_from : (number : ℕ) (r : Row) (d : ReportedDocument) → code_in 3 (column r 3) ≡ Some d.airline → numbered d.airline number ≡ d → document_in number r ≡ Some d
+document_from number r d a same = rw a (ap (λ x. Some x) same)
 
-document_from : (number : ℕ) (r : Row) (d : ReportedDocument) → code_in 3 (column r 4) ≡ Some d.airline → below (2 ^ 8) (column r 3) ≡ Some d.check_digit → fixed_digits 10 number ≡ d.number → document_in number r ≡ Some d
-document_from number r d a c n = rw (a, c, n) refl
+related_from : (r : Row) (d : ReportedDocument) (n : ℕ) → code_in 3 (column r 13) ≡ Some d.airline → code_in 10 (column r 14) ≡ Some n → numbered d.airline n ≡ d → related_in r ≡ Some d
+related_from r d n a there same = rw (a, there) (ap (λ x. Some x) same)
 
-related_from : (r : Row) (d : ReportedDocument) → code_in 3 (column r 14) ≡ Some d.airline → wide_in 10 (column r 15) ≡ Some d.number → below (2 ^ 8) (column r 16) ≡ Some d.check_digit → related_in r ≡ Some d
-related_from r d a n c = rw (a, n, c) refl
-
-amounts_from : (r : Row) (a : Amounts) (text : List ℕ) → amount_in (column r 10) ≡ Some a.fare → wide_in 78 (column r 11) ≡ Some text → taxes_in 6 text ≡ Some a.taxes → below (2 ^ 16) (column r 12) ≡ Some a.rate → amount_in (column r 13) ≡ Some a.commission → amounts_in r ≡ Some a
+amounts_from : (r : Row) (a : Amounts) (text : List ℕ) → amount_in (column r 9) ≡ Some a.fare → wide_in 78 (column r 10) ≡ Some text → taxes_in 6 text ≡ Some a.taxes → below (2 ^ 16) (column r 11) ≡ Some a.rate → amount_in (column r 12) ≡ Some a.commission → amounts_in r ≡ Some a
 amounts_from r a text f w t n c = rw (f, w, t, n, c) refl
 
-card_from : (r : Row) (p : CardPayment) → amount_in (column r 18) ≡ Some p.amount → wide_in 2 (column r 20) ≡ Some p.vendor → card_in r ≡ Some p
+card_from : (r : Row) (p : CardPayment) → amount_in (column r 16) ≡ Some p.amount → wide_in 2 (column r 18) ≡ Some p.vendor → card_in r ≡ Some p
 card_from r p a v = rw (a, v) refl
 
 rate_back : (a : Amounts) → are_amounts a ≡ true → (are_taxes 0 a.taxes ≡ true) × (below (2 ^ 16) (count a.rate) ≡ Some a.rate)
@@ -173,15 +196,15 @@ rate_back a fits =
 
 -- what is there, or nothing
 module _ (r : Row) where
-  related_back : (o : Option ReportedDocument) → column r 14 ≡ or_null (λ d. airline_text d.airline) o → column r 15 ≡ or_null (λ d. Text d.number) o → column r 16 ≡ or_null (λ d. count d.check_digit) o
-      → IfSome o IsStoredDocument → none_or is_document o ≡ true → if_there (column r 14) (related_in r) ≡ Some o
-  related_back None a n c stored fits = rw a refl
-  related_back (Some d) a n c stored fits =
-      let read = related_from r d (ap (code_in 3) a ∙ code_back 3 d.airline stored.airline) (ap (wide_in 10) n ∙ wide_back 10 d.number stored.number) (ap (below (2 ^ 8)) c ∙ below_back (2 ^ 8) d.check_digit (one_digit d fits)) in
+  related_back : (o : Option ReportedDocument) → column r 13 ≡ or_null (λ d. airline_text d.airline) o → column r 14 ≡ or_null (λ d. Text d.number) o → IfSome o IsStoredDocument → is_wrong_place o ≡ false → if_there (column r 13) (related_in r) ≡ Some o
+  related_back None a n stored fits = rw a refl
+  related_back (Some d) a n stored fits =
+      let is = is_checked d.number d.check_digit _ (reads_without_fault d.number d.check_digit fits) in
+      let read = related_from r d _ (ap (code_in 3) a ∙ code_back 3 d.airline stored.airline) (ap (code_in 10) n ∙ number_back d.number _ is.fits is.spelled) (same_document d _ is) in
       rw (read, a) refl
 
-  amounts_back : (o : Option Amounts) → column r 10 ≡ or_null (λ (a : Amounts). Int a.fare) o → column r 11 ≡ or_null taxes_text o → column r 12 ≡ or_null (λ (a : Amounts). count a.rate) o → column r 13 ≡ or_null (λ (a : Amounts). Int a.commission) o
-      → IfSome o IsStoredAmounts → none_or are_amounts o ≡ true → if_there (column r 10) (amounts_in r) ≡ Some o
+  amounts_back : (o : Option Amounts) → column r 9 ≡ or_null (λ (a : Amounts). Int a.fare) o → column r 10 ≡ or_null taxes_text o → column r 11 ≡ or_null (λ (a : Amounts). count a.rate) o → column r 12 ≡ or_null (λ (a : Amounts). Int a.commission) o
+      → IfSome o IsStoredAmounts → none_or are_amounts o ≡ true → if_there (column r 9) (amounts_in r) ≡ Some o
   amounts_back None f t n c stored fits = rw f refl
   amounts_back (Some a) f t n c stored fits =
       let rate = rate_back a fits in
@@ -190,7 +213,7 @@ module _ (r : Row) where
       let read = amounts_from r a (places_text a.taxes) (ap amount_in f ∙ amount_back a.fare stored.fare) (ap (wide_in 78) t ∙ wide_back 78 _ wide) taxes (ap (below (2 ^ 16)) n ∙ rate.1) (ap amount_in c ∙ amount_back a.commission stored.commission) in
       rw (read, f) refl
 
-  card_back : (o : Option CardPayment) → column r 18 ≡ or_null (λ p. Int p.amount) o → column r 20 ≡ or_null (λ p. Text p.vendor) o → IfSome o IsStoredCard → if_there (column r 18) (card_in r) ≡ Some o
+  card_back : (o : Option CardPayment) → column r 16 ≡ or_null (λ p. Int p.amount) o → column r 18 ≡ or_null (λ p. Text p.vendor) o → IfSome o IsStoredCard → if_there (column r 16) (card_in r) ≡ Some o
   card_back None a v stored = rw a refl
   card_back (Some p) a v stored =
       let read = card_from r p (ap amount_in a ∙ amount_back p.amount stored.amount) (ap (wide_in 2) v ∙ wide_back 2 p.vendor stored.vendor) in
@@ -198,9 +221,9 @@ module _ (r : Row) where
 
 -- ---- an entry
 
-transaction_from : (key : ItemKey) (r : Row) (t : Transaction) → kind_in (column r 5) ≡ Some t.code → document_in key.number r ≡ Some t.document → wide_in 49 (column r 9) ≡ Some t.passenger
-    → if_there (column r 14) (related_in r) ≡ Some (related_of t) → if_there (column r 10) (amounts_in r) ≡ Some t.amounts
-    → if_there (column r 17) (amount_in (column r 17)) ≡ Some t.cash → if_there (column r 18) (card_in r) ≡ Some t.credit → if_there (column r 19) (amount_in (column r 19)) ≡ Some t.exchange
+transaction_from : (key : ItemKey) (r : Row) (t : Transaction) → kind_in (column r 4) ≡ Some t.code → document_in key.number r ≡ Some t.document → wide_in 49 (column r 8) ≡ Some t.passenger
+    → if_there (column r 13) (related_in r) ≡ Some (related_of t) → if_there (column r 9) (amounts_in r) ≡ Some t.amounts
+    → if_there (column r 15) (amount_in (column r 15)) ≡ Some t.cash → if_there (column r 16) (card_in r) ≡ Some t.credit → if_there (column r 17) (amount_in (column r 17)) ≡ Some t.exchange
     → transaction_in key t.issued r ≡ Some (record t { agent = fixed_digits 8 key.agent; related = related_of t ∷ None ∷ [] })
 transaction_from key r t a b c d e f g h = rw (a, b, c, d, e, f, g, h) refl
 
@@ -208,21 +231,18 @@ first_stored : (places : List (Option ReportedDocument)) → InEach IsStoredDocu
 first_stored [] stored = tt
 first_stored (first ∷ others) stored = stored.0
 
+first_checked : (places : List (Option ReportedDocument)) → list_any is_wrong_place places ≡ false → is_wrong_place (slice_index_or places 0 None) ≡ false
+first_checked [] right = refl
+first_checked (first ∷ others) right = (or_parts (is_wrong_place first) (list_any is_wrong_place others) right).0
+
 key_from : (r : Row) (k : ItemKey) → agent_in (column r 0) ≡ Some k.agent → code_in 10 (column r 1) ≡ Some k.number → flag_in (column r 2) ≡ k.is_canx → key_in r ≡ Some k
 key_from r k a n c = rw (a, n, c) refl
 
-item_from : (issued : CivilDay) (r : Row) (k : ItemKey) (i : Item) → i.agent ≡ k.agent → code_in 5 (column r 7) ≡ Some i.period → transaction_in k issued r ≡ Some i.transaction → flag_in (column r 8) ≡ i.lives → item_in k issued r ≡ Some i
+item_from : (issued : CivilDay) (r : Row) (k : ItemKey) (i : Item) → i.agent ≡ k.agent → code_in 5 (column r 6) ≡ Some i.period → transaction_in k issued r ≡ Some i.transaction → flag_in (column r 7) ≡ i.lives → item_in k issued r ≡ Some i
 item_from issued r k i a p t l = rw (p, t, l, ← a) refl
 
 entry_from : (issued : CivilDay) (r : Row) (k : ItemKey) (i : Item) → key_in r ≡ Some k → item_in k issued r ≡ Some i → entry_in issued r ≡ Some (k, i)
 entry_from issued r k i a b = rw (a, b) refl
-
--- the document's ten digits are those of the key
-number_facts : (d : ReportedDocument) → length d.number ≡ 10 → is_document d ≡ true → (fixed_digits 10 (number_of d.number) ≡ d.number) × (number_of d.number < 10 ^ 10)
-unfolding is_document
-number_facts d ten fits =
-    let digits = (and_parts (all_ascii_digits d.number) (nat_le d.check_digit 9) fits).0 in
-    (fixed_digits-number_of 10 d.number ten digits, number_of-lt d.number 10 digits (omega (arith, ten)))
 
 module _ (k : ItemKey) (i : Item) (right : IsRight k i) (stored : IsStored i.transaction) (period : i.period < 10 ^ 5) where
   abbrev pub t : Transaction
@@ -234,16 +254,19 @@ module _ (k : ItemKey) (i : Item) (right : IsRight k i) (stored : IsStored i.tra
   number_is : number_of t.document.number ≡ k.number
   number_is = ap (λ (key : ItemKey). key.number) right.keyed
 
+  own : IsChecked t.document.number t.document.check_digit (number_of t.document.number)
+  own = is_checked t.document.number t.document.check_digit _ right.numbered
+
   transaction_back : transaction_in k t.issued (item_row (k, i)) ≡ Some t
   transaction_back =
       let r = item_row (k, i) in
       let facts = facts_from t stored.places right.group in
-      let digits = number_facts t.document stored.document.number facts.sale.document in
       let bears = (is_spelled t.agent i.agent right.bears).spelled in
-      let document = document_from k.number r t.document (code_back 3 t.document.airline stored.document.airline) (below_back (2 ^ 8) t.document.check_digit (one_digit t.document facts.sale.document)) (ap (fixed_digits 10) (sym number_is) ∙ digits.0) in
+      let same : numbered t.document.airline k.number ≡ t.document = subst (λ n. numbered t.document.airline n ≡ t.document) number_is (same_document t.document _ own) in
+      let document = document_from k.number r t.document (code_back 3 t.document.airline stored.document.airline) same in
       let agent : fixed_digits 8 k.agent ≡ t.agent = ap (fixed_digits 8) (sym agent_is) ∙ bears in
       transaction_from k r t (kind_back t.code) document (wide_back 49 t.passenger stored.passenger)
-      (related_back r (related_of t) refl refl refl (first_stored t.related stored.related) facts.related.first) (amounts_back r t.amounts refl refl refl refl stored.amounts facts.amounts)
+      (related_back r (related_of t) refl refl (first_stored t.related stored.related) (first_checked t.related right.checked)) (amounts_back r t.amounts refl refl refl refl stored.amounts facts.amounts)
       (maybe_amount_back t.cash stored.cash) (card_back r t.credit refl refl stored.credit) (maybe_amount_back t.exchange stored.exchange)
       ∙ (λ j. Some (record t { agent = agent j; related = (sym facts.related.two) j }))
 
@@ -251,9 +274,7 @@ module _ (k : ItemKey) (i : Item) (right : IsRight k i) (stored : IsStored i.tra
   pub entry_back : entry_in t.issued (item_row (k, i)) ≡ Some (k, i)
   entry_back =
       let r = item_row (k, i) in
-      let facts = facts_from t stored.places right.group in
-      let digits = number_facts t.document stored.document.number facts.sale.document in
       let spelled = is_spelled t.agent i.agent right.bears in
       let agent : agent_in (Text (code_digits 8 k.agent)) ≡ Some k.agent = subst (λ a. agent_in (Text (code_digits 8 a)) ≡ Some a) agent_is (agent_back t.agent i.agent right.bears spelled) in
-      let number : code_in 10 (Text (code_digits 10 k.number)) ≡ Some k.number = code_back 10 k.number (subst (λ n. n < 10 ^ 10) number_is digits.1) in
+      let number : code_in 10 (Text (code_digits 10 k.number)) ≡ Some k.number = code_back 10 k.number (subst (λ n. n < 10 ^ 10) number_is own.fits) in
       entry_from t.issued r k i (key_from r k agent number (flag_back k.is_canx)) (item_from t.issued r k i agent_is (code_back 5 i.period period) transaction_back (flag_back i.lives))

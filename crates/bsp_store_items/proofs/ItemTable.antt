@@ -27,58 +27,7 @@ same_key key e =
 
 -- a value of each column's kind
 pub item_cast : (e : ItemKey × Item) → cast_all item_columns (item_row e) ≡ item_row e
-item_cast e = cast_same item_columns (item_row e) (
-  refl,
-  (
-    refl,
-    (
-      cast_int _,
-      (
-        cast_int _,
-        (
-          refl,
-          (
-            refl,
-            (
-              cast_int _,
-              (
-                refl,
-                (
-                  cast_int _,
-                  (
-                    refl,
-                    (
-                      cast_maybe_int _ _,
-                      (
-                        cast_maybe_text _ _,
-                        (
-                          cast_maybe_int _ _,
-                          (
-                            cast_maybe_int _ _,
-                            (
-                              cast_maybe_text _ _,
-                              (
-                                cast_maybe_text _ _,
-                                (
-                                  cast_maybe_int _ _,
-                                  (cast_maybe_int _ _, (cast_maybe_int _ _, (cast_maybe_int _ _, (cast_maybe_text _ _, tt)))),
-                                ),
-                              ),
-                            ),
-                          ),
-                        ),
-                      ),
-                    ),
-                  ),
-                ),
-              ),
-            ),
-          ),
-        ),
-      ),
-    ),
-  ),
-)
+item_cast e = cast_same item_columns (item_row e) (refl, (refl, (cast_int _, (refl, (refl, (cast_int _, (refl, (cast_int _, (refl, (cast_maybe_int _ _, (cast_maybe_text _ _, (cast_maybe_int _ _, (cast_maybe_int _ _, (cast_maybe_text _ _, (cast_maybe_text _ _, (cast_maybe_int _ _, (cast_maybe_int _ _, (cast_maybe_int _ _, (cast_maybe_text _ _, tt)))))))))))))))))))
 
 abbrev pub items_table : MapTable ItemKey Item item_cmp
 items_table = record {
@@ -89,13 +38,13 @@ items_table = record {
   row_of = item_row;
   key_of = key_values;
   test = key_test 3;
-  project = key_project 3 21;
+  project = key_project 3 19;
   total = item_total;
   exact = item_exact;
   is_at = refl;
   uncounted = refl;
   plain_tree = λ db. refl;
-  free = no_work 14;
+  free = no_work item_table.tree;
   here = λ c trees kept. kept.1.1.1.1.1.1.1.1.0;
   moved = λ c m rows same. (refl, (refl, (refl, (refl, (refl, (refl, (refl, (refl, (same, (refl, (refl, tt)))))))))));
   same = λ c. refl;

@@ -36,7 +36,6 @@ texts key item = let t = item.transaction in record {
   agent = code_digits 8 key.agent;
   number = code_digits 10 key.number;
   is_canx = key.is_canx;
-  check_digit = pos t.document.check_digit;
   airline = code_digits 3 t.document.airline;
   code = code_text t.code;
   issued = day_number t.issued;
@@ -49,7 +48,6 @@ texts key item = let t = item.transaction in record {
   commission = option_map (λ (a : Amounts). a.commission) t.amounts;
   related_airline = option_map (λ (d : ReportedDocument). code_digits 3 d.airline) (related_of t);
   related_number = option_map (λ (d : ReportedDocument). d.number) (related_of t);
-  related_check = option_map (λ (d : ReportedDocument). pos d.check_digit) (related_of t);
   cash = t.cash;
   credit = option_map (λ (p : CardPayment). p.amount) t.credit;
   exchange = t.exchange;
@@ -69,7 +67,6 @@ written key item =
       fused Int (λ (a : Amounts). a.commission) a,
       fused Text (λ (d : ReportedDocument). code_digits 3 d.airline) d,
       fused Text (λ (d : ReportedDocument). d.number) d,
-      fused Int (λ (d : ReportedDocument). pos d.check_digit) d,
       fused Int (λ (p : CardPayment). p.amount) p,
       fused Text (λ (p : CardPayment). p.vendor) p,
     ) refl

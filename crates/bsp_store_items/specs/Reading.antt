@@ -6,6 +6,7 @@ use Rattle.sqlite_value.specs.declared.value.Value.{Value}
 use Rattle.sqlite_value.specs.declared.value.Value.TheVariants.{Int, Text}
 use Rattle.sqlite_value.specs.Order.{Row, column}
 use Rattle.bsp_fields.specs.CivilDay.{CivilDay}
+use Rattle.bsp_fields.specs.Codes.{check_digit_of}
 use Rattle.bsp_fields.specs.Decimal.{fixed_digits}
 use Rattle.bsp_fields.specs.Zoned.{zoned_reading}
 use Rattle.bsp_ret_writer.specs.Columns.{columns}
@@ -50,21 +51,24 @@ taxes_in (suc n) text = option_and_then (λ tax. option_map (λ taxes. tax ∷ t
 
 -- ---- a transaction
 
+-- a document of an airline, whose check digit is that of its number
+abbrev pub numbered : ℕ → ℕ → ReportedDocument
+numbered airline number = record { airline = airline; number = fixed_digits 10 number; check_digit = check_digit_of number }
+
 abbrev pub related_in : Row → Option ReportedDocument
-related_in r =
-    option_and_then (λ a. option_and_then (λ n. option_map (λ c. record { airline = a; number = n; check_digit = c }) (below (2 ^ 8) (column r 16))) (wide_in 10 (column r 15))) (code_in 3 (column r 14))
+related_in r = option_and_then (λ a. option_map (λ n. numbered a n) (code_in 10 (column r 14))) (code_in 3 (column r 13))
 
 abbrev pub amounts_in : Row → Option Amounts
 amounts_in r =
-    option_and_then (λ f. option_and_then (λ ts. option_and_then (λ n. option_map (λ c. record { fare = f; taxes = ts; rate = n; commission = c }) (amount_in (column r 13))) (below (2 ^ 16) (column r 12)))
-    (option_and_then (taxes_in 6) (wide_in 78 (column r 11)))) (amount_in (column r 10))
+    option_and_then (λ f. option_and_then (λ ts. option_and_then (λ n. option_map (λ c. record { fare = f; taxes = ts; rate = n; commission = c }) (amount_in (column r 12))) (below (2 ^ 16) (column r 11)))
+    (option_and_then (taxes_in 6) (wide_in 78 (column r 10)))) (amount_in (column r 9))
 
 abbrev pub card_in : Row → Option CardPayment
-card_in r = option_and_then (λ a. option_map (λ v. record { amount = a; vendor = v }) (wide_in 2 (column r 20))) (amount_in (column r 18))
+card_in r = option_and_then (λ a. option_map (λ v. record { amount = a; vendor = v }) (wide_in 2 (column r 18))) (amount_in (column r 16))
 
 -- the document with the number of the key
 abbrev pub document_in : ℕ → Row → Option ReportedDocument
-document_in number r = option_and_then (λ a. option_map (λ c. record { airline = a; number = fixed_digits 10 number; check_digit = c }) (below (2 ^ 8) (column r 3))) (code_in 3 (column r 4))
+document_in number r = option_map (λ a. numbered a number) (code_in 3 (column r 3))
 
 -- the transaction of a key's agent and number, with this day of issue
 abbrev pub transaction_in : ItemKey → CivilDay → Row → Option Transaction
@@ -80,8 +84,8 @@ transaction_in key issued r =
       cash = cash;
       credit = credit;
       exchange = exchange;
-    }) (if_there (column r 19) (amount_in (column r 19)))) (if_there (column r 18) (card_in r))) (if_there (column r 17) (amount_in (column r 17))))
-    (if_there (column r 10) (amounts_in r))) (if_there (column r 14) (related_in r))) (wide_in 49 (column r 9))) (document_in key.number r)) (kind_in (column r 5))
+    }) (if_there (column r 17) (amount_in (column r 17)))) (if_there (column r 16) (card_in r))) (if_there (column r 15) (amount_in (column r 15))))
+    (if_there (column r 9) (amounts_in r))) (if_there (column r 13) (related_in r))) (wide_in 49 (column r 8))) (document_in key.number r)) (kind_in (column r 4))
 
 -- ---- an entry
 
@@ -90,7 +94,7 @@ key_in r = option_and_then (λ agent. option_map (λ number. record { agent = ag
 
 -- the item of a key, with this day of issue
 abbrev pub item_in : ItemKey → CivilDay → Row → Option Item
-item_in key issued r = option_and_then (λ period. option_map (λ t. record { agent = key.agent; period = period; transaction = t; lives = flag_in (column r 8) }) (transaction_in key issued r)) (code_in 5 (column r 7))
+item_in key issued r = option_and_then (λ period. option_map (λ t. record { agent = key.agent; period = period; transaction = t; lives = flag_in (column r 7) }) (transaction_in key issued r)) (code_in 5 (column r 6))
 
 -- the entry, with this day of issue
 abbrev pub entry_in : CivilDay → Row → Option (ItemKey × Item)

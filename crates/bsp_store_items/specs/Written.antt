@@ -10,7 +10,7 @@ use Rattle.bsp_store_items.specs.declared.row.ItemRow.{ItemRow}
 abbrev pub row_is : ItemRow → Row
 row_is r =
     Text r.agent ∷ Text r.number ∷ flag r.is_canx
-    ∷ Int r.check_digit ∷ Text r.airline ∷ Text r.code ∷ Int r.issued ∷ Text r.period ∷ flag r.lives ∷ Text r.passenger
+    ∷ Text r.airline ∷ Text r.code ∷ Int r.issued ∷ Text r.period ∷ flag r.lives ∷ Text r.passenger
     ∷ or_null Int r.fare ∷ or_null (λ (p : List (List ℕ)). Text (flat_map (λ x. x) p)) r.taxes ∷ or_null Int r.rate ∷ or_null Int r.commission
-    ∷ or_null Text r.related_airline ∷ or_null Text r.related_number ∷ or_null Int r.related_check
+    ∷ or_null Text r.related_airline ∷ or_null Text r.related_number
     ∷ or_null Int r.cash ∷ or_null Int r.credit ∷ or_null Int r.exchange ∷ or_null Text r.vendor ∷ []

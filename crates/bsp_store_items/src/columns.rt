@@ -32,13 +32,6 @@ pub(crate) fn read_wide<const N: usize>(row: &Row, at: usize) -> Option<[u8; N]>
     }
 }
 
-/// Reads a number that fits a byte.
-pub(crate) fn read_byte(row: &Row, at: usize) -> Option<u8>
-    ensures { result ≡ below (2 ^ 8) (column row.now at) }
-{
-    Some(below_at(row, at, 1 << 8)? as u8)
-}
-
 /// Reads a rate.
 pub(crate) fn read_rate(row: &Row, at: usize) -> Option<u16>
     ensures { result ≡ below (2 ^ 16) (column row.now at) }

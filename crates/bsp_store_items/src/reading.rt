@@ -5,13 +5,13 @@ ghost use Rattle.sqlite_value.specs.Order.{column};
 ghost use Rattle.sqlite_value.specs.declared.value.Value.TheVariants.{Int};
 ghost use Rattle.bsp_fields.specs.CivilDay.{CivilDay, is_day};
 ghost use Rattle.bsp_fields.specs.Days.{day_number};
-ghost use Rattle.bsp_store_items.specs.Reading.{amounts_in, card_in, document_in, entry_in, item_in, key_in, related_in, transaction_in};
+ghost use Rattle.bsp_store_items.specs.Reading.{amounts_in, card_in, document_in, entry_in, item_in, key_in, numbered, related_in, transaction_in};
 ghost use Rattle.bsp_store_base.specs.Content.{item_part};
 ghost use Rattle.bsp_store_base.specs.Shows.{ShowsTable};
 ghost use Rattle.bsp_store_base.specs.Reading.{amount_in, if_there};
 
-use crate::columns::{read_byte, read_flag, read_kind, read_rate, read_taxes, read_wide};
-use bsp_fields::{Amount, Day, DocNumber};
+use crate::columns::{read_flag, read_kind, read_rate, read_taxes, read_wide};
+use bsp_fields::{AirlineCode, Amount, Day, DocNumber};
 use bsp_rows::{Amounts, CardPayment, Item, ItemKey, ReportedDocument, Transaction};
 use bsp_store_base::{agent_at, airline_at, amount_at, day_at, is_null, number_at, period_at};
 use sqlite::Row;
@@ -20,17 +20,16 @@ use sqlite::Row;
 pub fn items_query() -> &'static str
     ensures { ShowsTable item_part result.now }
 {
-    "SELECT agent, number, canx, check_digit, airline, code, issued, period, alive, name, fare, taxes, \
-     rate, commission, rel_airline, rel_number, rel_check, ca, cc, ex, vendor FROM item \
-     ORDER BY agent, number, canx"
+    "SELECT agent, number, canx, airline, code, issued, period, alive, name, fare, taxes, rate, \
+     commission, rel_airline, rel_number, ca, cc, ex, vendor FROM item ORDER BY agent, number, canx"
 }
 
 /// Reads an item and its key out of a row, whatever another program wrote there.
 pub fn read_item(row: &Row) -> Option<(ItemKey, Item)>
-    ensures day { (d : CivilDay) → IsTrue (is_day d) → column row.now 6 ≡ Int (day_number d) → result ≡ entry_in d row.now }
-    ensures none { ((d : CivilDay) → IsTrue (is_day d) → column row.now 6 ≢ Int (day_number d)) → result ≡ None }
+    ensures day { (d : CivilDay) → IsTrue (is_day d) → column row.now 5 ≡ Int (day_number d) → result ≡ entry_in d row.now }
+    ensures none { ((d : CivilDay) → IsTrue (is_day d) → column row.now 5 ≢ Int (day_number d)) → result ≡ None }
 {
-    let issued = day_at(row, 6)?;
+    let issued = day_at(row, 5)?;
     entry_of(row, issued)
 }
 
@@ -45,13 +44,13 @@ fn entry_of(row: &Row, issued: Day) -> Option<(ItemKey, Item)>
 fn item_of(row: &Row, key: &ItemKey, issued: Day) -> Option<Item>
     ensures { result ≡ item_in key.now issued row.now }
 {
-    let period = period_at(row, 7)?;
+    let period = period_at(row, 6)?;
     let transaction = read_transaction(row, key, issued)?;
     Some(Item {
         agent: key.agent,
         period,
         transaction,
-        lives: read_flag(row, 8),
+        lives: read_flag(row, 7),
     })
 }
 
@@ -70,14 +69,14 @@ fn read_key(row: &Row) -> Option<ItemKey>
 fn read_transaction(row: &Row, key: &ItemKey, issued: Day) -> Option<Transaction>
     ensures { result ≡ transaction_in key.now issued row.now }
 {
-    let code = read_kind(row, 5)?;
+    let code = read_kind(row, 4)?;
     let document = read_document(row, key.number)?;
-    let passenger = read_wide::<49>(row, 9)?;
+    let passenger = read_wide::<49>(row, 8)?;
     let related = maybe_related(row)?;
     let amounts = maybe_amounts(row)?;
-    let cash = maybe_amount(row, 17)?;
+    let cash = maybe_amount(row, 15)?;
     let credit = maybe_card(row)?;
-    let exchange = maybe_amount(row, 19)?;
+    let exchange = maybe_amount(row, 17)?;
     Some(Transaction {
         code,
         agent: key.agent.digits(),
@@ -94,35 +93,36 @@ fn read_transaction(row: &Row, key: &ItemKey, issued: Day) -> Option<Transaction
 
 // ---- parts of a transaction
 
+/// A document of an airline, whose check digit is that of its number.
+fn numbered(airline: AirlineCode, number: DocNumber) -> ReportedDocument
+    ensures { result ≡ numbered airline number }
+{
+    ReportedDocument {
+        airline,
+        number: number.digits(),
+        check_digit: number.check_digit(),
+    }
+}
+
 fn read_document(row: &Row, number: DocNumber) -> Option<ReportedDocument>
     ensures { result ≡ document_in number row.now }
 {
-    let airline = airline_at(row, 4)?;
-    let check_digit = read_byte(row, 3)?;
-    Some(ReportedDocument {
-        airline,
-        number: number.digits(),
-        check_digit,
-    })
+    let airline = airline_at(row, 3)?;
+    Some(numbered(airline, number))
 }
 
 fn read_related(row: &Row) -> Option<ReportedDocument>
     ensures { result ≡ related_in row.now }
 {
-    let airline = airline_at(row, 14)?;
-    let number = read_wide::<10>(row, 15)?;
-    let check_digit = read_byte(row, 16)?;
-    Some(ReportedDocument {
-        airline,
-        number,
-        check_digit,
-    })
+    let airline = airline_at(row, 13)?;
+    let number = number_at(row, 14)?;
+    Some(numbered(airline, number))
 }
 
 fn maybe_related(row: &Row) -> Option<Option<ReportedDocument>>
-    ensures { result ≡ if_there (column row.now 14) (related_in row.now) }
+    ensures { result ≡ if_there (column row.now 13) (related_in row.now) }
 {
-    if is_null(row, 14) {
+    if is_null(row, 13) {
         return Some(None);
     }
     Some(Some(read_related(row)?))
@@ -131,10 +131,10 @@ fn maybe_related(row: &Row) -> Option<Option<ReportedDocument>>
 fn read_amounts(row: &Row) -> Option<Amounts>
     ensures { result ≡ amounts_in row.now }
 {
-    let fare = amount_at(row, 10)?;
-    let taxes = read_taxes(row, 11)?;
-    let rate = read_rate(row, 12)?;
-    let commission = amount_at(row, 13)?;
+    let fare = amount_at(row, 9)?;
+    let taxes = read_taxes(row, 10)?;
+    let rate = read_rate(row, 11)?;
+    let commission = amount_at(row, 12)?;
     Some(Amounts {
         fare,
         taxes,
@@ -144,9 +144,9 @@ fn read_amounts(row: &Row) -> Option<Amounts>
 }
 
 fn maybe_amounts(row: &Row) -> Option<Option<Amounts>>
-    ensures { result ≡ if_there (column row.now 10) (amounts_in row.now) }
+    ensures { result ≡ if_there (column row.now 9) (amounts_in row.now) }
 {
-    if is_null(row, 10) {
+    if is_null(row, 9) {
         return Some(None);
     }
     Some(Some(read_amounts(row)?))
@@ -155,15 +155,15 @@ fn maybe_amounts(row: &Row) -> Option<Option<Amounts>>
 fn read_card(row: &Row) -> Option<CardPayment>
     ensures { result ≡ card_in row.now }
 {
-    let amount = amount_at(row, 18)?;
-    let vendor = read_wide::<2>(row, 20)?;
+    let amount = amount_at(row, 16)?;
+    let vendor = read_wide::<2>(row, 18)?;
     Some(CardPayment { amount, vendor })
 }
 
 fn maybe_card(row: &Row) -> Option<Option<CardPayment>>
-    ensures { result ≡ if_there (column row.now 18) (card_in row.now) }
+    ensures { result ≡ if_there (column row.now 16) (card_in row.now) }
 {
-    if is_null(row, 18) {
+    if is_null(row, 16) {
         return Some(None);
     }
     Some(Some(read_card(row)?))

@@ -25,7 +25,6 @@ pub struct ItemRow {
     agent: [u8; 8],
     number: [u8; 10],
     is_canx: bool,
-    check_digit: i64,
     airline: [u8; 3],
     code: [u8; 4],
     issued: i64,
@@ -38,7 +37,6 @@ pub struct ItemRow {
     commission: Option<i64>,
     related_airline: Option<[u8; 3]>,
     related_number: Option<[u8; 10]>,
-    related_check: Option<i64>,
     cash: Option<i64>,
     credit: Option<i64>,
     exchange: Option<i64>,
@@ -58,7 +56,6 @@ impl ItemRow {
             agent: agent_digits(key.agent),
             number: number_digits(key.number),
             is_canx: key.is_canx,
-            check_digit: document.check_digit as i64,
             airline: airline_digits(document.airline),
             code: transaction.code.text(),
             issued: transaction.issued.number(),
@@ -71,7 +68,6 @@ impl ItemRow {
             commission: commission_of(amounts),
             related_airline: airline_of(related),
             related_number: number_of(related),
-            related_check: check_digit_of(related),
             cash: units_of(transaction.cash),
             credit: credit_of(&transaction.credit),
             exchange: units_of(transaction.exchange),
@@ -80,14 +76,13 @@ impl ItemRow {
     }
 
     /// The values in the order of the columns.
-    pub fn values(&self) -> [ValueRef<'_>; 21]
+    pub fn values(&self) -> [ValueRef<'_>; 19]
         ensures { bound result ≡ row_is self.now }
     {
         [
             ValueRef::Text(&self.agent),
             ValueRef::Text(&self.number),
             flag(self.is_canx),
-            ValueRef::Int(self.check_digit),
             ValueRef::Text(&self.airline),
             ValueRef::Text(&self.code),
             ValueRef::Int(self.issued),
@@ -100,7 +95,6 @@ impl ItemRow {
             maybe_int(self.commission),
             maybe_text(&self.related_airline),
             maybe_text(&self.related_number),
-            maybe_int(self.related_check),
             maybe_int(self.cash),
             maybe_int(self.credit),
             maybe_int(self.exchange),
@@ -181,15 +175,6 @@ fn number_of(related: &Option<ReportedDocument>) -> Option<[u8; 10]>
 {
     match related {
         Some(document) => Some(document.number),
-        None => None,
-    }
-}
-
-fn check_digit_of(related: &Option<ReportedDocument>) -> Option<i64>
-    ensures { result ≡ option_map (λ (d : Reported). pos d.check_digit) related.now }
-{
-    match related {
-        Some(document) => Some(document.check_digit as i64),
         None => None,
     }
 }

@@ -38,10 +38,9 @@ fn insert_item<S: Alter>(
     let row = ItemRow::of(key, item);
     let values = row.values();
     conn.execute(
-        "INSERT INTO item (agent, number, canx, check_digit, airline, code, issued, period, alive, name, \
-         fare, taxes, rate, commission, rel_airline, rel_number, rel_check, ca, cc, ex, vendor) \
-         VALUES (?1, ?2, ?3, ?4, ?5, ?6, ?7, ?8, ?9, ?10, ?11, ?12, ?13, ?14, ?15, ?16, ?17, ?18, ?19, \
-         ?20, ?21)",
+        "INSERT INTO item (agent, number, canx, airline, code, issued, period, alive, name, fare, taxes, \
+         rate, commission, rel_airline, rel_number, ca, cc, ex, vendor) \
+         VALUES (?1, ?2, ?3, ?4, ?5, ?6, ?7, ?8, ?9, ?10, ?11, ?12, ?13, ?14, ?15, ?16, ?17, ?18, ?19)",
         &values,
     )
 }
@@ -57,10 +56,9 @@ fn update_item<S: Alter>(
     let row = ItemRow::of(key, item);
     let values = row.values();
     conn.execute(
-        "UPDATE item SET check_digit = ?4, airline = ?5, code = ?6, issued = ?7, period = ?8, alive = ?9, \
-         name = ?10, fare = ?11, taxes = ?12, rate = ?13, commission = ?14, rel_airline = ?15, \
-         rel_number = ?16, rel_check = ?17, ca = ?18, cc = ?19, ex = ?20, vendor = ?21 \
-         WHERE agent = ?1 AND number = ?2 AND canx = ?3",
+        "UPDATE item SET airline = ?4, code = ?5, issued = ?6, period = ?7, alive = ?8, name = ?9, \
+         fare = ?10, taxes = ?11, rate = ?12, commission = ?13, rel_airline = ?14, rel_number = ?15, \
+         ca = ?16, cc = ?17, ex = ?18, vendor = ?19 WHERE agent = ?1 AND number = ?2 AND canx = ?3",
         &values,
     )
 }

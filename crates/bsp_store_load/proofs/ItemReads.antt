@@ -15,17 +15,17 @@ use Rattle.bsp_store_base.specs.Forms.{IsItemEntry}
 use Rattle.bsp_store_items.specs.Reading.{entry_in}
 use Rattle.bsp_store_items.proofs.Back.{entry_back}
 
-module _ (row : Row) (read : Option (ItemKey × Item)) (e : ItemKey × Item) (reads : (d : CivilDay) → IsTrue (is_day d) → column row 6 ≡ Int (day_number d) → read ≡ entry_in d row) where
+module _ (row : Row) (read : Option (ItemKey × Item)) (e : ItemKey × Item) (reads : (d : CivilDay) → IsTrue (is_day d) → column row 5 ≡ Int (day_number d) → read ≡ entry_in d row) where
   read_is : IsItemEntry e → IsRight e.0 e.1 → row ≡ item_row e → read ≡ Some e
   read_is formed right is =
       let day = e.1.transaction.issued in
-      reads day formed.stored.issued (ap (λ r. column r 6) is) ∙ ap (entry_in day) is ∙ entry_back e.0 e.1 right formed.stored formed.period
+      reads day formed.stored.issued (ap (λ r. column r 5) is) ∙ ap (entry_in day) is ∙ entry_back e.0 e.1 right formed.stored formed.period
 
   -- it does not read as nothing
   pub item_none : read ≡ None → IsItemEntry e → IsRight e.0 e.1 → row ≡ item_row e → ⊥
   item_none none formed right is = let some = read_is formed right is in cc (some, none)
 
-module _ (row : Row) (read : Option (ItemKey × Item)) (e : ItemKey × Item) (key : ItemKey) (item : Item) (reads : (d : CivilDay) → IsTrue (is_day d) → column row 6 ≡ Int (day_number d) → read ≡ entry_in d row) where
+module _ (row : Row) (read : Option (ItemKey × Item)) (e : ItemKey × Item) (key : ItemKey) (item : Item) (reads : (d : CivilDay) → IsTrue (is_day d) → column row 5 ≡ Int (day_number d) → read ≡ entry_in d row) where
   pub item_same : read ≡ Some (key, item) → IsItemEntry e → IsRight e.0 e.1 → row ≡ item_row e → item ≡ e.1
   item_same some formed right is = ap (λ (p : ItemKey × Item). p.1) (same_Some (key, item) e (sym some ∙ read_is row read e reads formed right is))
 

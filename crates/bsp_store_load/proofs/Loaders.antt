@@ -1,9 +1,8 @@
 -- A table whose rows are put into memory as the entries of a map: what is known of it, and of a call that puts its rows.
-use Rattle.std.proofs.Common.{◌≡◌, Bool, true, List, [], ◌∷◌, ◌++◌, map, IsTrue, refl, sym, ap, subst, ◌∙◌, Ordering, append-nil}
+use Rattle.std.proofs.Common.{◌≡◌, List, [], ◌∷◌, ◌++◌, map, Option, None, refl, sym, ap, subst, ◌∙◌, Ordering, append-nil}
 use Rattle.std.specs.Cmp.{IsTotalOrder}
 use Rattle.std.specs.FinMap.{FinMap, empty, entries, entries_sorted, get, insert}
 use Rattle.std.specs.List.{AllByRecursion}
-use Rattle.std.specs.Prelude.{None}
 use Rattle.std.proofs.lemmas.List.Sorted.{IsPermutation-trans}
 use Rattle.std.specs.Prelude.{IsPermutation}
 use Rattle.sqlite_value.specs.Order.{Row}
@@ -13,7 +12,7 @@ use Rattle.bsp_store_base.specs.Content.{Content, form, width_of}
 use Rattle.bsp_store_base.specs.Forms.{IsFormed}
 use Rattle.bsp_store_base.specs.Kept.{KeepsRows, Part, columns_of}
 use Rattle.bsp_store_load.specs.Entries.{after_all}
-use Rattle.bsp_store_load.specs.Loading.{IsLoaded}
+use Rattle.bsp_store_load.specs.Loading.{IsLoaded, LeavesRow, and_after}
 use Rattle.bsp_store_load.proofs.Fresh.{all_may, no_entries, none_in}
 use Rattle.bsp_store_load.proofs.PutLemmas.{inserted, inserted_all}
 
@@ -38,8 +37,11 @@ module _ {K V : Type 0} {R : K → K → Ordering} {fits : K × V → Type 0} {l
   rows_in rows = map t.row_of (entries (t.of rows))
 
   -- what a call for the table ensures
-  abbrev pub Loads : Trees → Rows → Rows → Bool → Type 0
+  abbrev pub Loads : Trees → Rows → Rows → Option Row → Type 0
   Loads = IsLoaded t.part t.row_of t.step fits lacks rows_in
+
+  abbrev pub Leaves : Trees → Rows → Rows → Type 0
+  Leaves = LeavesRow t.part t.row_of t.step fits lacks rows_in
 
   -- no other table is changed
   changes : (es : List (K × V)) (rows : Rows) → after_all t.step es rows ≡ t.with (t.of (after_all t.step es rows)) rows
@@ -53,20 +55,21 @@ module _ {K V : Type 0} {R : K → K → Ordering} {fits : K × V → Type 0} {l
   inserts [] rows fit = refl
   inserts (e ∷ es) rows fit = inserts es (t.step e rows) fit.1 ∙ ap (λ m. inserted m es) (t.steps e rows fit.0)
 
-  module _ (trees : Trees) (old new : Rows) (all : Bool) (loaded : Loads trees old new all) where
-    pub others : IsTrue all → new ≡ t.with (t.of new) old
-    others done = let made = loaded.made done in made.1 ∙ changes made.0 old ∙ ap (λ r. t.with (t.of r) old) (sym made.1)
+  module _ (trees : Trees) (old new : Rows) (left : Option Row) (loaded : Loads trees old new left) where
+    pub others : new ≡ t.with (t.of new) old
+    others = let made = loaded.made in made.1 ∙ changes made.0 old ∙ ap (λ r. t.with (t.of r) old) (sym made.1)
 
     module _ (none : t.of old ≡ empty) where
       -- all rows of the table are in memory
-      pub rows_here : IsTrue all → IsPermutation (map (columns_of (width_of t.part.tree)) (trees t.part.tree)) (rows_in new)
-      rows_here done =
+      pub rows_here : left ≡ None → IsPermutation (map (columns_of (width_of t.part.tree)) (trees t.part.tree)) (rows_in new)
+      rows_here end =
           let bare : rows_in old ≡ [] = ap (map t.row_of) (no_entries (t.of old) none) in
-          let put = subst (λ l. IsPermutation l (rows_in new)) (ap (λ l. loaded.shown ++ l) bare ∙ append-nil loaded.shown) (loaded.put done) in
-          IsPermutation-trans _ _ _ loaded.are.in_any_order put
+          let put = subst (λ l. IsPermutation l (rows_in new)) (ap (λ l. loaded.before ++ l) bare ∙ append-nil loaded.before) loaded.put in
+          let whole : loaded.before ++ and_after left loaded.after ≡ loaded.before = ap (λ o. loaded.before ++ and_after o loaded.after) end ∙ append-nil loaded.before in
+          IsPermutation-trans _ _ _ (subst (IsPermutation _) whole loaded.are.in_any_order) put
 
       -- where the trees keep a content, its map is put whole
-      pub whole_here : (c : Content) → IsFormed c → KeepsRows form c trees → AllByRecursion fits (entries (t.in_content c)) → (all ≡ true) × (new ≡ t.with (t.in_content c) old)
+      pub whole_here : (c : Content) → IsFormed c → KeepsRows form c trees → AllByRecursion fits (entries (t.in_content c)) → (left ≡ None) × (new ≡ t.with (t.in_content c) old)
       whole_here c formed keeps fit =
           let m = t.in_content c in
           let it = loaded.entries (entries m) (all_may t.total t.of t.step fits lacks t.steps t.free (entries m) old (entries_sorted m) fit (none_in t.total (t.of old) none (entries m))) (loaded.are.in_order c formed keeps ∙ t.rows_are c) in

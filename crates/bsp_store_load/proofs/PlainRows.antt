@@ -26,7 +26,6 @@ plain_item e =
       plain_or (λ (a : Amounts). Int a.commission) t.amounts (λ a. refl),
       plain_or (λ d. airline_text d.airline) (related_of t) (λ d. refl),
       plain_or (λ d. Text d.number) (related_of t) (λ d. refl),
-      plain_or (λ d. count d.check_digit) (related_of t) (λ d. refl),
       plain_or Int t.cash (λ n. refl),
       plain_or (λ p. Int p.amount) t.credit (λ p. refl),
       plain_or Int t.exchange (λ n. refl),

@@ -1,5 +1,5 @@
 -- The rows of a table, read one at a time and put.
-use Rattle.std.proofs.Common.{◌≡◌, inl, inr, ℕ, Bool, true, false, List, [], ◌∷◌, ◌++◌, Some, None, IsPermutation, refl, sym, ap, subst, ◌∙◌, append_assoc, arith}
+use Rattle.std.proofs.Common.{◌≡◌, inl, inr, ℕ, Bool, true, false, List, [], ◌∷◌, ◌++◌, Some, None, IsPermutation, refl, sym, ap, subst, ◌∙◌, append_assoc, append-nil, arith}
 use Rattle.std.proofs.lemmas.List.Sorted.{IsPermutation-refl}
 use Rattle.sqlite_value.specs.Order.{Row}
 use Rattle.sqlite_trees.specs.declared.store.Store.{Ghosts}
@@ -91,14 +91,17 @@ module _ (part : Part Content) {E : Type 0} (row_of : E → Row) (with_entry : E
       next_ours = ap (λ (d : Database). d.schema) whole.0.now_is ∙ ours
 
       -- no row is to come
-      pub all_put : Advances g now next None → IsLoaded part row_of with_entry fits lacks rows_in (state g old).now.trees zero rows true
+      pub all_put : Advances g now next None → IsLoaded part row_of with_entry fits lacks rows_in (state g old).now.trees zero rows None
       all_put moved = record {
-        shown = so_far.before;
-        are = subst (λ (d : Database). AreAllOf part d.trees so_far.before) so_far.unchanged.0.now_is
-            (whole_shown part so_far.text so_far.shows (state g now) (state g next) now_ours so_far.before (moved so_far.text [] so_far.before so_far.given));
-        put = λ done. so_far.put;
-        made = λ done. (so_far.entries, so_far.made);
-        entries = λ es all is. (refl, so_far.follows es all is);
+        before = so_far.before;
+        after = [];
+        are = subst (AreAllOf part (state g old).now.trees) (sym (append-nil so_far.before))
+            (subst (λ (d : Database). AreAllOf part d.trees so_far.before) so_far.unchanged.0.now_is
+            (whole_shown part so_far.text so_far.shows (state g now) (state g next) now_ours so_far.before (moved so_far.text [] so_far.before so_far.given)));
+        put = so_far.put;
+        made = (so_far.entries, so_far.made);
+        refused = tt;
+        entries = λ es all is. (refl, so_far.follows es all (sym (append-nil so_far.before) ∙ is));
       }
 
       module _ (row : Row) (moved : Advances g now next (Some row)) (more : Rows) (done : Bool) (puts : Puts row_of with_entry may row rows more done) where
@@ -120,18 +123,20 @@ module _ (part : Part Content) {E : Type 0} (row_of : E → Row) (with_entry : E
         }
 
         -- a row that is not put
-        pub row_left : done ≡ false → IsLoaded part row_of with_entry fits lacks rows_in (state g old).now.trees zero more false
-        row_left none =
+        pub row_left : done ≡ false → more ≡ rows → IsLoaded part row_of with_entry fits lacks rows_in (state g old).now.trees zero more (Some row)
+        row_left none kept =
             let first = so_far.before ++ row ∷ [] in
             let itself = unchanged_itself (state g now) (state g next) same in
             let rest = rest_shown part so_far.text so_far.shows (state g next) (state g next) next_ours itself first (given_begin g so_far.text [] next first given) in
             let all = whole_shown part so_far.text so_far.shows (state g next) (state g next) next_ours (first ++ rest.0) rest.1 in
             record {
-              shown = first ++ rest.0;
-              are = subst (λ (d : Database). AreAllOf part d.trees (first ++ rest.0)) whole.0.now_is all;
-              put = λ t. absurd (cc t);
-              made = λ t. absurd (cc t);
+              before = so_far.before;
+              after = rest.0;
+              are = subst (AreAllOf part (state g old).now.trees) (append_assoc so_far.before (row ∷ []) rest.0) (subst (λ (d : Database). AreAllOf part d.trees (first ++ rest.0)) whole.0.now_is all);
+              put = subst (λ r. IsPermutation (so_far.before ++ rows_in zero) (rows_in r)) (sym kept) so_far.put;
+              made = (so_far.entries, kept ∙ so_far.made);
+              refused = λ e may_be is. let yes = puts e (subst (may e) kept may_be) is in cc (yes.0, none);
               entries = λ es may_be is.
-                  let yes_done = put_then row_of with_entry may so_far.before row zero rows more done so_far.follows puts rest.0 es may_be (sym (append_assoc so_far.before (row ∷ []) rest.0) ∙ is) in
+                  let yes_done = put_then row_of with_entry may so_far.before row zero rows more done so_far.follows puts rest.0 es may_be is in
                   absurd (cc (yes_done, none));
             }

@@ -1,5 +1,5 @@
 -- Rows of a table that are put into memory one at a time.
-use Rattle.std.specs.Prelude.{◌≡◌, ◌++◌, Bool, true, List, map, IsPermutation, IsTrue}
+use Rattle.std.specs.Prelude.{◌≡◌, ◌++◌, List, [], ◌∷◌, map, Option, Some, None, IfSome, IsPermutation}
 use Rattle.sqlite_value.specs.Order.{Row}
 use Rattle.sqlite_trees.specs.Tree.{Trees}
 use Rattle.bsp_rows.specs.Rows.{Rows}
@@ -12,17 +12,29 @@ use Rattle.bsp_store_load.specs.Entries.{MayAll, after_all}
 abbrev pub HasRows : Part Content → Content → Trees → Type 0
 HasRows part c trees = IsPermutation (map (columns_of (width_of part.tree)) (trees part.tree)) (part.rows c)
 
+-- a row, if there is one, and those after it
+abbrev pub and_after : Option Row → List Row → List Row
+and_after None after = []
+and_after (Some row) after = row ∷ after
+
 module _ (part : Part Content) {E : Type 0} (row_of : E → Row) (with_entry : E → Rows → Rows) (fits : E → Type 0) (lacks : E → Rows → Type 0) (rows_in : Rows → List Row) where
   -- the entry may be put into the rows
   abbrev pub MayPut : E → Rows → Type 0
   MayPut e rows = fits e × lacks e rows
 
-  -- the rows of the table that the trees have, and what putting them has made of the rows in memory: all of them are put,
-  -- or all up to one that is not
-  pub record IsLoaded (trees : Trees) (old new : Rows) (all : Bool) : Type 0 where
-    pub shown : List Row
-    pub are : AreAllOf part trees shown
-    pub put : IsTrue all → IsPermutation (shown ++ rows_in old) (rows_in new)
-    pub made : IsTrue all → (es : List E) × (new ≡ after_all with_entry es old)
-    -- so they are where they are the rows of entries that may be put
-    pub entries : (es : List E) → MayAll with_entry MayPut es old → shown ≡ map row_of es → (all ≡ true) × (new ≡ after_all with_entry es old)
+  -- the rows of the table that the trees have, in the order in which they were read, and what those put have made of the
+  -- rows in memory: all of them, or all before one that was left
+  pub record IsLoaded (trees : Trees) (old new : Rows) (left : Option Row) : Type 0 where
+    pub before : List Row
+    pub after : List Row
+    pub are : AreAllOf part trees (before ++ and_after left after)
+    pub put : IsPermutation (before ++ rows_in old) (rows_in new)
+    pub made : (es : List E) × (new ≡ after_all with_entry es old)
+    -- the row that was left is that of no entry that may be put
+    pub refused : IfSome left (λ r. (e : E) → MayPut e new → r ≡ row_of e → ⊥)
+    -- so none is left where they are the rows of entries that may be put
+    pub entries : (es : List E) → MayAll with_entry MayPut es old → before ++ and_after left after ≡ map row_of es → (left ≡ None) × (new ≡ after_all with_entry es old)
+
+  -- a row was left
+  abbrev pub LeavesRow : Trees → Rows → Rows → Type 0
+  LeavesRow trees old new = (row : Row) × IsLoaded trees old new (Some row)

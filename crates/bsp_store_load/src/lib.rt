@@ -19,7 +19,9 @@ mod tallies;
 
 pub use bsp_memory_rows::{NoRoom, Tables};
 pub use bsp_store_memos::all_tallies;
-pub use bsp_store_plan::{all_airlines, all_meta, all_periods, all_rates, all_terms, read_version};
+pub use bsp_store_plan::{
+    VERSION, all_airlines, all_meta, all_periods, all_rates, all_terms, read_version,
+};
 pub use callers::{Agents, AirlineTokens, Ranges};
 pub use compared::plan_tables;
 pub use equal::is_row;

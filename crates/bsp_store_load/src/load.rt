@@ -1,6 +1,6 @@
 //! The rows of a table, put into memory one at a time as a query shows them.
 
-ghost use Rattle.std.specs.Prelude.{◌≡◌, is_none, true, IfOk, IsTrue, OnOk};
+ghost use Rattle.std.specs.Prelude.{◌≡◌, false, true, IfOk, IsTrue, OnOk};
 ghost use Rattle.sqlite.specs.Held.{state};
 ghost use Rattle.sqlite.specs.State.{HasCleanDisk};
 ghost use Rattle.bsp_memory_rows.specs.Tables.{IsDerived, rows_of};
@@ -13,7 +13,7 @@ use sqlite::{Alter, Connection, Error, ErrorCode, Row};
 
 /// A table of the store whose rows are put into memory one at a time.
 pub trait StoredTable<K, V> {
-    ghost use Rattle.std.specs.Prelude.{◌≡◌, ◌∷◌, List, true, IfOk, IsTrue, OnOk, IsPermutation};
+    ghost use Rattle.std.specs.Prelude.{◌≡◌, ◌∷◌, List, false, true, IfOk, IsTrue, OnOk, IsPermutation};
     ghost use Rattle.sqlite_value.specs.Order.{Row as Values};
     ghost use Rattle.bsp_rows.specs.Rows.{Rows};
     ghost use Rattle.bsp_memory_rows.specs.Tables.{IsDerived, rows_of};
@@ -44,10 +44,11 @@ pub trait StoredTable<K, V> {
     fn query(&self) -> &'static str
         ensures { ShowsTable part result.now };
 
-    /// Puts the entry of a row into memory. It answers false where the row is not that of an entry, or there is an
-    /// entry of its key.
+    /// Puts the entry of a row into memory. It answers false, and puts nothing, where the row is not that of an entry, or
+    /// there is an entry of its key.
     fn put(&self, tables: &mut Tables, row: &Row) -> Result<bool, NoRoom>
         ensures derived { OnOk result (IsDerived tables.old → IsDerived tables.new) }
+        ensures kept { IfOk result (λ done. done ≡ false → rows_of tables.new ≡ rows_of tables.old) }
         ensures row { IfOk result (λ done. IsTrue done → (e : K × V) × (row.now ≡ row_of e) × lacks e (rows_of tables.old) × (rows_of tables.new ≡ with_entry e (rows_of tables.old))) }
         ensures entry { IfOk result (λ done. (e : K × V) → fits e → lacks e (rows_of tables.old) → row.now ≡ row_of e → (done ≡ true) × (rows_of tables.new ≡ with_entry e (rows_of tables.old))) };
 }
@@ -59,6 +60,7 @@ fn put_row<K, V, T: StoredTable<K, V>>(
     row: &Row,
 ) -> Result<bool, Error>
     ensures derived { OnOk result (IsDerived tables.old → IsDerived tables.new) }
+    ensures kept { IfOk result (λ done. done ≡ false → rows_of tables.new ≡ rows_of tables.old) }
     ensures row { IfOk result (λ done. IsTrue done → (e : K × V) × (row.now ≡ T.row_of e) × T.lacks e (rows_of tables.old) × (rows_of tables.new ≡ T.with_entry e (rows_of tables.old))) }
     ensures entry { IfOk result (λ done. (e : K × V) → T.fits e → T.lacks e (rows_of tables.old) → row.now ≡ T.row_of e → (done ≡ true) × (rows_of tables.new ≡ T.with_entry e (rows_of tables.old))) }
 {
@@ -83,7 +85,7 @@ pub fn load_table<S: Alter, K, V, T: StoredTable<K, V>>(
     tables: &mut Tables,
 ) -> Result<Option<Row>, Error>
     ensures derived { OnOk result (IsDerived tables.old → IsDerived tables.new) }
-    ensures loaded { conn.old.schema ≡ our_schema → HasCleanDisk (state S.Store conn.new) → IfOk result (λ left. IsLoaded T.part T.row_of T.with_entry T.fits T.lacks T.rows_in (state S.Store conn.old).now.trees (rows_of tables.old) (rows_of tables.new) (is_none left)) }
+    ensures loaded { conn.old.schema ≡ our_schema → HasCleanDisk (state S.Store conn.new) → IfOk result (λ left. IsLoaded T.part T.row_of T.with_entry T.fits T.lacks T.rows_in (state S.Store conn.old).now.trees (rows_of tables.old) (rows_of tables.new) left) }
     ensures read { OnOk result (conn.old.schema ≡ our_schema → Reads S.Store conn.old conn.new) }
     ensures spares { conn.old.schema ≡ our_schema → Spares S.Store conn.old conn.new }
 {

@@ -54,7 +54,7 @@ memo_map = record {
   is_at = refl;
   uncounted = refl;
   plain_tree = λ db. refl;
-  free = no_work 16;
+  free = no_work memo_table.tree;
   here = λ c trees kept. kept.1.1.1.1.1.1.1.1.1.0;
   moved = λ c m rows same. (refl, (refl, (refl, (refl, (refl, (refl, (refl, (refl, (refl, (same, (refl, tt)))))))))));
   same = λ c. refl;
@@ -105,6 +105,6 @@ names = map (λ (c : Column). c.name) memo_columns
 abbrev pub order : List (Term × Key)
 order = (col 1 1, ascending Binary) ∷ (col 1 2, ascending Binary) ∷ []
 
-pub all_is : (command_of (understood our_schema memos_query) ≡ Select (record { lets = []; body = simple 16 [] (map (col 1) (range_with_len 1 10)) order }) names) × IsPlain (understood our_schema memos_query) × (reads_listing our_schema memos_query ≡ false)
+pub all_is : (command_of (understood our_schema memos_query) ≡ Select (record { lets = []; body = simple memo_table.tree [] (map (col 1) (range_with_len 1 10)) order }) names) × IsPlain (understood our_schema memos_query) × (reads_listing our_schema memos_query ≡ false)
 unfolding understood everything
 all_is = (refl, (refl, refl), refl)

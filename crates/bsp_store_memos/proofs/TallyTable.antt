@@ -54,7 +54,7 @@ tally_map = record {
   is_at = refl;
   uncounted = refl;
   plain_tree = λ db. refl;
-  free = no_work 18;
+  free = no_work tally_table.tree;
   here = λ c trees kept. kept.1.1.1.1.1.1.1.1.1.1.0;
   moved = λ c m rows same. (refl, (refl, (refl, (refl, (refl, (refl, (refl, (refl, (refl, (refl, (same, tt)))))))))));
   same = λ c. refl;
@@ -101,6 +101,6 @@ names = map (λ (c : Column). c.name) tally_columns
 abbrev pub order : List (Term × Key)
 order = (col 1 1, ascending Binary) ∷ (col 1 2, ascending Binary) ∷ (col 1 3, ascending Binary) ∷ []
 
-pub all_is : (command_of (understood our_schema all_text) ≡ Select (record { lets = []; body = simple 18 [] (map (col 1) (range_with_len 1 11)) order }) names) × IsPlain (understood our_schema all_text) × (reads_listing our_schema all_text ≡ false)
+pub all_is : (command_of (understood our_schema all_text) ≡ Select (record { lets = []; body = simple tally_table.tree [] (map (col 1) (range_with_len 1 11)) order }) names) × IsPlain (understood our_schema all_text) × (reads_listing our_schema all_text ≡ false)
 unfolding understood everything
 all_is = (refl, (refl, refl), refl)

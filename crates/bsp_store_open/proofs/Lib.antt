@@ -1,2 +1,3 @@
 pub mod OpeningLemmas
 pub mod LoadedLemmas
+pub mod Asking

@@ -1,6 +1,5 @@
 -- From one table to the next, as they are put into memory.
 use Rattle.std.proofs.Common.{◌≡◌, Bool, true, false, Option, Some, None, is_some, refl, sym, ap, subst, ◌∙◌, IsPermutation, map}
-use Rattle.std.specs.Prelude.{is_none}
 use Rattle.std.specs.List.{AllByRecursion}
 use Rattle.std.specs.FinMap.{empty, entries}
 use Rattle.sqlite_trees.specs.Tree.{Trees}
@@ -10,13 +9,13 @@ use Rattle.bsp_book.specs.Sound.{IsRight, Sound}
 use Rattle.bsp_store_load.specs.MemoryRowsTables.{IsDerived, rows_of}
 use Rattle.bsp_store_load.specs.Tables.{Tables}
 use Rattle.bsp_store_load.specs.Kept.{KeepsRows, Part, columns_of}
-use Rattle.bsp_store_load.specs.Content.{Content, airline_part, form, meta_part, period_part, rate_part, tally_part, terms_part}
+use Rattle.bsp_store_load.specs.Content.{Content, agent_part, airline_part, airline_token_part, form, item_part, meta_part, period_part, rate_part, stock_part, tally_part, terms_part}
 use Rattle.bsp_store_load.specs.Contents.{IsContentOf, content_now}
 use Rattle.bsp_store_load.specs.Forms.{IsFormed}
 use Rattle.bsp_store_load.specs.Loading.{HasRows}
 use Rattle.bsp_store_load.proofs.Building.{content_of, formed_plan}
 use Rattle.bsp_store_load.proofs.CallerLoaders.{agents_loader, airlines_loader, ranges_loader}
-use Rattle.bsp_store_load.proofs.Loaders.{Loads, others, rows_here, whole_here}
+use Rattle.bsp_store_load.proofs.Loaders.{Leaves, Loads, others, rows_here, whole_here}
 use Rattle.bsp_store_load.proofs.SaleLoaders.{items_loader, memos_loader}
 use Rattle.bsp_store_load.proofs.TableLemmas.{both_all, items_right, memos_fit, memos_may}
 use Rattle.bsp_store_open.specs.Loaded.{AreCallersLoaded, AreRight, AreSalesLoaded, HasNoCallers, HasNoSales, IsAllLoaded, IsPlanned, NoCallers, NoSales}
@@ -31,34 +30,34 @@ use Rattle.bsp_store_open.specs.declared.fault.OpenFault.TheVariants.{Damaged}
 use Rattle.bsp_store_open.proofs.OpeningLemmas.{not_other}
 
 -- all rows were put, or one was left
-pub none_left : {X : Type 0} (o : Option X) (b : Bool) → b ≡ is_some o → b ≡ false → is_none o ≡ true
+pub none_left : {X : Type 0} (o : Option X) (b : Bool) → b ≡ is_some o → b ≡ false → o ≡ None
 none_left None b is none = refl
 none_left (Some x) b is none = absurd (cc (is, none))
 
-pub one_left : {X : Type 0} (o : Option X) (b : Bool) → b ≡ is_some o → b ≡ true → is_none o ≡ false
+pub one_left : {X : Type 0} (o : Option X) (b : Bool) → b ≡ is_some o → b ≡ true → (x : X) × (o ≡ Some x)
 one_left None b is some = absurd (cc (is, some))
-one_left (Some x) b is some = refl
+one_left (Some x) b is some = (x, refl)
 
 -- ---- callers
 
 module _ (trees : Trees) (zero one two three : Rows) (none : HasNoCallers zero) where
-  module _ (agents : Loads agents_loader trees zero one true) where
+  module _ (agents : Loads agents_loader trees zero one None) where
     agents_only : one ≡ record zero { agents = one.agents }
-    agents_only = others agents_loader trees zero one true agents refl
+    agents_only = others agents_loader trees zero one None agents
 
     no_airlines : one.airlines ≡ empty
     no_airlines = ap (λ (r : Rows). r.airlines) agents_only ∙ none.airlines
 
-    module _ (airlines : Loads airlines_loader trees one two true) where
+    module _ (airlines : Loads airlines_loader trees one two None) where
       airlines_only : two ≡ record one { airlines = two.airlines }
-      airlines_only = others airlines_loader trees one two true airlines refl
+      airlines_only = others airlines_loader trees one two None airlines
 
       no_ranges : two.ranges ≡ empty
       no_ranges = ap (λ (r : Rows). r.ranges) airlines_only ∙ ap (λ (r : Rows). r.ranges) agents_only ∙ none.ranges
 
-      pub callers_loaded : Loads ranges_loader trees two three true → AreCallersLoaded trees zero three
+      pub callers_loaded : Loads ranges_loader trees two three None → AreCallersLoaded trees zero three
       callers_loaded ranges =
-          let ranges_only : three ≡ record two { ranges = three.ranges } = others ranges_loader trees two three true ranges refl in
+          let ranges_only : three ≡ record two { ranges = three.ranges } = others ranges_loader trees two three None ranges in
           let same_airlines : three.airlines ≡ two.airlines = ap (λ (r : Rows). r.airlines) ranges_only in
           let same_agents : three.agents ≡ one.agents = ap (λ (r : Rows). r.agents) ranges_only ∙ ap (λ (r : Rows). r.agents) airlines_only in
           let put_airlines : Rows → Rows = λ r. record r { airlines = two.airlines } in
@@ -66,57 +65,57 @@ module _ (trees : Trees) (zero one two three : Rows) (none : HasNoCallers zero) 
           let whole : three ≡ record zero { agents = one.agents; airlines = two.airlines; ranges = three.ranges } = ranges_only ∙ ap put_ranges (airlines_only ∙ ap put_airlines agents_only) in
           record {
             others = whole ∙ (λ i. record zero { agents = sym same_agents i; airlines = sym same_airlines i; ranges = three.ranges });
-            agents = subst (λ m. IsPermutation (map (columns_of 2) (trees 8)) (map agents_loader.row_of (entries m))) (sym same_agents) (rows_here agents_loader trees zero one true agents none.agents refl);
-            airlines = subst (λ m. IsPermutation (map (columns_of 2) (trees 10)) (map airlines_loader.row_of (entries m))) (sym same_airlines) (rows_here airlines_loader trees one two true airlines no_airlines refl);
-            ranges = rows_here ranges_loader trees two three true ranges no_ranges refl;
+            agents = subst (λ m. IsPermutation (map (columns_of 2) (trees agent_part.tree)) (map agents_loader.row_of (entries m))) (sym same_agents) (rows_here agents_loader trees zero one None agents none.agents refl);
+            airlines = subst (λ m. IsPermutation (map (columns_of 2) (trees airline_token_part.tree)) (map airlines_loader.row_of (entries m))) (sym same_airlines) (rows_here airlines_loader trees one two None airlines no_airlines refl);
+            ranges = rows_here ranges_loader trees two three None ranges no_ranges refl;
             whole = λ c formed keeps.
                 let with_airlines : Rows → Rows = λ r. record r { airlines = c.airlines } in
                 let with_ranges : Rows → Rows = λ r. record r { ranges = c.ranges } in
-                (whole_here ranges_loader trees two three true ranges no_ranges c formed keeps formed.ranges).1
-                ∙ ap with_ranges ((whole_here airlines_loader trees one two true airlines no_airlines c formed keeps formed.airlines).1
-                ∙ ap with_airlines (whole_here agents_loader trees zero one true agents none.agents c formed keeps formed.agents).1);
+                (whole_here ranges_loader trees two three None ranges no_ranges c formed keeps formed.ranges).1
+                ∙ ap with_ranges ((whole_here airlines_loader trees one two None airlines no_airlines c formed keeps formed.airlines).1
+                ∙ ap with_airlines (whole_here agents_loader trees zero one None agents none.agents c formed keeps formed.agents).1);
           }
 
-      pub no_ranges_loaded : Loads ranges_loader trees two three false → NoCallers trees
-      no_ranges_loaded ranges c formed keeps = cc (whole_here ranges_loader trees two three false ranges no_ranges c formed keeps formed.ranges).0
+      pub no_ranges_loaded : Leaves ranges_loader trees two three → NoCallers trees
+      no_ranges_loaded ranges c formed keeps = cc (whole_here ranges_loader trees two three (Some ranges.0) ranges.1 no_ranges c formed keeps formed.ranges).0
 
-    pub no_airlines_loaded : Loads airlines_loader trees one two false → NoCallers trees
-    no_airlines_loaded airlines c formed keeps = cc (whole_here airlines_loader trees one two false airlines no_airlines c formed keeps formed.airlines).0
+    pub no_airlines_loaded : Leaves airlines_loader trees one two → NoCallers trees
+    no_airlines_loaded airlines c formed keeps = cc (whole_here airlines_loader trees one two (Some airlines.0) airlines.1 no_airlines c formed keeps formed.airlines).0
 
-  pub no_agents_loaded : Loads agents_loader trees zero one false → NoCallers trees
-  no_agents_loaded agents c formed keeps = cc (whole_here agents_loader trees zero one false agents none.agents c formed keeps formed.agents).0
+  pub no_agents_loaded : Leaves agents_loader trees zero one → NoCallers trees
+  no_agents_loaded agents c formed keeps = cc (whole_here agents_loader trees zero one (Some agents.0) agents.1 none.agents c formed keeps formed.agents).0
 
 -- ---- items and memos
 
 module _ (trees : Trees) (zero one two : Rows) (none : HasNoSales zero) where
-  module _ (items : Loads items_loader trees zero one true) where
+  module _ (items : Loads items_loader trees zero one None) where
     items_only : one ≡ record zero { items = one.items }
-    items_only = others items_loader trees zero one true items refl
+    items_only = others items_loader trees zero one None items
 
     no_memos : one.memos ≡ empty
     no_memos = ap (λ (r : Rows). r.memos) items_only ∙ none.memos
 
-    pub sales_loaded : Loads memos_loader trees one two true → AreSalesLoaded trees zero two
+    pub sales_loaded : Loads memos_loader trees one two None → AreSalesLoaded trees zero two
     sales_loaded memos =
-        let memos_only : two ≡ record one { memos = two.memos } = others memos_loader trees one two true memos refl in
+        let memos_only : two ≡ record one { memos = two.memos } = others memos_loader trees one two None memos in
         let same_items : two.items ≡ one.items = ap (λ (r : Rows). r.items) memos_only in
         let put_memos : Rows → Rows = λ r. record r { memos = two.memos } in
         let whole : two ≡ record zero { items = one.items; memos = two.memos } = memos_only ∙ ap put_memos items_only in
         record {
           others = whole ∙ (λ i. record zero { items = sym same_items i; memos = two.memos });
-          items = subst (λ m. IsPermutation (map (columns_of 21) (trees 14)) (map items_loader.row_of (entries m))) (sym same_items) (rows_here items_loader trees zero one true items none.items refl);
-          memos = rows_here memos_loader trees one two true memos no_memos refl;
+          items = subst (λ m. IsPermutation (map (columns_of 19) (trees item_part.tree)) (map items_loader.row_of (entries m))) (sym same_items) (rows_here items_loader trees zero one None items none.items refl);
+          memos = rows_here memos_loader trees one two None memos no_memos refl;
           whole = λ c formed right keeps.
               let with_memos : Rows → Rows = λ r. record r { memos = c.memos } in
-              (whole_here memos_loader trees one two true memos no_memos c formed keeps (memos_may (entries c.memos) formed.memos right.memos)).1
-              ∙ ap with_memos (whole_here items_loader trees zero one true items none.items c formed keeps (both_all _ _ (entries c.items) formed.items right.items)).1;
+              (whole_here memos_loader trees one two None memos no_memos c formed keeps (memos_may (entries c.memos) formed.memos right.memos)).1
+              ∙ ap with_memos (whole_here items_loader trees zero one None items none.items c formed keeps (both_all _ _ (entries c.items) formed.items right.items)).1;
         }
 
-    pub no_memos_loaded : Loads memos_loader trees one two false → NoSales trees
-    no_memos_loaded memos c formed right keeps = cc (whole_here memos_loader trees one two false memos no_memos c formed keeps (memos_may (entries c.memos) formed.memos right.memos)).0
+    pub no_memos_loaded : Leaves memos_loader trees one two → NoSales trees
+    no_memos_loaded memos c formed right keeps = cc (whole_here memos_loader trees one two (Some memos.0) memos.1 no_memos c formed keeps (memos_may (entries c.memos) formed.memos right.memos)).0
 
-  pub no_items_loaded : Loads items_loader trees zero one false → NoSales trees
-  no_items_loaded items c formed right keeps = cc (whole_here items_loader trees zero one false items none.items c formed keeps (both_all _ _ (entries c.items) formed.items right.items)).0
+  pub no_items_loaded : Leaves items_loader trees zero one → NoSales trees
+  no_items_loaded items c formed right keeps = cc (whole_here items_loader trees zero one (Some items.0) items.1 none.items c formed keeps (both_all _ _ (entries c.items) formed.items right.items)).0
 
 -- ---- all tables
 
@@ -193,11 +192,11 @@ module _ (trees : Trees) (zero : Rows) (planned : IsPlanned trees zero) where
                     (
                       subst (IsPermutation _) are.periods planned.are.periods.in_any_order,
                       (
-                        subst (λ m. IsPermutation (map (columns_of 2) (trees 8)) (map agents_loader.row_of (entries m))) (sym (ap (λ (r : Rows). r.agents) sales.others)) callers.agents,
+                        subst (λ m. IsPermutation (map (columns_of 2) (trees agent_part.tree)) (map agents_loader.row_of (entries m))) (sym (ap (λ (r : Rows). r.agents) sales.others)) callers.agents,
                         (
-                          subst (λ m. IsPermutation (map (columns_of 2) (trees 10)) (map airlines_loader.row_of (entries m))) (sym (ap (λ (r : Rows). r.airlines) sales.others)) callers.airlines,
+                          subst (λ m. IsPermutation (map (columns_of 2) (trees airline_token_part.tree)) (map airlines_loader.row_of (entries m))) (sym (ap (λ (r : Rows). r.airlines) sales.others)) callers.airlines,
                           (
-                            subst (λ m. IsPermutation (map (columns_of 3) (trees 12)) (map ranges_loader.row_of (entries m))) (sym (ap (λ (r : Rows). r.ranges) sales.others)) callers.ranges,
+                            subst (λ m. IsPermutation (map (columns_of 3) (trees stock_part.tree)) (map ranges_loader.row_of (entries m))) (sym (ap (λ (r : Rows). r.ranges) sales.others)) callers.ranges,
                             (sales.items, (sales.memos, (tallies, tt))),
                           ),
                         ),

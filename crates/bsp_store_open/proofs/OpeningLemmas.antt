@@ -18,7 +18,7 @@ use Rattle.bsp_store_load.specs.MemoryRowsTables.{rows_of}
 use Rattle.bsp_store_load.specs.Tables.{Tables}
 use Rattle.bsp_book.specs.Listed.{Holds as ListHolds}
 use Rattle.bsp_book.specs.declared.list.ListBook.{ListBook}
-use Rattle.bsp_store_schema.specs.Order.{AreInOrder}
+use Rattle.bsp_store_schema.specs.Order.{AreInOrder, IsInOrder}
 use Rattle.bsp_store_load.specs.Schema.{no_schema, our_schema}
 use Rattle.bsp_store_load.specs.Kept.{Keeps, KeepsRows, KeepsTable, Part, Reads, Spares, columns_of}
 use Rattle.bsp_store_load.specs.Columns.{Meta, count, meta_row, meta_rows, version}
@@ -32,7 +32,7 @@ use Rattle.bsp_store_open.specs.Faults.{is_refusal}
 use Rattle.bsp_store_open.specs.declared.fault.OpenFault.{OpenFault}
 use Rattle.bsp_store_open.specs.declared.fault.OpenFault.TheVariants.{NoRoom}
 use Rattle.bsp_store_open.specs.Loaded.{IsAllLoaded}
-use Rattle.bsp_store_open.specs.Opening.{Finds, HasNoBook, IsNoBook, IsOfOther, IsOfVersion, IsOrdered, IsRead, KeepsAtRest, LeavesCommitted, Misses, Reopens, Reports, SparesStore, WasForeign, WasNoBook}
+use Rattle.bsp_store_open.specs.Opening.{Finds, HasNoBook, IsNoBook, IsOfOther, IsOfVersion, IsOrdered, IsRead, KeepsAtRest, LeavesCommitted, Misses, Reopens, Reports, SparesStore, WasBare, WasNoBook}
 use Rattle.bsp_store_load.proofs.TallyLemmas.{content_is}
 
 -- ---- one query after another
@@ -129,7 +129,7 @@ pub not_other : (rows : List Row) → IsOfVersion rows → IsOfOther rows → �
 not_other rows is other =
     let rows_are : is.row ∷ is.more ≡ other.row ∷ other.more = sym is.first ∙ other.first in
     let same : is.row ≡ other.row = cc rows_are in
-    let value : Int other.found ≡ count version = sym other.has ∙ ap (λ (r : Row). column r 0) (sym same) ∙ is.version in
+    let value : Int other.found ≡ count version = sym other.has ∙ ap (λ (r : Row). column r 1) (sym same) ∙ is.version in
     other.other (cc value)
 
 -- ---- the tables keep the rows
@@ -137,32 +137,13 @@ not_other rows is other =
 keeps_table : (width : ℕ) (content tree : List Row) → IsTable tree × AllByRecursion (λ r. IsTrue (is_int (rowid r))) tree → IsPermutation (map (columns_of width) tree) content → KeepsTable width content tree
 keeps_table width content tree order all = record { table = order.0; keyed = order.1; rows = IsPermutation-sym _ _ all }
 
+keeps_each : (c : Content) (trees : Trees) (parts : List (Part Content)) → AllByRecursion (λ (p : Part Content). IsInOrder trees p.tree) parts → AllByRecursion (λ (p : Part Content). HasRows p c trees) parts
+    → AllByRecursion (λ (p : Part Content). KeepsTable (width_of p.tree) (p.rows c) (trees p.tree)) parts
+keeps_each c trees [] order rows = tt
+keeps_each c trees (p ∷ parts) order rows = (keeps_table (width_of p.tree) (p.rows c) (trees p.tree) order.0 rows.0, keeps_each c trees parts order.1 rows.1)
+
 keeps_all : (c : Content) (trees : Trees) → AreInOrder trees → AllByRecursion (λ (p : Part Content). HasRows p c trees) form.parts → KeepsRows form c trees
-keeps_all c trees (o0, (o1, (o2, (o4, (o6, (o8, (o10, (o12, (o14, (o16, (o18, _))))))))))) (p0, (p1, (p2, (p4, (p6, (p8, (p10, (p12, (p14, (p16, (p18, _))))))))))) = (
-  keeps_table 3 _ (trees 0) o0 p0,
-  (
-    keeps_table 3 _ (trees 1) o1 p1,
-    (
-      keeps_table 2 _ (trees 2) o2 p2,
-      (
-        keeps_table 4 _ (trees 4) o4 p4,
-        (
-          keeps_table 5 _ (trees 6) o6 p6,
-          (
-            keeps_table 2 _ (trees 8) o8 p8,
-            (
-              keeps_table 2 _ (trees 10) o10 p10,
-              (
-                keeps_table 3 _ (trees 12) o12 p12,
-                (keeps_table 21 _ (trees 14) o14 p14, (keeps_table 10 _ (trees 16) o16 p16, (keeps_table 11 _ (trees 18) o18 p18, tt))),
-              ),
-            ),
-          ),
-        ),
-      ),
-    ),
-  ),
-)
+keeps_all c trees order rows = keeps_each c trees form.parts order rows
 
 module _ {S : Type 0} (g : Ghosts S) (old new : Held S) (order : IsOrdered g old) (c : Content) (finds : Finds g old new (λ trees. AllByRecursion (λ (p : Part Content). HasRows p c trees) form.parts))
     (rows : Rows) (content : IsContentOf rows c) where
@@ -232,9 +213,9 @@ module _ {S : Type 0} (g : Ghosts S) where
     bare_refused (Ok x) bare = tt
     bare_refused (Err e) bare = λ refused clean. (now, again, λ ours. absurd (no_tables (sym bare ∙ ours)))
 
-    pub bare_left : {X : Type 0} (r : Result X (OpenFault × S)) → now.schema ≡ no_schema → IfErr r (λ e. WasForeign g before ⊎ LeavesCommitted g before e.1)
+    pub bare_left : {X : Type 0} (r : Result X (OpenFault × S)) → now.schema ≡ no_schema → IfErr r (λ e. WasBare g before ⊎ LeavesCommitted g before e.1)
     bare_left (Ok x) bare = tt
-    bare_left (Err e) bare = inl (now, again, λ ours. no_tables (sym bare ∙ ours))
+    bare_left (Err e) bare = inl (now, again, bare)
 
     -- a store with tables
     pub kept_refused : {X : Type 0} (r : Result X (OpenFault × S)) → IfErr r (λ e. is_refusal e.0 ≡ true → IsClean (g.view e.1) → IsNoBook e.0 (state g now).now) → IfErr r (λ e. is_refusal e.0 ≡ true → WasNoBook g e.0 before e.1)
@@ -249,6 +230,6 @@ module _ {S : Type 0} (g : Ghosts S) where
         inl (settled db opens.is_open (spares.leaves clean db may) ∙ ap (λ (d : Database). d.trees) (sym opens.clean) ∙ again.trees was_clean)
 
     pub kept_left : {X : Type 0} (r : Result X (OpenFault × S)) → ((db : Trees) → IsTrue (state g now).is_open → (state g now).may_leave db → db ≡ (state g now).committed.trees)
-        → IfErr r (λ e. (now.schema ≡ our_schema → ⊥) ⊎ SparesStore g now e.1) → IfErr r (λ e. WasForeign g before ⊎ LeavesCommitted g before e.1)
+        → IfErr r (λ e. SparesStore g now e.1) → IfErr r (λ e. WasBare g before ⊎ LeavesCommitted g before e.1)
     kept_left (Ok x) settled left = tt
-    kept_left (Err e) settled left = elim left [ inl other ↦ inl (now, again, other) | inr spares ↦ inr (left_committed e.1 settled spares) ]
+    kept_left (Err e) settled left = inr (left_committed e.1 settled left)

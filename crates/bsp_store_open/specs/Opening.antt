@@ -38,7 +38,7 @@ pub record IsOfVersion (rows : List Row) : Type 0 where
   pub row : Row
   pub more : List Row
   pub first : rows ≡ row ∷ more
-  pub version : column row 0 ≡ count version
+  pub version : column row 1 ≡ count version
 
 -- ---- why a store is refused
 
@@ -48,7 +48,7 @@ pub record IsOfOther (rows : List Row) : Type 0 where
   pub more : List Row
   pub first : rows ≡ row ∷ more
   pub found : ℤ
-  pub has : column row 0 ≡ Int found
+  pub has : column row 1 ≡ Int found
   pub other : found ≡ pos version → ⊥
 
 -- what a fault says of the rows of `meta`
@@ -128,15 +128,12 @@ module _ {S : Type 0} (g : Ghosts S) where
     pub earlier : IsClean (g.view left) → HasCleanDisk (state g h)
     pub leaves : IsClean (g.view left) → (db : Trees) → g.recovers left db → (state g h).may_leave db
 
-  -- opened again, the store showed other tables than a book's, or none
-  abbrev pub WasForeign : Held S → Type 0
-  WasForeign h = (now : Held S) × Reopens h now × ((state g now).now.schema ≡ our_schema → ⊥)
-
   -- a stop leaves what was committed, or what it left before
   abbrev pub LeavesCommitted : Held S → S → Type 0
   LeavesCommitted h left = IsClean (g.view left) → (db : Trees) → g.recovers left db → (db ≡ (state g h).committed.trees) ⊎ g.recovers h.store db
 
-  -- a refused opening: the store, opened again, showed no book, and a stop leaves what was committed
+  -- a refused opening: the store, opened again, showed no book, and a stop leaves what was committed, unless it showed no
+  -- table
   pub record Refuses (fault : OpenFault) (h : Held S) (left : S) : Type 0 where
     pub no_book : WasNoBook fault h left
-    pub leaves : WasForeign h ⊎ LeavesCommitted h left
+    pub leaves : WasBare h ⊎ LeavesCommitted h left

@@ -11,7 +11,7 @@ mod opening;
 mod reading;
 mod tables;
 
-pub use bsp_store_schema::{is_bare, is_ours};
+pub use bsp_store_schema::{is_bare, is_ours, open_in_order};
 pub use fault::OpenFault;
 pub use opening::{again, empty_list, kept_list};
 pub use reading::{plan_rows, refusal, tallies};

@@ -11,13 +11,11 @@ ghost use Rattle.bsp_store_open.specs.Opening.{ArePlanRows, Finds, HasNoBook, Is
 
 use crate::fault::{OpenFault, fault_of};
 use bsp_store_load::{
-    PlanRows, all_airlines, all_meta, all_periods, all_rates, all_tallies, all_terms, read_version,
+    PlanRows, VERSION, all_airlines, all_meta, all_periods, all_rates, all_tallies, all_terms,
+    read_version,
 };
 use bsp_store_schema::is_ours;
 use sqlite::{Alter, Connection, Error as StoreError, Row};
-
-/// The version of the tables.
-const VERSION: i64 = 1;
 
 /// Refuses a store that has other tables than a book. A query says nothing of the tables after it on a disk that gave
 /// wrong bytes, so each is preceded by this test.
@@ -134,9 +132,9 @@ pub fn plan_rows<S: Alter>(conn: &mut Connection<S>) -> Result<PlanRows, OpenFau
     })
 }
 
-/// Why tables that are not those of a book are refused: they are of another version, or damaged, or the store fails.
-pub fn refusal<S: Alter>(conn: &mut Connection<S>) -> OpenFault {
-    let rows = match conn.query_all("SELECT version FROM meta", &[]) {
+/// What the version in other tables than a book's says of them.
+fn refusal_of(found: Result<Vec<Row>, StoreError>) -> OpenFault {
+    let rows = match found {
         Ok(rows) => rows,
         Err(StoreError::SqliteFailure(code)) => return fault_of(StoreError::SqliteFailure(code)),
         Err(_) => return OpenFault::Damaged,
@@ -145,4 +143,12 @@ pub fn refusal<S: Alter>(conn: &mut Connection<S>) -> OpenFault {
         Ok(()) => OpenFault::Damaged,
         Err(fault) => fault,
     }
+}
+
+/// Why tables that are not those of a book are refused: they are of another version, or damaged, or the store fails. It
+/// reads the version, and writes nothing.
+pub fn refusal<S: Alter>(conn: &mut Connection<S>) -> OpenFault
+    ensures { Spares S.Store conn.old conn.new }
+{
+    refusal_of(conn.query_all("SELECT id, version FROM meta", &[]))
 }

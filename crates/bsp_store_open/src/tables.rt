@@ -1,10 +1,10 @@
 //! Tables in memory with all that the tables of a store keep.
 
-ghost use Rattle.std.specs.Prelude.{◌≡◌, true, false, is_none, IfErr, IfOk, OnOk};
+ghost use Rattle.std.specs.Prelude.{◌≡◌, true, None, IfErr, IfOk, OnOk};
 ghost use Rattle.bsp_store_load.specs.Content.{tally_part};
 ghost use Rattle.bsp_store_load.specs.Contents.{content_now};
 ghost use Rattle.bsp_store_load.specs.Kept.{Spares};
-ghost use Rattle.bsp_store_load.specs.Loading.{HasRows, IsLoaded};
+ghost use Rattle.bsp_store_load.specs.Loading.{HasRows, IsLoaded, LeavesRow};
 ghost use Rattle.bsp_store_load.specs.MemoryRowsTables.{IsDerived, rows_of};
 ghost use Rattle.bsp_store_load.specs.Schema.{our_schema};
 ghost use Rattle.bsp_store_load.specs.Stored.{AreCommitted};
@@ -46,7 +46,7 @@ pub fn load_rows<S: Alter, K, V, T: StoredTable<K, V>>(
     tables: &mut Tables,
 ) -> Result<Option<Row>, OpenFault>
     ensures derived { OnOk result (IsDerived tables.old → IsDerived tables.new) }
-    ensures found { IfOk result (λ left. Finds S.Store conn.old conn.new (λ trees. IsLoaded T.part T.row_of T.with_entry T.fits T.lacks T.rows_in trees (rows_of tables.old) (rows_of tables.new) (is_none left))) }
+    ensures found { IfOk result (λ left. Finds S.Store conn.old conn.new (λ trees. IsLoaded T.part T.row_of T.with_entry T.fits T.lacks T.rows_in trees (rows_of tables.old) (rows_of tables.new) left)) }
     ensures refused { IfErr result (λ fault. is_refusal fault ≡ true → (fault ≡ OpenFault.Damaged) × ¬ (conn.old.schema ≡ our_schema)) }
     ensures spares { Spares S.Store conn.old conn.new }
 {
@@ -61,8 +61,8 @@ fn load<S: Alter, K, V, T: StoredTable<K, V>>(
     tables: &mut Tables,
 ) -> Result<(), OpenFault>
     ensures derived { OnOk result (IsDerived tables.old → IsDerived tables.new) }
-    ensures found { OnOk result (Finds S.Store conn.old conn.new (λ trees. IsLoaded T.part T.row_of T.with_entry T.fits T.lacks T.rows_in trees (rows_of tables.old) (rows_of tables.new) true)) }
-    ensures missed { IfErr result (λ fault. is_refusal fault ≡ true → Misses S.Store conn.old conn.new (λ trees. IsLoaded T.part T.row_of T.with_entry T.fits T.lacks T.rows_in trees (rows_of tables.old) (rows_of tables.new) false)) }
+    ensures found { OnOk result (Finds S.Store conn.old conn.new (λ trees. IsLoaded T.part T.row_of T.with_entry T.fits T.lacks T.rows_in trees (rows_of tables.old) (rows_of tables.new) None)) }
+    ensures missed { IfErr result (λ fault. is_refusal fault ≡ true → Misses S.Store conn.old conn.new (λ trees. LeavesRow T.part T.row_of T.with_entry T.fits T.lacks T.rows_in trees (rows_of tables.old) (rows_of tables.new))) }
     ensures fault { IfErr result (λ fault. is_refusal fault ≡ true → fault ≡ OpenFault.Damaged) }
     ensures spares { Spares S.Store conn.old conn.new }
 {

@@ -1,10 +1,11 @@
 -- The table of the day and of the closed periods.
-use Rattle.std.proofs.Common.{◌≡◌, ℕ, List, [], ◌∷◌, codes, map, Bool, true, false, is_some, Option, Some, None, Ok, refl, sym, ap, ap₂, ◌∙◌, subst, IsPermutation}
+use Rattle.std.proofs.Common.{◌≡◌, ℕ, List, [], ◌∷◌, codes, map, Bool, true, false, is_some, Option, Some, None, Ok, refl, sym, ap, ap₂, ◌∙◌, subst, IsPermutation, Equal}
 use Rattle.std.specs.List.{range_with_len}
 use Rattle.std.proofs.lemmas.List.Sorted.{IsPermutation-refl}
 use Rattle.sqlite_value.specs.declared.value.Value.TheVariants.{Null}
 use Rattle.sqlite_trees.specs.declared.store.Store.{Ghosts}
-use Rattle.sqlite_sql.specs.Term.{Term, lit, col}
+use Rattle.sqlite_sql.specs.Term.{lit, col, eval_all}
+use Rattle.sqlite_trees.specs.Tree.{rowid}
 use Rattle.sqlite_schema.specs.declared.command.Source.TheVariants.{Values}
 use Rattle.sqlite_schema.specs.declared.command.Command.TheVariants.{Insert, Select, Update}
 use Rattle.sqlite_schema.specs.declared.schema.Column.{Column}
@@ -16,6 +17,7 @@ use Rattle.sqlite.proofs.Callers.{IsPlain, command_of}
 use Rattle.bsp_store_base.specs.Kept.{Keeps, KeepsTable}
 use Rattle.bsp_store_base.specs.Simple.{simple}
 use Rattle.bsp_store_base.proofs.Writing.{inserts, updates}
+use Rattle.bsp_store_base.proofs.Keys.{flag_is, one_column}
 use Rattle.bsp_store_base.proofs.Parts.{wrote}
 use Rattle.bsp_store_base.proofs.Held.{writes}
 use Rattle.bsp_store_base.proofs.Values.{cast_int, cast_null, cast_same}
@@ -23,35 +25,31 @@ use Rattle.bsp_store_base.specs.Schema.{our_schema, meta_table, meta_columns}
 use Rattle.bsp_store_base.specs.Columns.{Meta, meta_row, meta_rows}
 use Rattle.bsp_store_base.specs.Calls.{Changes}
 use Rattle.bsp_store_base.specs.Content.{Content, form}
-use Rattle.bsp_store_base.proofs.Writes.{no_work, Does}
+use Rattle.bsp_store_base.proofs.Writes.{key_project, key_test, no_work, Does}
 
 -- ---- the texts
 
 abbrev pub add_text : List ℕ
-add_text = codes "INSERT INTO meta (version, day, closed) VALUES (?1, ?2, ?3)"
+add_text = codes "INSERT INTO meta (id, version, day, closed) VALUES (?1, ?2, ?3, ?4)"
 
 abbrev pub all_text : List ℕ
-all_text = codes "SELECT version, day, closed FROM meta"
+all_text = codes "SELECT id, version, day, closed FROM meta"
 
 abbrev pub set_text : List ℕ
-set_text = codes "UPDATE meta SET version = ?1, day = ?2, closed = ?3"
+set_text = codes "UPDATE meta SET version = ?2, day = ?3, closed = ?4 WHERE id = ?1"
 
--- the rowid, and then the new row
-abbrev set_project : List Term
-set_project = col 1 0 ∷ col 1 0 ∷ map (col 0) (range_with_len 0 3)
-
-set_is : (command_of (understood our_schema set_text) ≡ Update 0 (record { lets = []; body = simple 0 [] set_project [] })) × IsPlain (understood our_schema set_text)
+set_is : (command_of (understood our_schema set_text) ≡ Update 0 (record { lets = []; body = simple meta_table.tree (key_test 1) (key_project 1 4) [] })) × IsPlain (understood our_schema set_text)
 unfolding understood everything
 set_is = (refl, (refl, refl))
 
-add_is : (command_of (understood our_schema add_text) ≡ Insert 0 (Values (lit Null ∷ map (col 0) (range_with_len 0 3)) 4)) × IsPlain (understood our_schema add_text)
+add_is : (command_of (understood our_schema add_text) ≡ Insert 0 (Values (lit Null ∷ map (col 0) (range_with_len 0 4)) 5)) × IsPlain (understood our_schema add_text)
 unfolding understood everything
 add_is = (refl, (refl, refl))
 
 abbrev pub names : List (List ℕ)
 names = map (λ (c : Column). c.name) meta_columns
 
-pub all_is : (command_of (understood our_schema all_text) ≡ Select (record { lets = []; body = simple 0 [] (map (col 1) (range_with_len 1 3)) [] }) names) × IsPlain (understood our_schema all_text) × (reads_listing our_schema all_text ≡ false)
+pub all_is : (command_of (understood our_schema all_text) ≡ Select (record { lets = []; body = simple meta_table.tree [] (map (col 1) (range_with_len 1 4)) [] }) names) × IsPlain (understood our_schema all_text) × (reads_listing our_schema all_text ≡ false)
 unfolding understood everything
 all_is = (refl, (refl, refl), refl)
 
@@ -63,9 +61,9 @@ with entry now = record now { meta = Some entry }
 replaces : (old new : State) (was entry : Meta) (count : ℕ) (now : Content) → now.meta ≡ Some was → Keeps form now old.now → Executes set_text (meta_row entry) old new (Ok count) → Keeps form (with entry now) new.now
 replaces old new was entry count now there keeps h =
     let row = meta_row entry in
-    let it = updates our_schema 0 meta_table refl refl (λ db. refl) 3 (no_work 0) set_text set_is.1 row [] set_project set_is.0 meta_row (λ e. true) (λ r. refl) (λ r. refl) (λ e. refl) (λ e. refl) was row (λ r same. refl)
-    (cast_same meta_columns row (cast_int _, (cast_int _, (cast_int _, tt)))) (λ id. refl) old new keeps.schema count h (was ∷ []) refl (subst (λ l. KeepsTable 3 l (old.now.trees 0)) (ap meta_rows there) keeps.kept.0) in
-    wrote form old.now new.now 0 now (with entry now) _ it.same it.kept it.others (IsPermutation-refl _, (refl, (refl, (refl, (refl, (refl, (refl, (refl, (refl, (refl, (refl, tt))))))))))) keeps
+    let it = updates our_schema 0 meta_table refl refl (λ db. refl) 4 (no_work meta_table.tree) set_text set_is.1 row (key_test 1) (key_project 1 4) set_is.0 meta_row (λ e. true) (λ r. refl) (λ r. refl) (λ e. one_column _ Equal (flag_is true true)) (λ e. refl) was row (λ r same. ap (λ cs. eval_all (key_project 1 4) (row ∷ (rowid r ∷ cs) ∷ [])) same)
+    (cast_same meta_columns row (cast_int _, (cast_int _, (cast_int _, (cast_int _, tt))))) (λ id. refl) old new keeps.schema count h (was ∷ []) refl (subst (λ l. KeepsTable 4 l (old.now.trees meta_table.tree)) (ap meta_rows there) keeps.kept.0) in
+    wrote form old.now new.now meta_table.tree now (with entry now) _ it.same it.kept it.others (IsPermutation-refl _, (refl, (refl, (refl, (refl, (refl, (refl, (refl, (refl, (refl, (refl, tt))))))))))) keeps
 
 -- the row that is there
 replaces_some : (old new : State) (entry : Meta) (count : ℕ) (now : Content) (was : Option Meta) → now.meta ≡ was → is_some was ≡ true → Keeps form now old.now → Executes set_text (meta_row entry) old new (Ok count) → Keeps form (with entry now) new.now
@@ -75,10 +73,10 @@ replaces_some old new entry count now None is there keeps h = absurd (cc there)
 adds : (old new : State) (entry : Meta) (count : ℕ) (now : Content) → now.meta ≡ None → Keeps form now old.now → Executes add_text (meta_row entry) old new (Ok count) → Keeps form (with entry now) new.now
 adds old new entry count now none keeps h =
     let row = meta_row entry in
-    let it = inserts our_schema 0 meta_table refl refl (λ db. refl) 3 (no_work 0) add_text add_is.1 row _ 4 add_is.0 (Null ∷ row) row refl
-    (ap₂ ◌∷◌ cast_null (cast_same meta_columns row (cast_int _, (cast_int _, (cast_int _, tt))))) (λ id. refl) old new keeps.schema count h _ keeps.kept.0 in
+    let it = inserts our_schema 0 meta_table refl refl (λ db. refl) 4 (no_work meta_table.tree) add_text add_is.1 row _ 5 add_is.0 (Null ∷ row) row refl
+    (ap₂ ◌∷◌ cast_null (cast_same meta_columns row (cast_int _, (cast_int _, (cast_int _, (cast_int _, tt)))))) (λ id. refl) old new keeps.schema count h _ keeps.kept.0 in
     let alone = subst (λ o. IsPermutation (row ∷ []) (row ∷ meta_rows o)) (sym none) (IsPermutation-refl _) in
-    wrote form old.now new.now 0 now (with entry now) _ it.same it.kept it.others (alone, (refl, (refl, (refl, (refl, (refl, (refl, (refl, (refl, (refl, (refl, tt))))))))))) keeps
+    wrote form old.now new.now meta_table.tree now (with entry now) _ it.same it.kept it.others (alone, (refl, (refl, (refl, (refl, (refl, (refl, (refl, (refl, (refl, (refl, tt))))))))))) keeps
 
 -- ---- the calls
 

@@ -62,6 +62,6 @@ add_is = (refl, (refl, refl))
 abbrev pub names : List (List ℕ)
 names = map (λ (c : Column). c.name) rate_columns
 
-pub all_is : (command_of (understood our_schema all_text) ≡ Select (record { lets = []; body = simple 4 [] (map (col 1) (range_with_len 1 4)) ((col 1 3, ascending Binary) ∷ []) }) names) × IsPlain (understood our_schema all_text) × (reads_listing our_schema all_text ≡ false)
+pub all_is : (command_of (understood our_schema all_text) ≡ Select (record { lets = []; body = simple rate_table.tree [] (map (col 1) (range_with_len 1 4)) ((col 1 3, ascending Binary) ∷ []) }) names) × IsPlain (understood our_schema all_text) × (reads_listing our_schema all_text ≡ false)
 unfolding understood everything
 all_is = (refl, (refl, refl), refl)

@@ -34,23 +34,23 @@ abbrev pub clear_text : List ℕ
 clear_text = codes "DELETE FROM terms"
 
 abbrev pub add_text : List ℕ
-add_text = codes "INSERT INTO terms (currency, review, documents) VALUES (?1, ?2, ?3)"
+add_text = codes "INSERT INTO terms (id, currency, review, documents) VALUES (?1, ?2, ?3, ?4)"
 
 abbrev pub all_text : List ℕ
-all_text = codes "SELECT currency, review, documents FROM terms"
+all_text = codes "SELECT id, currency, review, documents FROM terms"
 
-clear_is : (command_of (understood our_schema clear_text) ≡ Delete 1 (record { lets = []; body = simple 1 [] (col 1 0 ∷ []) [] })) × IsPlain (understood our_schema clear_text)
+clear_is : (command_of (understood our_schema clear_text) ≡ Delete 1 (record { lets = []; body = simple terms_table.tree [] (col 1 0 ∷ []) [] })) × IsPlain (understood our_schema clear_text)
 unfolding understood everything
 clear_is = (refl, (refl, refl))
 
-add_is : (command_of (understood our_schema add_text) ≡ Insert 1 (Values (lit Null ∷ map (col 0) (range_with_len 0 3)) 4)) × IsPlain (understood our_schema add_text)
+add_is : (command_of (understood our_schema add_text) ≡ Insert 1 (Values (lit Null ∷ map (col 0) (range_with_len 0 4)) 5)) × IsPlain (understood our_schema add_text)
 unfolding understood everything
 add_is = (refl, (refl, refl))
 
 abbrev pub names : List (List ℕ)
 names = map (λ (c : Column). c.name) terms_columns
 
-pub all_is : (command_of (understood our_schema all_text) ≡ Select (record { lets = []; body = simple 1 [] (map (col 1) (range_with_len 1 3)) [] }) names) × IsPlain (understood our_schema all_text) × (reads_listing our_schema all_text ≡ false)
+pub all_is : (command_of (understood our_schema all_text) ≡ Select (record { lets = []; body = simple terms_table.tree [] (map (col 1) (range_with_len 1 4)) [] }) names) × IsPlain (understood our_schema all_text) × (reads_listing our_schema all_text ≡ false)
 unfolding understood everything
 all_is = (refl, (refl, refl), refl)
 
@@ -69,17 +69,17 @@ listed (Some entry) = refl
 clears : (old new : State) (count : ℕ) (now : Content) → Keeps form now old.now → Executes clear_text [] old new (Ok count) → Keeps form (without now) new.now
 clears old new count now keeps h =
     let entries = option_to_list now.terms in
-    let it = deletes our_schema 1 terms_table refl refl (λ db. refl) 3 (no_work 1) clear_text clear_is.1 [] [] clear_is.0 terms_row (λ e. true) (λ r. refl) (λ r. refl) (λ e. refl) (λ e. refl)
-    old new keeps.schema count h entries (subst (λ l. KeepsTable 3 l (old.now.trees 1)) (listed now.terms) keeps.kept.1.0) in
-    wrote form old.now new.now 1 now (without now) _ it.same it.kept it.others (refl, (no_rows terms_row entries, (refl, (refl, (refl, (refl, (refl, (refl, (refl, (refl, (refl, tt))))))))))) keeps
+    let it = deletes our_schema 1 terms_table refl refl (λ db. refl) 4 (no_work terms_table.tree) clear_text clear_is.1 [] [] clear_is.0 terms_row (λ e. true) (λ r. refl) (λ r. refl) (λ e. refl) (λ e. refl)
+    old new keeps.schema count h entries (subst (λ l. KeepsTable 4 l (old.now.trees terms_table.tree)) (listed now.terms) keeps.kept.1.0) in
+    wrote form old.now new.now terms_table.tree now (without now) _ it.same it.kept it.others (refl, (no_rows terms_row entries, (refl, (refl, (refl, (refl, (refl, (refl, (refl, (refl, (refl, tt))))))))))) keeps
 
 adds : (old new : State) (entry : Terms) (count : ℕ) (now : Content) → now.terms ≡ None → Keeps form now old.now → Executes add_text (terms_row entry) old new (Ok count) → Keeps form (with entry now) new.now
 adds old new entry count now none keeps h =
     let row = terms_row entry in
-    let it = inserts our_schema 1 terms_table refl refl (λ db. refl) 3 (no_work 1) add_text add_is.1 row _ 4 add_is.0 (Null ∷ row) row refl
-    (ap₂ ◌∷◌ cast_null (cast_same terms_columns row (refl, (cast_int _, (cast_int _, tt))))) (λ id. refl) old new keeps.schema count h _ keeps.kept.1.0 in
+    let it = inserts our_schema 1 terms_table refl refl (λ db. refl) 4 (no_work terms_table.tree) add_text add_is.1 row _ 5 add_is.0 (Null ∷ row) row refl
+    (ap₂ ◌∷◌ cast_null (cast_same terms_columns row (cast_int _, (refl, (cast_int _, (cast_int _, tt)))))) (λ id. refl) old new keeps.schema count h _ keeps.kept.1.0 in
     let alone = subst (λ o. IsPermutation (row ∷ []) (row ∷ terms_rows o)) (sym none) (IsPermutation-refl _) in
-    wrote form old.now new.now 1 now (with entry now) _ it.same it.kept it.others (refl, (alone, (refl, (refl, (refl, (refl, (refl, (refl, (refl, (refl, (refl, tt))))))))))) keeps
+    wrote form old.now new.now terms_table.tree now (with entry now) _ it.same it.kept it.others (refl, (alone, (refl, (refl, (refl, (refl, (refl, (refl, (refl, (refl, (refl, tt))))))))))) keeps
 
 -- ---- the calls
 

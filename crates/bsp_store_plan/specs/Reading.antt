@@ -9,17 +9,17 @@ use Rattle.bsp_rows.specs.Rate.{Rate}
 use Rattle.bsp_rows.specs.Terms.{Terms}
 use Rattle.bsp_store_base.specs.Columns.{version, count, airline_text, period_text}
 
--- ---- what the columns of a row say, its place apart
+-- ---- what the columns of a row say, its place and its id apart
 
 pub record IsMetaRow (r : Row) (day : CivilDay) (closed : ℕ) : Type 0 where
-  pub is_versioned : column r 0 ≡ count version
-  pub bears_day : column r 1 ≡ Int (day_number day)
-  pub bears_closed : column r 2 ≡ count closed
+  pub is_versioned : column r 1 ≡ count version
+  pub bears_day : column r 2 ≡ Int (day_number day)
+  pub bears_closed : column r 3 ≡ count closed
 
 pub record IsTermsRow (r : Row) (terms : Terms) : Type 0 where
-  pub bears_currency : column r 0 ≡ Text terms.currency
-  pub bears_review : column r 1 ≡ count terms.review_days
-  pub bears_documents : column r 2 ≡ count terms.documents_limit
+  pub bears_currency : column r 1 ≡ Text terms.currency
+  pub bears_review : column r 2 ≡ count terms.review_days
+  pub bears_documents : column r 3 ≡ count terms.documents_limit
 
 pub record IsRateRow (r : Row) (rate : Rate) : Type 0 where
   pub bears_airline : column r 0 ≡ airline_text rate.airline

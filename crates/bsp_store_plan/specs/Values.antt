@@ -2,7 +2,7 @@
 use Rattle.std.specs.Prelude.{[], ◌∷◌, pos}
 use Rattle.sqlite_value.specs.declared.value.Value.TheVariants.{Int, Text}
 use Rattle.sqlite_value.specs.Order.{Row}
-use Rattle.bsp_store_base.specs.Columns.{version}
+use Rattle.bsp_store_base.specs.Columns.{only_id, version}
 use Rattle.bsp_store_plan.specs.declared.meta.MetaRow.{MetaRow}
 use Rattle.bsp_store_plan.specs.declared.terms.TermsRow.{TermsRow}
 use Rattle.bsp_store_plan.specs.declared.airlines.AirlineRow.{AirlineRow}
@@ -10,10 +10,10 @@ use Rattle.bsp_store_plan.specs.declared.rates.RateRow.{RateRow}
 use Rattle.bsp_store_plan.specs.declared.periods.PeriodRow.{PeriodRow}
 
 abbrev pub meta_values : MetaRow → Row
-meta_values r = Int (pos version) ∷ Int r.day ∷ Int r.closed ∷ []
+meta_values r = only_id ∷ Int (pos version) ∷ Int r.day ∷ Int r.closed ∷ []
 
 abbrev pub terms_values : TermsRow → Row
-terms_values r = Text r.currency ∷ Int r.review ∷ Int r.documents ∷ []
+terms_values r = only_id ∷ Text r.currency ∷ Int r.review ∷ Int r.documents ∷ []
 
 abbrev pub airline_values : AirlineRow → Row
 airline_values r = Text r.code ∷ Int r.place ∷ []

@@ -10,6 +10,9 @@ use bsp_rows::Day;
 use sqlite::{Alter, Connection, Error, ErrorCode, Row};
 use sqlite_value::value::ValueRef;
 
+/// The version of the tables.
+pub const VERSION: i64 = 1;
+
 /// The row of the business day and of how many periods are closed.
 #[derive(Clone, Copy, Debug)]
 pub struct MetaRow {
@@ -30,11 +33,12 @@ impl MetaRow {
     }
 
     /// A value for each column.
-    pub fn values(&self) -> [ValueRef<'_>; 3]
+    pub fn values(&self) -> [ValueRef<'_>; 4]
         ensures { bound result ≡ meta_values self.now }
     {
         [
             ValueRef::Int(1),
+            ValueRef::Int(VERSION),
             ValueRef::Int(self.day),
             ValueRef::Int(self.closed),
         ]
@@ -48,7 +52,7 @@ fn add_meta<S: Alter>(conn: &mut Connection<S>, day: Day, closed: usize) -> Resu
 {
     let row = MetaRow::of(day, closed);
     conn.execute(
-        "INSERT INTO meta (version, day, closed) VALUES (?1, ?2, ?3)",
+        "INSERT INTO meta (id, version, day, closed) VALUES (?1, ?2, ?3, ?4)",
         &row.values(),
     )
 }
@@ -60,7 +64,7 @@ fn set_meta<S: Alter>(conn: &mut Connection<S>, day: Day, closed: usize) -> Resu
 {
     let row = MetaRow::of(day, closed);
     conn.execute(
-        "UPDATE meta SET version = ?1, day = ?2, closed = ?3",
+        "UPDATE meta SET version = ?2, day = ?3, closed = ?4 WHERE id = ?1",
         &row.values(),
     )
 }
@@ -99,5 +103,5 @@ pub fn put_meta<S: Alter>(
 pub fn all_meta<S: Alter>(conn: &mut Connection<S>) -> Result<Vec<Row>, Error>
     ensures { ShowsAll meta_part S.Store conn.old conn.new result }
 {
-    conn.query_all("SELECT version, day, closed FROM meta", &[])
+    conn.query_all("SELECT id, version, day, closed FROM meta", &[])
 }

@@ -12,15 +12,16 @@ ghost use Rattle.bsp_store_plan.specs.Reading.{IsMetaRow, IsTermsRow, IsRateRow,
 ghost use Rattle.bsp_store_base.specs.Forms.{AreTerms, IsRate, IsPeriod};
 
 use crate::columns::{airline_at, currency_at, day_at, period_at};
+use crate::meta::VERSION;
 use bsp_rows::{AirlineCode, Day, Period, Rate, Terms};
 use bsp_store_base::{below_at, int_at};
 use sqlite::Row;
 
 /// The version of the tables that a row of `meta` has.
 pub fn read_version(row: &Row) -> Option<i64>
-    ensures { result ≡ int_in (column row.now 0) }
+    ensures { result ≡ int_in (column row.now 1) }
 {
-    int_at(row, 0)
+    int_at(row, 1)
 }
 
 /// The business day and the number of closed periods of a row of `meta` of this version.
@@ -28,11 +29,11 @@ pub fn read_meta(row: &Row) -> Option<(Day, u64)>
     ensures row { IfSome result (λ m. IsMetaRow row.now m.0 m.1) }
     ensures back { (day : CivilDay) (closed : ℕ) → IsTrue (is_day day) → closed < 2 ^ 63 → IsMetaRow row.now day closed → result ≡ Some (day, closed) }
 {
-    if read_version(row)? != 1 {
+    if read_version(row)? != VERSION {
         return None;
     }
-    let day = day_at(row, 1)?;
-    let closed = below_at(row, 2, 1 << 63)?;
+    let day = day_at(row, 2)?;
+    let closed = below_at(row, 3, 1 << 63)?;
     Some((day, closed))
 }
 
@@ -41,9 +42,9 @@ pub fn read_terms(row: &Row) -> Option<Terms>
     ensures row { IfSome result (IsTermsRow row.now) }
     ensures back { (terms : TermsEntry) → AreTerms terms → IsTermsRow row.now terms → result ≡ Some terms }
 {
-    let currency = currency_at(row, 0)?;
-    let review_days = below_at(row, 1, 1 << 8)? as u8;
-    let documents_limit = below_at(row, 2, 1 << 32)? as u32;
+    let currency = currency_at(row, 1)?;
+    let review_days = below_at(row, 2, 1 << 8)? as u8;
+    let documents_limit = below_at(row, 3, 1 << 32)? as u32;
     Some(Terms {
         currency,
         review_days,

@@ -31,10 +31,11 @@ impl TermsRow {
     }
 
     /// A value for each column.
-    pub fn values(&self) -> [ValueRef<'_>; 3]
+    pub fn values(&self) -> [ValueRef<'_>; 4]
         ensures { bound result ≡ terms_values self.now }
     {
         [
+            ValueRef::Int(1),
             ValueRef::Text(&self.currency),
             ValueRef::Int(self.review),
             ValueRef::Int(self.documents),
@@ -55,7 +56,7 @@ fn add_terms<S: Alter>(conn: &mut Connection<S>, terms: &Terms) -> Result<usize,
 {
     let row = TermsRow::of(terms);
     conn.execute(
-        "INSERT INTO terms (currency, review, documents) VALUES (?1, ?2, ?3)",
+        "INSERT INTO terms (id, currency, review, documents) VALUES (?1, ?2, ?3, ?4)",
         &row.values(),
     )
 }
@@ -85,5 +86,5 @@ pub fn put_terms<S: Alter>(conn: &mut Connection<S>, terms: Option<Terms>) -> Re
 pub fn all_terms<S: Alter>(conn: &mut Connection<S>) -> Result<Vec<Row>, Error>
     ensures { ShowsAll terms_part S.Store conn.old conn.new result }
 {
-    conn.query_all("SELECT currency, review, documents FROM terms", &[])
+    conn.query_all("SELECT id, currency, review, documents FROM terms", &[])
 }

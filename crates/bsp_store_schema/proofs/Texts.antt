@@ -9,11 +9,11 @@ use Rattle.bsp_store_schema.specs.Schema as schema
 abbrev Makes : List ℕ → Table → Type 0
 Makes text table = table_defined_by text ≡ Ok (record table { tree = 0 })
 
-pub meta_is : Makes (codes "CREATE TABLE meta (version INTEGER NOT NULL, day INTEGER NOT NULL, closed INTEGER NOT NULL) STRICT") schema.meta_table
+pub meta_is : Makes (codes "CREATE TABLE meta (id INT NOT NULL PRIMARY KEY, version INTEGER NOT NULL, day INTEGER NOT NULL, closed INTEGER NOT NULL) STRICT") schema.meta_table
 unfolding everything
 meta_is = refl
 
-pub terms_is : Makes (codes "CREATE TABLE terms (currency TEXT NOT NULL, review INTEGER NOT NULL, documents INTEGER NOT NULL) STRICT") schema.terms_table
+pub terms_is : Makes (codes "CREATE TABLE terms (id INT NOT NULL PRIMARY KEY, currency TEXT NOT NULL, review INTEGER NOT NULL, documents INTEGER NOT NULL) STRICT") schema.terms_table
 unfolding everything
 terms_is = refl
 
@@ -37,15 +37,15 @@ pub airline_token_is : Makes (codes "CREATE TABLE airline_token (airline TEXT NO
 unfolding everything
 airline_token_is = refl
 
-pub stock_is : Makes (codes "CREATE TABLE stock (agent TEXT NOT NULL, lo TEXT NOT NULL, hi TEXT NOT NULL, PRIMARY KEY (agent, lo)) STRICT") schema.stock_table
+pub stock_is : Makes (codes "CREATE TABLE stock (agent TEXT NOT NULL REFERENCES agent (code), lo TEXT NOT NULL, hi TEXT NOT NULL, PRIMARY KEY (agent, lo)) STRICT") schema.stock_table
 unfolding everything
 stock_is = refl
 
-pub item_is : Makes (codes "CREATE TABLE item (agent TEXT NOT NULL, number TEXT NOT NULL, canx INTEGER NOT NULL, check_digit INTEGER NOT NULL, airline TEXT NOT NULL, code TEXT NOT NULL, issued INTEGER NOT NULL, period TEXT NOT NULL, alive INTEGER NOT NULL, name TEXT NOT NULL, fare INTEGER, taxes TEXT, rate INTEGER, commission INTEGER, rel_airline TEXT, rel_number TEXT, rel_check INTEGER, ca INTEGER, cc INTEGER, ex INTEGER, vendor TEXT, PRIMARY KEY (agent, number, canx)) STRICT") schema.item_table
+pub item_is : Makes (codes "CREATE TABLE item (agent TEXT NOT NULL REFERENCES agent (code), number TEXT NOT NULL, canx INTEGER NOT NULL, airline TEXT NOT NULL, code TEXT NOT NULL, issued INTEGER NOT NULL, period TEXT NOT NULL REFERENCES period (code), alive INTEGER NOT NULL, name TEXT NOT NULL, fare INTEGER, taxes TEXT, rate INTEGER, commission INTEGER, rel_airline TEXT, rel_number TEXT, ca INTEGER, cc INTEGER, ex INTEGER, vendor TEXT, PRIMARY KEY (agent, number, canx)) STRICT") schema.item_table
 unfolding everything
 item_is = refl
 
-pub memo_is : Makes (codes "CREATE TABLE memo (airline TEXT NOT NULL, number TEXT NOT NULL, agent TEXT NOT NULL, kind TEXT NOT NULL, amount INTEGER NOT NULL, first_amount INTEGER NOT NULL, reason TEXT NOT NULL, issued INTEGER NOT NULL, state TEXT NOT NULL, billed TEXT, PRIMARY KEY (airline, number)) STRICT") schema.memo_table
+pub memo_is : Makes (codes "CREATE TABLE memo (airline TEXT NOT NULL, number TEXT NOT NULL, agent TEXT NOT NULL REFERENCES agent (code), kind TEXT NOT NULL, amount INTEGER NOT NULL, first_amount INTEGER NOT NULL, reason TEXT NOT NULL, issued INTEGER NOT NULL, state TEXT NOT NULL, billed TEXT REFERENCES period (code), PRIMARY KEY (airline, number)) STRICT") schema.memo_table
 unfolding everything
 memo_is = refl
 

@@ -1,12 +1,13 @@
 -- The order of the rows of the tables.
-use Rattle.std.specs.Prelude.{ℕ, List, [], ◌∷◌, IsTrue}
+use Rattle.std.specs.Prelude.{ℕ, List, map, IsTrue}
 use Rattle.std.specs.List.{AllByRecursion}
 use Rattle.sqlite_trees.specs.Tree.{Trees, IsTable, rowid}
 use Rattle.sqlite_trees.specs.View.{is_int}
+use Rattle.bsp_store_schema.specs.Schema.{our_tables}
 
 -- the trees of the eleven tables
 abbrev pub table_trees : List ℕ
-table_trees = 0 ∷ 1 ∷ 2 ∷ 4 ∷ 6 ∷ 8 ∷ 10 ∷ 12 ∷ 14 ∷ 16 ∷ 18 ∷ []
+table_trees = map (λ t. t.tree) our_tables
 
 -- the rows of the tree ascend by their rowids, which are integers
 abbrev pub IsInOrder : Trees → ℕ → Type 0

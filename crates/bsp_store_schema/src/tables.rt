@@ -3,16 +3,18 @@
 ghost use Rattle.std.specs.Prelude.{◌≡◌, ◌⊎◌, ◌↔◌, [], ◌∷◌, IsTrue};
 ghost use Rattle.bsp_store_schema.specs.Schema.{meta_table, terms_table, airline_table, rate_table, period_table, agent_table, airline_token_table, stock_table, item_table, memo_table, tally_table, our_tables, IsOfCallers, IsOfPlan};
 
-use crate::plain::{is_keyless, is_strict};
+use crate::plain::is_strict;
 use sqlite_schema::schema::{Kind, Table};
 
-const META: [(&[u8], Kind, bool); 3] = [
+const META: [(&[u8], Kind, bool); 4] = [
+    (b"id", Kind::Integer, true),
     (b"version", Kind::Integer, true),
     (b"day", Kind::Integer, true),
     (b"closed", Kind::Integer, true),
 ];
 
-const TERMS: [(&[u8], Kind, bool); 3] = [
+const TERMS: [(&[u8], Kind, bool); 4] = [
+    (b"id", Kind::Integer, true),
     (b"currency", Kind::Text, true),
     (b"review", Kind::Integer, true),
     (b"documents", Kind::Integer, true),
@@ -51,11 +53,10 @@ const STOCK: [(&[u8], Kind, bool); 3] = [
     (b"hi", Kind::Text, true),
 ];
 
-const ITEM: [(&[u8], Kind, bool); 21] = [
+const ITEM: [(&[u8], Kind, bool); 19] = [
     (b"agent", Kind::Text, true),
     (b"number", Kind::Text, true),
     (b"canx", Kind::Integer, true),
-    (b"check_digit", Kind::Integer, true),
     (b"airline", Kind::Text, true),
     (b"code", Kind::Text, true),
     (b"issued", Kind::Integer, true),
@@ -68,7 +69,6 @@ const ITEM: [(&[u8], Kind, bool); 21] = [
     (b"commission", Kind::Integer, false),
     (b"rel_airline", Kind::Text, false),
     (b"rel_number", Kind::Text, false),
-    (b"rel_check", Kind::Integer, false),
     (b"ca", Kind::Integer, false),
     (b"cc", Kind::Integer, false),
     (b"ex", Kind::Integer, false),
@@ -102,70 +102,77 @@ const TALLY: [(&[u8], Kind, bool); 11] = [
     (b"memos", Kind::Integer, true),
 ];
 
+/// Of each foreign key the place of its column, and the table to whose code it refers.
+const STOCK_REFERENCES: [(usize, &[u8]); 1] = [(1, b"agent")];
+
+const ITEM_REFERENCES: [(usize, &[u8]); 2] = [(1, b"agent"), (7, b"period")];
+
+const MEMO_REFERENCES: [(usize, &[u8]); 2] = [(3, b"agent"), (10, b"period")];
+
 fn is_meta(table: &Table) -> bool
     ensures { IsTrue result ↔ (table.now ≡ meta_table) }
 {
-    is_keyless(table, b"meta", 0, &META)
+    is_strict(table, b"meta", 0, &META, &[], &[1])
 }
 
 fn is_terms(table: &Table) -> bool
     ensures { IsTrue result ↔ (table.now ≡ terms_table) }
 {
-    is_keyless(table, b"terms", 1, &TERMS)
+    is_strict(table, b"terms", 2, &TERMS, &[], &[1])
 }
 
 fn is_airline(table: &Table) -> bool
     ensures { IsTrue result ↔ (table.now ≡ airline_table) }
 {
-    is_strict(table, b"airline", 2, &AIRLINE, &[1])
+    is_strict(table, b"airline", 4, &AIRLINE, &[], &[1])
 }
 
 fn is_rate(table: &Table) -> bool
     ensures { IsTrue result ↔ (table.now ≡ rate_table) }
 {
-    is_strict(table, b"rate", 4, &RATE, &[1, 2])
+    is_strict(table, b"rate", 6, &RATE, &[], &[1, 2])
 }
 
 fn is_period(table: &Table) -> bool
     ensures { IsTrue result ↔ (table.now ≡ period_table) }
 {
-    is_strict(table, b"period", 6, &PERIOD, &[1])
+    is_strict(table, b"period", 8, &PERIOD, &[], &[1])
 }
 
 fn is_agent(table: &Table) -> bool
     ensures { IsTrue result ↔ (table.now ≡ agent_table) }
 {
-    is_strict(table, b"agent", 8, &AGENT, &[1])
+    is_strict(table, b"agent", 10, &AGENT, &[], &[1])
 }
 
 fn is_airline_token(table: &Table) -> bool
     ensures { IsTrue result ↔ (table.now ≡ airline_token_table) }
 {
-    is_strict(table, b"airline_token", 10, &AIRLINE_TOKEN, &[1])
+    is_strict(table, b"airline_token", 12, &AIRLINE_TOKEN, &[], &[1])
 }
 
 fn is_stock(table: &Table) -> bool
     ensures { IsTrue result ↔ (table.now ≡ stock_table) }
 {
-    is_strict(table, b"stock", 12, &STOCK, &[1, 2])
+    is_strict(table, b"stock", 14, &STOCK, &STOCK_REFERENCES, &[1, 2])
 }
 
 fn is_item(table: &Table) -> bool
     ensures { IsTrue result ↔ (table.now ≡ item_table) }
 {
-    is_strict(table, b"item", 14, &ITEM, &[1, 2, 3])
+    is_strict(table, b"item", 16, &ITEM, &ITEM_REFERENCES, &[1, 2, 3])
 }
 
 fn is_memo(table: &Table) -> bool
     ensures { IsTrue result ↔ (table.now ≡ memo_table) }
 {
-    is_strict(table, b"memo", 16, &MEMO, &[1, 2])
+    is_strict(table, b"memo", 18, &MEMO, &MEMO_REFERENCES, &[1, 2])
 }
 
 fn is_tally(table: &Table) -> bool
     ensures { IsTrue result ↔ (table.now ≡ tally_table) }
 {
-    is_strict(table, b"tally", 18, &TALLY, &[1, 2, 3])
+    is_strict(table, b"tally", 20, &TALLY, &[], &[1, 2, 3])
 }
 
 /// Whether the table is one of the plan's.

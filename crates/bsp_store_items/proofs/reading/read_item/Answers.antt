@@ -6,5 +6,5 @@ use Rattle.bsp_store_items.proofs.reading.read_item.Goals as goal
 
 pub returns-clause-day : goal.returns-clause-day
 returns-clause-day c = λ d is there.
-    let one = same_day (column c.args.row.now 6) c.in_ok-issued.issued d c.in_ok-issued.ensures.1 is c.in_ok-issued.ensures.0 there in
+    let one = same_day (column c.args.row.now 5) c.in_ok-issued.issued d c.in_ok-issued.ensures.1 is c.in_ok-issued.ensures.0 there in
     c.entry_of.ensures ∙ ap (λ day. entry_in day c.args.row.now) one

@@ -1,8 +1,9 @@
-use Rattle.std.proofs.Common.{rules, [], refl, ◌∙◌, arith}
+use Rattle.std.proofs.Common.{rules, [], refl, sym, subst, Some, ◌∙◌, arith}
 use Rattle.sqlite.specs.Held.{state}
 use Rattle.sqlite.specs.State.{CommitsShowing, HasCleanDisk, Survives}
 use Rattle.sqlite.proofs.StateLemmas.{survives_then}
 use Rattle.bsp_memory_rows.specs.Tables.{rows_of}
+use Rattle.bsp_store_load.specs.Loading.{IsLoaded}
 use Rattle.bsp_store_load.proofs.Showing.{all_put, begun, commits_nothing, row_left, row_put, spares_of}
 use Rattle.bsp_store_load.proofs.load.load_table.Goals as goal
 
@@ -38,9 +39,10 @@ returns-then-not-branch-clause-loaded g c = λ ours clean.
     let next = c.next.follows.lender-at-none.conn.now in
     let late : HasCleanDisk (state g.S.Store next) = search rules in
     let so_far = c.rows.invariant.so_far ours (omega (arith, moved.survives.clean)) in
-    row_left g.T.StoredTable.part g.T.StoredTable.row_of g.T.StoredTable.with_entry g.T.StoredTable.fits g.T.StoredTable.lacks g.T.StoredTable.rows_in g.S.Store c.args.conn.now c.rows.rows.conn.now next ours
+    subst (λ r. IsLoaded g.T.StoredTable.part g.T.StoredTable.row_of g.T.StoredTable.with_entry g.T.StoredTable.fits g.T.StoredTable.lacks g.T.StoredTable.rows_in (state g.S.Store c.args.conn.now).now.trees (rows_of c.args.tables.now) (rows_of c.put_row.new.tables) (Some r)) (sym c.in_ok-copy.ensures)
+    (row_left g.T.StoredTable.part g.T.StoredTable.row_of g.T.StoredTable.with_entry g.T.StoredTable.fits g.T.StoredTable.lacks g.T.StoredTable.rows_in g.S.Store c.args.conn.now c.rows.rows.conn.now next ours
     (rows_of c.args.tables.now) (rows_of c.rows.tables) so_far (rw c.in_ok-row.was at (moved.same late)) c.in-Some.row.now (rw (c.in_ok-row.was, c.in-Some.is) at (moved.ok late))
-    (rows_of c.put_row.new.tables) c.in_ok-put_row.field-0 (λ e may is. c.in_ok-put_row.ensures.entry e may.0 may.1 is) c.if-not-branch.true
+    (rows_of c.put_row.new.tables) c.in_ok-put_row.field-0 (λ e may is. c.in_ok-put_row.ensures.entry e may.0 may.1 is) c.if-not-branch.true (c.in_ok-put_row.ensures.kept c.if-not-branch.true))
 
 pub rows-preserved : goal.rows-preserved
 rows-preserved g c =

@@ -1,29 +1,17 @@
-use Rattle.std.proofs.Common.{IsTrue, rules}
-use Rattle.bsp_store_open.proofs.OpeningLemmas.{bare_left, bare_refused, kept_left, kept_refused}
-use Rattle.bsp_store.proofs.AdoptingLemmas.{kept_adopted, new_adopted}
+use Rattle.std.proofs.Common.{◌≡◌, ◌⊎◌, true}
+use Rattle.bsp_store_open.specs.Faults.{is_refusal}
+use Rattle.bsp_store_open.specs.Opening.{LeavesCommitted, Reopens, WasBare, WasNoBook}
+use Rattle.bsp_store.specs.Adopting.{Adopts}
+use Rattle.bsp_store.proofs.AdoptingLemmas.{one_err, one_ok}
 use Rattle.bsp_store.proofs.book.SqlBook.adopt.Goals as goal
 
-pub returns-then-is_bare-clause-ok : goal.returns-then-is_bare-clause-ok
-returns-then-is_bare-clause-ok g c =
-    let bare : IsTrue c.is_bare.result = search rules in
-    new_adopted g.S.Store c.args.conn c.in_ok-conn.conn c.in_ok-conn.ensures.ok c.new_book.result (c.is_bare.ensures.0 bare) c.new_book.ensures
+pub returns-clause-ok : goal.returns-clause-ok
+returns-clause-ok g c = one_ok (λ h. Reopens g.S.Store h c.in_ok-conn.conn) c.opened.result (Adopts g.S.Store) c.opened.ensures.ok c.args.conn c.in_ok-conn.ensures.ok
 
-pub returns-else-is_bare-clause-ok : goal.returns-else-is_bare-clause-ok
-returns-else-is_bare-clause-ok g c = kept_adopted g.S.Store c.args.conn c.in_ok-conn.conn c.in_ok-conn.ensures.ok c.kept_book.result c.kept_book.ensures.found
+pub returns-clause-refused : goal.returns-clause-refused
+returns-clause-refused g c =
+    one_err (λ h. Reopens g.S.Store h c.in_ok-conn.conn) c.opened.result (λ before e. is_refusal e.0 ≡ true → WasNoBook g.S.Store e.0 before e.1) c.opened.ensures.refused c.args.conn c.in_ok-conn.ensures.ok
 
-pub returns-then-is_bare-clause-refused : goal.returns-then-is_bare-clause-refused
-returns-then-is_bare-clause-refused g c =
-    let bare : IsTrue c.is_bare.result = search rules in
-    bare_refused g.S.Store c.args.conn c.in_ok-conn.conn c.in_ok-conn.ensures.ok c.new_book.result (c.is_bare.ensures.0 bare)
-
-pub returns-then-is_bare-clause-left : goal.returns-then-is_bare-clause-left
-returns-then-is_bare-clause-left g c =
-    let bare : IsTrue c.is_bare.result = search rules in
-    bare_left g.S.Store c.args.conn c.in_ok-conn.conn c.in_ok-conn.ensures.ok c.new_book.result (c.is_bare.ensures.0 bare)
-
-pub returns-else-is_bare-clause-refused : goal.returns-else-is_bare-clause-refused
-returns-else-is_bare-clause-refused g c = kept_refused g.S.Store c.args.conn c.in_ok-conn.conn c.in_ok-conn.ensures.ok c.kept_book.result c.kept_book.ensures.refused
-
-pub returns-else-is_bare-clause-left : goal.returns-else-is_bare-clause-left
-returns-else-is_bare-clause-left g c =
-    kept_left g.S.Store c.args.conn c.in_ok-conn.conn c.in_ok-conn.ensures.ok c.kept_book.result (λ db is may. g.met.S.Store.settled c.in_ok-conn.conn.store db is may) c.kept_book.ensures.left
+pub returns-clause-left : goal.returns-clause-left
+returns-clause-left g c =
+    one_err (λ h. Reopens g.S.Store h c.in_ok-conn.conn) c.opened.result (λ before e. WasBare g.S.Store before ⊎ LeavesCommitted g.S.Store before e.1) c.opened.ensures.left c.args.conn c.in_ok-conn.ensures.ok

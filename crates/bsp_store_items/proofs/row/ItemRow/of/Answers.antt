@@ -1,14 +1,12 @@
-use Rattle.std.proofs.Common.{◌≡◌, pos, SFits, w64, to_z, to_z-of_z, rules}
+use Rattle.std.proofs.Common.{SFits, w64, to_z-of_z, rules}
 use Rattle.bsp_store_items.proofs.Written.{written}
 use Rattle.bsp_store_items.proofs.row.ItemRow.of.Goals as goal
 
 pub returns : goal.returns
 returns c =
     let low : SFits w64 c.number.result = search rules in
-    let check : to_z w64 c.args.item.now.transaction.document.check_digit ≡ pos c.args.item.now.transaction.document.check_digit = search rules in
     rw (
       to_z-of_z low,
-      check,
       c.agent_digits.ensures,
       c.number_digits.ensures,
       c.airline_digits.ensures,
@@ -21,7 +19,6 @@ returns c =
       c.commission_of.ensures,
       c.airline_of.ensures,
       c.number_of.ensures,
-      c.check_digit_of.ensures,
       c.units_of.ensures,
       c.credit_of.ensures,
       c.units_of-2.ensures,

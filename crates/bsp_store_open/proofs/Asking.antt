@@ -1,0 +1,60 @@
+-- A text that selects commits nothing, whatever the tables are.
+use Rattle.std.proofs.Common.{◌≡◌, ℕ, List, [], codes, Bool, true, false, None, Result, Ok, Err, refl, sym, subst}
+use Rattle.std.specs.Prelude.{if◌then◌else◌}
+use Rattle.sqlite_trees.specs.Tree.{Trees}
+use Rattle.sqlite_syntax.specs.declared.statement.Parsed.{Parsed}
+use Rattle.sqlite_schema.specs.declared.schema.Schema.{Schema}
+use Rattle.sqlite_schema.specs.declared.command.Command.{Command}
+use Rattle.sqlite_resolve.specs.Compile.{compiled, first, meaning, planned, returning, returning_by, with_command}
+use Rattle.sqlite_resolve.specs.Lowering.{Checked, and_then}
+use Rattle.sqlite_resolve.specs.declared.compiled.Compiled.{Compiled}
+use Rattle.sqlite_resolve.specs.declared.error.CompileError.{CompileError}
+use Rattle.sqlite_resolve.specs.declared.error.CompileError.TheVariants.{NoSuchTable}
+use Rattle.sqlite_tied.specs.Compute.{everything}
+use Rattle.sqlite.specs.Listing.{if_select, is_select, reads_listing, understood}
+use Rattle.sqlite.specs.State.{CommitsShowing, State}
+
+abbrev pub version_text : List ℕ
+version_text = codes "SELECT id, version FROM meta"
+
+-- it has no RETURNING, where it is understood
+abbrev ShowsAlone : Result Compiled CompileError → Type 0
+ShowsAlone (Ok c) = c.returning ≡ None
+ShowsAlone (Err e) = Unit {0}
+
+with_none : (p : Parsed) (formats : List (List ℕ)) (r : Checked Command) → ShowsAlone (and_then (and_then (and_then r (λ c. Ok (c, None))) (λ found. Ok (formats, found))) (λ plan. Ok (with_command p plan)))
+with_none p formats (Ok c) = refl
+with_none p formats (Err e) = tt
+
+planned_alone : (schema : Schema) (p : Parsed) → ((base : ℕ) → returning_by schema base p.statement ≡ Ok None) → ShowsAlone (and_then (planned schema p) (λ plan. Ok (with_command p plan)))
+unfolding planned meaning returning
+planned_alone schema p none = rw (none _) (with_none p _ _)
+
+parsed_text : (p : Parsed) × (first version_text ≡ Ok p) × ((schema : Schema) (base : ℕ) → returning_by schema base p.statement ≡ Ok None)
+unfolding first everything
+parsed_text = (_, refl, λ schema base. refl)
+
+compiled_alone : (schema : Schema) → ShowsAlone (compiled schema version_text)
+unfolding compiled
+compiled_alone schema =
+    subst (λ r. ShowsAlone (and_then r (λ p. and_then (planned schema p) (λ plan. Ok (with_command p plan))))) (sym parsed_text.1) (planned_alone schema parsed_text.0 (parsed_text.2 schema))
+
+one_alone : (b : Bool) (c : Compiled) → ShowsAlone (Ok c) → ShowsAlone (if b then Ok c else Err NoSuchTable)
+one_alone true c alone = alone
+one_alone false c alone = tt
+
+select_alone : (r : Result Compiled CompileError) → ShowsAlone r → ShowsAlone (if_select r)
+select_alone (Ok c) alone = one_alone (is_select c.command) c alone
+select_alone (Err e) alone = tt
+
+either_alone : (b : Bool) (r s : Result Compiled CompileError) → ShowsAlone r → ShowsAlone s → ShowsAlone (if b then r else s)
+either_alone true r s one two = one
+either_alone false r s one two = two
+
+understood_alone : (schema : Schema) → ShowsAlone (understood schema version_text)
+unfolding understood
+understood_alone schema = either_alone (reads_listing schema version_text) _ _ (select_alone _ (compiled_alone _)) (compiled_alone schema)
+
+pub version_commits_nothing : (s : State) (db : Trees) → CommitsShowing version_text [] s db → ⊥
+unfolding CommitsShowing
+version_commits_nothing s db commits = let none = subst ShowsAlone commits.1.is (understood_alone s.now.schema) in absurd (let shown = rw none at commits.2 in cc)
