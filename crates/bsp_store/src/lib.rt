@@ -2,6 +2,7 @@
 #![tactic(auto)]
 
 mod book;
+mod logged;
 mod opening;
 
 pub use book::SqlBook;

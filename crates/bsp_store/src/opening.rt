@@ -15,6 +15,7 @@ ghost use Rattle.bsp_store.specs.Meanings.{Holds};
 ghost use Rattle.bsp_store.specs.Adopting.{Adopts, IfRefused, IsFoundIn};
 
 use crate::book::SqlBook;
+use crate::logged::Logged;
 use bsp_store_damage::{Damage, find_damage};
 use bsp_store_open::{
     OpenFault, again, empty_list, is_bare, is_ours, kept_list, open_in_order, refusal,
@@ -72,18 +73,17 @@ fn opened<S: Alter + Drop>(alloc: Global, conn: Connection<S>) -> Result<SqlBook
     }
 }
 
-/// Opens a connection again over its own files, after what the log has is copied into the main file. Where the copying
-/// fails, the log still has it.
-fn settled<T: Start>(
+/// Opens a connection again over its own store, after the log is copied into the main file.
+fn settled<S: Logged + Drop>(
     alloc: Global,
-    conn: Connection<FileStore<FileFrom<T>>>,
-) -> Result<Connection<FileStore<FileFrom<T>>>, (OpenFault, FileStore<FileFrom<T>>)>
-    ensures ok { IfOk result (Reopens over_files conn) }
+    conn: Connection<S>,
+) -> Result<Connection<S>, (OpenFault, S)>
+    ensures ok { IfOk result (Reopens S.Store conn) }
     ensures refused { IfErr result (λ e. is_refusal e.0 ≡ false) }
-    ensures left { IfErr result (λ e. LeavesCommitted over_files conn e.1) }
+    ensures left { IfErr result (λ e. LeavesCommitted S.Store conn e.1) }
 {
     let mut store = conn.into_store();
-    let _ = store.checkpoint();
+    store.copy_log();
     if store.is_broken() {
         return Err((
             OpenFault::Failed(Error::SqliteFailure(ErrorCode::Closed)),
@@ -108,14 +108,14 @@ fn without_store<S: Alter + Drop>(
     }
 }
 
-/// Opens the book that files keep, after what the log has is copied into the main file.
-fn settled_book<T: Start>(
+/// Opens the book that a store keeps, after its log is copied into its main file.
+fn settled_book<S: Logged + Drop>(
     alloc: Global,
-    conn: Connection<FileStore<FileFrom<T>>>,
-) -> Result<SqlBook<FileStore<FileFrom<T>>>, (OpenFault, FileStore<FileFrom<T>>)>
-    ensures ok { IfOk result (Adopts over_files conn) }
-    ensures refused { IfErr result (λ e. is_refusal e.0 ≡ true → WasNoBook over_files e.0 conn e.1) }
-    ensures left { IfErr result (λ e. WasBare over_files conn ⊎ LeavesCommitted over_files conn e.1) }
+    conn: Connection<S>,
+) -> Result<SqlBook<S>, (OpenFault, S)>
+    ensures ok { IfOk result (Adopts S.Store conn) }
+    ensures refused { IfErr result (λ e. is_refusal e.0 ≡ true → WasNoBook S.Store e.0 conn e.1) }
+    ensures left { IfErr result (λ e. WasBare S.Store conn ⊎ LeavesCommitted S.Store conn e.1) }
 {
     let conn = settled(alloc, conn)?;
     opened(alloc, conn)
@@ -181,6 +181,11 @@ impl<T: Start> SqlBook<FileStore<FileFrom<T>>> {
     }
 }
 
+/// What damages the book of a connection, which is then given up.
+fn damage_of<S: Alter + Drop>(alloc: Global, mut conn: Connection<S>) -> Result<Damage, OpenFault> {
+    find_damage(alloc, &mut conn)
+}
+
 /// What damages the book in the file at a path, where its opening is refused as damaged. It opens the file once more, and
 /// writes nothing.
 ///
@@ -188,9 +193,8 @@ impl<T: Start> SqlBook<FileStore<FileFrom<T>>> {
 ///
 /// Those of an opening.
 pub fn damage_at<T: Start>(rt: &HostRuntime, path: &str, start: T) -> Result<Damage, OpenFault> {
-    let mut conn = match Connection::open_from(rt, path, false, start) {
-        Ok(conn) => conn,
-        Err((error, _)) => return Err(OpenFault::from(error)),
-    };
-    find_damage(rt.alloc(), &mut conn)
+    match Connection::open_from(rt, path, false, start) {
+        Ok(conn) => damage_of(rt.alloc(), conn),
+        Err((error, _)) => Err(OpenFault::from(error)),
+    }
 }

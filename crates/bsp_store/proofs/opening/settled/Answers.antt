@@ -1,33 +1,35 @@
 use Rattle.std.proofs.Common.{inr, ◌∙◌, arith}
 use Rattle.sqlite_trees.specs.View.{IsClean}
-use Rattle.sqlite_store.specs.FileStore.{view}
-use Rattle.sqlite_store.specs.Laws.{shut_is_broken}
 use Rattle.sqlite_rules.proofs.ViewLemmas.{still_quiet}
 use Rattle.bsp_store.proofs.Settling.{committed, fresh}
 use Rattle.bsp_store.proofs.opening.settled.Goals as goal
 
 pub open_in_order-requires : goal.open_in_order-requires
 open_in_order-requires g c =
+    let view = g.S.Store.view in
     let store = c.into_store-store in
-    fresh (view c.args.conn.store) (view store.result) (view c.checkpoint.new.self) c.checkpoint.ensures.quiet.clean (shut_is_broken c.checkpoint.new.self) c.checkpoint.ensures.same
-    store.ensures.undone store.ensures.numbered c.is_broken.result c.is_broken.ensures.shown c.if-is_broken.false
+    let copied = c.copy_log.new.self in
+    fresh (view c.args.conn.store) (view store.result) (view copied) c.copy_log.ensures.quiet.clean (g.met.S.Store.broken_if_shut copied) c.copy_log.ensures.same
+    store.ensures.undone store.ensures.numbered c.is_broken.result c.is_broken.ensures c.if-is_broken.false
 
 pub returns-then-is_broken-clause-left : goal.returns-then-is_broken-clause-left
-returns-then-is_broken-clause-left g c = λ clean db may. inr ((still_quiet c.into_store-store.ensures.quiet c.checkpoint.ensures.quiet).outcomes db may)
+returns-then-is_broken-clause-left g c = λ clean db may. inr ((still_quiet c.into_store-store.ensures.quiet c.copy_log.ensures.quiet).outcomes db may)
 
 pub returns-in-Ok-clause-ok : goal.returns-in-Ok-clause-ok
 returns-in-Ok-clause-ok g c =
+    let view = g.S.Store.view in
     let store = c.into_store-store in
+    let copied = c.copy_log.new.self in
     record {
       opens = c.in-Ok.ensures.opens;
       fresh = c.in-Ok.ensures.fresh;
       trees = λ disk.
-          let clean : IsClean (view c.checkpoint.new.self) = omega (arith, c.in-Ok.ensures.clean, disk) in
+          let clean : IsClean (view copied) = omega (arith, c.in-Ok.ensures.clean, disk) in
           c.in-Ok.ensures.trees disk
-          ∙ committed (view c.args.conn.store) (view store.result) (view c.checkpoint.new.self) c.checkpoint.ensures.quiet.clean (shut_is_broken c.checkpoint.new.self) c.checkpoint.ensures.same
-          store.ensures.undone store.ensures.numbered c.is_broken.result c.is_broken.ensures.shown c.if-is_broken.false clean;
+          ∙ committed (view c.args.conn.store) (view store.result) (view copied) c.copy_log.ensures.quiet.clean (g.met.S.Store.broken_if_shut copied) c.copy_log.ensures.same
+          store.ensures.undone store.ensures.numbered c.is_broken.result c.is_broken.ensures c.if-is_broken.false clean;
       ordered = c.in-Ok.ensures.order;
     }
 
 pub returns-in-Err-clause-left : goal.returns-in-Err-clause-left
-returns-in-Err-clause-left g c = λ clean db may. inr ((still_quiet (still_quiet c.into_store-store.ensures.quiet c.checkpoint.ensures.quiet) c.in-Err.ensures.unharmed).outcomes db may)
+returns-in-Err-clause-left g c = λ clean db may. inr ((still_quiet (still_quiet c.into_store-store.ensures.quiet c.copy_log.ensures.quiet) c.in-Err.ensures.unharmed).outcomes db may)

@@ -4,19 +4,18 @@ use Rattle.bsp_store_open.specs.Opening.{LeavesCommitted, Reopens, WasBare, WasN
 use Rattle.bsp_store_open.proofs.OpeningLemmas.{passed_on}
 use Rattle.bsp_store.specs.Adopting.{Adopts}
 use Rattle.bsp_store.proofs.AdoptingLemmas.{one_err, one_ok}
-use Rattle.sqlite.specs.Files.{over_files}
 use Rattle.bsp_store.proofs.opening.settled_book.Goals as goal
 
 pub returns-in_err-conn-clause-left : goal.returns-in_err-conn-clause-left
-returns-in_err-conn-clause-left g c = passed_on (λ e. WasBare over_files c.args.conn ⊎ LeavesCommitted over_files c.args.conn e.1) _ _ c.from_residual.ensures.1 (inr c.in_err-conn.ensures.left)
+returns-in_err-conn-clause-left g c = passed_on (λ e. WasBare g.S.Store c.args.conn ⊎ LeavesCommitted g.S.Store c.args.conn e.1) _ _ c.from_residual.ensures.1 (inr c.in_err-conn.ensures.left)
 
 pub returns-clause-ok : goal.returns-clause-ok
-returns-clause-ok g c = one_ok (λ h. Reopens over_files h c.in_ok-conn.conn) c.opened.result (Adopts over_files) c.opened.ensures.ok c.args.conn c.in_ok-conn.ensures.ok
+returns-clause-ok g c = one_ok (λ h. Reopens g.S.Store h c.in_ok-conn.conn) c.opened.result (Adopts g.S.Store) c.opened.ensures.ok c.args.conn c.in_ok-conn.ensures.ok
 
 pub returns-clause-refused : goal.returns-clause-refused
 returns-clause-refused g c =
-    one_err (λ h. Reopens over_files h c.in_ok-conn.conn) c.opened.result (λ before e. is_refusal e.0 ≡ true → WasNoBook over_files e.0 before e.1) c.opened.ensures.refused c.args.conn c.in_ok-conn.ensures.ok
+    one_err (λ h. Reopens g.S.Store h c.in_ok-conn.conn) c.opened.result (λ before e. is_refusal e.0 ≡ true → WasNoBook g.S.Store e.0 before e.1) c.opened.ensures.refused c.args.conn c.in_ok-conn.ensures.ok
 
 pub returns-clause-left : goal.returns-clause-left
 returns-clause-left g c =
-    one_err (λ h. Reopens over_files h c.in_ok-conn.conn) c.opened.result (λ before e. WasBare over_files before ⊎ LeavesCommitted over_files before e.1) c.opened.ensures.left c.args.conn c.in_ok-conn.ensures.ok
+    one_err (λ h. Reopens g.S.Store h c.in_ok-conn.conn) c.opened.result (λ before e. WasBare g.S.Store before ⊎ LeavesCommitted g.S.Store before e.1) c.opened.ensures.left c.args.conn c.in_ok-conn.ensures.ok

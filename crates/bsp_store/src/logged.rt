@@ -1,0 +1,20 @@
+//! A store with a log beside its main file.
+
+use sqlite::{Alter, FileFrom, FileStore, Start};
+
+/// A store whose log can be copied into its main file.
+pub(crate) trait Logged: Alter {
+    ghost use Rattle.std.specs.Prelude.{◌≡◌, IsTrue};
+    ghost use Rattle.sqlite_trees.specs.View.{IsQuiet};
+
+    /// Copies what the log has into the main file. Where that fails, the log still has it.
+    fn copy_log(&mut self)
+        ensures same { IsTrue (Self.Store.view self.new).is_open → Self.Store.view self.new ≡ Self.Store.view self.old }
+        ensures quiet { IsQuiet Self.Store.view Self.Store.faults Self.Store.recovers Self.Store.is_shielded self.old self.new };
+}
+
+impl<T: Start> Logged for FileStore<FileFrom<T>> {
+    fn copy_log(&mut self) {
+        let _ = self.checkpoint();
+    }
+}
