@@ -14,6 +14,7 @@ pub mod SoundLemmas
 pub mod MadeLemmas
 pub mod GrowsLemmas
 pub mod HeldLemmas
+pub mod ContinueLemmas
 pub mod TargetLemmas
 pub mod HistoryLemmas
 pub mod DocumentLemmas

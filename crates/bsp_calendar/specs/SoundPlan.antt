@@ -52,3 +52,18 @@ pub record Grows (p m : Published) : Type 0 where
   pub terms : (terms : Terms) → p.terms ≡ Some terms → m.terms ≡ Some terms
   pub rates : (airline : ℕ) (on : CivilDay) → is_up_to on p.day ≡ true → rate_on m airline on ≡ rate_on p airline on
   pub day : is_up_to p.day m.day ≡ true
+
+-- a plan has the terms, airlines, rates and periods of another
+pub record HasSameEntries (p m : Published) : Type 0 where
+  pub terms : m.terms ≡ p.terms
+  pub airlines : m.airlines ≡ p.airlines
+  pub rates : m.rates ≡ p.rates
+  pub periods : m.periods ≡ p.periods
+
+-- a plan continues another: its lists begin with the airlines, rates and periods of the other, and it has the terms that
+-- the other has
+pub record Continues (p m : Published) : Type 0 where
+  pub airlines : p.airlines ≡ take (length p.airlines) m.airlines
+  pub rates : p.rates ≡ take (length p.rates) m.rates
+  pub periods : p.periods ≡ take (length p.periods) m.periods
+  pub terms : (terms : Terms) → p.terms ≡ Some terms → m.terms ≡ Some terms

@@ -24,6 +24,10 @@ plan_of terms airlines rates periods day closed = record {
   closed = first_codes periods closed;
 }
 
+-- the plan on another business day, with so many of its first periods closed
+abbrev pub dated : Published → CivilDay → ℕ → Published
+dated p day closed = record p { day = day; closed = first_codes p.periods closed }
+
 -- the place of the period of a code, or none where no period has it
 abbrev pub IsPlaceOf : List Period → ℕ → Option ℕ → Type 0
 IsPlaceOf periods code place =

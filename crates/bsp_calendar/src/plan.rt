@@ -1,7 +1,9 @@
-ghost use Rattle.std.specs.Prelude.{◌≡◌, ◌&&◌, ◌⊎◌, false, Ok, Err, MatchResult, drop, length};
+ghost use Rattle.std.specs.Prelude.{◌≡◌, ◌≤◌, ◌&&◌, ◌⊎◌, false, Ok, Err, MatchResult, drop, length};
 ghost use Rattle.bsp_calendar.specs.DayOrder.{same_day};
 ghost use Rattle.bsp_calendar.specs.Published.{is_closed, opening};
 ghost use Rattle.bsp_calendar.specs.Requests.{Answers, AnswersOrLacksMemory, are_within_bounds, closing, extended, has_terms, holds_already, is_empty, on_day, with_entries};
+ghost use Rattle.bsp_calendar.specs.SoundPlan.{Continues, HasSameEntries, IsSoundPlan};
+ghost use Rattle.bsp_calendar.specs.Standing.{dated};
 
 mod answers;
 mod entries;
@@ -107,6 +109,7 @@ impl Plan {
         ensures answers { AnswersOrLacksMemory (extended self.old text.now) (holds_already self.old text.now) self.old result self.new }
         ensures bounds { are_within_bounds text.now ≡ false → result ≡ Err PlanFault.WrongKey }
         ensures held { result ≡ Ok Change.Held → self.new ≡ self.old }
+        ensures continues { Continues self.old self.new }
     {
         let lists = self.lists_with(text)?;
         let change = Change::of(self.holds(&lists));
@@ -170,6 +173,7 @@ impl Plan {
     pub fn set_day(&mut self, day: Day) -> Result<Change, PlanFault>
         ensures answers { Answers (on_day self.old day) (same_day self.old.day day) self.old result self.new }
         ensures held { result ≡ Ok Change.Held → self.new ≡ self.old }
+        ensures entries { HasSameEntries self.old self.new }
     {
         if is_before(day, self.day) {
             return Err(PlanFault::DayBackwards);
@@ -190,6 +194,7 @@ impl Plan {
     pub fn close_next(&mut self, code: PeriodCode) -> Result<Change, PlanFault>
         ensures answers { Answers (closing self.old code) (is_closed self.old code) self.old result self.new }
         ensures held { result ≡ Ok Change.Held → self.new ≡ self.old }
+        ensures entries { HasSameEntries self.old self.new }
     {
         let Some(place) = period_place(&self.lists.periods, code) else {
             return Err(PlanFault::NotEarliest);
@@ -205,5 +210,16 @@ impl Plan {
         }
         self.closed += 1;
         Ok(Change::Done)
+    }
+
+    /// Puts back the business day, and how many of the first periods are closed, as they were before.
+    /// The entries stay.
+    pub fn put_back(&mut self, day: Day, closed: usize)
+        requires within { closed ≤ length self.old.periods }
+        requires sound { IsSoundPlan (dated self.old day closed) }
+        ensures { self.new ≡ dated self.old day closed }
+    {
+        self.day = day;
+        self.closed = closed;
     }
 }

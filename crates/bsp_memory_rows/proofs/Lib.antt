@@ -1,4 +1,3 @@
-pub mod PlanLemmas
 pub mod TallySteps
 pub mod ValueLemmas
 pub mod DerivedLemmas

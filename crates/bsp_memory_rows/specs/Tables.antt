@@ -11,7 +11,6 @@ use Rattle.bsp_memory_tables.specs.ItemTables.{item_rows, item_rows_before}
 use Rattle.bsp_memory_tables.specs.MemoTables.{memo_rows, memo_rows_before}
 use Rattle.bsp_memory_tables.specs.RangeTables.{range_rows, range_rows_before}
 use Rattle.bsp_memory_rows.specs.Kept.{AreDerived, WereDerived}
-use Rattle.bsp_memory_rows.specs.Plans.{saved_plan}
 use Rattle.bsp_memory_rows.specs.declared.tables.Tables.{Tables}
 
 -- the rows
@@ -28,7 +27,7 @@ rows_of t = record {
 -- the rows at the last commit
 abbrev pub committed_rows : Tables → Rows
 committed_rows t = record {
-  published = saved_plan t.plan;
+  published = t.plan.before;
   agents = before nat_cmp t.agents;
   airlines = before nat_cmp t.airlines;
   ranges = range_rows_before t.ranges;

@@ -6,8 +6,10 @@ mod audit;
 mod lookups;
 mod no_room;
 mod planned;
+mod saved_plan;
 mod tables;
 mod tallies;
 
 pub use no_room::NoRoom;
+pub use saved_plan::SavedPlan;
 pub use tables::Tables;

@@ -1,30 +1,43 @@
-//! A plan, and the plan at the last commit.
+//! A plan, and what it was at the last commit.
 
-ghost use Rattle.std.specs.Prelude.{◌≡◌, IfOk, OnOk, unwrap_or};
-ghost use Rattle.bsp_rows.specs.Published.{Published, opening};
+ghost use Rattle.std.specs.Prelude.{◌≡◌, IfOk, OnOk};
+ghost use Rattle.bsp_rows.specs.Published.{opening};
 ghost use Rattle.bsp_rows.specs.History.Request.{Close, Publish, SetDay};
-ghost use Rattle.bsp_memory_rows.specs.Plans.{plan_after, plan_answer, saved_plan};
+ghost use Rattle.bsp_memory_rows.specs.Plans.{IsSaved, plan_after, plan_answer, plan_before};
 
 use crate::no_room::NoRoom;
+use crate::saved_plan::{SavedPlan, save_day, save_whole};
 use bsp_rows::{Change, Day, PeriodCode, Plan, PlanFault, PlanText};
 use std::alloc::Global;
+use std::marker::Model;
+use std::mem;
 
-/// A plan, and where it was changed since the last commit the plan at that commit.
+/// A plan, and what it was at the last commit. A contract sees two plans.
 #[derive(Drop)]
 pub(crate) struct Planned {
     plan: Plan,
-    saved: Option<Plan>,
+    saved: SavedPlan,
+}
+
+impl Model for Planned {
+    ghost use Rattle.bsp_memory_rows.specs.Plans.{IsSaved, TwoPlans, plan_before};
+
+    ghost Value = { TwoPlans };
+
+    ghost view = { λ p. record { plan = p.plan; before = plan_before p.plan p.saved } };
+
+    ghost invariant = { λ p. IsSaved p.plan p.saved };
 }
 
 impl Planned {
     /// The plan before anything is published.
     pub(crate) fn new(alloc: Global) -> Self
         ensures now { result.plan ≡ opening }
-        ensures before { saved_plan result ≡ opening }
+        ensures before { result.before ≡ opening }
     {
         Planned {
             plan: Plan::empty(alloc),
-            saved: None,
+            saved: SavedPlan::Same,
         }
     }
 
@@ -35,79 +48,64 @@ impl Planned {
         &self.plan
     }
 
-    /// The plan at the last commit.
-    pub(crate) fn saved(&self) -> &Plan
-        ensures { result.now ≡ saved_plan self.now }
+    /// What the plan was at the last commit.
+    pub(crate) fn saved(&self) -> &SavedPlan
+        ensures before { self.now.before ≡ plan_before self.now.plan result.now }
+        ensures saved { IsSaved self.now.plan result.now }
     {
-        match &self.saved {
-            Some(plan) => plan,
-            None => &self.plan,
-        }
+        &self.saved
     }
 
     /// Forgets the plan of the last commit: the changes so far are kept.
     pub(crate) fn commit(&mut self)
         ensures now { self.new.plan ≡ self.old.plan }
-        ensures before { saved_plan self.new ≡ self.old.plan }
+        ensures before { self.new.before ≡ self.old.plan }
     {
-        self.saved = None;
+        self.saved = SavedPlan::Same;
     }
 
-    /// Puts back the plan of the last commit.
+    /// Puts back the plan of the last commit. It takes no memory.
     pub(crate) fn roll_back(&mut self)
-        ensures now { self.new.plan ≡ saved_plan self.old }
-        ensures before { saved_plan self.new ≡ saved_plan self.old }
+        ensures now { self.new.plan ≡ self.old.before }
+        ensures before { self.new.before ≡ self.old.before }
     {
-        if let Some(plan) = self.saved.take() {
-            self.plan = plan;
+        match mem::replace(&mut self.saved, SavedPlan::Same) {
+            SavedPlan::Same => {}
+            SavedPlan::Dated { day, closed } => self.plan.put_back(day, closed),
+            SavedPlan::Whole(plan) => self.plan = plan,
         }
-    }
-
-    /// Saves the plan for a roll-back, if it is not saved yet.
-    fn save(&mut self) -> Result<(), NoRoom>
-        ensures now { self.new.plan ≡ self.old.plan }
-        ensures before { saved_plan self.new ≡ saved_plan self.old }
-        ensures saved { OnOk result ((other : Published) → unwrap_or self.new.saved other ≡ saved_plan self.old) }
-    {
-        if self.saved.is_none() {
-            match self.plan.copied() {
-                Ok(plan) => self.saved = Some(plan),
-                Err(_) => return Err(NoRoom),
-            }
-        }
-        Ok(())
     }
 
     /// Publishes the entries of a text that are new.
     pub(crate) fn publish(&mut self, text: &PlanText) -> Result<Result<Change, PlanFault>, NoRoom>
         ensures told { IfOk result (λ answer. answer ≡ plan_answer (Publish text.now) self.old.plan) }
         ensures now { OnOk result (self.new.plan ≡ plan_after (Publish text.now) self.old.plan) }
-        ensures before { saved_plan self.new ≡ saved_plan self.old }
+        ensures before { self.new.before ≡ self.old.before }
     {
-        self.save()?;
+        save_whole(&self.plan, &mut self.saved)?;
         match self.plan.extend(text) {
             Err(PlanFault::NoMemory) => Err(NoRoom),
             answer => Ok(answer),
         }
     }
 
-    /// Sets the business day.
-    pub(crate) fn set_day(&mut self, day: Day) -> Result<Result<Change, PlanFault>, NoRoom>
-        ensures told { IfOk result (λ answer. answer ≡ plan_answer (SetDay day) self.old.plan) }
-        ensures now { OnOk result (self.new.plan ≡ plan_after (SetDay day) self.old.plan) }
-        ensures before { saved_plan self.new ≡ saved_plan self.old }
+    /// Sets the business day. It takes no memory.
+    pub(crate) fn set_day(&mut self, day: Day) -> Result<Change, PlanFault>
+        ensures told { result ≡ plan_answer (SetDay day) self.old.plan }
+        ensures now { self.new.plan ≡ plan_after (SetDay day) self.old.plan }
+        ensures before { self.new.before ≡ self.old.before }
     {
-        self.save()?;
-        Ok(self.plan.set_day(day))
+        save_day(&self.plan, &mut self.saved);
+        self.plan.set_day(day)
     }
 
-    /// Closes a period.
-    pub(crate) fn close(&mut self, code: PeriodCode) -> Result<Result<Change, PlanFault>, NoRoom>
-        ensures told { IfOk result (λ answer. answer ≡ plan_answer (Close code) self.old.plan) }
-        ensures now { OnOk result (self.new.plan ≡ plan_after (Close code) self.old.plan) }
-        ensures before { saved_plan self.new ≡ saved_plan self.old }
+    /// Closes a period. It takes no memory.
+    pub(crate) fn close(&mut self, code: PeriodCode) -> Result<Change, PlanFault>
+        ensures told { result ≡ plan_answer (Close code) self.old.plan }
+        ensures now { self.new.plan ≡ plan_after (Close code) self.old.plan }
+        ensures before { self.new.before ≡ self.old.before }
     {
-        self.save()?;
-        Ok(self.plan.close_next(code))
+        save_day(&self.plan, &mut self.saved);
+        self.plan.close_next(code)
     }
 }

@@ -6,10 +6,12 @@ ghost use Rattle.bsp_rows.specs.Billing.{billed_in};
 ghost use Rattle.bsp_rows.specs.Memos.{is_memo};
 ghost use Rattle.bsp_rows.specs.Rows.{HasNumberKey, key_of, memo_at, memo_key, no_rows};
 ghost use Rattle.bsp_rows.specs.Writes.{MayBeBilled, after_request, ended, request_answer, with_agent_token, with_airline_token, with_billing, with_end, with_item, with_memo, with_range, without_range};
+ghost use Rattle.bsp_memory_rows.specs.Plans.{IsSaved, plan_before};
 ghost use Rattle.bsp_memory_rows.specs.Tables.{IsDerived, WasDerived, committed_rows, rows_of, with_item_at, with_memo_at};
 
 use crate::no_room::NoRoom;
 use crate::planned::Planned;
+use crate::saved_plan::SavedPlan;
 use crate::tallies::{recount_item, recount_memo};
 use bsp_maps::Logged;
 use bsp_memory_tables::{ItemTable, MemoTable, RangeTable, TallyTable};
@@ -90,9 +92,10 @@ impl Tables {
         self.plan.plan()
     }
 
-    /// The plan at the last commit.
-    pub fn committed_plan(&self) -> &Plan
-        ensures { result.now ≡ (committed_rows self.now).published }
+    /// What the plan was at the last commit.
+    pub fn saved_plan(&self) -> &SavedPlan
+        ensures committed { (committed_rows self.now).published ≡ plan_before (rows_of self.now).published result.now }
+        ensures saved { IsSaved (rows_of self.now).published result.now }
     {
         self.plan.saved()
     }
@@ -334,7 +337,7 @@ impl Tables {
         ensures derived { OnOk result (IsDerived self.old → IsDerived self.new) }
         ensures was_derived { WasDerived self.old → WasDerived self.new }
     {
-        self.plan.set_day(day)
+        Ok(self.plan.set_day(day))
     }
 
     /// Closes a period. The answer is the plan's.
@@ -345,6 +348,6 @@ impl Tables {
         ensures derived { OnOk result (IsDerived self.old → IsDerived self.new) }
         ensures was_derived { WasDerived self.old → WasDerived self.new }
     {
-        self.plan.close(code)
+        Ok(self.plan.close(code))
     }
 }

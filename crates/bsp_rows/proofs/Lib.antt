@@ -23,6 +23,7 @@ pub mod MemoTies
 pub mod PartLaws
 pub mod TallyLaws
 pub mod AskedTallies
+pub use Rattle.bsp_calendar.proofs.ContinueLemmas
 pub use Rattle.bsp_calendar.proofs.GrowsLemmas
 pub use Rattle.bsp_calendar.proofs.KeyLemmas
 pub use Rattle.bsp_calendar.proofs.ListLemmas

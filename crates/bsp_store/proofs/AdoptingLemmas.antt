@@ -1,16 +1,19 @@
 -- From a book in memory that was read to the book that is opened.
-use Rattle.std.proofs.Common.{◌≡◌, None, false, Result, Ok, Err, IfOk, inl, inr, refl, sym, subst}
+use Rattle.std.proofs.Common.{◌≡◌, None, false, Result, Ok, Err, IfOk, inl, inr, refl, sym, subst, arith}
 use Rattle.std.specs.Prelude.{IfErr, MatchResult}
+use Rattle.sqlite_trees.specs.View.{IsQuiet}
 use Rattle.sqlite_trees.specs.declared.store.Store.{Ghosts}
 use Rattle.sqlite.specs.Held.{Held, state}
-use Rattle.sqlite.specs.State.{HasCleanDisk}
+use Rattle.sqlite.specs.State.{HasCleanDisk, Survives}
 use Rattle.bsp_rows.specs.Rows.{Rows, no_rows}
 use Rattle.bsp_rows.proofs.KeptLemmas.{no_rows_sound}
 use Rattle.bsp_book.specs.Listed.{Holds as ListHolds}
 use Rattle.bsp_book.specs.declared.list.ListBook.{ListBook}
 use Rattle.bsp_store_open.specs.Schema.{no_schema}
 use Rattle.bsp_store_open.specs.Contents.{KeepsBook}
-use Rattle.bsp_store_open.specs.Opening.{IsOrdered, IsRead, KeepsAtRest, Reopens}
+use Rattle.bsp_store_open.specs.Opening.{IsOrdered, IsRead, KeepsAtRest, LeavesCommitted, LeavesEmptyBook, Reopens}
+use Rattle.bsp_store_open.proofs.OpeningLemmas.{still_clean}
+use Rattle.bsp_store_save.specs.Making.{IsNewBook}
 use Rattle.bsp_store.specs.Meanings.{Holds}
 use Rattle.bsp_store.specs.Adopting.{Adopts, IsFoundIn}
 use Rattle.bsp_store.specs.declared.book.SqlBook.{SqlBook}
@@ -32,6 +35,27 @@ book_found g old new list rows read book made = record {
   earlier = λ clean. read.earlier (subst (λ h. HasCleanDisk (state g h)) made.1 clean);
   found = λ clean. read.found (subst (λ h. HasCleanDisk (state g h)) made.1 clean);
 }
+
+-- ---- a book that is made in a store without tables
+
+module _ {S : Type 0} (g : Ghosts S) (old new : Held S) (stop : Survives (state g old) (state g new) (KeepsBook no_rows)) where
+  -- the tables were made, and the store was then given up
+  pub made_left : {X E : Type 0} → (HasCleanDisk (state g new) → IsNewBook (state g new).committed) → (r : Result X (E × S)) → IfErr r (λ e. LeavesCommitted g new e.1) → IfErr r (λ e. LeavesEmptyBook g old e.1)
+  made_left made (Ok x) left = tt
+  made_left made (Err e) left = record {
+    earlier = λ clean. omega (arith, stop.clean, left.earlier clean);
+    leaves = λ clean db may. elim (left.leaves clean db may) [
+      | inl is ↦ inr (subst (KeepsBook no_rows) (sym is) (made (left.earlier clean)).keeps)
+      | inr was ↦ stop.crash (left.earlier clean) db was
+    ];
+  }
+
+  -- they were not made
+  pub making_given_up : (left : S) → IsQuiet g.view g.faults g.recovers g.is_shielded new.store left → LeavesEmptyBook g old left
+  making_given_up left quiet = record {
+    earlier = λ clean. omega (arith, stop.clean, still_clean g new left quiet clean);
+    leaves = λ clean db may. stop.crash (still_clean g new left quiet clean) db (quiet.outcomes db may);
+  }
 
 -- ---- a whole opening
 
@@ -74,3 +98,8 @@ ok_without (Err e) out is P Q it so = subst (λ o. IfOk o Q) (sym is) tt
 pub err_without : {X F S : Type 0} (r : Result X (F × S)) (out : Result X F) → MatchResult r (λ x. out ≡ Ok x) (λ e. out ≡ Err e.0) → (P Q : F × S → Type 0) (R : F → Type 0) → IfErr r P → IfErr r Q → ((e : F × S) → P e → Q e → R e.0) → IfErr out R
 err_without (Ok x) out is P Q R one two so = subst (λ o. IfErr o R) (sym is) tt
 err_without (Err e) out is P Q R one two so = subst (λ o. IfErr o R) (sym is) (so e one two)
+
+-- whatever the value is
+pub if_ok : {X F : Type 0} (r : Result X F) (P : Type 0) → P → IfOk r (λ x. P)
+if_ok (Ok x) P it = it
+if_ok (Err e) P it = tt

@@ -1,6 +1,6 @@
 //! A store opened as a book.
 
-ghost use Rattle.std.specs.Prelude.{◌≡◌, ◌⊎◌, false, true, Err, IfErr, IfOk, MatchResult, None, Ok};
+ghost use Rattle.std.specs.Prelude.{◌≡◌, false, true, Err, IfErr, IfOk, MatchResult, None, Ok};
 ghost use Rattle.sqlite_trees.specs.View.{IsClean};
 ghost use Rattle.sqlite.specs.Held.{Held, state};
 ghost use Rattle.sqlite.specs.Steps.{over_memory};
@@ -9,8 +9,9 @@ ghost use Rattle.sqlite.specs.State.{HasCleanDisk};
 ghost use Rattle.sqlite_wal.specs.Files.{image_at};
 ghost use Rattle.sqlite.specs.Files.{file_state, over_files};
 ghost use Rattle.bsp_rows.specs.Rows.{no_rows};
+ghost use Rattle.bsp_store_open.specs.Schema.{no_schema};
 ghost use Rattle.bsp_store_open.specs.Faults.{is_refusal};
-ghost use Rattle.bsp_store_open.specs.Opening.{IsNoBook, IsOrdered, LeavesCommitted, Refuses, Reopens, SparesStore, WasBare, WasNoBook};
+ghost use Rattle.bsp_store_open.specs.Opening.{IsOrdered, LeavesCommitted, LeavesEmptyBook, LeavesWhole, Refuses, Reopens, ShowsNone, SparesStore, WasNoBook};
 ghost use Rattle.bsp_store.specs.Meanings.{Holds};
 ghost use Rattle.bsp_store.specs.Adopting.{Adopts, IfRefused, IsFoundIn};
 
@@ -31,7 +32,7 @@ fn kept_book<S: Alter + Drop>(
     mut conn: Connection<S>,
 ) -> Result<SqlBook<S>, (OpenFault, S)>
     ensures found { IfOk result (λ book. IsOrdered S.Store conn → IsFoundIn S.Store conn book) }
-    ensures refused { IfErr result (λ e. is_refusal e.0 ≡ true → IsClean (S.Store.view e.1) → IsNoBook e.0 (state S.Store conn).now) }
+    ensures refused { IfErr result (λ e. is_refusal e.0 ≡ true → IsClean (S.Store.view e.1) → ShowsNone S.Store e.0 conn) }
     ensures left { IfErr result (λ e. SparesStore S.Store conn e.1) }
 {
     if !is_ours(conn.schema()) {
@@ -43,16 +44,14 @@ fn kept_book<S: Alter + Drop>(
     }
 }
 
-/// Makes an empty book in a store that has no tables.
-fn new_book<S: Alter + Drop>(
+/// Opens the empty book that a store keeps.
+fn empty_book<S: Alter + Drop>(
     alloc: Global,
-    mut conn: Connection<S>,
+    conn: Connection<S>,
 ) -> Result<SqlBook<S>, (OpenFault, S)>
-    ensures { IfOk result (λ book. Holds S.Store book no_rows None) }
+    ensures ok { IfOk result (λ book. Holds S.Store book no_rows None) }
+    ensures left { IfErr result (λ e. LeavesCommitted S.Store conn e.1) }
 {
-    if let Err(error) = make_book(&mut conn) {
-        return Err((OpenFault::from(error), conn.into_store()));
-    }
     let mut conn = again(alloc, conn)?;
     match empty_list(alloc, &mut conn) {
         Ok(list) => Ok(SqlBook::of(alloc, list, conn)),
@@ -60,11 +59,28 @@ fn new_book<S: Alter + Drop>(
     }
 }
 
+/// Makes an empty book in a store that has no tables.
+fn new_book<S: Alter + Drop>(
+    alloc: Global,
+    mut conn: Connection<S>,
+) -> Result<SqlBook<S>, (OpenFault, S)>
+    requires bare { (state S.Store conn).now.schema ≡ no_schema }
+    requires outside { conn.in_transaction ≡ false }
+    ensures ok { IfOk result (λ book. Holds S.Store book no_rows None) }
+    ensures left { IfErr result (λ e. LeavesEmptyBook S.Store conn e.1) }
+{
+    match make_book(&mut conn) {
+        Ok(()) => empty_book(alloc, conn),
+        Err(error) => Err((OpenFault::from(error), conn.into_store())),
+    }
+}
+
 /// What a store that was just opened again has, as a book. A store without any table gets those of an empty book.
 fn opened<S: Alter + Drop>(alloc: Global, conn: Connection<S>) -> Result<SqlBook<S>, (OpenFault, S)>
+    requires { conn.in_transaction ≡ false }
     ensures ok { IfOk result (λ book. (before : Held S) → Reopens S.Store before conn → Adopts S.Store before book) }
     ensures refused { IfErr result (λ e. (before : Held S) → Reopens S.Store before conn → is_refusal e.0 ≡ true → WasNoBook S.Store e.0 before e.1) }
-    ensures left { IfErr result (λ e. (before : Held S) → Reopens S.Store before conn → WasBare S.Store before ⊎ LeavesCommitted S.Store before e.1) }
+    ensures left { IfErr result (λ e. (before : Held S) → Reopens S.Store before conn → LeavesWhole S.Store before e.1) }
 {
     if is_bare(&conn) {
         new_book(alloc, conn)
@@ -115,7 +131,7 @@ fn settled_book<S: Logged + Drop>(
 ) -> Result<SqlBook<S>, (OpenFault, S)>
     ensures ok { IfOk result (Adopts S.Store conn) }
     ensures refused { IfErr result (λ e. is_refusal e.0 ≡ true → WasNoBook S.Store e.0 conn e.1) }
-    ensures left { IfErr result (λ e. WasBare S.Store conn ⊎ LeavesCommitted S.Store conn e.1) }
+    ensures left { IfErr result (λ e. LeavesWhole S.Store conn e.1) }
 {
     let conn = settled(alloc, conn)?;
     opened(alloc, conn)
@@ -136,7 +152,7 @@ impl<S: Alter + Drop> SqlBook<S> {
     pub fn adopt(alloc: Global, conn: Connection<S>) -> Result<SqlBook<S>, (OpenFault, S)>
         ensures ok { IfOk result (Adopts S.Store conn) }
         ensures refused { IfErr result (λ e. is_refusal e.0 ≡ true → WasNoBook S.Store e.0 conn e.1) }
-        ensures left { IfErr result (λ e. WasBare S.Store conn ⊎ LeavesCommitted S.Store conn e.1) }
+        ensures left { IfErr result (λ e. LeavesWhole S.Store conn e.1) }
     {
         let conn = again(alloc, conn)?;
         opened(alloc, conn)

@@ -6,6 +6,7 @@ pub mod Stored
 pub mod Contents
 pub use Rattle.bsp_memory_rows.specs.Plans
 pub use Rattle.bsp_memory_rows.specs.Tables as MemoryRowsTables
+pub use Rattle.bsp_memory_rows.specs.declared.saved_plan.SavedPlan
 pub use Rattle.bsp_memory_rows.specs.declared.tables.Tables
 pub use Rattle.bsp_store_base.specs.Calls
 pub use Rattle.bsp_store_base.specs.Columns

@@ -17,7 +17,7 @@ mod plan_rows;
 mod published;
 mod tallies;
 
-pub use bsp_memory_rows::{NoRoom, Tables};
+pub use bsp_memory_rows::{NoRoom, SavedPlan, Tables};
 pub use bsp_store_memos::all_tallies;
 pub use bsp_store_plan::{
     VERSION, all_airlines, all_meta, all_periods, all_rates, all_terms, read_version,

@@ -1,5 +1,5 @@
 -- A text that selects commits nothing, whatever the tables are.
-use Rattle.std.proofs.Common.{◌≡◌, ℕ, List, [], codes, Bool, true, false, None, Result, Ok, Err, refl, sym, subst}
+use Rattle.std.proofs.Common.{◌≡◌, ℕ, List, [], Bool, true, false, None, Result, Ok, Err, refl, sym, subst}
 use Rattle.std.specs.Prelude.{if◌then◌else◌}
 use Rattle.sqlite_trees.specs.Tree.{Trees}
 use Rattle.sqlite_syntax.specs.declared.statement.Parsed.{Parsed}
@@ -13,9 +13,7 @@ use Rattle.sqlite_resolve.specs.declared.error.CompileError.TheVariants.{NoSuchT
 use Rattle.sqlite_tied.specs.Compute.{everything}
 use Rattle.sqlite.specs.Listing.{if_select, is_select, reads_listing, understood}
 use Rattle.sqlite.specs.State.{CommitsShowing, State}
-
-abbrev pub version_text : List ℕ
-version_text = codes "SELECT id, version FROM meta"
+use Rattle.bsp_store_open.specs.Opening.{version_text}
 
 -- it has no RETURNING, where it is understood
 abbrev ShowsAlone : Result Compiled CompileError → Type 0

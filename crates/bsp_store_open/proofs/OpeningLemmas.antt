@@ -32,7 +32,7 @@ use Rattle.bsp_store_open.specs.Faults.{is_refusal}
 use Rattle.bsp_store_open.specs.declared.fault.OpenFault.{OpenFault}
 use Rattle.bsp_store_open.specs.declared.fault.OpenFault.TheVariants.{NoRoom}
 use Rattle.bsp_store_open.specs.Loaded.{IsAllLoaded}
-use Rattle.bsp_store_open.specs.Opening.{Finds, HasNoBook, IsNoBook, IsOfOther, IsOfVersion, IsOrdered, IsRead, KeepsAtRest, LeavesCommitted, Misses, Reopens, Reports, SparesStore, WasBare, WasNoBook}
+use Rattle.bsp_store_open.specs.Opening.{Finds, HasNoBook, IsNoBook, IsOfOther, IsOfVersion, IsOrdered, IsRead, KeepsAtRest, LeavesCommitted, LeavesEmptyBook, LeavesWhole, Misses, Reopens, Reports, ShowsNone, SparesStore, WasBare, WasNoBook}
 use Rattle.bsp_store_load.proofs.TallyLemmas.{content_is}
 
 -- ---- one query after another
@@ -207,29 +207,46 @@ module _ {S : Type 0} (g : Ghosts S) where
     leaves = λ clean db may. spares.leaves (still_clean new left quiet clean) db (quiet.outcomes db may);
   }
 
+  pub whole_left : (h : Held S) (left : S) → LeavesCommitted g h left → LeavesWhole g h left
+  whole_left h left it = record { earlier = it.earlier; leaves = λ clean db may. inl (it.leaves clean db may) }
+
+  -- while a store is open a stop leaves what was committed
+  abbrev IsSettled : Held S → Type 0
+  IsSettled h = (db : Trees) → IsTrue (state g h).is_open → (state g h).may_leave db → db ≡ (state g h).committed.trees
+
   module _ (before now : Held S) (again : Reopens g before now) where
+    was_committed : IsSettled now → HasCleanDisk (state g now) → (db : Trees) → (state g now).may_leave db → db ≡ (state g before).committed.trees
+    was_committed settled clean db may =
+        let opens = (again.opens clean).0 in
+        settled db opens.is_open may ∙ ap (λ (d : Database). d.trees) (sym opens.clean) ∙ again.trees clean
+
     -- a store without tables
     pub bare_refused : {X : Type 0} (r : Result X (OpenFault × S)) → now.schema ≡ no_schema → IfErr r (λ e. is_refusal e.0 ≡ true → WasNoBook g e.0 before e.1)
     bare_refused (Ok x) bare = tt
-    bare_refused (Err e) bare = λ refused clean. (now, again, λ ours. absurd (no_tables (sym bare ∙ ours)))
+    bare_refused (Err e) bare = λ refused clean. (now, again, record { ours = λ ours. absurd (no_tables (sym bare ∙ ours)); others = λ other some. absurd (some bare) })
 
-    pub bare_left : {X : Type 0} (r : Result X (OpenFault × S)) → now.schema ≡ no_schema → IfErr r (λ e. WasBare g before ⊎ LeavesCommitted g before e.1)
-    bare_left (Ok x) bare = tt
-    bare_left (Err e) bare = inl (now, again, bare)
+    pub bare_left : {X : Type 0} (r : Result X (OpenFault × S)) → now.schema ≡ no_schema → IsSettled now → IfErr r (λ e. LeavesEmptyBook g now e.1) → IfErr r (λ e. LeavesWhole g before e.1)
+    bare_left (Ok x) bare settled left = tt
+    bare_left (Err e) bare settled left = record {
+      earlier = λ clean. again.earlier (left.earlier clean);
+      leaves = λ clean db may. elim (left.leaves clean db may) [
+        | inl was ↦ inl (inl (was_committed settled (left.earlier clean) db was))
+        | inr made ↦ inr ((now, again, bare), made)
+      ];
+    }
 
     -- a store with tables
-    pub kept_refused : {X : Type 0} (r : Result X (OpenFault × S)) → IfErr r (λ e. is_refusal e.0 ≡ true → IsClean (g.view e.1) → IsNoBook e.0 (state g now).now) → IfErr r (λ e. is_refusal e.0 ≡ true → WasNoBook g e.0 before e.1)
+    pub kept_refused : {X : Type 0} (r : Result X (OpenFault × S)) → IfErr r (λ e. is_refusal e.0 ≡ true → IsClean (g.view e.1) → ShowsNone g e.0 now) → IfErr r (λ e. is_refusal e.0 ≡ true → WasNoBook g e.0 before e.1)
     kept_refused (Ok x) none = tt
     kept_refused (Err e) none = λ refused clean. (now, again, none refused clean)
 
     -- what a store that was opened again leaves is what was committed
-    left_committed : (left : S) → ((db : Trees) → IsTrue (state g now).is_open → (state g now).may_leave db → db ≡ (state g now).committed.trees) → SparesStore g now left → LeavesCommitted g before left
-    left_committed left settled spares clean db may =
-        let was_clean = spares.earlier clean in
-        let opens = (again.opens was_clean).0 in
-        inl (settled db opens.is_open (spares.leaves clean db may) ∙ ap (λ (d : Database). d.trees) (sym opens.clean) ∙ again.trees was_clean)
+    pub left_committed : (left : S) → IsSettled now → SparesStore g now left → LeavesCommitted g before left
+    left_committed left settled spares = record {
+      earlier = λ clean. again.earlier (spares.earlier clean);
+      leaves = λ clean db may. inl (was_committed settled (spares.earlier clean) db (spares.leaves clean db may));
+    }
 
-    pub kept_left : {X : Type 0} (r : Result X (OpenFault × S)) → ((db : Trees) → IsTrue (state g now).is_open → (state g now).may_leave db → db ≡ (state g now).committed.trees)
-        → IfErr r (λ e. SparesStore g now e.1) → IfErr r (λ e. WasBare g before ⊎ LeavesCommitted g before e.1)
+    pub kept_left : {X : Type 0} (r : Result X (OpenFault × S)) → IsSettled now → IfErr r (λ e. SparesStore g now e.1) → IfErr r (λ e. LeavesWhole g before e.1)
     kept_left (Ok x) settled left = tt
-    kept_left (Err e) settled left = inr (left_committed e.1 settled left)
+    kept_left (Err e) settled left = whole_left before e.1 (left_committed e.1 settled left)

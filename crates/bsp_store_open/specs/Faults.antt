@@ -19,6 +19,11 @@ fault_for (SqliteFailure OutOfMemory) = NoRoom
 fault_for (SqliteFailure TooBig) = NoRoom
 fault_for error = Failed error
 
+-- Why tables are refused that cannot be asked for their version: they are damaged, unless the store failed.
+abbrev pub refusal_for : StoreError → OpenFault
+refusal_for (SqliteFailure code) = fault_for (SqliteFailure code)
+refusal_for error = Damaged
+
 -- what an error of the store means at an opening
 pub record IsFaultOf (error : StoreError) (fault : OpenFault) : Type 0 where
   pub exact : fault ≡ fault_for error

@@ -1,5 +1,6 @@
 -- What an opening finds in a store, and what it leaves.
-use Rattle.std.specs.Prelude.{◌≡◌, ◌⊎◌, ⊤, ℤ, pos, List, ◌∷◌, map, IsPermutation, None}
+use Rattle.std.specs.Prelude.{◌≡◌, ◌⊎◌, ⊤, ℕ, ℤ, pos, true, List, [], ◌∷◌, codes, map, IfErr, IfOk, IsPermutation, MatchResult, None, Result, Vec}
+use Rattle.std.specs.Global.{Global}
 use Rattle.sqlite_value.specs.Order.{Row, column}
 use Rattle.sqlite_value.specs.declared.value.Value.TheVariants.{Int}
 use Rattle.sqlite_trees.specs.View.{IsClean}
@@ -7,7 +8,8 @@ use Rattle.sqlite.specs.Effect.{Database}
 use Rattle.sqlite_trees.specs.Tree.{Trees}
 use Rattle.sqlite_trees.specs.declared.store.Store.{Ghosts}
 use Rattle.sqlite.specs.Held.{Held, IsNew, state}
-use Rattle.sqlite.specs.State.{HasCleanDisk, IsLive, Opens}
+use Rattle.sqlite.specs.State.{FailsToQuery, HasCleanDisk, IsLive, Opens, Shown}
+use Rattle.sqlite.specs.declared.error.Error.{Error as StoreError}
 use Rattle.bsp_book.specs.Rows.{Rows, no_rows}
 use Rattle.bsp_book.specs.Sound.{Sound}
 use Rattle.bsp_book.specs.Listed.{meaning as listed}
@@ -21,6 +23,7 @@ use Rattle.bsp_store_load.specs.Contents.{IsContentOf, KeepsBook}
 use Rattle.bsp_store_load.specs.Forms.{IsFormed}
 use Rattle.bsp_store_load.specs.Shows.{AreAllOf}
 use Rattle.bsp_store_load.specs.declared.plan_rows.PlanRows.{PlanRows}
+use Rattle.bsp_store_open.specs.Faults.{is_refusal, refusal_for}
 use Rattle.bsp_store_open.specs.declared.fault.OpenFault.{OpenFault}
 use Rattle.bsp_store_open.specs.declared.fault.OpenFault.TheVariants.{NoRoom, Damaged, Failed, OtherVersion}
 
@@ -51,12 +54,20 @@ pub record IsOfOther (rows : List Row) : Type 0 where
   pub has : column row 1 ≡ Int found
   pub other : found ≡ pos version → ⊥
 
+-- the text that asks tables for their version
+abbrev pub version_text : List ℕ
+version_text = codes "SELECT id, version FROM meta"
+
 -- what a fault says of the rows of `meta`
 abbrev pub Reports : OpenFault → List Row → Type 0
 Reports NoRoom rows = ⊤
 Reports Damaged rows = IsOfOther rows → ⊥
 Reports (Failed error) rows = ⊤
 Reports OtherVersion rows = IsOfOther rows
+
+-- why tables that are not a book's are refused: for what their version says of them, or for the error
+abbrev pub IsRefusalOf : Result (Vec Row Global) StoreError → OpenFault → Type 0
+IsRefusalOf found fault = MatchResult found (λ rows. Reports fault rows.items × (is_refusal fault ≡ true)) (λ error. fault ≡ refusal_for error)
 
 -- the trees keep no sound rows whose values the program's types have, and the rows of `meta`, in some order, are such as
 -- the fault says
@@ -102,8 +113,16 @@ module _ {S : Type 0} (g : Ghosts S) where
     pub earlier : HasCleanDisk (state g new) → HasCleanDisk (state g old)
     pub found : HasCleanDisk (state g new) → KeepsBook rows (state g old).now.trees
 
+  -- tables that are not a book's were asked for their version, and the fault is what follows from the answer
+  pub record IsAskedVersion (fault : OpenFault) (old new : Held S) : Type 0 where
+    pub found : Result (Vec Row Global) StoreError
+    pub rows : HasCleanDisk (state g new) → IfOk found (λ rows. Shown version_text [] (state g old) (state g new) rows.items)
+    pub error : HasCleanDisk (state g new) → IfErr found (FailsToQuery version_text [] (state g old) (state g new))
+    pub answer : IsRefusalOf found fault
+
   -- a connection over a store that was just opened: it shows what the one before it had committed
   pub record Reopens (before now : Held S) : Type 0 where
+    pub earlier : HasCleanDisk (state g now) → HasCleanDisk (state g before)
     pub opens : HasCleanDisk (state g now) → Opens (state g now) × IsLive (state g now)
     pub fresh : IsNew now
     pub trees : HasCleanDisk (state g now) → (state g now).now.trees ≡ (state g before).committed.trees
@@ -119,9 +138,15 @@ module _ {S : Type 0} (g : Ghosts S) where
   abbrev pub AreThoseOf : Held S → Held S → Rows → Type 0
   AreThoseOf before after rows = (HasCleanDisk (state g after) → KeepsBook rows (state g before).committed.trees) ⊎ (WasBare before × (rows ≡ no_rows))
 
+  -- a connection shows no book of this version, for what the fault says: its tables keep none, or they are not a book's,
+  -- and that is what they are asked for their version
+  pub record ShowsNone (fault : OpenFault) (h : Held S) : Type 0 where
+    pub ours : IsNoBook fault (state g h).now
+    pub others : (h.schema ≡ our_schema → ⊥) → (h.schema ≡ no_schema → ⊥) → (later : Held S) × HasCleanDisk (state g later) × IsAskedVersion fault h later
+
   -- opened again, the store showed no book of this version, for what the fault says
   abbrev pub WasNoBook : OpenFault → Held S → S → Type 0
-  WasNoBook fault h left = IsClean (g.view left) → (now : Held S) × Reopens h now × IsNoBook fault (state g now).now
+  WasNoBook fault h left = IsClean (g.view left) → (now : Held S) × Reopens h now × ShowsNone fault now
 
   -- a store that is given up leaves to a stop no more than its connection did
   pub record SparesStore (h : Held S) (left : S) : Type 0 where
@@ -129,11 +154,22 @@ module _ {S : Type 0} (g : Ghosts S) where
     pub leaves : IsClean (g.view left) → (db : Trees) → g.recovers left db → (state g h).may_leave db
 
   -- a stop leaves what was committed, or what it left before
-  abbrev pub LeavesCommitted : Held S → S → Type 0
-  LeavesCommitted h left = IsClean (g.view left) → (db : Trees) → g.recovers left db → (db ≡ (state g h).committed.trees) ⊎ g.recovers h.store db
+  pub record LeavesCommitted (h : Held S) (left : S) : Type 0 where
+    pub earlier : IsClean (g.view left) → HasCleanDisk (state g h)
+    pub leaves : IsClean (g.view left) → (db : Trees) → g.recovers left db → (db ≡ (state g h).committed.trees) ⊎ g.recovers h.store db
 
-  -- a refused opening: the store, opened again, showed no book, and a stop leaves what was committed, unless it showed no
-  -- table
+  -- a stop leaves what it left before, or the whole of an empty book
+  pub record LeavesEmptyBook (h : Held S) (left : S) : Type 0 where
+    pub earlier : IsClean (g.view left) → HasCleanDisk (state g h)
+    pub leaves : IsClean (g.view left) → (db : Trees) → g.recovers left db → g.recovers h.store db ⊎ KeepsBook no_rows db
+
+  -- a stop leaves what was committed, what it left before, or the whole of an empty book where the store, opened again,
+  -- showed no table
+  pub record LeavesWhole (h : Held S) (left : S) : Type 0 where
+    pub earlier : IsClean (g.view left) → HasCleanDisk (state g h)
+    pub leaves : IsClean (g.view left) → (db : Trees) → g.recovers left db → ((db ≡ (state g h).committed.trees) ⊎ g.recovers h.store db) ⊎ (WasBare h × KeepsBook no_rows db)
+
+  -- a refused opening: the store, opened again, showed no book, and what a stop leaves is whole
   pub record Refuses (fault : OpenFault) (h : Held S) (left : S) : Type 0 where
     pub no_book : WasNoBook fault h left
-    pub leaves : WasBare h ⊎ LeavesCommitted h left
+    pub leaves : LeavesWhole h left

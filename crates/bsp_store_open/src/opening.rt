@@ -75,7 +75,8 @@ fn expect_none(alloc: Global, tables: &Tables) -> Result<(), OpenFault>
 ///
 /// As those of [`kept_list`]. `Damaged` too, where the tables have a row that those of an empty book have not.
 pub fn empty_list<S: Alter>(alloc: Global, conn: &mut Connection<S>) -> Result<ListBook, OpenFault>
-    ensures { IfOk result (λ list. IsOrdered S.Store conn.old → IsRead S.Store conn.old conn.new list no_rows) }
+    ensures read { IfOk result (λ list. IsOrdered S.Store conn.old → IsRead S.Store conn.old conn.new list no_rows) }
+    ensures spares { Spares S.Store conn.old conn.new }
 {
     let tables = kept_tables(alloc, conn)?;
     expect_rest(conn)?;

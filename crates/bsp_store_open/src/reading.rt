@@ -6,8 +6,8 @@ ghost use Rattle.bsp_store_load.specs.Schema.{our_schema};
 ghost use Rattle.bsp_store_load.specs.Kept.{Spares};
 ghost use Rattle.bsp_store_load.specs.Content.{airline_part, meta_part, period_part, rate_part, tally_part, terms_part};
 ghost use Rattle.bsp_store_load.specs.Shows.{AreAllOf};
-ghost use Rattle.bsp_store_open.specs.Faults.{is_refusal};
-ghost use Rattle.bsp_store_open.specs.Opening.{ArePlanRows, Finds, HasNoBook, IsOfVersion, Reports};
+ghost use Rattle.bsp_store_open.specs.Faults.{is_refusal, refusal_for};
+ghost use Rattle.bsp_store_open.specs.Opening.{ArePlanRows, Finds, HasNoBook, IsAskedVersion, IsOfVersion, IsRefusalOf, Reports};
 
 use crate::fault::{OpenFault, fault_of};
 use bsp_store_load::{
@@ -35,6 +35,7 @@ fn expect_version(rows: &[Row]) -> Result<(), OpenFault>
     ensures ok { OnOk result (IsOfVersion rows.now) }
     ensures refused { IfErr result (λ fault. ¬ IsOfVersion rows.now) }
     ensures reported { IfErr result (λ fault. Reports fault rows.now) }
+    ensures refuses { IfErr result (λ fault. is_refusal fault ≡ true) }
 {
     let Some(row) = rows.first() else {
         return Err(OpenFault::Damaged);
@@ -132,23 +133,41 @@ pub fn plan_rows<S: Alter>(conn: &mut Connection<S>) -> Result<PlanRows, OpenFau
     })
 }
 
-/// What the version in other tables than a book's says of them.
-fn refusal_of(found: Result<Vec<Row>, StoreError>) -> OpenFault {
-    let rows = match found {
-        Ok(rows) => rows,
-        Err(StoreError::SqliteFailure(code)) => return fault_of(StoreError::SqliteFailure(code)),
-        Err(_) => return OpenFault::Damaged,
-    };
-    match expect_version(&rows) {
+/// Why tables are refused that cannot be asked for their version.
+fn refusal_for(error: StoreError) -> OpenFault
+    ensures { result ≡ refusal_for error }
+{
+    match error {
+        StoreError::SqliteFailure(_) => fault_of(error),
+        _ => OpenFault::Damaged,
+    }
+}
+
+/// Why tables that are not those of a book are refused, by their rows of `meta`.
+fn refusal_by(rows: &[Row]) -> OpenFault
+    ensures { Reports result rows.now × (is_refusal result ≡ true) }
+{
+    match expect_version(rows) {
         Ok(()) => OpenFault::Damaged,
         Err(fault) => fault,
+    }
+}
+
+/// Why tables that are not those of a book are refused, by what they answer when they are asked for their version.
+fn refusal_of(found: Result<Vec<Row>, StoreError>) -> OpenFault
+    ensures { IsRefusalOf found result }
+{
+    match found {
+        Ok(rows) => refusal_by(&rows),
+        Err(error) => refusal_for(error),
     }
 }
 
 /// Why tables that are not those of a book are refused: they are of another version, or damaged, or the store fails. It
 /// reads the version, and writes nothing.
 pub fn refusal<S: Alter>(conn: &mut Connection<S>) -> OpenFault
-    ensures { Spares S.Store conn.old conn.new }
+    ensures asked { IsAskedVersion S.Store result conn.old conn.new }
+    ensures spares { Spares S.Store conn.old conn.new }
 {
     refusal_of(conn.query_all("SELECT id, version FROM meta", &[]))
 }

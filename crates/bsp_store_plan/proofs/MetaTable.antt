@@ -70,7 +70,7 @@ replaces_some : (old new : State) (entry : Meta) (count : ℕ) (now : Content) (
 replaces_some old new entry count now (Some was) is there keeps h = replaces old new was entry count now is keeps h
 replaces_some old new entry count now None is there keeps h = absurd (cc there)
 
-adds : (old new : State) (entry : Meta) (count : ℕ) (now : Content) → now.meta ≡ None → Keeps form now old.now → Executes add_text (meta_row entry) old new (Ok count) → Keeps form (with entry now) new.now
+pub adds : (old new : State) (entry : Meta) (count : ℕ) (now : Content) → now.meta ≡ None → Keeps form now old.now → Executes add_text (meta_row entry) old new (Ok count) → Keeps form (with entry now) new.now
 adds old new entry count now none keeps h =
     let row = meta_row entry in
     let it = inserts our_schema 0 meta_table refl refl (λ db. refl) 4 (no_work meta_table.tree) add_text add_is.1 row _ 5 add_is.0 (Null ∷ row) row refl

@@ -15,7 +15,7 @@ use Rattle.bsp_store_base.specs.Content.{Content}
 use Rattle.bsp_store_base.specs.Schema.{our_schema, rate_table, rate_columns}
 use Rattle.bsp_store_base.specs.Simple.{simple}
 use Rattle.bsp_store_base.proofs.Values.{cast_int}
-use Rattle.bsp_store_plan.proofs.PlacedTables.{PlacedTable, deletion, insertion}
+use Rattle.bsp_store_plan.proofs.PlacedTables.{PlacedTable, insertion}
 
 -- ---- the table
 
@@ -42,18 +42,11 @@ rates_list = record {
 
 -- ---- the texts
 
-abbrev pub clear_text : List ℕ
-clear_text = codes "DELETE FROM rate"
-
 abbrev pub add_text : List ℕ
 add_text = codes "INSERT INTO rate (airline, begins, place, hundredths) VALUES (?1, ?2, ?3, ?4)"
 
 abbrev pub all_text : List ℕ
 all_text = codes "SELECT airline, begins, place, hundredths FROM rate ORDER BY place"
-
-pub clear_is : (command_of (understood our_schema clear_text) ≡ deletion rates_list) × IsPlain (understood our_schema clear_text)
-unfolding understood everything
-clear_is = (refl, (refl, refl))
 
 pub add_is : (command_of (understood our_schema add_text) ≡ insertion rates_list) × IsPlain (understood our_schema add_text)
 unfolding understood everything

@@ -10,8 +10,8 @@ mod reading;
 mod terms;
 
 pub use airlines::{AirlineRow, add_airlines, all_airlines, clear_airlines};
-pub use meta::{MetaRow, VERSION, all_meta, put_meta};
-pub use periods::{PeriodRow, add_periods, all_periods, clear_periods};
-pub use rates::{RateRow, add_rates, all_rates, clear_rates};
+pub use meta::{MetaRow, VERSION, add_first_meta, all_meta, put_meta};
+pub use periods::{PeriodRow, add_periods, all_periods};
+pub use rates::{RateRow, add_rates, all_rates};
 pub use reading::{read_airline, read_meta, read_period, read_rate, read_terms, read_version};
 pub use terms::{TermsRow, all_terms, put_terms};

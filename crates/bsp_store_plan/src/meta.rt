@@ -1,17 +1,22 @@
 ghost use Rattle.std.specs.Prelude.{◌≡◌, is_some, true, ◌<◌, ◌^◌, None, Some, OnOk, OnErr};
+ghost use Rattle.sqlite.specs.Held.{state};
+ghost use Rattle.sqlite.specs.State.{HasCleanDisk, Survives};
 ghost use Rattle.sqlite.specs.Values.{bound};
 ghost use Rattle.bsp_store_base.specs.Calls.{Changes, GivesUp};
 ghost use Rattle.bsp_store_base.specs.Columns.{meta_row};
-ghost use Rattle.bsp_store_base.specs.Content.{meta_part};
+ghost use Rattle.bsp_store_base.specs.Content.{Content, form, meta_part};
+ghost use Rattle.bsp_store_base.specs.Kept.{Keeps};
 ghost use Rattle.bsp_store_base.specs.Shows.{ShowsAll};
 ghost use Rattle.bsp_store_plan.specs.Values.{meta_values};
 
 use bsp_rows::Day;
-use sqlite::{Alter, Connection, Error, ErrorCode, Row};
+use sqlite::{Alter, Connection, Error, ErrorCode, Row, Transaction};
 use sqlite_value::value::ValueRef;
 
 /// The version of the tables.
 pub const VERSION: i64 = 1;
+
+const ADD: &str = "INSERT INTO meta (id, version, day, closed) VALUES (?1, ?2, ?3, ?4)";
 
 /// The row of the business day and of how many periods are closed.
 #[derive(Clone, Copy, Debug)]
@@ -51,10 +56,23 @@ fn add_meta<S: Alter>(conn: &mut Connection<S>, day: Day, closed: usize) -> Resu
     ensures err { OnErr result (GivesUp S.Store conn.old conn.new) }
 {
     let row = MetaRow::of(day, closed);
-    conn.execute(
-        "INSERT INTO meta (id, version, day, closed) VALUES (?1, ?2, ?3, ?4)",
-        &row.values(),
-    )
+    conn.execute(ADD, &row.values())
+}
+
+/// Adds the row of a book without closed periods, where the table has none. The transaction stays open, and nothing is
+/// committed.
+///
+/// # Errors
+///
+/// That of the statement which failed.
+pub fn add_first_meta<S: Alter>(tx: &mut Transaction<'_, S>, day: Day) -> Result<(), Error>
+    ensures same_reference { tx.new.conn.ghost_name ≡ tx.old.conn.ghost_name }
+    ensures added { OnOk result (HasCleanDisk (state S.Store tx.new.conn.now) → (now : Content) → now.meta ≡ None → Keeps form now (state S.Store tx.old.conn.now).now → Keeps form (record now { meta = Some (record { day = day; closed = 0 }) }) (state S.Store tx.new.conn.now).now) }
+    ensures survives { Survives (state S.Store tx.old.conn.now) (state S.Store tx.new.conn.now) (λ _. ⊥) }
+{
+    let row = MetaRow::of(day, 0);
+    tx.execute(ADD, &row.values())?;
+    Ok(())
 }
 
 fn set_meta<S: Alter>(conn: &mut Connection<S>, day: Day, closed: usize) -> Result<usize, Error>

@@ -1,4 +1,4 @@
-ghost use Rattle.std.specs.Prelude.{◌≡◌, ◌<◌, ◌^◌, ◌+◌, ◌++◌, ◌∷◌, [], length, OnOk, OnErr, ⊤, take};
+ghost use Rattle.std.specs.Prelude.{◌≡◌, ◌<◌, ◌^◌, ◌+◌, ◌++◌, ◌∷◌, [], length, OnOk, OnErr, take};
 ghost use Rattle.sqlite.specs.Values.{bound};
 ghost use Rattle.bsp_store_base.specs.Calls.{Changes, GivesUp, GivesUpIf};
 ghost use Rattle.bsp_store_base.specs.Columns.{period_row};
@@ -48,18 +48,6 @@ impl PeriodRow {
             ValueRef::Int(self.remit),
         ]
     }
-}
-
-/// Takes out all rows.
-///
-/// # Errors
-///
-/// That of the statement.
-pub fn clear_periods<S: Alter>(conn: &mut Connection<S>) -> Result<usize, Error>
-    ensures ok { OnOk result (Changes S.Store conn.old conn.new (λ now. ⊤) (λ now. record now { periods = [] })) }
-    ensures err { OnErr result (GivesUp S.Store conn.old conn.new) }
-{
-    conn.execute("DELETE FROM period", &[])
 }
 
 fn add_period<S: Alter>(

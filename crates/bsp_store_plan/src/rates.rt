@@ -1,4 +1,4 @@
-ghost use Rattle.std.specs.Prelude.{◌≡◌, ◌<◌, ◌^◌, ◌+◌, ◌++◌, ◌∷◌, [], length, OnOk, OnErr, ⊤, take};
+ghost use Rattle.std.specs.Prelude.{◌≡◌, ◌<◌, ◌^◌, ◌+◌, ◌++◌, ◌∷◌, [], length, OnOk, OnErr, take};
 ghost use Rattle.sqlite.specs.Values.{bound};
 ghost use Rattle.bsp_store_base.specs.Calls.{Changes, GivesUp, GivesUpIf};
 ghost use Rattle.bsp_store_base.specs.Columns.{rate_row};
@@ -45,18 +45,6 @@ impl RateRow {
             ValueRef::Int(self.hundredths),
         ]
     }
-}
-
-/// Takes out all rows.
-///
-/// # Errors
-///
-/// That of the statement.
-pub fn clear_rates<S: Alter>(conn: &mut Connection<S>) -> Result<usize, Error>
-    ensures ok { OnOk result (Changes S.Store conn.old conn.new (λ now. ⊤) (λ now. record now { rates = [] })) }
-    ensures err { OnErr result (GivesUp S.Store conn.old conn.new) }
-{
-    conn.execute("DELETE FROM rate", &[])
 }
 
 fn add_rate<S: Alter>(conn: &mut Connection<S>, place: usize, rate: &Rate) -> Result<usize, Error>

@@ -1,5 +1,6 @@
 pub mod Each
 pub mod Saving
+pub mod Making
 pub use Rattle.bsp_store_load.specs.Calls
 pub use Rattle.bsp_store_load.specs.Content
 pub use Rattle.bsp_store_load.specs.Contents

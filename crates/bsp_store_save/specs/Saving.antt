@@ -1,6 +1,7 @@
 -- What a commit writes to the tables of the store.
-use Rattle.std.specs.Prelude.{◌≡◌, length, Some}
+use Rattle.std.specs.Prelude.{◌≡◌, ℕ, length, Some}
 use Rattle.std.specs.Ordering.{nat_cmp}
+use Rattle.bsp_rows.specs.CivilDay.{CivilDay}
 use Rattle.bsp_rows.specs.Published.{Published}
 use Rattle.bsp_maps.specs.Undo.{before, content}
 use Rattle.bsp_memory_tables.specs.ItemTables.{item_rows, item_rows_before}
@@ -12,9 +13,12 @@ use Rattle.bsp_store_load.specs.Columns.{Meta}
 use Rattle.bsp_store_load.specs.Content.{Content}
 use Rattle.bsp_store_load.specs.Contents.{used_tallies}
 
--- the business day and the number of closed periods
+-- a business day and a number of closed periods, and those of a plan
+abbrev pub meta_with : CivilDay → ℕ → Meta
+meta_with day closed = record { day = day; closed = closed }
+
 abbrev pub meta_of : Published → Meta
-meta_of p = record { day = p.day; closed = length p.closed }
+meta_of p = meta_with p.day (length p.closed)
 
 -- with the rows of a plan
 abbrev pub with_plan : Published → Content → Content

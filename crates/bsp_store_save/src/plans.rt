@@ -1,57 +1,42 @@
 //! The plan, brought up to date: what is new in it is written.
 
-ghost use Rattle.std.specs.Prelude.{◌≡◌, length, IsTrue, OnErr, OnOk, Some, take};
+ghost use Rattle.std.specs.Prelude.{◌≡◌, OnErr, OnOk, Some};
+ghost use Rattle.std.specs.Bool.{Decides};
+ghost use Rattle.bsp_rows.specs.SoundPlan.{Continues};
 ghost use Rattle.bsp_store_load.specs.Calls.{Changes, GivesUpIf};
-ghost use Rattle.bsp_store_save.specs.Saving.{HasPlan, meta_of, with_plan};
+ghost use Rattle.bsp_store_load.specs.Plans.{IsSaved, plan_before};
+ghost use Rattle.bsp_store_save.specs.Saving.{HasPlan, meta_of, meta_with, with_plan};
 
-use bsp_rows::{AirlineCode, Period, Plan, Rate};
-use bsp_store_plan::{
-    add_airlines, add_periods, add_rates, clear_airlines, clear_periods, clear_rates, put_meta,
-    put_terms,
-};
+use bsp_rows::{Day, Plan};
+use bsp_store_load::SavedPlan;
+use bsp_store_plan::{add_airlines, add_periods, add_rates, put_meta, put_terms};
 use sqlite::{Alter, Connection, Error};
 
-/// Whether they have the same business day and number of closed periods.
-fn same_meta(old: &Plan, new: &Plan) -> bool
-    ensures { IsTrue result → meta_of old.now ≡ meta_of new.now }
+/// Whether a plan has a business day and a number of closed periods.
+fn has_meta(plan: &Plan, day: Day, closed: usize) -> bool
+    ensures { Decides result (meta_with day closed ≡ meta_of plan.now) }
 {
-    old.day() == new.day() && old.closed_count() == new.closed_count()
+    day == plan.day() && closed == plan.closed_count()
 }
 
 /// Whether they have the same terms.
 fn same_terms(old: &Plan, new: &Plan) -> bool
-    ensures { IsTrue result → old.now.terms ≡ new.now.terms }
+    ensures { Decides result (old.now.terms ≡ new.now.terms) }
 {
     old.terms() == new.terms()
 }
 
-/// Whether the first list is the front of the second.
-fn begin_airlines(old: &[AirlineCode], new: &[AirlineCode]) -> bool
-    ensures { IsTrue result → old.now ≡ take (length old.now) new.now }
+/// Writes the business day and the number of closed periods where they differ from those of the table.
+fn save_meta<S: Alter>(
+    conn: &mut Connection<S>,
+    day: Day,
+    closed: usize,
+    new: &Plan,
+) -> Result<(), Error>
+    ensures ok { OnOk result (Changes S.Store conn.old conn.new (λ c. c.meta ≡ Some (meta_with day closed)) (λ c. record c { meta = Some (meta_of new.now) })) }
+    ensures err { OnErr result (GivesUpIf S.Store conn.old conn.new (λ c. c.meta ≡ Some (meta_with day closed))) }
 {
-    new.starts_with(old)
-}
-
-/// Whether the first list is the front of the second.
-fn begin_rates(old: &[Rate], new: &[Rate]) -> bool
-    ensures { IsTrue result → old.now ≡ take (length old.now) new.now }
-{
-    new.starts_with(old)
-}
-
-/// Whether the first list is the front of the second.
-fn begin_periods(old: &[Period], new: &[Period]) -> bool
-    ensures { IsTrue result → old.now ≡ take (length old.now) new.now }
-{
-    new.starts_with(old)
-}
-
-/// Writes the business day and the number of closed periods where they differ.
-fn save_meta<S: Alter>(conn: &mut Connection<S>, old: &Plan, new: &Plan) -> Result<(), Error>
-    ensures ok { OnOk result (Changes S.Store conn.old conn.new (λ c. c.meta ≡ Some (meta_of old.now)) (λ c. record c { meta = Some (meta_of new.now) })) }
-    ensures err { OnErr result (GivesUpIf S.Store conn.old conn.new (λ c. c.meta ≡ Some (meta_of old.now))) }
-{
-    if same_meta(old, new) {
+    if has_meta(new, day, closed) {
         return Ok(());
     }
     put_meta(conn, true, new.day(), new.closed_count())
@@ -68,60 +53,68 @@ fn save_terms<S: Alter>(conn: &mut Connection<S>, old: &Plan, new: &Plan) -> Res
     put_terms(conn, new.terms())
 }
 
-/// Writes the airlines that are new: a plan only grows.
+/// Writes the airlines that are new.
 fn save_airlines<S: Alter>(conn: &mut Connection<S>, old: &Plan, new: &Plan) -> Result<(), Error>
+    requires { Continues old.now new.now }
     ensures ok { OnOk result (Changes S.Store conn.old conn.new (λ c. c.published ≡ old.now.airlines) (λ c. record c { published = new.now.airlines })) }
     ensures err { OnErr result (GivesUpIf S.Store conn.old conn.new (λ c. c.published ≡ old.now.airlines)) }
 {
     let kept = old.airlines();
     let all = new.airlines();
-    if begin_airlines(kept, all) {
-        return add_airlines(conn, kept.len(), all);
-    }
-    clear_airlines(conn)?;
-    add_airlines(conn, 0, all)
+    // No airline of a plan is there twice.
+    new.meets_rules();
+    add_airlines(conn, kept.len(), all)
 }
 
-/// Writes the rates that are new: a plan only grows.
+/// Writes the rates that are new.
 fn save_rates<S: Alter>(conn: &mut Connection<S>, old: &Plan, new: &Plan) -> Result<(), Error>
+    requires { Continues old.now new.now }
     ensures ok { OnOk result (Changes S.Store conn.old conn.new (λ c. c.rates ≡ old.now.rates) (λ c. record c { rates = new.now.rates })) }
     ensures err { OnErr result (GivesUpIf S.Store conn.old conn.new (λ c. c.rates ≡ old.now.rates)) }
 {
     let kept = old.rates();
     let all = new.rates();
-    if begin_rates(kept, all) {
-        return add_rates(conn, kept.len(), all);
-    }
-    clear_rates(conn)?;
-    add_rates(conn, 0, all)
+    add_rates(conn, kept.len(), all)
 }
 
-/// Writes the periods that are new: a plan only grows.
+/// Writes the periods that are new.
 fn save_periods<S: Alter>(conn: &mut Connection<S>, old: &Plan, new: &Plan) -> Result<(), Error>
+    requires { Continues old.now new.now }
     ensures ok { OnOk result (Changes S.Store conn.old conn.new (λ c. c.periods ≡ old.now.periods) (λ c. record c { periods = new.now.periods })) }
     ensures err { OnErr result (GivesUpIf S.Store conn.old conn.new (λ c. c.periods ≡ old.now.periods)) }
 {
     let kept = old.periods();
     let all = new.periods();
-    if begin_periods(kept, all) {
-        return add_periods(conn, kept.len(), all);
-    }
-    clear_periods(conn)?;
-    add_periods(conn, 0, all)
+    add_periods(conn, kept.len(), all)
 }
 
-/// Writes what is new in a plan.
-pub(crate) fn save_plan<S: Alter>(
-    conn: &mut Connection<S>,
-    old: &Plan,
-    new: &Plan,
-) -> Result<(), Error>
+/// Writes what is new in a plan that continues another.
+fn save_growth<S: Alter>(conn: &mut Connection<S>, old: &Plan, new: &Plan) -> Result<(), Error>
+    requires { Continues old.now new.now }
     ensures ok { OnOk result (Changes S.Store conn.old conn.new (HasPlan old.now) (with_plan new.now)) }
     ensures err { OnErr result (GivesUpIf S.Store conn.old conn.new (HasPlan old.now)) }
 {
-    save_meta(conn, old, new)?;
+    save_meta(conn, old.day(), old.closed_count(), new)?;
     save_terms(conn, old, new)?;
     save_airlines(conn, old, new)?;
     save_rates(conn, old, new)?;
     save_periods(conn, old, new)
+}
+
+/// Writes what is new in a plan. Where only its business day and its closed periods are, it takes the same time for every
+/// plan.
+pub(crate) fn save_plan<S: Alter>(
+    conn: &mut Connection<S>,
+    saved: &SavedPlan,
+    plan: &Plan,
+) -> Result<(), Error>
+    requires { IsSaved plan.now saved.now }
+    ensures ok { OnOk result (Changes S.Store conn.old conn.new (HasPlan (plan_before plan.now saved.now)) (with_plan plan.now)) }
+    ensures err { OnErr result (GivesUpIf S.Store conn.old conn.new (HasPlan (plan_before plan.now saved.now))) }
+{
+    match saved {
+        SavedPlan::Same => Ok(()),
+        SavedPlan::Dated { day, closed } => save_meta(conn, *day, *closed, plan),
+        SavedPlan::Whole(old) => save_growth(conn, old, plan),
+    }
 }

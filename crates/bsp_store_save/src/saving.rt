@@ -55,7 +55,7 @@ fn save_tables<S: Alter>(
     ensures ok { OnOk result (Changes S.Store conn.old conn.new (λ now. now ≡ content_before tables.now) (λ now. content_now tables.now)) }
     ensures err { OnErr result (GivesUpIf S.Store conn.old conn.new (λ now. now ≡ content_before tables.now)) }
 {
-    save_plan(conn, tables.committed_plan(), tables.plan())?;
+    save_plan(conn, tables.saved_plan(), tables.plan())?;
     save_callers(alloc, conn, tables)?;
     save_documents(alloc, conn, tables)?;
     Ok(())

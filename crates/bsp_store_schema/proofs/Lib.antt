@@ -1,3 +1,4 @@
 pub mod SchemaLemmas
 pub mod Texts
 pub mod Ordered
+pub mod MakingLemmas

@@ -63,3 +63,9 @@ pub still_unharmed : {S E : Type 0} (g : Ghosts S) (before after : S) (r : Resul
     → IfErr r (λ e. IsQuiet g.view g.faults g.recovers g.is_shielded after e.1) → IfErr r (λ e. IsQuiet g.view g.faults g.recovers g.is_shielded before e.1)
 still_unharmed g before after (Ok c) first second = tt
 still_unharmed g before after (Err e) first second = still_quiet first second
+
+-- a disk that gave wrong bytes before is not clean after
+pub reopened_clean : {S E : Type 0} (g : Ghosts S) (before after : S) (r : Result (Held S) E) → IsQuiet g.view g.faults g.recovers g.is_shielded before after
+    → IfOk r (λ c. doubt (g.view after).is_clean ≤ doubt (state g c).is_clean) → IfOk r (λ c. doubt (g.view before).is_clean ≤ doubt (state g c).is_clean)
+reopened_clean g before after (Err e) quiet clean = tt
+reopened_clean g before after (Ok c) quiet clean = omega (arith, quiet.clean, clean)

@@ -1,2 +1,3 @@
 pub mod Schema
 pub mod Order
+pub mod Made

@@ -1,10 +1,12 @@
 //! A store is tested for anything in it, and gets the tables.
 
-ghost use Rattle.std.specs.Prelude.{◌≡◌, ◌↔◌, IsTrue};
+ghost use Rattle.std.specs.Prelude.{◌≡◌, ◌↔◌, IsTrue, OnOk};
 ghost use Rattle.sqlite.specs.Held.{state};
-ghost use Rattle.bsp_store_schema.specs.Schema.{no_schema};
+ghost use Rattle.sqlite.specs.State.{HasCleanDisk, Survives};
+ghost use Rattle.bsp_store_schema.specs.Made.{HasNoRows};
+ghost use Rattle.bsp_store_schema.specs.Schema.{no_schema, our_schema};
 
-use sqlite::{Alter, Connection, Error};
+use sqlite::{Alter, Connection, Error, Transaction};
 
 /// The texts that make the tables, in the order of their trees.
 const TABLES: &str = "\
@@ -43,8 +45,16 @@ pub fn is_bare<S: Alter>(conn: &Connection<S>) -> bool
     schema.tables.is_empty() && schema.indexes.is_empty() && schema.views.is_empty()
 }
 
-/// Makes the eleven tables, without a row in them. A caller begins a transaction first, commits it where all went
-/// well, and rolls it back after an error. Then no stop leaves some of the tables.
-pub fn make_tables<S: Alter>(conn: &mut Connection<S>) -> Result<(), Error> {
-    conn.execute_batch(TABLES)
+/// Makes the eleven tables, without a row in them, in a store that has nothing in it. The transaction stays open, and
+/// nothing is committed.
+///
+/// # Errors
+///
+/// That of the statement which failed.
+pub fn make_tables<S: Alter>(tx: &mut Transaction<'_, S>) -> Result<(), Error>
+    ensures same_reference { tx.new.conn.ghost_name ≡ tx.old.conn.ghost_name }
+    ensures made { OnOk result (HasCleanDisk (state S.Store tx.new.conn.now) → (state S.Store tx.old.conn.now).now.schema ≡ no_schema → HasNoRows our_schema (state S.Store tx.new.conn.now).now) }
+    ensures survives { Survives (state S.Store tx.old.conn.now) (state S.Store tx.new.conn.now) (λ _. ⊥) }
+{
+    tx.execute_batch(TABLES)
 }

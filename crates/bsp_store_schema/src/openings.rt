@@ -36,6 +36,7 @@ pub fn reopen<S: Alter + Drop>(
     ensures opens { IfOk result (λ c. HasCleanDisk (state S.Store c) → Opens (state S.Store c) × IsLive (state S.Store c)) }
     ensures fresh { IfOk result IsNew }
     ensures trees { IfOk result (λ c. HasCleanDisk (state S.Store c) → (state S.Store c).now.trees ≡ (state S.Store conn).committed.trees) }
+    ensures clean { IfOk result (λ c. doubt (state S.Store conn).is_clean ≤ doubt (state S.Store c).is_clean) }
     ensures shield { IfOk result (λ c. (state S.Store conn).IsShielded → (state S.Store c).IsShielded) }
     ensures unharmed { IfErr result (λ e. IsQuiet S.Store.view S.Store.faults S.Store.recovers S.Store.is_shielded conn.store e.1) }
     ensures order { IfOk result (λ c. HasCleanDisk (state S.Store c) → (state S.Store c).now.schema ≡ our_schema → AreInOrder (state S.Store c).now.trees) }

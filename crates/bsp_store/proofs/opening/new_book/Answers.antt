@@ -1,6 +1,8 @@
-use Rattle.bsp_rows.specs.Rows.{no_rows}
-use Rattle.bsp_store.proofs.AdoptingLemmas.{book_read}
+use Rattle.bsp_store.proofs.AdoptingLemmas.{made_left, making_given_up}
 use Rattle.bsp_store.proofs.opening.new_book.Goals as goal
 
-pub returns-in-Ok : goal.returns-in-Ok
-returns-in-Ok g c = book_read g.S.Store c.in_ok-conn.conn c.empty_list.new.conn c.in-Ok.list no_rows (c.in-Ok.ensures c.in_ok-conn.ensures.ok.ordered) c.of.result c.of.ensures.parts
+pub returns-in-Ok-clause-left : goal.returns-in-Ok-clause-left
+returns-in-Ok-clause-left g c = made_left g.S.Store c.args.conn c.make_book.new.conn c.make_book.ensures.stop c.in-Ok.ensures.made c.empty_book.result c.empty_book.ensures.left
+
+pub returns-in-Err-clause-left : goal.returns-in-Err-clause-left
+returns-in-Err-clause-left g c = making_given_up g.S.Store c.args.conn c.make_book.new.conn c.make_book.ensures.stop c.into_store.result c.into_store.ensures.quiet

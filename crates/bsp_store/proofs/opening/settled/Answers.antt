@@ -1,6 +1,7 @@
 use Rattle.std.proofs.Common.{inr, ◌∙◌, arith}
 use Rattle.sqlite_trees.specs.View.{IsClean}
 use Rattle.sqlite_rules.proofs.ViewLemmas.{still_quiet}
+use Rattle.bsp_store_open.proofs.OpeningLemmas.{still_clean}
 use Rattle.bsp_store.proofs.Settling.{committed, fresh}
 use Rattle.bsp_store.proofs.opening.settled.Goals as goal
 
@@ -13,7 +14,9 @@ open_in_order-requires g c =
     store.ensures.undone store.ensures.numbered c.is_broken.result c.is_broken.ensures c.if-is_broken.false
 
 pub returns-then-is_broken-clause-left : goal.returns-then-is_broken-clause-left
-returns-then-is_broken-clause-left g c = λ clean db may. inr ((still_quiet c.into_store-store.ensures.quiet c.copy_log.ensures.quiet).outcomes db may)
+returns-then-is_broken-clause-left g c =
+    let quiet = still_quiet c.into_store-store.ensures.quiet c.copy_log.ensures.quiet in
+    record { earlier = λ clean. still_clean g.S.Store c.args.conn c.copy_log.new.self quiet clean; leaves = λ clean db may. inr (quiet.outcomes db may) }
 
 pub returns-in-Ok-clause-ok : goal.returns-in-Ok-clause-ok
 returns-in-Ok-clause-ok g c =
@@ -21,6 +24,7 @@ returns-in-Ok-clause-ok g c =
     let store = c.into_store-store in
     let copied = c.copy_log.new.self in
     record {
+      earlier = λ disk. omega (arith, store.ensures.quiet.clean, c.copy_log.ensures.quiet.clean, c.in-Ok.ensures.clean, disk);
       opens = c.in-Ok.ensures.opens;
       fresh = c.in-Ok.ensures.fresh;
       trees = λ disk.
@@ -32,4 +36,6 @@ returns-in-Ok-clause-ok g c =
     }
 
 pub returns-in-Err-clause-left : goal.returns-in-Err-clause-left
-returns-in-Err-clause-left g c = λ clean db may. inr ((still_quiet (still_quiet c.into_store-store.ensures.quiet c.copy_log.ensures.quiet) c.in-Err.ensures.unharmed).outcomes db may)
+returns-in-Err-clause-left g c =
+    let quiet = still_quiet (still_quiet c.into_store-store.ensures.quiet c.copy_log.ensures.quiet) c.in-Err.ensures.unharmed in
+    record { earlier = λ clean. still_clean g.S.Store c.args.conn _ quiet clean; leaves = λ clean db may. inr (quiet.outcomes db may) }

@@ -1,41 +1,21 @@
-use Rattle.bsp_store_save.proofs.PlanLemmas.{its_airlines, its_meta, its_periods, its_rates, its_terms}
-use Rattle.bsp_store_save.proofs.StepLemmas.{if_err, on_err, on_ok}
+use Rattle.bsp_store_save.proofs.PlanLemmas.{day_not_saved, day_saved}
+use Rattle.bsp_store_save.proofs.StepLemmas.{if_err, on_ok}
 use Rattle.bsp_store_save.proofs.plans.save_plan.Goals as goal
 
-pub returns-in_err-save_meta-clause-err : goal.returns-in_err-save_meta-clause-err
-returns-in_err-save_meta-clause-err g c = on_err c.from_residual.result (λ now last a b has stands inside.
-    c.in_err-save_meta.ensures.err now last a b (its_meta c.args.old.now now has) stands inside)
+pub returns-in-Dated-clause-ok : goal.returns-in-Dated-clause-ok
+returns-in-Dated-clause-ok g c =
+    let kept = rw c.in-Dated.is at c.requires in
+    let made = day_saved g.S.Store c.args.conn.now c.save_meta.new.conn c.args.plan.now c.in-Dated.day c.in-Dated.closed kept.0 in
+    rw c.in-Dated.is (on_ok _ _ c.save_meta.result c.save_meta.ensures.ok made)
 
-pub returns-in_err-save_terms-clause-err : goal.returns-in_err-save_terms-clause-err
-returns-in_err-save_terms-clause-err g c = on_err c.from_residual-in_err-save_terms.result (λ now last a b has stands inside.
-    let meta = c.in_ok-save_meta.ensures.ok now last a b (its_meta c.args.old.now now has) stands inside in
-    c.in_err-save_terms.ensures.err _ last a b (its_terms c.args.old.now now has) meta.0 meta.1)
+pub returns-in-Dated-clause-err : goal.returns-in-Dated-clause-err
+returns-in-Dated-clause-err g c =
+    let kept = rw c.in-Dated.is at c.requires in
+    let fails = day_not_saved g.S.Store c.args.conn.now c.save_meta.new.conn c.args.plan.now c.in-Dated.day c.in-Dated.closed kept.0 in
+    rw c.in-Dated.is (if_err _ _ c.save_meta.result c.save_meta.ensures.err fails)
 
-pub returns-in_err-save_airlines-clause-err : goal.returns-in_err-save_airlines-clause-err
-returns-in_err-save_airlines-clause-err g c = on_err c.from_residual-in_err-save_airlines.result (λ now last a b has stands inside.
-    let meta = c.in_ok-save_meta.ensures.ok now last a b (its_meta c.args.old.now now has) stands inside in
-    let terms = c.in_ok-save_terms.ensures.ok _ last a b (its_terms c.args.old.now now has) meta.0 meta.1 in
-    c.in_err-save_airlines.ensures.err _ last a b (its_airlines c.args.old.now now has) terms.0 terms.1)
+pub returns-in-Whole-clause-ok : goal.returns-in-Whole-clause-ok
+returns-in-Whole-clause-ok g c = rw c.in-Whole.is c.save_growth.ensures.ok
 
-pub returns-in_err-save_rates-clause-err : goal.returns-in_err-save_rates-clause-err
-returns-in_err-save_rates-clause-err g c = on_err c.from_residual-in_err-save_rates.result (λ now last a b has stands inside.
-    let meta = c.in_ok-save_meta.ensures.ok now last a b (its_meta c.args.old.now now has) stands inside in
-    let terms = c.in_ok-save_terms.ensures.ok _ last a b (its_terms c.args.old.now now has) meta.0 meta.1 in
-    let airlines = c.in_ok-save_airlines.ensures.ok _ last a b (its_airlines c.args.old.now now has) terms.0 terms.1 in
-    c.in_err-save_rates.ensures.err _ last a b (its_rates c.args.old.now now has) airlines.0 airlines.1)
-
-pub returns-clause-ok : goal.returns-clause-ok
-returns-clause-ok g c = on_ok _ _ c.save_periods.result c.save_periods.ensures.ok (λ it now last a b has stands inside.
-    let meta = c.in_ok-save_meta.ensures.ok now last a b (its_meta c.args.old.now now has) stands inside in
-    let terms = c.in_ok-save_terms.ensures.ok _ last a b (its_terms c.args.old.now now has) meta.0 meta.1 in
-    let airlines = c.in_ok-save_airlines.ensures.ok _ last a b (its_airlines c.args.old.now now has) terms.0 terms.1 in
-    let rates = c.in_ok-save_rates.ensures.ok _ last a b (its_rates c.args.old.now now has) airlines.0 airlines.1 in
-    it _ last a b (its_periods c.args.old.now now has) rates.0 rates.1)
-
-pub returns-clause-err : goal.returns-clause-err
-returns-clause-err g c = if_err _ _ c.save_periods.result c.save_periods.ensures.err (λ it now last a b has stands inside.
-    let meta = c.in_ok-save_meta.ensures.ok now last a b (its_meta c.args.old.now now has) stands inside in
-    let terms = c.in_ok-save_terms.ensures.ok _ last a b (its_terms c.args.old.now now has) meta.0 meta.1 in
-    let airlines = c.in_ok-save_airlines.ensures.ok _ last a b (its_airlines c.args.old.now now has) terms.0 terms.1 in
-    let rates = c.in_ok-save_rates.ensures.ok _ last a b (its_rates c.args.old.now now has) airlines.0 airlines.1 in
-    it _ last a b (its_periods c.args.old.now now has) rates.0 rates.1)
+pub returns-in-Whole-clause-err : goal.returns-in-Whole-clause-err
+returns-in-Whole-clause-err g c = rw c.in-Whole.is c.save_growth.ensures.err

@@ -1,6 +1,6 @@
 -- A store that is not broken is open, and the rollback left what was committed.
 use Rattle.std.proofs.Common.{sym, ◌∙◌}
-use Rattle.bsp_store_schema.proofs.Ordered.{reopened_trees, still_unharmed}
+use Rattle.bsp_store_schema.proofs.Ordered.{reopened_clean, reopened_trees, still_unharmed}
 use Rattle.bsp_store_schema.proofs.openings.reopen.Goals as goal
 
 pub returns-clause-trees : goal.returns-clause-trees
@@ -13,3 +13,8 @@ pub returns-clause-unharmed : goal.returns-clause-unharmed
 returns-clause-unharmed g c =
     let store = c.into_store-store in
     still_unharmed g.S.Store c.args.conn.store store.result c.open_in_order.result store.ensures.quiet c.open_in_order.ensures.unharmed
+
+pub returns-clause-clean : goal.returns-clause-clean
+returns-clause-clean g c =
+    let store = c.into_store-store in
+    reopened_clean g.S.Store c.args.conn.store store.result c.open_in_order.result store.ensures.quiet c.open_in_order.ensures.clean

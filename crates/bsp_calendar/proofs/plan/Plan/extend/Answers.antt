@@ -2,8 +2,9 @@ use Rattle.std.proofs.Common.{◌≡◌, ap, sym, subst, ◌∙◌, Ok}
 use Rattle.bsp_fields.specs.Changes.{change_of}
 use Rattle.bsp_fields.specs.declared.change.Change.TheVariants.{Held}
 use Rattle.bsp_calendar.specs.Requests.{with_entries}
-use Rattle.bsp_calendar.specs.SoundPlan.{IsSoundPlan}
+use Rattle.bsp_calendar.specs.SoundPlan.{Continues, IsSoundPlan}
 use Rattle.bsp_calendar.specs.Standing.{plan_of}
+use Rattle.bsp_calendar.proofs.ContinueLemmas.{continues_itself, extended_continues}
 use Rattle.bsp_calendar.proofs.ExtendLemmas.{within_more, with_entries_is, holds_is}
 use Rattle.bsp_calendar.proofs.HeldLemmas.{held_same, was_held}
 use Rattle.bsp_calendar.proofs.SoundLemmas.{publish_sound, standing_in}
@@ -44,3 +45,16 @@ returns-clause-held c =
     λ told.
     let is : change_of c.holds.result ≡ Held = cc (c.of-change.ensures) in
     rw (← c.self.view_is) (sym same ∙ held_same p text c.self.invariant.sound e.0 (sym held ∙ was_held c.holds.result is))
+
+pub returns-in_err-lists-clause-continues : goal.returns-in_err-lists-clause-continues
+returns-in_err-lists-clause-continues c = continues_itself c.args.self.now
+
+pub returns-clause-continues : goal.returns-clause-continues
+returns-clause-continues c =
+    let i = c.self.inside in
+    let p = plan_of i.terms i.lists.airlines i.lists.rates i.lists.periods i.day i.closed in
+    let text = c.args.text.now in
+    let after = c.in_ok-lists.lists in
+    let e = rw (← c.self.view_is) at c.in_ok-lists.ensures.lists in
+    let same = with_entries_is i.terms i.lists.airlines i.lists.rates i.lists.periods i.day i.closed text after.airlines after.rates after.periods (standing_in c.self.invariant) e.1 e.2 e.3 in
+    rw (← c.self.view_is) (subst (Continues p) same (extended_continues p text c.self.invariant.sound e.0))

@@ -1,0 +1,88 @@
+-- Eleven tables without a row, and then the row of `meta`, are those of an empty book.
+use Rattle.std.proofs.Common.{◌≡◌, ℕ, List, [], map, None, Some, refl, sym, ap, subst, subst₂, ◌∙◌}
+use Rattle.std.specs.List.{filter}
+use Rattle.std.specs.FinMap.{empty, entries, from_entries}
+use Rattle.std.specs.Ordering.{nat_cmp}
+use Rattle.std.proofs.lemmas.List.Sorted.{IsPermutation-refl}
+use Rattle.sqlite_value.specs.Order.{Row}
+use Rattle.sqlite.specs.Effect.{Database}
+use Rattle.bsp_maps.proofs.OrderLemmas.{no_entries}
+use Rattle.bsp_rows.specs.CivilDay.{CivilDay}
+use Rattle.bsp_rows.specs.Published.{opening}
+use Rattle.bsp_rows.specs.Rows.{no_rows, item_cmp, memo_cmp, range_cmp}
+use Rattle.bsp_rows.specs.Tally.{Tally}
+use Rattle.bsp_rows.specs.Tallies.{tally_cmp}
+use Rattle.bsp_rows.specs.declared.keys.TallyKey.{TallyKey}
+use Rattle.bsp_memory_rows.specs.Lookups.{has_rows}
+use Rattle.bsp_memory_rows.proofs.DerivedLemmas.{no_totals}
+use Rattle.bsp_store_schema.specs.Made.{HasNoRows}
+use Rattle.bsp_store_schema.specs.Schema.{our_schema}
+use Rattle.bsp_store_load.specs.Columns.{agent_row, airline_token_row, item_row, memo_row, stock_row, tally_row}
+use Rattle.bsp_store_load.specs.Content.{Content, content_with, form}
+use Rattle.bsp_store_load.specs.Contents.{used_tallies}
+use Rattle.bsp_store_load.specs.Kept.{Keeps, KeepsTable}
+use Rattle.bsp_store_load.proofs.TallyLemmas.{content_is}
+use Rattle.bsp_store_save.specs.Making.{IsNewBook}
+
+abbrev new_content : Content
+new_content = content_with no_rows (used_tallies empty)
+
+-- before the row of `meta`
+abbrev no_content : Content
+no_content = record new_content { meta = None }
+
+no_tallies : entries (used_tallies empty) ≡ []
+no_tallies = ap (λ (l : List (TallyKey × Tally)). entries (from_entries {R = tally_cmp} (filter (λ e. has_rows e.1) l))) (no_entries tally_cmp) ∙ no_entries tally_cmp
+
+-- no row of the content, and none of the tree
+keeps_none : (width : ℕ) (content tree : List Row) → content ≡ [] → tree ≡ [] → KeepsTable width content tree
+keeps_none width content tree none bare = subst₂ (KeepsTable width) (sym none) (sym bare) (record { table = tt; keyed = tt; rows = IsPermutation-refl [] })
+
+bare_keeps : (db : Database) → HasNoRows our_schema db → Keeps form no_content db
+bare_keeps db has =
+    let e = has.empty in
+    record {
+      schema = has.schema;
+      kept = (
+        keeps_none _ _ _ refl e.0,
+        (
+          keeps_none _ _ _ refl e.1.0,
+          (
+            keeps_none _ _ _ refl e.1.1.0,
+            (
+              keeps_none _ _ _ refl e.1.1.1.0,
+              (
+                keeps_none _ _ _ refl e.1.1.1.1.0,
+                (
+                  keeps_none _ _ _ (ap (map agent_row) (no_entries nat_cmp)) e.1.1.1.1.1.0,
+                  (
+                    keeps_none _ _ _ (ap (map airline_token_row) (no_entries nat_cmp)) e.1.1.1.1.1.1.0,
+                    (
+                      keeps_none _ _ _ (ap (map stock_row) (no_entries range_cmp)) e.1.1.1.1.1.1.1.0,
+                      (
+                        keeps_none _ _ _ (ap (map item_row) (no_entries item_cmp)) e.1.1.1.1.1.1.1.1.0,
+                        (
+                          keeps_none _ _ _ (ap (map memo_row) (no_entries memo_cmp)) e.1.1.1.1.1.1.1.1.1.0,
+                          (
+                            keeps_none _ _ _ (ap (map tally_row) no_tallies) e.1.1.1.1.1.1.1.1.1.1.0,
+                            tt,
+                          ),
+                        ),
+                      ),
+                    ),
+                  ),
+                ),
+              ),
+            ),
+          ),
+        ),
+      );
+    }
+
+-- after the row of `meta`
+pub new_book : (before after : Database) (day : CivilDay) → day ≡ opening.day → HasNoRows our_schema before
+    → ((now : Content) → now.meta ≡ None → Keeps form now before → Keeps form (record now { meta = Some (record { day = day; closed = 0 }) }) after) → IsNewBook after
+new_book before after day is has adds =
+    let added = adds no_content refl (bare_keeps before has) in
+    let keeps : Keeps form new_content after = subst (λ d. Keeps form (record no_content { meta = Some (record { day = d; closed = 0 }) }) after) is added in
+    record { schema = keeps.schema; keeps = (new_content, content_is no_rows empty no_totals, keeps.kept) }
