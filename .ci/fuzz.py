@@ -34,12 +34,19 @@ RANDOM = random.Random(int(sys.argv[3]) if len(sys.argv) > 3 else 1)
 TRIED = collections.Counter()
 
 OFFICE = "officetoken00001"
-AGENTS = {"12345675": "agenttoken000001", "76543213": "agenttoken000002"}
-AIRLINES = {"125": "airlinetoken0125", "220": "airlinetoken0220"}
+FIRST_AGENTS = {"12345675": "agenttoken000001", "76543213": "agenttoken000002"}
+FIRST_AIRLINES = {"125": "airlinetoken0125", "220": "airlinetoken0220"}
+# the tokens that they have now
+AGENTS, AIRLINES = dict(FIRST_AGENTS), dict(FIRST_AIRLINES)
+# the first two digits of an agent's numbers, and an airline's rate in hundredths of a percent
+STOCK = {"12345675": 13, "76543213": 14}
+RATES = {"125": 500, "220": 0}
 PERIODS = ["24011", "24012", "24021"]
 NUMBERS = [first + at for first in (1300000000, 1400000000) for at in range(5)]
 MEMOS = [f"600000000{at}" for at in range(4)]
 STATUSES = {200, 400, 403, 404, 405, 409, 422}
+# of one market
+TRIES = 60
 # a refused allocation of 1 GiB ends as want of memory: no input below has a reason for as much
 MEMORY = 1 << 30
 
@@ -113,17 +120,16 @@ class Ret:
     def __init__(self):
         self.lines, self.number, self.sum = ["1TSTA2401050930DE000001PROD001"], 0, 0
 
-    def begin(self, code, agent, document, issued):
+    def begin(self, code, agent, airline, document, issued):
         self.number += 1
         check = document % 7 if RANDOM.random() < 0.97 else RANDOM.randrange(10)
-        airline = RANDOM.choice(("125", "125", "220", "999"))
         self.lines.append(f"2{self.number:06}{code}{agent}{airline}{document:010}{check}{issued}DOE/JANE")
 
-    def relate(self, document):
-        self.lines.append(f"3{self.number:06}125{document:010}{document % 7}")
+    def relate(self, airline, document):
+        self.lines.append(f"3{self.number:06}{airline}{document:010}{document % 7}")
 
-    def pay(self, fare, tax, *forms):
-        rate = 500 if RANDOM.random() < 0.9 else RANDOM.randrange(10001)
+    def pay(self, airline, fare, tax, *forms):
+        rate = RATES.get(airline, 0) if RANDOM.random() < 0.95 else RANDOM.randrange(10001)
         commission = (fare * rate + (5000 if fare >= 0 else -5000)) // 10000 if RANDOM.random() < 0.95 else 0
         places = f"RA{zoned(tax)}".ljust(78)
         self.lines.append(f"5{self.number:06}{zoned(fare)}{places}{rate:05}{zoned(commission)}")
@@ -133,22 +139,20 @@ class Ret:
 
     def add(self, agent):
         """A further transaction, which is often one that the office accepts."""
-        code, document = RANDOM.choice(("TKTT", "TKTT", "TKTT", "RFND", "CANX")), RANDOM.choice(NUMBERS)
-        issued = RANDOM.choice(("240105", "240105", "240106", "240116"))
-        fare = RANDOM.choice((20000, 20000, 1, 99_999_999_999))
-        if code == "CANX":
-            self.begin(code, agent, document, issued)
-        elif code == "RFND":
-            self.begin(code, agent, document, issued)
-            self.relate(RANDOM.choice(NUMBERS))
-            self.pay(-fare, -3500, ("CA", -fare - 3500))
-        elif RANDOM.random() < 0.2:
-            self.begin(code, agent, document, issued)
-            self.relate(RANDOM.choice(NUMBERS))
-            self.pay(fare + 5000, 3500, ("CA", 5000), ("EX", fare + 3500))
-        else:
-            self.begin(code, agent, document, issued)
-            self.pay(fare, 3500, (RANDOM.choice(("CA", "CC")), fare + 3500))
+        own = [it for it in NUMBERS if it // 100000000 == STOCK.get(agent, 13)]
+        document, other = (RANDOM.choice(own if RANDOM.random() < 0.95 else NUMBERS) for _ in "12")
+        code = RANDOM.choice(("TKTT", "TKTT", "TKTT", "RFND", "CANX"))
+        airline = RANDOM.choice(("125", "125", "125", "220", "220", "999"))
+        fare = RANDOM.choice((20000, 20000, 20000, 1, 99_999_999_999))
+        self.begin(code, agent, airline, document, RANDOM.choice(("240105", "240105", "240105", "240106", "240116")))
+        if code == "RFND":
+            self.relate(airline, other)
+            self.pay(airline, -fare, -3500, ("CA", -fare - 3500))
+        elif code == "TKTT" and RANDOM.random() < 0.2:
+            self.relate(airline, other)
+            self.pay(airline, fare + 5000, 3500, ("CA", 5000), ("EX", fare + 3500))
+        elif code == "TKTT":
+            self.pay(airline, fare, 3500, (RANDOM.choice(("CA", "CC")), fare + 3500))
 
     def text(self):
         last = f"Z{len(self.lines) + 1:07}{self.number:07}{zoned(self.sum, 15)}"
@@ -374,33 +378,51 @@ def open_market(pair):
             ("plan", PLAN), ("day", body_of(day="2024-01-05")),
             *(("agents", body_of(agent=it, token=token)) for it, token in AGENTS.items()),
             *(("airlines", body_of(airline=it, token=token)) for it, token in AIRLINES.items()),
-            *(("stock/allot", body_of(agent=it, first=f"{first}00000000", last=f"{first}00000009")) for it, first in zip(AGENTS, ("13", "14")))):
+            *(("stock/allot", body_of(agent=it, first=f"{first}00000000", last=f"{first}00000009")) for it, first in STOCK.items())):
         office.expect(f"the opening: {path}", 200, pair.ask("POST", f"/office/{path}", OFFICE, body)[0])
 
 
-def main():
-    began = time.monotonic()
+def try_one(pair):
+    """A report, a connection, a request or a restart."""
+    way = RANDOM.randrange(100)
+    if way < 10:
+        try_command()
+    elif way < 25:
+        pair.try_connection()
+    elif way < 99:
+        pair.try_request()
+    else:
+        pair.restart()
+
+
+def try_market(until):
+    """Some tries over a new market, in which numbers are still free and periods not closed."""
+    AGENTS.update(FIRST_AGENTS)
+    AIRLINES.update(FIRST_AIRLINES)
     with tempfile.TemporaryDirectory(prefix="fuzz-") as folder:
         os.chdir(folder)
         pair = Pair()
-        open_market(pair)
         try:
-            while time.monotonic() < began + SECONDS and not office.failures:
-                way = RANDOM.randrange(100)
-                if way < 10:
-                    try_command()
-                elif way < 25:
-                    pair.try_connection()
-                elif way < 99:
-                    pair.try_request()
-                else:
-                    pair.restart()
+            open_market(pair)
+            for _ in range(TRIES):
+                if time.monotonic() > until or office.failures:
+                    break
+                try_one(pair)
             pair.restart()
-        except (http.client.HTTPException, OSError, subprocess.TimeoutExpired, RuntimeError) as fault:
-            office.expect(f"the programs go on: {fault!r}", True, False)
         finally:
             for it in pair.offices:
                 it.end()
+            os.chdir(office.TOP)
+    TRIED["markets"] += 1
+
+
+def main():
+    until = time.monotonic() + SECONDS
+    while time.monotonic() < until and not office.failures:
+        try:
+            try_market(until)
+        except (http.client.HTTPException, OSError, subprocess.TimeoutExpired, RuntimeError) as fault:
+            office.expect(f"the programs go on: {fault!r}", True, False)
     office.finish("fuzz: " + ", ".join(f"{count:,} {what}" for what, count in sorted(TRIED.items())) + ", no difference")
 
 
