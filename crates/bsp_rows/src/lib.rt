@@ -11,6 +11,7 @@ mod limits;
 mod questions;
 mod rules;
 mod sound_item;
+mod tax_rules;
 mod unsound;
 
 pub use audit::are_sound;
