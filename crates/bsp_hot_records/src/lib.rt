@@ -5,7 +5,6 @@
 mod agent;
 mod code;
 mod fields;
-mod form;
 mod model;
 mod name;
 mod reading;
@@ -14,10 +13,9 @@ mod totals;
 
 pub use agent::AgentDigits;
 pub use code::DocumentCode;
-pub use form::FileForm;
 pub use model::{
     CodeTotals, Document, FileTotals, Heading, OfficeHeader, OfficeTotals, Part, PartOf,
-    PeriodTotals, Record, RelatedDocument, TransactionHeader,
+    PeriodTotals, Record, TransactionHeader,
 };
 pub use name::RecordName;
 pub use reading::read_record;

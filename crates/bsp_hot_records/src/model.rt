@@ -2,7 +2,6 @@
 
 use crate::agent::AgentDigits;
 use crate::code::DocumentCode;
-use crate::form::FileForm;
 use crate::totals::Totals;
 use bsp_fields::{AirlineCode, DocNumber, PeriodCode};
 
@@ -15,8 +14,6 @@ pub struct Heading {
     pub period: PeriodCode,
     /// The currency, three letters (ISO 4217).
     pub currency: [u8; 3],
-    /// The form of the file.
-    pub form: FileForm,
 }
 
 /// What BOH03 says of an office.
@@ -52,15 +49,6 @@ pub struct Document {
     pub number: DocNumber,
 }
 
-/// What is judged of BKS45: the airline and the number of the related document.
-#[derive(Clone, Copy)]
-pub struct RelatedDocument {
-    /// The airline.
-    pub airline: AirlineCode,
-    /// The number, which ten digits write.
-    pub number: u64,
-}
-
 /// A record behind BKS24. Amounts are in minor units.
 #[derive(Clone, Copy)]
 pub enum Part {
@@ -68,10 +56,8 @@ pub enum Part {
     Amounts(bool),
     /// BKS39, with the commission.
     Commission(i64),
-    /// BKS42, with the tax on the commission.
-    CommissionTax(i64),
-    /// BKS45.
-    Related(RelatedDocument),
+    /// BKS45, with its airline.
+    Related(AirlineCode),
     /// BKP84 with the form `CA`, and its amount.
     Cash(i64),
     /// BKP84 with the form `CC`, and its amount.
@@ -144,7 +130,7 @@ pub enum Record {
     TransactionHeader(TransactionHeader),
     /// BKS24.
     Document(Document),
-    /// BKS30, BKS39, BKS42, BKS45 or BKP84.
+    /// BKS30, BKS39, BKS45 or BKP84.
     PartOf(PartOf),
     /// BOT93.
     CodeTotals(CodeTotals),

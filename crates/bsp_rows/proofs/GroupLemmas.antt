@@ -1,9 +1,8 @@
 -- What a group's values and the rows of a verdict say of the places of related documents.
-use Rattle.std.proofs.Common.{◌≡◌, Bool, true, false, not, ◌&&◌, ◌||◌, List, [], ◌∷◌, Option, Some, None, is_some, is_none, Ok, refl, slice_index_or, length, ◌∙◌, ◌==◌, ℕ}
+use Rattle.std.proofs.Common.{◌≡◌, Bool, true, false, not, ◌&&◌, ◌||◌, List, [], ◌∷◌, Option, Some, None, is_some, is_none, Ok, refl, slice_index_or}
 use Rattle.std.specs.List.{list_any, list_all}
 use Rattle.std.proofs.lemmas.Bool.{and_parts, or_parts, not-true}
-use Rattle.std.specs.Str.{all_ascii_digits}
-use Rattle.bsp_fields.specs.Codes.{check_digit_of, code_reading, document_reading}
+use Rattle.bsp_fields.specs.Codes.{document_reading}
 use Rattle.bsp_fields.specs.Decimal.{number_of}
 use Rattle.bsp_ret_writer.specs.GroupValues.{is_group_values, is_document, are_related, are_amounts, is_card, has_parts, related_of}
 use Rattle.bsp_ret_records.specs.Values.{none_or}
@@ -13,9 +12,7 @@ use Rattle.bsp_ret_records.specs.declared.transactions.ReportedDocument.{Reporte
 use Rattle.bsp_ret_records.specs.declared.transactions.Transaction.{Transaction}
 use Rattle.bsp_rules.specs.Meanings.{ends_tickets}
 use Rattle.bsp_rules.specs.Verdicts.{is_wrong, is_wrong_place, has_wrong_check_digit}
-use Rattle.bsp_fields.specs.declared.fault.FieldFault.TheVariants.{Width, NotDigit, CheckDigit}
 use Rattle.bsp_fields.proofs.DocumentLemmas.{reads_without_fault}
-use Rattle.bsp_fields.proofs.FirstFaultLemmas.{row_passed, row_skipped}
 
 -- ---- the check digits
 
@@ -26,15 +23,6 @@ own_reads t h = reads_without_fault t.document.number t.document.check_digit (or
 pub related_read : (t : Transaction) → has_wrong_check_digit t ≡ false → list_any is_wrong_place t.related ≡ false
 unfolding has_wrong_check_digit
 related_read t h = (or_parts (is_wrong t.document) (list_any is_wrong_place t.related) h).1
-
--- a number with its check digit is ten digits
-pub reads_code : (text : List ℕ) (check n : ℕ) → document_reading text check ≡ Ok n → code_reading 10 text ≡ Ok n
-reads_code text check n h =
-    let wide = row_passed (not (length text == 10)) Width ((not (all_ascii_digits text), NotDigit) ∷ (not (check == check_digit_of (number_of text)), CheckDigit) ∷ []) (number_of text) n h in
-    let digits = row_passed (not (all_ascii_digits text)) NotDigit ((not (check == check_digit_of (number_of text)), CheckDigit) ∷ []) (number_of text) n wide.1 in
-    let checked = row_passed (not (check == check_digit_of (number_of text))) CheckDigit [] (number_of text) n digits.1 in
-    row_skipped (not (length text == 10)) Width ((not (all_ascii_digits text), NotDigit) ∷ []) (number_of text) wide.0
-    ∙ (row_skipped (not (all_ascii_digits text)) NotDigit [] (number_of text) digits.0 ∙ checked.1)
 
 -- ---- the parts of a group
 

@@ -1,8 +1,8 @@
 -- What the audit finds of items, and sound items.
-use Rattle.std.proofs.Common.{◌≡◌, ℕ, ◌≤◌, ◌==◌, Bool, true, false, not, ◌&&◌, ◌||◌, List, [], ◌∷◌, map, count_by, Option, Some, None, is_some, Ok, refl, sym, ap, subst, ◌∙◌, slice_index_or, nat_cmp, inl, inr}
+use Rattle.std.proofs.Common.{◌≡◌, ℕ, ◌≤◌, ◌==◌, Bool, true, false, not, ◌&&◌, ◌||◌, List, [], ◌∷◌, map, count_by, Option, Some, None, is_some, Ok, refl, sym, ap, subst, ◌∙◌, slice_index_or, length, nat_cmp, inl, inr}
 use Rattle.std.specs.Prelude.{is_none}
 use Rattle.std.specs.List.{Contains, filter_map, list_all, list_any}
-use Rattle.std.specs.Str.{bytes_eq}
+use Rattle.std.specs.Str.{all_ascii_digits, bytes_eq}
 use Rattle.std.specs.Ordering.{eq_by_cmp}
 use Rattle.std.specs.Cmp.{IsTotalOrder, nat_cmp_total, on_total, then_total}
 use Rattle.std.specs.Cmp.Lexicographic.{slice_cmp, nat_list_cmp_total}
@@ -11,8 +11,10 @@ use Rattle.std.specs.FinMap.{FinMap, IsAntisymmetric, entries, get, nat_cmp-IsAn
 use Rattle.std.proofs.lemmas.Bool.{and_parts, and_from, or_left, or_right, both_ways, eqb-true, eq-eqb, false_from_ne_true}
 use Rattle.std.proofs.lemmas.Bool.Decides.{same_from_decides}
 use Rattle.std.proofs.lemmas.Slice.Eq.{bytes_eq-Decides}
-use Rattle.bsp_fields.specs.Codes.{code_reading}
+use Rattle.bsp_fields.specs.Codes.{code_reading, document_reading, check_digit_of}
 use Rattle.bsp_fields.specs.Decimal.{number_of}
+use Rattle.bsp_fields.specs.declared.fault.FieldFault.TheVariants.{Width, NotDigit, CheckDigit}
+use Rattle.bsp_fields.proofs.FirstFaultLemmas.{row_passed, row_skipped}
 use Rattle.bsp_maps.proofs.Orderings.{then_equal}
 use Rattle.bsp_calendar.specs.Published.{Published}
 use Rattle.bsp_calendar.proofs.ListLemmas.{contains_cases, contains_none}
@@ -36,7 +38,7 @@ use Rattle.bsp_rows.specs.declared.limits.RelationKey.{RelationKey}
 use Rattle.bsp_rows.proofs.CountLemmas.{count_under}
 use Rattle.bsp_rows.proofs.CountTies.{count_alike, count_filter_map, count_mapped, few_entries, key_decides, one_passes, passes_if_there}
 use Rattle.bsp_rows.proofs.DemandLemmas.{at_entry, entry_at, same_entries}
-use Rattle.bsp_rows.proofs.GroupLemmas.{group_fits, reads_code}
+use Rattle.bsp_rows.proofs.GroupLemmas.{group_fits}
 use Rattle.bsp_rows.proofs.ItemLemmas.{named}
 use Rattle.bsp_rows.proofs.KeyOrders.{item_total, item_exact, tally_total, tally_exact}
 use Rattle.bsp_rows.proofs.MapLemmas.{same_Some, same_key}
@@ -118,6 +120,16 @@ any_step p y ys x passes rest in' =
 pub any_true : {A : Type 0} (p : A → Bool) (xs : List A) (x : A) → Contains xs x → p x ≡ true → list_any p xs ≡ true
 any_true p [] x in' passes = contains_none x in'
 any_true p (y ∷ ys) x in' passes = any_step p y ys x passes (λ there. any_true p ys x there passes) in'
+
+-- ---- a ticket's number
+
+reads_code : (text : List ℕ) (check n : ℕ) → document_reading text check ≡ Ok n → code_reading 10 text ≡ Ok n
+reads_code text check n h =
+    let wide = row_passed (not (length text == 10)) Width ((not (all_ascii_digits text), NotDigit) ∷ (not (check == check_digit_of (number_of text)), CheckDigit) ∷ []) (number_of text) n h in
+    let digits = row_passed (not (all_ascii_digits text)) NotDigit ((not (check == check_digit_of (number_of text)), CheckDigit) ∷ []) (number_of text) n wide.1 in
+    let checked = row_passed (not (check == check_digit_of (number_of text))) CheckDigit [] (number_of text) n digits.1 in
+    row_skipped (not (length text == 10)) Width ((not (all_ascii_digits text), NotDigit) ∷ []) (number_of text) wide.0
+    ∙ (row_skipped (not (all_ascii_digits text)) NotDigit [] (number_of text) digits.0 ∙ checked.1)
 
 -- ---- the key of a tally
 
@@ -251,7 +263,6 @@ module _ (p : Published) (agents : BTreeMap ℕ (List ℕ)) (ranges : BTreeMap R
               in_stock = in_stock (as_map nat_cmp agents) (as_map range_cmp ranges) stock k.agent k.number r.in_stock;
               in_time = r.in_time;
               tied = record { lives = t.marked; cancelled = t.cancelled; related = λ d in'. (t.related d in').found };
-              taxed = (a.each k i h).taxed;
             };
         related_once = once m ordered rights a.once;
         related_lives = λ k l i j hk hl same canx. false_from_ne_true _ (lives m ordered rights (λ k i h. (a.each k i h).tied) k l i j hk hl same canx);
@@ -282,7 +293,6 @@ module _ (p : Published) (agents : BTreeMap ℕ (List ℕ)) (ranges : BTreeMap R
                   unended = λ living. unended_by m ordered rights k i d t (λ l j at own canx. s.related_lives k l i j h at own canx) ticket.tied.lives (and_from (is_living_sale i) (names d.number i.transaction) living (name_of m ordered i d in')) (get (as_map item_cmp m) (canx_of (ticket_key k.agent d))) refl;
                 };
           };
-          taxed = (s.each k i h).taxed;
         };
         once = within_once m ordered rights s.related_once;
         documents = within_documents m ordered (limit_of p.terms) rights s.documents;

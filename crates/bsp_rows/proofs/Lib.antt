@@ -3,7 +3,6 @@ pub mod KeyOrders
 pub mod MapLemmas
 pub mod RowLemmas
 pub mod GroupLemmas
-pub mod TaxTies
 pub mod ClearedLemmas
 pub mod TakenLemmas
 pub mod ItemLemmas

@@ -81,7 +81,6 @@ tallies_sum k rows = record {
   cash = refl;
   credit = refl;
   commission = refl;
-  tax = refl;
   memos = refl;
 }
 
@@ -101,7 +100,6 @@ same_tally items memos t h =
       cash = h.cash i;
       credit = h.credit i;
       commission = h.commission i;
-      tax = h.tax i;
       memos = h.memos i;
     }
 

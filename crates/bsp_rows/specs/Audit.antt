@@ -27,7 +27,7 @@ use Rattle.bsp_rows.specs.declared.limits.PartiesKey.{PartiesKey}
 use Rattle.bsp_rows.specs.declared.unsound.Unsound.{Unsound}
 use Rattle.bsp_rows.specs.declared.unsound.Unsound.TheVariants.{Range, Item as OfItem, Memo}
 use Rattle.bsp_rows.specs.Rows.{Rows, canx_of, item_cmp, memo_cmp, range_cmp}
-use Rattle.bsp_rows.specs.Sound.{HasNumber, HasTicket, IsInTime, IsRight, IsSoundMemo, IsTaxed}
+use Rattle.bsp_rows.specs.Sound.{HasNumber, HasTicket, IsInTime, IsRight, IsSoundMemo}
 use Rattle.bsp_rows.specs.Tallies.{item_tally_key, tally_cmp}
 
 -- a map in memory as a value
@@ -134,7 +134,6 @@ pub record IsTiedItem (items : FinMap item_cmp Item) (k : ItemKey) (i : Item) : 
 pub record IsAuditedItem (published : Published) (agents : FinMap nat_cmp (List ℕ)) (ranges : FinMap range_cmp ℕ) (items : FinMap item_cmp Item) (k : ItemKey) (i : Item) : Type 0 where
   pub right : IsRightItem published agents ranges k i
   pub tied : IsTiedItem items k i
-  pub taxed : IsTaxed published items k i
 
 pub record AreItemsAudited (published : Published) (agents : BTreeMap ℕ (List ℕ)) (ranges : BTreeMap RangeKey ℕ) (items : BTreeMap ItemKey Item) : Type 0 where
   pub each : EachItem (as_map item_cmp items) (IsAuditedItem published (as_map nat_cmp agents) (as_map range_cmp ranges) (as_map item_cmp items))

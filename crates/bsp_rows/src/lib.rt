@@ -11,7 +11,6 @@ mod limits;
 mod questions;
 mod rules;
 mod sound_item;
-mod tax_rules;
 mod unsound;
 
 pub use audit::are_sound;
