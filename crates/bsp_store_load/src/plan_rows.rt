@@ -9,7 +9,7 @@ pub struct PlanRows {
     pub meta: Vec<Row>,
     /// Terms of the market.
     pub terms: Vec<Row>,
-    /// Published airlines.
+    /// Airlines that are published or registered.
     pub airlines: Vec<Row>,
     /// Rates of commission.
     pub rates: Vec<Row>,

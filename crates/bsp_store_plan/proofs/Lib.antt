@@ -1,3 +1,4 @@
+pub mod Back
 pub mod Orders
 pub mod Sharing
 pub mod MetaTable

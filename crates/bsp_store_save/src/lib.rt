@@ -4,6 +4,7 @@
 //! one transaction. [`recover`] gives up a transaction that failed.
 #![tactic(auto)]
 
+mod airlines;
 mod ends;
 mod keyed;
 mod making;
