@@ -127,11 +127,9 @@ DAMAGES = {
     "a ticket under the key of its CANX": (item_with("canx = 1"), item(CARD, A, 1)),
     "a memo of no kind": (memo_with("kind = 'X'"), MEMO),
     "a token of an agent out of its form": (f"UPDATE agent SET token = '' WHERE code = {B}", 'agent "76543213"'),
-    "a token of an airline out of its form": ("UPDATE airline SET token = '' WHERE code = '220'", 'airline "220"'),
+    "a token of an airline out of its form": (
+        "UPDATE airline_token SET token = '' WHERE airline = '220'", 'airline_token "220"'),
     "an airline out of its place": ("UPDATE airline SET place = 3 WHERE code = '220'", 'airline "220"'),
-    "an airline in the place of another": ("UPDATE airline SET place = 1 WHERE code = '220'", 'airline "220"'),
-    "an airline that is neither published nor registered": (
-        "INSERT INTO airline VALUES ('999', NULL, NULL)", 'airline "999"'),
     "a tally that is one more": (
         f"UPDATE tally SET cash = cash + 1 WHERE agent = {A} AND airline = '125'", 'tally "12345675" "125" "24011"'),
     "a tally too few": (f"DELETE FROM tally WHERE agent = {A} AND airline = '220'", "tally" + COUNT),

@@ -223,28 +223,7 @@ def kept_order():
         reply = answers(program, requests)[-1]
         expect("a sale with two taxes", (200, f'{{"results":[{{"n":1,"period":"24011","verdict":"{verdict}"}}]}}'), reply)
         program.kill()
-    expect("airlines", [("220", 1), ("125", 2), ("005", 3)], rows_of("order.db", "SELECT code, place FROM airline ORDER BY place"))
-
-
-def granted(file, requests):
-    """A book takes these requests. It is opened before, and closed after them."""
-    program = opened(file)
-    expect(f"{file}: requests", [200 for _ in requests], [it[0] for it in answers(program, requests)])
-    program.kill()
-
-
-def kept_airlines():
-    """An airline has one row, with its place, its token or both. No request registers an airline that no plan has, but a
-    file may have one."""
-    plan, file = sample("plan.toml"), "airlines.db"
-    register = of_office("POST", "airlines", f'{{"airline":"220","token":"{TOKENS["220"]}"}}')
-    granted(file, [of_office("POST", "plan", plan), register])
-    with contextlib.closing(sqlite3.connect(file, isolation_level=None)) as it:
-        it.execute("INSERT INTO airline VALUES ('999', NULL, 'airlinetoken0999')")
-    granted(file, [of_office("POST", "plan", plan.replace(b'["125", "220"]', b'["005", "999"]'))])
-    wanted = [("005", 3, None), ("125", 1, None), ("220", 2, TOKENS["220"]), ("999", 4, "airlinetoken0999")]
-    expect("airlines with places and tokens", wanted, rows_of(file, "SELECT * FROM airline ORDER BY code"))
-    granted(file, [register])
+    expect("airlines", [("220", 1), ("125", 2), ("005", 3)], rows_of("order.db", "SELECT * FROM airline ORDER BY place"))
 
 
 class Market(make_requests.Market):
@@ -528,7 +507,6 @@ def main():
         example_42()
         example_43()
         kept_order()
-        kept_airlines()
         killed_at_any_moment()
         full_disk()
         stored_run()

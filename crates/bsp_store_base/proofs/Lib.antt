@@ -12,7 +12,5 @@ pub mod Opening
 pub mod Days
 pub mod Keys
 pub mod Orders
-pub mod Placing
-pub mod AirlineLemmas
 pub mod Writes
 pub mod MapTables

@@ -23,7 +23,6 @@ use Rattle.bsp_rows.specs.declared.keys.RangeKey.{RangeKey}
 use Rattle.bsp_rows.specs.declared.keys.ItemKey.{ItemKey}
 use Rattle.bsp_rows.specs.declared.keys.MemoKey.{MemoKey}
 use Rattle.bsp_rows.specs.declared.keys.TallyKey.{TallyKey}
-use Rattle.bsp_store_base.specs.declared.airlines.AirlineEntry.{AirlineEntry}
 
 -- ---- values
 
@@ -83,8 +82,8 @@ abbrev pub terms_rows : Option Terms → List Row
 terms_rows None = []
 terms_rows (Some terms) = terms_row terms ∷ []
 
-abbrev pub airline_row : ℕ × AirlineEntry → Row
-airline_row e = airline_text e.0 ∷ or_null count e.1.place ∷ or_null Text e.1.token ∷ []
+abbrev pub airline_row : ℕ × ℕ → Row
+airline_row e = airline_text e.1 ∷ count e.0 ∷ []
 
 abbrev pub rate_row : ℕ × Rate → Row
 rate_row e = airline_text e.1.airline ∷ Int (day_number e.1.from) ∷ count e.0 ∷ count e.1.hundredths ∷ []
@@ -96,6 +95,9 @@ period_row e = period_text e.1.code ∷ count e.0 ∷ Int (day_number e.1.first)
 
 abbrev pub agent_row : ℕ × List ℕ → Row
 agent_row e = agent_text e.0 ∷ Text e.1 ∷ []
+
+abbrev pub airline_token_row : ℕ × List ℕ → Row
+airline_token_row e = airline_text e.0 ∷ Text e.1 ∷ []
 
 abbrev pub stock_row : RangeKey × ℕ → Row
 stock_row e = agent_text e.0.agent ∷ number_text e.0.first ∷ number_text e.1 ∷ []

@@ -10,22 +10,20 @@ use Rattle.bsp_rows.specs.MemoFields.{MemoFields}
 use Rattle.bsp_rows.specs.Tally.{Tally}
 use Rattle.bsp_rows.specs.Rows.{Rows, item_cmp, memo_cmp, range_cmp}
 use Rattle.bsp_rows.specs.Tallies.{tally_cmp}
-use Rattle.bsp_store_base.specs.declared.airlines.AirlineEntry.{AirlineEntry}
-use Rattle.bsp_store_base.specs.Airlines.{airline_entries}
-use Rattle.bsp_store_base.specs.Columns.{Meta, airline_row, agent_row, item_row, memo_row, meta_rows, period_row, placed, rate_row, stock_row, tally_row, terms_rows}
-use Rattle.bsp_store_schema.specs.Schema.{our_schema, meta_table, terms_table, airline_table, rate_table, period_table, agent_table, stock_table, item_table, memo_table, tally_table}
+use Rattle.bsp_store_base.specs.Columns.{Meta, airline_row, airline_token_row, agent_row, item_row, memo_row, meta_rows, period_row, placed, rate_row, stock_row, tally_row, terms_rows}
+use Rattle.bsp_store_schema.specs.Schema.{our_schema, meta_table, terms_table, airline_table, rate_table, period_table, agent_table, airline_token_table, stock_table, item_table, memo_table, tally_table}
 use Rattle.bsp_store_base.specs.Kept.{Form, Part}
 
 pub record Content : Type 0 where
   pub meta : Option Meta
   pub terms : Option Terms
-  -- the airlines that are published or registered
-  pub airlines : FinMap nat_cmp AirlineEntry
   -- what is published, in the order of its publication
+  pub published : List ℕ
   pub rates : List Rate
   pub periods : List Period
-  -- the tokens of agents
+  -- the tokens of agents and of airlines
   pub agents : FinMap nat_cmp (List ℕ)
+  pub airlines : FinMap nat_cmp (List ℕ)
   pub ranges : FinMap range_cmp ℕ
   pub items : FinMap item_cmp Item
   pub memos : FinMap memo_cmp MemoFields
@@ -36,10 +34,11 @@ abbrev pub content_with : Rows → FinMap tally_cmp Tally → Content
 content_with rows tallies = record {
   meta = Some (record { day = rows.published.day; closed = length rows.published.closed });
   terms = rows.published.terms;
-  airlines = airline_entries rows.published.airlines rows.airlines;
+  published = rows.published.airlines;
   rates = rows.published.rates;
   periods = rows.published.periods;
   agents = rows.agents;
+  airlines = rows.airlines;
   ranges = rows.ranges;
   items = rows.items;
   memos = rows.memos;
@@ -55,7 +54,7 @@ abbrev pub terms_part : Part Content
 terms_part = record { tree = terms_table.tree; rows = λ c. terms_rows c.terms }
 
 abbrev pub airline_part : Part Content
-airline_part = record { tree = airline_table.tree; rows = λ c. map airline_row (entries c.airlines) }
+airline_part = record { tree = airline_table.tree; rows = λ c. map airline_row (placed 0 c.published) }
 
 abbrev pub rate_part : Part Content
 rate_part = record { tree = rate_table.tree; rows = λ c. map rate_row (placed 0 c.rates) }
@@ -65,6 +64,9 @@ period_part = record { tree = period_table.tree; rows = λ c. map period_row (pl
 
 abbrev pub agent_part : Part Content
 agent_part = record { tree = agent_table.tree; rows = λ c. map agent_row (entries c.agents) }
+
+abbrev pub airline_token_part : Part Content
+airline_token_part = record { tree = airline_token_table.tree; rows = λ c. map airline_token_row (entries c.airlines) }
 
 abbrev pub stock_part : Part Content
 stock_part = record { tree = stock_table.tree; rows = λ c. map stock_row (entries c.ranges) }
@@ -80,7 +82,7 @@ tally_part = record { tree = tally_table.tree; rows = λ c. map tally_row (entri
 
 -- how many columns the table of a tree has; the trees between are those of indexes
 abbrev pub widths : List ℕ
-widths = 4 ∷ 0 ∷ 4 ∷ 0 ∷ 3 ∷ 0 ∷ 4 ∷ 0 ∷ 5 ∷ 0 ∷ 2 ∷ 0 ∷ 3 ∷ 0 ∷ 19 ∷ 0 ∷ 10 ∷ 0 ∷ 11 ∷ []
+widths = 4 ∷ 0 ∷ 4 ∷ 0 ∷ 2 ∷ 0 ∷ 4 ∷ 0 ∷ 5 ∷ 0 ∷ 2 ∷ 0 ∷ 2 ∷ 0 ∷ 3 ∷ 0 ∷ 19 ∷ 0 ∷ 10 ∷ 0 ∷ 11 ∷ []
 
 abbrev pub width_of : ℕ → ℕ
 width_of tree = slice_index_or widths tree 0
@@ -90,6 +92,6 @@ abbrev pub form : Form Content
 form = record {
   schema = our_schema;
   width = width_of;
-  parts = meta_part ∷ terms_part ∷ airline_part ∷ rate_part ∷ period_part ∷ agent_part ∷ stock_part ∷ item_part ∷ memo_part ∷ tally_part ∷ [];
+  parts = meta_part ∷ terms_part ∷ airline_part ∷ rate_part ∷ period_part ∷ agent_part ∷ airline_token_part ∷ stock_part ∷ item_part ∷ memo_part ∷ tally_part ∷ [];
   apart = refl;
 }

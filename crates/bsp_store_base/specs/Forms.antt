@@ -17,8 +17,6 @@ use Rattle.bsp_rows.specs.declared.keys.RangeKey.{RangeKey}
 use Rattle.bsp_rows.specs.declared.keys.ItemKey.{ItemKey}
 use Rattle.bsp_rows.specs.declared.keys.MemoKey.{MemoKey}
 use Rattle.bsp_rows.specs.declared.keys.TallyKey.{TallyKey}
-use Rattle.bsp_store_base.specs.declared.airlines.AirlineEntry.{AirlineEntry}
-use Rattle.bsp_store_base.specs.Airlines.{HasStoredPlace}
 use Rattle.bsp_store_base.specs.Columns.{Meta}
 use Rattle.bsp_store_base.specs.Content.{Content}
 
@@ -58,10 +56,9 @@ pub record IsAgentEntry (e : ℕ × List ℕ) : Type 0 where
   pub agent : IsAgent e.0
   pub token : is_token e.1 ≡ true
 
-pub record IsAirlineEntry (e : ℕ × AirlineEntry) : Type 0 where
+pub record IsAirlineEntry (e : ℕ × List ℕ) : Type 0 where
   pub airline : IsAirline e.0
-  pub place : HasStoredPlace e.1
-  pub token : IfSome e.1.token (λ token. is_token token ≡ true)
+  pub token : is_token e.1 ≡ true
 
 pub record IsRangeEntry (e : RangeKey × ℕ) : Type 0 where
   pub agent : IsAgent e.0.agent
@@ -91,8 +88,9 @@ pub record IsTallyKey (k : TallyKey) : Type 0 where
 
 -- ---- a content
 
--- the places of rates and periods are integers of a store
+-- the places of the plan's entries are integers of a store
 pub record ArePlaces (c : Content) : Type 0 where
+  pub airlines : length c.published < 2 ^ 63
   pub rates : length c.rates < 2 ^ 63
   pub periods : length c.periods < 2 ^ 63
 
@@ -100,10 +98,11 @@ pub record IsFormed (c : Content) : Type 0 where
   pub places : ArePlaces c
   pub meta : IfSome c.meta IsMeta
   pub terms : IfSome c.terms AreTerms
-  pub airlines : AllByRecursion IsAirlineEntry (entries c.airlines)
+  pub published : AllByRecursion IsAirline c.published
   pub rates : AllByRecursion IsRate c.rates
   pub periods : AllByRecursion IsPeriod c.periods
   pub agents : AllByRecursion IsAgentEntry (entries c.agents)
+  pub airlines : AllByRecursion IsAirlineEntry (entries c.airlines)
   pub ranges : AllByRecursion IsRangeEntry (entries c.ranges)
   pub items : AllByRecursion IsItemEntry (entries c.items)
   pub memos : AllByRecursion IsMemoEntry (entries c.memos)

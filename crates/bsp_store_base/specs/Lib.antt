@@ -2,7 +2,6 @@ pub mod Kept
 pub mod Simple
 pub mod Synced
 pub mod Columns
-pub mod Airlines
 pub mod Reading
 pub mod Content
 pub mod Calls

@@ -11,7 +11,7 @@ use crate::tallies::{first_wrong, used};
 use bsp_memory_rows::Tables;
 use bsp_rows::Unsound;
 use bsp_store_load::{
-    Agents, PlanRows, Ranges, StoredItems, StoredMemos, StoredTable, plan_tables,
+    Agents, AirlineTokens, PlanRows, Ranges, StoredItems, StoredMemos, StoredTable, plan_tables,
 };
 use bsp_store_open::{OpenFault, load_rows, plan_rows, tallies};
 use sqlite::{Alter, Connection, Row};
@@ -60,7 +60,7 @@ fn row_damage<S: Alter, K, V, T: StoredTable<K, V>>(
     }
 }
 
-/// The first row of agents and ranges that no office writes.
+/// The first row of the tables of callers that no office writes.
 fn caller_damage<S: Alter>(
     alloc: Global,
     conn: &mut Connection<S>,
@@ -69,6 +69,9 @@ fn caller_damage<S: Alter>(
     ensures spares { Spares S.Store conn.old conn.new }
 {
     if let Some(damage) = row_damage(alloc, conn, tables, Table::Agent, &Agents)? {
+        return Ok(Some(damage));
+    }
+    if let Some(damage) = row_damage(alloc, conn, tables, Table::AirlineToken, &AirlineTokens)? {
         return Ok(Some(damage));
     }
     row_damage(alloc, conn, tables, Table::Stock, &Ranges)

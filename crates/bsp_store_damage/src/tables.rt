@@ -11,7 +11,7 @@ pub enum Table {
     Meta,
     /// Terms of the market.
     Terms,
-    /// Airlines that are published or registered.
+    /// Published airlines.
     Airline,
     /// Rates of commission.
     Rate,
@@ -19,6 +19,8 @@ pub enum Table {
     Period,
     /// Tokens of agents.
     Agent,
+    /// Tokens of airlines.
+    AirlineToken,
     /// Ranges of stock.
     Stock,
     /// Items.
@@ -30,13 +32,14 @@ pub enum Table {
 }
 
 /// The tables in the order in which they are made.
-pub(crate) const TABLES: [Table; 10] = [
+pub(crate) const TABLES: [Table; 11] = [
     Table::Meta,
     Table::Terms,
     Table::Airline,
     Table::Rate,
     Table::Period,
     Table::Agent,
+    Table::AirlineToken,
     Table::Stock,
     Table::Item,
     Table::Memo,
@@ -62,6 +65,7 @@ impl Table {
             Table::Rate => "rate",
             Table::Period => "period",
             Table::Agent => "agent",
+            Table::AirlineToken => "airline_token",
             Table::Stock => "stock",
             Table::Item => "item",
             Table::Memo => "memo",
@@ -72,7 +76,12 @@ impl Table {
     /// How many columns its key has; they are its first.
     pub(crate) fn key_columns(self) -> usize {
         match self {
-            Table::Meta | Table::Terms | Table::Airline | Table::Period | Table::Agent => 1,
+            Table::Meta
+            | Table::Terms
+            | Table::Airline
+            | Table::Period
+            | Table::Agent
+            | Table::AirlineToken => 1,
             Table::Rate | Table::Stock | Table::Memo => 2,
             Table::Item | Table::Tally => 3,
         }

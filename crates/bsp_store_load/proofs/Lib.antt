@@ -1,8 +1,4 @@
 pub mod Lists
-pub mod PlacedOrder
-pub mod Gathering
-pub mod AirlineReads
-pub mod AirlineMap
 pub mod Remaining
 pub mod PutLemmas
 pub mod CloseLemmas
@@ -26,8 +22,6 @@ pub mod PlainRows
 pub mod TallyLemmas
 pub mod NothingLemmas
 pub use Rattle.bsp_rows.proofs.KeptLemmas
-pub use Rattle.bsp_store_base.proofs.AirlineLemmas
 pub use Rattle.bsp_store_base.proofs.Held
-pub use Rattle.bsp_store_base.proofs.Placing
 pub use Rattle.bsp_store_base.proofs.Rising
 pub use Rattle.bsp_store_base.proofs.Syncing

@@ -7,16 +7,19 @@ use Rattle.std.proofs.lemmas.List.Sorted.{IsPermutation-sym}
 use Rattle.bsp_rows.specs.Item.{Item}
 use Rattle.bsp_rows.specs.MemoFields.{MemoFields}
 use Rattle.bsp_rows.specs.Rows.{Rows, item_cmp, key_of, memo_cmp, memo_key, range_cmp, range_of}
-use Rattle.bsp_rows.specs.Writes.{with_agent_token, with_item, with_memo, with_range}
+use Rattle.bsp_rows.specs.Writes.{with_agent_token, with_airline_token, with_item, with_memo, with_range}
 use Rattle.bsp_rows.specs.declared.keys.ItemKey.{ItemKey}
 use Rattle.bsp_rows.specs.declared.keys.MemoKey.{MemoKey}
 use Rattle.bsp_rows.specs.declared.keys.RangeKey.{RangeKey}
 use Rattle.bsp_rows.proofs.KeyOrders.{item_total, memo_total, range_total}
-use Rattle.bsp_store_base.specs.Columns.{agent_row, item_row, memo_row, stock_row}
+use Rattle.bsp_store_base.specs.Columns.{agent_row, airline_token_row, item_row, memo_row, stock_row}
 use Rattle.bsp_store_base.proofs.Syncing.{rows_added}
 
 pub agent_added : (e : ℕ × List ℕ) (rows : Rows) → get rows.agents e.0 ≡ None → IsPermutation (agent_row e ∷ map agent_row (entries rows.agents)) (map agent_row (entries (with_agent_token e.0 e.1 rows).agents))
 agent_added e rows none = IsPermutation-sym _ _ (rows_added nat_cmp nat_cmp_total agent_row rows.agents e.0 e.1 none)
+
+pub airline_added : (e : ℕ × List ℕ) (rows : Rows) → get rows.airlines e.0 ≡ None → IsPermutation (airline_token_row e ∷ map airline_token_row (entries rows.airlines)) (map airline_token_row (entries (with_airline_token e.0 e.1 rows).airlines))
+airline_added e rows none = IsPermutation-sym _ _ (rows_added nat_cmp nat_cmp_total airline_token_row rows.airlines e.0 e.1 none)
 
 pub range_added : (e : RangeKey × ℕ) (rows : Rows) → get rows.ranges e.0 ≡ None → IsPermutation (stock_row e ∷ map stock_row (entries rows.ranges)) (map stock_row (entries (with_range e.0.agent (range_of e) rows).ranges))
 range_added e rows none = IsPermutation-sym _ _ (rows_added range_cmp range_total stock_row rows.ranges e.0 e.1 none)

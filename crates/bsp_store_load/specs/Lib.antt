@@ -1,5 +1,4 @@
 pub mod Entries
-pub mod Gathered
 pub mod Loading
 pub mod Adding
 pub mod Nothing
@@ -9,8 +8,6 @@ pub use Rattle.bsp_memory_rows.specs.Plans
 pub use Rattle.bsp_memory_rows.specs.Tables as MemoryRowsTables
 pub use Rattle.bsp_memory_rows.specs.declared.saved_plan.SavedPlan
 pub use Rattle.bsp_memory_rows.specs.declared.tables.Tables
-pub use Rattle.bsp_store_base.specs.Airlines
-pub use Rattle.bsp_store_base.specs.declared.airlines.AirlineEntry
 pub use Rattle.bsp_store_base.specs.Calls
 pub use Rattle.bsp_store_base.specs.Columns
 pub use Rattle.bsp_store_base.specs.Content

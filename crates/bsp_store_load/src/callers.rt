@@ -1,10 +1,13 @@
-//! The tables of agents and of ranges: each row, put into memory.
+//! The tables of callers: each row, put into memory.
 
 use crate::equal::is_row;
 use crate::load::StoredTable;
 use bsp_memory_rows::{NoRoom, Tables};
-use bsp_rows::{AgentCode, DocNumber, RangeKey, Token};
-use bsp_store_callers::{AgentRow, RangeRow, agents_query, ranges_query, read_agent, read_range};
+use bsp_rows::{AgentCode, AirlineCode, DocNumber, RangeKey, Token};
+use bsp_store_callers::{
+    AgentRow, AirlineTokenRow, RangeRow, agents_query, airline_tokens_query, ranges_query,
+    read_agent, read_airline_token, read_range,
+};
 use sqlite::Row;
 
 /// Tokens of agents.
@@ -49,6 +52,52 @@ impl StoredTable<AgentCode, Token> for Agents {
             return Ok(false);
         }
         tables.set_agent_token(agent, token)?;
+        Ok(true)
+    }
+}
+
+/// Tokens of airlines.
+#[derive(Clone, Copy, Debug)]
+pub struct AirlineTokens;
+
+impl StoredTable<AirlineCode, Token> for AirlineTokens {
+    ghost use Rattle.std.specs.Prelude.{◌≡◌, map, None};
+    ghost use Rattle.std.specs.FinMap.{entries, get};
+    ghost use Rattle.bsp_rows.specs.Writes.{with_airline_token};
+    ghost use Rattle.bsp_store_base.specs.Columns.{airline_token_row};
+    ghost use Rattle.bsp_store_base.specs.Content.{airline_token_part};
+    ghost use Rattle.bsp_store_base.specs.Forms.{IsAirlineEntry};
+    ghost use Rattle.bsp_store_load.specs.Adding.{airline_added};
+
+    ghost part = { airline_token_part };
+
+    ghost row_of = { airline_token_row };
+
+    ghost with_entry = { λ e. with_airline_token e.0 e.1 };
+
+    ghost fits = { IsAirlineEntry };
+
+    ghost lacks = { λ e rows. get rows.airlines e.0 ≡ None };
+
+    ghost rows_in = { λ rows. map airline_token_row (entries rows.airlines) };
+
+    ghost adds = { airline_added };
+
+    fn query(&self) -> &'static str {
+        airline_tokens_query()
+    }
+
+    fn put(&self, tables: &mut Tables, row: &Row) -> Result<bool, NoRoom> {
+        let Some((airline, token)) = read_airline_token(row) else {
+            return Ok(false);
+        };
+        if !is_row(row, &AirlineTokenRow::of(airline, &token).values()) {
+            return Ok(false);
+        }
+        if tables.airline_token(airline).is_some() {
+            return Ok(false);
+        }
+        tables.set_airline_token(airline, token)?;
         Ok(true)
     }
 }

@@ -1,12 +1,9 @@
 //! The rows of a book in memory, made from all rows of its tables.
 //!
-//! [`plan_tables`] makes tables in memory with the plan and the tokens of airlines. [`load_table`] puts the rows of a
-//! further table into them, one at a time as a query shows them. [`are_tallies`] says whether the tallies of a store are
-//! those of the tables.
+//! [`plan_tables`] makes tables in memory with the plan. [`load_table`] puts the rows of a further table into them, one
+//! at a time as a query shows them. [`are_tallies`] says whether the tallies of a store are those of the tables.
 #![tactic(auto)]
 
-mod airline_map;
-mod airlines;
 mod callers;
 mod compared;
 mod equal;
@@ -25,7 +22,7 @@ pub use bsp_store_memos::all_tallies;
 pub use bsp_store_plan::{
     VERSION, all_airlines, all_meta, all_periods, all_rates, all_terms, read_version,
 };
-pub use callers::{Agents, Ranges};
+pub use callers::{Agents, AirlineTokens, Ranges};
 pub use compared::plan_tables;
 pub use equal::is_row;
 pub use first::has_nothing;

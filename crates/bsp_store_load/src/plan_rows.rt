@@ -9,7 +9,7 @@ pub struct PlanRows {
     pub meta: Vec<Row>,
     /// Terms of the market.
     pub terms: Vec<Row>,
-    /// Airlines that are published or registered.
+    /// Published airlines.
     pub airlines: Vec<Row>,
     /// Rates of commission.
     pub rates: Vec<Row>,

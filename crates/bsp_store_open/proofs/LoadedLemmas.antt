@@ -1,7 +1,7 @@
 -- From one table to the next, as they are put into memory.
-use Rattle.std.proofs.Common.{◌≡◌, ℕ, List, Bool, true, false, Option, Some, None, is_some, refl, sym, ap, subst, ◌∙◌, IsPermutation, map, nat_cmp}
+use Rattle.std.proofs.Common.{◌≡◌, Bool, true, false, Option, Some, None, is_some, refl, sym, ap, subst, ◌∙◌, IsPermutation, map}
 use Rattle.std.specs.List.{AllByRecursion}
-use Rattle.std.specs.FinMap.{FinMap, empty, entries}
+use Rattle.std.specs.FinMap.{empty, entries}
 use Rattle.sqlite_trees.specs.Tree.{Trees}
 use Rattle.bsp_store_load.specs.Memos.{is_memo}
 use Rattle.bsp_book.specs.Rows.{Rows, memo_key, no_rows}
@@ -9,12 +9,12 @@ use Rattle.bsp_book.specs.Sound.{IsRight, Sound}
 use Rattle.bsp_store_load.specs.MemoryRowsTables.{IsDerived, rows_of}
 use Rattle.bsp_store_load.specs.Tables.{Tables}
 use Rattle.bsp_store_load.specs.Kept.{KeepsRows, Part, columns_of}
-use Rattle.bsp_store_load.specs.Content.{Content, agent_part, airline_part, form, item_part, meta_part, period_part, rate_part, stock_part, tally_part, terms_part}
+use Rattle.bsp_store_load.specs.Content.{Content, agent_part, airline_part, airline_token_part, form, item_part, meta_part, period_part, rate_part, stock_part, tally_part, terms_part}
 use Rattle.bsp_store_load.specs.Contents.{IsContentOf, content_now}
 use Rattle.bsp_store_load.specs.Forms.{IsFormed}
 use Rattle.bsp_store_load.specs.Loading.{HasRows}
 use Rattle.bsp_store_load.proofs.Building.{content_of, formed_plan}
-use Rattle.bsp_store_load.proofs.CallerLoaders.{agents_loader, ranges_loader}
+use Rattle.bsp_store_load.proofs.CallerLoaders.{agents_loader, airlines_loader, ranges_loader}
 use Rattle.bsp_store_load.proofs.Loaders.{Leaves, Loads, others, rows_here, whole_here}
 use Rattle.bsp_store_load.proofs.SaleLoaders.{items_loader, memos_loader}
 use Rattle.bsp_store_load.proofs.TableLemmas.{both_all, items_right, memos_fit, memos_may}
@@ -38,34 +38,49 @@ pub one_left : {X : Type 0} (o : Option X) (b : Bool) → b ≡ is_some o → b 
 one_left None b is some = absurd (cc (is, some))
 one_left (Some x) b is some = (x, refl)
 
--- ---- agents and ranges
+-- ---- callers
 
-module _ (trees : Trees) (zero one two : Rows) (none : HasNoCallers zero) where
+module _ (trees : Trees) (zero one two three : Rows) (none : HasNoCallers zero) where
   module _ (agents : Loads agents_loader trees zero one None) where
     agents_only : one ≡ record zero { agents = one.agents }
     agents_only = others agents_loader trees zero one None agents
 
-    no_ranges : one.ranges ≡ empty
-    no_ranges = ap (λ (r : Rows). r.ranges) agents_only ∙ none.ranges
+    no_airlines : one.airlines ≡ empty
+    no_airlines = ap (λ (r : Rows). r.airlines) agents_only ∙ none.airlines
 
-    pub callers_loaded : Loads ranges_loader trees one two None → AreCallersLoaded trees zero two
-    callers_loaded ranges =
-        let ranges_only : two ≡ record one { ranges = two.ranges } = others ranges_loader trees one two None ranges in
-        let same_agents : two.agents ≡ one.agents = ap (λ (r : Rows). r.agents) ranges_only in
-        let put_ranges : Rows → Rows = λ r. record r { ranges = two.ranges } in
-        let whole : two ≡ record zero { agents = one.agents; ranges = two.ranges } = ranges_only ∙ ap put_ranges agents_only in
-        record {
-          others = whole ∙ (λ i. record zero { agents = sym same_agents i; ranges = two.ranges });
-          agents = subst (λ m. IsPermutation (map (columns_of 2) (trees agent_part.tree)) (map agents_loader.row_of (entries m))) (sym same_agents) (rows_here agents_loader trees zero one None agents none.agents refl);
-          ranges = rows_here ranges_loader trees one two None ranges no_ranges refl;
-          whole = λ c formed keeps.
-              let with_ranges : Rows → Rows = λ r. record r { ranges = c.ranges } in
-              (whole_here ranges_loader trees one two None ranges no_ranges c formed keeps formed.ranges).1
-              ∙ ap with_ranges (whole_here agents_loader trees zero one None agents none.agents c formed keeps formed.agents).1;
-        }
+    module _ (airlines : Loads airlines_loader trees one two None) where
+      airlines_only : two ≡ record one { airlines = two.airlines }
+      airlines_only = others airlines_loader trees one two None airlines
 
-    pub no_ranges_loaded : Leaves ranges_loader trees one two → NoCallers trees
-    no_ranges_loaded ranges c formed keeps = cc (whole_here ranges_loader trees one two (Some ranges.0) ranges.1 no_ranges c formed keeps formed.ranges).0
+      no_ranges : two.ranges ≡ empty
+      no_ranges = ap (λ (r : Rows). r.ranges) airlines_only ∙ ap (λ (r : Rows). r.ranges) agents_only ∙ none.ranges
+
+      pub callers_loaded : Loads ranges_loader trees two three None → AreCallersLoaded trees zero three
+      callers_loaded ranges =
+          let ranges_only : three ≡ record two { ranges = three.ranges } = others ranges_loader trees two three None ranges in
+          let same_airlines : three.airlines ≡ two.airlines = ap (λ (r : Rows). r.airlines) ranges_only in
+          let same_agents : three.agents ≡ one.agents = ap (λ (r : Rows). r.agents) ranges_only ∙ ap (λ (r : Rows). r.agents) airlines_only in
+          let put_airlines : Rows → Rows = λ r. record r { airlines = two.airlines } in
+          let put_ranges : Rows → Rows = λ r. record r { ranges = three.ranges } in
+          let whole : three ≡ record zero { agents = one.agents; airlines = two.airlines; ranges = three.ranges } = ranges_only ∙ ap put_ranges (airlines_only ∙ ap put_airlines agents_only) in
+          record {
+            others = whole ∙ (λ i. record zero { agents = sym same_agents i; airlines = sym same_airlines i; ranges = three.ranges });
+            agents = subst (λ m. IsPermutation (map (columns_of 2) (trees agent_part.tree)) (map agents_loader.row_of (entries m))) (sym same_agents) (rows_here agents_loader trees zero one None agents none.agents refl);
+            airlines = subst (λ m. IsPermutation (map (columns_of 2) (trees airline_token_part.tree)) (map airlines_loader.row_of (entries m))) (sym same_airlines) (rows_here airlines_loader trees one two None airlines no_airlines refl);
+            ranges = rows_here ranges_loader trees two three None ranges no_ranges refl;
+            whole = λ c formed keeps.
+                let with_airlines : Rows → Rows = λ r. record r { airlines = c.airlines } in
+                let with_ranges : Rows → Rows = λ r. record r { ranges = c.ranges } in
+                (whole_here ranges_loader trees two three None ranges no_ranges c formed keeps formed.ranges).1
+                ∙ ap with_ranges ((whole_here airlines_loader trees one two None airlines no_airlines c formed keeps formed.airlines).1
+                ∙ ap with_airlines (whole_here agents_loader trees zero one None agents none.agents c formed keeps formed.agents).1);
+          }
+
+      pub no_ranges_loaded : Leaves ranges_loader trees two three → NoCallers trees
+      no_ranges_loaded ranges c formed keeps = cc (whole_here ranges_loader trees two three (Some ranges.0) ranges.1 no_ranges c formed keeps formed.ranges).0
+
+    pub no_airlines_loaded : Leaves airlines_loader trees one two → NoCallers trees
+    no_airlines_loaded airlines c formed keeps = cc (whole_here airlines_loader trees one two (Some airlines.0) airlines.1 no_airlines c formed keeps formed.airlines).0
 
   pub no_agents_loaded : Leaves agents_loader trees zero one → NoCallers trees
   no_agents_loaded agents c formed keeps = cc (whole_here agents_loader trees zero one (Some agents.0) agents.1 none.agents c formed keeps formed.agents).0
@@ -108,6 +123,7 @@ module _ (trees : Trees) (zero : Rows) (planned : IsPlanned trees zero) where
   pub callers_none : HasNoCallers zero
   callers_none = record {
     agents = ap (λ (r : Rows). r.agents) planned.alone;
+    airlines = ap (λ (r : Rows). r.airlines) planned.alone;
     ranges = ap (λ (r : Rows). r.ranges) planned.alone;
   }
 
@@ -134,8 +150,8 @@ module _ (trees : Trees) (zero : Rows) (planned : IsPlanned trees zero) where
         memos = subst (λ m. AllByRecursion (λ e. (memo_key e.1 ≡ e.0) × (is_memo e.1 ≡ true)) (entries m)) (sym (ap (λ (d : Content). d.memos) of.same)) (memos_fit book sound);
       }
 
-      plan_is : zero ≡ record no_rows { published = book.published; airlines = book.airlines }
-      plan_is = planned.only book.published book.airlines sound.plan (formed_plan book c of formed) (record {
+      plan_is : zero ≡ record no_rows { published = book.published }
+      plan_is = planned.only book.published sound.plan (formed_plan book c of formed) (record {
         meta = planned.are.meta.in_order c formed keeps ∙ ap meta_part.rows of.same;
         terms = planned.are.terms.in_order c formed keeps ∙ ap terms_part.rows of.same;
         airlines = planned.are.airlines.in_order c formed keeps ∙ ap airline_part.rows of.same;
@@ -145,9 +161,9 @@ module _ (trees : Trees) (zero : Rows) (planned : IsPlanned trees zero) where
 
       pub book_is : (two : Rows) → AreSalesLoaded trees one two → two ≡ book
       book_is two sales =
-          let with_callers : Rows → Rows = λ r. record r { agents = c.agents; ranges = c.ranges } in
+          let with_callers : Rows → Rows = λ r. record r { agents = c.agents; airlines = c.airlines; ranges = c.ranges } in
           let with_sales : Rows → Rows = λ r. record r { items = c.items; memos = c.memos } in
-          let rows_in : Content → Rows = λ d. record { published = book.published; agents = d.agents; airlines = book.airlines; ranges = d.ranges; items = d.items; memos = d.memos } in
+          let rows_in : Content → Rows = λ d. record { published = book.published; agents = d.agents; airlines = d.airlines; ranges = d.ranges; items = d.items; memos = d.memos } in
           sales.whole c formed right keeps ∙ ap with_sales (callers.whole c formed keeps ∙ ap with_callers plan_is) ∙ ap rows_in of.same
 
     module _ (tables : Tables) (sales : AreSalesLoaded trees one (rows_of tables)) where
@@ -158,13 +174,8 @@ module _ (trees : Trees) (zero : Rows) (planned : IsPlanned trees zero) where
       same_plan : (rows_of tables).published ≡ zero.published
       same_plan = ap (λ (r : Rows). r.published) sales.others ∙ ap (λ (r : Rows). r.published) callers.others
 
-      same_airlines : (rows_of tables).airlines ≡ zero.airlines
-      same_airlines = ap (λ (r : Rows). r.airlines) sales.others ∙ ap (λ (r : Rows). r.airlines) callers.others
-
-      plan_rows_are : AreRowsOfPlan (rows_of tables).published (rows_of tables).airlines planned.stored
-      plan_rows_are =
-          subst (λ p. AreRowsOfPlan p (rows_of tables).airlines planned.stored) (sym same_plan)
-          (subst (λ m. AreRowsOfPlan zero.published m planned.stored) (sym same_airlines) planned.of)
+      plan_rows_are : AreRowsOfPlan (rows_of tables).published planned.stored
+      plan_rows_are = subst (λ p. AreRowsOfPlan p planned.stored) (sym same_plan) planned.of
 
       pub all_loaded : HasRows tally_part (content_now tables) trees → IsAllLoaded trees tables
       all_loaded tallies =
@@ -183,8 +194,11 @@ module _ (trees : Trees) (zero : Rows) (planned : IsPlanned trees zero) where
                       (
                         subst (λ m. IsPermutation (map (columns_of 2) (trees agent_part.tree)) (map agents_loader.row_of (entries m))) (sym (ap (λ (r : Rows). r.agents) sales.others)) callers.agents,
                         (
-                          subst (λ m. IsPermutation (map (columns_of 3) (trees stock_part.tree)) (map ranges_loader.row_of (entries m))) (sym (ap (λ (r : Rows). r.ranges) sales.others)) callers.ranges,
-                          (sales.items, (sales.memos, (tallies, tt))),
+                          subst (λ m. IsPermutation (map (columns_of 2) (trees airline_token_part.tree)) (map airlines_loader.row_of (entries m))) (sym (ap (λ (r : Rows). r.airlines) sales.others)) callers.airlines,
+                          (
+                            subst (λ m. IsPermutation (map (columns_of 3) (trees stock_part.tree)) (map ranges_loader.row_of (entries m))) (sym (ap (λ (r : Rows). r.ranges) sales.others)) callers.ranges,
+                            (sales.items, (sales.memos, (tallies, tt))),
+                          ),
                         ),
                       ),
                     ),
@@ -213,9 +227,9 @@ still_loaded trees a b was derived same loaded =
 -- ---- what is refused
 
 -- rows that are those of no plan
-pub no_plan : (trees : Trees) (stored : PlanRows) → ArePlanRows trees stored → IsOfVersion stored.meta.items → ((p : Published) (tokens : FinMap nat_cmp (List ℕ)) → IsSoundPlan p → IsFormedPlan p tokens → AreRowsOfPlan p tokens stored → ⊥) → ShowsNoBook Damaged trees
+pub no_plan : (trees : Trees) (stored : PlanRows) → ArePlanRows trees stored → IsOfVersion stored.meta.items → ((p : Published) → IsSoundPlan p → IsFormedPlan p → AreRowsOfPlan p stored → ⊥) → ShowsNoBook Damaged trees
 no_plan trees stored are version none = record {
-  none = λ book c sound of formed keeps. none book.published book.airlines sound.plan (formed_plan book c of formed) (record {
+  none = λ book c sound of formed keeps. none book.published sound.plan (formed_plan book c of formed) (record {
     meta = are.meta.in_order c formed keeps ∙ ap meta_part.rows of.same;
     terms = are.terms.in_order c formed keeps ∙ ap terms_part.rows of.same;
     airlines = are.airlines.in_order c formed keeps ∙ ap airline_part.rows of.same;

@@ -1,8 +1,7 @@
 -- What is known of rows in memory, as the tables of a store are put into them.
-use Rattle.std.specs.Prelude.{◌≡◌, ℕ, List, true}
-use Rattle.std.specs.FinMap.{FinMap, empty, entries}
+use Rattle.std.specs.Prelude.{◌≡◌, true}
+use Rattle.std.specs.FinMap.{empty, entries}
 use Rattle.std.specs.List.{AllByRecursion}
-use Rattle.std.specs.Ordering.{nat_cmp}
 use Rattle.sqlite_trees.specs.Tree.{Trees}
 use Rattle.bsp_store_load.specs.Memos.{is_memo}
 use Rattle.bsp_store_load.specs.Published.{Published}
@@ -12,7 +11,7 @@ use Rattle.bsp_book.specs.Sound.{IsRight, Sound}
 use Rattle.bsp_store_load.specs.MemoryRowsTables.{rows_of}
 use Rattle.bsp_store_load.specs.Tables.{Tables}
 use Rattle.bsp_store_load.specs.Kept.{KeepsRows, Part}
-use Rattle.bsp_store_load.specs.Content.{Content, agent_part, content_with, form, item_part, memo_part, stock_part}
+use Rattle.bsp_store_load.specs.Content.{Content, agent_part, airline_token_part, content_with, form, item_part, memo_part, stock_part}
 use Rattle.bsp_store_load.specs.Contents.{IsContentOf, content_now}
 use Rattle.bsp_store_load.specs.Forms.{IsFormed}
 use Rattle.bsp_store_load.specs.Loading.{HasRows}
@@ -22,31 +21,33 @@ use Rattle.bsp_store_open.specs.Opening.{ArePlanRows, IsOfVersion}
 
 -- ---- the plan
 
--- the trees have the rows of a plan and of airlines, and in memory are that plan and the tokens of the airlines alone
+-- the trees have the rows of a plan, and in memory is that plan alone
 pub record IsPlanned (trees : Trees) (rows : Rows) : Type 0 where
   pub stored : PlanRows
   pub are : ArePlanRows trees stored
   pub version : IsOfVersion stored.meta.items
-  pub of : AreRowsOfPlan rows.published rows.airlines stored
-  pub alone : rows ≡ record no_rows { published = rows.published; airlines = rows.airlines }
-  pub only : (p : Published) (tokens : FinMap nat_cmp (List ℕ)) → IsSoundPlan p → IsFormedPlan p tokens → AreRowsOfPlan p tokens stored → rows ≡ record no_rows { published = p; airlines = tokens }
+  pub of : AreRowsOfPlan rows.published stored
+  pub alone : rows ≡ record no_rows { published = rows.published }
+  pub only : (p : Published) → IsSoundPlan p → IsFormedPlan p → AreRowsOfPlan p stored → rows ≡ record no_rows { published = p }
 
--- ---- agents and ranges
+-- ---- callers
 
 pub record HasNoCallers (rows : Rows) : Type 0 where
   pub agents : rows.agents ≡ empty
+  pub airlines : rows.airlines ≡ empty
   pub ranges : rows.ranges ≡ empty
 
 -- rows in memory have the rows of a table, whatever the tallies are
 abbrev pub Has : Part Content → Rows → Trees → Type 0
 Has part rows = HasRows part (content_with rows empty)
 
--- the rows of agents and of ranges are in memory, and nothing else has changed
+-- the rows of callers are in memory, and nothing else has changed
 pub record AreCallersLoaded (trees : Trees) (old new : Rows) : Type 0 where
-  pub others : new ≡ record old { agents = new.agents; ranges = new.ranges }
+  pub others : new ≡ record old { agents = new.agents; airlines = new.airlines; ranges = new.ranges }
   pub agents : Has agent_part new trees
+  pub airlines : Has airline_token_part new trees
   pub ranges : Has stock_part new trees
-  pub whole : (c : Content) → IsFormed c → KeepsRows form c trees → new ≡ record old { agents = c.agents; ranges = c.ranges }
+  pub whole : (c : Content) → IsFormed c → KeepsRows form c trees → new ≡ record old { agents = c.agents; airlines = c.airlines; ranges = c.ranges }
 
 -- the trees keep no formed content
 abbrev pub NoCallers : Trees → Type 0

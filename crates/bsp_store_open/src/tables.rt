@@ -15,13 +15,13 @@ ghost use Rattle.bsp_store_open.specs.Opening.{Finds, HasNoBook, Misses};
 use crate::fault::OpenFault;
 use crate::reading::{expect_tables, plan_rows, tallies};
 use bsp_store_load::{
-    Agents, Ranges, StoredItems, StoredMemos, StoredTable, Tables, are_tallies, load_table,
-    plan_tables,
+    Agents, AirlineTokens, Ranges, StoredItems, StoredMemos, StoredTable, Tables, are_tallies,
+    load_table, plan_tables,
 };
 use sqlite::{Alter, Connection, Row};
 use std::alloc::Global;
 
-/// Tables with the plan of a store and the tokens of its airlines, and nothing else.
+/// Tables with the plan of a store, and nothing else.
 fn planned_tables<S: Alter>(alloc: Global, conn: &mut Connection<S>) -> Result<Tables, OpenFault>
     ensures derived { IfOk result IsDerived }
     ensures found { IfOk result (λ tables. Finds S.Store conn.old conn.new (λ trees. IsPlanned trees (rows_of tables))) }
@@ -73,7 +73,7 @@ fn load<S: Alter, K, V, T: StoredTable<K, V>>(
     Ok(())
 }
 
-/// Puts the rows of agents and of ranges into memory.
+/// Puts the rows of callers into memory.
 fn load_callers<S: Alter>(conn: &mut Connection<S>, tables: &mut Tables) -> Result<(), OpenFault>
     ensures derived { OnOk result (IsDerived tables.old → IsDerived tables.new) }
     ensures found { OnOk result (Finds S.Store conn.old conn.new (λ trees. HasNoCallers (rows_of tables.old) → AreCallersLoaded trees (rows_of tables.old) (rows_of tables.new))) }
@@ -82,6 +82,7 @@ fn load_callers<S: Alter>(conn: &mut Connection<S>, tables: &mut Tables) -> Resu
     ensures spares { Spares S.Store conn.old conn.new }
 {
     load(&Agents, conn, tables)?;
+    load(&AirlineTokens, conn, tables)?;
     load(&Ranges, conn, tables)
 }
 

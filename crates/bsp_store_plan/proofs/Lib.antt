@@ -1,4 +1,3 @@
-pub mod Back
 pub mod Orders
 pub mod Sharing
 pub mod MetaTable

@@ -2,7 +2,6 @@
 use Rattle.std.specs.Prelude.{[], ◌∷◌, pos}
 use Rattle.sqlite_value.specs.declared.value.Value.TheVariants.{Int, Text}
 use Rattle.sqlite_value.specs.Order.{Row}
-use Rattle.sqlite.specs.Values.{or_null}
 use Rattle.bsp_store_base.specs.Columns.{only_id, version}
 use Rattle.bsp_store_plan.specs.declared.meta.MetaRow.{MetaRow}
 use Rattle.bsp_store_plan.specs.declared.terms.TermsRow.{TermsRow}
@@ -17,7 +16,7 @@ abbrev pub terms_values : TermsRow → Row
 terms_values r = only_id ∷ Text r.currency ∷ Int r.review ∷ Int r.documents ∷ []
 
 abbrev pub airline_values : AirlineRow → Row
-airline_values r = Text r.code ∷ or_null Int r.place ∷ or_null Text r.token ∷ []
+airline_values r = Text r.code ∷ Int r.place ∷ []
 
 abbrev pub rate_values : RateRow → Row
 rate_values r = Text r.airline ∷ Int r.begins ∷ Int r.place ∷ Int r.hundredths ∷ []

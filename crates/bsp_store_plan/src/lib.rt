@@ -9,7 +9,7 @@ mod rates;
 mod reading;
 mod terms;
 
-pub use airlines::{AirlineRow, all_airlines, put_airline};
+pub use airlines::{AirlineRow, add_airlines, all_airlines, clear_airlines};
 pub use meta::{MetaRow, VERSION, add_first_meta, all_meta, put_meta};
 pub use periods::{PeriodRow, add_periods, all_periods};
 pub use rates::{RateRow, add_rates, all_rates};

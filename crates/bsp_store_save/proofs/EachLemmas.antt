@@ -48,18 +48,18 @@ same_present None = refl
 same_present (Some v) = refl
 
 -- a table of a content, each of whose keys is set to what is seen of it in memory
-module _ {K V W : Type 0} {R : K → K → Ordering} (o : IsTotalOrder R) (exact : IsAntisymmetric R) (f : FinMap R V → FinMap R W) (h : K → Option V → Option W) (sees : (m : FinMap R V) (q : K) → get (f m) q ≡ h q (get m q))
+module _ {K V W : Type 0} {R : K → K → Ordering} (o : IsTotalOrder R) (exact : IsAntisymmetric R) (f : FinMap R V → FinMap R W) (h : Option V → Option W) (sees : (m : FinMap R V) (q : K) → get (f m) q ≡ h (get m q))
     (field : Content → FinMap R W) (put : FinMap R W → Content → Content) (same : (c : Content) → put (field c) c ≡ c) (seen : (m : FinMap R W) (c : Content) → field (put m c) ≡ m) (twice : (m n : FinMap R W) (c : Content) → put m (put n c) ≡ put m c)
     (raw was : FinMap R V) (olds : FinMap R (Option V)) (is : IsEarlier olds raw was) where
   abbrev set : K → Option V → Content → Content
-  set k v d = put (with_value k (h k v) (field d)) d
+  set k v d = put (with_value k (h v) (field d)) d
 
   -- ---- what the table has in the end
 
   each : (es : List (K × Option V)) (c : Content) → with_each set (get raw) es c ≡ put (synced (map (λ e. e.0) es) (f raw) (field c)) c
   each [] c = sym (same c)
   each (e ∷ es) c =
-      let first = with_value e.0 (h e.0 (get raw e.0)) (field c) in
+      let first = with_value e.0 (h (get raw e.0)) (field c) in
       each es (put first c) ∙ ap (λ m. put (synced (map (λ e. e.0) es) (f raw) m) (put first c)) (seen first c) ∙ twice _ first c
       ∙ ap (λ v. put (synced (map (λ e. e.0) es) (f raw) (with_value e.0 v (field c))) c) (sym (sees raw e.0))
 
@@ -71,7 +71,7 @@ module _ {K V W : Type 0} {R : K → K → Ordering} (o : IsTotalOrder R) (exact
   up_to_date = same_map o exact _ _ (λ q.
       get-synced o (map (λ e. e.0) (entries olds)) (f raw) (f was) q
       ∙ choose _ (get (f raw) q) (get (f was) q) (λ none.
-      sees was q ∙ ap (h q) (is q ∙ ap (λ v. unwrap_or v (get raw q)) (no_value (get olds q) (contains_key-keys olds q ∙ none))) ∙ sym (sees raw q)))
+      sees was q ∙ ap h (is q ∙ ap (λ v. unwrap_or v (get raw q)) (no_value (get olds q) (contains_key-keys olds q ∙ none))) ∙ sym (sees raw q)))
 
   all_set : (c : Content) → field c ≡ f was → with_each set (get raw) (entries olds) c ≡ put (f raw) c
   all_set c had = each (entries olds) c ∙ ap (λ m. put (synced (map (λ e. e.0) (entries olds)) (f raw) m) c) had ∙ ap (λ m. put m c) up_to_date
@@ -79,29 +79,29 @@ module _ {K V W : Type 0} {R : K → K → Ordering} (o : IsTotalOrder R) (exact
   -- ---- which keys have a row
 
   abbrev Agrees : Content → List (K × Option V) → Type 0
-  Agrees d es = AllByRecursion (λ e. get (field d) e.0 ≡ h e.0 e.1) es
+  Agrees d es = AllByRecursion (λ e. get (field d) e.0 ≡ h e.1) es
 
-  stays : (e x : K × Option V) (w : Option V) (d : Content) → R e.0 x.0 ≡ Less → get (field d) x.0 ≡ h x.0 x.1 → get (field (set e.0 w d)) x.0 ≡ h x.0 x.1
+  stays : (e x : K × Option V) (w : Option V) (d : Content) → R e.0 x.0 ≡ Less → get (field d) x.0 ≡ h x.1 → get (field (set e.0 w d)) x.0 ≡ h x.1
   stays e x w d below at =
-      ap (λ m. get m x.0) (seen (with_value e.0 (h e.0 w) (field d)) d) ∙ get-with_value o e.0 (h e.0 w) (field d) x.0 ∙ ap (λ b. cond b (h e.0 w) (get (field d) x.0)) (apart o e.0 x.0 below) ∙ at
+      ap (λ m. get m x.0) (seen (with_value e.0 (h w) (field d)) d) ∙ get-with_value o e.0 (h w) (field d) x.0 ∙ ap (λ b. cond b (h w) (get (field d) x.0)) (apart o e.0 x.0 below) ∙ at
 
-  all_there : (es : List (K × Option V)) → IsAscending (λ (a b : K × Option V). R a.0 b.0 ≡ Less) es → (d : Content) → Agrees d es → AreThere set (get raw) (λ k c. is_some (get (field c) k)) (λ k v. is_some (h k v)) es d
+  all_there : (es : List (K × Option V)) → IsAscending (λ (a b : K × Option V). R a.0 b.0 ≡ Less) es → (d : Content) → Agrees d es → AreThere set (get raw) (λ k c. is_some (get (field c) k)) (λ v. is_some (h v)) es d
   all_there [] up d agrees = tt
   all_there (e ∷ es) up d agrees =
       (ap is_some agrees.0, all_there es up.1 (set e.0 (get raw e.0) d) (all_both _ _ _ (λ x below at. stays e x (get raw e.0) d below at) es up.0 agrees.1))
 
   at_first : (c : Content) → field c ≡ f was → Agrees c (entries olds)
-  at_first c had = all_weaker _ _ (λ e found. ap (λ m. get m e.0) had ∙ sees was e.0 ∙ ap (h e.0) (is e.0 ∙ ap (λ v. unwrap_or v (get raw e.0)) found)) (entries olds) (entries_found o olds)
+  at_first c had = all_weaker _ _ (λ e found. ap (λ m. get m e.0) had ∙ sees was e.0 ∙ ap h (is e.0 ∙ ap (λ v. unwrap_or v (get raw e.0)) found)) (entries olds) (entries_found o olds)
 
-  pub are_there : (c : Content) → field c ≡ f was → AreThere set (get raw) (λ k c. is_some (get (field c) k)) (λ k v. is_some (h k v)) (entries olds) c
+  pub are_there : (c : Content) → field c ≡ f was → AreThere set (get raw) (λ k c. is_some (get (field c) k)) (λ v. is_some (h v)) (entries olds) c
   are_there c had = all_there (entries olds) (entries_rise R olds) c (at_first c had)
 
   -- ---- the calls
 
   module _ {S : Type 0} (g : Ghosts S) (old new : Held S) where
-    pub saved : Changes g old new (AreThere set (get raw) (λ k c. is_some (get (field c) k)) (λ k v. is_some (h k v)) (entries olds)) (with_each set (get raw) (entries olds)) → Changes g old new (λ c. field c ≡ f was) (put (f raw))
+    pub saved : Changes g old new (AreThere set (get raw) (λ k c. is_some (get (field c) k)) (λ v. is_some (h v)) (entries olds)) (with_each set (get raw) (entries olds)) → Changes g old new (λ c. field c ≡ f was) (put (f raw))
     saved changes now last a b had stands inside =
         subst (λ c. HasContents form g new c last a b × IsInside form g new) (all_set now had) (changes now last a b (are_there now had) stands inside)
 
-    pub not_saved : GivesUpIf g old new (AreThere set (get raw) (λ k c. is_some (get (field c) k)) (λ k v. is_some (h k v)) (entries olds)) → GivesUpIf g old new (λ c. field c ≡ f was)
+    pub not_saved : GivesUpIf g old new (AreThere set (get raw) (λ k c. is_some (get (field c) k)) (λ v. is_some (h v)) (entries olds)) → GivesUpIf g old new (λ c. field c ≡ f was)
     not_saved fails now last a b had stands inside = fails now last a b (are_there now had) stands inside

@@ -5,5 +5,3 @@ pub mod WrittenLemmas
 pub mod TransactionLemmas
 pub mod MakingLemmas
 pub use Rattle.bsp_store_load.proofs.TallyLemmas
-pub mod AirlineSteps
-pub mod KeptLemmas

@@ -8,8 +8,6 @@ use Rattle.bsp_memory_tables.specs.ItemTables.{item_rows, item_rows_before}
 use Rattle.bsp_memory_tables.specs.MemoTables.{memo_rows, memo_rows_before}
 use Rattle.bsp_memory_tables.specs.RangeTables.{range_rows, range_rows_before}
 use Rattle.bsp_memory_tables.specs.TallyTables.{tally_rows, tally_rows_before}
-use Rattle.bsp_store_load.specs.Airlines.{airline_entries}
-use Rattle.bsp_store_load.specs.MemoryRowsTables.{committed_rows, rows_of}
 use Rattle.bsp_store_load.specs.Tables.{Tables}
 use Rattle.bsp_store_load.specs.Columns.{Meta}
 use Rattle.bsp_store_load.specs.Content.{Content}
@@ -22,11 +20,12 @@ meta_with day closed = record { day = day; closed = closed }
 abbrev pub meta_of : Published → Meta
 meta_of p = meta_with p.day (length p.closed)
 
--- with the rows of a plan, its airlines apart
+-- with the rows of a plan
 abbrev pub with_plan : Published → Content → Content
 with_plan p c = record c {
   meta = Some (meta_of p);
   terms = p.terms;
+  published = p.airlines;
   rates = p.rates;
   periods = p.periods;
 }
@@ -34,14 +33,14 @@ with_plan p c = record c {
 abbrev pub HasPlan : Published → Content → Type 0
 HasPlan p c = with_plan p c ≡ c
 
--- with the agents, the airlines and the ranges that are in memory
+-- with the callers and the ranges that are in memory
 abbrev pub with_callers : Tables → Content → Content
-with_callers t c = record c { agents = content nat_cmp t.agents; airlines = airline_entries (rows_of t).published.airlines (content nat_cmp t.airlines); ranges = range_rows t.ranges }
+with_callers t c = record c { agents = content nat_cmp t.agents; airlines = content nat_cmp t.airlines; ranges = range_rows t.ranges }
 
 -- those of the last commit
 pub record HasCallers (t : Tables) (c : Content) : Type 0 where
   pub agents : c.agents ≡ before nat_cmp t.agents
-  pub airlines : c.airlines ≡ airline_entries (committed_rows t).published.airlines (before nat_cmp t.airlines)
+  pub airlines : c.airlines ≡ before nat_cmp t.airlines
   pub ranges : c.ranges ≡ range_rows_before t.ranges
 
 -- with the items, memos and tallies that are in memory

@@ -4,7 +4,6 @@
 //! one transaction. [`recover`] gives up a transaction that failed.
 #![tactic(auto)]
 
-mod airlines;
 mod ends;
 mod keyed;
 mod making;

@@ -7,7 +7,6 @@ ghost use Rattle.bsp_memory_tables.specs.ItemTables.{item_rows, item_rows_before
 ghost use Rattle.bsp_memory_tables.specs.MemoTables.{memo_rows, memo_rows_before};
 ghost use Rattle.bsp_memory_tables.specs.RangeTables.{range_rows, range_rows_before};
 ghost use Rattle.bsp_memory_tables.specs.TallyTables.{tally_rows, tally_rows_before};
-ghost use Rattle.bsp_store_load.specs.Airlines.{airline_entries};
 ghost use Rattle.bsp_store_load.specs.Contents.{used_tallies};
 ghost use Rattle.bsp_store_load.specs.Calls.{Changes, GivesUpIf};
 
@@ -33,19 +32,18 @@ pub(crate) fn save_agents<S: Alter>(
     put_written(&Agents, conn, &before, values)
 }
 
-/// Writes the tokens of airlines that were written in memory, where these airlines are published.
-pub(crate) fn save_tokens<S: Alter>(
+/// Writes the tokens of airlines that were written in memory.
+pub(crate) fn save_airlines<S: Alter>(
     alloc: Global,
     conn: &mut Connection<S>,
-    published: &[AirlineCode],
     tokens: &Logged<AirlineCode, Token>,
 ) -> Result<(), Error>
-    ensures ok { OnOk result (Changes S.Store conn.old conn.new (λ c. c.airlines ≡ airline_entries published.now (before nat_cmp tokens.now)) (λ c. record c { airlines = airline_entries published.now (content nat_cmp tokens.now) })) }
-    ensures err { OnErr result (GivesUpIf S.Store conn.old conn.new (λ c. c.airlines ≡ airline_entries published.now (before nat_cmp tokens.now))) }
+    ensures ok { OnOk result (Changes S.Store conn.old conn.new (λ c. c.airlines ≡ before nat_cmp tokens.now) (λ c. record c { airlines = content nat_cmp tokens.now })) }
+    ensures err { OnErr result (GivesUpIf S.Store conn.old conn.new (λ c. c.airlines ≡ before nat_cmp tokens.now)) }
 {
     let values = tokens.map();
     let before = written_before(alloc, tokens.written(), values)?;
-    put_written(&Airlines { published }, conn, &before, values)
+    put_written(&Airlines, conn, &before, values)
 }
 
 /// Writes the ranges that were written in memory.

@@ -17,7 +17,7 @@ pub terms_is : Makes (codes "CREATE TABLE terms (id INT NOT NULL PRIMARY KEY, cu
 unfolding everything
 terms_is = refl
 
-pub airline_is : Makes (codes "CREATE TABLE airline (code TEXT NOT NULL PRIMARY KEY, place INTEGER, token TEXT) STRICT") schema.airline_table
+pub airline_is : Makes (codes "CREATE TABLE airline (code TEXT NOT NULL PRIMARY KEY, place INTEGER NOT NULL) STRICT") schema.airline_table
 unfolding everything
 airline_is = refl
 
@@ -32,6 +32,10 @@ period_is = refl
 pub agent_is : Makes (codes "CREATE TABLE agent (code TEXT NOT NULL PRIMARY KEY, token TEXT NOT NULL) STRICT") schema.agent_table
 unfolding everything
 agent_is = refl
+
+pub airline_token_is : Makes (codes "CREATE TABLE airline_token (airline TEXT NOT NULL PRIMARY KEY, token TEXT NOT NULL) STRICT") schema.airline_token_table
+unfolding everything
+airline_token_is = refl
 
 pub stock_is : Makes (codes "CREATE TABLE stock (agent TEXT NOT NULL REFERENCES agent (code), lo TEXT NOT NULL, hi TEXT NOT NULL, PRIMARY KEY (agent, lo)) STRICT") schema.stock_table
 unfolding everything

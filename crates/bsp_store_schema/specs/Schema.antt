@@ -80,9 +80,9 @@ terms_table = strict (codes "terms") 2 terms_columns [] (1 ∷ [])
 
 -- the columns of an airline
 abbrev pub airline_columns : List Column
-airline_columns = must (codes "code") Text ∷ may (codes "place") Integer ∷ may (codes "token") Text ∷ []
+airline_columns = must (codes "code") Text ∷ must (codes "place") Integer ∷ []
 
--- the airlines: of a published one its place in the order of publication, of a registered one its token
+-- the published airlines, each with its place in the order of publication
 abbrev pub airline_table : Table
 airline_table = strict (codes "airline") 4 airline_columns [] (1 ∷ [])
 
@@ -112,13 +112,21 @@ agent_columns = must (codes "code") Text ∷ must (codes "token") Text ∷ []
 abbrev pub agent_table : Table
 agent_table = strict (codes "agent") 10 agent_columns [] (1 ∷ [])
 
+-- the columns of an airline's token
+abbrev pub airline_token_columns : List Column
+airline_token_columns = must (codes "airline") Text ∷ must (codes "token") Text ∷ []
+
+-- the registered airlines with their tokens
+abbrev pub airline_token_table : Table
+airline_token_table = strict (codes "airline_token") 12 airline_token_columns [] (1 ∷ [])
+
 -- the columns of a range of stock
 abbrev pub stock_columns : List Column
 stock_columns = must (codes "agent") Text ∷ must (codes "lo") Text ∷ must (codes "hi") Text ∷ []
 
 -- the ranges of numbers that agents hold
 abbrev pub stock_table : Table
-stock_table = strict (codes "stock") 12 stock_columns (refers 1 (codes "agent") ∷ []) (1 ∷ 2 ∷ [])
+stock_table = strict (codes "stock") 14 stock_columns (refers 1 (codes "agent") ∷ []) (1 ∷ 2 ∷ [])
 
 -- the columns of an item
 abbrev pub item_columns : List Column
@@ -131,7 +139,7 @@ item_columns =
 
 -- the accepted transactions
 abbrev pub item_table : Table
-item_table = strict (codes "item") 14 item_columns (refers 1 (codes "agent") ∷ refers 7 (codes "period") ∷ []) (1 ∷ 2 ∷ 3 ∷ [])
+item_table = strict (codes "item") 16 item_columns (refers 1 (codes "agent") ∷ refers 7 (codes "period") ∷ []) (1 ∷ 2 ∷ 3 ∷ [])
 
 -- the columns of a memo
 abbrev pub memo_columns : List Column
@@ -142,7 +150,7 @@ memo_columns =
 
 -- the memos
 abbrev pub memo_table : Table
-memo_table = strict (codes "memo") 16 memo_columns (refers 3 (codes "agent") ∷ refers 10 (codes "period") ∷ []) (1 ∷ 2 ∷ [])
+memo_table = strict (codes "memo") 18 memo_columns (refers 3 (codes "agent") ∷ refers 10 (codes "period") ∷ []) (1 ∷ 2 ∷ [])
 
 -- the columns of a tally
 abbrev pub tally_columns : List Column
@@ -153,13 +161,13 @@ tally_columns =
 
 -- the tallies
 abbrev pub tally_table : Table
-tally_table = strict (codes "tally") 18 tally_columns [] (1 ∷ 2 ∷ 3 ∷ [])
+tally_table = strict (codes "tally") 20 tally_columns [] (1 ∷ 2 ∷ 3 ∷ [])
 
 -- the tables in the order of their trees
 abbrev pub our_tables : List Table
 our_tables =
-    meta_table ∷ terms_table ∷ airline_table ∷ rate_table ∷ period_table ∷ agent_table ∷ stock_table ∷ item_table
-    ∷ memo_table ∷ tally_table ∷ []
+    meta_table ∷ terms_table ∷ airline_table ∷ rate_table ∷ period_table ∷ agent_table ∷ airline_token_table ∷ stock_table
+    ∷ item_table ∷ memo_table ∷ tally_table ∷ []
 
 -- one of the plan's tables
 abbrev pub IsOfPlan : Table → Type 0
@@ -167,7 +175,7 @@ IsOfPlan t = (t ≡ meta_table) ⊎ ((t ≡ terms_table) ⊎ ((t ≡ airline_tab
 
 -- one of the others
 abbrev pub IsOfCallers : Table → Type 0
-IsOfCallers t = (t ≡ agent_table) ⊎ ((t ≡ stock_table) ⊎ ((t ≡ item_table) ⊎ ((t ≡ memo_table) ⊎ (t ≡ tally_table))))
+IsOfCallers t = (t ≡ agent_table) ⊎ ((t ≡ airline_token_table) ⊎ ((t ≡ stock_table) ⊎ ((t ≡ item_table) ⊎ ((t ≡ memo_table) ⊎ (t ≡ tally_table)))))
 
 -- the index of each key
 abbrev pub our_indexes : List Index
@@ -178,10 +186,11 @@ our_indexes =
     ∷ key_index (codes "sqlite_autoindex_rate_1") 7 6 (1 ∷ 2 ∷ [])
     ∷ key_index (codes "sqlite_autoindex_period_1") 9 8 (1 ∷ [])
     ∷ key_index (codes "sqlite_autoindex_agent_1") 11 10 (1 ∷ [])
-    ∷ key_index (codes "sqlite_autoindex_stock_1") 13 12 (1 ∷ 2 ∷ [])
-    ∷ key_index (codes "sqlite_autoindex_item_1") 15 14 (1 ∷ 2 ∷ 3 ∷ [])
-    ∷ key_index (codes "sqlite_autoindex_memo_1") 17 16 (1 ∷ 2 ∷ [])
-    ∷ key_index (codes "sqlite_autoindex_tally_1") 19 18 (1 ∷ 2 ∷ 3 ∷ [])
+    ∷ key_index (codes "sqlite_autoindex_airline_token_1") 13 12 (1 ∷ [])
+    ∷ key_index (codes "sqlite_autoindex_stock_1") 15 14 (1 ∷ 2 ∷ [])
+    ∷ key_index (codes "sqlite_autoindex_item_1") 17 16 (1 ∷ 2 ∷ 3 ∷ [])
+    ∷ key_index (codes "sqlite_autoindex_memo_1") 19 18 (1 ∷ 2 ∷ [])
+    ∷ key_index (codes "sqlite_autoindex_tally_1") 21 20 (1 ∷ 2 ∷ 3 ∷ [])
     ∷ []
 
 -- a schema with no view

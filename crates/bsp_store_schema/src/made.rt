@@ -14,12 +14,13 @@ const TABLES: &str = "\
         closed INTEGER NOT NULL) STRICT; \
     CREATE TABLE terms (id INT NOT NULL PRIMARY KEY, currency TEXT NOT NULL, review INTEGER NOT NULL, \
         documents INTEGER NOT NULL) STRICT; \
-    CREATE TABLE airline (code TEXT NOT NULL PRIMARY KEY, place INTEGER, token TEXT) STRICT; \
+    CREATE TABLE airline (code TEXT NOT NULL PRIMARY KEY, place INTEGER NOT NULL) STRICT; \
     CREATE TABLE rate (airline TEXT NOT NULL, begins INTEGER NOT NULL, place INTEGER NOT NULL, \
         hundredths INTEGER NOT NULL, PRIMARY KEY (airline, begins)) STRICT; \
     CREATE TABLE period (code TEXT NOT NULL PRIMARY KEY, place INTEGER NOT NULL, \
         begins INTEGER NOT NULL, ends INTEGER NOT NULL, remit INTEGER NOT NULL) STRICT; \
     CREATE TABLE agent (code TEXT NOT NULL PRIMARY KEY, token TEXT NOT NULL) STRICT; \
+    CREATE TABLE airline_token (airline TEXT NOT NULL PRIMARY KEY, token TEXT NOT NULL) STRICT; \
     CREATE TABLE stock (agent TEXT NOT NULL REFERENCES agent (code), lo TEXT NOT NULL, hi TEXT NOT NULL, \
         PRIMARY KEY (agent, lo)) STRICT; \
     CREATE TABLE item (agent TEXT NOT NULL REFERENCES agent (code), number TEXT NOT NULL, \
@@ -44,7 +45,7 @@ pub fn is_bare<S: Alter>(conn: &Connection<S>) -> bool
     schema.tables.is_empty() && schema.indexes.is_empty() && schema.views.is_empty()
 }
 
-/// Makes the ten tables, without a row in them, in a store that has nothing in it. The transaction stays open, and
+/// Makes the eleven tables, without a row in them, in a store that has nothing in it. The transaction stays open, and
 /// nothing is committed.
 ///
 /// # Errors

@@ -1,7 +1,7 @@
-//! Tests of the ten tables.
+//! Tests of the eleven tables.
 
 ghost use Rattle.std.specs.Prelude.{◌≡◌, ◌⊎◌, ◌↔◌, [], ◌∷◌, IsTrue};
-ghost use Rattle.bsp_store_schema.specs.Schema.{meta_table, terms_table, airline_table, rate_table, period_table, agent_table, stock_table, item_table, memo_table, tally_table, our_tables, IsOfCallers, IsOfPlan};
+ghost use Rattle.bsp_store_schema.specs.Schema.{meta_table, terms_table, airline_table, rate_table, period_table, agent_table, airline_token_table, stock_table, item_table, memo_table, tally_table, our_tables, IsOfCallers, IsOfPlan};
 
 use crate::plain::is_strict;
 use sqlite_schema::schema::{Kind, Table};
@@ -20,10 +20,9 @@ const TERMS: [(&[u8], Kind, bool); 4] = [
     (b"documents", Kind::Integer, true),
 ];
 
-const AIRLINE: [(&[u8], Kind, bool); 3] = [
+const AIRLINE: [(&[u8], Kind, bool); 2] = [
     (b"code", Kind::Text, true),
-    (b"place", Kind::Integer, false),
-    (b"token", Kind::Text, false),
+    (b"place", Kind::Integer, true),
 ];
 
 const RATE: [(&[u8], Kind, bool); 4] = [
@@ -42,6 +41,11 @@ const PERIOD: [(&[u8], Kind, bool); 5] = [
 ];
 
 const AGENT: [(&[u8], Kind, bool); 2] = [(b"code", Kind::Text, true), (b"token", Kind::Text, true)];
+
+const AIRLINE_TOKEN: [(&[u8], Kind, bool); 2] = [
+    (b"airline", Kind::Text, true),
+    (b"token", Kind::Text, true),
+];
 
 const STOCK: [(&[u8], Kind, bool); 3] = [
     (b"agent", Kind::Text, true),
@@ -141,28 +145,34 @@ fn is_agent(table: &Table) -> bool
     is_strict(table, b"agent", 10, &AGENT, &[], &[1])
 }
 
+fn is_airline_token(table: &Table) -> bool
+    ensures { IsTrue result ↔ (table.now ≡ airline_token_table) }
+{
+    is_strict(table, b"airline_token", 12, &AIRLINE_TOKEN, &[], &[1])
+}
+
 fn is_stock(table: &Table) -> bool
     ensures { IsTrue result ↔ (table.now ≡ stock_table) }
 {
-    is_strict(table, b"stock", 12, &STOCK, &STOCK_REFERENCES, &[1, 2])
+    is_strict(table, b"stock", 14, &STOCK, &STOCK_REFERENCES, &[1, 2])
 }
 
 fn is_item(table: &Table) -> bool
     ensures { IsTrue result ↔ (table.now ≡ item_table) }
 {
-    is_strict(table, b"item", 14, &ITEM, &ITEM_REFERENCES, &[1, 2, 3])
+    is_strict(table, b"item", 16, &ITEM, &ITEM_REFERENCES, &[1, 2, 3])
 }
 
 fn is_memo(table: &Table) -> bool
     ensures { IsTrue result ↔ (table.now ≡ memo_table) }
 {
-    is_strict(table, b"memo", 16, &MEMO, &MEMO_REFERENCES, &[1, 2])
+    is_strict(table, b"memo", 18, &MEMO, &MEMO_REFERENCES, &[1, 2])
 }
 
 fn is_tally(table: &Table) -> bool
     ensures { IsTrue result ↔ (table.now ≡ tally_table) }
 {
-    is_strict(table, b"tally", 18, &TALLY, &[], &[1, 2, 3])
+    is_strict(table, b"tally", 20, &TALLY, &[], &[1, 2, 3])
 }
 
 /// Whether the table is one of the plan's.
@@ -176,10 +186,15 @@ fn is_of_plan(table: &Table) -> bool
 fn is_of_callers(table: &Table) -> bool
     ensures { IsTrue result ↔ IsOfCallers table.now }
 {
-    is_agent(table) || is_stock(table) || is_item(table) || is_memo(table) || is_tally(table)
+    is_agent(table)
+        || is_airline_token(table)
+        || is_stock(table)
+        || is_item(table)
+        || is_memo(table)
+        || is_tally(table)
 }
 
-/// Whether the table is one of the ten.
+/// Whether the table is one of the eleven.
 pub fn is_our_table(table: &Table) -> bool
     ensures { IsTrue result ↔ (IsOfPlan table.now ⊎ IsOfCallers table.now) }
 {
@@ -198,17 +213,20 @@ fn are_records(tables: &[Table]) -> bool
 
 /// Whether the tables are those from the agents on.
 fn are_holders(tables: &[Table]) -> bool
-    ensures { IsTrue result ↔ (tables.now ≡ agent_table ∷ stock_table ∷ item_table ∷ memo_table ∷ tally_table ∷ []) }
+    ensures { IsTrue result ↔ (tables.now ≡ agent_table ∷ airline_token_table ∷ stock_table ∷ item_table ∷ memo_table ∷ tally_table ∷ []) }
 {
     match tables {
-        [agent, stock, more @ ..] => is_agent(agent) && is_stock(stock) && are_records(more),
+        [agent, airline_token, stock, more @ ..] => is_agent(agent)
+            && is_airline_token(airline_token)
+            && is_stock(stock)
+            && are_records(more),
         _ => false,
     }
 }
 
 /// Whether the tables are those from the airlines on.
 fn are_calendar(tables: &[Table]) -> bool
-    ensures { IsTrue result ↔ (tables.now ≡ airline_table ∷ rate_table ∷ period_table ∷ agent_table ∷ stock_table ∷ item_table ∷ memo_table ∷ tally_table ∷ []) }
+    ensures { IsTrue result ↔ (tables.now ≡ airline_table ∷ rate_table ∷ period_table ∷ agent_table ∷ airline_token_table ∷ stock_table ∷ item_table ∷ memo_table ∷ tally_table ∷ []) }
 {
     match tables {
         [airline, rate, period, more @ ..] => is_airline(airline)
@@ -219,7 +237,7 @@ fn are_calendar(tables: &[Table]) -> bool
     }
 }
 
-/// Whether the tables are the ten, in this order.
+/// Whether the tables are the eleven, in this order.
 pub(crate) fn are_our_tables(tables: &[Table]) -> bool
     ensures { IsTrue result ↔ (tables.now ≡ our_tables) }
 {
