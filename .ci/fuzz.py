@@ -42,7 +42,9 @@ AGENTS, AIRLINES = dict(FIRST_AGENTS), dict(FIRST_AIRLINES)
 STOCK = {"12345675": 13, "76543213": 14}
 RATES = {"125": 500, "220": 0}
 PERIODS = ["24011", "24012", "24021"]
-NUMBERS = [first + at for first in (1300000000, 1400000000) for at in range(5)]
+NUMBERS = [first + at for first in (1300000000, 1400000000) for at in range(7)]
+# by agent and airline, the numbers of tickets of 235.00 that were put into some file of this market
+SOLD = collections.defaultdict(set)
 MEMOS = [f"600000000{at}" for at in range(4)]
 STATUSES = {200, 400, 403, 404, 405, 409, 422}
 # of one market
@@ -50,9 +52,14 @@ TRIES = 60
 # a refused allocation of 1 GiB ends as want of memory: no input below has a reason for as much
 MEMORY = 1 << 30
 
-RET = [office.sample(name) for name in ("sale.ret", "card-sale.ret", "exchange.ret", "refund-and-sale.ret", "six-tickets.ret")]
-HOT = [office.sample(name) for name in ("no-documents.hot", "two-agents.hot")]
-PLAN = office.sample("plan.toml")
+RET = [office.sample(f"{name}.ret") for name in (
+    "sale", "card-sale", "exchange", "exchange-of-two", "refund-and-sale", "six-tickets")]
+HOT = [office.sample(f"{name}.hot") for name in ("no-documents", "two-agents", "commission-tax")]
+HOT.append((office.TOP / "examples" / "files" / "125-taxed-kinds.hot").read_bytes())
+# without a tax on commission, with one from the second period on, and with one from the first business day on
+PLAN, TAXED = office.sample("plan.toml"), office.sample("commission-tax.toml")
+PLANS = [PLAN, TAXED, TAXED.replace(b'from = "2024-01-16"', b'from = "2024-01-05"')]
+TERMS = PLAN[:PLAN.index(b"airline")]
 
 CHECKED = re.compile(
     rb"(\d{6} (TKTT|RFND|CANX) \d{8} \d{3}-\d{10}-\d \d{4}-\d\d-\d\d -?\d+\.\d\d\n)*"
@@ -118,7 +125,8 @@ class Ret:
     """A RET file that is written record by record."""
 
     def __init__(self):
-        self.lines, self.number, self.sum = ["1TSTA2401050930DE000001PROD001"], 0, 0
+        self.profile = RANDOM.choice(("001", "002"))
+        self.lines, self.number, self.sum = [f"1TSTA2401050930DE000001PROD{self.profile}"], 0, 0
 
     def begin(self, code, agent, airline, document, issued):
         self.number += 1
@@ -128,31 +136,59 @@ class Ret:
     def relate(self, airline, document):
         self.lines.append(f"3{self.number:06}{airline}{document:010}{document % 7}")
 
-    def pay(self, airline, fare, tax, *forms):
+    def pay(self, airline, fare, tax, *forms, basis=None):
         rate = RATES.get(airline, 0) if RANDOM.random() < 0.95 else RANDOM.randrange(10001)
-        commission = (fare * rate + (5000 if fare >= 0 else -5000)) // 10000 if RANDOM.random() < 0.95 else 0
+        basis = fare if basis is None else basis
+        commission = (abs(basis) * rate + 5000) // 10000 * (1 if basis >= 0 else -1) if RANDOM.random() < 0.95 else 0
         places = f"RA{zoned(tax)}".ljust(78)
         self.lines.append(f"5{self.number:06}{zoned(fare)}{places}{rate:05}{zoned(commission)}")
         for form, amount in forms:
             self.sum += amount
             self.lines.append(f"8{self.number:06}{form}{zoned(amount)}{'VI' if form == 'CC' else ''}")
 
+    def exchange(self, airline, fare, others):
+        """The rest of a sale that is paid with one ticket of this fare or with two."""
+        for it in others:
+            self.relate(airline, it)
+        count = len(others)
+        self.pay(airline, count * fare + 5000, count * 3500, ("CA", 5000), ("EX", count * (fare + 3500)), basis=5000)
+
+    def others(self, sold, own):
+        """One related document or two, mostly among the tickets sold: two mostly where the profile has them, and rising."""
+        among = sorted(sold) if len(sold) > 1 and RANDOM.random() < 0.9 else own
+        if RANDOM.random() < (0.6 if self.profile == "002" else 0.05):
+            two = RANDOM.sample(among, 2)
+            return sorted(two) if RANDOM.random() < 0.95 else two
+        return [RANDOM.choice(among)]
+
+    def add_exchange_of_two(self, agent):
+        """Two sales, and the exchange of both for a third."""
+        *two, third = RANDOM.sample([it for it in NUMBERS if it // 100000000 == STOCK.get(agent, 13)], 3)
+        for it in two:
+            self.begin("TKTT", agent, "125", it, "240105")
+            self.pay("125", 20_000, 3500, ("CA", 23_500))
+        self.begin("TKTT", agent, "125", third, "240105")
+        self.exchange("125", 20_000, sorted(two))
+
     def add(self, agent):
         """A further transaction, which is often one that the office accepts."""
         own = [it for it in NUMBERS if it // 100000000 == STOCK.get(agent, 13)]
-        document, other = (RANDOM.choice(own if RANDOM.random() < 0.95 else NUMBERS) for _ in "12")
         code = RANDOM.choice(("TKTT", "TKTT", "TKTT", "RFND", "CANX"))
-        airline = RANDOM.choice(("125", "125", "125", "220", "220", "999"))
-        fare = RANDOM.choice((20000, 20000, 20000, 1, 99_999_999_999))
-        self.begin(code, agent, airline, document, RANDOM.choice(("240105", "240105", "240105", "240106", "240116")))
+        airline = RANDOM.choice(("125",) * 6 + ("220", "220", "999"))
+        fare = RANDOM.choice((20_000, 20_000, 20_000, 20_000, 1, 99_999_996_499))
+        sold = SOLD[agent, airline]
+        fresh = [it for it in own if it not in sold] or own
+        document = RANDOM.choice(fresh if RANDOM.random() < 0.6 else own if RANDOM.random() < 0.9 else NUMBERS)
+        self.begin(code, agent, airline, document, RANDOM.choice(("240105",) * 8 + ("240106", "240116")))
         if code == "RFND":
-            self.relate(airline, other)
+            self.relate(airline, RANDOM.choice(sorted(sold) if sold and RANDOM.random() < 0.9 else own))
             self.pay(airline, -fare, -3500, ("CA", -fare - 3500))
-        elif code == "TKTT" and RANDOM.random() < 0.2:
-            self.relate(airline, other)
-            self.pay(airline, fare + 5000, 3500, ("CA", 5000), ("EX", fare + 3500))
+        elif code == "TKTT" and RANDOM.random() < 0.3:
+            self.exchange(airline, min(fare, 20_000), self.others(sold, own))
         elif code == "TKTT":
             self.pay(airline, fare, 3500, (RANDOM.choice(("CA", "CC")), fare + 3500))
+            if fare == 20_000:
+                sold.add(document)
 
     def text(self):
         last = f"Z{len(self.lines) + 1:07}{self.number:07}{zoned(self.sum, 15)}"
@@ -162,6 +198,8 @@ class Ret:
 def ret_file(agent):
     """A RET file of an agent, in which now and then a transaction is another's."""
     file = Ret()
+    if file.profile == "002" and RANDOM.random() < 0.2:
+        file.add_exchange_of_two(agent)
     for _ in range(RANDOM.choice((0, 1, 1, 2, 3, 8))):
         file.add(agent if RANDOM.random() < 0.95 else RANDOM.choice(list(AGENTS)))
     return file.text()
@@ -200,12 +238,20 @@ def code(codes, share=0.95):
     return one if RANDOM.random() < share else "".join(RANDOM.choice("0123456789") for _ in one)
 
 
+def tax_entry():
+    """A tax on commission, as an entry of a plan text."""
+    first = RANDOM.choice(("2024-01-05", "2024-01-06", "2024-01-16", "2024-01-17", "2024-02-01", "2024-02-30"))
+    hundredths = RANDOM.choice((0, 1, 1900, 5000, 10000, 10001))
+    return f'[[commission_tax]]\nfrom = "{first}"\nhundredths = {hundredths}\n'.encode()
+
+
 def office_request():
     """A path and a body of the office."""
     first = RANDOM.choice(NUMBERS) // 10 * 10
     span = {"agent": code(AGENTS), "first": f"{first:010}", "last": f"{first + RANDOM.choice((9, 9, 3, -1)):010}"}
     return RANDOM.choice((
-        lambda: ("plan", perhaps(PLAN, 0.7)),
+        lambda: ("plan", perhaps(RANDOM.choice(PLANS), 0.7)),
+        lambda: ("plan", perhaps(TERMS + tax_entry(), 0.2)),
         lambda: ("day", body_of(day=RANDOM.choice(("2024-01-05", "2024-01-06", "2024-01-16", "2024-02-01", "2023-12-31")))),
         lambda: ("agents", body_of(agent=code(AGENTS), token=RANDOM.choice(list(AGENTS.values())))),
         lambda: ("airlines", body_of(airline=code(AIRLINES), token=RANDOM.choice(list(AIRLINES.values())))),
@@ -375,7 +421,7 @@ def exchanged(port, text):
 def open_market(pair):
     """The plan, the callers and their stock."""
     for path, body in (
-            ("plan", PLAN), ("day", body_of(day="2024-01-05")),
+            ("plan", RANDOM.choice(PLANS)), ("day", body_of(day="2024-01-05")),
             *(("agents", body_of(agent=it, token=token)) for it, token in AGENTS.items()),
             *(("airlines", body_of(airline=it, token=token)) for it, token in AIRLINES.items()),
             *(("stock/allot", body_of(agent=it, first=f"{first}00000000", last=f"{first}00000009")) for it, first in STOCK.items())):
@@ -399,6 +445,7 @@ def try_market(until):
     """Some tries over a new market, in which numbers are still free and periods not closed."""
     AGENTS.update(FIRST_AGENTS)
     AIRLINES.update(FIRST_AIRLINES)
+    SOLD.clear()
     with tempfile.TemporaryDirectory(prefix="fuzz-") as folder:
         os.chdir(folder)
         pair = Pair()

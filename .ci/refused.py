@@ -36,12 +36,12 @@ SHORT = re.compile(rb"bsp_office: .*out of memory\n")
 NOTES = re.compile(rb"(bsp_office: (\S+\.db: (new book|day .*)|[A-Z]+ /\S* 503 B01 14)\n)*")
 # how a call names the lack of memory
 LACKS = re.compile(rb"F10|NoRoom|out of memory|standard input or output failed")
-WORDS = ["check v1.ret", "check kinds.ret", "check sum.ret", "hotcheck v3.hot", "hotcheck short.hot", "--help", "--version",
+WORDS = ["check v1.ret", "check kinds.ret", "check two.ret", "check sum.ret", "hotcheck v3.hot", "hotcheck taxed.hot", "hotcheck short.hot", "--help", "--version",
          "check --help", "", "check", "report v1.ret", "check --unknown", "hotcheck v3.hot v3.hot", "check --quiet sum.ret"]
 CONVERSATIONS = ["05-sale", "11b-cancelled-in-one-file", "14-memos", "16-reports", "19-stock", "23b-malformed-bodies",
-                 "38-reduced-memo", "callers-refused", "memo-actions"]
-# the short one of which the same is tried over a book in a file
-KEPT = "sale-once"
+                 "38-reduced-memo", "50-commission-tax", "53b-exchange-of-two-cancelled", "callers-refused", "memo-actions"]
+# the short one of which the same is tried over a book in a file: its rows are in all tables but that of memos
+KEPT = "exchange-once"
 
 
 class Run(typing.NamedTuple):
@@ -118,7 +118,8 @@ def words():
     """The program on files and words, some of them wrong."""
     hot, kinds = sample("no-documents.hot"), (TOP / "examples" / "files" / "kinds.ret").read_bytes()
     files = {"v1.ret": sample("sale.ret"), "kinds.ret": kinds, "v3.hot": hot, "short.hot": b"".join(hot.splitlines(True)[:3]),
-             "sum.ret": kinds.replace(b"7551A", b"7552A")}
+             "sum.ret": kinds.replace(b"7551A", b"7552A"), "two.ret": sample("exchange-of-two.ret"),
+             "taxed.hot": sample("commission-tax.hot")}
     for name, text in files.items():
         pathlib.Path(name).write_bytes(text)
     for line in WORDS:

@@ -18,7 +18,8 @@ trap 'rm -rf "$work"' EXIT
 cd "$work" || exit 1
 cp "$top/samples/sale.ret" v1.ret
 cp "$top/samples/no-documents.hot" v3.hot
-cp "$top"/examples/files/*.hot .
+cp "$top/samples/commission-tax.hot" taxed.hot
+cp "$top"/examples/files/*.hot "$top"/examples/files/two-related.ret "$top/samples/exchange-of-two.ret" .
 head -n 3 v3.hot >short.hot
 : >empty
 cp empty ./--quiet
@@ -108,12 +109,17 @@ mistakes() {
 
 report='000001 TKTT 12345675 125-1300000001-6 2024-01-05 235.00
 records 5 transactions 1 sum 235.00'
+exchange='000001 TKTT 12345675 125-1300000011-2 2024-01-05 235.00
+000002 TKTT 12345675 125-1300000012-3 2024-01-05 235.00
+000003 TKTT 12345675 125-1300000013-4 2024-01-05 520.00
+records 14 transactions 3 sum 990.00'
 refund='000001 RFND 12345675 125-1300000002-0 2024-01-05 -235.00
 000002 TKTT 12345675 125-1300000001-6 2024-01-05 235.00
 records 9 transactions 2 sum 0.00'
 nothing='records 2 transactions 0 sum 0.00'
 expect 0 "$report" none check ./v1.ret
 reports check v1.ret 0 "$report"
+reports check exchange-of-two.ret 0 "$exchange"
 reports check v0.ret 0 "$nothing"
 reports check v0-without-its-last-line-end 0 "$nothing"
 reports check v0-without-its-last-character 1 'F01 record 2' 'record 2: it has 135 characters, and not 136'
@@ -137,6 +143,20 @@ reports hotcheck v3.hot 0 'OK records 4 documents 0 net 0.00'
 reports hotcheck 125-24011.hot 0 'OK records 19 documents 2 net 175.00'
 reports hotcheck 220-24011.hot 0 'OK records 17 documents 2 net 30.00'
 reports hotcheck 125-kinds.hot 0 'OK records 54 documents 8 net 461.39'
+reports hotcheck 125-24011-sale.hot 0 'OK records 12 documents 1 net 225.00'
+reports hotcheck 125-exchange-of-two.hot 0 'OK records 25 documents 3 net 497.50'
+reports hotcheck 125-second-ticket.hot 0 'OK records 75 documents 12 net 1334.50'
+reports hotcheck taxed.hot 0 'OK records 13 documents 1 net 223.10'
+reports hotcheck 220-24011-form-2.hot 0 'OK records 4 documents 0 net 0.00'
+reports hotcheck 220-24012-form-2.hot 0 'OK records 4 documents 0 net 0.00'
+reports hotcheck 125-24012-refunds.hot 0 'OK records 48 documents 6 net -226.90'
+reports hotcheck 125-24011-pennies.hot 0 'OK records 45 documents 6 net 8.90'
+reports hotcheck 125-24011-by-days.hot 0 'OK records 72 documents 10 net 440.00'
+reports hotcheck 125-24012-from-17.hot 0 'OK records 19 documents 2 net 448.10'
+reports hotcheck 125-24012-of-nothing.hot 0 'OK records 13 documents 1 net 225.00'
+reports hotcheck 125-24011-largest.hot 0 'OK records 19 documents 2 net -2999999999.97'
+reports hotcheck 125-taxed-kinds.hot 0 'OK records 78 documents 11 net 708.42'
+reports hotcheck 220-taxed-kinds.hot 0 'OK records 13 documents 1 net 0.00'
 reports hotcheck v3-without-its-last-line-end 0 'OK records 4 documents 0 net 0.00'
 reports hotcheck memo-with-cr-lf 0 'OK records 11 documents 1 net -50.00'
 reports hotcheck short.hot 1 'H04 record 4' 'record 4: the file ends before this record'
@@ -165,10 +185,38 @@ mistakes check v1.ret <<'END'
 5d|F08 record 5|record 5: the file ends without a trailer
 5p|F09 record 6|record 6: a line follows the trailer
 END
+mistakes check two-related.ret <<'END'
+1s/PROD002/PROD001/|F03 record 4|record 4, column 1: a record `3` is not allowed here
+1s/PROD002/PROD003/|F02 record 1|record 1, columns 28-30: the profile is neither `001` nor `002`
+4s/13000000123/13000000112/|F05 record 4|record 4, columns 8-20: the related document does not come after the one before it
+4s/125/124/|F05 record 4|record 4, columns 8-20: the related document does not come after the one before it
+4s/125/12 /|F05 record 4|record 4, columns 8-10: the airline has a character that is not a digit
+4p|F03 record 5|record 5, column 1: a record `3` is not allowed here
+2s/TKTT/RFND/|F03 record 4|record 4, column 1: a record `3` is not allowed here
+7d|F03 record 7|record 7, column 1: a record `Z` is not allowed here
+END
 mistakes hotcheck v3.hot <<'END'
 1s/^BFH/BFT/|H04 record 1|record 1, columns 1-3: the letters are not those of the name with these digits
 2s/^BCH00000002/BCH00000003/|H04 record 2|record 2 (BCH02), columns 4-11: the sequence number is not 00000002
 4s/00000000000000{  /00000000000000A  /|H04 record 4|record 4 (BFT99): the record is not allowed here, or a number or a total in it differs
+END
+mistakes hotcheck taxed.hot <<'END'
+1s/PROD002/PROD001/|H04 record 8|record 8 (BKS42): the record is not allowed here, or a number or a total in it differs
+1s/PROD002/PROD003/|H04 record 1|record 1 (BFH01), columns 31-37: the production status is not `PROD001` or `PROD002`
+8s/0842/0839/|H04 record 8|record 8 (BKS39): the record is not allowed here, or a number or a total in it differs
+8s/01900/10001/|H04 record 8|record 8 (BKS42), columns 22-26: the rate of tax on commission is not a number in digits up to 10000
+8s/19{/19-/|H04 record 8|record 8 (BKS42), columns 27-37: the tax on commission is not a signed zoned decimal
+8s/19{/20{/|H04 record 10|record 10 (BOT93): the record is not allowed here, or a number or a total in it differs
+10s/19{/18{/|H04 record 10|record 10 (BOT93): the record is not allowed here, or a number or a total in it differs
+11s/2231{/2250{/|H04 record 11|record 11 (BOT94): the record is not allowed here, or a number or a total in it differs
+11s/00000000000019{/               /|H04 record 11|record 11 (BOT94), columns 90-104: the tax on commission is not a signed zoned decimal
+12s/19{/18{/|H04 record 12|record 12 (BCT95): the record is not allowed here, or a number or a total in it differs
+13s/19{/18{/|H04 record 13|record 13 (BFT99): the record is not allowed here, or a number or a total in it differs
+END
+mistakes hotcheck 125-exchange-of-two.hot <<'END'
+19s/13000000123/13000000112/|H04 record 19|record 19 (BKS45): the record is not allowed here, or a number or a total in it differs
+19s/125/220/|H04 record 19|record 19 (BKS45): the record is not allowed here, or a number or a total in it differs
+25s/ \{15\}$/00000000000000{/|H04 record 25|record 25 (BFT99), columns 93-136: the rest of the record has a character that is not a space
 END
 
 expect 1 'F08 record 1' none check --quiet empty

@@ -2,8 +2,8 @@
 """Runs the built program over a book in a file, and looks at the file with SQLite's own library:
 the requests of a month, with the program killed after each reply, are answered as over a book in memory; sales that
 were answered before a kill at any moment are there afterwards; the file passes SQLite's integrity check; a book that
-SQLite wrote is opened; the queries of docs/TABLES.md agree with the replies; the examples 22, 26, 27, 41 to 43 and 49
-of docs/EXAMPLES.md are as it says; a book of 10,000 requests, opened again, gives the same statements; and a file that
+SQLite wrote is opened; the queries of docs/TABLES.md agree with the replies; the examples 22, 26, 27, 41 to 43, 49
+and 52 of docs/EXAMPLES.md are as it says; a book of 10,000 requests, opened again, gives the same statements; and a file that
 is no book, or is a damaged one (.ci/damages.py), is refused with its status and one line on standard error. Exits with
 the number of cases that differ.
 
@@ -39,6 +39,10 @@ TOKENS = {A: "agenttoken000001", B: "agenttoken000002", "125": "airlinetoken0125
 
 # ---- requests
 
+# a tax of 20.00 % from the second period on, and then one of 19.00 % from the first business day on
+TAXES = b"".join(b'[[commission_tax]]\nfrom = "%s"\nhundredths = %d\n' % it for it in ((b"2024-01-16", 2000), (b"2024-01-05", 1900)))
+PLAN = sample("plan.toml") + TAXES
+
 
 def sale_of(number, name="sale.ret"):
     """A sample of the ticket 1300000001 with another number."""
@@ -63,7 +67,7 @@ def memo(agent, document, kind, amount):
 
 def setting_up():
     """The plan, the day, the callers and their stock."""
-    yield of_office("POST", "plan", sample("plan.toml"))
+    yield of_office("POST", "plan", PLAN)
     yield of_office("POST", "day", '{"day":"2024-01-05"}')
     for agent, first in (A, 1300000000), (B, 1400000000):
         yield of_office("POST", "agents", f'{{"agent":"{agent}","token":"{TOKENS[agent]}"}}')
@@ -87,7 +91,7 @@ def disputed_memo():
 
 def working():
     """What the agents and the airlines report, and the close."""
-    for name in "sale.ret", "exchange.ret", "card-sale.ret", "sale.ret":
+    for name in "sale.ret", "exchange.ret", "card-sale.ret", "sale.ret", "exchange-of-two.ret":
         yield of_agent(A, "POST", "ret", sample(name))
     yield of_agent(A, "POST", "ret", sale_of(1300000005, "sale-and-cancellation.ret"))
     yield from billed_memos()
@@ -102,7 +106,7 @@ def working():
 def looking():
     """What the callers may see."""
     for agent in A, B:
-        for path in "stock", "memos", "periods/24011", "statements/24011", "documents/1300000005":
+        for path in "stock", "memos", "periods/24011", "statements/24011", "documents/1300000005", "documents/1300000012":
             yield of_agent(agent, "GET", path)
     for airline in "125", "220":
         yield of_airline(airline, "GET", "memos")
@@ -152,7 +156,8 @@ def over_file(wanted):
         program.kill()
 
 
-TALLIES = "SELECT * FROM tally WHERE period IN ('24011', '24012') ORDER BY agent, airline, period"
+TALLIES = """SELECT tally.*, tax FROM tally LEFT JOIN tally_tax USING (agent, airline, period)
+    WHERE period IN ('24011', '24012') ORDER BY agent, airline, period"""
 
 
 def kept_tallies(file, requests, wanted):
@@ -169,10 +174,10 @@ def example_42():
     work = [of_agent(A, "POST", "ret", sample(it)) for it in ("sale.ret", "card-sale.ret")]
     close = [of_office("POST", "day", '{"day":"2024-01-16"}'), of_office("POST", "close", '{"period":"24011"}')]
     kept_tallies("closed.db", [*setting_up(), *work, *billed_memos(), *close], [
-        # accepted, living, canx, memo_count, cash, credit, commission, memos
-        (A, "125", "24011", 1, 1, 0, 0, 23500, 0, 1000, 0),
-        (A, "220", "24011", 1, 1, 0, 1, 0, 10000, 0, 3000),
-        (B, "125", "24011", 0, 0, 0, 1, 0, 0, 0, -5000),
+        # accepted, living, canx, memo_count, cash, credit, commission, memos, tax
+        (A, "125", "24011", 1, 1, 0, 0, 23500, 0, 1000, 0, 190),
+        (A, "220", "24011", 1, 1, 0, 1, 0, 10000, 0, 3000, 0),
+        (B, "125", "24011", 0, 0, 0, 1, 0, 0, 0, -5000, 0),
     ])
 
 
@@ -203,8 +208,8 @@ def example_43():
         of_agent(A, "POST", "ret", sample("sale.ret")), of_office("POST", "day", '{"day":"2024-01-16"}'),
         of_agent(A, "POST", "ret", canx_of_sale())]
     kept_tallies("cancelled.db", [*setting_up(), *cancelled], [
-        (A, "125", "24011", 1, 0, 0, 0, 0, 0, 0, 0),
-        (A, "125", "24012", 1, 0, 1, 0, 0, 0, 0, 0),
+        (A, "125", "24011", 1, 0, 0, 0, 0, 0, 0, 0, 0),
+        (A, "125", "24012", 1, 0, 1, 0, 0, 0, 0, 0, 0),
     ])
     with contextlib.closing(sqlite3.connect("cancelled.db", isolation_level=None)) as it:
         it.execute("UPDATE tally SET cash = 1 WHERE period = '24011'")
@@ -223,7 +228,59 @@ def kept_order():
         reply = answers(program, requests)[-1]
         expect("a sale with two taxes", (200, f'{{"results":[{{"n":1,"period":"24011","verdict":"{verdict}"}}]}}'), reply)
         program.kill()
-    expect("airlines", [("220", 1), ("125", 2), ("005", 3)], rows_of("order.db", "SELECT * FROM airline ORDER BY place"))
+    expect("airlines", [("220", 1), ("125", 2), ("005", 3)], rows_of("order.db", "SELECT code, place FROM airline ORDER BY place"))
+
+
+def granted(file, requests):
+    """A book takes these requests. It is opened before, and closed after them."""
+    program = opened(file)
+    expect(f"{file}: requests", [200 for _ in requests], [it[0] for it in answers(program, requests)])
+    program.kill()
+
+
+def kept_airlines():
+    """An airline has one row, with its place, its token or both. No request registers an airline that no plan has, but a
+    file may have one."""
+    plan, file = sample("plan.toml"), "airlines.db"
+    register = of_office("POST", "airlines", f'{{"airline":"220","token":"{TOKENS["220"]}"}}')
+    granted(file, [of_office("POST", "plan", plan), register])
+    with contextlib.closing(sqlite3.connect(file, isolation_level=None)) as it:
+        it.execute("INSERT INTO airline VALUES ('999', NULL, 'airlinetoken0999')")
+    granted(file, [of_office("POST", "plan", plan.replace(b'["125", "220"]', b'["005", "999"]'))])
+    wanted = [("005", 3, None), ("125", 1, None), ("220", 2, TOKENS["220"]), ("999", 4, "airlinetoken0999")]
+    expect("airlines with places and tokens", wanted, rows_of(file, "SELECT * FROM airline ORDER BY code"))
+    granted(file, [register])
+
+
+ITEM_TAXES = "SELECT number, canx, tax, hundredths FROM item_tax ORDER BY agent, number, canx"
+
+
+def kept_taxes():
+    """Taxes are kept as they were published, and each item has its own. So is the second ticket of an exchange. A cancelled
+    sale adds no tax to its tally."""
+    further = sample("plan.toml") + b'[[commission_tax]]\nfrom = "2024-02-01"\nhundredths = 0\n'
+    sales = [of_agent(A, "POST", "ret", it) for it in (
+        sample("sale.ret"), sample("exchange-of-two.ret"), sale_of(1300000005, "sale-and-cancellation.ret"))]
+    later = sale_of(1300000010).replace(b"240105DOE", b"240116DOE")
+    refund = (TOP / "examples" / "files" / "refund-of-1-on-16.ret").read_bytes().replace(b"13000000112", b"13000000156")
+    granted("taxes.db", [*setting_up(), of_office("POST", "plan", further), *sales])
+    granted("taxes.db", [of_office("POST", "day", '{"day":"2024-01-16"}'), of_agent(A, "POST", "ret", later)])
+    granted("taxes.db", [of_agent(A, "POST", "ret", refund)])
+    taxes = [(damages.day("05"), 2, 1900), (damages.day("16"), 1, 2000), (damages.day("31") + 1, 3, 0)]
+    expect("published taxes", taxes, rows_of("taxes.db", "SELECT * FROM commission_tax ORDER BY begins"))
+    wanted = [("1300000001", 0, 190, 1900), ("1300000005", 0, 190, 1900), ("1300000005", 1, 0, 0), ("1300000010", 0, 200, 2000),
+              ("1300000011", 0, 190, 1900), ("1300000012", 0, 190, 1900), ("1300000013", 0, 48, 1900),
+              ("1300000015", 0, -190, 1900)]
+    expect("taxes of items", wanted, rows_of("taxes.db", ITEM_TAXES))
+    wanted = [(A, "125", "24011", 618), (A, "125", "24012", 10)]
+    expect("taxes of tallies", wanted, rows_of("taxes.db", "SELECT * FROM tally_tax ORDER BY agent, airline, period"))
+    expect("second tickets", [(A, "1300000013", "125", "1300000012")], rows_of("taxes.db", "SELECT * FROM second_related"))
+    program = opened("taxes.db")
+    net = '{"closed":false,"documents":4,"net":"716.32","period":"24011"}'
+    expect("the net of a period", (200, net), ask(program, of_agent(A, "GET", "periods/24011")))
+    for it in sales:
+        expect("a sale of a book opened again is held", {"held"}, set(re.findall(r'"verdict":"(\w+)"', ask(program, it)[1])))
+    program.kill()
 
 
 class Market(make_requests.Market):
@@ -365,13 +422,19 @@ def queries():
 def audited(wanted):
     """The queries of an auditor against what the program replied."""
     replies = dict(zip((it[1] for it in looking()), (it[1] for it in wanted[-len(list(looking())):])))
-    nets, memos, cancelled, tallies, stock = (rows_of("office.db", it) for it in queries())
+    nets, memos, cancelled, tallies, taxes, taken, paid_with, stock = (rows_of("office.db", it) for it in queries())
     expect("nets", [(it, "24011", statement_net(replies[f"/agents/{it}/statements/24011"])) for it in (A, B)], nets)
     agents = re.search(r"TOTAL +AGENTS +(\S+)", replies["/office/settlement/24011"])[1]
     expect("their sum", statement_net(agents), sum(it[2] for it in nets))
     expect("memos", [("125", "6000000002", A, "ADMA", 5000, "disputed", "2024-01-05")], memos)
     expect("cancelled tickets", [(A, "1300000005", "125", "24011", "24011")], cancelled)
     expect("tallies that differ", [], tallies)
+    expect("taxes of tallies that differ", [], taxes)
+    sales = ("01", 1000, 190), ("03", 250, 48), ("05", 1000, 190), ("08", 0, 0), ("11", 1000, 190), ("12", 1000, 190), ("13", 250, 48)
+    found = [(A, f"13000000{it}", "TKTT", commission, 1900, tax, 1900) for it, commission, tax in sales]
+    expect("what was taken of commissions", found, taken)
+    found = [(A, f"13000000{it}", f"13000000{ticket}") for it, ticket in (("03", "01"), ("13", "11"), ("13", "12"))]
+    expect("what tickets were paid with", found, paid_with)
     used = [(it, *found) for it in (A, B) for found in re.findall(
         r'"first":"(\d+)","last":"(\d+)","used":(\d+)', replies[f"/agents/{it}/stock"])]
     expect("stock", [(agent, first, last, int(count)) for agent, first, last, count in used], stock)
@@ -413,15 +476,21 @@ NO_DATABASE = "B03 file is not a database that obeys its schema"
 
 
 def tallies_anew():
-    """Statements that make the tallies anew, with the sums of docs/TABLES.md."""
-    sums, _, _ = queries()[3].partition("SELECT * FROM (")
-    return f"DELETE FROM tally; {sums} INSERT INTO tally SELECT * FROM summed"
+    """Statements that make the tallies and their taxes anew, with the sums of docs/TABLES.md."""
+    made = []
+    for table, query in ("tally", queries()[3]), ("tally_tax", queries()[4]):
+        sums, _, _ = query.partition("SELECT * FROM (")
+        made.append(f"DELETE FROM {table}; {sums} INSERT INTO {table} SELECT * FROM summed")
+    return "; ".join(made)
 
 
 def rules_broken():
-    """Rows that break a rule are refused, although their tallies agree. The nearest rows that break none are opened."""
-    anew = tallies_anew()
-    for what, (change, *texts, fault) in damages.RULES.items():
+    """Rows that break a rule are refused, although their taxes and tallies agree, or for a rule on taxes their tallies alone.
+    The nearest rows that break none are opened."""
+    tallies = tallies_anew()
+    both = f"{damages.TAXES_ANEW}; {tallies}"
+    rules = [*((both, *it) for it in damages.RULES.items()), *((tallies, *it) for it in damages.TAXES.items())]
+    for anew, what, (change, *texts, fault) in rules:
         broken, sound = (f"{change.replace('?', str(it))}; {anew}" for it in texts)
         changed(broken)
         if fault is damages.NO_PARENT:
@@ -441,12 +510,20 @@ def damaged():
         refusal(what, "copy.db", f"{DAMAGED}: {fault}", 1)
     for what, script in damages.VERSIONS.items():
         changed(script)
+        before = dump_of("copy.db")
         refusal(what, "copy.db", OTHER_VERSION, 1)
+        expect(f"{what}: what it leaves", before, dump_of("copy.db"))
     changed("")
     program = opened("copy.db")
     expect("a copy of the book", 200, ask(program, of_office("GET", "settlement/24011"))[0])
     refusal("a held file", "copy.db", IN_USE, 3)
     program.kill()
+
+
+def dump_of(file):
+    """The texts of the tables and all rows."""
+    with contextlib.closing(sqlite3.connect(file)) as it:
+        return list(it.iterdump())
 
 
 def changed(script):
@@ -507,6 +584,8 @@ def main():
         example_42()
         example_43()
         kept_order()
+        kept_airlines()
+        kept_taxes()
         killed_at_any_moment()
         full_disk()
         stored_run()

@@ -1,7 +1,7 @@
 #!/usr/bin/env python3
 """Compares, byte for byte, what the built program's command `run` writes on a connection: to heads that are refused, to
-messages one behind the other, to a sale that comes in pieces of each size or is cut after each of its bytes, and where
-reads or writes fail, by .ci/steps.c in front of the C library. Exits with the number of cases that differ.
+messages one behind the other, to RET files of both profiles that come in pieces of each size or are cut after each of their
+bytes, and where reads or writes fail, by .ci/steps.c in front of the C library. Exits with the number of cases that differ.
 
 usage: .ci/wire.py [PROGRAM]   (with no PROGRAM it takes the one that is built)
 """
@@ -17,7 +17,7 @@ import office
 PROGRAM = office.program()
 TOKEN = "officetoken00001"
 RET, PERIOD, STOCK = (f"/agents/12345675/{it}" for it in ("ret", "periods/24011", "stock"))
-SALE = office.sample("sale.ret")
+SALE, TWO = office.sample("sale.ret"), office.sample("exchange-of-two.ret")
 RECORD = 137
 
 
@@ -36,9 +36,10 @@ def response(status, text, *fields):
     return "\r\n".join([f"HTTP/1.1 {status}", *named, "", text]).encode()
 
 
-def results(verdict):
-    """The response to a RET file of one transaction."""
-    return response("200 OK", '{"results":[{"n":1,"period":"24011","verdict":"%s"}]}' % verdict)
+def results(verdict, count=1):
+    """The response to a RET file of so many transactions, all of this verdict."""
+    each = ('{"n":%d,"period":"24011","verdict":"%s"}' % (number, verdict) for number in range(1, count + 1))
+    return response("200 OK", '{"results":[%s]}' % ",".join(each))
 
 
 def sums(documents, net):
@@ -102,9 +103,12 @@ TALKS = {
     ],
 }
 
-# the most bytes of a read while a sale of 685 bytes comes, and how many bytes of it come where it is cut
-PIECES = range(1, 801)
-CUTS = range(686)
+# RET files of both profiles: the file, the response to it, and to it again; the most bytes of a read while it comes, and
+# how many bytes of it come where it is cut. The second one is cut behind its two sales, in the exchange.
+FILES = {
+    "a sale": (SALE, ACCEPTED, HELD, range(1, 801), range(686)),
+    "an exchange of two": (TWO, results("accepted", 3), results("held", 3), range(1, 290), range(7 * RECORD, len(TWO) + 1)),
+}
 
 # two reports of 784 bytes come in reads of 100 bytes: which read fails, from 0 on, the status, and how many reports
 # were complete before it. There are 17 reads: read 16 finds the end of the input.
@@ -163,29 +167,32 @@ def talks():
 
 
 def pieces():
-    """A sale that is reported again comes in pieces of each size, from one byte to the whole message."""
-    begun, replies = joined([*SET_UP, (REPORT, ACCEPTED)])
-    for most in PIECES:
-        calls = 2 + -(-len(REPORT) // most)
-        wanted = 0, replies + HELD, "", calls, len(begun + REPORT)
-        yield f"a sale in pieces of {most}", wanted, begun + REPORT, f"read 0 {len(begun)} {most}*"
+    """A file that is reported again comes in pieces of each size, of a sale from one byte to the whole message."""
+    for what, (file, accepted, held, sizes, _) in FILES.items():
+        report = message(f"POST {RET}", AGENT, body=file)
+        begun, replies = joined([*SET_UP, (report, accepted)])
+        for most in sizes:
+            calls = 2 + -(-len(report) // most)
+            wanted = 0, replies + held, "", calls, len(begun + report)
+            yield f"{what} in pieces of {most}", wanted, begun + report, f"read 0 {len(begun)} {most}*"
 
 
-def cut_reply(length):
-    """The reply to a sale that was reported before, of which so many bytes come. Its last LF may be missing."""
-    if length >= len(SALE) - 1:
-        return HELD
+def cut_reply(file, held, length):
+    """The reply to a file that was reported before, of which so many bytes come. Its last LF may be missing."""
+    if length >= len(file) - 1:
+        return held
     whole, rest = divmod(length, RECORD)
     code, record = {0: ("F08", whole + 1), RECORD - 1: ("F08", whole + 2)}.get(rest, ("F01", whole + 1))
     return response("422 Unprocessable Entity", f'{{"code":"{code}","record":{record}}}')
 
 
 def cuts():
-    """A sale that is reported again, cut after each of its bytes."""
-    begun, replies = joined([*SET_UP, (REPORT, ACCEPTED)])
-    for length in CUTS:
-        sent = begun + message(f"POST {RET}", AGENT, body=SALE[:length])
-        yield f"a sale cut to {length} bytes", (0, replies + cut_reply(length), "", 2, len(sent)), sent, "read 0"
+    """A file that is reported again, cut after its bytes."""
+    for what, (file, accepted, held, _, lengths) in FILES.items():
+        begun, replies = joined([*SET_UP, (message(f"POST {RET}", AGENT, body=file), accepted)])
+        for length in lengths:
+            sent = begun + message(f"POST {RET}", AGENT, body=file[:length])
+            yield f"{what} cut to {length} bytes", (0, replies + cut_reply(file, held, length), "", 2, len(sent)), sent, "read 0"
 
 
 def over_book(name, *runs):

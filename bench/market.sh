@@ -1,11 +1,11 @@
 # Sourced by the scripts that measure over items in memory: a module of their programs, with a plan whose one
-# period is closed, and items of it.
+# period is closed, and items of it. Both are without a tax on commission, or with one.
 
 market_module() {
   cat <<'MODULE'
 //! A plan whose period 24011 is closed, 500 agents and a sale.
 
-use bsp_calendar::{Currency, Period, Plan, PlanText, Terms};
+use bsp_calendar::{CommissionTax, Currency, Period, Plan, PlanText, Terms};
 use bsp_fields::{AgentCode, AirlineCode, Amount, Day, PeriodCode, write_digits};
 use bsp_ret_records::{Amounts, ReportedDocument, Tax, Transaction, TransactionCode};
 use bsp_rules::Item;
@@ -22,6 +22,7 @@ pub fn plan_text(alloc: Global) -> Option<PlanText> {
         airlines: Vec::new(alloc),
         rates: Vec::new(alloc),
         periods: Vec::new(alloc),
+        commission_taxes: Vec::new(alloc),
     };
     text.periods
         .push(Period {
@@ -34,12 +35,28 @@ pub fn plan_text(alloc: Global) -> Option<PlanText> {
     Some(text)
 }
 
-pub fn closed_plan(alloc: Global) -> Option<Plan> {
+fn closed(alloc: Global, text: &PlanText) -> Option<Plan> {
     let mut plan = Plan::empty(alloc);
-    plan.extend(&plan_text(alloc)?).ok()?;
+    plan.extend(text).ok()?;
     plan.set_day(Day::read_text(b"2024-01-16").ok()?).ok()?;
     plan.close_next(PeriodCode::read(b"24011").ok()?).ok()?;
     Some(plan)
+}
+
+pub fn closed_plan(alloc: Global) -> Option<Plan> {
+    closed(alloc, &plan_text(alloc)?)
+}
+
+/// The same with a tax on commission of 19.00 percent, so that its reports have form 2.
+pub fn taxed_plan(alloc: Global) -> Option<Plan> {
+    let mut text = plan_text(alloc)?;
+    text.commission_taxes
+        .push(CommissionTax {
+            from: Day::read_text(b"2024-01-01").ok()?,
+            hundredths: 1900,
+        })
+        .ok()?;
+    closed(alloc, &text)
 }
 
 pub fn agent(number: u64) -> Option<AgentCode> {
@@ -97,7 +114,17 @@ pub fn sale() -> Option<Item> {
         period: PeriodCode::read(b"24011").ok()?,
         transaction,
         lives: true,
+        tax: Amount::new(0).ok()?,
+        hundredths: 0,
     })
+}
+
+/// The same under the tax of 19.00 percent.
+pub fn taxed_sale() -> Option<Item> {
+    let mut item = sale()?;
+    item.tax = Amount::new(190).ok()?;
+    item.hundredths = 1900;
+    Some(item)
 }
 MODULE
 }

@@ -1,7 +1,7 @@
 #!/usr/bin/env bash
 # Measures the plan on a text of 10,000 and on one of 100,000 entries, in one run: reading the text,
-# publishing it, and looking up each of its rates, periods, targets and airlines; the best of five of
-# each, and the growth from the smaller text to the larger one.
+# publishing it, and looking up each of its rates, periods, targets, airlines and taxes on commission; the best
+# of five of each, and the growth from the smaller text to the larger one.
 #
 # usage: bench/calendar/run.sh     (needs python3)
 . "$(dirname "$0")/../over_library.sh"
@@ -24,6 +24,7 @@ enum Call {
     Period,
     Target,
     HasAirline,
+    CommissionTax,
 }
 
 fn name(call: Call) -> &'static str {
@@ -32,6 +33,7 @@ fn name(call: Call) -> &'static str {
         Call::Period => "period",
         Call::Target => "target",
         Call::HasAirline => "has_airline",
+        Call::CommissionTax => "commission_tax",
     }
 }
 
@@ -41,6 +43,9 @@ fn answered(call: Call, plan: &Plan, text: &PlanText) -> usize {
         Call::Period => text.periods.iter().filter(|period| plan.period(period.code).is_some()).count(),
         Call::Target => text.periods.iter().filter(|period| plan.target(period.last).is_some()).count(),
         Call::HasAirline => text.rates.iter().filter(|rate| plan.has_airline(rate.airline)).count(),
+        Call::CommissionTax => {
+            text.commission_taxes.iter().filter(|tax| plan.commission_tax(tax.from) == tax.hundredths).count()
+        }
     }
 }
 
@@ -73,7 +78,7 @@ fn time(rt: &HostRuntime, call: Call, plan: &Plan, text: &PlanText) -> io::Resul
 }
 
 fn look_up(rt: &HostRuntime, plan: &Plan, text: &PlanText) -> io::Result<()> {
-    for call in [Call::Rate, Call::Period, Call::Target, Call::HasAirline] {
+    for call in [Call::Rate, Call::Period, Call::Target, Call::HasAirline, Call::CommissionTax] {
         time(rt, call, plan, text)?;
     }
     Ok(())
@@ -105,7 +110,7 @@ for entries in 10000 100000; do
   "$program" <"$work/$entries.toml" >"$work/$entries.out"
 done
 echo "call, microseconds at 10,000 entries (calls that answered, or entries), at 100,000, growth"
-for call in read_plan extend rate period target has_airline; do
+for call in read_plan extend rate period target has_airline commission_tax; do
   small=$(best "$call" "$work/10000.out")
   large=$(best "$call" "$work/100000.out")
   echo "$call ${small% *} (${small#* }) ${large% *} (${large#* }) $(awk "BEGIN {printf \"%.1f\", ${large% *} / ${small% *}}")"

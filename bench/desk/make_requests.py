@@ -1,6 +1,6 @@
 #!/usr/bin/env python3
-"""Writes the requests of ITEMS sales (a multiple of 10,000), and their bodies, into FOLDER:
-make_requests.py ITEMS FOLDER
+"""Writes the requests of ITEMS sales (a multiple of 10,000), and their bodies, into FOLDER, with `taxed` those of a plan with
+a tax on commission: make_requests.py ITEMS FOLDER [taxed]
 
 A line of FOLDER/requests is a name, a method, a path, a token and a body, with tabs between. A body that begins
 with @ is that of the file of this name in FOLDER. `sales` is the fill of the book, 10,000 sales in a file.
@@ -35,6 +35,7 @@ first = "2024-01-16"
 last = "2024-01-31"
 remit = "2024-02-29"
 """
+TAX = '[[commission_tax]]\nfrom = "2024-01-01"\nhundredths = 1900\n'
 RATE = '[[rate]]\nairline = "%d"\nfrom = "2024-01-01"\nhundredths = 500'
 
 
@@ -91,8 +92,8 @@ def with_fields(sale, **fields):
 class Market:
     """The numbers of the agents, and what has been written."""
 
-    def __init__(self, folder):
-        self.folder, self.random = folder, random.Random(1)
+    def __init__(self, folder, is_taxed=False):
+        self.folder, self.is_taxed, self.random = folder, is_taxed, random.Random(1)
         self.used = [0] * AGENTS
         self.lines = []
 
@@ -131,7 +132,7 @@ class Market:
         """The plan, and all callers."""
         airlines = range(LARGE, LARGE + AIRLINES)
         text = PLAN % (", ".join(f'"{code}"' for code in airlines), "\n".join(RATE % code for code in airlines))
-        (self.folder / "plan").write_text(text)
+        (self.folder / "plan").write_text(text + TAX * self.is_taxed)
         self.office("plan", "@plan")
         self.office("day", '{"day":"2024-01-10"}')
         for code in airlines:
@@ -245,7 +246,7 @@ class Market:
 def main():
     items, folder = int(sys.argv[1]), pathlib.Path(sys.argv[2])
     folder.mkdir()
-    market = Market(folder)
+    market = Market(folder, sys.argv[3:] == ["taxed"])
     market.ask_all(items)
     (folder / "requests").write_text("\n".join(market.lines) + "\n")
 

@@ -2,15 +2,17 @@
 # Measures the requests of a desk over a ListBook of 10,000 and of 100,000 sales by 500 agents of 50 airlines, as
 # make_requests.py writes them, and the RET files among them also at a desk in plain Rust (plain/). The two
 # programs run in turn on one processor, ROUNDS times. Their replies to RET files are compared after each round. Prints, for
-# each request, the median of a round, of the rounds the best, and the growth and the ratio of these.
+# each request, the median of a round, of the rounds the best, and the growth and the ratio of these. With `taxed` the plan
+# has a tax on commission.
 #
-# usage: bench/desk/run.sh [ROUNDS [PROCESSOR]]     (7 and 3 by default)
+# usage: bench/desk/run.sh [ROUNDS [PROCESSOR [taxed]]]     (7 and 3 by default)
 rounds=${1:-7}
 processor=${2:-3}
+taxed=${3:-}
 . "$(dirname "$0")/../over_library.sh"
 
 for items in 10000 100000; do
-  python3 "$here/make_requests.py" "$items" "$work/$items"
+  python3 "$here/make_requests.py" "$items" "$work/$items" ${taxed:+taxed}
 done
 rustc --edition 2024 -O -o "$work/plain" "$here/plain/main.rs"
 

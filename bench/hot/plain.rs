@@ -1,7 +1,8 @@
 // A plain Rust writer of HOT files over items in memory that does the work of write_hot: the rows of an
 // airline and a period, their order, the records, and the totals of codes, offices and the file. The items are
 // those of the other program of run.sh. For each number of items it prints five times: the time in
-// microseconds, the bytes written and their checksum.
+// microseconds, the bytes written and their checksum. A number behind `taxed` is of items with a tax on commission, whose
+// file is of form 2.
 use std::time::Instant;
 
 #[derive(Clone, Copy, PartialEq)]
@@ -46,6 +47,8 @@ struct Item {
     credit: Option<(i64, [u8; 2])>,
     exchange: Option<i64>,
     lives: bool,
+    tax: i64,
+    hundredths: u16,
 }
 
 #[derive(Clone, Copy, Default)]
@@ -54,6 +57,7 @@ struct Sums {
     cash: i128,
     credit: i128,
     commission: i128,
+    tax: i128,
 }
 
 impl Sums {
@@ -62,6 +66,7 @@ impl Sums {
         self.cash += other.cash;
         self.credit += other.credit;
         self.commission += other.commission;
+        self.tax += other.tax;
     }
 }
 
@@ -97,6 +102,7 @@ fn count(value: usize) -> Option<[u8; 8]> {
 struct Output {
     text: Vec<u8>,
     records: usize,
+    is_taxed: bool,
 }
 
 impl Output {
@@ -114,16 +120,17 @@ impl Output {
     }
 
     fn totals(&mut self, letters: &[u8], name: &[u8], first: &[u8], second: &[u8], sums: &Sums) -> Option<()> {
-        let fields: [&[u8]; 7] = [
+        let fields: [&[u8]; 8] = [
             first,
             second,
             &count(sums.documents)?,
             &total(sums.cash)?,
             &total(sums.credit)?,
             &total(sums.commission)?,
-            &total(sums.cash - sums.commission)?,
+            &total(sums.cash - sums.commission - sums.tax)?,
+            &total(sums.tax)?,
         ];
-        self.record(letters, name, &fields);
+        self.record(letters, name, &fields[..if self.is_taxed { 8 } else { 7 }]);
         Some(())
     }
 
@@ -166,6 +173,10 @@ impl Output {
         if let Some(amounts) = &item.amounts {
             self.amounts(number, amounts);
         }
+        if self.is_taxed {
+            let tax = zoned::<11>(item.tax.into());
+            self.record(b"BKS", b"42", &[number, &digits::<5>(item.hundredths.into()), &tax]);
+        }
         for related in item.related.iter().flatten() {
             let airline = digits::<3>(related.airline.into());
             let check = digits::<1>(related.check_digit.into());
@@ -206,6 +217,7 @@ fn sums_of(item: &Item) -> Sums {
         cash: item.cash.unwrap_or(0).into(),
         credit: item.credit.map_or(0, |(paid, _)| paid).into(),
         commission: item.amounts.map_or(0, |amounts| amounts.commission).into(),
+        tax: item.tax.into(),
     }
 }
 
@@ -227,11 +239,12 @@ fn rows_in_order(airline: u16, period: u32, items: &[Item]) -> Vec<Row<'_>> {
     rows
 }
 
-fn write_hot(airline: u16, period: u32, items: &[Item]) -> Option<Vec<u8>> {
+fn write_hot(airline: u16, period: u32, is_taxed: bool, items: &[Item]) -> Option<Vec<u8>> {
     let rows = rows_in_order(airline, period, items);
-    let mut out = Output { text: Vec::new(), records: 0 };
+    let mut out = Output { text: Vec::new(), records: 0, is_taxed };
     let (airline, period) = (digits::<3>(airline.into()), digits::<5>(period.into()));
-    out.record(b"BFH", b"01", &[&airline, &period, b"240215", b"EUR", b"PROD001"]);
+    let form = if is_taxed { b"PROD002" } else { b"PROD001" };
+    out.record(b"BFH", b"01", &[&airline, &period, b"240215", b"EUR", form]);
     out.record(b"BCH", b"02", &[&period, b"240101", b"240115", b"240215"]);
     let (mut file, mut offices) = (Sums::default(), 0);
     for office in rows.chunk_by(|one, other| one.agent == other.agent) {
@@ -245,7 +258,7 @@ fn write_hot(airline: u16, period: u32, items: &[Item]) -> Option<Vec<u8>> {
     Some(out.text)
 }
 
-fn item(index: u64) -> Item {
+fn item(index: u64, is_taxed: bool) -> Item {
     let front = 1_000_000 + index % 500;
     let number = 1_300_000_000 + index.wrapping_mul(7_919) % 1_000_003;
     let mut passenger = [b' '; 49];
@@ -264,6 +277,8 @@ fn item(index: u64) -> Item {
         credit: None,
         exchange: None,
         lives: true,
+        tax: if is_taxed { 190 } else { 0 },
+        hundredths: if is_taxed { 1_900 } else { 0 },
     }
 }
 
@@ -272,13 +287,20 @@ fn checksum(bytes: &[u8]) -> u64 {
 }
 
 fn main() {
+    let mut is_taxed = false;
     for text in std::env::args().skip(1) {
-        let items: Vec<Item> = (0..text.parse().expect("a number of items")).map(item).collect();
+        if text == "taxed" {
+            is_taxed = true;
+            continue;
+        }
+        let count = text.parse().expect("a number of items");
+        let items: Vec<Item> = (0..count).map(|index| item(index, is_taxed)).collect();
+        let name = if is_taxed { "plain_taxed" } else { "plain" };
         for _ in 0..5 {
             let begun = Instant::now();
-            let written = write_hot(125, 24_011, &items).expect("a file");
+            let written = write_hot(125, 24_011, is_taxed, &items).expect("a file");
             let took = begun.elapsed().as_micros();
-            println!("plain {} {took} {} {}", items.len(), written.len(), checksum(&written));
+            println!("{name} {} {took} {} {}", items.len(), written.len(), checksum(&written));
         }
     }
 }

@@ -1,5 +1,6 @@
 #!/usr/bin/env python3
-"""Writes a valid HOT file of all codes and forms, of offices of 1,000 documents each: make_hot_file.py DOCUMENTS PATH"""
+"""Writes a valid HOT file of all codes and forms, of offices of 1,000 documents each, with `taxed` one of form 2:
+make_hot_file.py DOCUMENTS PATH [taxed]"""
 import pathlib
 import sys
 
@@ -27,22 +28,23 @@ IN_OFFICE = 1_000
 
 class Sums:
     def __init__(self):
-        self.documents = self.cash = self.credit = self.commission = 0
+        self.documents = self.cash = self.credit = self.commission = self.tax = 0
 
     def add(self, other):
         self.documents += other.documents
         self.cash += other.cash
         self.credit += other.credit
         self.commission += other.commission
+        self.tax += other.tax
 
-    def text(self):
-        money = (self.cash, self.credit, self.commission, self.cash - self.commission)
-        return f"{self.documents:08d}" + "".join(zoned(each, 15) for each in money)
+    def text(self, is_taxed):
+        money = [self.cash, self.credit, self.commission, self.cash - self.commission - self.tax]
+        return f"{self.documents:08d}" + "".join(zoned(each, 15) for each in money + [self.tax] * is_taxed)
 
 
 class Writer:
-    def __init__(self, out):
-        self.out = out
+    def __init__(self, out, is_taxed):
+        self.out, self.is_taxed = out, is_taxed
         self.records = self.transactions = 0
 
     def record(self, name, fields):
@@ -66,6 +68,9 @@ class Writer:
         if code in ("TKTT", "RFND"):
             sums.commission = sign * (1_000 + number % 89)
             self.record("BKS39", f"{transaction}00500{zoned(sums.commission, 11)}")
+            if self.is_taxed:
+                sums.tax = sign * ((1900 * abs(sums.commission) + 5_000) // 10_000)
+                self.record("BKS42", f"{transaction}01900{zoned(sums.tax, 11)}")
         if has_related:
             self.record("BKS45", f"{transaction}125{document(1_200_000_000 + number)}")
         for form in forms:
@@ -89,23 +94,27 @@ class Writer:
                 codes.setdefault(kind[0], Sums()).add(self.item(agent, kind, number))
             first = last
         for code, sums in codes.items():
-            self.record("BOT93", agent + code + sums.text())
+            self.record("BOT93", agent + code + sums.text(self.is_taxed))
             office.add(sums)
-        self.record("BOT94", agent + office.text())
+        self.record("BOT94", agent + office.text(self.is_taxed))
         return office
 
 
-def write(count, path):
+def write(count, path, is_taxed=False):
     with open(path, "w", buffering=1 << 20, newline="\n") as out:
-        writer, file, offices = Writer(out), Sums(), 0
-        writer.record("BFH01", "12524011240215EURPROD001")
+        writer, file, offices = Writer(out, is_taxed), Sums(), 0
+        writer.record("BFH01", f"12524011240215EURPROD00{1 + is_taxed}")
         writer.record("BCH02", "24011240101240115240215")
         for begun in range(0, count, IN_OFFICE):
             offices += 1
             file.add(writer.office(f"{10_000_000 + offices}", min(IN_OFFICE, count - begun)))
-        writer.record("BCT95", f"24011{offices:08d}{file.text()}")
-        writer.record("BFT99", f"125{writer.records + 1:08d}{file.text()}")
+        writer.record("BCT95", f"24011{offices:08d}{file.text(is_taxed)}")
+        writer.record("BFT99", f"125{writer.records + 1:08d}{file.text(is_taxed)}")
+
+
+def write_taxed(count, path):
+    write(count, path, True)
 
 
 if __name__ == "__main__":
-    write(int(sys.argv[1]), sys.argv[2])
+    write(int(sys.argv[1]), sys.argv[2], sys.argv[3:] == ["taxed"])

@@ -20,6 +20,7 @@ struct Sums {
     cash: i64,
     credit: i64,
     commission: i64,
+    tax: i64,
 }
 
 impl Sums {
@@ -28,20 +29,23 @@ impl Sums {
         self.cash += other.cash;
         self.credit += other.credit;
         self.commission += other.commission;
+        self.tax += other.tax;
     }
 
     fn net(&self) -> i64 {
-        self.cash - self.commission
+        self.cash - self.commission - self.tax
     }
 
-    // whether the 68 characters are these totals
-    fn are(&self, text: &[u8]) -> bool {
+    // whether the characters are these totals, with the tax in form 2, and spaces behind them
+    fn are(&self, text: &[u8], is_taxed: bool) -> bool {
         let total = |from: usize| zoned(&text[from..from + 15]);
         digits(&text[..8]) == Some(self.documents)
             && total(8) == Some(self.cash)
             && total(23) == Some(self.credit)
             && total(38) == Some(self.commission)
             && total(53) == Some(self.net())
+            && (!is_taxed || total(68) == Some(self.tax))
+            && spaces(&text[if is_taxed { 83 } else { 68 }..])
     }
 }
 
@@ -49,8 +53,11 @@ impl Sums {
 enum Last {
     Document,
     Amounts,
+    // in form 2 the tax is still to come
+    Untaxed,
     Commission,
     Related,
+    SecondRelated,
     Cash,
     Credit,
     Exchange,
@@ -81,6 +88,9 @@ fn is_complete(code: usize, last: Last, related: bool) -> bool {
 struct Checker<'a> {
     records: u64,
     place: Place,
+    is_taxed: bool,
+    // the number of the last BKS45
+    related: &'a [u8],
     airline: &'a [u8],
     period: &'a [u8],
     currency: &'a [u8],
@@ -97,6 +107,8 @@ impl<'a> Checker<'a> {
         Checker {
             records: 0,
             place: Place::Start,
+            is_taxed: false,
+            related: b"",
             airline: b"",
             period: b"",
             currency: b"",
@@ -114,11 +126,12 @@ impl<'a> Checker<'a> {
         self.airline = &line[13..16];
         self.period = &line[16..21];
         self.currency = &line[27..30];
+        self.is_taxed = &line[30..37] == b"PROD002";
         self.place = Place::Headed;
         digits_only(&line[13..21])
             && day(&line[21..27])
             && self.currency.iter().all(u8::is_ascii_uppercase)
-            && &line[30..37] == b"PROD001"
+            && (self.is_taxed || &line[30..37] == b"PROD001")
             && spaces(&line[37..])
     }
 
@@ -191,7 +204,8 @@ impl<'a> Checker<'a> {
             return false;
         };
         let Some(amount) = zoned(&line[26..37]) else { return false };
-        self.place = Place::InDocument { code, last: Last::Commission, related };
+        let last = if self.is_taxed { Last::Untaxed } else { Last::Commission };
+        self.place = Place::InDocument { code, last, related };
         self.codes[code].commission += amount;
         code < CANX
             && self.is_numbered(line)
@@ -199,12 +213,30 @@ impl<'a> Checker<'a> {
             && spaces(&line[37..])
     }
 
-    fn related(&mut self, line: &[u8]) -> bool {
-        let Place::InDocument { code, last: Last::Commission, .. } = self.place else {
+    fn tax(&mut self, line: &[u8]) -> bool {
+        let Place::InDocument { code, last: Last::Untaxed, related } = self.place else {
             return false;
         };
-        self.place = Place::InDocument { code, last: Last::Related, related: true };
+        let Some(amount) = zoned(&line[26..37]) else { return false };
+        self.place = Place::InDocument { code, last: Last::Commission, related };
+        self.codes[code].tax += amount;
         self.is_numbered(line)
+            && digits(&line[21..26]).is_some_and(|hundredths| hundredths <= 10_000)
+            && spaces(&line[37..])
+    }
+
+    fn related(&mut self, line: &'a [u8]) -> bool {
+        let Place::InDocument { code, last, .. } = self.place else { return false };
+        let number = &line[24..34];
+        let (is_allowed, next) = match last {
+            Last::Commission => (true, Last::Related),
+            Last::Related => (code == 0 && self.related < number, Last::SecondRelated),
+            _ => return false,
+        };
+        self.related = number;
+        self.place = Place::InDocument { code, last: next, related: true };
+        is_allowed
+            && self.is_numbered(line)
             && &line[21..24] == self.airline
             && digits_only(&line[24..35])
             && spaces(&line[35..])
@@ -217,7 +249,7 @@ impl<'a> Checker<'a> {
             b"CA" => {
                 self.codes[code].cash += amount;
                 let allowed = match code {
-                    0 => matches!(last, Last::Commission | Last::Related),
+                    0 => matches!(last, Last::Commission | Last::Related | Last::SecondRelated),
                     1 => last == Last::Related,
                     _ => last == Last::Amounts,
                 };
@@ -226,7 +258,7 @@ impl<'a> Checker<'a> {
             b"CC" => {
                 self.codes[code].credit += amount;
                 let allowed = match code {
-                    0 => matches!(last, Last::Commission | Last::Related | Last::Cash),
+                    0 => matches!(last, Last::Commission | Last::Related | Last::SecondRelated | Last::Cash),
                     1 => matches!(last, Last::Related | Last::Cash),
                     _ => false,
                 };
@@ -235,7 +267,7 @@ impl<'a> Checker<'a> {
             b"EX" => {
                 let allowed = code == 0
                     && related
-                    && matches!(last, Last::Related | Last::Cash | Last::Credit);
+                    && matches!(last, Last::Related | Last::SecondRelated | Last::Cash | Last::Credit);
                 (allowed && spaces(&line[34..36]), Last::Exchange)
             }
             _ => return false,
@@ -259,8 +291,7 @@ impl<'a> Checker<'a> {
         self.place = Place::Totalled(code);
         &line[13..21] == self.agent
             && &line[21..25] == CODES[code]
-            && self.codes[code].are(&line[25..93])
-            && spaces(&line[93..])
+            && self.codes[code].are(&line[25..], self.is_taxed)
     }
 
     fn office_totals(&mut self, line: &[u8]) -> bool {
@@ -273,7 +304,7 @@ impl<'a> Checker<'a> {
         self.offices += 1;
         self.latest = None;
         self.place = Place::Between;
-        &line[13..21] == self.agent && office.are(&line[21..89]) && spaces(&line[89..])
+        &line[13..21] == self.agent && office.are(&line[21..], self.is_taxed)
     }
 
     fn period_totals(&mut self, line: &[u8]) -> bool {
@@ -281,8 +312,7 @@ impl<'a> Checker<'a> {
         self.place = Place::Closed;
         &line[13..18] == self.period
             && digits(&line[18..26]) == Some(self.offices)
-            && self.file.are(&line[26..94])
-            && spaces(&line[94..])
+            && self.file.are(&line[26..], self.is_taxed)
     }
 
     fn file_totals(&mut self, line: &[u8]) -> bool {
@@ -290,8 +320,7 @@ impl<'a> Checker<'a> {
         self.place = Place::Ended;
         &line[13..16] == self.airline
             && digits(&line[16..24]) == Some(self.records)
-            && self.file.are(&line[24..92])
-            && spaces(&line[92..])
+            && self.file.are(&line[24..], self.is_taxed)
     }
 
     fn record(&mut self, line: &'a [u8]) -> bool {
@@ -307,6 +336,7 @@ impl<'a> Checker<'a> {
             (b"BKS", b"24") => self.document(line),
             (b"BKS", b"30") => self.amounts(line),
             (b"BKS", b"39") => self.commission(line),
+            (b"BKS", b"42") => self.tax(line),
             (b"BKS", b"45") => self.related(line),
             (b"BKP", b"84") => self.payment(line),
             (b"BOT", b"93") => self.code_totals(line),

@@ -5,7 +5,9 @@ their ratio; what an opening of the file takes; and what the file adds to a sale
 alone, against twin.c, which has SQLite's own library write the same rows into the same book. For the last the sales are
 sent one behind another to `run`, as twin.c runs its transactions: neither waits for a peer. It needs gcc, libsqlite3-dev and a disk whose syncs both can share.
 
-usage: bench/store/run.py [PROGRAM [ITEMS..]]     (by default the one that is built, 10,000 and 100,000 items)
+With `taxed` the plan has a tax on commission.
+
+usage: bench/store/run.py [taxed] [PROGRAM [ITEMS..]]     (by default the one that is built, 10,000 and 100,000 items)
 """
 import contextlib
 import http.client
@@ -26,8 +28,10 @@ sys.dont_write_bytecode = True
 sys.path.append(str(TOP / "bench" / "desk"))
 import make_requests
 
-PROGRAM = os.path.abspath(sys.argv[1]) if len(sys.argv) > 1 else f"{TOP}/crates/bsp_office/out/bsp_office"
-SIZES = [int(it) for it in sys.argv[2:]] or [10_000, 100_000]
+IS_TAXED = sys.argv[1:2] == ["taxed"]
+WORDS = sys.argv[1 + IS_TAXED:]
+PROGRAM = os.path.abspath(WORDS[0]) if WORDS else f"{TOP}/crates/bsp_office/out/bsp_office"
+SIZES = [int(it) for it in WORDS[1:]] or [10_000, 100_000]
 # a body has at most 4 MiB, about 7,600 sales
 MOST = 5_000
 # of what the file adds to a sale
@@ -38,7 +42,7 @@ class Market(make_requests.Market):
     """The requests of bench/desk, with no file of more sales than a body may have."""
 
     def __init__(self, folder):
-        super().__init__(folder)
+        super().__init__(folder, IS_TAXED)
         self.filled = []
 
     def post(self, name, path, token, file, sales):
@@ -165,15 +169,18 @@ def line_of(kind, values):
 
 
 def rows_of(book, sales):
-    """The rows of the sales of one commit, and those of their tallies, each once."""
+    """The rows of the sales of one commit, and those of their tallies, each once. Both have a second row for the tax."""
     tallies, lines = {}, []
     for it in sales:
-        item, = book.execute("SELECT * FROM item WHERE agent = ? AND number = ? AND canx = 0", (it.agent, str(it.number)))
-        lines.append(line_of("item", item))
-        tallies[item[0], item[3], item[6]] = None
+        for table in "item", "item_tax":
+            row, = book.execute(f"SELECT * FROM {table} WHERE agent = ? AND number = ? AND canx = 0", (it.agent, str(it.number)))
+            lines.append(line_of(table, row))
+            if table == "item":
+                tallies[row[0], row[3], row[6]] = None
     for key in tallies:
-        tally, = book.execute("SELECT * FROM tally WHERE agent = ? AND airline = ? AND period = ?", key)
-        lines.append(line_of("tally", tally))
+        for table in "tally", "tally_tax":
+            row, = book.execute(f"SELECT * FROM {table} WHERE agent = ? AND airline = ? AND period = ?", key)
+            lines.append(line_of(table, row))
     return "".join(lines) + "commit\n"
 
 
@@ -196,14 +203,15 @@ def without(sales):
     """Takes these sales out of a book."""
     def clear(book):
         for it in sales:
-            book.execute("DELETE FROM item WHERE agent = ? AND number = ?", (it.agent, str(it.number)))
+            for table in "item", "item_tax":
+                book.execute(f"DELETE FROM {table} WHERE agent = ? AND number = ?", (it.agent, str(it.number)))
     return clear
 
 
 def without_any(book):
     """Takes all items and tallies out of a book."""
-    book.execute("DELETE FROM item")
-    book.execute("DELETE FROM tally")
+    for table in "item", "item_tax", "tally", "tally_tax":
+        book.execute(f"DELETE FROM {table}")
 
 
 def compared(folder, lines, name, count, commits, clear):

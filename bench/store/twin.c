@@ -1,19 +1,36 @@
 /* The statements of commits of sales, by SQLite's own library, over a book that the program made:
    twin BOOK ROWS
-   A line of ROWS is `item` or `tally` with the values of a row, with tabs between, or `commit`: iN is an integer,
-   tTEXT a text, n NULL. The lines up to a `commit` are one transaction: an INSERT for an item; for a tally an UPDATE,
-   and an INSERT where there is none. Foreign keys are enforced, the log is a WAL, and each commit is synced, as by the
-   program. Prints the
-   nanoseconds of each transaction. */
+   A line of ROWS is a table and the values of a row, with tabs between, or `commit`: iN is an integer, tTEXT a text,
+   n NULL. The lines up to a `commit` are one transaction: an INSERT for a row of `item`, `item_tax` and `second_related`;
+   for one of `tally` and `tally_tax` an UPDATE, and an INSERT where there is none. Foreign keys are enforced, the log is a
+   WAL, and each commit is synced, as by the program. Prints the nanoseconds of each transaction. */
 #include <sqlite3.h>
 #include <stdio.h>
 #include <stdlib.h>
 #include <string.h>
 #include <time.h>
 
-enum { ITEM = 19, TALLY = 11 };
+enum { WIDEST = 19 };
 
 static sqlite3 *book;
+
+/* A table, how many columns it has, and what changes a row of it, if rows are changed. */
+static struct {
+    const char *name;
+    int width;
+    const char *change;
+    sqlite3_stmt *insertion, *update;
+} tables[] = {
+    {"item", WIDEST, NULL, NULL, NULL},
+    {"item_tax", 5, NULL, NULL, NULL},
+    {"second_related", 4, NULL, NULL, NULL},
+    {"tally", 11,
+     "UPDATE tally SET accepted = ?4, living = ?5, canx = ?6, memo_count = ?7, cash = ?8, "
+     "credit = ?9, commission = ?10, memos = ?11 WHERE agent = ?1 AND airline = ?2 AND period = ?3",
+     NULL, NULL},
+    {"tally_tax", 4, "UPDATE tally_tax SET tax = ?4 WHERE agent = ?1 AND airline = ?2 AND period = ?3", NULL, NULL},
+};
+enum { TABLES = sizeof tables / sizeof *tables };
 
 static void expect(int found, int wanted, const char *what) {
     if (found != wanted) {
@@ -52,13 +69,25 @@ static void run(sqlite3_stmt *it, char **values, int count) {
     sqlite3_reset(it);
 }
 
-/* The values of a line after its first word. */
-static int split(char *line, char **values) {
-    int count = 0;
+/* The first word of a line, and the values after it. */
+static const char *split(char *line, char **values, int *count) {
+    *count = 0;
     line[strcspn(line, "\n")] = 0;
-    strsep(&line, "\t");
-    while (line && count < ITEM) values[count++] = strsep(&line, "\t");
-    return count;
+    const char *word = strsep(&line, "\t");
+    while (line && *count < WIDEST) values[(*count)++] = strsep(&line, "\t");
+    return word;
+}
+
+/* Writes a row of the table of that name. */
+static void put(const char *name, char **values, int count) {
+    int at = 0;
+    while (at < TABLES && strcmp(tables[at].name, name)) at++;
+    expect(at < TABLES && tables[at].width == count, 1, name);
+    if (tables[at].update) {
+        run(tables[at].update, values, count);
+        if (sqlite3_changes(book)) return;
+    }
+    run(tables[at].insertion, values, count);
 }
 
 static long long now(void) {
@@ -72,12 +101,12 @@ int main(int count, char **words) {
     expect(sqlite3_open(words[1], &book), SQLITE_OK, words[1]);
     expect(sqlite3_exec(book, "PRAGMA foreign_keys = ON; PRAGMA journal_mode = WAL; PRAGMA synchronous = FULL", NULL, NULL, NULL), SQLITE_OK, "WAL");
     sqlite3_stmt *begin = prepared("BEGIN"), *commit = prepared("COMMIT");
-    sqlite3_stmt *item = insertion("item", ITEM), *tally = insertion("tally", TALLY);
-    sqlite3_stmt *change = prepared("UPDATE tally SET accepted = ?4, living = ?5, canx = ?6, memo_count = ?7, cash = ?8, "
-                                    "credit = ?9, commission = ?10, memos = ?11 "
-                                    "WHERE agent = ?1 AND airline = ?2 AND period = ?3");
+    for (int at = 0; at < TABLES; at++) {
+        tables[at].insertion = insertion(tables[at].name, tables[at].width);
+        if (tables[at].change) tables[at].update = prepared(tables[at].change);
+    }
     FILE *rows = fopen(words[2], "r");
-    char line[4096], *values[ITEM];
+    char line[4096], *values[WIDEST];
     long long from = 0;
     while (rows && fgets(line, sizeof line, rows)) {
         int width;
@@ -85,13 +114,9 @@ int main(int count, char **words) {
             from = now();
             run(begin, values, 0);
         }
-        char kind = *line;
-        width = split(line, values);
-        if (kind == 'i') {
-            run(item, values, width);
-        } else if (kind == 't') {
-            run(change, values, width);
-            if (!sqlite3_changes(book)) run(tally, values, width);
+        const char *word = split(line, values, &width);
+        if (strcmp(word, "commit")) {
+            put(word, values, width);
         } else {
             run(commit, values, 0);
             printf("%lld\n", now() - from);

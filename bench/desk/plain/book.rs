@@ -14,6 +14,10 @@ pub struct Item {
     pub transaction: Transaction,
     pub period: u32,
     pub lives: bool,
+    // The tax on its commission, and the hundredths of a percent that were taken, which are kept for the reports alone.
+    pub tax: i64,
+    #[allow(dead_code)]
+    pub hundredths: u16,
 }
 
 #[derive(Clone, Copy, Default)]
@@ -24,6 +28,7 @@ pub struct Tally {
     pub cash: i64,
     pub credit: i64,
     pub commission: i64,
+    pub tax: i64,
 }
 
 #[derive(Default)]
@@ -43,6 +48,13 @@ enum Write {
 }
 
 pub struct NoRoom;
+
+// The commission of a rate in hundredths of a percent, halves away from zero.
+pub fn commission_on(rate: u16, basis: i64) -> i64 {
+    let size = (u128::from(rate) * u128::from(basis.unsigned_abs()) + 5_000) / 10_000;
+    let size = size as i64;
+    if basis < 0 { -size } else { size }
+}
 
 #[derive(Default)]
 pub struct Book {
@@ -65,13 +77,15 @@ impl Item {
 
 impl Tally {
     // With what a TKTT or an RFND posts while it lives, or without it.
-    fn with_sums(mut self, transaction: &Transaction, sign: i64) -> Option<Tally> {
+    fn with_sums(mut self, item: &Item, sign: i64) -> Option<Tally> {
+        let transaction = &item.transaction;
         let credit = transaction.credit.map_or(0, |card| card.amount);
         let commission = transaction.amounts.map_or(0, |amounts| amounts.commission);
         self.living = self.living.checked_add_signed(sign as i32)?;
         self.cash = self.cash.checked_add(sign * transaction.cash.unwrap_or(0))?;
         self.credit = self.credit.checked_add(sign * credit)?;
         self.commission = self.commission.checked_add(sign * commission)?;
+        self.tax = self.tax.checked_add(sign * item.tax)?;
         Some(self)
     }
 
@@ -81,7 +95,7 @@ impl Tally {
             self.cancelled = self.cancelled.checked_add(1)?;
             return Some(self);
         }
-        self.with_sums(&item.transaction, 1)
+        self.with_sums(item, 1)
     }
 }
 
@@ -125,11 +139,26 @@ impl Book {
         item.lives = false;
         let ended = *item;
         self.undo.push(Write::Ended(code, key));
-        self.count(code, ended.place(), |tally| tally.with_sums(&ended.transaction, -1))
+        self.count(code, ended.place(), |tally| tally.with_sums(&ended, -1))
+    }
+
+    // The tax of a TKTT on its day of issue; of an RFND on the earlier of that and its ticket's.
+    fn taxed(&self, code: u32, transaction: &Transaction) -> (i64, u16) {
+        let Some(amounts) = &transaction.amounts else {
+            return (0, 0);
+        };
+        let ticket = match (transaction.code, &transaction.related) {
+            (Code::Rfnd, Some(related)) => self.agents.get(&code).and_then(|agent| agent.items.get(&(related.number, false))),
+            _ => None,
+        };
+        let issued = ticket.map_or(transaction.issued, |ticket| ticket.transaction.issued.min(transaction.issued));
+        let hundredths = self.plan.commission_tax(issued);
+        (commission_on(hundredths, amounts.commission), hundredths)
     }
 
     pub fn accept(&mut self, code: u32, transaction: &Transaction, period: u32) -> Result<(), NoRoom> {
-        let item = Item { transaction: *transaction, period, lives: true };
+        let (tax, hundredths) = self.taxed(code, transaction);
+        let item = Item { transaction: *transaction, period, lives: true, tax, hundredths };
         let (key, place) = (item.key(), item.place());
         if key.1 {
             self.end(code, (key.0, false))?;

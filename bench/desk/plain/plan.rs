@@ -1,4 +1,4 @@
-// The plan: its airlines, rates and periods. A day is YYMMDD as a number.
+// The plan: its airlines, rates, periods and taxes on commission. A day is YYMMDD as a number.
 use std::collections::{BTreeMap, HashSet};
 
 pub struct Period {
@@ -15,6 +15,7 @@ pub struct Plan {
     airlines: HashSet<u16>,
     rates: BTreeMap<(u16, u32), u16>,
     periods: Vec<Period>,
+    taxes: BTreeMap<u32, u16>,
 }
 
 // The digits of a text, as a number: of a day 2024-01-05, 240105.
@@ -48,6 +49,8 @@ impl Plan {
             } else if table.starts_with("rate") {
                 let key = (at(table, "airline") as u16, day_at(table, "from"));
                 plan.rates.insert(key, at(table, "hundredths") as u16);
+            } else if table.starts_with("commission_tax") {
+                plan.taxes.insert(day_at(table, "from"), at(table, "hundredths") as u16);
             } else {
                 let (first, last) = (day_at(table, "first"), day_at(table, "last"));
                 plan.periods.push(Period { code: at(table, "code") as u32, first, last });
@@ -65,6 +68,10 @@ impl Plan {
             Some((key, rate)) if key.0 == airline => *rate,
             _ => 0,
         }
+    }
+
+    pub fn commission_tax(&self, day: u32) -> u16 {
+        self.taxes.range(..=day).next_back().map_or(0, |(_, hundredths)| *hundredths)
     }
 
     pub fn target(&self, issued: u32) -> Option<u32> {

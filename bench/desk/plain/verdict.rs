@@ -1,5 +1,5 @@
 // The table of verdicts, over look-ups by key.
-use crate::book::{Agent, Book, Item};
+use crate::book::{Agent, Book, Item, commission_on};
 use crate::plan::Plan;
 use crate::transaction::{Amounts, Code, Document, Transaction};
 
@@ -11,9 +11,7 @@ pub enum Verdict {
 }
 
 fn has_commission(amounts: &Amounts, basis: i64) -> bool {
-    let size = (u128::from(amounts.rate) * u128::from(basis.unsigned_abs()) + 5_000) / 10_000;
-    let size = size as i64;
-    amounts.commission == if basis < 0 { -size } else { size }
+    amounts.commission == commission_on(amounts.rate, basis)
 }
 
 fn has_right_amounts(transaction: &Transaction, amounts: &Amounts, published: u16) -> bool {

@@ -13,6 +13,7 @@ use Rattle.bsp_fields.specs.declared.change.Change.TheVariants.{Done, Held}
 use Rattle.bsp_calendar.specs.declared.entries.Rate.{Rate}
 use Rattle.bsp_calendar.specs.declared.entries.Terms.{Terms}
 use Rattle.bsp_calendar.specs.Standing.{first_codes, plan_of, IsPlaceOf, IsFirstNotOver}
+use Rattle.bsp_calendar.specs.declared.entries.CommissionTax.{CommissionTax}
 use Rattle.bsp_calendar.specs.declared.entries.Period.{Period}
 use Rattle.bsp_calendar.specs.declared.fault.PlanFault.TheVariants.{NotEarliest, NotOver}
 use Rattle.bsp_calendar.proofs.ListLemmas.{with_item, find_none}
@@ -84,9 +85,9 @@ other_next qs n code h other =
       | inr ge ↦ rw (next_open_none qs n ge) refl
     ]
 
-module _ (terms : Option Terms) (airlines : List ℕ) (rates : List Rate) (qs : List Period) (day : CivilDay) (n code : ℕ) (h : IsStanding qs n) where
+module _ (terms : Option Terms) (airlines : List ℕ) (rates : List Rate) (qs : List Period) (taxes : List CommissionTax) (day : CivilDay) (n code : ℕ) (h : IsStanding qs n) where
   abbrev standing : Published
-  standing = plan_of terms airlines rates qs day n
+  standing = plan_of terms airlines rates qs taxes day n
 
   -- a closed period
   pub close_held : (i : ℕ) → IsPlaceOf qs code (Some i) → i < n → (closing standing code ≡ Ok standing) × (Held ≡ change_of (is_closed standing code))
@@ -107,7 +108,7 @@ module _ (terms : Option Terms) (airlines : List ℕ) (rates : List Rate) (qs : 
       rw (place_closed qs n code n h at, le-ltb n n (omega arith), next_open_is qs n q h.distinct at.0, at.1 q, ← is, early) refl
 
   -- the earliest open one, which is over
-  pub close_over : (q : Period) → IsPlaceOf qs code (Some n) → q ≡ get_or qs n q → is_before q.last day ≡ true → (closing standing code ≡ Ok (plan_of terms airlines rates qs day (n + 1))) × (Done ≡ change_of (is_closed standing code))
+  pub close_over : (q : Period) → IsPlaceOf qs code (Some n) → q ≡ get_or qs n q → is_before q.last day ≡ true → (closing standing code ≡ Ok (plan_of terms airlines rates qs taxes day (n + 1))) × (Done ≡ change_of (is_closed standing code))
   close_over q at is over =
       let closed = place_closed qs n code n h at ∙ le-ltb n n (omega arith) in
       let more : first_codes qs (n + 1) ≡ first_codes qs n ++ code ∷ [] =

@@ -1,16 +1,19 @@
 -- The keys of a table and the items of an array, beside the data that they stand for.
-use Rattle.std.proofs.Common.{◌≡◌, ◌∙◌, ℕ, zero, suc, ◌+◌, ◌<◌, Bool, true, false, ◌||◌, List, [], ◌∷◌, ◌++◌, length, map, take, get_or, Option, Some, None, option_map, String, Global, string_bytes, refl, sym, ap, arith}
-use Rattle.std.specs.Prelude.{option_and_then}
+use Rattle.std.proofs.Common.{◌≡◌, ◌∙◌, ℕ, zero, suc, ◌+◌, ◌<◌, Bool, true, false, cond, ◌||◌, List, [], ◌∷◌, ◌++◌, length, map, take, get_or, Option, Some, None, option_map, String, Global, string_bytes, refl, sym, ap, arith}
+use Rattle.std.specs.Prelude.{Err, codes, option_and_then}
 use Rattle.std.specs.List.{list_all, list_any}
 use Rattle.std.specs.Map.{keys_of}
+use Rattle.std.specs.Option.{ok_or}
 use Rattle.std.specs.Str.{IsUtf8, is_utf8}
 use Rattle.std.proofs.lemmas.List.Folds.{list_all-map}
 use Rattle.std.proofs.lemmas.Str.{IsUtf8-from_is_utf8, is_utf8-from_IsUtf8}
-use Rattle.toml.specs.Data.{Data, Members}
+use Rattle.toml.specs.Data.{Data, Members, get_member}
 use Rattle.toml.specs.Parse.{parse_document}
 use Rattle.toml.specs.View.{items_view, members_view, view}
 use Rattle.toml.specs.declared.value.Value.{Value}
-use Rattle.bsp_calendar.specs.PlanDocument.{document_of, each, keys_in}
+use Rattle.bsp_calendar.specs.PlanDocument.{Reads, airline_of, document_of, each, has_only, keys_in, listed, period_of, plan_in, plan_keys, rate_of, tax_of, terms_in}
+use Rattle.bsp_calendar.specs.declared.fault.PlanFault.{PlanFault}
+use Rattle.bsp_calendar.specs.declared.fault.PlanFault.TheVariants.{NoMemory, WrongKey}
 
 -- ---- texts
 
@@ -82,3 +85,32 @@ module _ {A : Type 0} (form : Data → Option A) where
       let before : each form (items_view (take i xs)) ≡ Some out = ap (λ ys. each form (items_view (take i ys))) same ∙ so_far in
       ap (λ k. each form (items_view (take k vs))) next ∙ ap (λ ys. each form (items_view (take (suc i) ys))) (sym same)
       ∙ each_more xs i v out x h before (ap (λ w. form (view w)) (sym is) ∙ sym some) ∙ ap (λ zs. Some zs) (sym grown)
+
+-- ---- the plan of a document
+
+and_then_none : {A B : Type 0} (o : Option A) (f : A → Option B) → ((x : A) → f x ≡ None) → option_and_then f o ≡ None
+and_then_none None f h = refl
+and_then_none (Some x) f h = h x
+
+cond_none : {A : Type 0} (b : Bool) (o : Option A) → o ≡ None → cond b o None ≡ None
+cond_none true o h = h
+cond_none false o h = refl
+
+-- where the taxes on commission are no list of such
+pub no_plan : (members : Members) → listed tax_of (get_member (codes "commission_tax") members) ≡ None → plan_in members ≡ None
+no_plan members none =
+    cond_none (has_only plan_keys members) _
+    (and_then_none (terms_in members) _
+    (λ terms. and_then_none (listed airline_of (get_member (codes "airline") members)) _
+    (λ airlines. and_then_none (listed rate_of (get_member (codes "rate") members)) _
+    (λ rates. and_then_none (listed period_of (get_member (codes "period") members)) _
+    (λ periods. rw none refl)))))
+
+wrong_key : {A B : Type 0} (x : Option A) (y : Option B) (fault : PlanFault) → ok_or x WrongKey ≡ Err fault → (x ≡ None → y ≡ None) → ok_or y WrongKey ≡ Err fault
+wrong_key None y fault h pass = let e : WrongKey ≡ fault = cc in rw (pass refl) (ap (λ (f : PlanFault). Err f) e)
+wrong_key (Some a) y fault h pass = absurd (cc h)
+
+-- a fault that was read in a part is read in the whole
+pub fault_passed : {A B R S : Type 0} (x : Option A) (y : Option B) (value : R → A) (other : S → B) (fault : PlanFault) → Reads (ok_or x WrongKey) value (Err fault) → (x ≡ None → y ≡ None) → Reads (ok_or y WrongKey) other (Err fault)
+fault_passed x y value other NoMemory h pass = tt
+fault_passed x y value other fault h pass = wrong_key x y fault h pass

@@ -11,9 +11,10 @@ use Rattle.bsp_calendar.proofs.KeyLemmas.{eqb_symm}
 use Rattle.bsp_calendar.proofs.PeriodLemmas.{IsStanding}
 use Rattle.bsp_calendar.proofs.ListedLemmas.{any_once, once_more_front}
 use Rattle.bsp_calendar.specs.DayOrder.{is_up_to}
-use Rattle.bsp_calendar.specs.Published.{Published, is_among}
+use Rattle.bsp_calendar.specs.Published.{Published, has_begun, is_among}
 use Rattle.bsp_calendar.specs.Standing.{first_codes, plan_of}
-use Rattle.bsp_calendar.specs.Requests.{once, has_conflict, same_airline, same_rate, same_period, differ_in_rate, differ_in_days, differ_in_terms, are_within_bounds, have_airlines, has_difference, are_in_order, has_late_rate, extended, with_entries, has_terms, is_empty, holds_already}
+use Rattle.bsp_calendar.specs.Requests.{once, has_conflict, same_airline, same_rate, same_period, same_tax, differ_in_rate, differ_in_days, differ_in_tax, differ_in_terms, are_within_bounds, have_airlines, has_difference, are_in_order, has_late_rate, has_late_tax, extended, with_entries, has_terms, is_empty, holds_already}
+use Rattle.bsp_calendar.specs.declared.entries.CommissionTax.{CommissionTax}
 use Rattle.bsp_calendar.specs.declared.entries.Period.{Period}
 use Rattle.bsp_calendar.specs.declared.entries.PlanText.{PlanText}
 use Rattle.bsp_calendar.specs.declared.entries.Rate.{Rate}
@@ -43,8 +44,11 @@ module _ (p : Published) (text : PlanText) where
   pub with_late_rate : are_within_bounds text ≡ true → have_airlines p text ≡ true → has_difference p text ≡ false → are_in_order (once same_period (p.periods ++ text.periods.items)) ≡ true → has_late_rate p text ≡ true → extended p text ≡ Err LateRate
   with_late_rate b a d o h = rw (b, a, d, o, h) refl
 
-  pub accepted : are_within_bounds text ≡ true → have_airlines p text ≡ true → has_difference p text ≡ false → are_in_order (once same_period (p.periods ++ text.periods.items)) ≡ true → has_late_rate p text ≡ false → extended p text ≡ Ok (with_entries p text)
-  accepted b a d o h = rw (b, a, d, o, h) refl
+  pub with_late_tax : are_within_bounds text ≡ true → have_airlines p text ≡ true → has_difference p text ≡ false → are_in_order (once same_period (p.periods ++ text.periods.items)) ≡ true → has_late_rate p text ≡ false → has_late_tax p text ≡ true → extended p text ≡ Err LateRate
+  with_late_tax b a d o r h = rw (b, a, d, o, r, h) refl
+
+  pub accepted : are_within_bounds text ≡ true → have_airlines p text ≡ true → has_difference p text ≡ false → are_in_order (once same_period (p.periods ++ text.periods.items)) ≡ true → has_late_rate p text ≡ false → has_late_tax p text ≡ false → extended p text ≡ Ok (with_entries p text)
+  accepted b a d o r h = rw (b, a, d, o, r, h) refl
 
   -- ---- each test, by what the code computed
 
@@ -65,16 +69,26 @@ module _ (p : Published) (text : PlanText) where
 
   pub difference_of_periods : (qs : List Period) → qs ≡ text.periods.items → has_conflict same_period differ_in_days (p.periods ++ qs) ≡ true → has_difference p text ≡ true
   difference_of_periods qs periods h =
-      or_right (differ_in_terms p.terms text.terms) _ (or_right (has_conflict same_rate differ_in_rate (p.rates ++ text.rates.items)) _ (rw periods at h))
+      or_right (differ_in_terms p.terms text.terms) _ (or_right (has_conflict same_rate differ_in_rate (p.rates ++ text.rates.items)) _ (or_left _ _ (rw periods at h)))
 
-  pub no_difference : (rs : List Rate) (qs : List Period) → rs ≡ text.rates.items → qs ≡ text.periods.items → differ_in_terms p.terms text.terms ≡ false → has_conflict same_rate differ_in_rate (p.rates ++ rs) ≡ false → has_conflict same_period differ_in_days (p.periods ++ qs) ≡ false → has_difference p text ≡ false
-  no_difference rs qs rates periods t r q = or_from _ _ t (or_from _ _ (rw rates at r) (rw periods at q))
+  pub difference_of_taxes : (ts : List CommissionTax) → ts ≡ text.commission_taxes.items → has_conflict same_tax differ_in_tax (p.commission_taxes ++ ts) ≡ true → has_difference p text ≡ true
+  difference_of_taxes ts taxes h =
+      or_right (differ_in_terms p.terms text.terms) _
+      (or_right (has_conflict same_rate differ_in_rate (p.rates ++ text.rates.items)) _
+      (or_right (has_conflict same_period differ_in_days (p.periods ++ text.periods.items)) _ (rw taxes at h)))
+
+  pub no_difference : (rs : List Rate) (qs : List Period) (ts : List CommissionTax) → rs ≡ text.rates.items → qs ≡ text.periods.items → ts ≡ text.commission_taxes.items → differ_in_terms p.terms text.terms ≡ false → has_conflict same_rate differ_in_rate (p.rates ++ rs) ≡ false → has_conflict same_period differ_in_days (p.periods ++ qs) ≡ false → has_conflict same_tax differ_in_tax (p.commission_taxes ++ ts) ≡ false → has_difference p text ≡ false
+  no_difference rs qs ts rates periods taxes t r q x =
+      or_from _ _ t (or_from _ _ (rw rates at r) (or_from _ _ (rw periods at q) (rw taxes at x)))
 
   pub order_from : (qs list : List Period) (b : Bool) → qs ≡ text.periods.items → list ≡ once same_period (p.periods ++ qs) → b ≡ are_in_order list → are_in_order (once same_period (p.periods ++ text.periods.items)) ≡ b
   order_from qs list b periods joined tested = sym (rw (joined, periods) at tested)
 
   pub late_from : (rs list : List Rate) (known : ℕ) (b : Bool) → rs ≡ text.rates.items → list ≡ once same_rate (p.rates ++ rs) → known ≡ length p.rates → b ≡ list_any (λ r. is_up_to r.from p.day) (drop known list) → has_late_rate p text ≡ b
   late_from rs list known b rates joined long tested = sym (rw (joined, rates, long) at tested)
+
+  pub late_tax_from : (ts list : List CommissionTax) (known : ℕ) (b : Bool) → ts ≡ text.commission_taxes.items → list ≡ once same_tax (p.commission_taxes ++ ts) → known ≡ length p.commission_taxes → b ≡ list_any (has_begun p.day) (drop known list) → has_late_tax p text ≡ b
+  late_tax_from ts list known b taxes joined long tested = sym (rw (joined, taxes, long) at tested)
 
 -- ---- the periods of the new plan
 
@@ -103,14 +117,14 @@ first_codes_more qs more list n h joined = ap (map code_of) (first_periods_more 
 -- ---- the new plan
 
 -- what lists that joined a text hold, and whether nothing of the text is new
-module _ (terms : Option Terms) (airlines : List ℕ) (rates : List Rate) (qs : List Period) (day : CivilDay) (n : ℕ) (text : PlanText) where
+module _ (terms : Option Terms) (airlines : List ℕ) (rates : List Rate) (qs : List Period) (taxes : List CommissionTax) (day : CivilDay) (n : ℕ) (text : PlanText) where
   abbrev before : Published
-  before = plan_of terms airlines rates qs day n
+  before = plan_of terms airlines rates qs taxes day n
 
-  pub with_entries_is : (airlines_after : List ℕ) (rates_after : List Rate) (qs_after : List Period) → IsStanding qs n → airlines_after ≡ once same_airline (airlines ++ text.airlines.items) → rates_after ≡ once same_rate (rates ++ text.rates.items) → qs_after ≡ once same_period (qs ++ text.periods.items) → with_entries before text ≡ plan_of (Some text.terms) airlines_after rates_after qs_after day n
-  with_entries_is airlines_after rates_after qs_after h a r q =
+  pub with_entries_is : (airlines_after : List ℕ) (rates_after : List Rate) (qs_after : List Period) (taxes_after : List CommissionTax) → IsStanding qs n → airlines_after ≡ once same_airline (airlines ++ text.airlines.items) → rates_after ≡ once same_rate (rates ++ text.rates.items) → qs_after ≡ once same_period (qs ++ text.periods.items) → taxes_after ≡ once same_tax (taxes ++ text.commission_taxes.items) → with_entries before text ≡ plan_of (Some text.terms) airlines_after rates_after qs_after taxes_after day n
+  with_entries_is airlines_after rates_after qs_after taxes_after h a r q t =
       let closed : first_codes qs n ≡ first_codes qs_after n = sym (first_codes_more qs text.periods.items qs_after n h q) in
-      λ i. record { terms = Some text.terms; airlines = sym a i; rates = sym r i; periods = sym q i; day = day; closed = closed i }
+      λ i. record { terms = Some text.terms; airlines = sym a i; rates = sym r i; periods = sym q i; commission_taxes = sym t i; day = day; closed = closed i }
 
-  pub holds_is : (airlines_after : List ℕ) (rates_after : List Rate) (qs_after : List Period) (b : Bool) → airlines_after ≡ once same_airline (airlines ++ text.airlines.items) → rates_after ≡ once same_rate (rates ++ text.rates.items) → qs_after ≡ once same_period (qs ++ text.periods.items) → b ≡ (has_terms terms && (is_empty (drop (length airlines) airlines_after) && (is_empty (drop (length rates) rates_after) && is_empty (drop (length qs) qs_after)))) → b ≡ holds_already before text
-  holds_is airlines_after rates_after qs_after b a r q h = rw (a, r, q) at h
+  pub holds_is : (airlines_after : List ℕ) (rates_after : List Rate) (qs_after : List Period) (taxes_after : List CommissionTax) (b : Bool) → airlines_after ≡ once same_airline (airlines ++ text.airlines.items) → rates_after ≡ once same_rate (rates ++ text.rates.items) → qs_after ≡ once same_period (qs ++ text.periods.items) → taxes_after ≡ once same_tax (taxes ++ text.commission_taxes.items) → b ≡ (has_terms terms && (is_empty (drop (length airlines) airlines_after) && (is_empty (drop (length rates) rates_after) && (is_empty (drop (length qs) qs_after) && is_empty (drop (length taxes) taxes_after))))) → b ≡ holds_already before text
+  holds_is airlines_after rates_after qs_after taxes_after b a r q t h = rw (a, r, q, t) at h

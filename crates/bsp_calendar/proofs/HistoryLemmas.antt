@@ -6,24 +6,25 @@ use Rattle.std.proofs.lemmas.Cmp.{nat_eq_equiv}
 use Rattle.std.proofs.lemmas.Bool.{or_parts, both_ways}
 use Rattle.std.proofs.lemmas.List.{append-nil, append_assoc}
 use Rattle.bsp_fields.specs.CivilDay.{CivilDay}
-use Rattle.bsp_calendar.specs.History.{Request, outcome, IsReached, airlines_of, rates_of, periods_of, closes_of, publishes, same_code, IsLastDay, IsHistory}
+use Rattle.bsp_calendar.specs.History.{Request, outcome, IsReached, airlines_of, rates_of, periods_of, taxes_of, closes_of, publishes, same_code, IsLastDay, IsHistory}
 use Rattle.bsp_calendar.specs.History.Request.{Publish, SetDay, Close}
 use Rattle.bsp_calendar.specs.Published.{Published, is_among}
-use Rattle.bsp_calendar.specs.Requests.{once, AreDistinct, closing, same_airline, same_rate, same_period, extended, on_day}
+use Rattle.bsp_calendar.specs.Requests.{once, AreDistinct, closing, same_airline, same_rate, same_period, same_tax, extended, on_day}
+use Rattle.bsp_calendar.specs.declared.entries.CommissionTax.{CommissionTax}
 use Rattle.bsp_calendar.specs.declared.entries.Period.{Period}
 use Rattle.bsp_calendar.specs.declared.entries.PlanText.{PlanText}
 use Rattle.bsp_calendar.specs.declared.entries.Rate.{Rate}
 use Rattle.bsp_calendar.specs.declared.entries.Terms.{Terms}
 use Rattle.std.specs.Ordering.{eq_by_cmp}
 use Rattle.std.proofs.lemmas.Cmp.{eq_by_cmp_equiv}
-use Rattle.bsp_calendar.specs.KeyLaws.{rate_key_cmp}
-use Rattle.bsp_calendar.proofs.MadeLemmas.{airlines_once, periods_once, rates_once}
+use Rattle.bsp_calendar.specs.KeyLaws.{day_cmp, rate_key_cmp}
+use Rattle.bsp_calendar.proofs.MadeLemmas.{airlines_once, periods_once, rates_once, taxes_once}
 use Rattle.bsp_calendar.proofs.OutcomeLemmas.{published, terms_kept, day_set, closed_now}
 use Rattle.bsp_calendar.proofs.PeriodLemmas.{codes_apart}
 use Rattle.bsp_calendar.proofs.SoundLemmas.{sound_kept}
 use Rattle.bsp_calendar.specs.SoundPlan.{IsSoundPlan}
-use Rattle.bsp_calendar.proofs.KeyLemmas.{eqb_symm, rate_key, same_rates}
-use Rattle.bsp_calendar.proofs.RateKeyLemmas.{rate_key_total}
+use Rattle.bsp_calendar.proofs.KeyLemmas.{eqb_symm, rate_key, same_rates, same_taxes, tax_key}
+use Rattle.bsp_calendar.proofs.RateKeyLemmas.{day_total, rate_key_total}
 use Rattle.bsp_calendar.proofs.ListLemmas.{contains_cases, contains_none}
 use Rattle.bsp_calendar.proofs.ListedLemmas.{once_once, once_push}
 
@@ -56,12 +57,16 @@ join_periods = once_once nat_eq nat_eq_equiv (λ (q : Period). q.code)
 join_rates : Joins same_rate
 join_rates = subst (λ (s : Rate → Rate → Bool). Joins s) same_rates (once_once (eq_by_cmp rate_key_cmp) (eq_by_cmp_equiv rate_key_total) rate_key)
 
+join_taxes : Joins same_tax
+join_taxes = subst (λ (s : CommissionTax → CommissionTax → Bool). Joins s) same_taxes (once_once (eq_by_cmp day_cmp) (eq_by_cmp_equiv day_total) tax_key)
+
 -- ---- one request
 
 record Fixed (p : Published) : Type 0 where
   airlines : once same_airline p.airlines ≡ p.airlines
   rates : once same_rate p.rates ≡ p.rates
   periods : once same_period p.periods ≡ p.periods
+  commission_taxes : once same_tax p.commission_taxes ≡ p.commission_taxes
   closed : once same_code p.closed ≡ p.closed
 
 abbrev day_after : CivilDay → Request → CivilDay
@@ -78,6 +83,7 @@ record Step (p : Published) (r : Request) (m : Published) : Type 0 where
   airlines : Grown same_airline p.airlines (airlines_of r) m.airlines
   rates : Grown same_rate p.rates (rates_of r) m.rates
   periods : Grown same_period p.periods (periods_of r) m.periods
+  commission_taxes : Grown same_tax p.commission_taxes (taxes_of r) m.commission_taxes
   closed : Grown same_code p.closed (closes_of r) m.closed
   day : m.day ≡ day_after p.day r
   terms : m.terms ≡ terms_after p.terms r
@@ -91,6 +97,7 @@ step_publish p text m f h =
       airlines = ap (λ (q : Published). q.airlines) is;
       rates = ap (λ (q : Published). q.rates) is;
       periods = ap (λ (q : Published). q.periods) is;
+      commission_taxes = ap (λ (q : Published). q.commission_taxes) is;
       closed = ap (λ (q : Published). q.closed) is ∙ grown_none same_code p.closed f.closed;
       day = ap (λ (q : Published). q.day) is;
       terms = ap (λ (q : Published). q.terms) is;
@@ -98,11 +105,12 @@ step_publish p text m f h =
     }
 
 -- a request that publishes nothing and closes nothing, or one code
-step_quiet : (p : Published) (r : Request) (m : Published) → Fixed p → m.airlines ≡ p.airlines → m.rates ≡ p.rates → m.periods ≡ p.periods → m.terms ≡ p.terms → airlines_of r ≡ [] → rates_of r ≡ [] → periods_of r ≡ [] → terms_after p.terms r ≡ p.terms → m.day ≡ day_after p.day r → Grown same_code p.closed (closes_of r) m.closed → Step p r m
-step_quiet p r m f a s q t na ns nq nt day closed = record {
+step_quiet : (p : Published) (r : Request) (m : Published) → Fixed p → m.airlines ≡ p.airlines → m.rates ≡ p.rates → m.periods ≡ p.periods → m.commission_taxes ≡ p.commission_taxes → m.terms ≡ p.terms → airlines_of r ≡ [] → rates_of r ≡ [] → periods_of r ≡ [] → taxes_of r ≡ [] → terms_after p.terms r ≡ p.terms → m.day ≡ day_after p.day r → Grown same_code p.closed (closes_of r) m.closed → Step p r m
+step_quiet p r m f a s q x t na ns nq nx nt day closed = record {
   airlines = a ∙ (rw na (grown_none same_airline p.airlines f.airlines));
   rates = s ∙ (rw ns (grown_none same_rate p.rates f.rates));
   periods = q ∙ (rw nq (grown_none same_period p.periods f.periods));
+  commission_taxes = x ∙ (rw nx (grown_none same_tax p.commission_taxes f.commission_taxes));
   closed = closed;
   day = day;
   terms = t ∙ sym nt;
@@ -112,7 +120,7 @@ step_quiet p r m f a s q t na ns nq nt day closed = record {
 step_day : (p : Published) (day : CivilDay) (m : Published) → Fixed p → on_day p day ≡ Ok m → Step p (SetDay day) m
 step_day p day m f h =
     let back = sym (day_set p day m h).1 in
-    step_quiet p (SetDay day) m f (ap (λ (q : Published). q.airlines) back) (ap (λ (q : Published). q.rates) back) (ap (λ (q : Published). q.periods) back) (ap (λ (q : Published). q.terms) back) refl refl refl refl (ap (λ (q : Published). q.day) back)
+    step_quiet p (SetDay day) m f (ap (λ (q : Published). q.airlines) back) (ap (λ (q : Published). q.rates) back) (ap (λ (q : Published). q.periods) back) (ap (λ (q : Published). q.commission_taxes) back) (ap (λ (q : Published). q.terms) back) refl refl refl refl refl (ap (λ (q : Published). q.day) back)
     (ap (λ (q : Published). q.closed) back ∙ grown_none same_code p.closed f.closed)
 
 among_turned : (codes : List ℕ) (code : ℕ) → list_any (λ y. same_code y code) codes ≡ is_among code codes
@@ -127,11 +135,11 @@ step_close : (p : Published) (code : ℕ) (m : Published) → Fixed p → closin
 step_close p code m f h = elim (closed_now p code m h) [
   | inl same ↦
       let back = sym same.1 in
-      step_quiet p (Close code) m f (ap (λ (q : Published). q.airlines) back) (ap (λ (q : Published). q.rates) back) (ap (λ (q : Published). q.periods) back) (ap (λ (q : Published). q.terms) back) refl refl refl refl (ap (λ (q : Published). q.day) back)
+      step_quiet p (Close code) m f (ap (λ (q : Published). q.airlines) back) (ap (λ (q : Published). q.rates) back) (ap (λ (q : Published). q.periods) back) (ap (λ (q : Published). q.commission_taxes) back) (ap (λ (q : Published). q.terms) back) refl refl refl refl refl (ap (λ (q : Published). q.day) back)
       (ap (λ (q : Published). q.closed) back ∙ sym (once_code p.closed code ∙ (rw same.0 f.closed)))
   | inr more ↦
       let back = sym more.1.is in
-      step_quiet p (Close code) m f (ap (λ (q : Published). q.airlines) back) (ap (λ (q : Published). q.rates) back) (ap (λ (q : Published). q.periods) back) (ap (λ (q : Published). q.terms) back) refl refl refl refl (ap (λ (q : Published). q.day) back)
+      step_quiet p (Close code) m f (ap (λ (q : Published). q.airlines) back) (ap (λ (q : Published). q.rates) back) (ap (λ (q : Published). q.periods) back) (ap (λ (q : Published). q.commission_taxes) back) (ap (λ (q : Published). q.terms) back) refl refl refl refl refl (ap (λ (q : Published). q.day) back)
       (ap (λ (q : Published). q.closed) back ∙ sym (once_code p.closed code ∙ (rw (more.0, f.closed) refl)))
 ]
 
@@ -146,6 +154,7 @@ fixed_in p s = record {
   airlines = airlines_once p.airlines s.airlines;
   rates = rates_once p.rates s.rates;
   periods = periods_once p.periods s.periods;
+  commission_taxes = taxes_once p.commission_taxes s.commission_taxes;
   closed = airlines_once p.closed (subst (AreDistinct same_code) (sym s.closed_first) (codes_apart p.periods (length p.closed) s.periods));
 }
 
@@ -169,6 +178,7 @@ history [] p q s is =
       airlines = ap (λ (x : Published). x.airlines) is ∙ grown_none same_airline p.airlines f.airlines;
       rates = ap (λ (x : Published). x.rates) is ∙ grown_none same_rate p.rates f.rates;
       periods = ap (λ (x : Published). x.periods) is ∙ grown_none same_period p.periods f.periods;
+      commission_taxes = ap (λ (x : Published). x.commission_taxes) is ∙ grown_none same_tax p.commission_taxes f.commission_taxes;
       closed = ap (λ (x : Published). x.closed) is ∙ grown_none same_code p.closed f.closed;
       day = inr (refl, ap (λ (x : Published). x.day) is);
       terms = λ text h. contains_none (Publish text) h;
@@ -182,6 +192,7 @@ history (r ∷ rs) p q s (m, done, rest) =
       airlines = grown_more same_airline join_airlines p.airlines (airlines_of r) m.airlines (flat_map airlines_of rs) q.airlines one.airlines w.airlines;
       rates = grown_more same_rate join_rates p.rates (rates_of r) m.rates (flat_map rates_of rs) q.rates one.rates w.rates;
       periods = grown_more same_period join_periods p.periods (periods_of r) m.periods (flat_map periods_of rs) q.periods one.periods w.periods;
+      commission_taxes = grown_more same_tax join_taxes p.commission_taxes (taxes_of r) m.commission_taxes (flat_map taxes_of rs) q.commission_taxes one.commission_taxes w.commission_taxes;
       closed = grown_more same_code join_codes p.closed (closes_of r) m.closed (flat_map closes_of rs) q.closed one.closed w.closed;
       day = last_day_more r rs p.day m.day q.day one.day w.day;
       terms = λ text h. elim (contains_cases r rs (Publish text) h) [

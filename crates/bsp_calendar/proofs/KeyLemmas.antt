@@ -12,9 +12,10 @@ use Rattle.std.proofs.lemmas.List.Folds.{list_any_none, list_any_at}
 use Rattle.bsp_fields.specs.CivilDay.{CivilDay}
 use Rattle.bsp_calendar.specs.DayOrder.{same_day}
 use Rattle.bsp_calendar.specs.Published.{is_among}
-use Rattle.bsp_calendar.specs.Requests.{same_airline, same_rate, same_period, differ_in_rate, differ_in_days, once, has_conflict}
+use Rattle.bsp_calendar.specs.Requests.{same_airline, same_rate, same_period, same_tax, differ_in_rate, differ_in_days, differ_in_tax, once, has_conflict}
 use Rattle.bsp_calendar.specs.Listed.{same_key, IsPlaceOfKey, IsJoined}
-use Rattle.bsp_calendar.specs.KeyLaws.{airline_cmp, period_cmp, rate_key_cmp}
+use Rattle.bsp_calendar.specs.KeyLaws.{airline_cmp, period_cmp, rate_key_cmp, day_cmp}
+use Rattle.bsp_calendar.specs.declared.entries.CommissionTax.{CommissionTax}
 use Rattle.bsp_calendar.specs.declared.entries.Period.{Period}
 use Rattle.bsp_calendar.specs.declared.entries.Rate.{Rate}
 use Rattle.bsp_calendar.specs.declared.fault.PlanFault.{PlanFault}
@@ -57,6 +58,12 @@ rate_key r = (r.airline, r.from)
 pub same_rates : same_key (eq_by_cmp rate_key_cmp) rate_key ≡ same_rate
 same_rates = same_tests (same_key (eq_by_cmp rate_key_cmp) rate_key) same_rate same_rate_keys
 
+abbrev pub tax_key : CommissionTax → CivilDay
+tax_key t = t.from
+
+pub same_taxes : same_key (eq_by_cmp day_cmp) tax_key ≡ same_tax
+same_taxes = same_tests (same_key (eq_by_cmp day_cmp) tax_key) same_tax (λ t u. same_days t.from u.from)
+
 -- an airline that has a place is among them
 pub airline_found : (xs : List ℕ) (code : ℕ) (place : Option ℕ) → IsPlaceOfKey (eq_by_cmp airline_cmp) (λ (a : ℕ). a) xs code place → is_some place ≡ is_among code xs
 airline_found xs code None h =
@@ -70,6 +77,9 @@ joined_rates xs r h = subst (λ (s : Rate → Rate → Bool). IsJoined s differ_
 
 pub joined_periods : (xs : List Period) (r : Result (List Period) PlanFault) → IsJoined (same_key (eq_by_cmp period_cmp) (λ (q : Period). q.code)) differ_in_days xs r → IsJoined same_period differ_in_days xs r
 joined_periods xs r h = subst (λ (s : Period → Period → Bool). IsJoined s differ_in_days xs r) same_periods h
+
+pub joined_taxes : (xs : List CommissionTax) (r : Result (List CommissionTax) PlanFault) → IsJoined (same_key (eq_by_cmp day_cmp) tax_key) differ_in_tax xs r → IsJoined same_tax differ_in_tax xs r
+joined_taxes xs r h = subst (λ (s : CommissionTax → CommissionTax → Bool). IsJoined s differ_in_tax xs r) same_taxes h
 
 never : (same : ℕ → ℕ → Bool) (xs : List ℕ) → has_conflict same (λ x y. false) xs ≡ false
 never same xs =

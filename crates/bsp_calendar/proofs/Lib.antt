@@ -3,12 +3,13 @@ pub mod ListLemmas
 pub mod DayLemmas
 pub mod PeriodLemmas
 pub mod AnswerLemmas
-pub mod RateLemmas
+pub mod LatestLemmas
 pub mod ListedLemmas
 pub mod KeyLemmas
 pub mod FollowLemmas
 pub mod ExtendLemmas
 pub mod RateKeyLemmas
+pub mod TaxLemmas
 pub mod OutcomeLemmas
 pub mod SoundLemmas
 pub mod MadeLemmas

@@ -1,5 +1,5 @@
 -- What an accepted request passed, and the plan that it made.
-use Rattle.std.proofs.Common.{◌≡◌, ℕ, ◌==◌, ◌&&◌, ◌⊎◌, Bool, true, false, not, [], ◌∷◌, ◌++◌, Ok, cond, refl, ap, sym, ◌∙◌, inl, inr}
+use Rattle.std.proofs.Common.{◌≡◌, ℕ, ◌==◌, ◌&&◌, ◌||◌, ◌⊎◌, Bool, true, false, not, [], ◌∷◌, ◌++◌, Ok, cond, refl, ap, sym, ◌∙◌, inl, inr}
 use Rattle.std.specs.Prelude.{Option, Some, if◌then◌else◌}
 use Rattle.std.specs.Str.{bytes_eq}
 use Rattle.std.proofs.lemmas.Bool.{and_parts, or_parts, not-false, eqb-true}
@@ -9,7 +9,7 @@ use Rattle.bsp_fields.specs.FirstFault.{first_fault_or}
 use Rattle.bsp_fields.proofs.FirstFaultLemmas.{row_passed, value_told}
 use Rattle.bsp_calendar.specs.DayOrder.{is_before}
 use Rattle.bsp_calendar.specs.Published.{Published, is_closed}
-use Rattle.bsp_calendar.specs.Requests.{once, same_rate, same_period, differ_in_rate, differ_in_days, differ_in_terms, has_conflict, are_within_bounds, have_airlines, has_difference, are_in_order, has_late_rate, extended, with_entries, on_day, has_code, is_over, next_open, closing, with_closed}
+use Rattle.bsp_calendar.specs.Requests.{once, same_rate, same_period, same_tax, differ_in_rate, differ_in_days, differ_in_tax, differ_in_terms, has_conflict, are_within_bounds, have_airlines, has_difference, are_in_order, has_late_rate, has_late_tax, extended, with_entries, on_day, has_code, is_over, next_open, closing, with_closed}
 use Rattle.bsp_calendar.specs.declared.entries.PlanText.{PlanText}
 use Rattle.bsp_calendar.specs.declared.entries.Terms.{Terms}
 use Rattle.bsp_calendar.specs.declared.fault.PlanFault.TheVariants.{WrongKey, Differs, OutOfOrder, LateRate, DayBackwards, NotEarliest, NotOver}
@@ -39,23 +39,31 @@ pub record IsPublished (p : Published) (text : PlanText) (m : Published) : Type 
   pub airlines : have_airlines p text ≡ true
   pub terms : differ_in_terms p.terms text.terms ≡ false
   pub rates : has_conflict same_rate differ_in_rate (p.rates ++ text.rates.items) ≡ false
+  pub periods : has_conflict same_period differ_in_days (p.periods ++ text.periods.items) ≡ false
+  pub commission_taxes : has_conflict same_tax differ_in_tax (p.commission_taxes ++ text.commission_taxes.items) ≡ false
   pub in_order : are_in_order (once same_period (p.periods ++ text.periods.items)) ≡ true
   pub none_late : has_late_rate p text ≡ false
+  pub no_tax_late : has_late_tax p text ≡ false
   pub is : with_entries p text ≡ m
 
 pub published : (p : Published) (text : PlanText) (m : Published) → extended p text ≡ Ok m → IsPublished p text m
 published p text m h =
-    let told = passed_four (not (are_within_bounds text && have_airlines p text)) (has_difference p text) (not (are_in_order (once same_period (p.periods ++ text.periods.items)))) (has_late_rate p text) WrongKey Differs OutOfOrder LateRate (with_entries p text) m h in
+    let told = passed_four (not (are_within_bounds text && have_airlines p text)) (has_difference p text) (not (are_in_order (once same_period (p.periods ++ text.periods.items)))) (has_late_rate p text || has_late_tax p text) WrongKey Differs OutOfOrder LateRate (with_entries p text) m h in
     let first = and_parts (are_within_bounds text) (have_airlines p text) (not-false _ told.0) in
     let conflict = or_parts (differ_in_terms p.terms text.terms) _ told.1 in
-    let entries = or_parts (has_conflict same_rate differ_in_rate (p.rates ++ text.rates.items)) (has_conflict same_period differ_in_days (p.periods ++ text.periods.items)) conflict.1 in
+    let entries = or_parts (has_conflict same_rate differ_in_rate (p.rates ++ text.rates.items)) _ conflict.1 in
+    let others = or_parts (has_conflict same_period differ_in_days (p.periods ++ text.periods.items)) (has_conflict same_tax differ_in_tax (p.commission_taxes ++ text.commission_taxes.items)) entries.1 in
+    let late = or_parts (has_late_rate p text) (has_late_tax p text) told.3 in
     record {
       bounds = first.0;
       airlines = first.1;
       terms = conflict.0;
       rates = entries.0;
+      periods = others.0;
+      commission_taxes = others.1;
       in_order = not-false _ told.2;
-      none_late = told.3;
+      none_late = late.0;
+      no_tax_late = late.1;
       is = told.4;
     }
 

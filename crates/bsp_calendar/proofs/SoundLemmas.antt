@@ -13,23 +13,24 @@ use Rattle.bsp_fields.specs.Days.{day_number}
 use Rattle.bsp_calendar.specs.DayOrder.{is_up_to, is_before}
 use Rattle.bsp_calendar.specs.History.{Request, outcome, IsReached}
 use Rattle.bsp_calendar.specs.History.Request.{Publish, SetDay, Close}
-use Rattle.bsp_calendar.specs.KeyLaws.{rate_key_cmp}
-use Rattle.bsp_calendar.specs.Published.{Published, opening, is_among}
-use Rattle.bsp_calendar.specs.Requests.{once, AreDistinct, same_airline, same_rate, same_period, terms_within_bounds, rates_within_bounds, extended, with_entries, on_day, closing, has_code, is_over, next_open}
+use Rattle.bsp_calendar.specs.KeyLaws.{rate_key_cmp, day_cmp}
+use Rattle.bsp_calendar.specs.Published.{Published, has_begun, opening, is_among}
+use Rattle.bsp_calendar.specs.Requests.{once, AreDistinct, same_airline, same_rate, same_period, same_tax, terms_within_bounds, rates_within_bounds, taxes_within_bounds, extended, with_entries, on_day, closing, has_code, is_over, next_open}
 use Rattle.bsp_calendar.specs.SoundPlan.{IsPlan, IsSoundPlan}
 use Rattle.bsp_calendar.specs.Standing.{first_codes, ends_before}
+use Rattle.bsp_calendar.specs.declared.entries.CommissionTax.{CommissionTax}
 use Rattle.bsp_calendar.specs.declared.entries.Period.{Period}
 use Rattle.bsp_calendar.specs.declared.entries.PlanText.{PlanText}
 use Rattle.bsp_calendar.specs.declared.entries.Rate.{Rate}
 use Rattle.bsp_calendar.specs.declared.entries.Terms.{Terms}
 use Rattle.bsp_calendar.proofs.DayLemmas.{up_to_true, up_to_from, up_to_itself, not_up_to, before_true, before_from, not_before, below_trans, up_to_trans, up_to_next}
 use Rattle.bsp_calendar.proofs.ExtendLemmas.{among_once, first_periods_more, first_codes_more}
-use Rattle.bsp_calendar.proofs.KeyLemmas.{rate_key, same_rates}
+use Rattle.bsp_calendar.proofs.KeyLemmas.{rate_key, same_rates, tax_key, same_taxes}
 use Rattle.bsp_calendar.proofs.ListLemmas.{with_item, each_passes, all_pass}
 use Rattle.bsp_calendar.proofs.ListedLemmas.{once_contains, once_distinct, once_more_front, any_false}
 use Rattle.bsp_calendar.proofs.OutcomeLemmas.{IsPublished, published, day_set, IsClosing, closed_now}
 use Rattle.bsp_calendar.proofs.PeriodLemmas.{IsStanding, next_open_is, next_open_none}
-use Rattle.bsp_calendar.proofs.RateKeyLemmas.{rate_key_total}
+use Rattle.bsp_calendar.proofs.RateKeyLemmas.{day_total, rate_key_total}
 
 -- ---- the opening
 
@@ -38,11 +39,14 @@ opening_sound = record {
   airlines = λ i j d lt l. absurd (omega arith);
   rates = λ i j d lt l. absurd (omega arith);
   periods = λ i j d lt l. absurd (omega arith);
-  without_terms = λ none. record { airlines = refl; rates = refl; periods = refl };
+  commission_taxes = λ i j d lt l. absurd (omega arith);
+  without_terms = λ none. record { airlines = refl; rates = refl; periods = refl; commission_taxes = refl };
   terms_bounds = λ t some. absurd (cc some);
   rates_bounds = refl;
+  taxes_bounds = refl;
   rates_airlines = refl;
   rates_begin = refl;
+  taxes_begin = refl;
   in_order = refl;
   day = up_to_itself (day_number opening.day);
   closed_first = refl;
@@ -62,7 +66,7 @@ pub standing : (p : Published) → IsSoundPlan p → IsStanding p.periods (lengt
 standing p s = record { within = closed_within p s; distinct = s.periods; in_order = s.in_order }
 
 -- the same of the fields of a plan
-pub standing_in : {terms : Option Terms} {airlines : List ℕ} {rates : List Rate} {periods : List Period} {day : CivilDay} {closed : ℕ} → IsPlan terms airlines rates periods day closed → IsStanding periods closed
+pub standing_in : {terms : Option Terms} {airlines : List ℕ} {rates : List Rate} {periods : List Period} {taxes : List CommissionTax} {day : CivilDay} {closed : ℕ} → IsPlan terms airlines rates periods taxes day closed → IsStanding periods closed
 standing_in h = record { within = h.within; distinct = h.sound.periods; in_order = h.sound.in_order }
 
 -- ---- a text
@@ -84,6 +88,22 @@ new_rates p text m s told =
     let none : list_any (λ r. is_up_to r.from p.day) new ≡ false = rw (drop_at p.rates new (length p.rates) refl) at late in
     (new, front, λ r in'. any_false (λ (x : Rate). is_up_to x.from p.day) new r none in')
 
+-- the same of taxes on commission
+taxes_distinct : (ts : List CommissionTax) → AreDistinct same_tax (once same_tax ts)
+taxes_distinct ts = subst (λ (s : CommissionTax → CommissionTax → Bool). AreDistinct s (once s ts)) same_taxes (once_distinct (eq_by_cmp day_cmp) (eq_by_cmp_equiv day_total) tax_key ts)
+
+pub taxes_front : (ts more : List CommissionTax) → AreDistinct same_tax ts → (new : List CommissionTax) × (once same_tax (ts ++ more) ≡ ts ++ new)
+taxes_front ts more apart =
+    subst (λ (s : CommissionTax → CommissionTax → Bool). AreDistinct s ts → (new : List CommissionTax) × (once s (ts ++ more) ≡ ts ++ new)) same_taxes
+    (once_more_front (eq_by_cmp day_cmp) (eq_by_cmp_equiv day_total) tax_key ts more) apart
+
+pub new_taxes : (p : Published) (text : PlanText) (m : Published) → IsSoundPlan p → IsPublished p text m → (new : List CommissionTax) × (once same_tax (p.commission_taxes ++ text.commission_taxes.items) ≡ p.commission_taxes ++ new) × ((t : CommissionTax) → Contains new t → is_up_to t.from p.day ≡ false)
+new_taxes p text m s told =
+    let (new, front) = taxes_front p.commission_taxes text.commission_taxes.items s.commission_taxes in
+    let late : list_any (has_begun p.day) (drop (length p.commission_taxes) (p.commission_taxes ++ new)) ≡ false = rw front at told.no_tax_late in
+    let none : list_any (has_begun p.day) new ≡ false = rw (drop_at p.commission_taxes new (length p.commission_taxes) refl) at late in
+    (new, front, λ t in'. any_false (has_begun p.day) new t none in')
+
 -- a published airline stays
 pub airline_kept : (airlines more : List ℕ) (airline : ℕ) → is_among airline airlines ≡ true → is_among airline (once same_airline (airlines ++ more)) ≡ true
 airline_kept airlines more airline h =
@@ -91,19 +111,27 @@ airline_kept airlines more airline h =
 
 published_sound : (p : Published) (text : PlanText) (m : Published) → IsSoundPlan p → IsPublished p text m → IsSoundPlan (with_entries p text)
 published_sound p text m s told =
-    let bounds = and_parts (terms_within_bounds text.terms) (rates_within_bounds text.rates.items) told.bounds in
+    let bounds = and_parts (terms_within_bounds text.terms) _ told.bounds in
+    let entries = and_parts (rates_within_bounds text.rates.items) (taxes_within_bounds text.commission_taxes.items) bounds.1 in
     let (new, front, late) = new_rates p text m s told in
+    let (more_taxes, of_taxes, late_taxes) = new_taxes p text m s told in
     let n = length p.closed in
     record {
       airlines = once_distinct nat_eq nat_eq_equiv (λ (a : ℕ). a) (p.airlines ++ text.airlines.items);
       rates = rates_distinct (p.rates ++ text.rates.items);
       periods = once_distinct nat_eq nat_eq_equiv (λ (q : Period). q.code) (p.periods ++ text.periods.items);
+      commission_taxes = taxes_distinct (p.commission_taxes ++ text.commission_taxes.items);
       without_terms = λ none. absurd (cc none);
       terms_bounds = λ t some. let e : text.terms ≡ t = cc in subst (λ (x : Terms). terms_within_bounds x ≡ true) e bounds.0;
       rates_bounds = all_pass (λ (r : Rate). nat_le r.hundredths 10_000) (once same_rate (p.rates ++ text.rates.items))
           (λ r in'. elim (Contains-append_cases p.rates text.rates.items r (once_contains same_rate (p.rates ++ text.rates.items) r in')) [
             | inl old ↦ each_passes (λ (x : Rate). nat_le x.hundredths 10_000) p.rates r s.rates_bounds old
-            | inr more ↦ each_passes (λ (x : Rate). nat_le x.hundredths 10_000) text.rates.items r bounds.1 more
+            | inr more ↦ each_passes (λ (x : Rate). nat_le x.hundredths 10_000) text.rates.items r entries.0 more
+          ]);
+      taxes_bounds = all_pass (λ (t : CommissionTax). nat_le t.hundredths 10_000) (once same_tax (p.commission_taxes ++ text.commission_taxes.items))
+          (λ t in'. elim (Contains-append_cases p.commission_taxes text.commission_taxes.items t (once_contains same_tax (p.commission_taxes ++ text.commission_taxes.items) t in')) [
+            | inl old ↦ each_passes (λ (x : CommissionTax). nat_le x.hundredths 10_000) p.commission_taxes t s.taxes_bounds old
+            | inr more ↦ each_passes (λ (x : CommissionTax). nat_le x.hundredths 10_000) text.commission_taxes.items t entries.1 more
           ]);
       rates_airlines = all_pass (λ (r : Rate). is_among r.airline (once same_airline (p.airlines ++ text.airlines.items))) (once same_rate (p.rates ++ text.rates.items))
           (λ r in'. elim (Contains-append_cases p.rates text.rates.items r (once_contains same_rate (p.rates ++ text.rates.items) r in')) [
@@ -115,6 +143,12 @@ published_sound p text m s told =
           (λ r in'. elim (Contains-append_cases p.rates new r in') [
             | inl old ↦ each_passes (λ (x : Rate). is_before opening.day x.from) p.rates r s.rates_begin old
             | inr more ↦ before_from (day_number opening.day) (day_number r.from) (up_to_next _ _ _ (up_to_true (day_number opening.day) (day_number p.day) s.day) (not_up_to (day_number r.from) (day_number p.day) (late r more)))
+          ]));
+      taxes_begin = subst (λ (ts : List CommissionTax). list_all (λ t. is_before opening.day t.from) ts ≡ true) (sym of_taxes)
+          (all_pass (λ (t : CommissionTax). is_before opening.day t.from) (p.commission_taxes ++ more_taxes)
+          (λ t in'. elim (Contains-append_cases p.commission_taxes more_taxes t in') [
+            | inl old ↦ each_passes (λ (x : CommissionTax). is_before opening.day x.from) p.commission_taxes t s.taxes_begin old
+            | inr more ↦ before_from (day_number opening.day) (day_number t.from) (up_to_next _ _ _ (up_to_true (day_number opening.day) (day_number p.day) s.day) (not_up_to (day_number t.from) (day_number p.day) (late_taxes t more)))
           ]));
       in_order = told.in_order;
       day = s.day;
@@ -135,11 +169,14 @@ day_sound p day m s h =
       airlines = s.airlines;
       rates = s.rates;
       periods = s.periods;
-      without_terms = λ none. let e = s.without_terms none in record { airlines = e.airlines; rates = e.rates; periods = e.periods };
+      commission_taxes = s.commission_taxes;
+      without_terms = λ none. let e = s.without_terms none in record { airlines = e.airlines; rates = e.rates; periods = e.periods; commission_taxes = e.commission_taxes };
       terms_bounds = s.terms_bounds;
       rates_bounds = s.rates_bounds;
+      taxes_bounds = s.taxes_bounds;
       rates_airlines = s.rates_airlines;
       rates_begin = s.rates_begin;
+      taxes_begin = s.taxes_begin;
       in_order = s.in_order;
       day = up_to_from (day_number opening.day) (day_number day) (up_to_trans _ _ _ (up_to_true (day_number opening.day) (day_number p.day) s.day) (up_to_true (day_number p.day) (day_number day) up));
       closed_first = s.closed_first;
@@ -180,11 +217,14 @@ closing_sound p code m s told =
       airlines = s.airlines;
       rates = s.rates;
       periods = s.periods;
-      without_terms = λ none. let e = s.without_terms none in record { airlines = e.airlines; rates = e.rates; periods = e.periods };
+      commission_taxes = s.commission_taxes;
+      without_terms = λ none. let e = s.without_terms none in record { airlines = e.airlines; rates = e.rates; periods = e.periods; commission_taxes = e.commission_taxes };
       terms_bounds = s.terms_bounds;
       rates_bounds = s.rates_bounds;
+      taxes_bounds = s.taxes_bounds;
       rates_airlines = s.rates_airlines;
       rates_begin = s.rates_begin;
+      taxes_begin = s.taxes_begin;
       in_order = s.in_order;
       day = s.day;
       closed_first =

@@ -3,8 +3,9 @@ use Rattle.std.specs.Prelude.{◌≡◌, ℕ, ◌==◌, ◌⊎◌, Bool, true, f
 use Rattle.std.specs.List.{Contains, flat_map, list_any}
 use Rattle.bsp_fields.specs.CivilDay.{CivilDay}
 use Rattle.bsp_calendar.specs.Published.{Published, opening}
-use Rattle.bsp_calendar.specs.Requests.{once, same_airline, same_rate, same_period, extended, on_day, closing}
+use Rattle.bsp_calendar.specs.Requests.{once, same_airline, same_rate, same_period, same_tax, extended, on_day, closing}
 use Rattle.bsp_calendar.specs.SoundPlan.{Grows, IsSoundPlan}
+use Rattle.bsp_calendar.specs.declared.entries.CommissionTax.{CommissionTax}
 use Rattle.bsp_calendar.specs.declared.entries.Period.{Period}
 use Rattle.bsp_calendar.specs.declared.entries.PlanText.{PlanText}
 use Rattle.bsp_calendar.specs.declared.entries.Rate.{Rate}
@@ -46,6 +47,11 @@ periods_of (Publish text) = text.periods.items
 periods_of (SetDay day) = []
 periods_of (Close code) = []
 
+abbrev pub taxes_of : Request → List CommissionTax
+taxes_of (Publish text) = text.commission_taxes.items
+taxes_of (SetDay day) = []
+taxes_of (Close code) = []
+
 abbrev pub closes_of : Request → List ℕ
 closes_of (Publish text) = []
 closes_of (SetDay day) = []
@@ -79,6 +85,7 @@ pub record IsHistory (start : Published) (requests : List Request) (plan : Publi
   pub airlines : plan.airlines ≡ once same_airline (start.airlines ++ flat_map airlines_of requests)
   pub rates : plan.rates ≡ once same_rate (start.rates ++ flat_map rates_of requests)
   pub periods : plan.periods ≡ once same_period (start.periods ++ flat_map periods_of requests)
+  pub commission_taxes : plan.commission_taxes ≡ once same_tax (start.commission_taxes ++ flat_map taxes_of requests)
   pub terms : (text : PlanText) → Contains requests (Publish text) → plan.terms ≡ Some text.terms
   pub old_terms : (terms : Terms) → start.terms ≡ Some terms → plan.terms ≡ Some terms
   pub no_terms : list_any publishes requests ≡ false → plan.terms ≡ start.terms
@@ -101,6 +108,7 @@ pub record IsTextOf (p : Published) (text : PlanText) : Type 0 where
   pub airlines : text.airlines.items ≡ p.airlines
   pub rates : text.rates.items ≡ p.rates
   pub periods : text.periods.items ≡ p.periods
+  pub commission_taxes : text.commission_taxes.items ≡ p.commission_taxes
 
 -- what makes a plan: its entries are published in one text, its business day is set, and its closed periods are closed in turn
 abbrev pub made_by : PlanText → Published → List Request
@@ -115,7 +123,7 @@ pub record IsMadeAgain (p : Published) : Type 0 where
 abbrev pub SoundMadeAgain : Type 0
 SoundMadeAgain = (p : Published) → IsSoundPlan p → IsMadeAgain p
 
--- whatever is requested of a sound plan: its closed periods, its terms, its rates on the days that have begun and what else
+-- whatever is requested of a sound plan: its closed periods and their forms, its terms, its rates and taxes on the days that have begun and what else
 -- `Grows` names stay
 abbrev pub ClosedStays : Type 0
 ClosedStays = (p : Published) (requests : List Request) (m : Published) → IsSoundPlan p → IsReached p requests m → Grows p m

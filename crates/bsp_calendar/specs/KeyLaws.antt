@@ -11,7 +11,8 @@ use Rattle.bsp_fields.specs.contracts.codes.AirlineCodeOrd.TheImpl as airline
 use Rattle.bsp_fields.specs.contracts.codes.PeriodCodeOrd.TheImpl as period
 use Rattle.bsp_fields.specs.contracts.day.DayOrd.TheImpl as day
 use Rattle.bsp_calendar.specs.DayOrder.{same_day}
-use Rattle.bsp_calendar.specs.Requests.{differ_in_rate, differ_in_days}
+use Rattle.bsp_calendar.specs.Requests.{differ_in_rate, differ_in_days, differ_in_tax}
+use Rattle.bsp_calendar.specs.declared.entries.CommissionTax.{CommissionTax}
 use Rattle.bsp_calendar.specs.declared.entries.Period.{Period}
 use Rattle.bsp_calendar.specs.declared.entries.Rate.{Rate}
 
@@ -25,6 +26,10 @@ airline_cmp = airline.ghosts.cmp
 
 abbrev pub period_cmp : ℕ → ℕ → Ordering
 period_cmp = period.ghosts.cmp
+
+-- that of a first day
+abbrev pub day_cmp : CivilDay → CivilDay → Ordering
+day_cmp = day.ghosts.cmp
 
 nat_same : (x y : ℕ) → is_eq (nat_cmp x y) ≡ true → x ≡ y
 nat_same x y h = grind (arith, nat_tests)
@@ -81,3 +86,12 @@ alike_periods q r one same =
 pub period_itself : (q : Period) → differ_in_days q q ≡ false
 period_itself q =
     not_from_true _ (and_from _ _ (same_day_itself q.first) (and_from _ _ (same_day_itself q.last) (same_day_itself q.remittance)))
+
+tax_from : (t u : CommissionTax) → t.from ≡ u.from → t.hundredths ≡ u.hundredths → t ≡ u
+tax_from t u f h = λ i. record { from = f i; hundredths = h i }
+
+pub alike_taxes : (t u : CommissionTax) → eq_by_cmp day_cmp t.from u.from ≡ true → differ_in_tax t u ≡ false → t ≡ u
+alike_taxes t u one same = tax_from t u (day_same _ _ one) (eqb-true _ _ (not-false _ same))
+
+pub tax_itself : (t : CommissionTax) → differ_in_tax t t ≡ false
+tax_itself t = not_from_true _ (eq-eqb _ _ refl)

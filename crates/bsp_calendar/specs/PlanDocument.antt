@@ -11,6 +11,7 @@ use Rattle.bsp_fields.specs.Codes.{code_reading}
 use Rattle.bsp_fields.specs.Days.{text_reading}
 use Rattle.bsp_fields.specs.declared.fault.FieldFault.{FieldFault}
 use Rattle.bsp_calendar.specs.Letters.{currency_reading}
+use Rattle.bsp_calendar.specs.declared.entries.CommissionTax.{CommissionTax}
 use Rattle.bsp_calendar.specs.declared.entries.Period.{Period}
 use Rattle.bsp_calendar.specs.declared.entries.PlanText.{PlanText}
 use Rattle.bsp_calendar.specs.declared.entries.Rate.{Rate}
@@ -108,6 +109,20 @@ period_in members =
 abbrev pub period_of : Data → Option Period
 period_of value = option_and_then period_in (as_table value)
 
+abbrev pub tax_keys : List (List ℕ)
+tax_keys = codes "from" ∷ codes "hundredths" ∷ []
+
+abbrev pub tax_in : Members → Option CommissionTax
+tax_in members =
+    if has_only tax_keys members
+    then using (at (codes "from") day_of members) (λ from.
+    using (at (codes "hundredths") (number_of 0 10_000) members) (λ hundredths.
+    Some (record { from = from; hundredths = hundredths })))
+    else None
+
+abbrev pub tax_of : Data → Option CommissionTax
+tax_of value = option_and_then tax_in (as_table value)
+
 abbrev pub terms_in : Members → Option Terms
 terms_in members =
     using (at (codes "currency") currency_of members) (λ currency.
@@ -123,10 +138,12 @@ pub record PlanData : Type 0 where
   pub airlines : List ℕ
   pub rates : List Rate
   pub periods : List Period
+  pub commission_taxes : List CommissionTax
 
 abbrev pub plan_keys : List (List ℕ)
 plan_keys =
-    codes "currency" ∷ codes "review_days" ∷ codes "documents_limit" ∷ codes "airline" ∷ codes "rate" ∷ codes "period" ∷ []
+    codes "currency" ∷ codes "review_days" ∷ codes "documents_limit" ∷ codes "airline" ∷ codes "rate" ∷ codes "period"
+    ∷ codes "commission_tax" ∷ []
 
 abbrev pub plan_in : Members → Option PlanData
 plan_in members =
@@ -135,7 +152,8 @@ plan_in members =
     using (listed airline_of (get_member (codes "airline") members)) (λ airlines.
     using (listed rate_of (get_member (codes "rate") members)) (λ rates.
     using (listed period_of (get_member (codes "period") members)) (λ periods.
-    Some (record { terms = terms; airlines = airlines; rates = rates; periods = periods })))))
+    using (listed tax_of (get_member (codes "commission_tax") members)) (λ taxes.
+    Some (record { terms = terms; airlines = airlines; rates = rates; periods = periods; commission_taxes = taxes }))))))
     else None
 
 -- the document of bytes that are one TOML text, which is UTF-8
@@ -157,6 +175,7 @@ plan_data plan = record {
   airlines = plan.airlines.items;
   rates = plan.rates.items;
   periods = plan.periods.items;
+  commission_taxes = plan.commission_taxes.items;
 }
 
 -- ---- the contracts

@@ -4,6 +4,7 @@ use Rattle.std.specs.Prelude.{◌≡◌, ℕ, ◌==◌, ◌&&◌, ◌⊎◌, not
 use Rattle.std.specs.List.{list_any, filter, find, Contains}
 use Rattle.bsp_fields.specs.CivilDay.{CivilDay}
 use Rattle.bsp_calendar.specs.DayOrder.{is_up_to, is_before}
+use Rattle.bsp_calendar.specs.declared.entries.CommissionTax.{CommissionTax}
 use Rattle.bsp_calendar.specs.declared.entries.Period.{Period}
 use Rattle.bsp_calendar.specs.declared.entries.Rate.{Rate}
 use Rattle.bsp_calendar.specs.declared.entries.Terms.{Terms}
@@ -13,6 +14,7 @@ pub record Published : Type 0 where
   pub airlines : List ℕ
   pub rates : List Rate
   pub periods : List Period
+  pub commission_taxes : List CommissionTax
   pub day : CivilDay
   -- the codes of the closed periods, in the order of their closing
   pub closed : List ℕ
@@ -24,6 +26,7 @@ opening = record {
   airlines = [];
   rates = [];
   periods = [];
+  commission_taxes = [];
   day = record { year = 2000; month = 1; day = 1 };
   closed = [];
 }
@@ -70,31 +73,60 @@ pub record IsTarget (p : Published) (issued : CivilDay) (code : ℕ) : Type 0 wh
   pub in_time : is_up_to issued period.last ≡ true
   pub begun : is_up_to period.first p.day ≡ true
 
+-- ---- entries that hold from a day on
+
+module _ {A : Type 0} (from : A → CivilDay) where
+  abbrev pub later_of : Option A → A → A
+  later_of None x = x
+  later_of (Some y) x = if is_before (from x) (from y) then y else x
+
+  -- the entry that begins last
+  abbrev pub latest : List A → Option A
+  latest [] = None
+  latest (x ∷ xs) = Some (later_of (latest xs) x)
+
+  -- the number of an entry that applies, and after which no other that applies begins; or 0 where none applies
+  abbrev pub IsLatest : (A → ℕ) → (A → Bool) → List A → ℕ → Type 0
+  IsLatest number applies entries value =
+      ((x : A) × Contains entries x × IsTrue (applies x) × (number x ≡ value)
+      × ((y : A) → Contains entries y → IsTrue (applies y) → IsTrue (is_up_to (from y) (from x))))
+      ⊎ ((value ≡ 0) × ((y : A) → Contains entries y → applies y ≡ false))
+
+-- the number of an entry, and 0 where there is none
+abbrev pub number_or_zero : {A : Type 0} → (A → ℕ) → Option A → ℕ
+number_or_zero number None = 0
+number_or_zero number (Some x) = number x
+
 -- the entry is the airline's, and begins on the day or before
 abbrev pub applies : ℕ → CivilDay → Rate → Bool
 applies airline day r = (r.airline == airline) && is_up_to r.from day
 
-abbrev pub later_of : Option Rate → Rate → Rate
-later_of None r = r
-later_of (Some s) r = if is_before r.from s.from then s else r
-
--- the entry that begins last
-abbrev pub latest : List Rate → Option Rate
-latest [] = None
-latest (r ∷ rs) = Some (later_of (latest rs) r)
-
-abbrev pub hundredths_of : Option Rate → ℕ
-hundredths_of None = 0
-hundredths_of (Some r) = r.hundredths
-
 -- the rate of an airline on a day, in hundredths of a percent
 abbrev pub rate_on : Published → ℕ → CivilDay → ℕ
-rate_on p airline day = hundredths_of (latest (filter (applies airline day) p.rates))
+rate_on p airline day = number_or_zero (λ (r : Rate). r.hundredths) (latest (λ (r : Rate). r.from) (filter (applies airline day) p.rates))
 
--- the same in other words: the rate of an entry that applies, and after which no other that applies begins; or 0 where
--- none applies
+-- the same in other words
 abbrev pub IsLatestRate : List Rate → ℕ → CivilDay → ℕ → Type 0
-IsLatestRate rates airline day hundredths =
-    ((r : Rate) × Contains rates r × IsTrue (applies airline day r) × (r.hundredths ≡ hundredths)
-    × ((s : Rate) → Contains rates s → IsTrue (applies airline day s) → IsTrue (is_up_to s.from r.from)))
-    ⊎ ((hundredths ≡ 0) × ((s : Rate) → Contains rates s → applies airline day s ≡ false))
+IsLatestRate rates airline day hundredths = IsLatest (λ (r : Rate). r.from) (λ (r : Rate). r.hundredths) (applies airline day) rates hundredths
+
+-- the tax begins on the day or before
+abbrev pub has_begun : CivilDay → CommissionTax → Bool
+has_begun day t = is_up_to t.from day
+
+-- the tax on commission on a day, in hundredths of a percent
+abbrev pub commission_tax_on : Published → CivilDay → ℕ
+commission_tax_on p day =
+    number_or_zero (λ (t : CommissionTax). t.hundredths) (latest (λ (t : CommissionTax). t.from) (filter (has_begun day) p.commission_taxes))
+
+-- the same in other words
+abbrev pub IsLatestTax : List CommissionTax → CivilDay → ℕ → Type 0
+IsLatestTax taxes day hundredths = IsLatest (λ (t : CommissionTax). t.from) (λ (t : CommissionTax). t.hundredths) (has_begun day) taxes hundredths
+
+-- a period of form 2: a tax on commission has begun by its last day
+abbrev pub is_taxed : Published → Period → Bool
+is_taxed p q = list_any (has_begun q.last) p.commission_taxes
+
+-- in a period of form 1 there is no tax on any day up to its last
+abbrev pub UntaxedIsZero : Type 0
+UntaxedIsZero =
+    (p : Published) (q : Period) (on : CivilDay) → is_taxed p q ≡ false → is_up_to on q.last ≡ true → commission_tax_on p on ≡ 0

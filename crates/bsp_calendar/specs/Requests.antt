@@ -6,8 +6,9 @@ use Rattle.bsp_fields.specs.FirstFault.{first_fault_or}
 use Rattle.bsp_fields.specs.Changes.{change_of}
 use Rattle.bsp_fields.specs.CivilDay.{CivilDay}
 use Rattle.bsp_calendar.specs.DayOrder.{is_up_to, is_before, is_next_day, same_day}
-use Rattle.bsp_calendar.specs.Published.{Published, is_among, is_closed}
+use Rattle.bsp_calendar.specs.Published.{Published, has_begun, is_among, is_closed}
 use Rattle.bsp_fields.specs.declared.change.Change.{Change}
+use Rattle.bsp_calendar.specs.declared.entries.CommissionTax.{CommissionTax}
 use Rattle.bsp_calendar.specs.declared.entries.Period.{Period}
 use Rattle.bsp_calendar.specs.declared.entries.PlanText.{PlanText}
 use Rattle.bsp_calendar.specs.declared.entries.Rate.{Rate}
@@ -44,6 +45,12 @@ same_rate r s = (r.airline == s.airline) && same_day r.from s.from
 abbrev pub differ_in_rate : Rate → Rate → Bool
 differ_in_rate r s = not (r.hundredths == s.hundredths)
 
+abbrev pub same_tax : CommissionTax → CommissionTax → Bool
+same_tax t u = same_day t.from u.from
+
+abbrev pub differ_in_tax : CommissionTax → CommissionTax → Bool
+differ_in_tax t u = not (t.hundredths == u.hundredths)
+
 abbrev pub same_period : Period → Period → Bool
 same_period q r = q.code == r.code
 
@@ -59,6 +66,7 @@ with_entries p text = record {
   airlines = once same_airline (p.airlines ++ text.airlines.items);
   rates = once same_rate (p.rates ++ text.rates.items);
   periods = once same_period (p.periods ++ text.periods.items);
+  commission_taxes = once same_tax (p.commission_taxes ++ text.commission_taxes.items);
   day = p.day;
   closed = p.closed;
 }
@@ -73,8 +81,13 @@ terms_within_bounds terms =
 abbrev pub rates_within_bounds : List Rate → Bool
 rates_within_bounds rates = list_all (λ r. nat_le r.hundredths 10_000) rates
 
+-- taxes on commission up to 10,000
+abbrev pub taxes_within_bounds : List CommissionTax → Bool
+taxes_within_bounds taxes = list_all (λ t. nat_le t.hundredths 10_000) taxes
+
 abbrev pub are_within_bounds : PlanText → Bool
-are_within_bounds text = terms_within_bounds text.terms && rates_within_bounds text.rates.items
+are_within_bounds text =
+    terms_within_bounds text.terms && (rates_within_bounds text.rates.items && taxes_within_bounds text.commission_taxes.items)
 
 -- each rate is that of a published airline, or of one of the text
 abbrev pub have_airlines : Published → PlanText → Bool
@@ -91,7 +104,8 @@ abbrev pub has_difference : Published → PlanText → Bool
 has_difference p text =
     differ_in_terms p.terms text.terms
     || (has_conflict same_rate differ_in_rate (p.rates ++ text.rates.items)
-    || has_conflict same_period differ_in_days (p.periods ++ text.periods.items))
+    || (has_conflict same_period differ_in_days (p.periods ++ text.periods.items)
+    || has_conflict same_tax differ_in_tax (p.commission_taxes ++ text.commission_taxes.items)))
 
 -- the days of a period are in order
 abbrev pub has_days_in_order : Period → Bool
@@ -110,6 +124,10 @@ are_in_order periods = list_all has_days_in_order periods && follow_one_another 
 abbrev pub has_late_rate : Published → PlanText → Bool
 has_late_rate p text = list_any (λ r. is_up_to r.from p.day) (added same_rate p.rates text.rates.items)
 
+-- a new tax on commission does not begin after the business day
+abbrev pub has_late_tax : Published → PlanText → Bool
+has_late_tax p text = list_any (has_begun p.day) (added same_tax p.commission_taxes text.commission_taxes.items)
+
 -- the plan that a text gives, or the first fault that applies
 abbrev pub extended : Published → PlanText → Result Published PlanFault
 extended p text =
@@ -117,7 +135,7 @@ extended p text =
     ((not (are_within_bounds text && have_airlines p text), WrongKey)
     ∷ (has_difference p text, Differs)
     ∷ (not (are_in_order (once same_period (p.periods ++ text.periods.items))), OutOfOrder)
-    ∷ (has_late_rate p text, LateRate)
+    ∷ (has_late_rate p text || has_late_tax p text, LateRate)
     ∷ [])
     (with_entries p text)
 
@@ -135,7 +153,8 @@ holds_already p text =
     has_terms p.terms
     && (is_empty (added same_airline p.airlines text.airlines.items)
     && (is_empty (added same_rate p.rates text.rates.items)
-    && is_empty (added same_period p.periods text.periods.items)))
+    && (is_empty (added same_period p.periods text.periods.items)
+    && is_empty (added same_tax p.commission_taxes text.commission_taxes.items))))
 
 -- ---- the business day, and closing
 

@@ -5,6 +5,7 @@ use Rattle.std.specs.List.Sorted.{IsPartitionPoint}
 use Rattle.bsp_fields.specs.CivilDay.{CivilDay}
 use Rattle.bsp_calendar.specs.DayOrder.{is_before}
 use Rattle.bsp_calendar.specs.Published.{Published}
+use Rattle.bsp_calendar.specs.declared.entries.CommissionTax.{CommissionTax}
 use Rattle.bsp_calendar.specs.declared.entries.Period.{Period}
 use Rattle.bsp_calendar.specs.declared.entries.Rate.{Rate}
 use Rattle.bsp_calendar.specs.declared.entries.Terms.{Terms}
@@ -14,12 +15,13 @@ abbrev pub first_codes : List Period → ℕ → List ℕ
 first_codes periods count = map (λ q. q.code) (take count periods)
 
 -- the plan of these entries on a business day, with so many periods closed
-abbrev pub plan_of : Option Terms → List ℕ → List Rate → List Period → CivilDay → ℕ → Published
-plan_of terms airlines rates periods day closed = record {
+abbrev pub plan_of : Option Terms → List ℕ → List Rate → List Period → List CommissionTax → CivilDay → ℕ → Published
+plan_of terms airlines rates periods taxes day closed = record {
   terms = terms;
   airlines = airlines;
   rates = rates;
   periods = periods;
+  commission_taxes = taxes;
   day = day;
   closed = first_codes periods closed;
 }

@@ -3,11 +3,11 @@
 ghost use Rattle.std.specs.Prelude.{◌≡◌, nat_le, drop};
 ghost use Rattle.std.specs.List.{list_all, list_any};
 ghost use Rattle.bsp_calendar.specs.DayOrder.{is_up_to};
-ghost use Rattle.bsp_calendar.specs.Published.{is_among};
-ghost use Rattle.bsp_calendar.specs.Requests.{are_in_order, are_within_bounds, differ_in_terms, follow_one_another, has_days_in_order, is_empty};
+ghost use Rattle.bsp_calendar.specs.Published.{has_begun, is_among};
+ghost use Rattle.bsp_calendar.specs.Requests.{are_in_order, are_within_bounds, differ_in_terms, follow_one_another, has_days_in_order, is_empty, taxes_within_bounds};
 
 use crate::days::{is_before, is_next_day, is_up_to};
-use crate::entries::{Period, PlanText, Rate, Terms};
+use crate::entries::{CommissionTax, Period, PlanText, Rate, Terms};
 use crate::keys::{Airlines, has_airline};
 use bsp_fields::Day;
 
@@ -23,6 +23,7 @@ pub(crate) fn are_within_bounds(text: &PlanText) -> bool
     (1..=60).contains(&review_days)
         && (1..=1_000_000).contains(&documents_limit)
         && are_rates_within_bounds(&text.rates)
+        && are_taxes_within_bounds(&text.commission_taxes)
 }
 
 /// Whether each rate is at most 10,000 hundredths of a percent.
@@ -30,6 +31,13 @@ fn are_rates_within_bounds(rates: &[Rate]) -> bool
     ensures { result ≡ list_all (λ r. nat_le r.hundredths 10_000) rates.now }
 {
     rates.iter().all(|rate| rate.hundredths <= 10_000)
+}
+
+/// Whether each tax on commission is at most 10,000 hundredths of a percent.
+fn are_taxes_within_bounds(taxes: &[CommissionTax]) -> bool
+    ensures { result ≡ taxes_within_bounds taxes.now }
+{
+    taxes.iter().all(|tax| tax.hundredths <= 10_000)
 }
 
 /// Whether each rate is that of one of the airlines.
@@ -95,6 +103,27 @@ pub(crate) fn has_late_rate(rates: &[Rate], known: usize, day: Day) -> bool
         .iter()
         .skip(known)
         .any(|rate| is_up_to(rate.from, day))
+}
+
+/// Whether a tax on commission begins on a day or before.
+fn has_begun(tax: &CommissionTax, day: Day) -> bool
+    ensures { result ≡ has_begun day tax.now }
+{
+    is_up_to(tax.from, day)
+}
+
+/// Whether one of the taxes on commission begins on a day or before.
+pub(crate) fn has_one_begun(taxes: &[CommissionTax], day: Day) -> bool
+    ensures { result ≡ list_any (has_begun day) taxes.now }
+{
+    taxes.iter().any(|tax| has_begun(tax, day))
+}
+
+/// Whether one of the taxes on commission beyond the known ones does not begin after a day.
+pub(crate) fn has_late_tax(taxes: &[CommissionTax], known: usize, day: Day) -> bool
+    ensures { result ≡ list_any (has_begun day) (drop known taxes.now) }
+{
+    taxes.iter().skip(known).any(|tax| has_begun(tax, day))
 }
 
 /// Whether a list has no entry beyond the known ones.

@@ -23,6 +23,15 @@ pub struct Rate {
     pub hundredths: u16,
 }
 
+/// The tax on commission from a day on.
+#[derive(Clone, Copy, Debug, PartialEq, Eq, Hash, Drop)]
+pub struct CommissionTax {
+    /// The first day on which it holds.
+    pub from: Day,
+    /// The part of a commission in hundredths of a percent, 0 to 10,000.
+    pub hundredths: u16,
+}
+
 /// A billing period.
 #[derive(Clone, Copy, Debug, PartialEq, Eq, Hash, Drop)]
 pub struct Period {
@@ -47,4 +56,6 @@ pub struct PlanText {
     pub rates: Vec<Rate>,
     /// Billing periods.
     pub periods: Vec<Period>,
+    /// Taxes on commission.
+    pub commission_taxes: Vec<CommissionTax>,
 }

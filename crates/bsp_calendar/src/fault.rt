@@ -21,8 +21,8 @@ pub enum PlanFault {
     /// A period leaves a gap, overlaps another, or its days are not in order.
     #[error("P03: the periods do not follow one another")]
     OutOfOrder,
-    /// A new rate begins on a day that is not after the business day.
-    #[error("P05: a new rate does not begin after the business day")]
+    /// A new rate, or a new tax on commission, begins on a day that is not after the business day.
+    #[error("P05: a new rate or tax does not begin after the business day")]
     LateRate,
     /// The business day would go backwards.
     #[error("P04: the business day would go backwards")]

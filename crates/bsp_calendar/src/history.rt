@@ -1,7 +1,7 @@
 //! The laws of a plan's history.
 
 ghost use Rattle.bsp_calendar.specs.History.{ClosedStays, HistoryHolds, SoundKept, SoundMadeAgain};
-ghost use Rattle.bsp_calendar.specs.Published.{opening};
+ghost use Rattle.bsp_calendar.specs.Published.{UntaxedIsZero, opening};
 ghost use Rattle.bsp_calendar.specs.SoundPlan.{IsSoundPlan};
 
 /// What a plan has after any accepted requests, begun with a plan that meets the rules. It has the
@@ -19,8 +19,14 @@ pub fn sound_plan()
     ensures made_again { SoundMadeAgain }
 {}
 
-/// A closed period, the terms and the rates of the days that have begun stay the same under every
-/// further request.
+/// A closed period, its form, the terms, and the rates and taxes of the days that have begun stay the
+/// same under every further request.
 pub fn closed_stays()
     ensures { ClosedStays }
+{}
+
+/// In a period of form 1 ([`Plan::is_taxed`](crate::Plan::is_taxed)) the tax on commission is 0 on each
+/// day up to its last.
+pub fn untaxed_is_zero()
+    ensures { UntaxedIsZero }
 {}

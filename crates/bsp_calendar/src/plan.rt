@@ -11,7 +11,8 @@ mod periods;
 mod target;
 
 use crate::checks::{
-    are_in_order, are_within_bounds, differ_in_terms, has_late_rate, has_none_beyond, have_airlines,
+    are_in_order, are_within_bounds, differ_in_terms, has_late_rate, has_late_tax, has_none_beyond,
+    have_airlines,
 };
 use crate::days::is_before;
 use crate::entries::{PlanText, Terms};
@@ -19,16 +20,18 @@ use crate::fault::PlanFault;
 use crate::keys::{
     Airlines, Periods, Rates, join_airlines, join_periods, join_rates, period_place,
 };
+use crate::taxes::{Taxes, join_taxes};
 use bsp_fields::{Change, Day, PeriodCode};
 use std::alloc::Global;
 use std::marker::Model;
 
-/// The airlines, rates and periods of a plan.
+/// The airlines, rates, periods and taxes on commission of a plan.
 #[derive(Drop)]
 struct Lists {
     airlines: Airlines,
     rates: Rates,
     periods: Periods,
+    commission_taxes: Taxes,
 }
 
 /// The published plan of a market, the business day and the closed periods. It only grows, and a
@@ -51,9 +54,9 @@ impl Model for Plan {
 
     ghost Value = { Published };
 
-    ghost view = { λ p. plan_of p.terms p.lists.airlines p.lists.rates p.lists.periods p.day p.closed };
+    ghost view = { λ p. plan_of p.terms p.lists.airlines p.lists.rates p.lists.periods p.lists.commission_taxes p.day p.closed };
 
-    ghost invariant = { λ p. IsPlan p.terms p.lists.airlines p.lists.rates p.lists.periods p.day p.closed };
+    ghost invariant = { λ p. IsPlan p.terms p.lists.airlines p.lists.rates p.lists.periods p.lists.commission_taxes p.day p.closed };
 }
 
 impl Plan {
@@ -68,6 +71,7 @@ impl Plan {
                 airlines: Airlines::new(alloc),
                 rates: Rates::new(alloc),
                 periods: Periods::new(alloc),
+                commission_taxes: Taxes::new(alloc),
             },
             day: Day::first(),
             closed: 0,
@@ -90,6 +94,7 @@ impl Plan {
                 airlines: lists.airlines.copied(self.alloc)?,
                 rates: lists.rates.copied(self.alloc)?,
                 periods: lists.periods.copied(self.alloc)?,
+                commission_taxes: lists.commission_taxes.copied(self.alloc)?,
             },
             day: self.day,
             closed: self.closed,
@@ -123,7 +128,8 @@ impl Plan {
         ensures bounds { are_within_bounds text.now ≡ false → result ≡ Err PlanFault.WrongKey }
         ensures lists { MatchResult result
             (λ lists. (extended self.now text.now ≡ Ok (with_entries self.now text.now))
-            × (lists.airlines ≡ (with_entries self.now text.now).airlines) × (lists.rates ≡ (with_entries self.now text.now).rates) × (lists.periods ≡ (with_entries self.now text.now).periods))
+            × (lists.airlines ≡ (with_entries self.now text.now).airlines) × (lists.rates ≡ (with_entries self.now text.now).rates) × (lists.periods ≡ (with_entries self.now text.now).periods)
+            × (lists.commission_taxes ≡ (with_entries self.now text.now).commission_taxes))
             (λ fault. (fault ≡ PlanFault.NoMemory) ⊎ (extended self.now text.now ≡ Err fault)) }
     {
         let lists = &self.lists;
@@ -139,16 +145,26 @@ impl Plan {
         }
         let rates = join_rates(self.alloc, &lists.rates, &text.rates)?;
         let periods = join_periods(self.alloc, &lists.periods, &text.periods)?;
+        let commission_taxes = join_taxes(
+            self.alloc,
+            &lists.commission_taxes,
+            &text.commission_taxes,
+        )?;
         if !are_in_order(periods.list()) {
             return Err(PlanFault::OutOfOrder);
         }
         if has_late_rate(rates.list(), lists.rates.list().len(), self.day) {
             return Err(PlanFault::LateRate);
         }
+        let known = lists.commission_taxes.list().len();
+        if has_late_tax(commission_taxes.list(), known, self.day) {
+            return Err(PlanFault::LateRate);
+        }
         Ok(Lists {
             airlines,
             rates,
             periods,
+            commission_taxes,
         })
     }
 
@@ -156,13 +172,18 @@ impl Plan {
     fn holds(&self, lists: &Lists) -> bool
         ensures { result ≡ (has_terms self.now.terms
             && (is_empty (drop (length self.now.airlines) lists.now.airlines)
-            && (is_empty (drop (length self.now.rates) lists.now.rates) && is_empty (drop (length self.now.periods) lists.now.periods)))) }
+            && (is_empty (drop (length self.now.rates) lists.now.rates) && (is_empty (drop (length self.now.periods) lists.now.periods)
+            && is_empty (drop (length self.now.commission_taxes) lists.now.commission_taxes))))) }
     {
         let held = &self.lists;
         self.terms.is_some()
             && has_none_beyond(lists.airlines.list(), held.airlines.list().len())
             && has_none_beyond(lists.rates.list(), held.rates.list().len())
             && has_none_beyond(lists.periods.list(), held.periods.list().len())
+            && has_none_beyond(
+                lists.commission_taxes.list(),
+                held.commission_taxes.list().len(),
+            )
     }
 
     /// Sets the business day. `Held` where it is the business day already.

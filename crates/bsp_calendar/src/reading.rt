@@ -6,6 +6,7 @@ ghost use Rattle.bsp_calendar.specs.PlanDocument.{Reads, document_of, plan_data,
 mod entries;
 mod lists;
 mod tables;
+mod taxes;
 mod values;
 
 use crate::entries::{PlanText, Terms};
@@ -15,13 +16,14 @@ use crate::reading::tables::{at, has_only, number_at};
 use std::alloc::Global;
 use toml::Table;
 
-const PLAN_KEYS: [&str; 6] = [
+const PLAN_KEYS: [&str; 7] = [
     "currency",
     "review_days",
     "documents_limit",
     "airline",
     "rate",
     "period",
+    "commission_tax",
 ];
 
 /// The terms that a document states.
@@ -51,11 +53,13 @@ fn plan_in(alloc: Global, document: &Table) -> Result<PlanText, PlanFault>
     let airlines = items_at(alloc, document, "airline")?;
     let rates = items_at(alloc, document, "rate")?;
     let periods = items_at(alloc, document, "period")?;
+    let commission_taxes = items_at(alloc, document, "commission_tax")?;
     Ok(PlanText {
         terms,
         airlines,
         rates,
         periods,
+        commission_taxes,
     })
 }
 
@@ -76,8 +80,8 @@ fn document_of(alloc: Global, text: &[u8]) -> Result<Table, PlanFault>
 }
 
 /// Reads a plan text: TOML with the keys `currency`, `review_days` and `documents_limit`, the lists
-/// `airline`, `rate` and `period`, which may be absent, and no other key. Whether a rate's airline is
-/// published and whether the periods follow one another is not judged here.
+/// `airline`, `rate`, `period` and `commission_tax`, which may be absent, and no other key. Whether a
+/// rate's airline is published and whether the periods follow one another is not judged here.
 ///
 /// # Errors
 ///

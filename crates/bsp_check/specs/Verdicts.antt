@@ -7,7 +7,7 @@ use Rattle.bsp_hot_check.specs.Hot.{IsFirstFault}
 use Rattle.bsp_explain.specs.declared.explanation.Explanation.{Explanation}
 use Rattle.bsp_explain.specs.Before.{counted, IsLine}
 use Rattle.bsp_explain.specs.RetReasons.{Says, is_reason_of}
-use Rattle.bsp_explain.specs.HotReasons.{SaysOfHot, record_name}
+use Rattle.bsp_explain.specs.HotReasons.{SaysOfHot, file_form, record_name}
 use Rattle.bsp_check.specs.declared.fault.Fault.{Fault}
 use Rattle.bsp_check.specs.declared.verdict.Verdict.{Verdict}
 use Rattle.bsp_check.specs.declared.verdict.Verdict.TheVariants.{Passed, Refused}
@@ -35,7 +35,7 @@ pub record IsRetExplanation (bytes : List ℕ) (explanation : Explanation) : Typ
 pub record IsHotExplanation (bytes : List ℕ) (explanation : Explanation) : Type 0 where
   pub is_first : IsFirstFault (lines bytes) explanation.record
   pub name : (line : List ℕ) → IsLine (explanation.record - 1) (lines bytes) line → explanation.name ≡ record_name line
-  pub says : (line : List ℕ) → IsLine (explanation.record - 1) (lines bytes) line → SaysOfHot explanation.record line explanation.reason
+  pub says : (line : List ℕ) → IsLine (explanation.record - 1) (lines bytes) line → SaysOfHot (file_form (lines bytes)) explanation.record line explanation.reason
 
 -- a verdict that refuses the bytes has an explanation of them
 abbrev pub IsExplained : (List ℕ → Explanation → Type 0) → List ℕ → Verdict → Type 0

@@ -8,7 +8,7 @@ ghost use Rattle.bsp_desk_base.specs.Ledger.{agent_of};
 ghost use Rattle.bsp_desk_files.specs.Judged.{AreJudged, IsJudged, owner_of, rows_next};
 
 use crate::facts::facts;
-use crate::keeping::keep_accepted;
+use crate::keeping::{accepted, keep_accepted};
 use bsp_book::{Book, BookFault};
 use bsp_ret::{RetFile, transaction};
 use bsp_rows::{AgentCode, Transaction};
@@ -47,7 +47,8 @@ fn judge_for<B: Book>(
     reads_back(agent);
     let facts = facts(book, agent, transaction)?;
     let verdict = judge(*reporter, transaction, &facts, book.plan());
-    keep_accepted(book, agent, transaction, &verdict)?;
+    let item = accepted(agent, transaction, &facts, book.plan(), &verdict);
+    keep_accepted(book, &item)?;
     Ok(verdict)
 }
 

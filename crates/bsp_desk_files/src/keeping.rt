@@ -1,17 +1,15 @@
 //! How an accepted transaction is kept.
 
-ghost use Rattle.std.specs.Prelude.{◌≡◌, ℕ, Some, false, ⊤};
+ghost use Rattle.std.specs.Prelude.{◌≡◌, IfSome, false, ⊤};
 ghost use Rattle.bsp_book.specs.Calls.{Makes};
 ghost use Rattle.bsp_rows.specs.Changes.{after_accepted, ended_by};
 ghost use Rattle.bsp_rows.specs.Rows.{HasNumberKey, item_at, key_of};
 ghost use Rattle.bsp_rows.specs.Writes.{IsFree};
-ghost use Rattle.bsp_rules.specs.declared.verdict.Verdict.TheVariants.{Accepted};
-ghost use Rattle.bsp_desk_base.specs.Ledger.{new_item};
-ghost use Rattle.bsp_desk_base.specs.Step.{reporter, rows_judged};
+ghost use Rattle.bsp_desk_files.specs.Judged.{HasFreeKey, item_of, rows_with};
 
 use bsp_book::{Book, BookFault};
-use bsp_rows::{AgentCode, ItemKey, Transaction};
-use bsp_rules::{Item, Verdict};
+use bsp_rows::{AgentCode, ItemKey, Plan, Transaction};
+use bsp_rules::{Facts, Item, Verdict};
 
 /// A CANX ends the TKTT or RFND of its number.
 fn end_sale<B: Book>(book: &mut B, item: &Item) -> Result<(), BookFault>
@@ -39,29 +37,30 @@ fn keep<B: Book>(book: &mut B, item: &Item) -> Result<(), BookFault>
     book.add_item(item)
 }
 
-/// Keeps a transaction of the agent where the verdict accepts it.
-pub(crate) fn keep_accepted<B: Book>(
-    book: &mut B,
+/// What a transaction of the agent becomes, where the verdict accepts it.
+pub(crate) fn accepted(
     agent: AgentCode,
     transaction: &Transaction,
+    facts: &Facts,
+    plan: &Plan,
     verdict: &Verdict,
-) -> Result<(), BookFault>
-    requires works { B.means.has_failed book.old ≡ false }
-    requires numbered { (period : ℕ) → verdict.now ≡ Accepted period → HasNumberKey (new_item agent transaction.now period) }
-    ensures { Makes B.means book.old book.new result
-        (λ now. (period : ℕ) → verdict.now ≡ Accepted period → IsFree (item_at (key_of (new_item agent transaction.now period)) (ended_by (new_item agent transaction.now period) now)))
-        (rows_judged (reporter (Some agent)) transaction.now verdict.now) }
+) -> Option<Item>
+    ensures { result ≡ item_of agent transaction.now facts.now plan.now verdict.now }
 {
     match verdict {
-        Verdict::Accepted(period) => {
-            let item = Item {
-                agent,
-                period: *period,
-                transaction: *transaction,
-                lives: true,
-            };
-            keep(book, &item)
-        }
-        Verdict::Held(_) | Verdict::Refused(_) => Ok(()),
+        Verdict::Accepted(period) => Some(Item::accepted(agent, *period, transaction, facts, plan)),
+        Verdict::Held(_) | Verdict::Refused(_) => None,
+    }
+}
+
+/// Keeps what a transaction became, if it was accepted.
+pub(crate) fn keep_accepted<B: Book>(book: &mut B, item: &Option<Item>) -> Result<(), BookFault>
+    requires works { B.means.has_failed book.old ≡ false }
+    requires numbered { IfSome item.now HasNumberKey }
+    ensures { Makes B.means book.old book.new result (HasFreeKey item.now) (rows_with item.now) }
+{
+    match item {
+        Some(item) => keep(book, item),
+        None => Ok(()),
     }
 }

@@ -77,14 +77,16 @@ same_outcome p text other same =
     let airlines : text.airlines.items ≡ other.airlines.items = ap (λ (d : PlanData). d.airlines) same in
     let rates : text.rates.items ≡ other.rates.items = ap (λ (d : PlanData). d.rates) same in
     let periods : text.periods.items ≡ other.periods.items = ap (λ (d : PlanData). d.periods) same in
-    rw (terms, airlines, rates, periods) refl
+    let taxes : text.commission_taxes.items ≡ other.commission_taxes.items = ap (λ (d : PlanData). d.commission_taxes) same in
+    rw (terms, airlines, rates, periods, taxes) refl
 
 same_held : (p : Published) (text other : PlanText) → plan_data text ≡ plan_data other → holds_already p text ≡ holds_already p other
 same_held p text other same =
     let airlines : text.airlines.items ≡ other.airlines.items = ap (λ (d : PlanData). d.airlines) same in
     let rates : text.rates.items ≡ other.rates.items = ap (λ (d : PlanData). d.rates) same in
     let periods : text.periods.items ≡ other.periods.items = ap (λ (d : PlanData). d.periods) same in
-    rw (airlines, rates, periods) refl
+    let taxes : text.commission_taxes.items ≡ other.commission_taxes.items = ap (λ (d : PlanData). d.commission_taxes) same in
+    rw (airlines, rates, periods, taxes) refl
 
 same_left : (rows : Rows) (text other : PlanText) → plan_data text ≡ plan_data other → after_request (Publish text) rows ≡ after_request (Publish other) rows
 same_left rows text other same = ap (λ (wanted : Result Published PlanFault). record rows { published = plan_left rows.published wanted }) (same_outcome rows.published text other same)

@@ -6,10 +6,10 @@ use Rattle.std.specs.Prelude.{String, string_bytes}
 use Rattle.std.specs.Global.{Global}
 use Rattle.std.proofs.lemmas.Bool.{eqb-true}
 use Rattle.bsp_rows.proofs.ListLemmas.{find_contains}
-use Rattle.bsp_rows.specs.Published.{Published, closed_period, is_closed, period_of}
+use Rattle.bsp_rows.specs.Published.{Published, closed_period, is_closed, is_taxed, period_of}
 use Rattle.bsp_rows.specs.Period.{Period}
 use Rattle.bsp_rows.specs.Terms.{Terms}
-use Rattle.bsp_hot.specs.Files.{IsTooWide, IsWritten}
+use Rattle.bsp_hot.specs.Files.{IsTooWide, IsWritten, form_of}
 use Rattle.bsp_hot.specs.Rows.{Entry, entries}
 use Rattle.bsp_rows.specs.MemoFields.{MemoFields}
 use Rattle.bsp_rows.specs.Owed.{is_billed_in}
@@ -71,11 +71,13 @@ module _ (rows : Rows) (text : List ℕ) (code : ℕ) (read : Some code ≡ peri
       (subst (λ (found : Option Period). Says (settlement_shown found rows) (message.Report made.text)) (sym at)
       (made.text, (terms, there, made, all, refl), refl))
 
-  pub statement_says : (agent : ℕ) → Sound rows → (made : String Global) → IsStatement agent (of_period q terms) (of_agent agent (postings code (asked_items (OfAgentIn agent code) rows) (asked_memos (OfAgentIn agent code) rows))) (string_bytes made) → Says (ledger_answer agent (ledger_of agent rows) (AskStatement text)) (message.Report made)
+  pub statement_says : (agent : ℕ) → Sound rows → (made : String Global) → IsStatement (is_taxed plan q) agent (of_period q terms) (of_agent agent (postings code (asked_items (OfAgentIn agent code) rows) (asked_memos (OfAgentIn agent code) rows))) (string_bytes made) → Says (ledger_answer agent (ledger_of agent rows) (AskStatement text)) (message.Report made)
   statement_says agent sound made over =
       let l = ledger_of agent rows in
-      let own = subst (λ (ps : List Posting). IsStatement agent (of_period q terms) ps (string_bytes made))
-      (ap (of_agent agent) (own_posted agent code rows sound) ∙ (own_alone agent code rows sound ∙ ap (λ (n : ℕ). postings n (values l.own.items) (values l.own.memos)) numbered)) over in
+      let asked = of_agent agent (postings code (asked_items (OfAgentIn agent code) rows) (asked_memos (OfAgentIn agent code) rows)) in
+      let formed = subst (λ (p : Published). IsStatement (is_taxed p q) agent (of_period q terms) asked (string_bytes made)) is over in
+      let own = subst (λ (ps : List Posting). IsStatement (is_taxed rows.published q) agent (of_period q terms) ps (string_bytes made))
+      (ap (of_agent agent) (own_posted agent code rows sound) ∙ (own_alone agent code rows sound ∙ ap (λ (n : ℕ). postings n (values l.own.items) (values l.own.memos)) numbered)) formed in
       subst (λ (found : Option ℕ). Says (statement_answer agent l found) (message.Report made)) read
       (subst (λ (found : Option Period). Says (statement_shown agent l found) (message.Report made)) (sym at)
       (made, (terms, there, own), refl))
@@ -93,16 +95,18 @@ module _ (rows : Rows) (text : List ℕ) (code : ℕ) (read : Some code ≡ peri
       ∙ ap (λ (n : ℕ). entries airline n (filter (is_in n) (values l.own.items)) (filter (is_billed_in n) (values l.own.memos))) numbered)
 
   module _ (airline : ℕ) (own : List Item) (ms : List MemoFields) (found : own ≡ items_of (items.OfAirlineIn airline code) rows) (billed : ms ≡ memos_of (memos.OfAirlineIn airline code) rows) where
-    pub hot_says : (file : Vec ℕ) → IsWritten airline q terms.currency (entries airline code own ms) file.items → Says (airline_answer airline (airline_ledger_of airline rows) (AskHot text)) (message.Hot file)
+    pub hot_says : (file : Vec ℕ) → IsWritten (form_of plan q) airline q terms.currency (entries airline code own ms) file.items → Says (airline_answer airline (airline_ledger_of airline rows) (AskHot text)) (message.Hot file)
     hot_says file over =
         let l = airline_ledger_of airline rows in
+        let formed = subst (λ (p : Published). IsWritten (form_of p q) airline q terms.currency (entries airline code own ms) file.items) is over in
         subst (λ (read_as : Option ℕ). Says (hot_answer airline l read_as) (message.Hot file)) read
         (subst (λ (of_code : Option Period). Says (hot_shown airline l of_code) (message.Hot file)) (sym at)
-        (inl (file, (terms, there, subst (λ (es : List Entry). IsWritten airline q terms.currency es file.items) (same_entries airline own ms found billed) over), refl)))
+        (inl (file, (terms, there, subst (λ (es : List Entry). IsWritten (form_of rows.published q) airline q terms.currency es file.items) (same_entries airline own ms found billed) formed), refl)))
 
-    pub hot_is_wide : IsTooWide airline q terms.currency (entries airline code own ms) → Says (airline_answer airline (airline_ledger_of airline rows) (AskHot text)) (message.Refused HotTooLarge)
+    pub hot_is_wide : IsTooWide (form_of plan q) airline q terms.currency (entries airline code own ms) → Says (airline_answer airline (airline_ledger_of airline rows) (AskHot text)) (message.Refused HotTooLarge)
     hot_is_wide over =
         let l = airline_ledger_of airline rows in
+        let formed = subst (λ (p : Published). IsTooWide (form_of p q) airline q terms.currency (entries airline code own ms)) is over in
         subst (λ (read_as : Option ℕ). Says (hot_answer airline l read_as) (message.Refused HotTooLarge)) read
         (subst (λ (of_code : Option Period). Says (hot_shown airline l of_code) (message.Refused HotTooLarge)) (sym at)
-        (inr ((terms, there, subst (λ (es : List Entry). IsTooWide airline q terms.currency es) (same_entries airline own ms found billed) over), refl)))
+        (inr ((terms, there, subst (λ (es : List Entry). IsTooWide (form_of rows.published q) airline q terms.currency es) (same_entries airline own ms found billed) formed), refl)))

@@ -14,7 +14,7 @@ use bsp_messages::{Answer, RequestRefusal};
 use bsp_rows::{AirlineCode, Items, Memos, PeriodCode, Tallies};
 use std::alloc::Global;
 
-/// Shows the HOT file of an airline for a closed period, over the airline's own rows.
+/// Shows the HOT file of an airline for a closed period, over the airline's own rows, in the form of the period.
 ///
 /// The answer is H02 where the period is unknown or not closed, and H01 where a count or a total does not fit its
 /// place. The rows stay as they are.

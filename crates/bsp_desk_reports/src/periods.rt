@@ -37,7 +37,7 @@ fn documents_over(period: PeriodCode, tallies: &[Tally]) -> u64
     documents
 }
 
-/// The net of the tallies of a period, in minor units. The sum of 1,000 tallies fits.
+/// The net of the tallies of a period, in minor units, less the tax on commission. The sum of 1,000 tallies fits.
 fn net_over(period: PeriodCode, tallies: &[Tally]) -> i128
     ensures { length tallies.now ≤ 1000 → result ≡ net_of_postings (tally_postings period tallies.now) }
 {

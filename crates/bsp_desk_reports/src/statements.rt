@@ -11,7 +11,8 @@ use bsp_rows::{AgentCode, PeriodCode, Tallies};
 use bsp_statement::{StatementFault, statement_of};
 use std::alloc::Global;
 
-/// Shows the billing statement of an agent for a closed period, over the agent's own rows.
+/// Shows the billing statement of an agent for a closed period, over the agent's own rows. In a period of form 2 it
+/// shows the tax on commission.
 ///
 /// The answer is S01 where the period is unknown or not closed. The rows stay as they are.
 ///

@@ -11,6 +11,7 @@ use Rattle.bsp_ret.specs.declared.model.Record.{Record}
 use Rattle.bsp_ret.specs.declared.model.Record.TheVariants as said
 use Rattle.bsp_ret.specs.Said.{record_in}
 use Rattle.bsp_ret.specs.Table.{kind, kind_or_start, standing, has_ended, is_start, row_fault, or_later, fault_from, first_fault}
+use Rattle.bsp_hot_records.specs.declared.form.FileForm.{FileForm}
 use Rattle.bsp_explain.specs.declared.before.Before.{Before}
 use Rattle.bsp_explain.specs.Before.{counted, IsLine}
 use Rattle.bsp_explain.specs.declared.reason.Reason.{Reason}
@@ -72,9 +73,9 @@ found_in before (line ∷ rest) f h =
 -- ---- the standing that the lines before it leave
 
 kind_is : (r : Record) → is_start (kind r) ≡ false
-kind_is said.Header = refl
+kind_is (said.Header profile) = refl
 kind_is (said.Sale code) = refl
-kind_is said.Related = refl
+kind_is (said.Related order) = refl
 kind_is said.Amounts = refl
 kind_is (said.Form form amount) = refl
 kind_is said.Trailer = refl
@@ -149,6 +150,6 @@ row_of_line ls rest f before found count left (inl line) first =
 row_of_line ls rest f before found count left (inr empty) first =
     rw count (fault_after ls f found first (sym left ∙ empty))
 
-pub said_of_hot : (ls rest : List (List ℕ)) (n : ℕ) (line found : List ℕ) (r : Reason) → rest ≡ drop (n - 1) ls → IsLine (n - 1) ls line → IsLine 0 rest found → SaysOfHot n found r → SaysOfHot n line r
-said_of_hot ls rest n line found r left is first said =
+pub said_of_hot : (form : FileForm) (ls rest : List (List ℕ)) (n : ℕ) (line found : List ℕ) (r : Reason) → rest ≡ drop (n - 1) ls → IsLine (n - 1) ls line → IsLine 0 rest found → SaysOfHot form n found r → SaysOfHot form n line r
+said_of_hot form ls rest n line found r left is first said =
     rw (← same_line ls rest (n - 1) line found left is first) said

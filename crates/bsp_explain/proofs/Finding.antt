@@ -1,5 +1,5 @@
 -- Lemmas on the first field that is not in its form.
-use Rattle.std.proofs.Common.{◌≡◌, ℕ, ◌+◌, ◌-◌, ◌<◌, ◌≤◌, true, false, ◌&&◌, List, [], ◌∷◌, ◌++◌, length, get_or, drop, refl, ◌∙◌, add-one, arith, inl, inr, Option, Some, None, IfSome, IfNone}
+use Rattle.std.proofs.Common.{◌≡◌, ℕ, ◌+◌, ◌-◌, ◌<◌, ◌≤◌, true, false, ◌&&◌, List, [], ◌∷◌, ◌++◌, length, get_or, drop, refl, sym, ◌∙◌, add-one, arith, inl, inr, Option, Some, None, IfSome, IfNone}
 use Rattle.std.specs.Prelude.{nat_le}
 use Rattle.std.specs.Option.{option_or}
 use Rattle.std.specs.List.{list_all}
@@ -61,6 +61,15 @@ either_way : (a b c : Option Field) → option_or (option_or a b) c ≡ option_o
 either_way None b c = refl
 either_way (Some f) b c = refl
 
+-- two lists of fields
+pub first_of_two : (line : List ℕ) (a b : List Field) → option_or (first_unfit line a) (first_unfit line b) ≡ first_unfit line (a ++ b)
+first_of_two line a b = sym (first_unfit-append line a b)
+
+pub none_of_two : (line : List ℕ) (a b : List Field) (x y : Option Field) → IfNone x (all_fit line a ≡ true) → IfNone y (all_fit line b ≡ true) → IfNone (option_or x y) (all_fit line (a ++ b) ≡ true)
+none_of_two line a b (Some f) y in_a in_b = tt
+none_of_two line a b None (Some f) in_a in_b = tt
+none_of_two line a b None None in_a in_b = all_fit-append line a b ∙ rw (in_a, in_b) refl
+
 -- three lists of fields
 pub first_of_three : (line : List ℕ) (a b c : List Field) → option_or (option_or (first_unfit line a) (first_unfit line b)) (first_unfit line c) ≡ first_unfit line (a ++ (b ++ c))
 first_of_three line a b c =
@@ -78,6 +87,11 @@ none_of_three line a b c None None None in_a in_b in_c = all_of_three line a b c
 -- where a field is found, it is not in its form, and so not all are
 abbrev pub IsFoundIn : List ℕ → List Field → Option Field → Type 0
 IsFoundIn line fields found = IfSome found (λ f. IsAtFault line f × (all_fit line fields ≡ false))
+
+pub some_of_two : (line : List ℕ) (a b : List Field) (x y : Option Field) → IfNone x (all_fit line a ≡ true) → IsFoundIn line a x → IsFoundIn line b y → IsFoundIn line (a ++ b) (option_or x y)
+some_of_two line a b (Some f) y no_a in_a in_b = (in_a.0, all_fit-append line a b ∙ rw (in_a.1) refl)
+some_of_two line a b None (Some f) no_a in_a in_b = (in_b.0, all_fit-append line a b ∙ rw (no_a, in_b.1) refl)
+some_of_two line a b None None no_a in_a in_b = tt
 
 pub some_of_three : (line : List ℕ) (a b c : List Field) (x y z : Option Field) → IfNone x (all_fit line a ≡ true) → IfNone y (all_fit line b ≡ true) → IsFoundIn line a x → IsFoundIn line b y → IsFoundIn line c z → IsFoundIn line (a ++ (b ++ c)) (option_or (option_or x y) z)
 some_of_three line a b c (Some f) y z no_a no_b in_a in_b in_c =

@@ -1,13 +1,13 @@
 -- The fields of RET records are in their forms exactly where the records' tests hold.
 use Rattle.std.proofs.Common.{◌≡◌, ℕ, Bool, true, false, ◌&&◌, List, [], ◌∷◌, ◌++◌, length, refl, sym, ap, ◌∙◌, inl, inr, arith, is_some}
-use Rattle.std.specs.Prelude.{◌==◌, codes}
+use Rattle.std.specs.Prelude.{◌==◌, ◌||◌, codes}
 use Rattle.std.specs.List.{list_all}
 use Rattle.std.specs.Str.{bytes_eq, all_ascii_digits}
 use Rattle.std.proofs.Math.Bool.{and_assoc, and-true}
 use Rattle.std.proofs.lemmas.Bool.{cases_Bool}
 use Rattle.bsp_records.specs.Columns.{columns, identifier, is_letter, is_letter_or_digit, is_space}
 use Rattle.bsp_records.specs.Fields.{spells_at_most, is_amount, is_total, is_record_day}
-use Rattle.bsp_ret_records.specs.Records.{is_header, is_production, header_fits, code_of, sale_fits, related_fits, amounts_fit, form_of, form_fits, payment_amount, vendor, vendor_fits, trailer_fits}
+use Rattle.bsp_ret_records.specs.Records.{profile_of, is_header, is_production, header_fits, code_of, sale_fits, related_fits, amounts_fit, form_of, form_fits, payment_amount, vendor, vendor_fits, trailer_fits}
 use Rattle.bsp_explain.specs.declared.form.Form.TheVariants as form
 use Rattle.bsp_explain.specs.Fields.{fits, all_fit, is_transaction_code, is_form_of_payment}
 use Rattle.bsp_explain.specs.TaxFields.{tax_fields}
@@ -26,13 +26,25 @@ and-4 a b c d = simp (and_assoc, and-true)
 
 -- ---- record 1
 
+-- a profile is one of the two
+profile_is : (line : List ℕ) → is_some (profile_of line) ≡ (bytes_eq (columns 28 30 line) (codes "001") || bytes_eq (columns 28 30 line) (codes "002"))
+unfolding profile_of
+profile_is line =
+    elim (cases_Bool (bytes_eq (columns 28 30 line) (codes "001"))) [
+      | inl old ↦ rw old refl
+      | inr other ↦ rw other (elim (cases_Bool (bytes_eq (columns 28 30 line) (codes "002"))) [
+        | inl new ↦ rw new refl
+        | inr none ↦ rw none refl
+      ])
+    ]
+
 mark_is : (line : List ℕ) → length line ≡ 136 → (identifier line == 49) ≡ bytes_eq (columns 1 1 line) (codes "1")
 mark_is [] wide = absurd (omega (arith, wide))
 mark_is (c ∷ line) wide = sym (and-true (c == 49))
 
 pub whole_header : (line : List ℕ) → length line ≡ 136 → is_whole_header line ≡ all_fit line header_fields
 unfolding all_fit fits is_header is_production header_fits
-whole_header line wide = rw (mark_is line wide) (and-10 (bytes_eq (columns 1 1 line) (codes "1")) (bytes_eq (columns 28 30 line) (codes "001")) (is_production line) (list_all is_letter_or_digit (columns 2 5 line)) (is_record_day (columns 6 11 line)) (spells_at_most 23 (columns 12 13 line)) (spells_at_most 59 (columns 14 15 line)) (list_all is_letter (columns 16 17 line)) (all_ascii_digits (columns 18 23 line)) (list_all is_space (columns 31 136 line)))
+whole_header line wide = rw (mark_is line wide, profile_is line) (and-10 (bytes_eq (columns 1 1 line) (codes "1")) (bytes_eq (columns 28 30 line) (codes "001") || bytes_eq (columns 28 30 line) (codes "002")) (is_production line) (list_all is_letter_or_digit (columns 2 5 line)) (is_record_day (columns 6 11 line)) (spells_at_most 23 (columns 12 13 line)) (spells_at_most 59 (columns 14 15 line)) (list_all is_letter (columns 16 17 line)) (all_ascii_digits (columns 18 23 line)) (list_all is_space (columns 31 136 line)))
 
 -- ---- record 2
 

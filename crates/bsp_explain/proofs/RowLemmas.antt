@@ -1,18 +1,18 @@
 -- What a row of the fault table says of its record.
 use Rattle.std.proofs.Common.{◌≡◌, ◌≢◌, ℕ, ◌+◌, Bool, true, false, not, ◌&&◌, ◌||◌, List, [], ◌∷◌, Option, Some, None, IfNone, Err, length, refl, sym, ap, ◌∙◌, inl, inr, arith}
 use Rattle.std.specs.Prelude.{◌==◌}
-use Rattle.std.proofs.lemmas.Bool.{cases_Bool, and_parts, not-false}
+use Rattle.std.proofs.lemmas.Bool.{cases_Bool, and_parts, and_right, not-false, eqb-true}
 use Rattle.bsp_fields.specs.FirstFault.{first_fault_or}
 use Rattle.bsp_records.specs.Columns.{identifier, is_wide}
 use Rattle.bsp_records.specs.Fields.{spells}
-use Rattle.bsp_ret_records.specs.Records.{transaction_number, is_header, is_production, header_fits, sale_fits, related_fits, amounts_fit, form_of, form_fits, trailer_fits}
+use Rattle.bsp_ret_records.specs.Records.{transaction_number, is_header, is_production, header_fits, sale_fits, related_order, related_fits, amounts_fit, form_of, form_fits, trailer_fits}
 use Rattle.bsp_ret.specs.declared.model.FaultCode.{FaultCode}
 use Rattle.bsp_ret.specs.declared.model.FaultCode.TheVariants.{F01, F02, F03, F04, F05, F06, F07, F09}
 use Rattle.bsp_ret.specs.declared.model.Standing.{Standing}
-use Rattle.bsp_ret.specs.Table.{has_ended, is_start, is_complete, takes_related, takes_amounts, takes_form, has_counts, has_sum, header_table, transaction_table, trailer_table, later_table, record_table, row_fault}
+use Rattle.bsp_ret.specs.Table.{has_ended, is_start, is_complete, takes_related, comes_behind, takes_amounts, takes_form, has_counts, has_sum, header_table, transaction_table, trailer_table, later_table, record_table, row_fault}
 use Rattle.bsp_explain.specs.declared.before.Before.{Before}
 use Rattle.bsp_explain.specs.declared.reason.Reason.{Reason}
-use Rattle.bsp_explain.specs.RetReasons.{record_fits, is_without, IsStandingOf}
+use Rattle.bsp_explain.specs.RetReasons.{record_fits, may_be_second, is_without, IsStandingOf}
 
 -- a fault of a table is that of its first row, or of the others where the first does not apply
 row_or : (test : Bool) (fault code : FaultCode) (rows : List (Bool × FaultCode)) (P : FaultCode → Bool) → (test ≡ true → P fault ≡ false) → (test ≡ false → first_fault_or {V = Unit {0}} rows tt ≡ Err code → P code ≡ false) → first_fault_or {V = Unit {0}} ((test, fault) ∷ rows) tt ≡ Err code → P code ≡ false
@@ -38,6 +38,13 @@ set b h = not-false b h
 not_fit : (n : ℕ) (before : Before) (line : List ℕ) (first : Bool) → is_wide line ≡ true → first ≡ (n == 1) → record_fits first line ≡ false → (not (is_wide line) || record_fits (n == 1) line) ≡ false
 not_fit n before line first wide is unfit = rw (wide, ← is, unfit) refl
 
+not_form : (n : ℕ) (before : Before) (line : List ℕ) (first : Bool) → is_wide line ≡ true → first ≡ (n == 1) → record_fits first line ≡ false → is_without F05 n before line ≡ false
+not_form n before line first wide is unfit = rw (wide, ← is, unfit) refl
+
+-- of a record 3, which may be the second of its group
+not_behind : (n : ℕ) (before : Before) (line : List ℕ) → is_wide line ≡ true → false ≡ (n == 1) → (identifier line == 51) ≡ true → is_without F05 n before line ≡ false
+not_behind n before line wide later name = rw (wide, ← later, name) (and_right _ false refl)
+
 not_header : (line : List ℕ) → is_header line ≡ false → record_fits true line ≡ false
 not_header line h = rw h refl
 
@@ -55,17 +62,21 @@ header_row code n before line wide first =
     (λ f. row_or (not (is_production line)) F04 code ((not (header_fits line), F05) ∷ []) P
     (λ t. not_fit n before line true wide first (not_production line (unset (is_production line) t)))
     (λ g. row_or (not (header_fits line)) F05 code [] P
-    (λ t. not_fit n before line true wide first (not_header_fits line (unset (header_fits line) t)))
+    (λ t. not_form n before line true wide first (not_header_fits line (unset (header_fits line) t)))
     (λ k. no_row code P)))
 
-transaction_row : (code : FaultCode) (n : ℕ) (before : Before) (line : List ℕ) (allowed fits : Bool) (number : ℕ) → is_wide line ≡ true → false ≡ (n == 1) → record_fits false line ≡ fits → Row code n before line (transaction_table allowed number fits line)
-transaction_row code n before line allowed fits number wide first is =
+transaction_row : (code : FaultCode) (n : ℕ) (before : Before) (line : List ℕ) (allowed fits : Bool) (number : ℕ) → is_wide line ≡ true → (fits ≡ false → is_without F05 n before line ≡ false) → Row code n before line (transaction_table allowed number fits line)
+transaction_row code n before line allowed fits number wide unfit =
     let P : FaultCode → Bool = λ k. is_without k n before line in
     row_or (not (allowed && spells number (transaction_number line))) F03 code ((not fits, F05) ∷ []) P
     (λ t. ap not wide)
     (λ f. row_or (not fits) F05 code [] P
-    (λ t. not_fit n before line false wide first (is ∙ unset fits t))
+    (λ t. unfit (unset fits t))
     (λ k. no_row code P))
+
+-- a record of that test
+tested : (n : ℕ) (before : Before) (line : List ℕ) (fits : Bool) → is_wide line ≡ true → false ≡ (n == 1) → record_fits false line ≡ fits → fits ≡ false → is_without F05 n before line ≡ false
+tested n before line fits wide first is unfit = not_form n before line false wide first (is ∙ unfit)
 
 no_counts : (n : ℕ) (before : Before) (at : Standing) (line : List ℕ) → IsStandingOf n before at → is_wide line ≡ true → trailer_fits line ≡ true → has_counts at line ≡ false → is_without F06 n before line ≡ false
 no_counts n before at line is_standing wide fits other =
@@ -82,7 +93,7 @@ trailer_row code n before at line is_standing wide first is =
     (λ t. ap not wide)
     (λ f. let named = (and_parts (identifier line == 90) complete (set ((identifier line == 90) && complete) f)).0 in
     row_or (not (trailer_fits line)) F05 code ((not (has_counts at line), F06) ∷ (not (has_sum at line), F07) ∷ []) P
-    (λ t. not_fit n before line false wide first (is named ∙ unset (trailer_fits line) t))
+    (λ t. not_form n before line false wide first (is named ∙ unset (trailer_fits line) t))
     (λ g. row_or (not (has_counts at line)) F06 code ((not (has_sum at line), F07) ∷ []) P
     (λ t. no_counts n before at line is_standing wide (set (trailer_fits line) g) (unset (has_counts at line) t))
     (λ k. row_or (not (has_sum at line)) F07 code [] P
@@ -92,13 +103,13 @@ trailer_row code n before at line is_standing wide first is =
 later_row : (code : FaultCode) (n : ℕ) (before : Before) (at : Standing) (line : List ℕ) → IsStandingOf n before at → is_wide line ≡ true → false ≡ (n == 1) → Row code n before line (later_table at line)
 later_row code n before at line is_standing wide first =
     elim (cases_Bool (identifier line == 50)) [
-      | inl a ↦ rw a (transaction_row code n before line (is_complete at.last at.code at.related) (sale_fits line) (at.transactions + 1) wide first (rw a refl))
+      | inl a ↦ rw a (transaction_row code n before line (is_complete at.last at.code at.related) (sale_fits line) (at.transactions + 1) wide (tested n before line (sale_fits line) wide first (rw a refl)))
       | inr a ↦ elim (cases_Bool (identifier line == 51)) [
-        | inl b ↦ rw (a, b) (transaction_row code n before line (takes_related at.last at.code) (related_fits line) at.transactions wide first (rw (a, b) refl))
+        | inl b ↦ rw (a, b) (transaction_row code n before line (takes_related at.last at.code at.profile at.only) (related_fits line && comes_behind at.only (related_order line)) at.transactions wide (λ unfit. not_behind n before line wide first b))
         | inr b ↦ elim (cases_Bool (identifier line == 53)) [
-          | inl d ↦ rw (a, b, d) (transaction_row code n before line (takes_amounts at.last at.code) (amounts_fit line) at.transactions wide first (rw (a, b, d) refl))
+          | inl d ↦ rw (a, b, d) (transaction_row code n before line (takes_amounts at.last at.code) (amounts_fit line) at.transactions wide (tested n before line (amounts_fit line) wide first (rw (a, b, d) refl)))
           | inr d ↦ elim (cases_Bool (identifier line == 56)) [
-            | inl e ↦ rw (a, b, d, e) (transaction_row code n before line (takes_form at.last at.code at.related (form_of line)) (form_fits line) at.transactions wide first (rw (a, b, d, e) refl))
+            | inl e ↦ rw (a, b, d, e) (transaction_row code n before line (takes_form at.last at.code at.related (form_of line)) (form_fits line) at.transactions wide (tested n before line (form_fits line) wide first (rw (a, b, d, e) refl)))
             | inr e ↦ rw (a, b, d, e) (trailer_row code n before at line is_standing wide first (λ z. rw (a, b, d, e, z) refl))
           ]
         ]
@@ -147,6 +158,15 @@ or_second false b h = h
 pub unfit_or : (a b line_fits : Bool) → line_fits ≡ false → (a || not line_fits || b) ≡ true
 unfit_or true b line_fits h = refl
 unfit_or false b line_fits h = rw h refl
+
+-- a record 3 whose fields fit
+pub second_fits : (first : Bool) (line : List ℕ) → record_fits first line ≡ true → may_be_second first line ≡ true → (identifier line ≡ 51) × (related_fits line ≡ true)
+second_fits true line fit second = absurd (cc second)
+second_fits false line fit second = let name = eqb-true (identifier line) 51 second in (name, rw name at fit)
+
+-- a record whose fields fit, and that is no record 3
+pub form_passed : (narrow fit second : Bool) → fit ≡ true → second ≡ false → (narrow || (fit && not second)) ≡ true
+form_passed narrow fit second passes other = or_second narrow (fit && not second) (rw (passes, other) refl)
 
 -- where nothing is found, a test holds, and so with another test before it
 pub none_or : (found : Option Reason) (a b : Bool) → IfNone found (b ≡ true) → IfNone found ((a || b) ≡ true)

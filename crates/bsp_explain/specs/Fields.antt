@@ -16,15 +16,18 @@ is_transaction_code text = bytes_eq text (codes "TKTT") || bytes_eq text (codes 
 abbrev pub is_document_code : List ℕ → Bool
 is_document_code text = is_transaction_code text || bytes_eq text (codes "ADMA") || bytes_eq text (codes "ACMA")
 
+abbrev pub is_file_form : List ℕ → Bool
+is_file_form text = bytes_eq text (codes "PROD001") || bytes_eq text (codes "PROD002")
+
 abbrev pub is_form_of_payment : List ℕ → Bool
 is_form_of_payment text = bytes_eq text (codes "CA") || bytes_eq text (codes "CC") || bytes_eq text (codes "EX")
 
 -- a text is in the form
 unfoldable pub fits : Form → List ℕ → Bool
 fits HeaderMark text = bytes_eq text (codes "1")
-fits Profile text = bytes_eq text (codes "001")
+fits Profile text = bytes_eq text (codes "001") || bytes_eq text (codes "002")
 fits Production text = bytes_eq text (codes "PROD")
-fits ProductionProfile text = bytes_eq text (codes "PROD001")
+fits ProductionProfile text = is_file_form text
 fits Letters text = list_all is_letter text
 fits LettersOrDigits text = list_all is_letter_or_digit text
 fits Digits text = all_ascii_digits text

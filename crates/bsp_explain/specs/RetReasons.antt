@@ -62,6 +62,7 @@ Says n before line (reason.TransactionNumber wanted) =
     (wanted ≡ wanted_number line before.transactions) × (has_next_number before.transactions line ≡ false)
 Says n before line (reason.Place c) =
     (identifier line ≡ c) × (has_next_number before.transactions line ≡ true) × (c ≢ 56)
+Says n before line reason.RelatedOrder = (identifier line ≡ 51) × (related_fits line ≡ true)
 Says n before line reason.Payment = (identifier line ≡ 56) × (has_next_number before.transactions line ≡ true)
 Says n before line (reason.RecordCount stated counted) =
     (stated ≡ number_of (record_count line)) × (counted ≡ n) × (stated ≢ counted)
@@ -82,6 +83,7 @@ is_reason_of F03 (reason.Place c) = true
 is_reason_of F03 reason.Payment = true
 is_reason_of F04 (reason.Unfit f) = true
 is_reason_of F05 (reason.Unfit f) = true
+is_reason_of F05 reason.RelatedOrder = true
 is_reason_of F06 (reason.RecordCount stated counted) = true
 is_reason_of F06 (reason.TransactionCount stated counted) = true
 is_reason_of F07 (reason.Sum stated summed) = true
@@ -90,13 +92,17 @@ is_reason_of F09 reason.AfterTrailer = true
 is_reason_of F10 reason.NoMemory = true
 is_reason_of _ _ = false
 
+-- a record 3, which may be the second of its group
+abbrev pub may_be_second : Bool → List ℕ → Bool
+may_be_second is_first line = not is_first && (identifier line == 51)
+
 -- record number n is not at fault in that row, whatever its place
 abbrev pub is_without : FaultCode → ℕ → Before → List ℕ → Bool
 is_without F01 n before line = is_wide line
 is_without F02 n before line = not (is_wide line) || record_fits (n == 1) line
 is_without F03 n before line = not (is_wide line)
 is_without F04 n before line = not (is_wide line) || record_fits (n == 1) line
-is_without F05 n before line = not (is_wide line) || record_fits (n == 1) line
+is_without F05 n before line = not (is_wide line) || (record_fits (n == 1) line && not (may_be_second (n == 1) line))
 is_without F06 n before line = not (is_wide line) || not (trailer_fits line) || has_stated n before.transactions line
 is_without F07 n before line = not (is_wide line) || not (trailer_fits line) || has_value before.sum (zoned_reading 15 (total line))
 is_without _ n before line = false

@@ -1,7 +1,7 @@
 //! The form that a field has to have.
 
 ghost use Rattle.std.specs.Prelude.{◌≡◌, length, true};
-ghost use Rattle.bsp_explain.specs.Fields.{fits, is_document_code, is_form_of_payment, is_transaction_code, takes_width};
+ghost use Rattle.bsp_explain.specs.Fields.{fits, is_document_code, is_file_form, is_form_of_payment, is_transaction_code, takes_width};
 
 use bsp_records::{
     all_digits, all_letters, all_letters_or_digits, all_spaces, is_amount, is_record_day, is_total,
@@ -16,11 +16,11 @@ use std::fmt;
 pub enum Form {
     /// `1`, the identifier of a header.
     HeaderMark,
-    /// `001`, the profile of a RET file.
+    /// `001` or `002`, the profile of a RET file.
     Profile,
     /// `PROD`, of a file that is no test.
     Production,
-    /// `PROD001`, of a HOT file.
+    /// `PROD001` or `PROD002`, of a HOT file of form 1 or 2.
     ProductionProfile,
     /// Letters from A to Z.
     Letters,
@@ -64,6 +64,13 @@ fn is_document_code(text: &[u8]) -> bool
     is_transaction_code(text) || text == b"ADMA".as_slice() || text == b"ACMA".as_slice()
 }
 
+/// Whether a text is what BFH01 has of a HOT file's form.
+fn is_file_form(text: &[u8]) -> bool
+    ensures { result ≡ is_file_form text.now }
+{
+    text == b"PROD001".as_slice() || text == b"PROD002".as_slice()
+}
+
 /// Whether a text is a form of payment.
 fn is_form_of_payment(text: &[u8]) -> bool
     ensures { result ≡ is_form_of_payment text.now }
@@ -80,9 +87,9 @@ impl Form {
     {
         match self {
             Form::HeaderMark => text == b"1".as_slice(),
-            Form::Profile => text == b"001".as_slice(),
+            Form::Profile => matches!(text, b"001" | b"002"),
             Form::Production => text == b"PROD".as_slice(),
-            Form::ProductionProfile => text == b"PROD001".as_slice(),
+            Form::ProductionProfile => is_file_form(text),
             Form::Letters => all_letters(text),
             Form::LettersOrDigits => all_letters_or_digits(text),
             Form::Digits => all_digits(text),
@@ -102,9 +109,9 @@ impl Form {
     fn text(self) -> &'static str {
         match self {
             Form::HeaderMark => "is not `1`",
-            Form::Profile => "is not `001`",
+            Form::Profile => "is neither `001` nor `002`",
             Form::Production => "is not `PROD`",
-            Form::ProductionProfile => "is not `PROD001`",
+            Form::ProductionProfile => "is not `PROD001` or `PROD002`",
             Form::Letters => "has a character that is not a letter from A to Z",
             Form::LettersOrDigits =>
                 "has a character that is neither a digit nor a letter from A to Z",

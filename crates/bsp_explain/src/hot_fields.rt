@@ -1,15 +1,17 @@
 //! The fields of the records of a HOT file from column 14 on, by their columns.
 
-ghost use Rattle.std.specs.Prelude.{◌≡◌, length, true, false, IfSome, IfNone};
-ghost use Rattle.bsp_hot_records.specs.Records.{name_of, fields_fit};
-ghost use Rattle.bsp_explain.specs.Fields.{all_fit, first_unfit, IsAtFault};
-ghost use Rattle.bsp_explain.specs.HotFields.{card_form, payment_fields, amounts_fields, hot_fields};
+ghost use Rattle.std.specs.Prelude.{◌≡◌, ◌≤◌, ◌++◌, length, true, false, IfSome, IfNone};
+ghost use Rattle.std.specs.List.{list_all};
+ghost use Rattle.bsp_hot_records.specs.declared.form.FileForm.{FileForm};
+ghost use Rattle.bsp_hot_records.specs.Records.{fields_fit};
+ghost use Rattle.bsp_explain.specs.Fields.{all_fit, first_unfit, is_inside, IsAtFault};
+ghost use Rattle.bsp_explain.specs.HotFields.{card_form, payment_fields, amounts_fields, rest_fields, hot_fields};
 
 use crate::field::{Field, field, first_unfit};
 use crate::form::Form;
 use crate::name::Name;
 use crate::taxes::tax_field;
-use bsp_hot_records::RecordName;
+use bsp_hot_records::{FileForm, RecordName};
 
 /// BFH01.
 const FILE_HEADER: [Field; 6] = [
@@ -73,6 +75,14 @@ const COMMISSION: [Field; 4] = [
     field!(38, 136, Form::Spaces, Name::Unused),
 ];
 
+/// BKS42.
+const COMMISSION_TAX: [Field; 4] = [
+    field!(14, 21, Form::Digits, Name::TransactionNumber),
+    field!(22, 26, Form::AtMost(10_000), Name::CommissionTaxRate),
+    field!(27, 37, Form::Amount, Name::CommissionTax),
+    field!(38, 136, Form::Spaces, Name::Unused),
+];
+
 /// BKS45.
 const RELATED: [Field; 5] = [
     field!(14, 21, Form::Digits, Name::TransactionNumber),
@@ -82,8 +92,8 @@ const RELATED: [Field; 5] = [
     field!(36, 136, Form::Spaces, Name::Unused),
 ];
 
-/// BOT93.
-const CODE_TOTALS: [Field; 8] = [
+/// BOT93 up to the net.
+const CODE_TOTALS: [Field; 7] = [
     field!(14, 21, Form::Digits, Name::Agent),
     field!(22, 25, Form::DocumentCode, Name::DocumentCode),
     field!(26, 33, Form::Digits, Name::Documents),
@@ -91,22 +101,20 @@ const CODE_TOTALS: [Field; 8] = [
     field!(49, 63, Form::Total, Name::Credit),
     field!(64, 78, Form::Total, Name::Commission),
     field!(79, 93, Form::Total, Name::Net),
-    field!(94, 136, Form::Spaces, Name::Unused),
 ];
 
-/// BOT94.
-const OFFICE_TOTALS: [Field; 7] = [
+/// BOT94 up to the net.
+const OFFICE_TOTALS: [Field; 6] = [
     field!(14, 21, Form::Digits, Name::Agent),
     field!(22, 29, Form::Digits, Name::Documents),
     field!(30, 44, Form::Total, Name::Cash),
     field!(45, 59, Form::Total, Name::Credit),
     field!(60, 74, Form::Total, Name::Commission),
     field!(75, 89, Form::Total, Name::Net),
-    field!(90, 136, Form::Spaces, Name::Unused),
 ];
 
-/// BCT95.
-const PERIOD_TOTALS: [Field; 8] = [
+/// BCT95 up to the net.
+const PERIOD_TOTALS: [Field; 7] = [
     field!(14, 18, Form::Digits, Name::Period),
     field!(19, 26, Form::Digits, Name::Offices),
     field!(27, 34, Form::Digits, Name::Documents),
@@ -114,11 +122,10 @@ const PERIOD_TOTALS: [Field; 8] = [
     field!(50, 64, Form::Total, Name::Credit),
     field!(65, 79, Form::Total, Name::Commission),
     field!(80, 94, Form::Total, Name::Net),
-    field!(95, 136, Form::Spaces, Name::Unused),
 ];
 
-/// BFT99.
-const FILE_TOTALS: [Field; 8] = [
+/// BFT99 up to the net.
+const FILE_TOTALS: [Field; 7] = [
     field!(14, 16, Form::Digits, Name::Airline),
     field!(17, 24, Form::Digits, Name::RecordCount),
     field!(25, 32, Form::Digits, Name::Documents),
@@ -126,7 +133,6 @@ const FILE_TOTALS: [Field; 8] = [
     field!(48, 62, Form::Total, Name::Credit),
     field!(63, 77, Form::Total, Name::Commission),
     field!(78, 92, Form::Total, Name::Net),
-    field!(93, 136, Form::Spaces, Name::Unused),
 ];
 
 /// The first field of BKS30.
@@ -134,8 +140,8 @@ const FILE_TOTALS: [Field; 8] = [
 fn amounts_field(line: &[u8]) -> Option<Field>
     requires { length line.now ≡ 136 }
     ensures first { result ≡ first_unfit line.now (amounts_fields line.now) }
-    ensures none { IfNone result (fields_fit RecordName.Bks30 line.now ≡ true) }
-    ensures some { IfSome result (λ field. IsAtFault line.now field × (fields_fit RecordName.Bks30 line.now ≡ false)) }
+    ensures none { (form : FileForm) → IfNone result (fields_fit form RecordName.Bks30 line.now ≡ true) }
+    ensures some { (form : FileForm) → IfSome result (λ field. IsAtFault line.now field × (fields_fit form RecordName.Bks30 line.now ≡ false)) }
 {
     let fare = first_unfit(line, &FARE);
     let tax = tax_field(line, 33);
@@ -159,8 +165,8 @@ fn card_form(payment: &[u8]) -> Form
 fn payment_field(line: &[u8]) -> Option<Field>
     requires { length line.now ≡ 136 }
     ensures first { result ≡ first_unfit line.now (payment_fields line.now) }
-    ensures none { IfNone result (fields_fit RecordName.Bkp84 line.now ≡ true) }
-    ensures some { IfSome result (λ field. IsAtFault line.now field × (fields_fit RecordName.Bkp84 line.now ≡ false)) }
+    ensures none { (form : FileForm) → IfNone result (fields_fit form RecordName.Bkp84 line.now ≡ true) }
+    ensures some { (form : FileForm) → IfSome result (λ field. IsAtFault line.now field × (fields_fit form RecordName.Bkp84 line.now ≡ false)) }
 {
     let vendor = card_form(&line[21..23]);
     first_unfit(
@@ -175,13 +181,56 @@ fn payment_field(line: &[u8]) -> Option<Field>
     )
 }
 
-/// The first field of a record of that name that is not in its form, from column 14 on.
+/// The first field behind the net of totals, from that column on: in form 2 the tax on commission, and
+/// then columns that no field uses.
+fn rest_field(form: FileForm, line: &[u8], first: u8) -> Option<Field>
+    requires wide { length line.now ≡ 136 }
+    requires from { 1 ≤ first }
+    requires to { first ≤ 121 }
+    ensures first { result ≡ first_unfit line.now (rest_fields form first) }
+    ensures none { IfNone result (all_fit line.now (rest_fields form first) ≡ true) }
+    ensures some { IfSome result (λ field. IsAtFault line.now field × (all_fit line.now (rest_fields form first) ≡ false)) }
+{
+    match form {
+        FileForm::One => first_unfit(line, &[field!(first, 136, Form::Spaces, Name::Unused)]),
+        FileForm::Two => {
+            let last = first + 14;
+            let behind = first + 15;
+            first_unfit(
+                line,
+                &[
+                    field!(first, last, Form::Total, Name::CommissionTax),
+                    field!(behind, 136, Form::Spaces, Name::Unused),
+                ],
+            )
+        }
+    }
+}
+
+/// The first field of totals: of these up to the net, and of those behind it from that column on.
+#[tactic(auto, using(crate::proofs::Finding::first_of_two))]
+fn totals_field(form: FileForm, line: &[u8], fields: &[Field], behind: u8) -> Option<Field>
+    requires wide { length line.now ≡ 136 }
+    requires inside { list_all is_inside fields.now ≡ true }
+    requires from { 1 ≤ behind }
+    requires to { behind ≤ 121 }
+    ensures first { result ≡ first_unfit line.now (fields.now ++ rest_fields form behind) }
+    ensures none { IfNone result (all_fit line.now (fields.now ++ rest_fields form behind) ≡ true) }
+    ensures some { IfSome result (λ field. IsAtFault line.now field × (all_fit line.now (fields.now ++ rest_fields form behind) ≡ false)) }
+{
+    let total = first_unfit(line, fields);
+    let rest = rest_field(form, line, behind);
+    total.or(rest)
+}
+
+/// The first field of a record of that name, of a file of that form, that is not in its form, from
+/// column 14 on.
 #[tactic(auto, using(crate::proofs::HotLemmas::hot_is))]
-pub fn hot_field(name: RecordName, line: &[u8]) -> Option<Field>
+pub fn hot_field(form: FileForm, name: RecordName, line: &[u8]) -> Option<Field>
     requires { length line.now ≡ 136 }
-    ensures first { result ≡ first_unfit line.now (hot_fields name line.now) }
-    ensures none { IfNone result (fields_fit name line.now ≡ true) }
-    ensures some { IfSome result (λ field. IsAtFault line.now field × (fields_fit name line.now ≡ false)) }
+    ensures first { result ≡ first_unfit line.now (hot_fields form name line.now) }
+    ensures none { IfNone result (fields_fit form name line.now ≡ true) }
+    ensures some { IfSome result (λ field. IsAtFault line.now field × (fields_fit form name line.now ≡ false)) }
 {
     match name {
         RecordName::Bfh01 => first_unfit(line, &FILE_HEADER),
@@ -191,11 +240,12 @@ pub fn hot_field(name: RecordName, line: &[u8]) -> Option<Field>
         RecordName::Bks24 => first_unfit(line, &DOCUMENT),
         RecordName::Bks30 => amounts_field(line),
         RecordName::Bks39 => first_unfit(line, &COMMISSION),
+        RecordName::Bks42 => first_unfit(line, &COMMISSION_TAX),
         RecordName::Bks45 => first_unfit(line, &RELATED),
         RecordName::Bkp84 => payment_field(line),
-        RecordName::Bot93 => first_unfit(line, &CODE_TOTALS),
-        RecordName::Bot94 => first_unfit(line, &OFFICE_TOTALS),
-        RecordName::Bct95 => first_unfit(line, &PERIOD_TOTALS),
-        RecordName::Bft99 => first_unfit(line, &FILE_TOTALS),
+        RecordName::Bot93 => totals_field(form, line, &CODE_TOTALS, 94),
+        RecordName::Bot94 => totals_field(form, line, &OFFICE_TOTALS, 90),
+        RecordName::Bct95 => totals_field(form, line, &PERIOD_TOTALS, 95),
+        RecordName::Bft99 => totals_field(form, line, &FILE_TOTALS, 93),
     }
 }

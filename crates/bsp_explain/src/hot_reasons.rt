@@ -8,7 +8,7 @@ ghost use Rattle.bsp_explain.specs.HotReasons.{SaysOfNamed, SaysOfHot, named_fit
 use crate::hot_fields::hot_field;
 use crate::reason::Reason;
 use crate::width::width_reason;
-use bsp_hot_records::RecordName;
+use bsp_hot_records::{FileForm, RecordName};
 use bsp_records::spells;
 
 /// The name of a record that has these digits.
@@ -24,6 +24,7 @@ fn name_of(digits: &[u8]) -> Option<RecordName>
         b"24" => Some(RecordName::Bks24),
         b"30" => Some(RecordName::Bks30),
         b"39" => Some(RecordName::Bks39),
+        b"42" => Some(RecordName::Bks42),
         b"45" => Some(RecordName::Bks45),
         b"84" => Some(RecordName::Bkp84),
         b"93" => Some(RecordName::Bot93),
@@ -34,30 +35,32 @@ fn name_of(digits: &[u8]) -> Option<RecordName>
     }
 }
 
-/// What is wrong with the letters or a field of a record whose digits are those of that name.
-fn named_reason(name: RecordName, line: &[u8]) -> Option<Reason>
+/// What is wrong with the letters or a field of a record whose digits are those of that name, in a
+/// file of that form.
+fn named_reason(form: FileForm, name: RecordName, line: &[u8]) -> Option<Reason>
     requires { length line.now ≡ 136 }
-    ensures some { IfSome result (λ reason. SaysOfNamed name line.now reason × (named_fits name line.now ≡ false)) }
-    ensures none { IfNone result (named_fits name line.now ≡ true) }
+    ensures some { IfSome result (λ reason. SaysOfNamed form name line.now reason × (named_fits form name line.now ≡ false)) }
+    ensures none { IfNone result (named_fits form name line.now ≡ true) }
 {
     if &line[..3] != name.letters().as_slice() {
         return Some(Reason::NameLetters);
     }
-    match hot_field(name, line) {
+    match hot_field(form, name, line) {
         Some(field) => Some(Reason::Unfit(field)),
         None => None,
     }
 }
 
-/// What is wrong with a line as record number `number` of a HOT file, whatever the lines before it.
+/// What is wrong with a line as record number `number` of a HOT file of that form, whatever the lines
+/// before it.
 /// `None` where it is a record with that number.
 #[tactic(auto, using(crate::proofs::HotRows::narrow_record, crate::proofs::HotRows::other_number, crate::proofs::HotRows::no_name, crate::proofs::HotRows::unfit_record, crate::proofs::HotRows::fit_record))]
-pub fn hot_reason(number: usize, line: &[u8]) -> Option<Reason>
+pub fn hot_reason(form: FileForm, number: usize, line: &[u8]) -> Option<Reason>
     // The reason is true of the line, and then the line is no record with that number.
-    ensures says { IfSome result (SaysOfHot number line.now) }
-    ensures refused { IfSome result (λ reason. record_at number line.now ≡ None) }
+    ensures says { IfSome result (SaysOfHot form number line.now) }
+    ensures refused { IfSome result (λ reason. record_at form number line.now ≡ None) }
     // There is a reason for each line that is none.
-    ensures none { IfNone result (IsSome (record_at number line.now)) }
+    ensures none { IfNone result (IsSome (record_at form number line.now)) }
 {
     if let Some(reason) = width_reason(line) {
         return Some(reason);
@@ -66,7 +69,7 @@ pub fn hot_reason(number: usize, line: &[u8]) -> Option<Reason>
         return Some(Reason::SequenceNumber(number));
     }
     match name_of(&line[11..13]) {
-        Some(name) => named_reason(name, line),
+        Some(name) => named_reason(form, name, line),
         None => Some(Reason::NameDigits),
     }
 }

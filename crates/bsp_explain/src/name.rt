@@ -48,6 +48,10 @@ pub enum Name {
     Rate,
     /// The commission.
     Commission,
+    /// The rate of tax on commission.
+    CommissionTaxRate,
+    /// The tax on commission.
+    CommissionTax,
     /// The form of payment.
     FormOfPayment,
     /// The amount.
@@ -138,6 +142,8 @@ impl Name {
             Name::Cash => "the total of cash",
             Name::Credit => "the total of credit",
             Name::Net => "the net total",
+            Name::CommissionTaxRate => "the rate of tax on commission",
+            Name::CommissionTax => "the tax on commission",
             // (`Unused`: `text` names all others)
             _ => "the rest of the record",
         }

@@ -32,6 +32,9 @@ pub enum Reason {
     /// The record with this identifier may not follow those before it.
     #[error("a record `{0}` is not allowed here")]
     Place(char),
+    /// The second of two records 3 does not come behind the first, by its airline and its document.
+    #[error("the related document does not come after the one before it")]
+    RelatedOrder,
     /// The record 8, or its form of payment, may not follow those before it.
     #[error("a record `8`, or this form of payment, is not allowed here")]
     Payment,
@@ -93,6 +96,7 @@ impl Reason {
             Reason::Unfit(field) => Some((field.first, field.last)),
             Reason::Identifier(_) | Reason::Place(_) => Some((1, 1)),
             Reason::TransactionNumber(_) => Some((2, 7)),
+            Reason::RelatedOrder => Some((8, 20)),
             Reason::Payment => Some((1, 9)),
             Reason::RecordCount { .. } => Some((2, 8)),
             Reason::TransactionCount { .. } => Some((9, 15)),

@@ -7,7 +7,7 @@ ghost use Rattle.bsp_records.specs.Columns.{is_wide};
 ghost use Rattle.bsp_ret_records.specs.Records.{IsFit, trailer_fits, total};
 ghost use Rattle.bsp_ret.specs.Table.{has_value};
 ghost use Rattle.bsp_explain.specs.Fields.{first_unfit, IsAtFault};
-ghost use Rattle.bsp_explain.specs.RetReasons.{record_fits, record_fields, wanted_number, has_number, has_next_number, Says, is_reason_of, has_stated, is_without};
+ghost use Rattle.bsp_explain.specs.RetReasons.{record_fits, record_fields, wanted_number, has_number, has_next_number, Says, is_reason_of, has_stated, may_be_second, is_without};
 
 use crate::before::Before;
 use crate::field::Field;
@@ -160,6 +160,32 @@ fn field_fault(number: usize, line: &[u8]) -> Option<Reason>
     field_reason(number, line)
 }
 
+/// Whether a record may be the second record 3 of its group.
+fn may_be_second(number: usize, line: &[u8]) -> bool
+    requires { length line.now ≡ 136 }
+    ensures { result ≡ may_be_second (number == 1) line.now }
+{
+    number != 1 && line[0] == b'3'
+}
+
+/// Which field is not in its form, or that a record 3 does not come behind the one before it.
+fn form_fault(number: usize, line: &[u8]) -> Option<Reason>
+    ensures says { (before : Before) → IfSome result (Says number before line.now) }
+    ensures row { IfSome result (λ reason. is_reason_of FaultCode.F05 reason ≡ true) }
+    ensures none { (before : Before) → IfNone result (is_without FaultCode.F05 number before line.now ≡ true) }
+{
+    if line.len() != 136 {
+        return None;
+    }
+    if let Some(reason) = field_reason(number, line) {
+        return Some(reason);
+    }
+    if may_be_second(number, line) {
+        return Some(Reason::RelatedOrder);
+    }
+    None
+}
+
 /// Why a record of the right width may not follow those before it.
 fn place_fault(line: &[u8], before: Before) -> Option<Reason>
     requires { before.transactions < 2 ^ 64 - 1 }
@@ -215,6 +241,7 @@ pub fn ret_reason(fault: RetFault, line: &[u8], before: Before) -> Option<Reason
 {
     let width = width_reason(line);
     let field = field_fault(fault.at, line);
+    let form = form_fault(fault.at, line);
     let place = place_fault(line, before);
     let count = count_fault(line, fault.at, before);
     let sum = sum_fault(line, before);
@@ -223,7 +250,7 @@ pub fn ret_reason(fault: RetFault, line: &[u8], before: Before) -> Option<Reason
         FaultCode::F02 => field,
         FaultCode::F03 => place,
         FaultCode::F04 => field,
-        FaultCode::F05 => field,
+        FaultCode::F05 => form,
         FaultCode::F06 => count,
         FaultCode::F07 => sum,
         FaultCode::F08 => Some(Reason::NoTrailer),

@@ -12,7 +12,7 @@ ghost use Rattle.bsp_hot.specs.Sorting.{entry_of, IsRow};
 ghost use Rattle.bsp_calendar.specs.declared.entries.Period.{Period as ClosedPeriod};
 ghost use Rattle.bsp_calendar.specs.declared.entries.Terms.{Terms as PublishedTerms};
 ghost use Rattle.bsp_hot.specs.Rows.{entries};
-ghost use Rattle.bsp_hot.specs.Files.{file_of, IsWritten, AnswersOver};
+ghost use Rattle.bsp_hot.specs.Files.{file_of, form_of, IsWritten, AnswersOver};
 ghost use Rattle.bsp_hot.specs.Sound.{AreApart, AreInBounds, KeepRules, IsHotFileOver};
 ghost use Rattle.bsp_hot.specs.WrittenText.{IsTextOf, AreFactsOf};
 
@@ -22,6 +22,7 @@ use crate::output::{LINE, Output};
 use crate::rows::{Row, rows_in_order};
 use bsp_calendar::{Currency, Period, Plan};
 use bsp_fields::{AirlineCode, PeriodCode};
+use bsp_hot_check::FileForm;
 use bsp_memos::Memo;
 use bsp_postings::Tally;
 use bsp_rules::Item;
@@ -49,12 +50,23 @@ impl FileFacts {
     }
 }
 
+/// The form of the files of a period.
+fn form_of(plan: &Plan, period: &Period) -> FileForm
+    ensures { result ≡ form_of plan.now period.now }
+{
+    if plan.is_taxed(period) {
+        FileForm::Two
+    } else {
+        FileForm::One
+    }
+}
+
 /// The file over rows in order.
 fn write_file(mut out: Output, file: &FileFacts, rows: &[Row]) -> Result<Vec<u8>, HotFault>
     requires rows { All IsRow rows.now }
     requires empty { out.text.items ≡ [] }
     requires none { out.records ≡ 0 }
-    ensures { IsTextOf (λ text. text.items) (records_of (file_of file.now.airline file.now.period file.now.currency (map entry_of rows.now))) result }
+    ensures { IsTextOf (λ text. text.items) out.form (records_of (file_of out.form file.now.airline file.now.period file.now.currency (map entry_of rows.now))) result }
 {
     out.push_file_header(file.airline, &file.period, &file.currency)?;
     out.push_period_header(&file.period)?;
@@ -75,14 +87,15 @@ fn write_over<'a>(
     plan: &Plan,
 ) -> Result<Vec<u8>, HotFault>
     ensures written { AnswersOver (λ text. text.items) plan.now airline period (entries airline period items.now memos.now) result }
-    ensures only { IfOk result (λ text. (q : ClosedPeriod) (terms : PublishedTerms) (other : List ℕ) → closed_period plan.now period ≡ Some q → plan.now.terms ≡ Some terms → IsWritten airline q terms.currency (entries airline period items.now memos.now) other → other ≡ text.items) }
+    ensures only { IfOk result (λ text. (q : ClosedPeriod) (terms : PublishedTerms) (other : List ℕ) → closed_period plan.now period ≡ Some q → plan.now.terms ≡ Some terms → IsWritten (form_of plan.now q) airline q terms.currency (entries airline period items.now memos.now) other → other ≡ text.items) }
     ensures order { (others : List ItemRow) (other_memos : List MemoRow) → IsPermutation items.now others → IsPermutation memos.now other_memos → AllPairs AreApart (entries airline period items.now memos.now) → AnswersOver (λ text. text.items) plan.now airline period (entries airline period others other_memos) result }
     ensures part { (others : List ItemRow) (other_memos : List MemoRow) → HaveOnePart airline items.now others memos.now other_memos → AnswersOver (λ text. text.items) plan.now airline period (entries airline period others other_memos) result }
-    ensures stands { KeepRules airline period items.now memos.now → IfOk result (λ text. (q : ClosedPeriod) × (terms : PublishedTerms) × (closed_period plan.now period ≡ Some q) × (plan.now.terms ≡ Some terms) × IsHotFileOver airline q terms.currency (entries airline period items.now memos.now) text.items) }
+    ensures stands { KeepRules airline period items.now memos.now → IfOk result (λ text. (q : ClosedPeriod) × (terms : PublishedTerms) × (closed_period plan.now period ≡ Some q) × (plan.now.terms ≡ Some terms) × IsHotFileOver (form_of plan.now q) airline q terms.currency (entries airline period items.now memos.now) text.items) }
 {
     let file = FileFacts::of(airline, period, plan).ok_or(HotFault::NotClosed)?;
+    let form = form_of(plan, &file.period);
     let rows = rows_in_order(alloc, airline, period, items, memos)?;
-    write_file(Output::with_room(alloc, room), &file, &rows)
+    write_file(Output::with_room(alloc, room, form), &file, &rows)
 }
 
 /// The HOT file of an airline for a closed period, over the airline's rows among those passed, in
@@ -106,22 +119,22 @@ pub fn write_hot<'a>(
 ) -> Result<Vec<u8>, HotFault>
     // The text of the records of the definition.
     ensures written { AnswersOver (λ text. text.items) plan.now airline period (entries airline period items.now memos.now) result }
-    ensures only { IfOk result (λ text. (q : ClosedPeriod) (terms : PublishedTerms) (other : List ℕ) → closed_period plan.now period ≡ Some q → plan.now.terms ≡ Some terms → IsWritten airline q terms.currency (entries airline period items.now memos.now) other → other ≡ text.items) }
+    ensures only { IfOk result (λ text. (q : ClosedPeriod) (terms : PublishedTerms) (other : List ℕ) → closed_period plan.now period ≡ Some q → plan.now.terms ≡ Some terms → IsWritten (form_of plan.now q) airline q terms.currency (entries airline period items.now memos.now) other → other ≡ text.items) }
     ensures order { (others : List ItemRow) (other_memos : List MemoRow) → IsPermutation items.now others → IsPermutation memos.now other_memos → AllPairs AreApart (entries airline period items.now memos.now) → AnswersOver (λ text. text.items) plan.now airline period (entries airline period others other_memos) result }
     ensures part { (others : List ItemRow) (other_memos : List MemoRow) → HaveOnePart airline items.now others memos.now other_memos → AnswersOver (λ text. text.items) plan.now airline period (entries airline period others other_memos) result }
     // For rows that keep the rules of the book it is a HOT file.
-    ensures stands { KeepRules airline period items.now memos.now → IfOk result (λ text. (q : ClosedPeriod) × (terms : PublishedTerms) × (closed_period plan.now period ≡ Some q) × (plan.now.terms ≡ Some terms) × IsHotFileOver airline q terms.currency (entries airline period items.now memos.now) text.items) }
+    ensures stands { KeepRules airline period items.now memos.now → IfOk result (λ text. (q : ClosedPeriod) × (terms : PublishedTerms) × (closed_period plan.now period ≡ Some q) × (plan.now.terms ≡ Some terms) × IsHotFileOver (form_of plan.now q) airline q terms.currency (entries airline period items.now memos.now) text.items) }
 {
     write_over(alloc, 0, airline, period, items, memos, plan)
 }
 
-/// About as many bytes as the file of these tallies has. It has six records for each TKTT and RFND,
-/// two for each CANX, four for each memo, seven more for each agent, and four.
+/// About as many bytes as the file of these tallies has: room for seven records of each TKTT and RFND,
+/// which few exceed, two of each CANX, four of each memo, seven more of each agent, and four.
 fn room_for(airline: AirlineCode, period: PeriodCode, tallies: &[Tally]) -> usize {
     let mut records = 4_usize;
     for tally in tallies {
         if tally.airline == airline && tally.period == period {
-            let documents = 6 * tally.living as u64
+            let documents = 7 * tally.living as u64
                 + 2 * tally.canx as u64
                 + 4 * tally.memo_count as u64;
             records = records.saturating_add(7 + documents as usize);
@@ -146,10 +159,10 @@ pub fn write_hot_of<'a>(
     plan: &Plan,
 ) -> Result<Vec<u8>, HotFault>
     ensures written { AnswersOver (λ text. text.items) plan.now airline period (entries airline period items.now memos.now) result }
-    ensures only { IfOk result (λ text. (q : ClosedPeriod) (terms : PublishedTerms) (other : List ℕ) → closed_period plan.now period ≡ Some q → plan.now.terms ≡ Some terms → IsWritten airline q terms.currency (entries airline period items.now memos.now) other → other ≡ text.items) }
+    ensures only { IfOk result (λ text. (q : ClosedPeriod) (terms : PublishedTerms) (other : List ℕ) → closed_period plan.now period ≡ Some q → plan.now.terms ≡ Some terms → IsWritten (form_of plan.now q) airline q terms.currency (entries airline period items.now memos.now) other → other ≡ text.items) }
     ensures order { (others : List ItemRow) (other_memos : List MemoRow) → IsPermutation items.now others → IsPermutation memos.now other_memos → AllPairs AreApart (entries airline period items.now memos.now) → AnswersOver (λ text. text.items) plan.now airline period (entries airline period others other_memos) result }
     ensures part { (others : List ItemRow) (other_memos : List MemoRow) → HaveOnePart airline items.now others memos.now other_memos → AnswersOver (λ text. text.items) plan.now airline period (entries airline period others other_memos) result }
-    ensures stands { KeepRules airline period items.now memos.now → IfOk result (λ text. (q : ClosedPeriod) × (terms : PublishedTerms) × (closed_period plan.now period ≡ Some q) × (plan.now.terms ≡ Some terms) × IsHotFileOver airline q terms.currency (entries airline period items.now memos.now) text.items) }
+    ensures stands { KeepRules airline period items.now memos.now → IfOk result (λ text. (q : ClosedPeriod) × (terms : PublishedTerms) × (closed_period plan.now period ≡ Some q) × (plan.now.terms ≡ Some terms) × IsHotFileOver (form_of plan.now q) airline q terms.currency (entries airline period items.now memos.now) text.items) }
 {
     let room = room_for(airline, period, tallies);
     write_over(alloc, room, airline, period, items, memos, plan)

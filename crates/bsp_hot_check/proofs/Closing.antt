@@ -6,6 +6,7 @@ use Rattle.std.proofs.lemmas.Bool.{and_from, cases_Bool, ltb-true}
 use Rattle.std.proofs.lemmas.List.{map-append}
 use Rattle.bsp_hot_records.specs.declared.code.DocumentCode.{DocumentCode}
 use Rattle.bsp_hot_records.specs.declared.code.DocumentCode.TheVariants.{Tktt, Rfnd, Canx, Adma, Acma}
+use Rattle.bsp_hot_records.specs.declared.form.FileForm.{FileForm}
 use Rattle.bsp_hot_records.specs.declared.totals.Sums.{Sums}
 use Rattle.bsp_hot_records.specs.declared.model.Heading.{Heading as JudgedHeading}
 use Rattle.bsp_hot_records.specs.declared.model.Record.TheVariants as record_is
@@ -179,10 +180,10 @@ is_behind : (before : Option ℕ) (agent : ℕ) → is_agent_after before agent 
 is_behind None agent h = tt
 is_behind (Some x) agent h = ltb-true x agent h
 
-pub are_offices_snoc : (airline : ℕ) (before : Option ℕ) (offices : List Office) (o : Office) → AreOffices airline before offices → is_agent_after (last_agent before offices) o.agent ≡ true → 0 < length o.items → AreItems airline None o.items
-    → AreOffices airline before (offices ++ o ∷ [])
-are_offices_snoc airline before [] o are after some items = (is_behind before o.agent after, some, items, tt)
-are_offices_snoc airline before (x ∷ offices) o are after some items = (are.0, are.1, are.2, are_offices_snoc airline (Some x.agent) offices o are.3 after some items)
+pub are_offices_snoc : (form : FileForm) (airline : ℕ) (before : Option ℕ) (offices : List Office) (o : Office) → AreOffices form airline before offices → is_agent_after (last_agent before offices) o.agent ≡ true → 0 < length o.items → AreItems form airline None o.items
+    → AreOffices form airline before (offices ++ o ∷ [])
+are_offices_snoc form airline before [] o are after some items = (is_behind before o.agent after, some, items, tt)
+are_offices_snoc form airline before (x ∷ offices) o are after some items = (are.0, are.1, are.2, are_offices_snoc form airline (Some x.agent) offices o are.3 after some items)
 
 -- the office's records are those of its items and of all codes that have one
 office_whole_records : (f : File) (agent : ℕ) (items : List Item) (done : List DocumentCode) → filter (has_code items) all_codes ≡ done
@@ -214,7 +215,7 @@ totals f agent items done c is none =
           (same _ _ _ _ _ _ _ _ _ _ _ _ _ _ _ (one_more (so_far (totalled f agent items done c)) (so_far (between (with_office f agent items))) r records)
           refl (sym (length-append f.offices (o ∷ []))) (count_snoc f.offices o) (sym (file_sums_snoc f.offices o)) (sym (last_agent_snoc None f.offices o)) refl);
       records_are = records;
-      sound = are_offices_snoc f.heading.airline None f.offices o is.is_open.file is.is_open.after is.some is.is_open.are;
+      sound = are_offices_snoc f.heading.form f.heading.airline None f.offices o is.is_open.file is.is_open.after is.some is.is_open.are;
     }
 
 -- ---- BCT95 and BFT99

@@ -141,13 +141,13 @@ standing_of (ended f) = behind_offices f (length (records_of f)) Ended
 pub record IsOpen (f : File) (agent : ℕ) (items : List Item) : Type 0 where
   pub file : IsFile f
   pub after : is_agent_after (last_agent None f.offices) agent ≡ true
-  pub are : AreItems f.heading.airline None items
+  pub are : AreItems f.heading.form f.heading.airline None items
 
 -- an item may stand behind these
 pub record IsInItem (f : File) (agent : ℕ) (items : List Item) (d : Document) (g : PartialItem) : Type 0 where
   pub is_open : IsOpen f agent items
   pub in_order : is_key_after (latest_key items) (record { code = code_of g; number = d.number }) ≡ true
-  pub sound : IsSound f.heading.airline g
+  pub sound : IsSound f.heading.form f.heading.airline g
 
 -- these codes have their BOT93, and later ones may come
 pub record IsTotalling (f : File) (agent : ℕ) (items : List Item) (done : List DocumentCode) (c : DocumentCode) : Type 0 where

@@ -8,33 +8,35 @@ use Rattle.std.proofs.Math.Seq.{take-append_seam, take-append-add}
 use Rattle.bsp_records.specs.Lines.{lines, BeginsOtherwise}
 use Rattle.bsp_records.specs.Columns.{columns, is_wide}
 use Rattle.bsp_records.specs.Fields.{spells}
+use Rattle.bsp_hot_records.specs.declared.form.FileForm.{FileForm}
 use Rattle.bsp_hot_records.specs.declared.name.RecordName.{RecordName}
 use Rattle.bsp_hot_check.specs.declared.model.Place.TheVariants.{Ended}
 use Rattle.bsp_hot_check.specs.declared.model.Standing.{Standing}
 use Rattle.bsp_hot_records.specs.Records.{Record, letters, name_of, fields_fit, record_of, IsRecord, AreRecords}
 use Rattle.bsp_hot_check.specs.Hot.{File, records_of, Hot, BeginFile, IsFirstFault}
 use Rattle.bsp_hot_records.specs.Judged.{judged}
-use Rattle.bsp_hot_check.specs.Standings.{step, start, is_at}
+use Rattle.bsp_hot_check.specs.Standings.{step, start, form_at, is_at}
 use Rattle.bsp_hot_records.specs.Reading.{named_record, record_at}
 use Rattle.bsp_hot_check.specs.Judging.{step_or, step_line, or_fault, judge_from}
 use Rattle.bsp_hot_check.proofs.Drafts.{Draft, nothing, headed, between, opened, begun, in_item, totalled, closed, ended, so_far, standing_of, IsSoundDraft, Next}
 use Rattle.bsp_hot_check.proofs.Taken.{taken}
 use Rattle.bsp_hot_check.proofs.Chains.{Chain, file_chain, reaches}
+use Rattle.bsp_hot_check.proofs.FormLemmas.{form_of, read_first, records_before, records_behind, records_more}
 
 -- ---- a line as a record
 
-read_as : (n : ℕ) (line : List ℕ) (r : Record) → IsRecord n line r → record_at n line ≡ Some r
+read_as : (form : FileForm) (n : ℕ) (line : List ℕ) (r : Record) → IsRecord form n line r → record_at form n line ≡ Some r
 unfolding record_at
-read_as n line r is = rw (is.wide, is.sequence, is.digits, is.letters_are, is.fields, is.says) refl
+read_as form n line r is = rw (is.wide, is.sequence, is.digits, is.letters_are, is.fields, is.says) refl
 
-by_name : (n : ℕ) (line : List ℕ) (r : Record) (name : Option RecordName) → name_of (columns 12 13 line) ≡ name → is_wide line ≡ true → spells n (columns 4 11 line) ≡ true → named_record name line ≡ Some r → IsRecord n line r
-by_name n line r None e wide sequence h = absurd (cc h)
-by_name n line r (Some name) e wide sequence h =
-    elim (cases_Bool (bytes_eq (columns 1 3 line) (letters name) && fields_fit name line)) [
+by_name : (form : FileForm) (n : ℕ) (line : List ℕ) (r : Record) (name : Option RecordName) → name_of (columns 12 13 line) ≡ name → is_wide line ≡ true → spells n (columns 4 11 line) ≡ true → named_record form name line ≡ Some r → IsRecord form n line r
+by_name form n line r None e wide sequence h = absurd (cc h)
+by_name form n line r (Some name) e wide sequence h =
+    elim (cases_Bool (bytes_eq (columns 1 3 line) (letters name) && fields_fit form name line)) [
       | inl k ↦
-          let a : (bytes_eq (columns 1 3 line) (letters name) ≡ true) × (fields_fit name line ≡ true) = and_parts _ _ k in
-          let s : Some (record_of name line) ≡ Some r = rw k at h in
-          let says : r ≡ record_of name line = cc s in
+          let a : (bytes_eq (columns 1 3 line) (letters name) ≡ true) × (fields_fit form name line ≡ true) = and_parts _ _ k in
+          let s : Some (record_of form name line) ≡ Some r = rw k at h in
+          let says : r ≡ record_of form name line = cc s in
           record {
             name = name;
             wide = wide;
@@ -47,31 +49,31 @@ by_name n line r (Some name) e wide sequence h =
       | inr k ↦ let s : None ≡ Some r = rw k at h in absurd cc
     ]
 
-is_read : (n : ℕ) (line : List ℕ) (r : Record) → record_at n line ≡ Some r → IsRecord n line r
+is_read : (form : FileForm) (n : ℕ) (line : List ℕ) (r : Record) → record_at form n line ≡ Some r → IsRecord form n line r
 unfolding record_at
-is_read n line r h =
+is_read form n line r h =
     elim (cases_Bool (is_wide line && spells n (columns 4 11 line))) [
       | inl k ↦
           let a = and_parts _ _ k in
-          by_name n line r (name_of (columns 12 13 line)) refl a.0 a.1 (rw k at h)
+          by_name form n line r (name_of (columns 12 13 line)) refl a.0 a.1 (rw k at h)
       | inr k ↦ let s : None ≡ Some r = rw k at h in absurd cc
     ]
 
 -- the record that a line is, where it is allowed
 record Allowed (at : Standing) (line : List ℕ) (then : Standing) : Type 0 where
   of : Record
-  is : IsRecord (at.records + 1) line of
+  is : IsRecord (form_at at.heading) (at.records + 1) line of
   steps : step at (judged of) ≡ Some then
 
-by_record : (at then : Standing) (line : List ℕ) (r : Option Record) → record_at (at.records + 1) line ≡ r → step_or at (option_map judged r) ≡ Some then → Allowed at line then
+by_record : (at then : Standing) (line : List ℕ) (r : Option Record) → record_at (form_at at.heading) (at.records + 1) line ≡ r → step_or at (option_map judged r) ≡ Some then → Allowed at line then
 by_record at then line None e h = absurd cc
-by_record at then line (Some r) e h = record { of = r; is = is_read (at.records + 1) line r e; steps = h }
+by_record at then line (Some r) e h = record { of = r; is = is_read (form_at at.heading) (at.records + 1) line r e; steps = h }
 
 allowed_line : (at then : Standing) (line : List ℕ) → step_line at line ≡ Some then → Allowed at line then
-allowed_line at then line h = by_record at then line (record_at (at.records + 1) line) refl h
+allowed_line at then line h = by_record at then line (record_at (form_at at.heading) (at.records + 1) line) refl h
 
-line_steps : (at : Standing) (line : List ℕ) (r : Record) → IsRecord (at.records + 1) line r → step_line at line ≡ step at (judged r)
-line_steps at line r is = rw (read_as (at.records + 1) line r is) refl
+line_steps : (at : Standing) (line : List ℕ) (r : Record) → IsRecord (form_at at.heading) (at.records + 1) line r → step_line at line ≡ step at (judged r)
+line_steps at line r is = rw (read_as (form_at at.heading) (at.records + 1) line r is) refl
 
 -- ---- judged lines
 
@@ -95,9 +97,9 @@ count_is (closed f) = refl
 count_is (ended f) = refl
 
 -- a record that the draft takes is passed
-passed : (d e : Draft) (r : Record) (line : List ℕ) (lines : List (List ℕ)) → Next d r e → IsRecord (length (so_far d) + 1) line r → judge_from (standing_of d) (line ∷ lines) ≡ judge_from (standing_of e) lines
+passed : (d e : Draft) (r : Record) (line : List ℕ) (lines : List (List ℕ)) → Next d r e → IsRecord (form_of d) (length (so_far d) + 1) line r → judge_from (standing_of d) (line ∷ lines) ≡ judge_from (standing_of e) lines
 passed d e r line lines next is =
-    let numbered : IsRecord ((standing_of d).records + 1) line r = rw (count_is d) is in
+    let numbered : IsRecord (form_of d) ((standing_of d).records + 1) line r = rw (count_is d) is in
     let steps : step_line (standing_of d) line ≡ Some (standing_of e) = line_steps (standing_of d) line r numbered ∙ next.stands in
     judge_cons (standing_of d) line lines ∙ rw steps refl
 
@@ -114,12 +116,12 @@ chain_split d e (r ∷ xs) ys c =
     let rest = chain_split c.0 e xs ys c.2 in
     (rest.0, (c.0, c.1, rest.1), rest.2)
 
-chain_judged : (records : List Record) (lines more : List (List ℕ)) (d e : Draft) (n : ℕ) → Chain d records e → n ≡ length (so_far d) + 1 → AreRecords n lines records → judge_from (standing_of d) (lines ++ more) ≡ judge_from (standing_of e) more
+chain_judged : (records : List Record) (lines more : List (List ℕ)) (d e : Draft) (n : ℕ) → Chain d records e → n ≡ length (so_far d) + 1 → AreRecords (form_of e) n lines records → judge_from (standing_of d) (lines ++ more) ≡ judge_from (standing_of e) more
 chain_judged [] [] more d e n c k are = ap (λ (x : Draft). judge_from (standing_of x) more) c
 chain_judged [] (line ∷ lines) more d e n c k are = absurd are
 chain_judged (r ∷ records) [] more d e n c k are = absurd are
 chain_judged (r ∷ records) (line ∷ lines) more d e n c k are =
-    let is : IsRecord (length (so_far d) + 1) line r = rw (← k) are.0 in
+    let is : IsRecord (form_of d) (length (so_far d) + 1) line r = rw (← k) (read_first d c.0 e records n line r c.1 c.2 are.0) in
     let count : suc n ≡ length (so_far c.0) + 1 = omega (arith, one_longer d c.0 r c.1) in
     passed d c.0 r line (lines ++ more) c.1 is ∙ chain_judged records lines more c.0 e (suc n) c.2 count are.1
 
@@ -137,30 +139,20 @@ hot_judged lines f hot =
 -- ---- lines that were passed
 
 record Passed (before : List (List ℕ)) (d : Draft) : Type 0 where
-  are : AreRecords 1 before (so_far d)
+  are : AreRecords (form_of d) 1 before (so_far d)
   sound : IsSoundDraft d
   judged_as : (lines : List (List ℕ)) → judge_from start (before ++ lines) ≡ judge_from (standing_of d) lines
 
-are_snoc : (lines : List (List ℕ)) (records : List Record) (n : ℕ) (line : List ℕ) (r : Record) → AreRecords n lines records → IsRecord (n + length records) line r → AreRecords n (lines ++ line ∷ []) (records ++ r ∷ [])
-are_snoc [] [] n line r are is = let k : n + 0 ≡ n = omega arith in (subst (λ (i : ℕ). IsRecord i line r) k is, tt)
-are_snoc [] (s ∷ records) n line r are is = absurd are
-are_snoc (x ∷ lines) [] n line r are is = absurd are
-are_snoc (x ∷ lines) (s ∷ records) n line r are is =
-    let k : n + suc (length records) ≡ suc n + length records = omega arith in
-    (are.0, are_snoc lines records (suc n) line r are.1 (subst (λ (i : ℕ). IsRecord i line r) k is))
-
-same_count : (lines : List (List ℕ)) (records : List Record) (n : ℕ) → AreRecords n lines records → length lines ≡ length records
-same_count [] [] n are = refl
-same_count [] (s ∷ records) n are = absurd are
-same_count (x ∷ lines) [] n are = absurd are
-same_count (x ∷ lines) (s ∷ records) n are = ap suc (same_count lines records (suc n) are.1)
+same_count : (form : FileForm) (lines : List (List ℕ)) (records : List Record) (n : ℕ) → AreRecords form n lines records → length lines ≡ length records
+same_count form [] [] n are = refl
+same_count form [] (s ∷ records) n are = absurd are
+same_count form (x ∷ lines) [] n are = absurd are
+same_count form (x ∷ lines) (s ∷ records) n are = ap suc (same_count form lines records (suc n) are.1)
 
 -- one more line is passed
-one_passed : (before : List (List ℕ)) (d e : Draft) (line : List ℕ) (r : Record) → Passed before d → Next d r e → IsRecord (length (so_far d) + 1) line r → Passed (before ++ line ∷ []) e
+one_passed : (before : List (List ℕ)) (d e : Draft) (line : List ℕ) (r : Record) → Passed before d → Next d r e → IsRecord (form_of d) (length (so_far d) + 1) line r → Passed (before ++ line ∷ []) e
 one_passed before d e line r p next is = record {
-  are =
-      let k : length (so_far d) + 1 ≡ 1 + length (so_far d) = omega arith in
-      subst (λ (xs : List Record). AreRecords 1 (before ++ line ∷ []) xs) (sym next.records_are) (are_snoc before (so_far d) 1 line r p.are (subst (λ (i : ℕ). IsRecord i line r) k is));
+  are = records_more d e before line r next p.are is;
   sound = next.sound;
   judged_as = λ lines. ap (judge_from start) (append_assoc before (line ∷ []) lines) ∙ p.judged_as (line ∷ lines) ∙ passed d e r line lines next is;
 }
@@ -207,8 +199,8 @@ begins_file before d p =
     let r = reaches d p.sound in
     record {
       records = so_far d;
-      are = p.are;
       file = r.file;
+      are = records_behind d (ended r.file) r.more before 1 r.chain p.are;
       sound = r.sound;
       more = r.more;
       joined = sym (chain_so_far d (ended r.file) r.more r.chain);
@@ -218,7 +210,7 @@ begins_file before d p =
 lacking : (before : List (List ℕ)) (d : Draft) → Passed before d → is_at Ended (standing_of d).place ≡ false → IsFirstFault before ((standing_of d).records + 1)
 lacking before d p open_end =
     let n = (standing_of d).records + 1 in
-    let count : n ≡ length before + 1 = omega (arith, count_is d, same_count before (so_far d) 1 p.are) in
+    let count : n ≡ length before + 1 = omega (arith, count_is d, same_count (form_of d) before (so_far d) 1 p.are) in
     let less : n - 1 ≡ length before = omega arith in
     let all : take (n - 1) before ≡ before = ap (λ (k : ℕ). take k before) less ∙ take_all (length before) before (omega arith) in
     let fault : judge_from start before ≡ Err n = ap (judge_from start) (sym (append-nil before)) ∙ p.judged_as [] ∙ judge_nil (standing_of d) ∙ rw open_end refl in
@@ -235,8 +227,12 @@ begin_judged lines b =
     let all : Chain nothing (b.records ++ b.more) (ended f) = subst (λ (xs : List Record). Chain nothing xs (ended f)) (sym b.joined) (file_chain f b.sound) in
     let split = chain_split nothing (ended f) b.records b.more all in
     let m = split.0 in
-    let judged_as : judge_from start lines ≡ judge_from (standing_of m) [] = ap (judge_from start) (sym (append-nil lines)) ∙ chain_judged b.records lines [] nothing m 1 split.1 refl b.are in
-    let count : (standing_of m).records ≡ length lines = count_is m ∙ ap length (chain_so_far nothing m b.records split.1) ∙ sym (same_count lines b.records 1 b.are) in
+    let so_far_is : so_far m ≡ b.records = chain_so_far nothing m b.records split.1 in
+    let P : List Record → FileForm → Type 0 = λ xs form. AreRecords form 1 lines xs in
+    let in_form : P (so_far m) (form_of m) = records_before m (ended f) b.more lines 1 split.2 (subst (λ (xs : List Record). P xs f.heading.form) (sym so_far_is) b.are) in
+    let are : P b.records (form_of m) = subst (λ (xs : List Record). P xs (form_of m)) so_far_is in_form in
+    let judged_as : judge_from start lines ≡ judge_from (standing_of m) [] = ap (judge_from start) (sym (append-nil lines)) ∙ chain_judged b.records lines [] nothing m 1 split.1 refl are in
+    let count : (standing_of m).records ≡ length lines = count_is m ∙ ap length so_far_is ∙ sym (same_count f.heading.form lines b.records 1 b.are) in
     (standing_of m, judged_as, count)
 
 not_within : (at : Standing) (n : ℕ) → judge_from at [] ≡ Err n → n ≡ at.records + 1
@@ -250,7 +246,7 @@ not_within at n h =
 failing : (before : List (List ℕ)) (d : Draft) (line : List ℕ) (lines : List (List ℕ)) → Passed before d → step_line (standing_of d) line ≡ None → IsFirstFault (before ++ line ∷ lines) ((standing_of d).records + 1)
 failing before d line lines p none =
     let n = (standing_of d).records + 1 in
-    let count : n ≡ length before + 1 = omega (arith, count_is d, same_count before (so_far d) 1 p.are) in
+    let count : n ≡ length before + 1 = omega (arith, count_is d, same_count (form_of d) before (so_far d) 1 p.are) in
     let less : n - 1 ≡ length before = omega arith in
     let front : take (n - 1) (before ++ line ∷ lines) ≡ before = ap (λ (k : ℕ). take k (before ++ line ∷ lines)) less ∙ take-append_seam before (line ∷ lines) in
     let with_line : take n (before ++ line ∷ lines) ≡ before ++ line ∷ [] = ap (λ (k : ℕ). take k (before ++ line ∷ lines)) count ∙ take-append-add before (line ∷ lines) 1 in
@@ -284,7 +280,7 @@ at_end : (before : List (List ℕ)) (d : Draft) (f : File) → Passed before d �
 at_end before d f p e = record {
   file = f;
   hot = record {
-    records = subst (λ (x : Draft). AreRecords 1 before (so_far x)) e p.are;
+    records = subst (λ (x : Draft). AreRecords (form_of x) 1 before (so_far x)) e p.are;
     sound = subst IsSoundDraft e p.sound;
   };
   stands = ap standing_of e;

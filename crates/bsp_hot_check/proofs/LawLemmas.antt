@@ -2,6 +2,7 @@
 use Rattle.std.proofs.Common.{◌≡◌, ◌<◌, ℕ, zero, suc, ◌-◌, List, [], ◌∷◌, ◌++◌, take, drop, Result, Ok, Err, ◌⊎◌, sym, ap, subst, ◌∙◌, arith, inl, inr, append_assoc}
 use Rattle.std.proofs.lemmas.Bool.{cases_order}
 use Rattle.std.proofs.lemmas.List.{take-append-drop, take-take}
+use Rattle.bsp_hot_records.specs.declared.form.FileForm.{FileForm}
 use Rattle.bsp_hot_check.specs.declared.model.Standing.{Standing}
 use Rattle.bsp_hot_check.specs.declared.model.HotTotals.{HotTotals}
 use Rattle.bsp_hot_check.specs.declared.model.RecordFault.{RecordFault}
@@ -13,19 +14,19 @@ use Rattle.bsp_hot_check.specs.Judging.{judge_from}
 use Rattle.bsp_hot_check.proofs.Drafts.{ended, standing_of}
 use Rattle.bsp_hot_check.proofs.Judging.{IsJudged, judged_all, hot_judged}
 
-take_records : (lines : List (List ℕ)) (records : List Record) (n k : ℕ) → AreRecords n lines records → AreRecords n (take k lines) (take k records)
-take_records lines records n zero are = tt
-take_records [] [] n (suc k) are = tt
-take_records [] (r ∷ records) n (suc k) are = absurd are
-take_records (line ∷ lines) [] n (suc k) are = absurd are
-take_records (line ∷ lines) (r ∷ records) n (suc k) are = (are.0, take_records lines records (suc n) k are.1)
+take_records : (form : FileForm) (lines : List (List ℕ)) (records : List Record) (n k : ℕ) → AreRecords form n lines records → AreRecords form n (take k lines) (take k records)
+take_records form lines records n zero are = tt
+take_records form [] [] n (suc k) are = tt
+take_records form [] (r ∷ records) n (suc k) are = absurd are
+take_records form (line ∷ lines) [] n (suc k) are = absurd are
+take_records form (line ∷ lines) (r ∷ records) n (suc k) are = (are.0, take_records form lines records (suc n) k are.1)
 
 -- fewer lines begin a file too
 fewer : (lines : List (List ℕ)) (k : ℕ) → BeginFile lines → BeginFile (take k lines)
 fewer lines k b = record {
   records = take k b.records;
-  are = take_records lines b.records 1 k b.are;
   file = b.file;
+  are = take_records b.file.heading.form lines b.records 1 k b.are;
   sound = b.sound;
   more = drop k b.records ++ b.more;
   joined = sym (append_assoc (take k b.records) (drop k b.records) b.more) ∙ ap (λ (xs : List Record). xs ++ b.more) (take-append-drop k b.records) ∙ b.joined;
@@ -35,8 +36,8 @@ fewer lines k b = record {
 hot_begins : (lines : List (List ℕ)) (file : File) (k : ℕ) → Hot lines file → BeginFile (take k lines)
 hot_begins lines file k hot = record {
   records = take k (records_of file);
-  are = take_records lines (records_of file) 1 k hot.records;
   file = file;
+  are = take_records file.heading.form lines (records_of file) 1 k hot.records;
   sound = hot.sound;
   more = drop k (records_of file);
   joined = take-append-drop k (records_of file);

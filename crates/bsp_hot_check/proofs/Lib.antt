@@ -7,6 +7,7 @@ pub mod Steps
 pub mod Closing
 pub mod Taken
 pub mod Chains
+pub mod FormLemmas
 pub mod Judging
 pub mod LawLemmas
 pub use Rattle.bsp_hot_records.proofs.SizeLemmas as HotRecordsSizeLemmas

@@ -47,10 +47,11 @@ small_add_at n sums Acma t h one = record { tktt = one_longer n sums.tktt h.tktt
 
 pub small_part : (x : Part) → IsSmallPart x → AreSmall 1 (judged_sums x)
 small_part (part_is.Amounts taxed) h = no_small 1
-small_part (part_is.Commission amount) h = record { documents = omega arith; cash = omega arith; credit = omega arith; commission = omega arith }
+small_part (part_is.Commission amount) h = record { documents = omega arith; cash = omega arith; credit = omega arith; commission = omega arith; tax = omega arith }
+small_part (part_is.CommissionTax amount) h = record { documents = omega arith; cash = omega arith; credit = omega arith; commission = omega arith; tax = omega arith }
 small_part (part_is.Related other) h = no_small 1
-small_part (part_is.Cash amount) h = record { documents = omega arith; cash = omega arith; credit = omega arith; commission = omega arith }
-small_part (part_is.Credit amount) h = record { documents = omega arith; cash = omega arith; credit = omega arith; commission = omega arith }
+small_part (part_is.Cash amount) h = record { documents = omega arith; cash = omega arith; credit = omega arith; commission = omega arith; tax = omega arith }
+small_part (part_is.Credit amount) h = record { documents = omega arith; cash = omega arith; credit = omega arith; commission = omega arith; tax = omega arith }
 small_part part_is.Exchange h = no_small 1
 
 small_moved : (at : Standing) (p : Place) → IsSmall at → IsSmall (moved at p)
@@ -77,7 +78,7 @@ by_allowed false at x next e g = absurd cc
 
 small_next_part : (at next : Standing) (place : Place) (heading : Option Heading) (y : PartOf) → IsSmall at → IsSmallPart y.part → part_step at place heading y ≡ Some next → IsSmallNext at next
 small_next_part at next (InDocument x) (Some heading) y h one e =
-    by_allowed _ at (counted at (progress_behind x y.part) (judged_sums y.part)) next e (record { records = refl; small = small_counted at (progress_behind x y.part) (judged_sums y.part) h (small_part y.part one) })
+    by_allowed _ at (counted at (progress_behind heading.form x y.part) (judged_sums y.part)) next e (record { records = refl; small = small_counted at (progress_behind heading.form x y.part) (judged_sums y.part) h (small_part y.part one) })
 small_next_part at next _ _ y h one e = absurd cc
 
 small_next : (at next : Standing) (r : Record) → IsSmall at → IsSmallRecord r → step at r ≡ Some next → IsSmallNext at next

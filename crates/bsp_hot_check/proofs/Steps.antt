@@ -1,5 +1,5 @@
 -- Each record that may come next.
-use Rattle.std.proofs.Common.{◌≡◌, ℕ, suc, ◌+◌, ◌==◌, ℤ, ◌-ℤ◌, Bool, true, List, [], ◌∷◌, ◌++◌, length, Option, Some, None, refl, sym, ap, ◌∙◌, arith, length-append, append_assoc, append-nil, add-zero}
+use Rattle.std.proofs.Common.{◌≡◌, ℕ, suc, ◌+◌, ◌==◌, ℤ, Bool, true, List, [], ◌∷◌, ◌++◌, length, Option, Some, None, refl, sym, ap, ◌∙◌, arith, length-append, append_assoc, append-nil, add-zero}
 use Rattle.std.specs.List.{last_or}
 use Rattle.std.specs.Ordering.{int_eq}
 use Rattle.std.proofs.lemmas.Bool.{and_from, eq-eqb}
@@ -7,14 +7,15 @@ use Rattle.std.proofs.lemmas.Bool.Decides.{Decides-int_eq}
 use Rattle.std.proofs.lemmas.Slice.Eq.{bytes_eq-Decides}
 use Rattle.std.proofs.lemmas.List.{map-append}
 use Rattle.bsp_hot_records.specs.declared.code.DocumentCode.{DocumentCode}
+use Rattle.bsp_hot_records.specs.declared.form.FileForm.{FileForm}
 use Rattle.bsp_hot_records.specs.declared.totals.Sums.{Sums}
 use Rattle.bsp_hot_records.specs.declared.model.Heading.{Heading as JudgedHeading}
 use Rattle.bsp_hot_check.specs.declared.model.Place.{Place}
 use Rattle.bsp_hot_check.specs.declared.model.Place.TheVariants.{InDocument}
 use Rattle.bsp_hot_check.specs.declared.model.OfficeSums.{OfficeSums}
 use Rattle.bsp_hot_check.specs.declared.model.Standing.{Standing}
-use Rattle.bsp_hot_records.specs.Records.{Days, Heading, Document, Part, amounts, commission, related, cash, credit, exchange, Record, file_header, period_header, office_header, transaction_header, document, part}
-use Rattle.bsp_hot_records.specs.Sums.{one_document, add, with_net, is_same, has_totals}
+use Rattle.bsp_hot_records.specs.Records.{Days, Heading, Document, Part, amounts, commission, commission_tax, related, cash, credit, exchange, Record, file_header, period_header, office_header, transaction_header, document, part}
+use Rattle.bsp_hot_records.specs.Sums.{one_document, add, net_of, with_net, is_same, has_totals}
 use Rattle.bsp_hot_check.specs.Hot.{Body, Item, File, IsAfter, AreItems, IsItem, IsFile, part_sums, document_sums, items_sums, file_sums, item_records, items_records}
 use Rattle.bsp_hot_records.specs.Judged.{judged_part}
 use Rattle.bsp_hot_check.specs.Standings.{judged_sums, is_key_after, is_agent_after, add_at, allowed, step}
@@ -44,8 +45,9 @@ same_int x = (Decides-int_eq x x).1 refl
 pub has_with_net : (s : Sums) → has_totals s (with_net s) ≡ true
 unfolding has_totals is_same
 has_with_net s =
-    let sums = and_from _ _ (and_from _ _ (and_from _ _ (eqb-refl s.documents) (same_int s.cash)) (same_int s.credit)) (same_int s.commission) in
-    and_from _ _ sums (same_int (s.cash -ℤ s.commission))
+    let paid = and_from _ _ (and_from _ _ (eqb-refl s.documents) (same_int s.cash)) (same_int s.credit) in
+    let sums = and_from _ _ (and_from _ _ paid (same_int s.commission)) (same_int s.tax) in
+    and_from _ _ sums (same_int (net_of s))
 
 -- ---- the headers
 
@@ -128,16 +130,16 @@ pub is_after : (before : Option Item) (it : Item) → is_key_after (key_or befor
 is_after None it h = tt
 is_after (Some before) it h = h
 
-are_items_snoc : (airline : ℕ) (before : Option Item) (items : List Item) (it : Item) → AreItems airline before items → is_key_after (key_or (last_or before items)) (key_of it) ≡ true → IsItem airline it
-    → AreItems airline before (items ++ it ∷ [])
-are_items_snoc airline before [] it are after is = (is_after before it after, is, tt)
-are_items_snoc airline before (x ∷ items) it are after is = (are.0, are.1, are_items_snoc airline (Some x) items it are.2 after is)
+are_items_snoc : (form : FileForm) (airline : ℕ) (before : Option Item) (items : List Item) (it : Item) → AreItems form airline before items → is_key_after (key_or (last_or before items)) (key_of it) ≡ true → IsItem form airline it
+    → AreItems form airline before (items ++ it ∷ [])
+are_items_snoc form airline before [] it are after is = (is_after before it after, is, tt)
+are_items_snoc form airline before (x ∷ items) it are after is = (are.0, are.1, are_items_snoc form airline (Some x) items it are.2 after is)
 
 pub open_snoc : (f : File) (agent : ℕ) (items : List Item) (d : Document) (body : Body) → IsInItem f agent items d (whole body) → IsOpen f agent (items ++ item_with d body ∷ [])
 open_snoc f agent items d body g = record {
   file = g.is_open.file;
   after = g.is_open.after;
-  are = are_items_snoc f.heading.airline None items (item_with d body) g.is_open.are g.in_order (is_item f.heading.airline d body g.sound);
+  are = are_items_snoc f.heading.form f.heading.airline None items (item_with d body) g.is_open.are g.in_order (is_item f.heading.form f.heading.airline d body g.sound);
 }
 
 pub begins_next : (f : File) (agent : ℕ) (items : List Item) (d : Document) (body : Body) → IsInItem f agent items d (whole body)
@@ -184,19 +186,20 @@ documents f agent items c d is_open after =
       sound = record {
         is_open = is_open;
         in_order = rw (first_code c) after;
-        sound = first_sound f.heading.airline c;
+        sound = first_sound f.heading.form f.heading.airline c;
       };
     }
 
 judged_adds : (x : Part) → judged_sums (judged_part x) ≡ part_sums x
 judged_adds (amounts a) = refl
 judged_adds (commission c) = refl
+judged_adds (commission_tax t) = refl
 judged_adds (related y) = refl
 judged_adds (cash paid) = refl
 judged_adds (credit card) = refl
 judged_adds (exchange ex) = refl
 
-pub parts : (f : File) (agent : ℕ) (items : List Item) (d : Document) (g h : PartialItem) (x : Part) → IsInItem f agent items d g → IsNextPart f.heading.airline g x h
+pub parts : (f : File) (agent : ℕ) (items : List Item) (d : Document) (g h : PartialItem) (x : Part) → IsInItem f agent items d g → IsNextPart f.heading.form f.heading.airline g x h
     → Next (in_item f agent items d g) (part (number f items) x) (in_item f agent items d h)
 unfolding step
 parts f agent items d g h x is next =

@@ -37,10 +37,10 @@ test_of false x y h = absurd cc
 same_record : (d : Draft) (r s : Record) → r ≡ s → Taken d s → Taken d r
 same_record d r s e t = subst (λ (x : Record). Taken d x) (sym e) t
 
-same_totals : (a a2 : ℕ) (b b2 c c2 d d2 n n2 : ℤ) → a ≡ a2 → b ≡ b2 → c ≡ c2 → d ≡ d2 → n ≡ n2
-    → ◌≡◌ {A = Totals} (record { sums = record { documents = a; cash = b; credit = c; commission = d }; net = n })
-    (record { sums = record { documents = a2; cash = b2; credit = c2; commission = d2 }; net = n2 })
-same_totals a a2 b b2 c c2 d d2 n n2 p q r s t = rw (p, q, r, s, t) refl
+same_totals : (a a2 : ℕ) (b b2 c c2 d d2 x x2 n n2 : ℤ) → a ≡ a2 → b ≡ b2 → c ≡ c2 → d ≡ d2 → x ≡ x2 → n ≡ n2
+    → ◌≡◌ {A = Totals} (record { sums = record { documents = a; cash = b; credit = c; commission = d; tax = x }; net = n })
+    (record { sums = record { documents = a2; cash = b2; credit = c2; commission = d2; tax = x2 }; net = n2 })
+same_totals a a2 b b2 c c2 d d2 x x2 n n2 p q r s t u = rw (p, q, r, s, t, u) refl
 
 totals_are : (s : Sums) (t : Totals) → has_totals s t ≡ true → t ≡ with_net s
 unfolding has_totals is_same
@@ -49,7 +49,8 @@ totals_are s t h =
     let b = and_parts _ _ a.0 in
     let c = and_parts _ _ b.0 in
     let d = and_parts _ _ c.0 in
-    same_totals _ _ _ _ _ _ _ _ _ _ (eqb-true _ _ d.0) ((Decides-int_eq _ _).0 d.1) ((Decides-int_eq _ _).0 c.1) ((Decides-int_eq _ _).0 b.1) ((Decides-int_eq _ _).0 a.1)
+    let e = and_parts _ _ d.0 in
+    same_totals _ _ _ _ _ _ _ _ _ _ _ _ (eqb-true _ _ e.0) ((Decides-int_eq _ _).0 e.1) ((Decides-int_eq _ _).0 d.1) ((Decides-int_eq _ _).0 c.1) ((Decides-int_eq _ _).0 b.1) ((Decides-int_eq _ _).0 a.1)
 
 same_code : (c d : DocumentCode) → is_code c d ≡ true → c ≡ d
 same_code Tktt Tktt h = refl
@@ -129,7 +130,7 @@ unfolding step
 part_taken f agent items d g n x at sound e =
     let a = and_parts _ _ (test_of _ _ _ e) in
     let number_is : n ≡ number f items = eqb-true _ _ a.1 in
-    let h = next_part f.heading.airline g x a.0 in
+    let h = next_part f.heading.form f.heading.airline g x a.0 in
     same_record _ _ (part (number f items) x) (rw number_is refl) (_, parts f agent items d g h.0 x sound h.1)
 
 totals_whole : (f : File) (agent : ℕ) (items : List Item) (d : Document) (body : Body) (agent2 : ℕ) (c : DocumentCode) (t : Totals) → IsInItem f agent items d (whole body)

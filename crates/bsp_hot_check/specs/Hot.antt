@@ -2,9 +2,11 @@
 use Rattle.std.specs.Prelude.{◌≡◌, ◌<◌, ◌≤◌, ℕ, ℤ, pos, ◌+◌, ◌-◌, ◌==◌, nat_lt, Bool, true, ◌&&◌, ◌||◌, List, [], ◌∷◌, ◌++◌, length, take, map, filter, Option, Some, None, ◌⊎◌}
 use Rattle.bsp_hot_records.specs.declared.code.DocumentCode.{DocumentCode}
 use Rattle.bsp_hot_records.specs.declared.code.DocumentCode.TheVariants.{Tktt, Rfnd, Canx, Adma, Acma}
+use Rattle.bsp_hot_records.specs.declared.form.FileForm.{FileForm}
+use Rattle.bsp_hot_records.specs.declared.form.FileForm.TheVariants.{One, Two}
 use Rattle.bsp_hot_records.specs.declared.totals.Sums.{Sums}
 use Rattle.bsp_hot_check.specs.declared.model.HotTotals.{HotTotals}
-use Rattle.bsp_hot_records.specs.Records.{Days, Heading, Document, Amounts, Commission, Related, CardPayment, Part, amounts, commission, related, cash, credit, exchange, Record, file_header, period_header, office_header, transaction_header, document, part, code_totals, office_totals, period_totals, file_totals, is_blank, AreRecords}
+use Rattle.bsp_hot_records.specs.Records.{Days, Heading, Document, Amounts, Commission, CommissionTax, Related, CardPayment, Part, amounts, commission, commission_tax, related, cash, credit, exchange, Record, file_header, period_header, office_header, transaction_header, document, part, code_totals, office_totals, period_totals, file_totals, is_blank, number_in, AreRecords}
 use Rattle.bsp_hot_records.specs.Sums.{no_sums, one_document, add, sum_of, with_net, rank, is_code, all_codes}
 
 -- ---- items
@@ -15,11 +17,21 @@ pub data Forms : Type 0 where
   credit_only : CardPayment → Forms
   cash_and_credit : ℤ → CardPayment → Forms
 
--- what stands behind BKS24: a TKTT is a sale, or an exchange with its related document and the form EX; an RFND has a related document and no EX; a memo has amounts and the form CA
+-- BKS39, and in form 2 the BKS42 behind it
+pub data Charges : Type 0 where
+  commission_only : Commission → Charges
+  commission_and_tax : Commission → CommissionTax → Charges
+
+-- the related documents of an exchange: one, or two
+pub data RelatedDocuments : Type 0 where
+  one : Related → RelatedDocuments
+  two : Related → Related → RelatedDocuments
+
+-- what stands behind BKS24: a TKTT is a sale, or an exchange with its related documents and the form EX; an RFND has a related document and no EX; a memo has amounts and the form CA
 pub data Body : Type 0 where
-  sale : Amounts → Commission → Forms → Body
-  exchanged : Amounts → Commission → Related → Option Forms → ℤ → Body
-  refund : Amounts → Commission → Related → Forms → Body
+  sale : Amounts → Charges → Forms → Body
+  exchanged : Amounts → Charges → RelatedDocuments → Option Forms → ℤ → Body
+  refund : Amounts → Charges → Related → Forms → Body
   cancellation : Body
   debit_memo : Amounts → ℤ → Body
   credit_memo : Amounts → ℤ → Body
@@ -48,36 +60,55 @@ code_of_body cancellation = Canx
 code_of_body (debit_memo a paid) = Adma
 code_of_body (credit_memo a paid) = Acma
 
+abbrev pub charges_parts : Charges → List Part
+charges_parts (commission_only c) = commission c ∷ []
+charges_parts (commission_and_tax c t) = commission c ∷ commission_tax t ∷ []
+
 abbrev pub forms_parts : Forms → List Part
 forms_parts (cash_only paid) = cash paid ∷ []
 forms_parts (credit_only card) = credit card ∷ []
 forms_parts (cash_and_credit paid card) = cash paid ∷ credit card ∷ []
 
+abbrev pub related_parts : RelatedDocuments → List Part
+related_parts (one r) = related r ∷ []
+related_parts (two r s) = related r ∷ related s ∷ []
+
 -- the records behind BKS24
 abbrev pub parts_of : Body → List Part
-parts_of (sale a c forms) = amounts a ∷ commission c ∷ forms_parts forms
-parts_of (exchanged a c r None ex) = amounts a ∷ commission c ∷ related r ∷ exchange ex ∷ []
-parts_of (exchanged a c r (Some forms) ex) = amounts a ∷ commission c ∷ related r ∷ (forms_parts forms ++ exchange ex ∷ [])
-parts_of (refund a c r forms) = amounts a ∷ commission c ∷ related r ∷ forms_parts forms
+parts_of (sale a c forms) = amounts a ∷ (charges_parts c ++ forms_parts forms)
+parts_of (exchanged a c r None ex) = amounts a ∷ (charges_parts c ++ (related_parts r ++ exchange ex ∷ []))
+parts_of (exchanged a c r (Some forms) ex) =
+    amounts a ∷ (charges_parts c ++ (related_parts r ++ (forms_parts forms ++ exchange ex ∷ [])))
+parts_of (refund a c r forms) = amounts a ∷ (charges_parts c ++ related r ∷ forms_parts forms)
 parts_of cancellation = []
 parts_of (debit_memo a paid) = amounts a ∷ cash paid ∷ []
 parts_of (credit_memo a paid) = amounts a ∷ cash paid ∷ []
 
--- a related document is the airline's own, and a memo has no taxes
-abbrev pub IsBody : ℕ → Body → Type 0
-IsBody airline (sale a c forms) = Unit {0}
-IsBody airline (exchanged a c r forms ex) = r.airline ≡ airline
-IsBody airline (refund a c r forms) = r.airline ≡ airline
-IsBody airline cancellation = Unit {0}
-IsBody airline (debit_memo a paid) = is_blank a.taxes ≡ true
-IsBody airline (credit_memo a paid) = is_blank a.taxes ≡ true
+-- the form of a file that has them
+abbrev pub form_of_charges : Charges → FileForm
+form_of_charges (commission_only c) = One
+form_of_charges (commission_and_tax c t) = Two
+
+-- they are the airline's own, and of two the second has the greater number
+abbrev pub AreOwn : ℕ → RelatedDocuments → Type 0
+AreOwn airline (one r) = r.airline ≡ airline
+AreOwn airline (two r s) = (r.airline ≡ airline) × (s.airline ≡ airline) × (number_in r.number < number_in s.number)
+
+-- in a file of this form and airline: a commission has its tax in form 2 alone, a related document is the airline's own, and a memo has no taxes
+abbrev pub IsBody : FileForm → ℕ → Body → Type 0
+IsBody form airline (sale a c forms) = form_of_charges c ≡ form
+IsBody form airline (exchanged a c r forms ex) = (form_of_charges c ≡ form) × AreOwn airline r
+IsBody form airline (refund a c r forms) = (form_of_charges c ≡ form) × (r.airline ≡ airline)
+IsBody form airline cancellation = Unit {0}
+IsBody form airline (debit_memo a paid) = is_blank a.taxes ≡ true
+IsBody form airline (credit_memo a paid) = is_blank a.taxes ≡ true
 
 -- the item is a sale, an exchange, a refund, a cancellation or a memo
-pub record IsItem (airline : ℕ) (it : Item) : Type 0 where
+pub record IsItem (form : FileForm) (airline : ℕ) (it : Item) : Type 0 where
   pub body : Body
   pub code : it.code ≡ code_of_body body
   pub parts : it.parts ≡ parts_of body
-  pub sound : IsBody airline body
+  pub sound : IsBody form airline body
 
 -- ---- order
 
@@ -90,29 +121,31 @@ IsAfter None it = Unit {0}
 IsAfter (Some before) it = is_before before.code before.document_is.number it.code it.document_is.number ≡ true
 
 -- items behind another, or the first ones: they rise by code and then by number
-abbrev pub AreItems : ℕ → Option Item → List Item → Type 0
-AreItems airline before [] = Unit {0}
-AreItems airline before (it ∷ items) = IsAfter before it × IsItem airline it × AreItems airline (Some it) items
+abbrev pub AreItems : FileForm → ℕ → Option Item → List Item → Type 0
+AreItems form airline before [] = Unit {0}
+AreItems form airline before (it ∷ items) = IsAfter before it × IsItem form airline it × AreItems form airline (Some it) items
 
 abbrev pub IsBehind : Option ℕ → ℕ → Type 0
 IsBehind None agent = Unit {0}
 IsBehind (Some before) agent = before < agent
 
 -- offices behind an agent's, or the first ones: agents rise, and each has an item
-abbrev pub AreOffices : ℕ → Option ℕ → List Office → Type 0
-AreOffices airline before [] = Unit {0}
-AreOffices airline before (o ∷ offices) =
-    IsBehind before o.agent × (0 < length o.items) × AreItems airline None o.items × AreOffices airline (Some o.agent) offices
+abbrev pub AreOffices : FileForm → ℕ → Option ℕ → List Office → Type 0
+AreOffices form airline before [] = Unit {0}
+AreOffices form airline before (o ∷ offices) =
+    IsBehind before o.agent × (0 < length o.items) × AreItems form airline None o.items
+    × AreOffices form airline (Some o.agent) offices
 
 -- ---- sums
 
--- BKS39 adds to the commission, and BKP84 to cash or credit; EX is in no total
+-- BKS39 adds to the commission, BKS42 to the tax, and BKP84 to cash or credit; EX is in no total
 abbrev pub part_sums : Part → Sums
 part_sums (amounts a) = no_sums
-part_sums (commission c) = record { documents = 0; cash = pos 0; credit = pos 0; commission = c.amount }
+part_sums (commission c) = record { documents = 0; cash = pos 0; credit = pos 0; commission = c.amount; tax = pos 0 }
+part_sums (commission_tax t) = record { documents = 0; cash = pos 0; credit = pos 0; commission = pos 0; tax = t.amount }
 part_sums (related r) = no_sums
-part_sums (cash paid) = record { documents = 0; cash = paid; credit = pos 0; commission = pos 0 }
-part_sums (credit card) = record { documents = 0; cash = pos 0; credit = card.amount; commission = pos 0 }
+part_sums (cash paid) = record { documents = 0; cash = paid; credit = pos 0; commission = pos 0; tax = pos 0 }
+part_sums (credit card) = record { documents = 0; cash = pos 0; credit = card.amount; commission = pos 0; tax = pos 0 }
 part_sums (exchange ex) = no_sums
 
 -- a document with these records behind BKS24
@@ -182,11 +215,11 @@ records_of f =
 -- ---- files
 
 abbrev pub IsFile : File → Type 0
-IsFile f = AreOffices f.heading.airline None f.offices
+IsFile f = AreOffices f.heading.form f.heading.airline None f.offices
 
--- the lines are the records of the file
+-- the lines are the records of the file, in its form
 pub record Hot (lines : List (List ℕ)) (file : File) : Type 0 where
-  pub records : AreRecords 1 lines (records_of file)
+  pub records : AreRecords file.heading.form 1 lines (records_of file)
   pub sound : IsFile file
 
 abbrev pub totals_of_file : File → HotTotals
@@ -199,8 +232,8 @@ totals_of_file f = record {
 -- the lines are the first records of some file
 pub record BeginFile (lines : List (List ℕ)) : Type 0 where
   pub records : List Record
-  pub are : AreRecords 1 lines records
   pub file : File
+  pub are : AreRecords file.heading.form 1 lines records
   pub sound : IsFile file
   pub more : List Record
   pub joined : records ++ more ≡ records_of file

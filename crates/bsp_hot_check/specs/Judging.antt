@@ -4,14 +4,14 @@ use Rattle.bsp_hot_records.specs.declared.model.Record.{Record as JudgedRecord}
 use Rattle.bsp_hot_records.specs.Reading.{judged_at}
 use Rattle.bsp_hot_check.specs.declared.model.Place.TheVariants.{Ended}
 use Rattle.bsp_hot_check.specs.declared.model.Standing.{Standing}
-use Rattle.bsp_hot_check.specs.Standings.{step, is_at}
+use Rattle.bsp_hot_check.specs.Standings.{step, form_at, is_at}
 
 abbrev pub step_or : Standing → Option JudgedRecord → Option Standing
 step_or at None = None
 step_or at (Some r) = step at r
 
 abbrev pub step_line : Standing → List ℕ → Option Standing
-step_line at line = step_or at (judged_at (at.records + 1) line)
+step_line at line = step_or at (judged_at (form_at at.heading) (at.records + 1) line)
 
 -- how the lines stand behind others, or the number of the first that those before do not allow
 abbrev pub or_fault : ℕ → Option Standing → (Standing → Result Standing ℕ) → Result Standing ℕ

@@ -1,9 +1,11 @@
 -- How records stand with one more, where those before allow it.
-use Rattle.std.specs.Prelude.{◌≡◌, ◌≤◌, ℕ, pos, ◌+◌, ◌==◌, ◌-ℤ◌, nat_lt, Bool, true, false, not, ◌&&◌, ◌||◌, List, [], ◌∷◌, Option, Some, None, is_none, if◌then◌else◌}
+use Rattle.std.specs.Prelude.{◌≡◌, ◌≤◌, ℕ, pos, ◌+◌, ◌==◌, nat_lt, Bool, true, false, not, ◌&&◌, ◌||◌, List, [], ◌∷◌, Option, Some, None, is_none, if◌then◌else◌}
 use Rattle.std.specs.List.{find}
 use Rattle.std.specs.Str.{bytes_eq}
 use Rattle.bsp_hot_records.specs.declared.code.DocumentCode.{DocumentCode}
 use Rattle.bsp_hot_records.specs.declared.code.DocumentCode.TheVariants.{Tktt, Rfnd, Canx, Adma, Acma}
+use Rattle.bsp_hot_records.specs.declared.form.FileForm.{FileForm}
+use Rattle.bsp_hot_records.specs.declared.form.FileForm.TheVariants.{One, Two}
 use Rattle.bsp_hot_records.specs.declared.totals.Sums.{Sums}
 use Rattle.bsp_hot_check.specs.declared.model.HotTotals.{HotTotals}
 use Rattle.bsp_hot_records.specs.declared.model.Heading.{Heading as JudgedHeading}
@@ -22,7 +24,7 @@ use Rattle.bsp_hot_check.specs.declared.model.Place.TheVariants.{Start, Headed, 
 use Rattle.bsp_hot_check.specs.declared.model.CodeSums.{CodeSums}
 use Rattle.bsp_hot_check.specs.declared.model.OfficeSums.{OfficeSums}
 use Rattle.bsp_hot_check.specs.declared.model.Standing.{Standing}
-use Rattle.bsp_hot_records.specs.Sums.{no_sums, one_document, add, has_totals, AreSmall, is_code, all_codes}
+use Rattle.bsp_hot_records.specs.Sums.{no_sums, one_document, add, net_of, has_totals, AreSmall, is_code, all_codes}
 use Rattle.bsp_hot_check.specs.Hot.{is_before}
 
 -- ---- what may stand behind what
@@ -53,49 +55,77 @@ is_complete Adma stage.Cash has_related = true
 is_complete Acma stage.Cash has_related = true
 is_complete _ _ has_related = false
 
--- by the airline, a document's code, its last record, whether it has a BKS45, and the record that is to come next
-abbrev pub takes_part : ℕ → DocumentCode → Stage → Bool → JudgedPart → Bool
-takes_part airline Tktt stage.Document related (part_is.Amounts taxed) = true
-takes_part airline Tktt stage.Amounts related (part_is.Commission amount) = true
-takes_part airline Tktt stage.Commission related (part_is.Related other) = other == airline
-takes_part airline Tktt stage.Commission related (part_is.Cash amount) = true
-takes_part airline Tktt stage.Commission related (part_is.Credit amount) = true
-takes_part airline Tktt stage.Related related (part_is.Cash amount) = true
-takes_part airline Tktt stage.Related related (part_is.Credit amount) = true
-takes_part airline Tktt stage.Related related part_is.Exchange = related
-takes_part airline Tktt stage.Cash related (part_is.Credit amount) = true
-takes_part airline Tktt stage.Cash related part_is.Exchange = related
-takes_part airline Tktt stage.Credit related part_is.Exchange = related
-takes_part airline Rfnd stage.Document related (part_is.Amounts taxed) = true
-takes_part airline Rfnd stage.Amounts related (part_is.Commission amount) = true
-takes_part airline Rfnd stage.Commission related (part_is.Related other) = other == airline
-takes_part airline Rfnd stage.Related related (part_is.Cash amount) = true
-takes_part airline Rfnd stage.Related related (part_is.Credit amount) = true
-takes_part airline Rfnd stage.Cash related (part_is.Credit amount) = true
-takes_part airline Adma stage.Document related (part_is.Amounts taxed) = not taxed
-takes_part airline Adma stage.Amounts related (part_is.Cash amount) = true
-takes_part airline Acma stage.Document related (part_is.Amounts taxed) = not taxed
-takes_part airline Acma stage.Amounts related (part_is.Cash amount) = true
-takes_part airline _ _ related _ = false
+-- a second BKS45 stands behind one that is alone, and has a greater number
+abbrev pub comes_behind : Option ℕ → ℕ → Bool
+comes_behind None number = false
+comes_behind (Some first) number = nat_lt first number
+
+-- a BKS45 may come next, the first of a document or a second one: by the code, the last record, its number where it is a BKS45 that is alone, and the number that comes
+abbrev pub takes_related_part : DocumentCode → Stage → Option ℕ → ℕ → Bool
+takes_related_part Tktt stage.Charged only number = true
+takes_related_part Rfnd stage.Charged only number = true
+takes_related_part Tktt stage.Related only number = comes_behind only number
+takes_related_part _ _ only number = false
+
+abbrev pub takes_related : Progress → ℕ → Bool
+takes_related x number = takes_related_part x.code x.stage x.only number
+
+-- by the airline, a document's code, its last record, whether it has a BKS45, the number of the last record where it is a BKS45 that is alone, and the record that is to come next
+abbrev pub takes_part : ℕ → DocumentCode → Stage → Bool → Option ℕ → JudgedPart → Bool
+takes_part airline code stage related only (part_is.Related other) = takes_related_part code stage only other.number && (other.airline == airline)
+takes_part airline Tktt stage.Document related only (part_is.Amounts taxed) = true
+takes_part airline Tktt stage.Amounts related only (part_is.Commission amount) = true
+takes_part airline Tktt stage.Commission related only (part_is.CommissionTax amount) = true
+takes_part airline Tktt stage.Charged related only (part_is.Cash amount) = true
+takes_part airline Tktt stage.Charged related only (part_is.Credit amount) = true
+takes_part airline Tktt stage.Related related only (part_is.Cash amount) = true
+takes_part airline Tktt stage.Related related only (part_is.Credit amount) = true
+takes_part airline Tktt stage.Related related only part_is.Exchange = related
+takes_part airline Tktt stage.Cash related only (part_is.Credit amount) = true
+takes_part airline Tktt stage.Cash related only part_is.Exchange = related
+takes_part airline Tktt stage.Credit related only part_is.Exchange = related
+takes_part airline Rfnd stage.Document related only (part_is.Amounts taxed) = true
+takes_part airline Rfnd stage.Amounts related only (part_is.Commission amount) = true
+takes_part airline Rfnd stage.Commission related only (part_is.CommissionTax amount) = true
+takes_part airline Rfnd stage.Related related only (part_is.Cash amount) = true
+takes_part airline Rfnd stage.Related related only (part_is.Credit amount) = true
+takes_part airline Rfnd stage.Cash related only (part_is.Credit amount) = true
+takes_part airline Adma stage.Document related only (part_is.Amounts taxed) = not taxed
+takes_part airline Adma stage.Amounts related only (part_is.Cash amount) = true
+takes_part airline Acma stage.Document related only (part_is.Amounts taxed) = not taxed
+takes_part airline Acma stage.Amounts related only (part_is.Cash amount) = true
+takes_part airline _ _ related only _ = false
 
 -- a further record of a document of this airline
 abbrev pub takes : ℕ → Progress → JudgedPart → Bool
-takes airline x y = takes_part airline x.code x.stage x.related y
+takes airline x y = takes_part airline x.code x.stage x.related x.only y
 
-abbrev pub stage_of : JudgedPart → Stage
-stage_of (part_is.Amounts taxed) = stage.Amounts
-stage_of (part_is.Commission amount) = stage.Commission
-stage_of (part_is.Related other) = stage.Related
-stage_of (part_is.Cash amount) = stage.Cash
-stage_of (part_is.Credit amount) = stage.Credit
-stage_of part_is.Exchange = stage.Exchange
+-- behind BKS39: in form 2 its BKS42 comes next
+abbrev pub commission_stage : FileForm → Stage
+commission_stage One = stage.Charged
+commission_stage Two = stage.Commission
+
+abbrev pub stage_of : FileForm → JudgedPart → Stage
+stage_of form (part_is.Amounts taxed) = stage.Amounts
+stage_of form (part_is.Commission amount) = commission_stage form
+stage_of form (part_is.CommissionTax amount) = stage.Charged
+stage_of form (part_is.Related other) = stage.Related
+stage_of form (part_is.Cash amount) = stage.Cash
+stage_of form (part_is.Credit amount) = stage.Credit
+stage_of form part_is.Exchange = stage.Exchange
 
 abbrev pub is_related_part : JudgedPart → Bool
 is_related_part (part_is.Related other) = true
 is_related_part _ = false
 
-abbrev pub progress_behind : Progress → JudgedPart → Progress
-progress_behind x y = record { code = x.code; stage = stage_of y; related = x.related || is_related_part y }
+-- the number of a BKS45 that is alone, where the document has another or not
+abbrev pub only_behind : Bool → JudgedPart → Option ℕ
+only_behind false (part_is.Related other) = Some other.number
+only_behind _ _ = None
+
+-- with one more record, in a file of this form
+abbrev pub progress_behind : FileForm → Progress → JudgedPart → Progress
+progress_behind form x y = record { code = x.code; stage = stage_of form y; related = x.related || is_related_part y; only = only_behind x.related y }
 
 abbrev pub is_complete_progress : Progress → Bool
 is_complete_progress x = is_complete x.code x.stage x.related
@@ -171,7 +201,11 @@ abbrev pub is_agent : Option ℕ → ℕ → Bool
 is_agent None agent = false
 is_agent (Some x) agent = agent == x
 
--- what BFH01 says of the file
+-- what BFH01 says of the file; before it the form is 1
+abbrev pub form_at : Option JudgedHeading → FileForm
+form_at None = One
+form_at (Some h) = h.form
+
 abbrev pub is_airline : Option JudgedHeading → ℕ → Bool
 is_airline None airline = false
 is_airline (Some h) airline = airline == h.airline
@@ -216,15 +250,16 @@ allowed test at = if test then Some at else None
 
 abbrev pub judged_sums : JudgedPart → Sums
 judged_sums (part_is.Amounts taxed) = no_sums
-judged_sums (part_is.Commission amount) = record { documents = 0; cash = pos 0; credit = pos 0; commission = amount }
+judged_sums (part_is.Commission amount) = record { documents = 0; cash = pos 0; credit = pos 0; commission = amount; tax = pos 0 }
+judged_sums (part_is.CommissionTax amount) = record { documents = 0; cash = pos 0; credit = pos 0; commission = pos 0; tax = amount }
 judged_sums (part_is.Related other) = no_sums
-judged_sums (part_is.Cash amount) = record { documents = 0; cash = amount; credit = pos 0; commission = pos 0 }
-judged_sums (part_is.Credit amount) = record { documents = 0; cash = pos 0; credit = amount; commission = pos 0 }
+judged_sums (part_is.Cash amount) = record { documents = 0; cash = amount; credit = pos 0; commission = pos 0; tax = pos 0 }
+judged_sums (part_is.Credit amount) = record { documents = 0; cash = pos 0; credit = amount; commission = pos 0; tax = pos 0 }
 judged_sums part_is.Exchange = no_sums
 
 abbrev pub part_step : Standing → Place → Option JudgedHeading → PartOf → Option Standing
 part_step at (InDocument x) (Some h) y =
-    allowed (takes h.airline x y.part && (y.transaction == at.transactions)) (counted at (progress_behind x y.part) (judged_sums y.part))
+    allowed (takes h.airline x y.part && (y.transaction == at.transactions)) (counted at (progress_behind h.form x y.part) (judged_sums y.part))
 part_step at _ _ y = None
 
 -- one more record, where those before allow it
@@ -244,7 +279,7 @@ step at (record_is.Document d) =
     (is_at Begun at.place && (d.transaction == at.transactions) && is_agent at.agent d.agent && is_key_after at.office.latest (key_of d))
     (counted
     (record at { office = record at.office { latest = Some (key_of d) } })
-    (record { code = d.code; stage = stage.Document; related = false }) one_document)
+    (record { code = d.code; stage = stage.Document; related = false; only = None }) one_document)
 step at (record_is.PartOf y) = part_step at at.place at.heading y
 step at (record_is.CodeTotals t) =
     allowed
@@ -265,7 +300,7 @@ step at (record_is.FileTotals t) =
 
 -- the totals of a file that stands so
 abbrev pub totals_at : Standing → HotTotals
-totals_at at = record { records = at.records; documents = at.file.documents; net = at.file.cash -ℤ at.file.commission }
+totals_at at = record { records = at.records; documents = at.file.documents; net = net_of at.file }
 
 -- ---- sizes
 

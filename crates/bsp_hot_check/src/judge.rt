@@ -3,16 +3,26 @@
 ghost use Rattle.std.specs.Prelude.{◌≡◌, ◌<◌, ◌^◌, length, true, false, Some, None};
 ghost use Rattle.bsp_records.specs.Columns.{is_wide};
 ghost use Rattle.bsp_hot_records.specs.Judged.{IsSmallPart, IsSmallRecord};
-ghost use Rattle.bsp_hot_check.specs.Standings.{step, is_airline, is_period, is_currency, is_agent, is_agent_after, is_key_after, is_next, IsSmall, IsSmallNext};
+ghost use Rattle.bsp_hot_check.specs.Standings.{step, form_at, is_airline, is_period, is_currency, is_agent, is_agent_after, is_key_after, is_next, IsSmall, IsSmallNext};
 ghost use Rattle.bsp_hot_check.specs.Judging.{step_line};
 
 use crate::model::{DocumentKey, OfficeSums, Place, Progress, Stage, Standing};
 use crate::places::added_by;
 use bsp_fields::{AirlineCode, PeriodCode};
 use bsp_hot_records::{
-    AgentDigits, CodeTotals, Document, DocumentCode, FileTotals, Heading, OfficeHeader,
+    AgentDigits, CodeTotals, Document, DocumentCode, FileForm, FileTotals, Heading, OfficeHeader,
     OfficeTotals, PartOf, PeriodTotals, Record, Sums, TransactionHeader, read_record,
 };
+
+/// The form of the file. Before BFH01, which is the same in each form, it is form 1.
+fn form_at(heading: Option<Heading>) -> FileForm
+    ensures { result ≡ form_at heading }
+{
+    match heading {
+        Some(heading) => heading.form,
+        None => FileForm::One,
+    }
+}
 
 /// Whether the airline is the file's.
 fn is_airline(heading: Option<Heading>, airline: AirlineCode) -> bool
@@ -178,12 +188,13 @@ impl Standing {
             code: document.code,
             stage: Stage::Document,
             related: false,
+            only: None,
         };
         self.count(progress, Sums::DOCUMENT);
         true
     }
 
-    /// BKS30, BKS39, BKS45 or BKP84 follows where the document takes it.
+    /// BKS30, BKS39, BKS42, BKS45 or BKP84 follows where the document takes it.
     #[tactic(auto, using(crate::proofs::SumLemmas::counted_none), unfolding(crate::specs::Standings::step))]
     fn take_part(&mut self, next: PartOf) -> bool
         requires room { self.old.records < 2 ^ 63 }
@@ -200,7 +211,7 @@ impl Standing {
         if !allowed {
             return false;
         }
-        let behind = progress.behind(next.part);
+        let behind = progress.behind(heading.form, next.part);
         match added_by(next.part) {
             Some(sums) => self.count(behind, sums),
             None => self.move_to(Place::InDocument(behind)),
@@ -318,7 +329,7 @@ impl Standing {
         ensures small { result ≡ true → IsSmallNext self.old self.new }
         ensures refused { result ≡ false → step_line self.old line.now ≡ None }
     {
-        match read_record(self.records + 1, line) {
+        match read_record(form_at(self.heading), self.records + 1, line) {
             Some(next) => self.take_record(&next),
             None => false,
         }

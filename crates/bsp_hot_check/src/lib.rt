@@ -9,6 +9,6 @@ mod places;
 mod standing;
 mod sums;
 
-pub use bsp_hot_records::{DocumentCode, RecordName, Sums};
+pub use bsp_hot_records::{DocumentCode, FileForm, RecordName, Sums};
 pub use check::{check_hot, hot_or_fault};
 pub use model::{CodeSums, HotTotals, RecordFault};

@@ -19,7 +19,7 @@ pub struct HotTotals {
     pub records: usize,
     /// The documents: sales, refunds, cancellations and memos.
     pub documents: usize,
-    /// Cash less commission, in minor units (BFT99).
+    /// Cash less commission and tax on commission, in minor units (BFT99).
     pub net: i128,
 }
 
@@ -28,19 +28,24 @@ pub struct HotTotals {
 pub enum Stage {
     Document,
     Amounts,
+    /// BKS39 of form 2, whose BKS42 comes next.
     Commission,
+    /// The last record of the commission: BKS39 in form 1, BKS42 in form 2.
+    Charged,
     Related,
     Cash,
     Credit,
     Exchange,
 }
 
-/// How far the last document is: its code, its last record, and whether it has a BKS45.
+/// How far the last document is: its code, its last record, whether it has a BKS45, and the number
+/// of its last record where that is a BKS45 and alone.
 #[derive(Clone, Copy)]
 pub struct Progress {
     pub code: DocumentCode,
     pub stage: Stage,
     pub related: bool,
+    pub only: Option<u64>,
 }
 
 /// Behind which record a place is.

@@ -5,11 +5,31 @@ ghost use Rattle.std.specs.List.{find};
 ghost use Rattle.std.specs.Option.{option_copied};
 ghost use Rattle.bsp_hot_records.specs.Judged.{IsSmallPart};
 ghost use Rattle.bsp_hot_records.specs.Sums.{no_sums, AreSmall};
-ghost use Rattle.bsp_hot_check.specs.Standings.{is_at, is_complete, is_complete_progress, takes, stage_of, progress_behind, takes_transaction, stands_in, left_codes, next_code, judged_sums};
+ghost use Rattle.bsp_hot_check.specs.Standings.{is_at, is_complete, is_complete_progress, comes_behind, takes_related, takes, commission_stage, stage_of, only_behind, progress_behind, takes_transaction, stands_in, left_codes, next_code, judged_sums};
 
 use crate::model::{CodeSums, Place, Progress, Stage};
 use bsp_fields::AirlineCode;
-use bsp_hot_records::{DocumentCode, Part, Sums};
+use bsp_hot_records::{DocumentCode, FileForm, Part, Sums};
+
+/// Whether a second BKS45 may come with the number.
+fn comes_behind(only: Option<u64>, number: u64) -> bool
+    ensures { result ≡ comes_behind only number }
+{
+    match only {
+        Some(first) => first < number,
+        None => false,
+    }
+}
+
+/// The number of a BKS45 that is alone, where the document has another or not.
+fn only_behind(related: bool, part: Part) -> Option<u64>
+    ensures { result ≡ only_behind related part }
+{
+    match part {
+        Part::Related(other) if !related => Some(other.number),
+        _ => None,
+    }
+}
 
 impl Progress {
     /// Whether the document has all its records.
@@ -43,20 +63,18 @@ impl Progress {
             }
             Part::Commission(_) => matches!(self.stage, Stage::Amounts)
                 && matches!(self.code, DocumentCode::Tktt | DocumentCode::Rfnd),
-            Part::Related(other) => {
-                matches!(self.stage, Stage::Commission)
-                    && matches!(self.code, DocumentCode::Tktt | DocumentCode::Rfnd)
-                    && other == airline
-            }
+            Part::CommissionTax(_) => matches!(self.stage, Stage::Commission)
+                && matches!(self.code, DocumentCode::Tktt | DocumentCode::Rfnd),
+            Part::Related(other) => { self.takes_related(other.number) && other.airline == airline }
             Part::Cash(_) => match self.code {
-                DocumentCode::Tktt => matches!(self.stage, Stage::Commission | Stage::Related),
+                DocumentCode::Tktt => matches!(self.stage, Stage::Charged | Stage::Related),
                 DocumentCode::Rfnd => matches!(self.stage, Stage::Related),
                 DocumentCode::Canx => false,
                 DocumentCode::Adma | DocumentCode::Acma => matches!(self.stage, Stage::Amounts),
             },
             Part::Credit(_) => match self.code {
                 DocumentCode::Tktt => {
-                    matches!(self.stage, Stage::Commission | Stage::Related | Stage::Cash)
+                    matches!(self.stage, Stage::Charged | Stage::Related | Stage::Cash)
                 }
                 DocumentCode::Rfnd => matches!(self.stage, Stage::Related | Stage::Cash),
                 _ => false,
@@ -69,26 +87,51 @@ impl Progress {
         }
     }
 
-    /// With this record.
-    pub(crate) fn behind(self, part: Part) -> Progress
-        ensures { result ≡ progress_behind self part }
+    /// Whether a BKS45 with the number may come next, the first of a document or a second one.
+    fn takes_related(self, number: u64) -> bool
+        ensures { result ≡ takes_related self number }
+    {
+        match self.stage {
+            Stage::Charged => matches!(self.code, DocumentCode::Tktt | DocumentCode::Rfnd),
+            Stage::Related => {
+                matches!(self.code, DocumentCode::Tktt) && comes_behind(self.only, number)
+            }
+            _ => false,
+        }
+    }
+
+    /// With this record, in a file of the form.
+    pub(crate) fn behind(self, form: FileForm, part: Part) -> Progress
+        ensures { result ≡ progress_behind form self part }
     {
         Progress {
             code: self.code,
-            stage: Stage::of(part),
+            stage: Stage::of(form, part),
             related: self.related || matches!(part, Part::Related(_)),
+            only: only_behind(self.related, part),
         }
     }
 }
 
 impl Stage {
-    /// That of a document whose last record is this one.
-    fn of(part: Part) -> Stage
-        ensures { result ≡ stage_of part }
+    /// That of a document whose last record is BKS39. In form 2 its BKS42 comes next.
+    fn after_commission(form: FileForm) -> Stage
+        ensures { result ≡ commission_stage form }
+    {
+        match form {
+            FileForm::One => Stage::Charged,
+            FileForm::Two => Stage::Commission,
+        }
+    }
+
+    /// That of a document whose last record is this one, in a file of the form.
+    fn of(form: FileForm, part: Part) -> Stage
+        ensures { result ≡ stage_of form part }
     {
         match part {
             Part::Amounts(_) => Stage::Amounts,
-            Part::Commission(_) => Stage::Commission,
+            Part::Commission(_) => Stage::after_commission(form),
+            Part::CommissionTax(_) => Stage::Charged,
             Part::Related(_) => Stage::Related,
             Part::Cash(_) => Stage::Cash,
             Part::Credit(_) => Stage::Credit,
@@ -107,6 +150,10 @@ pub(crate) fn added_by(part: Part) -> Option<Sums>
     match part {
         Part::Commission(amount) => Some(Sums {
             commission: amount as i128,
+            ..Sums::NONE
+        }),
+        Part::CommissionTax(amount) => Some(Sums {
+            tax: amount as i128,
             ..Sums::NONE
         }),
         Part::Cash(amount) => Some(Sums {

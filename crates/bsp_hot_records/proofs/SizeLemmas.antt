@@ -27,13 +27,14 @@ small_more n m s more h = record {
   cash = omega arith;
   credit = omega arith;
   commission = omega arith;
+  tax = omega arith;
 }
 
 pub no_small : (n : ℕ) → AreSmall n no_sums
-no_small n = record { documents = omega arith; cash = omega arith; credit = omega arith; commission = omega arith }
+no_small n = record { documents = omega arith; cash = omega arith; credit = omega arith; commission = omega arith; tax = omega arith }
 
 pub one_small : AreSmall 1 one_document
-one_small = record { documents = omega arith; cash = omega arith; credit = omega arith; commission = omega arith }
+one_small = record { documents = omega arith; cash = omega arith; credit = omega arith; commission = omega arith; tax = omega arith }
 
 -- both together
 pub small_add : (n m : ℕ) (s t : Sums) → AreSmall n s → AreSmall m t → AreSmall (n + m) (add s t)
@@ -43,6 +44,7 @@ small_add n m s t h also = record {
   cash = omega (arith, abs_plus s.cash t.cash);
   credit = omega (arith, abs_plus s.credit t.credit);
   commission = omega (arith, abs_plus s.commission t.commission);
+  tax = omega (arith, abs_plus s.tax t.tax);
 }
 
 pub one_longer : (n : ℕ) (s : Sums) → AreSmall n s → AreSmall (n + 1) s

@@ -5,18 +5,19 @@ use Rattle.bsp_hot_records.specs.declared.model.Part.{Part as JudgedPart}
 use Rattle.bsp_hot_records.specs.declared.model.Part.TheVariants as part_is
 use Rattle.bsp_hot_records.specs.declared.model.Record.{Record as JudgedRecord}
 use Rattle.bsp_hot_records.specs.declared.model.Record.TheVariants as record_is
-use Rattle.bsp_hot_records.specs.Records.{Heading, Part, amounts, commission, related, cash, credit, exchange, Record, file_header, period_header, office_header, transaction_header, document, part, code_totals, office_totals, period_totals, file_totals, is_blank}
+use Rattle.bsp_hot_records.specs.Records.{Heading, Part, amounts, commission, commission_tax, related, cash, credit, exchange, Record, file_header, period_header, office_header, transaction_header, document, part, code_totals, office_totals, period_totals, file_totals, is_blank, number_in}
 
 abbrev pub judged_part : Part → JudgedPart
 judged_part (amounts a) = part_is.Amounts (not (is_blank a.taxes))
 judged_part (commission c) = part_is.Commission c.amount
-judged_part (related x) = part_is.Related x.airline
+judged_part (commission_tax t) = part_is.CommissionTax t.amount
+judged_part (related x) = part_is.Related (record { airline = x.airline; number = number_in x.number })
 judged_part (cash paid) = part_is.Cash paid
 judged_part (credit card) = part_is.Credit card.amount
 judged_part (exchange ex) = part_is.Exchange
 
 abbrev pub judged_heading : Heading → JudgedHeading
-judged_heading h = record { airline = h.airline; period = h.period; currency = h.currency }
+judged_heading h = record { airline = h.airline; period = h.period; currency = h.currency; form = h.form }
 
 abbrev pub judged : Record → JudgedRecord
 judged (file_header h) = record_is.FileHeader (judged_heading h)
@@ -36,6 +37,7 @@ IsSmallAmount amount = unsigned_abs amount ≤ 99_999_999_999
 
 abbrev pub IsSmallPart : JudgedPart → Type 0
 IsSmallPart (part_is.Commission amount) = IsSmallAmount amount
+IsSmallPart (part_is.CommissionTax amount) = IsSmallAmount amount
 IsSmallPart (part_is.Cash amount) = IsSmallAmount amount
 IsSmallPart (part_is.Credit amount) = IsSmallAmount amount
 IsSmallPart _ = Unit {0}

@@ -1,12 +1,14 @@
 //! The values of fields that are in their form.
 
-ghost use Rattle.std.specs.Prelude.{◌≡◌, ◌≤◌, length, true, false, IfSome, IfNone};
+ghost use Rattle.std.specs.Prelude.{◌≡◌, ◌+◌, ◌-◌, ◌≤◌, length, true, false, IfSome, IfNone};
 ghost use Rattle.std.specs.Str.{all_ascii_digits};
+ghost use Rattle.bsp_records.specs.Columns.{columns};
 ghost use Rattle.bsp_records.specs.Fields.{is_amount, is_total};
-ghost use Rattle.bsp_hot_records.specs.Records.{code_of, form_fits, tax_places_fit, totals_fit, number_in, amount_of, total_of, totals_of};
+ghost use Rattle.bsp_hot_records.specs.Records.{code_of, form_fits, tax_places_fit, totals_fit, rest_fits, number_in, amount_of, total_of, totals_of, tax_in};
 ghost use Rattle.bsp_hot_records.specs.Judged.{IsSmallAmount};
 
 use crate::code::DocumentCode;
+use crate::form::FileForm;
 use crate::totals::{Sums, Totals};
 use bsp_fields::{AirlineCode, DocNumber, PeriodCode, read_amount, read_total};
 use bsp_records::{all_digits, all_letters_or_digits, all_spaces, number_of, taxes_fit};
@@ -145,12 +147,50 @@ fn total_in(text: &[u8]) -> Option<i128>
     }
 }
 
-/// Eight digits of documents, and the totals of cash, credit, commission and net.
+/// The columns of a record from one to another, counted from 1, both included.
+fn columns(line: &[u8], from: usize, to: usize) -> &[u8]
+    requires first { 1 ≤ from }
+    requires order { from ≤ to }
+    requires inside { to ≤ length line.now }
+    ensures value { result.now ≡ columns from to line.now }
+{
+    &line[from - 1..to]
+}
+
+/// The total of tax on commission that form 2 has from that column on, and spaces behind it. In form
+/// 1, where there are spaces alone, it is 0.
+#[tactic(auto, unfolding(crate::specs::Records::rest_fits, crate::specs::Records::tax_in))]
+pub(crate) fn tax_in(form: FileForm, first: usize, line: &[u8]) -> Option<i128>
+    requires long { length line.now ≡ 136 }
+    requires begins { 1 ≤ first }
+    requires inside { first ≤ 121 }
+    ensures fits { IfSome result (λ tax. rest_fits form first line.now ≡ true) }
+    ensures value { IfSome result (λ tax. tax ≡ tax_in form first line.now) }
+    ensures none { IfNone result (rest_fits form first line.now ≡ false) }
+{
+    match form {
+        FileForm::One => {
+            if !all_spaces(columns(line, first, 136)) {
+                return None;
+            }
+            Some(0)
+        }
+        FileForm::Two => {
+            let tax = total_in(columns(line, first, first + 14))?;
+            if !all_spaces(columns(line, first + 15, 136)) {
+                return None;
+            }
+            Some(tax)
+        }
+    }
+}
+
+/// Eight digits of documents, and the totals of cash, credit, commission and net, with that tax.
 #[tactic(auto, unfolding(crate::specs::Records::totals_fit))]
-pub(crate) fn totals_in(text: &[u8]) -> Option<Totals>
+pub(crate) fn totals_in(text: &[u8], tax: i128) -> Option<Totals>
     requires { length text.now ≡ 68 }
     ensures fits { IfSome result (λ totals. totals_fit text.now ≡ true) }
-    ensures value { IfSome result (λ totals. totals ≡ totals_of text.now) }
+    ensures value { IfSome result (λ totals. totals ≡ totals_of text.now tax) }
     ensures none { IfNone result (totals_fit text.now ≡ false) }
 {
     let documents = count_in(&text[..8])?;
@@ -164,6 +204,7 @@ pub(crate) fn totals_in(text: &[u8]) -> Option<Totals>
             cash,
             credit,
             commission,
+            tax,
         },
         net,
     })

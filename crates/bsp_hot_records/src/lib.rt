@@ -5,6 +5,7 @@
 mod agent;
 mod code;
 mod fields;
+mod form;
 mod model;
 mod name;
 mod reading;
@@ -13,9 +14,10 @@ mod totals;
 
 pub use agent::AgentDigits;
 pub use code::DocumentCode;
+pub use form::FileForm;
 pub use model::{
     CodeTotals, Document, FileTotals, Heading, OfficeHeader, OfficeTotals, Part, PartOf,
-    PeriodTotals, Record, TransactionHeader,
+    PeriodTotals, Record, RelatedDocument, TransactionHeader,
 };
 pub use name::RecordName;
 pub use reading::read_record;

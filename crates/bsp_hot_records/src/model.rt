@@ -2,6 +2,7 @@
 
 use crate::agent::AgentDigits;
 use crate::code::DocumentCode;
+use crate::form::FileForm;
 use crate::totals::Totals;
 use bsp_fields::{AirlineCode, DocNumber, PeriodCode};
 
@@ -14,6 +15,8 @@ pub struct Heading {
     pub period: PeriodCode,
     /// The currency, three letters (ISO 4217).
     pub currency: [u8; 3],
+    /// The form of the file.
+    pub form: FileForm,
 }
 
 /// What BOH03 says of an office.
@@ -49,6 +52,15 @@ pub struct Document {
     pub number: DocNumber,
 }
 
+/// What is judged of BKS45: the airline and the number of the related document.
+#[derive(Clone, Copy)]
+pub struct RelatedDocument {
+    /// The airline.
+    pub airline: AirlineCode,
+    /// The number, which ten digits write.
+    pub number: u64,
+}
+
 /// A record behind BKS24. Amounts are in minor units.
 #[derive(Clone, Copy)]
 pub enum Part {
@@ -56,8 +68,10 @@ pub enum Part {
     Amounts(bool),
     /// BKS39, with the commission.
     Commission(i64),
-    /// BKS45, with its airline.
-    Related(AirlineCode),
+    /// BKS42, with the tax on the commission.
+    CommissionTax(i64),
+    /// BKS45.
+    Related(RelatedDocument),
     /// BKP84 with the form `CA`, and its amount.
     Cash(i64),
     /// BKP84 with the form `CC`, and its amount.
@@ -130,7 +144,7 @@ pub enum Record {
     TransactionHeader(TransactionHeader),
     /// BKS24.
     Document(Document),
-    /// BKS30, BKS39, BKS45 or BKP84.
+    /// BKS30, BKS39, BKS42, BKS45 or BKP84.
     PartOf(PartOf),
     /// BOT93.
     CodeTotals(CodeTotals),

@@ -21,6 +21,8 @@ pub enum RecordName {
     Bks30,
     /// The commission of a document.
     Bks39,
+    /// The tax on the commission of a document.
+    Bks42,
     /// The document that is exchanged or refunded.
     Bks45,
     /// A form of payment.
@@ -49,6 +51,7 @@ impl RecordName {
             b"24" => Some(RecordName::Bks24),
             b"30" => Some(RecordName::Bks30),
             b"39" => Some(RecordName::Bks39),
+            b"42" => Some(RecordName::Bks42),
             b"45" => Some(RecordName::Bks45),
             b"84" => Some(RecordName::Bkp84),
             b"93" => Some(RecordName::Bot93),
@@ -74,6 +77,7 @@ impl RecordName {
             RecordName::Bks24 => *b"24",
             RecordName::Bks30 => *b"30",
             RecordName::Bks39 => *b"39",
+            RecordName::Bks42 => *b"42",
             RecordName::Bks45 => *b"45",
             RecordName::Bkp84 => *b"84",
             RecordName::Bot93 => *b"93",

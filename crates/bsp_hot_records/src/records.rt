@@ -1,17 +1,19 @@
 //! What each record says that is judged, where its fields are in their form, by its columns.
 
 ghost use Rattle.std.specs.Prelude.{◌≡◌, length, IfSome};
+ghost use Rattle.bsp_hot_records.specs.declared.form.FileForm.{FileForm};
 ghost use Rattle.bsp_hot_records.specs.Judged.{IsSmallRecord};
 ghost use Rattle.bsp_hot_records.specs.Reading.{judged_if};
 
 use crate::agent::AgentDigits;
 use crate::fields::{
     airline_in, amount_in, code_of, count_in, currency_of, document_number_in, form_fits,
-    period_in, tax_places_fit, totals_in,
+    number_in, period_in, tax_in, tax_places_fit, totals_in,
 };
+use crate::form::FileForm;
 use crate::model::{
     CodeTotals, Document, FileTotals, Heading, OfficeHeader, OfficeTotals, Part, PartOf,
-    PeriodTotals, Record, TransactionHeader,
+    PeriodTotals, Record, RelatedDocument, TransactionHeader,
 };
 use crate::name::RecordName;
 use bsp_records::{all_digits, all_letters, all_spaces, is_amount, is_record_day, spells_at_most};
@@ -19,29 +21,30 @@ use bsp_records::{all_digits, all_letters, all_spaces, is_amount, is_record_day,
 #[tactic(auto, unfolding(crate::specs::Records::record_of, crate::specs::Records::fields_fit))]
 fn file_header(line: &[u8]) -> Option<Record>
     requires { length line.now ≡ 136 }
-    ensures value { result ≡ judged_if RecordName.Bfh01 line.now }
+    ensures value { (form : FileForm) → result ≡ judged_if form RecordName.Bfh01 line.now }
     ensures small { IfSome result IsSmallRecord }
 {
     let airline = airline_in(&line[13..16])?;
     let period = period_in(&line[16..21])?;
-    let fits = is_record_day(&line[21..27])
-        && all_letters(&line[27..30])
-        && &line[30..37] == b"PROD001".as_slice()
-        && all_spaces(&line[37..136]);
-    if !fits {
+    if !(is_record_day(&line[21..27]) && all_letters(&line[27..30])) {
+        return None;
+    }
+    let form = FileForm::of(&line[30..37])?;
+    if !all_spaces(&line[37..136]) {
         return None;
     }
     Some(Record::FileHeader(Heading {
         airline,
         period,
         currency: currency_of(&line[27..30]),
+        form,
     }))
 }
 
 #[tactic(auto, unfolding(crate::specs::Records::record_of, crate::specs::Records::fields_fit))]
 fn period_header(line: &[u8]) -> Option<Record>
     requires { length line.now ≡ 136 }
-    ensures value { result ≡ judged_if RecordName.Bch02 line.now }
+    ensures value { (form : FileForm) → result ≡ judged_if form RecordName.Bch02 line.now }
     ensures small { IfSome result IsSmallRecord }
 {
     let period = period_in(&line[13..18])?;
@@ -58,7 +61,7 @@ fn period_header(line: &[u8]) -> Option<Record>
 #[tactic(auto, unfolding(crate::specs::Records::record_of, crate::specs::Records::fields_fit))]
 fn office_header(line: &[u8]) -> Option<Record>
     requires { length line.now ≡ 136 }
-    ensures value { result ≡ judged_if RecordName.Boh03 line.now }
+    ensures value { (form : FileForm) → result ≡ judged_if form RecordName.Boh03 line.now }
     ensures small { IfSome result IsSmallRecord }
 {
     let agent = AgentDigits::read(&line[13..21])?;
@@ -77,7 +80,7 @@ fn office_header(line: &[u8]) -> Option<Record>
 #[inline]
 fn transaction_header(line: &[u8]) -> Option<Record>
     requires { length line.now ≡ 136 }
-    ensures value { result ≡ judged_if RecordName.Bkt06 line.now }
+    ensures value { (form : FileForm) → result ≡ judged_if form RecordName.Bkt06 line.now }
     ensures small { IfSome result IsSmallRecord }
 {
     let transaction = count_in(&line[13..21])?;
@@ -95,7 +98,7 @@ fn transaction_header(line: &[u8]) -> Option<Record>
 #[inline]
 fn document(line: &[u8]) -> Option<Record>
     requires { length line.now ≡ 136 }
-    ensures value { result ≡ judged_if RecordName.Bks24 line.now }
+    ensures value { (form : FileForm) → result ≡ judged_if form RecordName.Bks24 line.now }
     ensures small { IfSome result IsSmallRecord }
 {
     let transaction = count_in(&line[13..21])?;
@@ -123,7 +126,7 @@ fn document(line: &[u8]) -> Option<Record>
 #[inline]
 fn amounts(line: &[u8]) -> Option<Record>
     requires { length line.now ≡ 136 }
-    ensures value { result ≡ judged_if RecordName.Bks30 line.now }
+    ensures value { (form : FileForm) → result ≡ judged_if form RecordName.Bks30 line.now }
     ensures small { IfSome result IsSmallRecord }
 {
     let transaction = count_in(&line[13..21])?;
@@ -141,7 +144,7 @@ fn amounts(line: &[u8]) -> Option<Record>
 #[inline]
 fn commission(line: &[u8]) -> Option<Record>
     requires { length line.now ≡ 136 }
-    ensures value { result ≡ judged_if RecordName.Bks39 line.now }
+    ensures value { (form : FileForm) → result ≡ judged_if form RecordName.Bks39 line.now }
     ensures small { IfSome result IsSmallRecord }
 {
     let transaction = count_in(&line[13..21])?;
@@ -160,20 +163,41 @@ fn commission(line: &[u8]) -> Option<Record>
 
 #[tactic(auto, unfolding(crate::specs::Records::record_of, crate::specs::Records::fields_fit))]
 #[inline]
-fn related(line: &[u8]) -> Option<Record>
+fn commission_tax(line: &[u8]) -> Option<Record>
     requires { length line.now ≡ 136 }
-    ensures value { result ≡ judged_if RecordName.Bks45 line.now }
+    ensures value { (form : FileForm) → result ≡ judged_if form RecordName.Bks42 line.now }
     ensures small { IfSome result IsSmallRecord }
 {
     let transaction = count_in(&line[13..21])?;
-    let airline = airline_in(&line[21..24])?;
-    let fits = all_digits(&line[24..34]) && all_digits(&line[34..35]) && all_spaces(&line[35..136]);
-    if !fits {
+    if !spells_at_most(10_000, &line[21..26]) {
+        return None;
+    }
+    let tax = amount_in(&line[26..37])?;
+    if !all_spaces(&line[37..136]) {
         return None;
     }
     Some(Record::PartOf(PartOf {
         transaction,
-        part: Part::Related(airline),
+        part: Part::CommissionTax(tax),
+    }))
+}
+
+#[tactic(auto, unfolding(crate::specs::Records::record_of, crate::specs::Records::fields_fit))]
+#[inline]
+fn related(line: &[u8]) -> Option<Record>
+    requires { length line.now ≡ 136 }
+    ensures value { (form : FileForm) → result ≡ judged_if form RecordName.Bks45 line.now }
+    ensures small { IfSome result IsSmallRecord }
+{
+    let transaction = count_in(&line[13..21])?;
+    let airline = airline_in(&line[21..24])?;
+    let number = number_in(&line[24..34])?;
+    if !(all_digits(&line[34..35]) && all_spaces(&line[35..136])) {
+        return None;
+    }
+    Some(Record::PartOf(PartOf {
+        transaction,
+        part: Part::Related(RelatedDocument { airline, number }),
     }))
 }
 
@@ -181,7 +205,7 @@ fn related(line: &[u8]) -> Option<Record>
 #[inline]
 fn payment(line: &[u8]) -> Option<Record>
     requires { length line.now ≡ 136 }
-    ensures value { result ≡ judged_if RecordName.Bkp84 line.now }
+    ensures value { (form : FileForm) → result ≡ judged_if form RecordName.Bkp84 line.now }
     ensures small { IfSome result IsSmallRecord }
 {
     let transaction = count_in(&line[13..21])?;
@@ -201,17 +225,15 @@ fn payment(line: &[u8]) -> Option<Record>
 }
 
 #[tactic(auto, unfolding(crate::specs::Records::record_of, crate::specs::Records::fields_fit))]
-fn code_totals(line: &[u8]) -> Option<Record>
+fn code_totals(form: FileForm, line: &[u8]) -> Option<Record>
     requires { length line.now ≡ 136 }
-    ensures value { result ≡ judged_if RecordName.Bot93 line.now }
+    ensures value { result ≡ judged_if form RecordName.Bot93 line.now }
     ensures small { IfSome result IsSmallRecord }
 {
     let agent = AgentDigits::read(&line[13..21])?;
     let code = code_of(&line[21..25])?;
-    let totals = totals_in(&line[25..93])?;
-    if !all_spaces(&line[93..136]) {
-        return None;
-    }
+    let tax = tax_in(form, 94, line)?;
+    let totals = totals_in(&line[25..93], tax)?;
     Some(Record::CodeTotals(CodeTotals {
         agent,
         code,
@@ -220,31 +242,27 @@ fn code_totals(line: &[u8]) -> Option<Record>
 }
 
 #[tactic(auto, unfolding(crate::specs::Records::record_of, crate::specs::Records::fields_fit))]
-fn office_totals(line: &[u8]) -> Option<Record>
+fn office_totals(form: FileForm, line: &[u8]) -> Option<Record>
     requires { length line.now ≡ 136 }
-    ensures value { result ≡ judged_if RecordName.Bot94 line.now }
+    ensures value { result ≡ judged_if form RecordName.Bot94 line.now }
     ensures small { IfSome result IsSmallRecord }
 {
     let agent = AgentDigits::read(&line[13..21])?;
-    let totals = totals_in(&line[21..89])?;
-    if !all_spaces(&line[89..136]) {
-        return None;
-    }
+    let tax = tax_in(form, 90, line)?;
+    let totals = totals_in(&line[21..89], tax)?;
     Some(Record::OfficeTotals(OfficeTotals { agent, totals }))
 }
 
 #[tactic(auto, unfolding(crate::specs::Records::record_of, crate::specs::Records::fields_fit))]
-fn period_totals(line: &[u8]) -> Option<Record>
+fn period_totals(form: FileForm, line: &[u8]) -> Option<Record>
     requires { length line.now ≡ 136 }
-    ensures value { result ≡ judged_if RecordName.Bct95 line.now }
+    ensures value { result ≡ judged_if form RecordName.Bct95 line.now }
     ensures small { IfSome result IsSmallRecord }
 {
     let period = period_in(&line[13..18])?;
     let offices = count_in(&line[18..26])?;
-    let totals = totals_in(&line[26..94])?;
-    if !all_spaces(&line[94..136]) {
-        return None;
-    }
+    let tax = tax_in(form, 95, line)?;
+    let totals = totals_in(&line[26..94], tax)?;
     Some(Record::PeriodTotals(PeriodTotals {
         period,
         offices,
@@ -253,17 +271,15 @@ fn period_totals(line: &[u8]) -> Option<Record>
 }
 
 #[tactic(auto, unfolding(crate::specs::Records::record_of, crate::specs::Records::fields_fit))]
-fn file_totals(line: &[u8]) -> Option<Record>
+fn file_totals(form: FileForm, line: &[u8]) -> Option<Record>
     requires { length line.now ≡ 136 }
-    ensures value { result ≡ judged_if RecordName.Bft99 line.now }
+    ensures value { result ≡ judged_if form RecordName.Bft99 line.now }
     ensures small { IfSome result IsSmallRecord }
 {
     let airline = airline_in(&line[13..16])?;
     let records = count_in(&line[16..24])?;
-    let totals = totals_in(&line[24..92])?;
-    if !all_spaces(&line[92..136]) {
-        return None;
-    }
+    let tax = tax_in(form, 93, line)?;
+    let totals = totals_in(&line[24..92], tax)?;
     Some(Record::FileTotals(FileTotals {
         airline,
         records,
@@ -271,11 +287,11 @@ fn file_totals(line: &[u8]) -> Option<Record>
     }))
 }
 
-/// What a record with the name says that is judged, where its fields are in their form.
+/// What a record with the name in a file of the form says that is judged, where its fields fit.
 #[inline]
-pub(crate) fn record_of(name: RecordName, line: &[u8]) -> Option<Record>
+pub(crate) fn record_of(form: FileForm, name: RecordName, line: &[u8]) -> Option<Record>
     requires { length line.now ≡ 136 }
-    ensures value { result ≡ judged_if name line.now }
+    ensures value { result ≡ judged_if form name line.now }
     ensures small { IfSome result IsSmallRecord }
 {
     match name {
@@ -286,11 +302,12 @@ pub(crate) fn record_of(name: RecordName, line: &[u8]) -> Option<Record>
         RecordName::Bks24 => document(line),
         RecordName::Bks30 => amounts(line),
         RecordName::Bks39 => commission(line),
+        RecordName::Bks42 => commission_tax(line),
         RecordName::Bks45 => related(line),
         RecordName::Bkp84 => payment(line),
-        RecordName::Bot93 => code_totals(line),
-        RecordName::Bot94 => office_totals(line),
-        RecordName::Bct95 => period_totals(line),
-        RecordName::Bft99 => file_totals(line),
+        RecordName::Bot93 => code_totals(form, line),
+        RecordName::Bot94 => office_totals(form, line),
+        RecordName::Bct95 => period_totals(form, line),
+        RecordName::Bft99 => file_totals(form, line),
     }
 }

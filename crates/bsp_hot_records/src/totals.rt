@@ -1,10 +1,10 @@
 //! What documents add up to.
 
-ghost use Rattle.std.specs.Prelude.{◌≡◌, ◌-◌, ◌^◌, ◌-ℤ◌};
-ghost use Rattle.bsp_hot_records.specs.Sums.{add, is_same, has_totals, AreSmall};
+ghost use Rattle.std.specs.Prelude.{◌≡◌, ◌-◌, ◌^◌};
+ghost use Rattle.bsp_hot_records.specs.Sums.{add, net_of, is_same, has_totals, AreSmall};
 
-/// What documents add up to: how many there are, and their cash, credit and commission in minor
-/// units.
+/// What documents add up to: how many there are, and their cash, credit, commission and tax on
+/// commission in minor units.
 #[derive(Clone, Copy, Debug, PartialEq, Eq)]
 pub struct Sums {
     /// How many documents there are.
@@ -15,14 +15,16 @@ pub struct Sums {
     pub credit: i128,
     /// The commission (BKS39), in minor units.
     pub commission: i128,
+    /// The tax on commission (BKS42), in minor units; none in form 1.
+    pub tax: i128,
 }
 
-/// Sums, and their net: cash less commission.
+/// Sums, and their net: cash less commission and tax on commission.
 #[derive(Clone, Copy)]
 pub struct Totals {
     /// The sums.
     pub sums: Sums,
-    /// Cash less commission, in minor units.
+    /// Cash less commission and tax on commission, in minor units.
     pub net: i128,
 }
 
@@ -33,6 +35,7 @@ impl Sums {
         cash: 0,
         credit: 0,
         commission: 0,
+        tax: 0,
     };
 
     /// Of a document alone.
@@ -41,6 +44,7 @@ impl Sums {
         cash: 0,
         credit: 0,
         commission: 0,
+        tax: 0,
     };
 
     /// Both together.
@@ -57,15 +61,16 @@ impl Sums {
             cash: self.cash + other.cash,
             credit: self.credit + other.credit,
             commission: self.commission + other.commission,
+            tax: self.tax + other.tax,
         }
     }
 
-    /// The net: cash less commission.
+    /// The net: cash less commission and tax on commission.
     pub fn net(self) -> i128
         requires { AreSmall (2 ^ 63) self }
-        ensures { result ≡ self.cash -ℤ self.commission }
+        ensures { result ≡ net_of self }
     {
-        self.cash - self.commission
+        self.cash - self.commission - self.tax
     }
 
     /// Whether the sums are the same.
@@ -77,9 +82,10 @@ impl Sums {
             && self.cash == other.cash
             && self.credit == other.credit
             && self.commission == other.commission
+            && self.tax == other.tax
     }
 
-    /// Whether the totals are of these sums, and their net is cash less commission.
+    /// Whether the totals are of these sums, with their net.
     #[tactic(auto, unfolding(crate::specs::Sums::has_totals))]
     pub fn has(self, totals: Totals) -> bool
         requires { AreSmall (2 ^ 63) self }

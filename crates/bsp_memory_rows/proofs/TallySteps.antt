@@ -13,7 +13,7 @@ use Rattle.bsp_rows.specs.Owed.{is_billed_in, is_period}
 use Rattle.bsp_rows.specs.Posting.{Posting}
 use Rattle.bsp_rows.specs.Tally.{Tally}
 use Rattle.bsp_rows.specs.Postings.{is_counted, item_posting, postings}
-use Rattle.bsp_rows.specs.Nets.{cash_of, credit_of, commission_of, memos_of}
+use Rattle.bsp_rows.specs.Nets.{cash_of, credit_of, commission_of, tax_of, memos_of}
 use Rattle.bsp_rows.specs.Removal.{not_counting, without_item, without_memo, without_posting}
 use Rattle.bsp_rows.specs.PostingsTallies.{IsTallyOf, counting, is_item_under, is_memo_under, items_under, under, with_item, with_memo, with_posting}
 use Rattle.bsp_rows.specs.RulesRows.{is_canx}
@@ -39,6 +39,7 @@ is_tally items memos t = record {
   cash = refl;
   credit = refl;
   commission = refl;
+  tax = refl;
   memos = refl;
 }
 
@@ -62,6 +63,7 @@ one_tally items memos s t is agent airline period =
       cash = (is.cash ∙ ap cash_of rows) j;
       credit = (is.credit ∙ ap credit_of rows) j;
       commission = (is.commission ∙ ap commission_of rows) j;
+      tax = (is.tax ∙ ap tax_of rows) j;
       memos = (is.memos ∙ ap memos_of rows) j;
     }
 

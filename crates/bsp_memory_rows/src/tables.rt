@@ -54,6 +54,8 @@ fn ended(item: &Item) -> Item
         period: item.period,
         transaction: item.transaction,
         lives: false,
+        tax: item.tax,
+        hundredths: item.hundredths,
     }
 }
 

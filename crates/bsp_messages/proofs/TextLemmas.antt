@@ -1,5 +1,8 @@
 -- Lemmas on texts that are written piece by piece.
 use Rattle.std.proofs.Common.{◌≡◌, ◌∙◌, ℕ, suc, ◌+◌, ◌%◌, ◌<◌, Bool, true, false, ◌||◌, nat_lt, zero, ◌/◌, lit<, List, [], ◌∷◌, ◌++◌, length, take, get_or, refl, sym, ap, ap₂, append_assoc, append-nil, map, codes, decimal, arith}
+use Rattle.std.specs.Prelude.{Result, Ok, Err, IfOk, IsOkAnd}
+use Rattle.std.specs.Global.{Vec}
+use Rattle.std.specs.declared.alloc.AllocError.{AllocError}
 use Rattle.std.proofs.lemmas.Bool.{lt-ltb}
 use Rattle.std.proofs.lemmas.Grind.{flat_map-append}
 use Rattle.std.proofs.lemmas.List.{map-append}
@@ -152,3 +155,9 @@ pub one_object_more : {A : Type 0} (f : A → Data) (xs : List A) (i : ℕ) (x :
 one_object_more f xs i x h =
     let next : i + 1 ≡ suc i = omega arith in
     ap (λ (k : ℕ). map f (take k xs)) next ∙ ap (map f) (take-suc xs i x h) ∙ map-append f (take i xs) (get_or xs i x ∷ [])
+
+-- ---- a text that was written, or for which there was no room
+
+pub written_text : (written : Result (Vec ℕ) AllocError) (text front wanted : List ℕ) → IfOk written (λ item. item.items ≡ wanted) → IsOkAnd written (λ item. text ≡ front ++ item.items) → text ≡ front ++ wanted
+written_text (Ok item) text front wanted is pushed = pushed ∙ ap (λ (t : List ℕ). front ++ t) is
+written_text (Err e) text front wanted is pushed = absurd pushed

@@ -50,7 +50,7 @@ pub struct PeriodShown {
     pub closed: bool,
     /// How many living TKTT and RFND the agent has in it.
     pub documents: u64,
-    /// What the agent owes for it in minor units, billed memos included.
+    /// What the agent owes for it in minor units: cash less commission less the tax on it, and billed memos.
     pub net: i128,
     /// Its code.
     pub period: PeriodCode,

@@ -1,7 +1,7 @@
 //! The objects of answers, as values of `serde_json` and as their texts.
 
 ghost use Rattle.std.specs.Prelude.{◌≡◌, ℕ, List, Some, IfOk, OnOk, codes};
-ghost use Rattle.serde_json.specs.Data.{boolean, number, put, string, unsigned};
+ghost use Rattle.serde_json.specs.Data.{boolean, no_members, number, object as whole, put, string, unsigned};
 ghost use Rattle.serde_json.specs.Find.{of_integer};
 ghost use Rattle.bsp_fields.specs.Decimal.{fixed_digits};
 ghost use Rattle.bsp_fields.specs.Days.{day_text};
@@ -70,14 +70,26 @@ fn put_shown<D: Display>(
     )
 }
 
+/// Puts the numbers of a range, and how many of them are used, into an object.
+fn put_range(
+    alloc: Global,
+    object: &mut Map<String, Value>,
+    shown: &RangeShown,
+) -> Result<(), AllocError>
+    ensures { OnOk result (members_view object.new.entries ≡ put (codes "used") (number (unsigned shown.now.used)) (put (codes "last") (string (fixed_digits 10 shown.now.range.last)) (put (codes "first") (string (fixed_digits 10 shown.now.range.first)) (members_view object.old.entries)))) }
+{
+    put_shown(alloc, object, "first", &shown.range.first)?;
+    put_shown(alloc, object, "last", &shown.range.last)?;
+    put(alloc, object, "used", Value::from(shown.used))?;
+    Ok(())
+}
+
 /// `{"first":"..","last":"..","used":1}`.
 fn range_value(alloc: Global, shown: &RangeShown) -> Result<Value, AllocError>
     ensures { IfOk result (λ value. view value ≡ range_object shown.now) }
 {
     let mut object = Map::new(alloc);
-    put_shown(alloc, &mut object, "first", &shown.range.first)?;
-    put_shown(alloc, &mut object, "last", &shown.range.last)?;
-    put(alloc, &mut object, "used", Value::from(shown.used))?;
+    put_range(alloc, &mut object, shown)?;
     Ok(Value::Object(object))
 }
 
@@ -129,13 +141,24 @@ fn put_terms(
     Ok(())
 }
 
+/// Puts the fields of a memo into an object that has no members.
+fn put_memo(
+    alloc: Global,
+    object: &mut Map<String, Value>,
+    memo: &MemoFields,
+) -> Result<(), AllocError>
+    ensures { OnOk result (members_view object.old.entries ≡ no_members → whole (members_view object.new.entries) ≡ memo_object memo.now) }
+{
+    put_parties(alloc, object, memo)?;
+    put_terms(alloc, object, memo)
+}
+
 /// An object of a memo's fields.
 fn memo_value(alloc: Global, memo: &MemoFields) -> Result<Value, AllocError>
     ensures { IfOk result (λ value. view value ≡ memo_object memo.now) }
 {
     let mut object = Map::new(alloc);
-    put_parties(alloc, &mut object, memo)?;
-    put_terms(alloc, &mut object, memo)?;
+    put_memo(alloc, &mut object, memo)?;
     Ok(Value::Object(object))
 }
 

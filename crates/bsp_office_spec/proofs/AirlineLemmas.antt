@@ -22,7 +22,6 @@ use Rattle.bsp_rows.specs.Lives.Event.{Closed}
 use Rattle.bsp_rows.specs.Steps.{Action}
 use Rattle.bsp_rows.specs.MemoFields.{MemoFields}
 use Rattle.bsp_messages.specs.declared.airline_bodies.MemoIssue.{MemoIssue}
-use Rattle.bsp_rows.specs.declared.keys.ItemKey.{ItemKey}
 use Rattle.bsp_rows.specs.declared.keys.MemoKey.{MemoKey}
 use Rattle.bsp_rows.specs.Changes.{IsAcceptance, after_accepted, each, ended_where, facts_at, sale_key}
 use Rattle.bsp_rows.specs.Part.{kept}
@@ -35,17 +34,15 @@ use Rattle.bsp_rows.proofs.KeyOrders.{item_exact, item_total, memo_exact, memo_t
 use Rattle.bsp_rows.proofs.MapLemmas.{get_other, get_written}
 use Rattle.bsp_rows.proofs.PartLemmas.{changed_none, each_get, kept_beside, kept_changed, kept_each, kept_get, kept_insert, passing}
 use Rattle.bsp_office_spec.specs.AirlineLedger.{AirlineLedger, airline_ledger_of, issue_key, new_memo, no_token}
-use Rattle.bsp_office_spec.specs.AirlineView.{AirlineSight, airline_acted, airline_after, airline_all, airline_issued, airline_planned, taken_in, taken_of, taken_one, with_airline_items}
+use Rattle.bsp_office_spec.specs.AirlineView.{AirlineSight, airline_acted, airline_after, airline_all, airline_issued, airline_planned, taken_in, taken_item, taken_of, taken_one, with_airline_items}
 use Rattle.bsp_office_spec.specs.AirlineView.AirlineSight.{Known, Renewed, Taken}
 use Rattle.bsp_office_spec.specs.Ledger.{Ledger, agent_of, ended_in, ledger_of, new_item, own_verdict, own_verdicts, review_of}
 use Rattle.bsp_office_spec.specs.Step.{AreGroups, bearer, joined, office_verdict, office_verdict_for, office_verdicts, reporter, rows_filed, rows_judged, with_action, with_close}
+use Rattle.bsp_office_spec.proofs.AirlineTax.{bears_airline, taken_as_accepted}
 use Rattle.bsp_office_spec.proofs.ChangeLemmas.{accepts, office_judged_keeps, own_judged_keeps, reported_own}
 use Rattle.bsp_office_spec.proofs.Invariant.{sound_is_kept}
 use Rattle.bsp_office_spec.proofs.Seen.{of_its_airline}
 use Rattle.bsp_office_spec.proofs.SeenLemmas.{judged_own, other_key, passing_none, taken_is}
-
-abbrev pub bears_airline : ℕ → ItemKey × Item → Bool
-bears_airline airline e = e.1.transaction.document.airline == airline
 
 abbrev tables : Option (List ℕ) → FinMap item_cmp Item → FinMap memo_cmp MemoFields → FinMap nat_cmp (List ℕ) → Plan → AirlineLedger
 tables token items memos agents plan = record { own = record { token = token; items = items; memos = memos }; agents = agents; published = plan }
@@ -148,12 +145,13 @@ module _ (c : ℕ) (who : Reporter) (rows : Rows) (item : Item) (s : Sound rows)
       ∙ ap (with_items c rows) (kept_beside item_total item_exact (bears_airline c) (ended_in item rows.items) (key_of item) item other (ap (passing (bears_airline c) (key_of item)) free)
       ∙ (kept_ended_by c item rows.items (is_canx item) ∙ ended_beside (is_canx item) refl))
 
-taken_by : (c : ℕ) (who : Reporter) (b : ℕ) (t : Transaction) (period : ℕ) (rows : Rows) → Sound rows → IsAcceptance who rows (new_item b t period) → (x : Bool) → (t.document.airline == c) ≡ x → airline_ledger_of c (after_accepted (new_item b t period) rows) ≡ airline_all c (airline_ledger_of c rows) (cond x (Taken b t ∷ []) [])
+taken_by : (c : ℕ) (who : Reporter) (b : ℕ) (t : Transaction) (period : ℕ) (rows : Rows) → Sound rows → IsAcceptance who rows (new_item b (ledger_of b rows) t period) → (x : Bool) → (t.document.airline == c) ≡ x → airline_ledger_of c (after_accepted (new_item b (ledger_of b rows) t period) rows) ≡ airline_all c (airline_ledger_of c rows) (cond x (Taken b t ∷ []) [])
 taken_by c who b t period rows s a true h =
     let target = ((accepted_is_passed who t (facts_at b t rows) rows.published period).0 a.accepted).target in
-    accepted_own c (new_item b t period) rows h
-    ∙ ap (λ (p : ℕ). with_airline_items (new_item b t p) (airline_ledger_of c rows)) (sym (ap (λ (o : Option ℕ). unwrap_or o 0) target))
-taken_by c who b t period rows s a false h = accepted_other c who rows (new_item b t period) s a h
+    accepted_own c (new_item b (ledger_of b rows) t period) rows h
+    ∙ (ap (λ (item : Item). with_airline_items item (airline_ledger_of c rows)) (taken_as_accepted c who b t period rows s a h)
+    ∙ ap (λ (p : ℕ). with_airline_items (taken_item b (airline_ledger_of c rows) t p) (airline_ledger_of c rows)) (sym (ap (λ (o : Option ℕ). unwrap_or o 0) target)))
+taken_by c who b t period rows s a false h = accepted_other c who rows (new_item b (ledger_of b rows) t period) s a h
 
 -- ---- files
 

@@ -6,6 +6,8 @@ use Rattle.bsp_rows.specs.Decimal.{fixed_digits}
 use Rattle.bsp_rows.specs.Codes.{agent_reading}
 use Rattle.bsp_rows.specs.GroupValues.{is_group_values}
 use Rattle.bsp_rows.specs.Transaction.{Transaction}
+use Rattle.bsp_rules.specs.Tax.{accepted_item}
+use Rattle.bsp_rules.specs.declared.facts.Facts.{Facts}
 use Rattle.bsp_rows.specs.FactsOf.{facts_in}
 use Rattle.bsp_rows.specs.Verdicts.{verdict_on}
 use Rattle.bsp_rows.specs.Item.{Item}
@@ -23,14 +25,14 @@ use Rattle.bsp_rows.specs.declared.keys.MemoKey.{MemoKey}
 use Rattle.bsp_rows.specs.Rows.{Rows, agent_items, ranges_of, range_of, agent_token, memo_key, memo_cmp, range_key, range_at, has_meeting, is_used_in}
 use Rattle.bsp_rows.specs.Writes.{with_memo, with_range, without_range}
 use Rattle.bsp_rows.proofs.KeyOrders.{item_total, item_exact, range_total, range_exact, memo_exact}
-use Rattle.bsp_rows.specs.Changes.{IsAcceptance, after_accepted}
+use Rattle.bsp_rows.specs.Changes.{IsAcceptance, after_accepted, facts_at}
 use Rattle.bsp_rows.proofs.KeyOrders.{memo_total}
 use Rattle.bsp_rows.proofs.MeaningLemmas.{accepted_is_passed, agent_is_reporters}
 use Rattle.bsp_rows.specs.FieldFault.{FieldFault}
 use Rattle.bsp_rows.specs.Decimal.{fixed_digits}
 use Rattle.std.specs.Result.{result_ok}
 use Rattle.bsp_rows.proofs.MapLemmas.{same_Some}
-use Rattle.bsp_office_spec.specs.Ledger.{Ledger, ledger_of, own_verdict, own_verdicts, new_item, ranges_in, review_of}
+use Rattle.bsp_office_spec.specs.Ledger.{Ledger, ledger_of, new_item, own_facts, own_verdict, own_verdicts, ranges_in, review_of}
 use Rattle.bsp_office_spec.specs.Step.{bearer, reporter, joined, rows_judged, rows_filed, office_verdict, office_verdict_for, office_verdicts, AreGroups, with_action, is_registered, is_last, has_range, allotment, withdrawal, allotted, withdrawn, registered_as}
 use Rattle.bsp_rows.proofs.PartLemmas.{kept_entries, changed_none, changed_some}
 use Rattle.bsp_office_spec.proofs.SeenLemmas.{own_item, own_range, judged_own}
@@ -51,10 +53,16 @@ part_items a rows = ap (map (λ (e : ItemKey × Item). e.1)) (kept_entries item_
 pub part_ranges : (a : ℕ) (rows : Rows) → ranges_in (ledger_of a rows).own ≡ ranges_of a rows
 part_ranges a rows = ap (map range_of) (kept_entries range_total range_exact (own_range a) rows.ranges)
 
-pub part_verdict : (who : Reporter) (a : ℕ) (rows : Rows) (t : Transaction) → own_verdict who (ledger_of a rows) t ≡ verdict_on who t (facts_in (is_some (agent_token a rows)) (ranges_of a rows) (agent_items a rows) t rows.published) rows.published
-part_verdict who a rows t =
-    ap (λ (rs : List Range). verdict_on who t (facts_in (is_some (agent_token a rows)) rs (values (ledger_of a rows).own.items) t rows.published) rows.published) (part_ranges a rows)
-    ∙ ap (λ (is : List Item). verdict_on who t (facts_in (is_some (agent_token a rows)) (ranges_of a rows) is t rows.published) rows.published) (part_items a rows)
+pub part_facts : (a : ℕ) (rows : Rows) (t : Transaction) → own_facts (ledger_of a rows) t ≡ facts_at a t rows
+part_facts a rows t =
+    ap (λ (rs : List Range). facts_in (is_some (agent_token a rows)) rs (values (ledger_of a rows).own.items) t rows.published) (part_ranges a rows)
+    ∙ ap (λ (is : List Item). facts_in (is_some (agent_token a rows)) (ranges_of a rows) is t rows.published) (part_items a rows)
+
+pub part_verdict : (who : Reporter) (a : ℕ) (rows : Rows) (t : Transaction) → own_verdict who (ledger_of a rows) t ≡ verdict_on who t (facts_at a t rows) rows.published
+part_verdict who a rows t = ap (λ (f : Facts). verdict_on who t f rows.published) (part_facts a rows t)
+
+pub part_item : (a : ℕ) (rows : Rows) (t : Transaction) (period : ℕ) → new_item a (ledger_of a rows) t period ≡ accepted_item a period t (facts_at a t rows).related rows.published
+part_item a rows t period = ap (λ (f : Facts). accepted_item a period t f.related rows.published) (part_facts a rows t)
 
 -- ---- files
 
@@ -72,19 +80,19 @@ accepted_own b t l period h reads =
 pub reported_own : (b : ℕ) (t : Transaction) (rows : Rows) (period : ℕ) → own_verdict (Agent b) (ledger_of b rows) t ≡ verdict.Accepted period → agent_of (fixed_digits 8 b) ≡ Some b → agent_of t.agent ≡ Some b
 reported_own b t rows = accepted_own b t (ledger_of b rows)
 
-pub accepts : (who : Reporter) (b : ℕ) (t : Transaction) (period : ℕ) (rows : Rows) → is_group_values t ≡ true → agent_of t.agent ≡ Some b → own_verdict who (ledger_of b rows) t ≡ verdict.Accepted period → IsAcceptance who rows (new_item b t period)
+pub accepts : (who : Reporter) (b : ℕ) (t : Transaction) (period : ℕ) (rows : Rows) → is_group_values t ≡ true → agent_of t.agent ≡ Some b → own_verdict who (ledger_of b rows) t ≡ verdict.Accepted period → IsAcceptance who rows (new_item b (ledger_of b rows) t period)
 accepts who b t period rows group bears h = record {
   group = group;
   bears = read_ok (agent_reading t.agent) b bears;
-  lives = refl;
+  as_accepted = part_item b rows t period;
   accepted = sym (part_verdict who b rows t) ∙ h;
 }
 
 module _ (P : Rows → Type 0) (kept : IsKept P) where
   -- ---- accepted transactions
 
-  joins_keeps : (who : Reporter) (b : ℕ) (t : Transaction) (period : ℕ) (rows : Rows) → P rows → is_group_values t ≡ true → agent_of t.agent ≡ Some b → own_verdict who (ledger_of b rows) t ≡ verdict.Accepted period → P (after_accepted (new_item b t period) rows)
-  joins_keeps who b t period rows s group bears h = kept.accepted who rows (new_item b t period) s (accepts who b t period rows group bears h)
+  joins_keeps : (who : Reporter) (b : ℕ) (t : Transaction) (period : ℕ) (rows : Rows) → P rows → is_group_values t ≡ true → agent_of t.agent ≡ Some b → own_verdict who (ledger_of b rows) t ≡ verdict.Accepted period → P (after_accepted (new_item b (ledger_of b rows) t period) rows)
+  joins_keeps who b t period rows s group bears h = kept.accepted who rows (new_item b (ledger_of b rows) t period) s (accepts who b t period rows group bears h)
 
   pub own_judged_keeps : (b : ℕ) (t : Transaction) (rows : Rows) → agent_of (fixed_digits 8 b) ≡ Some b → P rows → is_group_values t ≡ true → (v : Verdict) → own_verdict (Agent b) (ledger_of b rows) t ≡ v → P (rows_judged (reporter (Some b)) t v rows)
   own_judged_keeps b t rows reads s group (verdict.Held period) h = s

@@ -111,6 +111,7 @@ closed_stays office rows exchanges new code q run fits s is =
     let at_end = run_keeps (Stays code rows) (stays_is_kept rows code q is) office rows exchanges new run fits start in
     record {
       period = at_end.grows.closed_periods code q is ∙ sym is;
+      form = at_end.grows.forms code;
       terms = terms_by rows code q is rows.published.terms new.published refl s.plan at_end.grows;
       items = at_end.items;
       memos = at_end.memos;

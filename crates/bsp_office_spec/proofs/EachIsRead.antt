@@ -17,7 +17,7 @@ use Rattle.bsp_hot.specs.Content.{HasContent, InBoth, IsContent}
 use Rattle.bsp_hot.specs.Ret.{AreGroups, Group, HasBody, IsForm, IsGroup, IsRecord}
 use Rattle.bsp_hot.specs.Table.{first_fault}
 use Rattle.bsp_hot.specs.RetFault.{RetFault}
-use Rattle.bsp_hot.proofs.BodyLemmas.{body_facts}
+use Rattle.bsp_hot.proofs.BodyLemmas.{body_facts, first_related, second_related}
 use Rattle.bsp_hot.proofs.LawLemmas.{law}
 use Rattle.bsp_rows.specs.Records.{agent, agent_and_document, amounts_fit, code_of, commission, document, fare, issued, passenger, payment_amount, rate, related_document, related_fits, sale_fits, vendor}
 use Rattle.bsp_rows.specs.Values.{AreAmounts, AreTaxes, IsCardPayment, IsDocument, IsPayment, IsRelated, IsTax}
@@ -121,7 +121,8 @@ content_read n g code is sale body =
     omega (arith, width g.sale sale.wide, length-take 14 (drop 8 (agent_and_document g.sale)), length-drop 8 (agent_and_document g.sale), length-take 22 (drop 11 g.sale), length-drop 11 g.sale) in
     let of_document = document_read (document g.sale) long fields.document in
     let day = value_of (record_reading (issued g.sale)) fields.day in
-    let of_related = both IsRelated (IsRecord 51 n related_fits) (related_read n) g.related facts.related in
+    let of_related = both IsRelated (IsRecord 51 n related_fits) (related_read n) g.related (first_related n g.related g.second facts.related) in
+    let of_second = both IsRelated (IsRecord 51 n related_fits) (related_read n) g.second (second_related n g.related g.second facts.related) in
     let of_amounts = both AreAmounts (IsRecord 53 n amounts_fit) (amounts_read n) g.amounts facts.amounts in
     let of_cash = both IsPayment (IsForm n Cash) (payment_read n Cash) g.cash facts.cash in
     let of_credit = both IsCardPayment (IsForm n Credit) (card_read n) g.credit facts.credit in
@@ -132,7 +133,7 @@ content_read n g code is sale body =
         document = of_document.0;
         issued = day.0;
         passenger = passenger g.sale;
-        related = of_related.0 ∷ None ∷ [];
+        related = of_related.0 ∷ of_second.0 ∷ [];
         amounts = of_amounts.0;
         cash = of_cash.0;
         credit = of_credit.0;
@@ -144,7 +145,7 @@ content_read n g code is sale body =
         document = of_document.1;
         issued = day.1;
         passenger = refl;
-        related = (of_related.1, refl);
+        related = (of_related.1, of_second.1);
         amounts = of_amounts.1;
         cash = of_cash.1;
         credit = of_credit.1;

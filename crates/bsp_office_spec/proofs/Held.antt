@@ -87,7 +87,7 @@ one_item rows k l i j s at there own same =
     let keyed = (s.items.each k i at).right.keyed in
     let beside = (s.items.each l j there).right.keyed in
     let agents : i.agent ≡ j.agent = ap (λ (x : ItemKey). x.agent) keyed ∙ (own ∙ sym (ap (λ (x : ItemKey). x.agent) beside)) in
-    let keys : key_of i ≡ key_of j = λ n. key_of (record { agent = agents n; period = i.period; transaction = same n; lives = i.lives }) in
+    let keys : key_of i ≡ key_of j = λ n. key_of (record i { agent = agents n; transaction = same n }) in
     same_Some i j (sym at ∙ (ap (get rows.items) (sym keyed ∙ (keys ∙ beside)) ∙ there))
 
 held_as : (rows : Rows) (agent : ℕ) (t : Transaction) (period : ℕ) → Sound rows → HasAccepted rows agent t period → (found : Option ℕ) → IsHeld t (agent_items agent rows) found → found ≡ Some period
@@ -153,12 +153,12 @@ module _ (agent : ℕ) (t : Transaction) (period : ℕ) where
 
   -- ---- what a file has accepted
 
-  joins : (rows : Rows) → HasAccepted (after_accepted (new_item agent t period) rows) agent t period
+  joins : (rows : Rows) → HasAccepted (after_accepted (new_item agent (ledger_of agent rows) t period) rows) agent t period
   joins rows = record {
-    key = key_of (new_item agent t period);
+    key = key_of (new_item agent (ledger_of agent rows) t period);
     own = refl;
-    item = new_item agent t period;
-    there = get_written item_total item_exact _ (key_of (new_item agent t period)) (new_item agent t period);
+    item = new_item agent (ledger_of agent rows) t period;
+    there = get_written item_total item_exact _ (key_of (new_item agent (ledger_of agent rows) t period)) (new_item agent (ledger_of agent rows) t period);
     content = refl;
     period_is = refl;
   }

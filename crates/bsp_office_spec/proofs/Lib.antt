@@ -19,8 +19,10 @@ pub mod Closed
 pub mod ClosedKept
 pub mod Reports
 pub mod ShownInRuns
+pub mod AirlineTax
 pub mod AirlineLemmas
 pub mod AirlineSeen
 pub mod AirlineIsolated
 pub mod NetLemmas
+pub mod HotNets
 pub mod Values

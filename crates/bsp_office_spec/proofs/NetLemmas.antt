@@ -1,7 +1,7 @@
 -- The nets that ledgers give are those of all rows.
-use Rattle.std.proofs.Common.{◌≡◌, ℕ, ℤ, ◌==◌, Bool, true, false, cond, List, [], ◌∷◌, map, Some, refl, sym, ap, ap₂, ◌∙◌, Ordering}
+use Rattle.std.proofs.Common.{◌≡◌, ℕ, ℤ, ◌==◌, Bool, cond, List, [], ◌∷◌, map, refl, sym, ap, ap₂, ◌∙◌, Ordering}
 use Rattle.std.specs.Cmp.{IsTotalOrder}
-use Rattle.std.specs.FinMap.{FinMap, IsAntisymmetric, entries, get, values}
+use Rattle.std.specs.FinMap.{FinMap, IsAntisymmetric, entries, values}
 use Rattle.std.specs.List.{Contains, filter}
 use Rattle.bsp_rows.proofs.ListLemmas.{contains_head, contains_tail}
 use Rattle.bsp_rows.specs.RulesAmounts.{sum_of}
@@ -21,6 +21,7 @@ use Rattle.bsp_rows.proofs.PartLemmas.{kept_entries}
 use Rattle.bsp_office_spec.specs.AirlineLedger.{airline_ledger_of}
 use Rattle.bsp_office_spec.specs.Laws.{NetsAlwaysAddUp, airline_ledger_net, ledger_net}
 use Rattle.bsp_office_spec.specs.Ledger.{ledger_of}
+use Rattle.bsp_office_spec.proofs.Unchanged.{airline_items}
 
 -- the values that a test of entries keeps, where each entry passes it as its value passes another
 module _ {K X : Type 0} {R : K → K → Ordering} (o : IsTotalOrder R) (exact : IsAntisymmetric R) (test : K × X → Bool) (other : X → Bool) where
@@ -47,11 +48,12 @@ module _ (rows : Rows) (s : Sound rows) where
       (kept_values item_total item_exact (λ (e : ItemKey × Item). e.0.agent == agent) (λ (i : Item). i.agent == agent) rows.items (λ e among. ap (λ (k : ItemKey). k.agent == agent) (sym (item_is e among))))
       (kept_values memo_total memo_exact (λ (e : MemoKey × MemoFields). e.1.agent == agent) (λ (m : MemoFields). m.agent == agent) rows.memos (λ e among. refl))
 
+  pub airline_memos : (airline : ℕ) → values (airline_ledger_of airline rows).own.memos ≡ filter (λ m. m.airline == airline) (values rows.memos)
+  airline_memos airline =
+      kept_values memo_total memo_exact (λ (e : MemoKey × MemoFields). e.0.airline == airline) (λ (m : MemoFields). m.airline == airline) rows.memos (λ e among. ap (λ (k : MemoKey). k.airline == airline) (sym (memo_is e among)))
+
   airlines_net : (code airline : ℕ) → airline_ledger_net code (airline_ledger_of airline rows) ≡ airline_net airline code (values rows.items) (values rows.memos)
-  airlines_net code airline =
-      ap₂ (net_of_rows code)
-      (kept_values item_total item_exact (λ (e : ItemKey × Item). e.1.transaction.document.airline == airline) (λ (i : Item). i.transaction.document.airline == airline) rows.items (λ e among. refl))
-      (kept_values memo_total memo_exact (λ (e : MemoKey × MemoFields). e.0.airline == airline) (λ (m : MemoFields). m.airline == airline) rows.memos (λ e among. ap (λ (k : MemoKey). k.airline == airline) (sym (memo_is e among))))
+  airlines_net code airline = ap₂ (net_of_rows code) (airline_items airline rows) (airline_memos airline)
 
 same_map : (f g : ℕ → ℤ) → ((n : ℕ) → f n ≡ g n) → (ns : List ℕ) → map f ns ≡ map g ns
 same_map f g same [] = refl

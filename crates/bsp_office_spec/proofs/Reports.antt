@@ -4,7 +4,7 @@ use Rattle.std.specs.Cmp.{IsTotalOrder}
 use Rattle.std.specs.FinMap.{FinMap, IsAntisymmetric, entries, values}
 use Rattle.std.specs.List.{filter, find}
 use Rattle.std.proofs.lemmas.Bool.{and_parts, both_ways, eqb-true}
-use Rattle.bsp_rows.specs.Published.{closed_period, is_closed, period_of}
+use Rattle.bsp_rows.specs.Published.{closed_period, is_closed, is_taxed, period_of}
 use Rattle.bsp_rows.specs.Period.{Period}
 use Rattle.bsp_rows.specs.Terms.{Terms}
 use Rattle.bsp_rows.specs.Item.{Item}
@@ -19,6 +19,8 @@ use Rattle.bsp_rows.specs.Rows.{Rows, is_in}
 use Rattle.bsp_rows.proofs.KeyOrders.{item_exact, item_total, memo_exact, memo_total}
 use Rattle.bsp_rows.proofs.MapLemmas.{same_Some}
 use Rattle.bsp_rows.proofs.PartLemmas.{kept_entries}
+use Rattle.bsp_hot.specs.Files.{form_of}
+use Rattle.bsp_hot_check.specs.FileForm.{FileForm}
 use Rattle.bsp_office_spec.specs.AirlineLedger.{airline_ledger_of, hot_shown}
 use Rattle.bsp_office_spec.specs.Answers.{Answer}
 use Rattle.bsp_office_spec.specs.Answers.Answer.{Hot, Settlement, Statement}
@@ -85,7 +87,7 @@ code_by : (test : ℕ → Bool) (r q : Period) (rest : Option Period) → (rest 
 code_by test r q rest later true is at = ap (λ (x : Period). test x.code) (sym (same_Some r q at)) ∙ is
 code_by test r q rest later false is at = later at
 
-code_of : (test : ℕ → Bool) (qs : List Period) (q : Period) → find (λ r. test r.code) qs ≡ Some q → test q.code ≡ true
+pub code_of : (test : ℕ → Bool) (qs : List Period) (q : Period) → find (λ r. test r.code) qs ≡ Some q → test q.code ≡ true
 code_of test [] q h = absurd (cc h)
 code_of test (r ∷ qs) q h = code_by test r q (find (λ x. test x.code) qs) (code_of test qs q) (test r.code) refl h
 
@@ -117,29 +119,33 @@ module _ (rows new : Rows) (code : ℕ) (h : IsPeriodKept code rows new) where
 abbrev report_of : Period → Option Terms → List Posting → Answer
 report_of q terms rows = Settlement (record { period = q; terms = terms; postings = rows })
 
-abbrev statement_of : ℕ → Period → Option Terms → List Posting → Answer
-statement_of agent q terms rows = Statement agent (record { period = q; terms = terms; postings = rows })
+abbrev statement_of : ℕ → Bool → Period → Option Terms → List Posting → Answer
+statement_of agent taxed q terms rows = Statement agent taxed (record { period = q; terms = terms; postings = rows })
 
-abbrev hot_of : ℕ → Period → Option Terms → List Item → List MemoFields → Answer
-hot_of airline q terms items memos = Hot airline (record { period = q; terms = terms; items = items; memos = memos })
+abbrev hot_of : ℕ → Period → FileForm → Option Terms → List Item → List MemoFields → Answer
+hot_of airline q form terms items memos = Hot airline (record { period = q; form = form; terms = terms; items = items; memos = memos })
 
-module _ (rows new : Rows) (q : Period) (h : IsPeriodKept q.code rows new) where
+module _ (rows new : Rows) (q : Period) (h : IsPeriodKept q.code rows new) (form : is_taxed new.published q ≡ is_taxed rows.published q) where
   settlement_same : settlement_shown (Some q) new ≡ settlement_shown (Some q) rows
   settlement_same = (λ i. report_of q (h.terms i) (all_postings rows new q.code h i))
 
   statement_same : (agent : ℕ) → statement_shown agent (ledger_of agent new) (Some q) ≡ statement_shown agent (ledger_of agent rows) (Some q)
-  statement_same agent = (λ i. statement_of agent q (h.terms i) (agent_postings rows new q.code h agent i))
+  statement_same agent = (λ i. statement_of agent (form i) q (h.terms i) (agent_postings rows new q.code h agent i))
+
+  form_same : form_of new.published q ≡ form_of rows.published q
+  form_same = rw form refl
 
   hot_same : (airline : ℕ) → hot_shown airline (airline_ledger_of airline new) (Some q) ≡ hot_shown airline (airline_ledger_of airline rows) (Some q)
-  hot_same airline = (λ i. hot_of airline q (h.terms i) (airline_items rows new q.code h airline i) (airline_memos rows new q.code h airline i))
+  hot_same airline = (λ i. hot_of airline q (form_same i) (h.terms i) (airline_items rows new q.code h airline i) (airline_memos rows new q.code h airline i))
 
 pub reports_stay : ReportsStay
 reports_stay office rows exchanges new code q run fits s is =
     let h = closed_stays office rows exchanges new code q run fits s is in
     let same : q.code ≡ code = eqb-true q.code code (code_of (λ n. n == code) rows.published.periods q (closed_of (is_closed rows.published code) (period_of rows.published code) q is).1) in
     let k : IsPeriodKept q.code rows new = subst (λ (n : ℕ). IsPeriodKept n rows new) (sym same) h in
+    let form : is_taxed new.published q ≡ is_taxed rows.published q = h.form q is in
     let at : closed_period new.published code ≡ Some q = h.period ∙ is in (
-      ap (λ found. settlement_shown found new) at ∙ (settlement_same rows new q k ∙ sym (ap (λ found. settlement_shown found rows) is)),
-      (λ agent. ap (statement_shown agent (ledger_of agent new)) at ∙ (statement_same rows new q k agent ∙ sym (ap (statement_shown agent (ledger_of agent rows)) is))),
-      (λ airline. ap (hot_shown airline (airline_ledger_of airline new)) at ∙ (hot_same rows new q k airline ∙ sym (ap (hot_shown airline (airline_ledger_of airline rows)) is))),
+      ap (λ found. settlement_shown found new) at ∙ (settlement_same rows new q k form ∙ sym (ap (λ found. settlement_shown found rows) is)),
+      (λ agent. ap (statement_shown agent (ledger_of agent new)) at ∙ (statement_same rows new q k form agent ∙ sym (ap (statement_shown agent (ledger_of agent rows)) is))),
+      (λ airline. ap (hot_shown airline (airline_ledger_of airline new)) at ∙ (hot_same rows new q k form airline ∙ sym (ap (hot_shown airline (airline_ledger_of airline rows)) is))),
     )

@@ -37,9 +37,10 @@ plan_read body small = by (plan_reading body) refl where
       let airlines = vec_of said.airlines room.0 in
       let rates = vec_of said.rates room.1 in
       let periods = vec_of said.periods room.2 in
-      let same : record { terms = said.terms; airlines = airlines.0.items; rates = rates.0.items; periods = periods.0.items } ≡ said =
-      (λ i. record { terms = said.terms; airlines = airlines.1 i; rates = rates.1 i; periods = periods.1 i }) in
-      (Ok (record { terms = said.terms; airlines = airlines.0; rates = rates.0; periods = periods.0 }), ap (λ (d : PlanData). Ok d) same ∙ sym is)
+      let taxes = vec_of said.commission_taxes room.3 in
+      let same : record { terms = said.terms; airlines = airlines.0.items; rates = rates.0.items; periods = periods.0.items; commission_taxes = taxes.0.items } ≡ said =
+      (λ i. record { terms = said.terms; airlines = airlines.1 i; rates = rates.1 i; periods = periods.1 i; commission_taxes = taxes.1 i }) in
+      (Ok (record { terms = said.terms; airlines = airlines.0; rates = rates.0; periods = periods.0; commission_taxes = taxes.0 }), ap (λ (d : PlanData). Ok d) same ∙ sym is)
 
 office_read : (of_office : OfficeCall (List ℕ)) (body : List ℕ) → IsInMemory (asking.Call (call.Office of_office)) body → (request : OfficeRequest) × IsOfficeRequest of_office body request
 office_read office.Plan body small = let text = plan_read body small in (PublishPlan text.0, (text.0, text.1, refl))

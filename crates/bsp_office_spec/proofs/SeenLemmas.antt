@@ -201,7 +201,7 @@ accepted_other a item rows h =
 
 pub judged_own : (a : ℕ) (t : Transaction) (v : Verdict) (rows : Rows) → ledger_of a (rows_judged (reporter (Some a)) t v rows) ≡ ledger_judged a t v (ledger_of a rows)
 judged_own a t (verdict.Held period) rows = refl
-judged_own a t (verdict.Accepted period) rows = accepted_own a (new_item a t period) rows (eq-eqb a a refl)
+judged_own a t (verdict.Accepted period) rows = accepted_own a (new_item a (ledger_of a rows) t period) rows (eq-eqb a a refl)
 judged_own a t (verdict.Refused refusal) rows = refl
 
 pub filed_own : (a : ℕ) (ts : List Transaction) (rows : Rows) → ledger_of a (rows_filed (reporter (Some a)) ts (own_verdicts a (ledger_of a rows) ts) rows) ≡ ledger_filed a ts (ledger_of a rows)
@@ -213,7 +213,7 @@ filed_own a (t ∷ ts) rows =
 
 judged_other : (a b : ℕ) (t : Transaction) (v : Verdict) (rows : Rows) → (b == a) ≡ false → ledger_of a (rows_judged (reporter (Some b)) t v rows) ≡ ledger_of a rows
 judged_other a b t (verdict.Held period) rows h = refl
-judged_other a b t (verdict.Accepted period) rows h = accepted_other a (new_item b t period) rows h
+judged_other a b t (verdict.Accepted period) rows h = accepted_other a (new_item b (ledger_of b rows) t period) rows h
 judged_other a b t (verdict.Refused refusal) rows h = refl
 
 -- another agent's file
@@ -228,12 +228,12 @@ pub all_append : (a : ℕ) (l : Ledger) (ss more : List Sight) → ledger_all a 
 all_append a l [] more = refl
 all_append a l (s ∷ ss) more = all_append a (ledger_after a l s) ss more
 
-accepted_by : (a b : ℕ) (t : Transaction) (period : ℕ) (rows : Rows) → target_of rows.published t.issued ≡ Some period → (c : Bool) → (b == a) ≡ c → ledger_of a (after_accepted (new_item b t period) rows) ≡ ledger_all a (ledger_of a rows) (cond c (Reported t ∷ []) [])
+accepted_by : (a b : ℕ) (t : Transaction) (period : ℕ) (rows : Rows) → target_of rows.published t.issued ≡ Some period → (c : Bool) → (b == a) ≡ c → ledger_of a (after_accepted (new_item b (ledger_of b rows) t period) rows) ≡ ledger_all a (ledger_of a rows) (cond c (Reported t ∷ []) [])
 accepted_by a b t period rows target true h =
-    accepted_own a (new_item b t period) rows h
-    ∙ (ap (λ (x : ℕ). with_own_item (new_item x t period) (ledger_of a rows)) (eqb-true b a h)
-    ∙ ap (λ (x : ℕ). with_own_item (new_item a t x) (ledger_of a rows)) (sym (ap (λ (o : Option ℕ). unwrap_or o 0) target)))
-accepted_by a b t period rows target false h = accepted_other a (new_item b t period) rows h
+    accepted_own a (new_item b (ledger_of b rows) t period) rows h
+    ∙ (ap (λ (x : ℕ). with_own_item (new_item x (ledger_of x rows) t period) (ledger_of a rows)) (eqb-true b a h)
+    ∙ ap (λ (x : ℕ). with_own_item (new_item a (ledger_of a rows) t x) (ledger_of a rows)) (sym (ap (λ (o : Option ℕ). unwrap_or o 0) target)))
+accepted_by a b t period rows target false h = accepted_other a (new_item b (ledger_of b rows) t period) rows h
 
 joined_by : (a : ℕ) (t : Transaction) (period : ℕ) (rows : Rows) (bears : Option ℕ) → office_verdict_for bears rows t ≡ verdict.Accepted period → ledger_of a (joined bears t period rows) ≡ ledger_all a (ledger_of a rows) (if_own a bears (Reported t))
 joined_by a t period rows None h = refl

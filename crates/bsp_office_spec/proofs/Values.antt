@@ -1,25 +1,32 @@
 -- What a run has accepted agrees with its tickets.
-use Rattle.std.proofs.Common.{◌≡◌, ℕ, Bool, true, false, cond, List, [], ◌∷◌, map, Option, Some, None, option_map, refl, sym, ap, ap₂, subst, ◌∙◌, ◌⊎◌, inl, inr}
-use Rattle.std.specs.List.{Contains, find}
+use Rattle.std.proofs.Common.{◌≡◌, ◌≢◌, ℕ, zero, suc, ◌==◌, ◌&&◌, is_some, arith, Bool, true, false, cond, List, [], ◌∷◌, map, Option, Some, None, option_map, refl, sym, ap, ap₂, subst, ◌∙◌, ◌⊎◌, inl, inr}
+use Rattle.std.specs.List.{AllPairs, Contains, find}
+use Rattle.std.specs.Prelude.{nat_lt}
+use Rattle.std.proofs.lemmas.Bool.{and_parts, ltb-true, or_cases}
 use Rattle.std.specs.FinMap.{FinMap, get}
-use Rattle.bsp_rows.proofs.ListLemmas.{contains_head, contains_none, contains_tail}
+use Rattle.bsp_rows.proofs.ListLemmas.{contains_head, contains_tail}
+use Rattle.bsp_rows.specs.Decimal.{number_of}
+use Rattle.bsp_rows.specs.GroupValues.{are_related, is_document}
+use Rattle.bsp_rows.specs.Values.{is_before}
 use Rattle.bsp_rows.specs.ReportedDocument.{ReportedDocument}
 use Rattle.bsp_rows.specs.Transaction.{Transaction}
 use Rattle.bsp_rows.specs.FactsOf.{facts_in, related_document}
 use Rattle.bsp_rows.specs.Meanings.{IsPassed}
-use Rattle.bsp_rows.specs.RulesRows.{is_ticket, ticket}
+use Rattle.bsp_rows.specs.RulesRows.{is_ticket}
 use Rattle.bsp_rows.specs.RelatedDocument.{RelatedDocument}
 use Rattle.bsp_rows.specs.Item.{Item}
 use Rattle.bsp_rows.specs.Reporter.{Reporter}
 use Rattle.bsp_rows.proofs.MeaningLemmas.{accepted_is_passed, tickets_live}
 use Rattle.bsp_rows.specs.declared.keys.ItemKey.{ItemKey}
 use Rattle.bsp_rows.specs.Changes.{IsAcceptance, after_accepted, facts_at}
-use Rattle.bsp_rows.specs.Rows.{Rows, agent_items, item_at, item_cmp, key_of}
+use Rattle.bsp_rows.specs.Rows.{Rows, agent_items, item_cmp}
 use Rattle.bsp_rows.specs.Sound.{Sound}
+use Rattle.bsp_rows.proofs.ClearedLemmas.{cleared}
+use Rattle.bsp_rows.proofs.GroupLemmas.{group_fits}
 use Rattle.bsp_rows.proofs.MapLemmas.{same_Some}
 use Rattle.bsp_rows.proofs.RowLemmas.{contains_map, item_among}
 use Rattle.bsp_rows.proofs.TakenLemmas.{fate, taken}
-use Rattle.bsp_office_spec.specs.Laws.{AgreesWithTickets, HasAccepted, NewAgreeWithTickets, RunsAgreeWithTickets, WasThere}
+use Rattle.bsp_office_spec.specs.Laws.{AgreesWithTickets, AreOfTwoNumbers, HasAccepted, NewAgreeWithTickets, RunsAgreeWithTickets, WasThere}
 use Rattle.bsp_office_spec.proofs.Held.{as_before, free_before, has_is_kept}
 use Rattle.bsp_office_spec.proofs.Invariant.{IsKept, sound_is_kept}
 use Rattle.bsp_office_spec.proofs.Runs.{run_keeps}
@@ -72,15 +79,54 @@ accepted_ticket rows agent i among =
     let (k, there, own) = item_among rows agent i among in
     record { key = k; own = own; item = i; there = there; content = refl; period_is = refl }
 
+-- ---- no ticket is named twice
+
+pair : {A : Type 0} (R : A → A → Type 0) (x y : A) → R x y → AllPairs R (x ∷ y ∷ [])
+pair R x y h zero zero d below within = absurd (omega arith)
+pair R x y h zero (suc zero) d below within = h
+pair R x y h (suc i) zero d below within = absurd (omega arith)
+pair R x y h (suc i) (suc zero) d below within = absurd (omega arith)
+pair R x y h i (suc (suc j)) d below within = absurd (omega arith)
+
+-- of two documents of an airline the one behind has another number
+behind_apart : (d e : ReportedDocument) → is_before d e ≡ true → d.airline ≡ e.airline → d.number ≢ e.number
+behind_apart d e behind own same = elim (or_cases (nat_lt d.airline e.airline) ((d.airline == e.airline) && nat_lt (number_of d.number) (number_of e.number)) behind) [
+  | inl less ↦ absurd (omega (arith, ltb-true d.airline e.airline less, own))
+  | inr more ↦
+      let less = (and_parts (d.airline == e.airline) (nat_lt (number_of d.number) (number_of e.number)) more).1 in
+      absurd (omega (arith, ltb-true (number_of d.number) (number_of e.number) less, ap number_of same))
+]
+
+places_once : (exchange : Bool) (airline : ℕ) (places : List (Option ReportedDocument)) → are_related exchange places ≡ true → ((d : ReportedDocument) → Contains places (Some d) → d.airline ≡ airline) → AllPairs AreOfTwoNumbers places
+unfolding are_related
+places_once exchange airline [] fit own = absurd (cc fit)
+places_once exchange airline (first ∷ []) fit own = absurd (cc fit)
+places_once exchange airline (None ∷ second ∷ []) fit own = pair AreOfTwoNumbers None second tt
+places_once exchange airline (Some d ∷ None ∷ []) fit own = pair AreOfTwoNumbers (Some d) None tt
+places_once exchange airline (Some d ∷ Some e ∷ []) fit own =
+    let behind = (and_parts (exchange && is_document d && is_document e) (is_before d e) fit).1 in
+    let first = own d (contains_head (Some d) (Some e ∷ [])) in
+    let second = own e (contains_tail (Some d) (Some e ∷ []) (Some e) (contains_head (Some e) [])) in
+    pair AreOfTwoNumbers (Some d) (Some e) (behind_apart d e behind (first ∙ sym second))
+places_once exchange airline (first ∷ second ∷ third ∷ others) fit own = absurd (cc fit)
+
+named_once : (who : Reporter) (rows : Rows) (item : Item) → Sound rows → IsAcceptance who rows item → AllPairs AreOfTwoNumbers item.transaction.related
+named_once who rows item s a =
+    let t = item.transaction in
+    let passed = (accepted_is_passed who t (facts_at item.agent t rows) rows.published item.period).0 a.accepted in
+    let clear = cleared who rows item s.items a.group passed in
+    places_once (is_some t.exchange) t.document.airline t.related (group_fits t a.group).0 (λ d among. (clear.tickets d among).own)
+
 -- ---- what is accepted agrees
 
-passed_agrees : (who : Reporter) (rows : Rows) (agent : ℕ) (t : Transaction) (period : ℕ) → IsPassed who t (facts_at agent t rows) rows.published period → AgreesWithTickets rows agent t
-passed_agrees who rows agent t period passed =
+passed_agrees : (who : Reporter) (rows : Rows) (agent : ℕ) (t : Transaction) (period : ℕ) → AllPairs AreOfTwoNumbers t.related → IsPassed who t (facts_at agent t rows) rows.published period → AgreesWithTickets rows agent t
+passed_agrees who rows agent t period once passed =
     let f = facts_at agent t rows in
     let items = agent_items agent rows in
     record {
       related = f.related;
       places = ap (map (option_map (λ r. r.document))) (related_are rows agent t) ∙ documents_back items t.related;
+      once = once;
       tickets = λ r i among there.
           let found = ticket_in items t.related r i (subst (λ (l : List (Option RelatedDocument)). Contains l (Some r)) (related_are rows agent t) among) there in
           (found.1, accepted_ticket rows agent i found.0);
@@ -93,6 +139,7 @@ agrees_on : (rows new : Rows) (agent : ℕ) (t : Transaction) → ((a : ℕ) (u 
 agrees_on rows new agent t stays h = record {
   related = h.related;
   places = h.places;
+  once = h.once;
   tickets = λ r i among there. let found = h.tickets r i among there in (found.0, stays agent i.transaction i.period found.1);
   none_missing = h.none_missing;
   agreed = h.agreed;
@@ -124,8 +171,10 @@ module _ (start : Rows) where
     stay b u period has = ((has_is_kept b u period).accepted who rows item (record { sound = h.sound; has = has }) a).has
 
     agrees : AgreesWithTickets after item.agent item.transaction
-    agrees = agrees_on rows after item.agent item.transaction stay
-        (passed_agrees who rows item.agent item.transaction item.period ((accepted_is_passed who item.transaction (facts_at item.agent item.transaction rows) rows.published item.period).0 a.accepted))
+    agrees =
+        let passed = (accepted_is_passed who item.transaction (facts_at item.agent item.transaction rows) rows.published item.period).0 a.accepted in
+        let once = named_once who rows item h.sound a in
+        agrees_on rows after item.agent item.transaction stay (passed_agrees who rows item.agent item.transaction item.period once passed)
 
     before : (i : Item) → get rows.items k ≡ Some i → j ≡ fate item k i → WasThere start k j ⊎ AgreesWithTickets after k.agent j.transaction
     before i there is = elim (h.each k i there) [

@@ -14,6 +14,7 @@ use Rattle.bsp_rows.specs.Steps.{Action}
 use Rattle.bsp_rows.specs.Steps.Action.{Uphold, Reduce, Withdraw}
 use Rattle.bsp_rows.specs.MemoFault.TheVariants.{AmountOutOfRange, OtherContent, LimitReached, AgentNotRegistered}
 use Rattle.bsp_rows.specs.MemoFields.{MemoFields}
+use Rattle.bsp_hot.specs.Files.{form_of}
 use Rattle.bsp_messages.specs.Values.{period_in}
 use Rattle.bsp_messages.specs.declared.airline_bodies.MemoIssue.{MemoIssue}
 use Rattle.bsp_messages.specs.declared.airline_bodies.Reduction.{Reduction}
@@ -23,7 +24,7 @@ use Rattle.bsp_rows.specs.Changes.{each}
 use Rattle.bsp_rows.specs.Part.{AirlinePart, airline_part}
 use Rattle.bsp_rows.specs.Rows.{Rows, is_in}
 use Rattle.bsp_rows.specs.declared.keys.MemoKey.{MemoKey}
-use Rattle.bsp_office_spec.specs.Answers.{Answer}
+use Rattle.bsp_office_spec.specs.Answers.{Answer, HotRows}
 use Rattle.bsp_office_spec.specs.Answers.Answer.{Changed, Memos, Hot, Refused}
 use Rattle.bsp_office_spec.specs.Ledger.{memo_answer}
 use Rattle.bsp_office_spec.specs.Requests.{AirlineRequest}
@@ -87,14 +88,18 @@ reduce_answer airline l (Some body) = memo_answer (Reduce body.amount) l.publish
 
 -- ---- a HOT file
 
-abbrev pub hot_shown : ℕ → AirlineLedger → Option Period → Answer
-hot_shown airline l None = Refused NoHot
-hot_shown airline l (Some q) = Hot airline (record {
+abbrev pub hot_rows : AirlineLedger → Period → HotRows
+hot_rows l q = record {
   period = q;
+  form = form_of l.published q;
   terms = l.published.terms;
   items = filter (is_in q.code) (values l.own.items);
   memos = filter (is_billed_in q.code) (values l.own.memos);
-})
+}
+
+abbrev pub hot_shown : ℕ → AirlineLedger → Option Period → Answer
+hot_shown airline l None = Refused NoHot
+hot_shown airline l (Some q) = Hot airline (hot_rows l q)
 
 abbrev pub hot_answer : ℕ → AirlineLedger → Option ℕ → Answer
 hot_answer airline l None = Refused NoHot

@@ -7,6 +7,7 @@ use Rattle.bsp_rows.specs.Published.{target_of}
 use Rattle.bsp_rows.specs.Transaction.{Transaction}
 use Rattle.bsp_rows.specs.Verdict.{Verdict}
 use Rattle.bsp_rows.specs.Verdict.TheVariants as verdict
+use Rattle.bsp_rules.specs.Tax.{accepted_item}
 use Rattle.bsp_rows.specs.Item.{Item}
 use Rattle.bsp_rows.specs.Lives.{after_event}
 use Rattle.bsp_rows.specs.Lives.Event.{Closed}
@@ -18,11 +19,12 @@ use Rattle.bsp_messages.specs.declared.airline_bodies.MemoIssue.{MemoIssue}
 use Rattle.std.specs.FinMap.{FinMap}
 use Rattle.bsp_rows.specs.Changes.{each}
 use Rattle.bsp_rows.specs.Rows.{memo_cmp}
+use Rattle.bsp_rows.specs.Sound.{documents_at}
 use Rattle.bsp_rows.specs.Writes.{plan_left}
 use Rattle.bsp_rows.specs.declared.keys.MemoKey.{MemoKey}
 use Rattle.bsp_office_spec.specs.AirlineLedger.{AirlineLedger, airline_answer, issue_key, new_memo}
 use Rattle.bsp_office_spec.specs.Answers.{Answer, is_done, verdicts_in}
-use Rattle.bsp_office_spec.specs.Ledger.{acted, agent_of, memo_named, new_item, review_of, taken}
+use Rattle.bsp_office_spec.specs.Ledger.{acted, agent_of, memo_named, review_of, taken}
 use Rattle.bsp_office_spec.specs.Requests.{AgentRequest, AirlineRequest, Asked, FileRead, OfficeRequest}
 use Rattle.bsp_office_spec.specs.Requests.AgentRequest.{AgentFile, DisputeMemo, AgreeMemo}
 use Rattle.bsp_office_spec.specs.Requests.AirlineRequest.{IssueMemo, UpholdMemo, WithdrawMemo, ReduceMemo}
@@ -45,6 +47,10 @@ pub data AirlineSight : Type 0 where
   Published : (request : PlanRequest) → AirlineSight
 
 -- ---- the ledger after a sight
+
+-- a transaction of an agent as it is accepted in a period, with its tax on commission. The tickets to which it relates bear the airline too, and are among the ledger's own items
+abbrev pub taken_item : ℕ → AirlineLedger → Transaction → ℕ → Item
+taken_item agent l t period = accepted_item agent period t (documents_at l.own.items agent t) l.published
 
 abbrev pub with_airline_items : (Item → AirlineLedger → AirlineLedger)
 with_airline_items item l = record l { own = record { token = l.own.token; items = taken item l.own.items; memos = l.own.memos } }
@@ -76,7 +82,7 @@ airline_planned request l = record (with_airline_memos (airline_billed request l
 
 abbrev pub airline_after : ℕ → AirlineLedger → AirlineSight → AirlineLedger
 airline_after airline l (OwnAsked call) = if is_done (airline_answer airline l call) then airline_done_by airline call l else l
-airline_after airline l (Taken agent t) = with_airline_items (new_item agent t (unwrap_or (target_of l.published t.issued) 0)) l
+airline_after airline l (Taken agent t) = with_airline_items (taken_item agent l t (unwrap_or (target_of l.published t.issued) 0)) l
 airline_after airline l (Renewed token) = record l { own = record { token = Some token; items = l.own.items; memos = l.own.memos } }
 airline_after airline l (Known agent) = record l { agents = insert l.agents agent [] }
 airline_after airline l (ActedOn action key) = airline_acted action key l

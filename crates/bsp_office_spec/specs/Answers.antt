@@ -5,6 +5,7 @@ use Rattle.bsp_rows.specs.Change.TheVariants as change
 use Rattle.bsp_rows.specs.Period.{Period}
 use Rattle.bsp_rows.specs.Terms.{Terms}
 use Rattle.bsp_hot.specs.RetFault.{RetFault}
+use Rattle.bsp_hot_check.specs.FileForm.{FileForm}
 use Rattle.bsp_rows.specs.Item.{Item}
 use Rattle.bsp_rows.specs.Verdict.{Verdict}
 use Rattle.bsp_rows.specs.MemoFields.{MemoFields}
@@ -20,9 +21,10 @@ pub record Report : Type 0 where
   pub terms : Option Terms
   pub postings : List Posting
 
--- what a HOT file is made of: the closed period, the published terms and the rows of the airline
+-- what a HOT file is made of: the closed period and its form, the published terms and the rows of the airline
 pub record HotRows : Type 0 where
   pub period : Period
+  pub form : FileForm
   pub terms : Option Terms
   pub items : List Item
   pub memos : List MemoFields
@@ -35,7 +37,8 @@ pub data Answer : Type 0 where
   InPeriod : (period : PeriodShown) → Answer
   Ranges : (ranges : List RangeShown) → Answer
   Memos : (memos : List MemoFields) → Answer
-  Statement : (agent : ℕ) → (report : Report) → Answer
+  -- with the tax on commission in a period of form 2
+  Statement : (agent : ℕ) → (taxed : Bool) → (report : Report) → Answer
   Settlement : (report : Report) → Answer
   Hot : (airline : ℕ) → (rows : HotRows) → Answer
   FileFault : (fault : RetFault) → Answer

@@ -1,6 +1,6 @@
 -- What holds of every request, of every run, and of what one agent is answered.
-use Rattle.std.specs.Prelude.{◌≡◌, ◌⊎◌, ℕ, ℤ, ◌==◌, Bool, true, false, List, [], ◌∷◌, ◌++◌, map, Option, Some, None, option_map, is_some, Ok, if◌then◌else◌}
-use Rattle.std.specs.List.{Contains, list_any}
+use Rattle.std.specs.Prelude.{◌≡◌, ◌≢◌, ◌⊎◌, ℕ, ℤ, ◌==◌, Bool, true, false, List, [], ◌∷◌, ◌++◌, map, Option, Some, None, option_map, is_some, Ok, if◌then◌else◌}
+use Rattle.std.specs.List.{AllPairs, Contains, list_any}
 use Rattle.bsp_routes.specs.declared.asking.Asking.{Asking}
 use Rattle.bsp_messages.specs.Values.{airline_in}
 use Rattle.bsp_messages.specs.declared.refusal.RequestRefusal.TheVariants.{Forbidden}
@@ -15,15 +15,18 @@ use Rattle.bsp_rows.specs.RulesRows.{is_ticket}
 use Rattle.bsp_rows.specs.Tickets.{disagrees_with_tickets}
 use Rattle.bsp_rows.specs.Verdicts.{is_missing}
 use Rattle.bsp_rows.specs.RelatedDocument.{RelatedDocument}
+use Rattle.bsp_rows.specs.ReportedDocument.{ReportedDocument}
 use Rattle.bsp_rows.specs.Nets.{net_of_rows}
 use Rattle.bsp_rows.specs.Sides.{AreOnce, HaveAgents, HaveAirlines}
-use Rattle.bsp_rows.specs.Published.{closed_period}
+use Rattle.bsp_rows.specs.Published.{closed_period, is_taxed}
 use Rattle.bsp_rows.specs.Period.{Period}
 use Rattle.bsp_rows.specs.Owed.{is_billed_in}
 use Rattle.bsp_rows.specs.MemoFields.{MemoFields}
 use Rattle.bsp_rows.specs.Part.{kept}
 use Rattle.bsp_rows.specs.Rows.{Rows, item_at, item_cmp, memo_cmp}
-use Rattle.bsp_office_spec.specs.AirlineLedger.{AirlineLedger, airline_answer, airline_ledger_of, hot_answer}
+use Rattle.bsp_hot_check.specs.Hot.{file_sums}
+use Rattle.bsp_hot_check.specs.Sums.{with_net}
+use Rattle.bsp_office_spec.specs.AirlineLedger.{AirlineLedger, airline_answer, airline_ledger_of, hot_answer, hot_rows}
 use Rattle.bsp_rows.specs.declared.keys.ItemKey.{ItemKey}
 use Rattle.bsp_rows.specs.Sound.{Sound}
 use Rattle.bsp_office_spec.specs.AirlineView.{airline_all, airline_ledger_answers, airline_sights, airline_told, airline_view}
@@ -36,6 +39,7 @@ use Rattle.bsp_office_spec.specs.Requests.AirlineRequest.{AskHot}
 use Rattle.bsp_office_spec.specs.Requests.Asked.{ByOffice, ByAgent, ByAirline}
 use Rattle.bsp_office_spec.specs.Requests.OfficeRequest.{OfficeFile, AskSettlement}
 use Rattle.bsp_office_spec.specs.Step.{AreGroups, Fits, answer_of, bearer, is_token, office_verdicts, reporter, rows_after, rows_filed, settlement_answer}
+use Rattle.bsp_office_spec.specs.Texts.{IsHotText}
 use Rattle.bsp_office_spec.specs.View.{AllFit, Exchange, Run, is_own, ledger_all, ledger_answers, sights, told, view}
 
 -- ---- one request
@@ -231,10 +235,16 @@ NumbersHaveOneOwner =
 
 -- ---- values
 
--- the tickets that a transaction of the agent names are accepted, and its amounts agree with theirs: of an RFND the fare and each tax are at most the ticket's in size, of an exchange EX is the tickets' fares and taxes
+-- two places that do not name one number
+abbrev pub AreOfTwoNumbers : Option ReportedDocument → Option ReportedDocument → Type 0
+AreOfTwoNumbers (Some d) (Some e) = d.number ≢ e.number
+AreOfTwoNumbers _ _ = Unit {0}
+
+-- the tickets that a transaction of the agent names, none twice, are accepted, and its amounts agree with theirs. Of an RFND the fare and each tax are at most the ticket's in size; of an exchange EX is the fares and taxes of all its tickets
 pub record AgreesWithTickets (rows : Rows) (agent : ℕ) (t : Transaction) : Type 0 where
   pub related : List (Option RelatedDocument)
   pub places : map (option_map (λ r. r.document)) related ≡ t.related
+  pub once : AllPairs AreOfTwoNumbers t.related
   -- each ticket is an accepted TKTT of the agent
   pub tickets : (r : RelatedDocument) (i : Item) → Contains related (Some r) → r.ticket ≡ Some i → (is_ticket r.document i ≡ true) × HasAccepted rows agent i.transaction i.period
   -- an RFND or an exchange names one, and none is missing
@@ -254,7 +264,7 @@ RunsAgreeWithTickets = (office : List ℕ) (rows : Rows) (exchanges : List Excha
 
 -- ---- nets
 
--- the net of a period that a ledger gives: of its living items and the memos billed in it
+-- the net of a period that a ledger gives: cash less commission less the tax on it of its living items, and the memos billed in it
 abbrev pub ledger_net : ℕ → Ledger → ℤ
 ledger_net code l = net_of_rows code (values l.own.items) (values l.own.memos)
 
@@ -271,6 +281,13 @@ NetsAddUp code rows =
 abbrev pub NetsAlwaysAddUp : Type 0
 NetsAlwaysAddUp = (rows : Rows) (code : ℕ) → Sound rows → NetsAddUp code rows
 
+-- the net of the totals of an airline's HOT file, in either form, is that of its ledger
+abbrev pub HotFilesShowNets : Type 0
+HotFilesShowNets =
+    (rows : Rows) (airline code : ℕ) (q : Period) (text : List ℕ) → Sound rows → closed_period rows.published code ≡ Some q →
+    let l = airline_ledger_of airline rows in
+    (is : IsHotText airline (hot_rows l q) text) → (with_net (file_sums is.2.file.offices)).net ≡ airline_ledger_net code l
+
 -- ---- closed periods
 
 -- the items of a period, and the memos billed in it
@@ -283,6 +300,8 @@ memos_in code rows = kept (λ e. is_billed_in code e.1) rows.memos
 -- a period with all that is reported of it
 pub record IsPeriodKept (code : ℕ) (old new : Rows) : Type 0 where
   pub period : closed_period new.published code ≡ closed_period old.published code
+  -- its form, by which a statement and a HOT file have the tax on commission
+  pub form : (q : Period) → closed_period old.published code ≡ Some q → is_taxed new.published q ≡ is_taxed old.published q
   pub terms : new.published.terms ≡ old.published.terms
   pub items : items_in code new ≡ items_in code old
   pub memos : memos_in code new ≡ memos_in code old
@@ -307,7 +326,7 @@ ReportsStay =
 -- a request for a settlement, a statement or a HOT file that is answered with it
 abbrev pub shows_report : Asked → Answer → Bool
 shows_report (ByOffice (AskSettlement period)) (Settlement report) = true
-shows_report (ByAgent code (AskStatement period)) (Statement agent report) = true
+shows_report (ByAgent code (AskStatement period)) (Statement agent taxed report) = true
 shows_report (ByAirline code (AskHot period)) (Hot airline rows) = true
 shows_report _ _ = false
 

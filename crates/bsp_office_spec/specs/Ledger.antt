@@ -5,13 +5,15 @@ use Rattle.std.specs.List.{filter, find}
 use Rattle.std.specs.FinMap.{FinMap, get, insert, entries, values}
 use Rattle.bsp_rows.specs.Codes.{agent_reading}
 use Rattle.bsp_rows.specs.Change.{Change}
-use Rattle.bsp_rows.specs.Published.{Published, closed_period, is_closed, period_of}
+use Rattle.bsp_rows.specs.Published.{Published, closed_period, is_closed, is_taxed, period_of}
 use Rattle.bsp_rows.specs.Requests.{once}
 use Rattle.bsp_rows.specs.Period.{Period}
 use Rattle.bsp_rows.specs.Terms.{Terms}
 use Rattle.bsp_rows.specs.TransactionCode.{TransactionCode}
 use Rattle.bsp_rows.specs.TransactionCode.TheVariants.{Tktt, Rfnd, Canx}
 use Rattle.bsp_rows.specs.Transaction.{Transaction}
+use Rattle.bsp_rules.specs.Tax.{accepted_item}
+use Rattle.bsp_rules.specs.declared.facts.Facts.{Facts}
 use Rattle.bsp_rows.specs.FactsOf.{facts_in}
 use Rattle.bsp_rows.specs.RulesRows.{contains, is_canx, is_living_relation}
 use Rattle.bsp_rows.specs.Verdicts.{verdict_on}
@@ -63,11 +65,16 @@ agent_of text = result_ok (agent_reading text)
 abbrev pub ranges_in : AgentPart → List Range
 ranges_in own = map range_of (entries own.ranges)
 
-abbrev pub own_verdict : Reporter → Ledger → Transaction → Verdict
-own_verdict reporter l t = verdict_on reporter t (facts_in (is_some l.own.token) (ranges_in l.own) (values l.own.items) t l.published) l.published
+-- the facts on a transaction over all rows of the ledger
+abbrev pub own_facts : Ledger → Transaction → Facts
+own_facts l t = facts_in (is_some l.own.token) (ranges_in l.own) (values l.own.items) t l.published
 
-abbrev pub new_item : ℕ → Transaction → ℕ → Item
-new_item agent t period = record { agent = agent; period = period; transaction = t; lives = true }
+abbrev pub own_verdict : Reporter → Ledger → Transaction → Verdict
+own_verdict reporter l t = verdict_on reporter t (own_facts l t) l.published
+
+-- a transaction as it is accepted in a period: its tax on commission is that of the plan, by the tickets that the facts have
+abbrev pub new_item : ℕ → Ledger → Transaction → ℕ → Item
+new_item agent l t period = accepted_item agent period t (own_facts l t).related l.published
 
 -- a CANX ends the TKTT or RFND of its number
 abbrev pub ended_in : Item → FinMap item_cmp Item → FinMap item_cmp Item
@@ -82,7 +89,7 @@ with_own_item item l = record { own = record { token = l.own.token; ranges = l.o
 -- only an accepted transaction joins the rows
 abbrev pub ledger_judged : ℕ → Transaction → Verdict → Ledger → Ledger
 ledger_judged agent t (verdict.Held period) l = l
-ledger_judged agent t (verdict.Accepted period) l = with_own_item (new_item agent t period) l
+ledger_judged agent t (verdict.Accepted period) l = with_own_item (new_item agent l t period) l
 ledger_judged agent t (verdict.Refused refusal) l = l
 
 -- a file is judged transaction by transaction, each on what those before it left
@@ -145,7 +152,7 @@ period_answer l (Some code) = period_shown l (period_of l.published code)
 
 abbrev pub statement_shown : ℕ → Ledger → Option Period → Answer
 statement_shown agent l None = Refused UnknownPeriod
-statement_shown agent l (Some q) = Statement agent (record {
+statement_shown agent l (Some q) = Statement agent (is_taxed l.published q) (record {
   period = q;
   terms = l.published.terms;
   postings = postings q.code (values l.own.items) (values l.own.memos);

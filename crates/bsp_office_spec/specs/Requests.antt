@@ -133,6 +133,7 @@ IsAsked (asking.Call (call.Airline code of_airline)) body asked = (request : Air
 abbrev pub IsPlanInMemory : List ℕ → Type 0
 IsPlanInMemory body =
     (said : PlanData) → plan_reading body ≡ Ok said → (length said.airlines < 2 ^ 63) × (length said.rates < 2 ^ 63) × (length said.periods < 2 ^ 63)
+    × (length said.commission_taxes < 2 ^ 63)
 
 -- a body that is to be a plan text says no list of 2^63 entries; of another body nothing is asked
 abbrev pub IsInMemory : Asking (List ℕ) → List ℕ → Type 0

@@ -141,7 +141,7 @@ office_verdict rows t = office_verdict_for (agent_of t.agent) rows t
 
 abbrev pub joined : Option ℕ → Transaction → ℕ → Rows → Rows
 joined None t period rows = rows
-joined (Some agent) t period rows = after_accepted (new_item agent t period) rows
+joined (Some agent) t period rows = after_accepted (new_item agent (ledger_of agent rows) t period) rows
 
 abbrev pub Owner : Type 0
 Owner = Transaction → Option ℕ

@@ -1,5 +1,5 @@
 -- The message that an answer is sent as: `bsp_messages` has its status, its media type and its bytes.
-use Rattle.std.specs.Prelude.{◌≡◌, ◌⊎◌, ℕ, List, Some, String, string_bytes}
+use Rattle.std.specs.Prelude.{◌≡◌, ◌⊎◌, ℕ, Bool, List, Some, String, string_bytes}
 use Rattle.std.specs.Global.{Global, Vec}
 use Rattle.bsp_rows.specs.Terms.{Terms}
 use Rattle.bsp_hot.specs.Files.{IsTooWide, IsWritten}
@@ -15,9 +15,9 @@ use Rattle.bsp_office_spec.specs.Answers.Answer.{Changed, Verdicts, Document, In
 
 -- ---- the texts that are made of rows
 
-abbrev pub IsStatementText : ℕ → Report → List ℕ → Type 0
-IsStatementText agent report text =
-    (terms : Terms) × (report.terms ≡ Some terms) × IsStatement agent (of_period report.period terms) report.postings text
+abbrev pub IsStatementText : ℕ → Bool → Report → List ℕ → Type 0
+IsStatementText agent taxed report text =
+    (terms : Terms) × (report.terms ≡ Some terms) × IsStatement taxed agent (of_period report.period terms) report.postings text
 
 abbrev pub IsSettlementText : Report → List ℕ → Type 0
 IsSettlementText report text =
@@ -27,11 +27,11 @@ abbrev pub hot_entries : ℕ → HotRows → List Entry
 hot_entries airline rows = entries airline rows.period.code rows.items rows.memos
 
 abbrev pub IsHotText : ℕ → HotRows → List ℕ → Type 0
-IsHotText airline rows text = (terms : Terms) × (rows.terms ≡ Some terms) × IsWritten airline rows.period terms.currency (hot_entries airline rows) text
+IsHotText airline rows text = (terms : Terms) × (rows.terms ≡ Some terms) × IsWritten rows.form airline rows.period terms.currency (hot_entries airline rows) text
 
 -- a count or a total does not fit its place
 abbrev pub HasNoHotText : ℕ → HotRows → Type 0
-HasNoHotText airline rows = (terms : Terms) × (rows.terms ≡ Some terms) × IsTooWide airline rows.period terms.currency (hot_entries airline rows)
+HasNoHotText airline rows = (terms : Terms) × (rows.terms ≡ Some terms) × IsTooWide rows.form airline rows.period terms.currency (hot_entries airline rows)
 
 -- ---- the message
 
@@ -46,7 +46,7 @@ Says (Document document) m = m ≡ message.Document document
 Says (InPeriod period) m = m ≡ message.Period period
 Says (Ranges ranges) m = IsListed message.Ranges ranges m
 Says (Memos memos) m = IsListed message.Memos memos m
-Says (Statement agent report) m = (text : String Global) × IsStatementText agent report (string_bytes text) × (m ≡ message.Report text)
+Says (Statement agent taxed report) m = (text : String Global) × IsStatementText agent taxed report (string_bytes text) × (m ≡ message.Report text)
 Says (Settlement report) m = (text : String Global) × IsSettlementText report (string_bytes text) × (m ≡ message.Report text)
 Says (Hot airline rows) m =
     ((file : Vec ℕ) × IsHotText airline rows file.items × (m ≡ message.Hot file))

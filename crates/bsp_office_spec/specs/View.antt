@@ -59,7 +59,7 @@ with_own_ranges f l = record { own = f l.own; published = l.published }
 
 abbrev pub ledger_after : ℕ → Ledger → Sight → Ledger
 ledger_after agent l (Own call) = ledger_after_request agent call l
-ledger_after agent l (Reported t) = with_own_item (new_item agent t (unwrap_or (target_of l.published t.issued) 0)) l
+ledger_after agent l (Reported t) = with_own_item (new_item agent l t (unwrap_or (target_of l.published t.issued) 0)) l
 ledger_after agent l (Registered token) = with_own_ranges (λ own. record own { token = Some token }) l
 ledger_after agent l (Allotted range) = with_own_ranges (λ own. record own { ranges = insert own.ranges (range_key agent range) range.last }) l
 ledger_after agent l (Withdrew range) = with_own_ranges (λ own. record own { ranges = remove own.ranges (range_key agent range) }) l

@@ -1,6 +1,6 @@
 //! Laws of requests and their answers.
 
-ghost use Rattle.bsp_office_spec.specs.Laws.{AgentIsIsolated, AgentsAreAlike, AirlineIsAnsweredByLedger, AirlineIsIsolated, AirlineLedgerIsOfSights, AirlinesAreAlike, ClosedPeriodsStay, EachFileIsRead, EachRequestIsRead, FilesAreTaken, LedgerIsOfSights, NetsAlwaysAddUp, NumbersHaveOneOwner, OthersAreForbidden, OwnIsAnsweredByLedger, ReadRequestsFit, RefusalsChangeNothing, RepeatsAreHeld, ReportsStay, RunIsSound, RunsAgreeWithTickets, RunsHoldRepeats, RunsShowTheSame, StepIsSound};
+ghost use Rattle.bsp_office_spec.specs.Laws.{AgentIsIsolated, AgentsAreAlike, AirlineIsAnsweredByLedger, AirlineIsIsolated, AirlineLedgerIsOfSights, AirlinesAreAlike, ClosedPeriodsStay, EachFileIsRead, EachRequestIsRead, FilesAreTaken, HotFilesShowNets, LedgerIsOfSights, NetsAlwaysAddUp, NumbersHaveOneOwner, OthersAreForbidden, OwnIsAnsweredByLedger, ReadRequestsFit, RefusalsChangeNothing, RepeatsAreHeld, ReportsStay, RunIsSound, RunsAgreeWithTickets, RunsHoldRepeats, RunsShowTheSame, StepIsSound};
 ghost use Rattle.bsp_office_spec.specs.Texts.{AnswersAreOneText};
 
 /// Each body has a reading as a RET file, its transactions or its first fault; and so each method, target and
@@ -56,15 +56,18 @@ pub fn numbers_have_one_owner()
 {}
 
 /// What a run has accepted agrees with its tickets, which are accepted of the same agent. Of an
-/// RFND the fare and each tax are at most the ticket's in size, and EX of an exchange is the
-/// tickets' fares and taxes. So no value is given back twice.
+/// RFND the fare and each tax are at most the ticket's in size. An exchange names one ticket or two
+/// different ones, and its EX is the fares and taxes of all of them. So no value is given back twice.
 pub fn values_agree()
     ensures { RunsAgreeWithTickets }
 {}
 
-/// In sound rows the nets of a period, each agent's of its own ledger and each airline's of its own, have one sum.
+/// In sound rows the nets of a period, each agent's of its own ledger and each airline's of its own,
+/// have one sum. A net is cash less commission less the tax on it, and the memos. An airline's is the
+/// net of the totals of its HOT file of a closed period, in either form.
 pub fn nets_add_up()
-    ensures { NetsAlwaysAddUp }
+    ensures sums { NetsAlwaysAddUp }
+    ensures shown { HotFilesShowNets }
 {}
 
 /// An airline's requests are answered by its ledger: its own rows, the codes of the registered
@@ -79,8 +82,8 @@ pub fn airline_isolation()
     ensures alike { AirlinesAreAlike }
 {}
 
-/// A closed period stays as it is over any run of requests: its days, its items and the memos
-/// billed in it. So do the settlement, each agent's statement and each airline's HOT file of it.
+/// A closed period stays as it is over any run of requests: its days, its form, its items and the
+/// memos billed in it. So do the settlement, each agent's statement and each airline's HOT file of it.
 /// Once a run has shown one of these, each later request for it has the same answer, but for 503
 /// and for 403.
 pub fn closed_periods_stay()

@@ -110,6 +110,7 @@ module _ (i : Item) (items : List Item) (memos : List MemoFields) (t : Tally) wh
         cash = s.cash ∙ ap (λ (rows : List Posting). sums (λ p. p.cash) rows) same;
         credit = s.credit ∙ ap (λ (rows : List Posting). sums (λ p. p.credit) rows) same;
         commission = s.commission ∙ ap (λ (rows : List Posting). sums (λ p. p.commission) rows) same;
+        tax = s.tax ∙ ap (λ (rows : List Posting). sums (λ p. p.tax) rows) same;
         memos = s.memos ∙ ap (λ (rows : List Posting). sums (λ p. p.memos) rows) same;
       }
 
@@ -133,6 +134,7 @@ module _ (i : Item) (items : List Item) (memos : List MemoFields) (t : Tally) wh
         cash = sums_less (λ q. q.cash) p rows rows_more t.cash more s.cash;
         credit = sums_less (λ q. q.credit) p rows rows_more t.credit more s.credit;
         commission = sums_less (λ q. q.commission) p rows rows_more t.commission more s.commission;
+        tax = sums_less (λ q. q.tax) p rows rows_more t.tax more s.tax;
         memos = sums_less (λ q. q.memos) p rows rows_more t.memos more s.memos;
       }
 
@@ -171,6 +173,7 @@ module _ (m : MemoFields) (items : List Item) (memos : List MemoFields) (t : Tal
         cash = sums_less (λ q. q.cash) p rows rows_more t.cash more s.cash;
         credit = sums_less (λ q. q.credit) p rows rows_more t.credit more s.credit;
         commission = sums_less (λ q. q.commission) p rows rows_more t.commission more s.commission;
+        tax = sums_less (λ q. q.tax) p rows rows_more t.tax more s.tax;
         memos = sums_less (λ q. q.memos) p rows rows_more t.memos more s.memos;
       }
 

@@ -88,6 +88,7 @@ module _ (i : Item) (items : List Item) (memos : List MemoFields) (t : Tally) wh
         cash = s.cash ∙ ap (λ (rows : List Posting). sums (λ p. p.cash) rows) same;
         credit = s.credit ∙ ap (λ (rows : List Posting). sums (λ p. p.credit) rows) same;
         commission = s.commission ∙ ap (λ (rows : List Posting). sums (λ p. p.commission) rows) same;
+        tax = s.tax ∙ ap (λ (rows : List Posting). sums (λ p. p.tax) rows) same;
         memos = s.memos ∙ ap (λ (rows : List Posting). sums (λ p. p.memos) rows) same;
       }
 
@@ -113,6 +114,7 @@ module _ (i : Item) (items : List Item) (memos : List MemoFields) (t : Tally) wh
         cash = s.cash ∙ ap (λ (rows : List Posting). sums (λ p. p.cash) rows) same;
         credit = s.credit ∙ ap (λ (rows : List Posting). sums (λ p. p.credit) rows) same;
         commission = s.commission ∙ ap (λ (rows : List Posting). sums (λ p. p.commission) rows) same;
+        tax = s.tax ∙ ap (λ (rows : List Posting). sums (λ p. p.tax) rows) same;
         memos = s.memos ∙ ap (λ (rows : List Posting). sums (λ p. p.memos) rows) same;
       }
 
@@ -130,6 +132,7 @@ module _ (i : Item) (items : List Item) (memos : List MemoFields) (t : Tally) wh
         cash = sums_more (λ q. q.cash) p rows rows_more t.cash more s.cash;
         credit = sums_more (λ q. q.credit) p rows rows_more t.credit more s.credit;
         commission = sums_more (λ q. q.commission) p rows rows_more t.commission more s.commission;
+        tax = sums_more (λ q. q.tax) p rows rows_more t.tax more s.tax;
         memos = sums_more (λ q. q.memos) p rows rows_more t.memos more s.memos;
       }
 
@@ -193,6 +196,7 @@ module _ (m : MemoFields) (items : List Item) (memos : List MemoFields) (t : Tal
         cash = s.cash ∙ ap (λ (rows : List Posting). sums (λ p. p.cash) rows) same;
         credit = s.credit ∙ ap (λ (rows : List Posting). sums (λ p. p.credit) rows) same;
         commission = s.commission ∙ ap (λ (rows : List Posting). sums (λ p. p.commission) rows) same;
+        tax = s.tax ∙ ap (λ (rows : List Posting). sums (λ p. p.tax) rows) same;
         memos = s.memos ∙ ap (λ (rows : List Posting). sums (λ p. p.memos) rows) same;
       }
 
@@ -209,6 +213,7 @@ module _ (m : MemoFields) (items : List Item) (memos : List MemoFields) (t : Tal
         cash = sums_more (λ q. q.cash) p rows rows_more t.cash more s.cash;
         credit = sums_more (λ q. q.credit) p rows rows_more t.credit more s.credit;
         commission = sums_more (λ q. q.commission) p rows rows_more t.commission more s.commission;
+        tax = sums_more (λ q. q.tax) p rows rows_more t.tax more s.tax;
         memos = sums_more (λ q. q.memos) p rows rows_more t.memos more s.memos;
       }
 
@@ -237,6 +242,7 @@ tally_permuted items others memos other_memos t same other_same s =
       cash = s.cash ∙ sums_permuted (λ p. p.cash) _ _ same_rows;
       credit = s.credit ∙ sums_permuted (λ p. p.credit) _ _ same_rows;
       commission = s.commission ∙ sums_permuted (λ p. p.commission) _ _ same_rows;
+      tax = s.tax ∙ sums_permuted (λ p. p.tax) _ _ same_rows;
       memos = s.memos ∙ sums_permuted (λ p. p.memos) _ _ same_rows;
     }
 
@@ -244,4 +250,4 @@ pub tally_postings_permuted : (period : ℕ) (tallies others : List Tally) → I
 tally_postings_permuted period tallies others same = IsPermutation-map tally_posting _ _ (IsPermutation-filter (is_used period) tallies others same)
 
 pub no_rows : (agent airline period : ℕ) → IsTallyOf [] [] (no_tally agent airline period)
-no_rows agent airline period = record { accepted = refl; canx = refl; living = refl; count = refl; cash = refl; credit = refl; commission = refl; memos = refl }
+no_rows agent airline period = record { accepted = refl; canx = refl; living = refl; count = refl; cash = refl; credit = refl; commission = refl; tax = refl; memos = refl }

@@ -12,10 +12,16 @@ use Rattle.bsp_postings.specs.Postings.{is_counted, item_posting, memo_posting}
 abbrev pub without_forms : Posting → Tally → Tally
 without_forms p t = record t { living = t.living - p.documents; cash = t.cash -ℤ p.cash; credit = t.credit -ℤ p.credit }
 
+-- with the commission of a posting and the tax on it less, and with its memos less
+abbrev pub without_charges : Posting → Tally → Tally
+without_charges p t = record t { commission = t.commission -ℤ p.commission; tax = t.tax -ℤ p.tax }
+
+abbrev pub without_memos : Posting → Tally → Tally
+without_memos p t = record t { memos = t.memos -ℤ p.memos }
+
 -- with a posting less
 abbrev pub without_posting : Posting → Tally → Tally
-without_posting p t =
-    record (without_forms p t) { commission = t.commission -ℤ p.commission; memos = t.memos -ℤ p.memos }
+without_posting p t = without_memos p (without_charges p (without_forms p t))
 
 -- with an item less among the accepted ones, and among the CANX if it is one
 abbrev pub not_counting : Item → Tally → Tally
@@ -34,9 +40,14 @@ without_memo m t = without_posting (memo_posting m) (record t { memo_count = t.m
 abbrev pub HasForms : Posting → Tally → Type 0
 HasForms p t = (p.documents ≤ t.living) × FitsSigned w64 (t.cash -ℤ p.cash) × FitsSigned w64 (t.credit -ℤ p.credit)
 
+abbrev pub HasCharges : Posting → Tally → Type 0
+HasCharges p t = FitsSigned w64 (t.commission -ℤ p.commission) × FitsSigned w64 (t.tax -ℤ p.tax)
+
+abbrev pub HasMemos : Posting → Tally → Type 0
+HasMemos p t = FitsSigned w64 (t.memos -ℤ p.memos)
+
 abbrev pub HasPosting : Posting → Tally → Type 0
-HasPosting p t =
-    HasForms p t × FitsSigned w64 (t.commission -ℤ p.commission) × FitsSigned w64 (t.memos -ℤ p.memos)
+HasPosting p t = HasForms p t × HasCharges p t × HasMemos p t
 
 abbrev pub HasCounted : Item → Tally → Type 0
 HasCounted i t = (1 ≤ t.accepted) × ((if is_canx i then 1 else 0) ≤ t.canx)

@@ -9,7 +9,7 @@ use Rattle.bsp_memos.specs.declared.fields.MemoFields.{MemoFields}
 use Rattle.bsp_memos.specs.Owed.{is_billed_in}
 use Rattle.bsp_postings.specs.declared.posting.Posting.{Posting}
 use Rattle.bsp_postings.specs.Postings.{is_counted, item_posting, memo_posting, postings}
-use Rattle.bsp_postings.specs.Nets.{cash_of, credit_of, commission_of, memos_of}
+use Rattle.bsp_postings.specs.Nets.{cash_of, credit_of, commission_of, tax_of, memos_of}
 
 -- ---- the postings of tallies
 
@@ -25,6 +25,7 @@ tally_posting t = record {
   cash = t.cash;
   credit = t.credit;
   commission = t.commission;
+  tax = t.tax;
   memos = t.memos;
 }
 
@@ -46,6 +47,7 @@ no_tally agent airline period = record {
   cash = pos 0;
   credit = pos 0;
   commission = pos 0;
+  tax = pos 0;
   memos = pos 0;
 }
 
@@ -53,10 +55,16 @@ no_tally agent airline period = record {
 abbrev pub with_forms : Posting → Tally → Tally
 with_forms p t = record t { living = t.living + p.documents; cash = t.cash +ℤ p.cash; credit = t.credit +ℤ p.credit }
 
+-- with the commission of a posting and the tax on it more, and with its memos more
+abbrev pub with_charges : Posting → Tally → Tally
+with_charges p t = record t { commission = t.commission +ℤ p.commission; tax = t.tax +ℤ p.tax }
+
+abbrev pub with_memos : Posting → Tally → Tally
+with_memos p t = record t { memos = t.memos +ℤ p.memos }
+
 -- with a posting more
 abbrev pub with_posting : Posting → Tally → Tally
-with_posting p t =
-    record (with_forms p t) { commission = t.commission +ℤ p.commission; memos = t.memos +ℤ p.memos }
+with_posting p t = with_memos p (with_charges p (with_forms p t))
 
 -- with an item more among the accepted ones, and among the CANX if it is one
 abbrev pub counting : Item → Tally → Tally
@@ -76,9 +84,14 @@ abbrev pub HasRoomForForms : Posting → Tally → Type 0
 HasRoomForForms p t =
     (t.living + p.documents < 2 ^ 32) × FitsSigned w64 (t.cash +ℤ p.cash) × FitsSigned w64 (t.credit +ℤ p.credit)
 
+abbrev pub HasRoomForCharges : Posting → Tally → Type 0
+HasRoomForCharges p t = FitsSigned w64 (t.commission +ℤ p.commission) × FitsSigned w64 (t.tax +ℤ p.tax)
+
+abbrev pub HasRoomForMemos : Posting → Tally → Type 0
+HasRoomForMemos p t = FitsSigned w64 (t.memos +ℤ p.memos)
+
 abbrev pub HasRoomForPosting : Posting → Tally → Type 0
-HasRoomForPosting p t =
-    HasRoomForForms p t × FitsSigned w64 (t.commission +ℤ p.commission) × FitsSigned w64 (t.memos +ℤ p.memos)
+HasRoomForPosting p t = HasRoomForForms p t × HasRoomForCharges p t × HasRoomForMemos p t
 
 abbrev pub HasRoomToCount : Item → Tally → Type 0
 HasRoomToCount i t = (t.accepted + 1 < 2 ^ 32) × (t.canx + (if is_canx i then 1 else 0) < 2 ^ 32)
@@ -119,6 +132,7 @@ pub record IsTallyOf (items : List Item) (billed : List MemoFields) (t : Tally) 
   pub cash : t.cash ≡ cash_of (under items billed t)
   pub credit : t.credit ≡ credit_of (under items billed t)
   pub commission : t.commission ≡ commission_of (under items billed t)
+  pub tax : t.tax ≡ tax_of (under items billed t)
   pub memos : t.memos ≡ memos_of (under items billed t)
 
 abbrev pub same_key : Tally → Tally → Bool

@@ -1,7 +1,7 @@
 //! Tallies with a row less.
 
 ghost use Rattle.std.specs.Prelude.{◌≡◌, SomeIff};
-ghost use Rattle.bsp_postings.specs.Removal.{HasCounted, HasForms, HasItem, HasMemo, HasPosting, not_counting, without_forms, without_item, without_memo, without_posting};
+ghost use Rattle.bsp_postings.specs.Removal.{HasCharges, HasCounted, HasForms, HasItem, HasMemo, HasMemos, HasPosting, not_counting, without_charges, without_forms, without_item, without_memo, without_memos, without_posting};
 
 use crate::posting::Posting;
 use crate::rows::is_counted;
@@ -23,16 +23,34 @@ impl Tally {
         })
     }
 
+    /// With the commission of a posting and the tax on it less.
+    fn without_charges(&self, posting: &Posting) -> Option<Tally>
+        ensures { SomeIff result (HasCharges posting.now self.now) (without_charges posting.now self.now) }
+    {
+        Some(Tally {
+            commission: self.commission.checked_sub(posting.commission)?,
+            tax: self.tax.checked_sub(posting.tax)?,
+            ..*self
+        })
+    }
+
+    /// With the memos of a posting less.
+    fn without_memos(&self, posting: &Posting) -> Option<Tally>
+        ensures { SomeIff result (HasMemos posting.now self.now) (without_memos posting.now self.now) }
+    {
+        Some(Tally {
+            memos: self.memos.checked_sub(posting.memos)?,
+            ..*self
+        })
+    }
+
     /// With a posting less.
     fn without_posting(&self, posting: &Posting) -> Option<Tally>
         ensures { SomeIff result (HasPosting posting.now self.now) (without_posting posting.now self.now) }
     {
         let unpaid = self.without_forms(posting)?;
-        Some(Tally {
-            commission: unpaid.commission.checked_sub(posting.commission)?,
-            memos: unpaid.memos.checked_sub(posting.memos)?,
-            ..unpaid
-        })
+        let uncharged = unpaid.without_charges(posting)?;
+        uncharged.without_memos(posting)
     }
 
     /// With an item less among the accepted ones, and among the CANX if it is one.

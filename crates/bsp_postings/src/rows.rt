@@ -18,7 +18,7 @@ pub fn is_counted(period: PeriodCode, item: &Item) -> bool
 }
 
 impl Posting {
-    /// What a living TKTT or RFND posts: one document, its cash, credit and commission.
+    /// What a living TKTT or RFND posts: one document, its cash, credit, commission and tax.
     pub fn of_item(item: &Item) -> Posting
         ensures { result ≡ item_posting item.now }
     {
@@ -30,6 +30,7 @@ impl Posting {
             cash: amount_or_zero(transaction.cash),
             credit: card_amount(transaction.credit),
             commission: commission_amount(&transaction.amounts),
+            tax: item.tax.get(),
             memos: 0,
         }
     }
@@ -45,6 +46,7 @@ impl Posting {
             cash: 0,
             credit: 0,
             commission: 0,
+            tax: 0,
             memos: memo.amount_owed().get(),
         }
     }

@@ -1,7 +1,7 @@
 //! The tallies of rows, and their postings.
 
 ghost use Rattle.std.specs.Prelude.{◌≡◌, SomeIff, IfOk};
-ghost use Rattle.bsp_postings.specs.Tallies.{HasRoomForForms, HasRoomForItem, HasRoomForMemo, HasRoomForPosting, HasRoomToCount, counting, is_used, no_tally, tally_posting, tally_postings, with_forms, with_item, with_memo, with_posting};
+ghost use Rattle.bsp_postings.specs.Tallies.{HasRoomForCharges, HasRoomForForms, HasRoomForItem, HasRoomForMemo, HasRoomForMemos, HasRoomForPosting, HasRoomToCount, counting, is_used, no_tally, tally_posting, tally_postings, with_charges, with_forms, with_item, with_memo, with_memos, with_posting};
 
 use crate::posting::Posting;
 use crate::rows::is_counted;
@@ -34,6 +34,8 @@ pub struct Tally {
     pub credit: i64,
     /// The commission of the living TKTT and RFND.
     pub commission: i64,
+    /// The tax on the commission of the living TKTT and RFND.
+    pub tax: i64,
     /// The memos billed: debit memos less credit memos.
     pub memos: i64,
 }
@@ -54,6 +56,7 @@ impl Tally {
             cash: 0,
             credit: 0,
             commission: 0,
+            tax: 0,
             memos: 0,
         }
     }
@@ -70,16 +73,34 @@ impl Tally {
         })
     }
 
+    /// With the commission of a posting and the tax on it more.
+    fn with_charges(&self, posting: &Posting) -> Option<Tally>
+        ensures { SomeIff result (HasRoomForCharges posting.now self.now) (with_charges posting.now self.now) }
+    {
+        Some(Tally {
+            commission: self.commission.checked_add(posting.commission)?,
+            tax: self.tax.checked_add(posting.tax)?,
+            ..*self
+        })
+    }
+
+    /// With the memos of a posting more.
+    fn with_memos(&self, posting: &Posting) -> Option<Tally>
+        ensures { SomeIff result (HasRoomForMemos posting.now self.now) (with_memos posting.now self.now) }
+    {
+        Some(Tally {
+            memos: self.memos.checked_add(posting.memos)?,
+            ..*self
+        })
+    }
+
     /// With a posting more, where its count and its sums have room for it.
     fn with_posting(&self, posting: &Posting) -> Option<Tally>
         ensures { SomeIff result (HasRoomForPosting posting.now self.now) (with_posting posting.now self.now) }
     {
         let paid = self.with_forms(posting)?;
-        Some(Tally {
-            commission: paid.commission.checked_add(posting.commission)?,
-            memos: paid.memos.checked_add(posting.memos)?,
-            ..paid
-        })
+        let charged = paid.with_charges(posting)?;
+        charged.with_memos(posting)
     }
 
     /// With an item more among the accepted ones, and among the CANX if it is one.
@@ -137,6 +158,7 @@ impl Tally {
             cash: self.cash,
             credit: self.credit,
             commission: self.commission,
+            tax: self.tax,
             memos: self.memos,
         }
     }

@@ -8,7 +8,7 @@ use crate::words::{first_count, first_word};
 use bsp_explain::{
     Before, Explanation, Reason, explain_hot, explain_ret, hot_reason, record_name, ret_reason,
 };
-use bsp_hot_check::RecordFault;
+use bsp_hot_check::{FileForm, RecordFault};
 use bsp_ret::{FaultCode, RetFault, read_ret};
 
 /// What is counted before the record of a `reason`: one transaction of 235.00.
@@ -95,12 +95,17 @@ fn explain_first(page: &Page<'_>, parts: &str, out: &mut Output) -> Result<(), F
     Ok(())
 }
 
-/// Gives the reason of a fault of a HOT file from the record with that number alone.
-fn reason_of_hot(page: &Page<'_>, text: &str, out: &mut Output) -> Result<(), Fault> {
+/// Gives the reason of a fault of a HOT file of that form from the record with that number alone.
+fn reason_of_hot(
+    form: FileForm,
+    page: &Page<'_>,
+    text: &str,
+    out: &mut Output,
+) -> Result<(), Fault> {
     let (record, parts) = first_count(text)?;
     let text = text_of(page, parts)?;
     let line = line_of(&text)?;
-    let reason = hot_reason(record, line);
+    let reason = hot_reason(form, record, line);
     let explanation = Explanation {
         record,
         name: record_name(line),
@@ -131,7 +136,8 @@ pub fn answer(
         "reason" => Some(reason(page, rest, out)),
         "explain" => Some(explain(page, rest, out)),
         "explain-first" => Some(explain_first(page, rest, out)),
-        "hot-reason" => Some(reason_of_hot(page, rest, out)),
+        "hot-reason" => Some(reason_of_hot(FileForm::One, page, rest, out)),
+        "hot-reason-2" => Some(reason_of_hot(FileForm::Two, page, rest, out)),
         "hot-explain" => Some(explain_of_hot(page, rest, out)),
         _ => None,
     }

@@ -6,11 +6,11 @@ use crate::page::Page;
 use crate::texts::{line_of, text_of};
 use crate::words::{first_count, first_word};
 use bsp_hot_check::CodeSums;
-use bsp_hot_records::{DocumentCode, Record, RecordName, Sums, read_record};
+use bsp_hot_records::{DocumentCode, FileForm, Record, RecordName, Sums, read_record};
 use bsp_records::is_wide;
 
 /// The names of records, in the order of a file.
-const NAMES: [RecordName; 13] = [
+const NAMES: [RecordName; 14] = [
     RecordName::Bfh01,
     RecordName::Bch02,
     RecordName::Boh03,
@@ -18,6 +18,7 @@ const NAMES: [RecordName; 13] = [
     RecordName::Bks24,
     RecordName::Bks30,
     RecordName::Bks39,
+    RecordName::Bks42,
     RecordName::Bks45,
     RecordName::Bkp84,
     RecordName::Bot93,
@@ -50,7 +51,7 @@ pub fn codes(out: &mut Output) -> Result<(), Fault> {
     Ok(())
 }
 
-/// Reads a record with that sequence number.
+/// Reads a record with that sequence number, which is the same in each form.
 pub fn record(page: &Page<'_>, text: &str, out: &mut Output) -> Result<(), Fault> {
     let (number, parts) = first_count(text)?;
     let text = text_of(page, parts)?;
@@ -58,7 +59,7 @@ pub fn record(page: &Page<'_>, text: &str, out: &mut Output) -> Result<(), Fault
     if !is_wide(line) {
         return Err(Fault::Record);
     }
-    match read_record(number, line) {
+    match read_record(FileForm::One, number, line) {
         Some(Record::TransactionHeader(header)) => {
             say!(
                 out,
@@ -73,15 +74,16 @@ pub fn record(page: &Page<'_>, text: &str, out: &mut Output) -> Result<(), Fault
     Ok(())
 }
 
-/// Writes the number of documents, the cash, the credit and the commission.
+/// Writes the number of documents, the cash, the credit, the commission and the tax on it.
 fn write_sums(out: &mut Output, sums: Sums) {
     let Sums {
         documents,
         cash,
         credit,
         commission,
+        tax,
     } = sums;
-    say!(out, "{documents} {cash} {credit} {commission}");
+    say!(out, "{documents} {cash} {credit} {commission} {tax}");
 }
 
 /// The amount that a text begins with, and what follows it.
@@ -93,30 +95,34 @@ fn first_amount(text: &str) -> Result<(i32, &str), Fault> {
     }
 }
 
-/// Adds a document to a cash, a credit and a commission.
+/// Adds a document to a cash, a credit, a commission and a tax on it.
 pub fn sums(text: &str, out: &mut Output) -> Result<(), Fault> {
     let (cash, rest) = first_amount(text)?;
     let (credit, rest) = first_amount(rest)?;
-    let (commission, _) = first_amount(rest)?;
+    let (commission, rest) = first_amount(rest)?;
+    let (tax, _) = first_amount(rest)?;
     let paid = Sums {
         documents: 0,
         cash: i128::from(cash),
         credit: i128::from(credit),
         commission: i128::from(commission),
+        tax: i128::from(tax),
     };
     write_sums(out, Sums::DOCUMENT.plus(paid));
     Ok(())
 }
 
-/// Takes a commission from a cash.
+/// Takes a commission and the tax on it from a cash.
 pub fn net(text: &str, out: &mut Output) -> Result<(), Fault> {
     let (cash, rest) = first_amount(text)?;
-    let (commission, _) = first_amount(rest)?;
+    let (commission, rest) = first_amount(rest)?;
+    let (tax, _) = first_amount(rest)?;
     let sums = Sums {
         documents: 1,
         cash: i128::from(cash),
         credit: 0,
         commission: i128::from(commission),
+        tax: i128::from(tax),
     };
     out.say(sums.net());
     Ok(())

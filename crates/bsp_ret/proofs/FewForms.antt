@@ -1,10 +1,12 @@
 -- A group has three forms at most, so that their sum is small.
-use Rattle.std.proofs.Common.{◌≡◌, ℕ, ◌+◌, ◌*◌, ◌^◌, ◌≤◌, ℤ, pos, Bool, true, List, Some, refl, ap, ◌∙◌, arith}
+use Rattle.std.proofs.Common.{◌≡◌, ℕ, ◌+◌, ◌*◌, ◌^◌, ◌≤◌, ℤ, pos, Bool, true, List, Option, Some, refl, ap, ◌∙◌, arith}
 use Rattle.std.specs.Prelude.{unsigned_abs, unwrap_or}
 use Rattle.std.proofs.lemmas.Int.{ints}
 use Rattle.bsp_records.specs.Columns.{identifier}
 use Rattle.bsp_ret_records.specs.declared.codes.FormOfPayment.{FormOfPayment}
 use Rattle.bsp_ret_records.specs.declared.codes.FormOfPayment.TheVariants.{Cash, Credit, Exchange}
+use Rattle.bsp_ret_records.specs.declared.codes.Profile.{Profile}
+use Rattle.bsp_ret_records.specs.declared.codes.Profile.TheVariants.{P001}
 use Rattle.bsp_ret_records.specs.declared.codes.TransactionCode.{TransactionCode}
 use Rattle.bsp_ret_records.specs.declared.codes.TransactionCode.TheVariants.{Tktt}
 use Rattle.bsp_ret.specs.declared.model.LastRecord.{LastRecord}
@@ -12,7 +14,7 @@ use Rattle.bsp_ret.specs.declared.model.LastRecord.TheVariants as last
 use Rattle.bsp_ret.specs.declared.model.Record.{Record}
 use Rattle.bsp_ret.specs.declared.model.Record.TheVariants as said
 use Rattle.bsp_ret.specs.declared.model.Standing.{Standing}
-use Rattle.bsp_ret_records.specs.Records.{code_of, form_of, form_amount}
+use Rattle.bsp_ret_records.specs.Records.{profile_of, code_of, related_order, form_of, form_amount}
 use Rattle.bsp_ret.specs.Said.{record_in}
 use Rattle.bsp_ret.specs.Table.{kind, takes_related, takes_amounts, takes_form}
 use Rattle.bsp_ret.specs.Standings.{standing_with}
@@ -30,9 +32,9 @@ forms_up_to _ = 0
 
 -- ---- no form before a record 3 or 5
 
-none_before_related : (l : LastRecord) (code : TransactionCode) → takes_related l code ≡ true → forms_up_to l ≡ 0
-none_before_related (last.Form form) code h = absurd cc
-none_before_related _ code h = refl
+none_before_related : (l : LastRecord) (code : TransactionCode) (profile : Profile) (only : Option ℕ) → takes_related l code profile only ≡ true → forms_up_to l ≡ 0
+none_before_related (last.Form form) code profile only h = absurd cc
+none_before_related _ code profile only h = refl
 
 none_before_amounts : (l : LastRecord) (code : TransactionCode) → takes_amounts l code ≡ true → forms_up_to l ≡ 0
 none_before_amounts (last.Form form) code h = absurd cc
@@ -59,7 +61,7 @@ one_more_form last.Trailer code related form h = absurd cc
 
 -- ---- what each record says
 
-says_49 : (line : List ℕ) → identifier line ≡ 49 → record_in line ≡ said.Header
+says_49 : (line : List ℕ) → identifier line ≡ 49 → record_in line ≡ said.Header (unwrap_or (profile_of line) P001)
 unfolding record_in
 says_49 line name = rw name refl
 
@@ -67,7 +69,7 @@ says_50 : (line : List ℕ) → identifier line ≡ 50 → record_in line ≡ sa
 unfolding record_in
 says_50 line name = rw name refl
 
-says_51 : (line : List ℕ) → identifier line ≡ 51 → record_in line ≡ said.Related
+says_51 : (line : List ℕ) → identifier line ≡ 51 → record_in line ≡ said.Related (related_order line)
 unfolding record_in
 says_51 line name = rw name refl
 
@@ -93,9 +95,9 @@ pub few_forms : (at : Standing) (line : List ℕ) (sum new : ℤ) (next : Record
 few_forms at line sum new next (clean_header p h) is paid bound few =
     none_paid new _ (paid ∙ ap (paid_with sum) (is ∙ says_49 line (begins_49 line h.begins)))
 few_forms at line sum new next (clean_sale p h) is paid bound few = none_paid new _ (paid ∙ ap (paid_with sum) (is ∙ says_50 line h.name))
-few_forms at line sum new next (clean_related p h) is paid bound few =
+few_forms at line sum new next (clean_related p h behind) is paid bound few =
     let same : unsigned_abs new ≡ unsigned_abs sum = ap unsigned_abs (paid ∙ ap (paid_with sum) (is ∙ says_51 line h.name)) in
-    omega (arith, same, few, none_before_related at.last at.code p)
+    omega (arith, same, few, none_before_related at.last at.code at.profile at.only p)
 few_forms at line sum new next (clean_amounts p h) is paid bound few =
     let same : unsigned_abs new ≡ unsigned_abs sum = ap unsigned_abs (paid ∙ ap (paid_with sum) (is ∙ says_53 line h.name)) in
     omega (arith, same, few, none_before_amounts at.last at.code p)
@@ -119,9 +121,9 @@ three_forms last.Trailer = omega arith
 
 -- the kind of the last record, behind one more
 pub kind_with : (at : Standing) (next : Record) → forms_up_to (standing_with at next).last ≡ forms_up_to (kind next)
-kind_with at said.Header = refl
+kind_with at (said.Header profile) = refl
 kind_with at (said.Sale code) = refl
-kind_with at said.Related = refl
+kind_with at (said.Related order) = refl
 kind_with at said.Amounts = refl
 kind_with at (said.Form form amount) = refl
 kind_with at said.Trailer = refl

@@ -1,6 +1,8 @@
 -- The forms of payment of a group, as options, against the last record.
-use Rattle.std.proofs.Common.{◌≡◌, ℕ, Bool, true, false, List, ◌++◌, Option, Some, None, IsSome, is_some, option_to_list, refl, inl, inr, ◌⊎◌}
+use Rattle.std.proofs.Common.{◌≡◌, ℕ, Bool, true, false, List, ◌++◌, Option, Some, None, IfSome, IsSome, is_some, option_to_list, refl, inl, inr, ◌⊎◌}
 use Rattle.bsp_ret_records.specs.declared.codes.FormOfPayment.TheVariants.{Cash, Credit, Exchange}
+use Rattle.bsp_ret_records.specs.declared.codes.Profile.{Profile}
+use Rattle.bsp_ret_records.specs.declared.codes.Profile.TheVariants.{P002}
 use Rattle.bsp_ret_records.specs.declared.codes.TransactionCode.{TransactionCode}
 use Rattle.bsp_ret_records.specs.declared.codes.TransactionCode.TheVariants.{Tktt, Rfnd, Canx}
 use Rattle.bsp_ret.specs.declared.model.LastRecord.{LastRecord}
@@ -8,8 +10,8 @@ use Rattle.bsp_ret.specs.declared.model.LastRecord.TheVariants as last
 use Rattle.bsp_ret.specs.Table.{is_complete, has_form, takes_form}
 use Rattle.bsp_ret.specs.Ret.{Group}
 
-abbrev pub group_of : List ℕ → Option (List ℕ) → Option (List ℕ) → Option (List ℕ) → Option (List ℕ) → Option (List ℕ) → Group
-group_of sale related amounts cash credit exchange = record { sale = sale; related = related; amounts = amounts; cash = cash; credit = credit; exchange = exchange }
+abbrev pub group_of : List ℕ → Option (List ℕ) → Option (List ℕ) → Option (List ℕ) → Option (List ℕ) → Option (List ℕ) → Option (List ℕ) → Group
+group_of sale related second amounts cash credit exchange = record { sale = sale; related = related; second = second; amounts = amounts; cash = cash; credit = credit; exchange = exchange }
 
 -- the last record with a record that may stand behind another
 abbrev pub or_last : Option (List ℕ) → LastRecord → LastRecord → LastRecord
@@ -28,6 +30,10 @@ abbrev pub may_pay : TransactionCode → Bool → Bool
 may_pay Tktt has_related = true
 may_pay Rfnd has_related = has_related
 may_pay Canx has_related = false
+
+-- a second record 3 stands in a TKTT of profile 002
+abbrev pub IsAllowed : TransactionCode → Profile → Option (List ℕ) → Type 0
+IsAllowed code profile second = IfSome second (λ line. (code ≡ Tktt) × (profile ≡ P002))
 
 -- ---- where a form may stand, no later one does
 

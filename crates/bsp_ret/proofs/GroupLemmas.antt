@@ -10,9 +10,9 @@ use Rattle.bsp_ret_records.specs.declared.codes.FormOfPayment.TheVariants.{Cash,
 use Rattle.bsp_records.specs.Columns.{identifier, is_wide, is_printable}
 use Rattle.bsp_ret_records.specs.Records.{code_of, sale_fits, related_fits, amounts_fit, form_of, form_fits, IsFit}
 use Rattle.bsp_ret.proofs.Wide.{group_at}
-use Rattle.bsp_ret.proofs.BodyLemmas.{BodyFacts, body_facts}
-use Rattle.bsp_ret.specs.Ret.{File, Ret, Group, forms_of, IsRecord, IsForm, HasBody, IsGroup}
-use Rattle.bsp_ret.specs.Groups.{sale_alone, with_form, with_record, with_records, HasRecords, AreFit}
+use Rattle.bsp_ret.proofs.BodyLemmas.{BodyFacts, body_facts, first_related, second_related}
+use Rattle.bsp_ret.specs.Ret.{File, Ret, Group, forms_of, AreRelated, IsRecord, IsForm, HasBody, IsGroup}
+use Rattle.bsp_ret.specs.Groups.{sale_alone, with_related, with_form, with_record, with_records, HasRecords, AreFit}
 use Rattle.bsp_ret_records.specs.declared.transactions.Transaction.{Transaction}
 use Rattle.bsp_ret.specs.Content.{IsContent, HasContent}
 use Rattle.bsp_ret_records.specs.Values.{IsSale}
@@ -31,7 +31,7 @@ pub with_one : (g : Group) (line : List ℕ) (lines : List (List ℕ)) → with_
 unfolding with_records
 with_one g line lines = refl
 
-with_51 : (g : Group) (line : List ℕ) → identifier line ≡ 51 → with_record g line ≡ record g { related = Some line }
+with_51 : (g : Group) (line : List ℕ) → identifier line ≡ 51 → with_record g line ≡ with_related g.related g line
 unfolding with_record
 with_51 g line name = rw name refl
 
@@ -51,9 +51,22 @@ behind n g (Some code) body = body_facts n g code body
 
 -- ---- all records, one kind after the other
 
-all_related : (n : ℕ) (g : Group) (related : Option (List ℕ)) (more : List (List ℕ)) → g.related ≡ None → IfSome related (IsRecord 51 n related_fits) → with_records g (option_to_list related ++ more) ≡ with_records (record g { related = related }) more
-all_related n g None more none is = ap (λ o. with_records (record g { related = o }) more) none
-all_related n g (Some line) more none is = with_one g line more ∙ ap (λ h. with_records h more) (with_51 g line is.name)
+-- a first record 3, and a second
+with_first : (g : Group) (line : List ℕ) → g.related ≡ None → identifier line ≡ 51 → with_record g line ≡ record g { related = Some line }
+with_first g line none name = with_51 g line name ∙ ap (λ o. with_related o g line) none
+
+with_second : (g : Group) (first line : List ℕ) → g.related ≡ Some first → identifier line ≡ 51 → with_record g line ≡ record g { second = Some line }
+with_second g first line some name = with_51 g line name ∙ ap (λ o. with_related o g line) some
+
+all_related : (n : ℕ) (g : Group) (related second : Option (List ℕ)) (more : List (List ℕ)) → g.related ≡ None → g.second ≡ None → AreRelated n related second
+    → with_records g (option_to_list related ++ (option_to_list second ++ more)) ≡ with_records (record g { related = related; second = second }) more
+all_related n g None None more none no_second are = ap (λ o. with_records (record g { related = o; second = g.second }) more) none ∙ ap (λ o. with_records (record g { related = None; second = o }) more) no_second
+all_related n g (Some line) None more none no_second are =
+    with_one g line more ∙ ap (λ h. with_records h more) (with_first g line none are.name) ∙ ap (λ o. with_records (record g { related = Some line; second = o }) more) no_second
+all_related n g (Some line) (Some second) more none no_second are =
+    with_one g line (second ∷ more) ∙ ap (λ h. with_records h (second ∷ more)) (with_first g line none are.0.name)
+    ∙ with_one (record g { related = Some line }) second more ∙ ap (λ h. with_records h more) (with_second (record g { related = Some line }) line second refl are.1.name)
+all_related n g None (Some second) more none no_second are = absurd are
 
 all_amounts : (n : ℕ) (g : Group) (amounts : Option (List ℕ)) (more : List (List ℕ)) → g.amounts ≡ None → IfSome amounts (IsRecord 53 n amounts_fit) → with_records g (option_to_list amounts ++ more) ≡ with_records (record g { amounts = amounts }) more
 all_amounts n g None more none is = ap (λ o. with_records (record g { amounts = o }) more) none
@@ -71,19 +84,20 @@ all_exchange : (n : ℕ) (g : Group) (exchange : Option (List ℕ)) → g.exchan
 all_exchange n g None none is = with_nothing g ∙ ap (λ o. record g { exchange = o }) none
 all_exchange n g (Some line) none is = with_one g line [] ∙ with_nothing (with_record g line) ∙ with_56 g line Exchange is.stands.name is.form
 
-all_records : (n : ℕ) (g : Group) → BodyFacts n g → with_records (sale_alone g.sale) (option_to_list g.related ++ (option_to_list g.amounts ++ forms_of g)) ≡ g
+all_records : (n : ℕ) (g : Group) → BodyFacts n g → with_records (sale_alone g.sale) (option_to_list g.related ++ (option_to_list g.second ++ (option_to_list g.amounts ++ forms_of g))) ≡ g
 all_records n g b =
-    all_related n (sale_alone g.sale) g.related (option_to_list g.amounts ++ forms_of g) refl b.related
-    ∙ all_amounts n (record (sale_alone g.sale) { related = g.related }) g.amounts (forms_of g) refl b.amounts
-    ∙ all_cash n (record (sale_alone g.sale) { related = g.related; amounts = g.amounts }) g.cash (option_to_list g.credit ++ option_to_list g.exchange) refl b.cash
-    ∙ all_credit n (record (sale_alone g.sale) { related = g.related; amounts = g.amounts; cash = g.cash }) g.credit (option_to_list g.exchange) refl b.credit
-    ∙ all_exchange n (record (sale_alone g.sale) { related = g.related; amounts = g.amounts; cash = g.cash; credit = g.credit }) g.exchange refl b.exchange
+    let sold = record (sale_alone g.sale) { related = g.related; second = g.second } in
+    all_related n (sale_alone g.sale) g.related g.second (option_to_list g.amounts ++ forms_of g) refl refl b.related
+    ∙ all_amounts n sold g.amounts (forms_of g) refl b.amounts
+    ∙ all_cash n (record sold { amounts = g.amounts }) g.cash (option_to_list g.credit ++ option_to_list g.exchange) refl b.cash
+    ∙ all_credit n (record sold { amounts = g.amounts; cash = g.cash }) g.credit (option_to_list g.exchange) refl b.credit
+    ∙ all_exchange n (record sold { amounts = g.amounts; cash = g.cash; credit = g.credit }) g.exchange refl b.exchange
 
 -- the records that the lines give are the group's
 pub has_records : (n : ℕ) (lines : List (List ℕ)) (g : Group) → IsGroup n lines → ((sale : List ℕ) (more : List (List ℕ)) → lines ≡ sale ∷ more → g ≡ with_records (sale_alone sale) more) → HasRecords n lines g
 has_records n lines g is split = record {
   is = is;
-  group_is = sym (split is.group.sale (option_to_list is.group.related ++ (option_to_list is.group.amounts ++ forms_of is.group)) is.lines_are ∙ all_records n is.group (behind n is.group (code_of is.group.sale) is.body));
+  group_is = sym (split is.group.sale (option_to_list is.group.related ++ (option_to_list is.group.second ++ (option_to_list is.group.amounts ++ forms_of is.group))) is.lines_are ∙ all_records n is.group (behind n is.group (code_of is.group.sale) is.body));
 }
 
 -- ---- widths
@@ -122,7 +136,8 @@ group_fits n lines g has =
     let b = behind n h (code_of h.sale) has.is.body in
     subst AreFit has.group_is (record {
       sale = (wide_length h.sale has.is.sale.wide, has.is.sale.fields);
-      related = fit_if 51 n related_fits h.related b.related;
+      related = fit_if 51 n related_fits h.related (first_related n h.related h.second b.related);
+      second = fit_if 51 n related_fits h.second (second_related n h.related h.second b.related);
       amounts = fit_if 53 n amounts_fit h.amounts b.amounts;
       cash = fit_form n Cash h.cash b.cash;
       credit = fit_form n Credit h.credit b.credit;

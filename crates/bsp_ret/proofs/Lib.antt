@@ -16,6 +16,7 @@ pub mod PieceLemmas
 pub mod FeedLemmas
 pub mod GroupLemmas
 pub mod BodyLemmas
+pub mod RelatedLemmas
 pub mod TrailerLemmas
 pub mod SameGroup
 pub mod SameContent

@@ -7,6 +7,7 @@ use Rattle.bsp_fields.specs.Zoned.{zoned_reading}
 use Rattle.bsp_fields.specs.declared.fault.FieldFault.{FieldFault}
 use Rattle.bsp_fields.proofs.FirstFaultLemmas.{row_passed}
 use Rattle.bsp_ret_records.specs.declared.codes.FormOfPayment.{FormOfPayment}
+use Rattle.bsp_ret_records.specs.declared.codes.Profile.{Profile}
 use Rattle.bsp_ret_records.specs.declared.codes.TransactionCode.{TransactionCode}
 use Rattle.bsp_ret.specs.declared.model.LastRecord.{LastRecord}
 use Rattle.bsp_ret.specs.declared.model.LastRecord.TheVariants as last
@@ -15,15 +16,15 @@ use Rattle.bsp_ret.specs.declared.model.FaultCode.{FaultCode}
 use Rattle.bsp_ret.specs.declared.model.FaultCode.TheVariants.{F01, F02, F03, F04, F05, F06, F07, F09}
 use Rattle.bsp_records.specs.Columns.{identifier, is_wide}
 use Rattle.bsp_records.specs.Fields.{spells}
-use Rattle.bsp_ret_records.specs.Records.{transaction_number, record_count, transaction_count, total, is_header, is_production, header_fits, sale_fits, related_fits, amounts_fit, form_of, form_fits, trailer_fits}
-use Rattle.bsp_ret.specs.Table.{has_ended, is_start, is_complete, takes_related, takes_amounts, takes_form, has_value, has_counts, has_sum, header_table, trailer_table, later_table, record_table, row_fault}
+use Rattle.bsp_ret_records.specs.Records.{transaction_number, record_count, transaction_count, total, is_header, is_production, header_fits, sale_fits, related_order, related_fits, amounts_fit, form_of, form_fits, trailer_fits}
+use Rattle.bsp_ret.specs.Table.{has_ended, is_start, is_complete, takes_related, comes_behind, takes_amounts, takes_form, has_value, has_counts, has_sum, header_table, trailer_table, later_table, record_table, row_fault}
 use Rattle.bsp_ret.specs.Ret.{IsHeader, IsRecord, IsTrailer}
 
 -- a record without fault behind lines that stand so
 pub data Clean (at : Standing) (line : List ℕ) : Type 0 where
   clean_header : is_start at.last ≡ true → IsHeader line → Clean at line
   clean_sale : is_complete at.last at.code at.related ≡ true → IsRecord 50 (at.transactions + 1) sale_fits line → Clean at line
-  clean_related : takes_related at.last at.code ≡ true → IsRecord 51 at.transactions related_fits line → Clean at line
+  clean_related : takes_related at.last at.code at.profile at.only ≡ true → IsRecord 51 at.transactions related_fits line → comes_behind at.only (related_order line) ≡ true → Clean at line
   clean_amounts : takes_amounts at.last at.code ≡ true → IsRecord 53 at.transactions amounts_fit line → Clean at line
   clean_form : takes_form at.last at.code at.related (form_of line) ≡ true → IsRecord 56 at.transactions form_fits line → Clean at line
   clean_trailer : is_complete at.last at.code at.related ≡ true → IsTrailer (at.records + 1) at.transactions at.sum line → Clean at line
@@ -43,10 +44,10 @@ complete_later last.Trailer code related h = absurd cc
 complete_later last.Start code related h = absurd cc
 complete_later _ code related h = (refl, refl)
 
-related_later : (l : LastRecord) (code : TransactionCode) → takes_related l code ≡ true → IsLater l
-related_later last.Trailer code h = absurd cc
-related_later last.Start code h = absurd cc
-related_later _ code h = (refl, refl)
+related_later : (l : LastRecord) (code : TransactionCode) (profile : Profile) (only : Option ℕ) → takes_related l code profile only ≡ true → IsLater l
+related_later last.Trailer code profile only h = absurd cc
+related_later last.Start code profile only h = absurd cc
+related_later _ code profile only h = (refl, refl)
 
 amounts_later : (l : LastRecord) (code : TransactionCode) → takes_amounts l code ≡ true → IsLater l
 amounts_later last.Trailer code h = absurd cc
@@ -73,9 +74,9 @@ no_row at line (clean_header p h) = rw (start_goes_on at.last p, h.wide, p, h.be
 no_row at line (clean_sale p h) =
     let q = complete_later at.last at.code at.related p in
     rw (q.0, h.wide, q.1, h.name, p, h.number, h.fields) refl
-no_row at line (clean_related p h) =
-    let q = related_later at.last at.code p in
-    rw (q.0, h.wide, q.1, h.name, p, h.number, h.fields) refl
+no_row at line (clean_related p h behind) =
+    let q = related_later at.last at.code at.profile at.only p in
+    rw (q.0, h.wide, q.1, h.name, p, h.number, h.fields, behind) refl
 no_row at line (clean_amounts p h) =
     let q = amounts_later at.last at.code p in
     rw (q.0, h.wide, q.1, h.name, p, h.number, h.fields) refl
@@ -132,8 +133,9 @@ by_later_table at line wide e =
           clean_sale a.0 (record { wide = wide; name = eqb-true _ _ k; number = a.1; fields = a.2 })
       | inr k ↦ elim (cases_Bool (identifier line == 51)) [
         | inl r ↦
-            let a = passed (takes_related at.last at.code) (spells at.transactions (transaction_number line)) (related_fits line) (rw (k, r) at e) in
-            clean_related a.0 (record { wide = wide; name = eqb-true _ _ r; number = a.1; fields = a.2 })
+            let a = passed (takes_related at.last at.code at.profile at.only) (spells at.transactions (transaction_number line)) (related_fits line && comes_behind at.only (related_order line)) (rw (k, r) at e) in
+            let b = and_parts (related_fits line) (comes_behind at.only (related_order line)) a.2 in
+            clean_related a.0 (record { wide = wide; name = eqb-true _ _ r; number = a.1; fields = b.0 }) b.1
         | inr r ↦ elim (cases_Bool (identifier line == 53)) [
           | inl m ↦
               let a = passed (takes_amounts at.last at.code) (spells at.transactions (transaction_number line)) (amounts_fit line) (rw (k, r, m) at e) in

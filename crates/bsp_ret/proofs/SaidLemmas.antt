@@ -1,17 +1,17 @@
 -- What a record says, by its identifier, and what the fault table says of it.
 use Rattle.std.proofs.Common.{◌≡◌, ℕ, ℤ, pos, Bool, true, false, List, [], ◌∷◌, Result, Ok, Err, refl, sym, ap, ◌∙◌, inl, inr, eqb-true}
-use Rattle.std.specs.Prelude.{◌==◌, not, IfOk, IfErr, codes}
-use Rattle.std.specs.Str.{bytes_eq}
+use Rattle.std.specs.Prelude.{◌==◌, not, is_some, unwrap_or, IfOk, IfErr}
 use Rattle.std.proofs.lemmas.Bool.{cases_Bool, and_parts, not-false}
 use Rattle.bsp_fields.proofs.FirstFaultLemmas.{row_passed}
 use Rattle.bsp_fields.specs.FirstFault.{first_fault_or}
-use Rattle.bsp_records.specs.Columns.{columns, identifier, is_wide}
+use Rattle.bsp_records.specs.Columns.{identifier, is_wide}
+use Rattle.bsp_ret_records.specs.declared.codes.Profile.TheVariants.{P001}
 use Rattle.bsp_ret.specs.declared.model.FaultCode.{FaultCode}
 use Rattle.bsp_ret.specs.declared.model.FaultCode.TheVariants.{F01, F02, F04, F05, F09}
 use Rattle.bsp_ret.specs.declared.model.Record.{Record}
 use Rattle.bsp_ret.specs.declared.model.Record.TheVariants as said
 use Rattle.bsp_ret.specs.declared.model.Standing.{Standing}
-use Rattle.bsp_ret_records.specs.Records.{is_header, is_production, header_fits}
+use Rattle.bsp_ret_records.specs.Records.{profile_of, is_header, is_production, header_fits}
 use Rattle.bsp_ret.specs.Said.{record_in}
 use Rattle.bsp_ret.specs.Table.{paid, has_ended, header_table, trailer_table, later_table, record_table, row_fault}
 
@@ -92,10 +92,10 @@ row_says line rows says (Ok found) so is = let passed = table_passed rows says f
 row_says line rows says (Err fault) so is = tt
 
 -- a header says that it is one
-pub header_says : (line : List ℕ) → first_fault_or {V = Unit {0}} (header_table line) tt ≡ Ok tt → said.Header ≡ record_in line
+pub header_says : (line : List ℕ) → first_fault_or {V = Unit {0}} (header_table line) tt ≡ Ok tt → said.Header (unwrap_or (profile_of line) P001) ≡ record_in line
 unfolding record_in is_header
 header_says line e =
     let rest = (not (is_production line), F04) ∷ (not (header_fits line), F05) ∷ [] in
     let first = row_passed (not (is_header line)) F02 rest tt tt e in
-    let name = eqb-true _ _ (and_parts (identifier line == 49) (bytes_eq (columns 28 30 line) (codes "001")) (not-false (is_header line) first.0)).0 in
+    let name = eqb-true _ _ (and_parts (identifier line == 49) (is_some (profile_of line)) (not-false (is_header line) first.0)).0 in
     rw name refl

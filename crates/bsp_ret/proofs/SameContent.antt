@@ -48,11 +48,16 @@ same_document text d e first second =
     let parts : document_from d.airline d.number d.check_digit ≡ document_from e.airline e.number e.check_digit = rw (airline, number, check) refl in
     document_is d ∙ parts ∙ sym (document_is e)
 
-same_related : (line : Option (List ℕ)) (places others : List (Option ReportedDocument)) → HasRelatedValues line places → HasRelatedValues line others → places ≡ others
-same_related line [] others first second = absurd first
-same_related line (d ∷ ds) [] first second = absurd second
-same_related line (d ∷ ds) (e ∷ es) first second =
-    rw (in_both IsRelated (λ line. same_document (related_document line)) line d e first.0 second.0, first.1, second.1) refl
+same_related : (line second : Option (List ℕ)) (places others : List (Option ReportedDocument)) → HasRelatedValues line second places → HasRelatedValues line second others → places ≡ others
+same_related line second [] others has other = absurd has
+same_related line second (d ∷ []) others has other = absurd has
+same_related line second (d ∷ e ∷ f ∷ ds) others has other = absurd has
+same_related line second (d ∷ e ∷ []) [] has other = absurd other
+same_related line second (d ∷ e ∷ []) (f ∷ []) has other = absurd other
+same_related line second (d ∷ e ∷ []) (f ∷ g ∷ h ∷ fs) has other = absurd other
+same_related line second (d ∷ e ∷ []) (f ∷ g ∷ []) has other =
+    let same : (o : Option (List ℕ)) (x y : Option ReportedDocument) → InBoth IsRelated o x → InBoth IsRelated o y → x ≡ y = in_both IsRelated (λ line. same_document (related_document line)) in
+    rw (same line d f has.0 other.0, same second e g has.1 other.1) refl
 
 -- ---- taxes and amounts
 
@@ -144,7 +149,7 @@ same_content g t u first second =
     let document_is : t.document ≡ u.document = same_document (document g.sale) t.document u.document first.document second.document in
     let issued : t.issued ≡ u.issued = same_value _ t.issued u.issued first.issued second.issued in
     let passenger : t.passenger ≡ u.passenger = first.passenger ∙ sym second.passenger in
-    let related : t.related ≡ u.related = same_related g.related t.related u.related first.related second.related in
+    let related : t.related ≡ u.related = same_related g.related g.second t.related u.related first.related second.related in
     let amounts : t.amounts ≡ u.amounts = in_both AreAmounts same_amounts g.amounts t.amounts u.amounts first.amounts second.amounts in
     let cash : t.cash ≡ u.cash = in_both IsPayment same_payment g.cash t.cash u.cash first.cash second.cash in
     let credit : t.credit ≡ u.credit = in_both IsCardPayment same_card g.credit t.credit u.credit first.credit second.credit in

@@ -1,5 +1,5 @@
 -- One more record: how the lines stand with it, and what is read of it.
-use Rattle.std.proofs.Common.{◌≡◌, ℕ, ◌+◌, ◌==◌, ℤ, ◌+ℤ◌, Bool, true, false, cond, ◌||◌, List, [], ◌∷◌, ◌++◌, length, filter, count_by, Option, Some, None, Ok, Err, refl, sym, ap, ◌∙◌, inl, inr, arith, add-zero, length-append, eqb-true, append-nil}
+use Rattle.std.proofs.Common.{◌≡◌, ℕ, ◌+◌, ◌==◌, ℤ, ◌+ℤ◌, Bool, true, false, cond, ◌||◌, List, [], ◌∷◌, ◌++◌, length, filter, count_by, Option, Some, None, is_some, Ok, Err, refl, sym, ap, ◌∙◌, inl, inr, arith, add-zero, length-append, eqb-true, append-nil}
 use Rattle.std.proofs.Math.Bool.{or-true, or-false}
 use Rattle.std.proofs.Math.IntN.{+ℤ_assoc, +ℤ_idl, +ℤ_idr}
 use Rattle.std.proofs.lemmas.Bool.{cases_Bool, and_parts}
@@ -7,7 +7,10 @@ use Rattle.std.proofs.lemmas.List.Elements.{filter-append}
 use Rattle.std.proofs.lemmas.List.Folds.{list_any-append}
 use Rattle.std.proofs.lemmas.List.Sums.{sum_by-append}
 use Rattle.std.specs.List.{last_or, list_any}
+use Rattle.std.specs.Prelude.{unwrap_or}
 use Rattle.bsp_ret_records.specs.declared.codes.FormOfPayment.{FormOfPayment}
+use Rattle.bsp_ret_records.specs.declared.codes.Profile.{Profile}
+use Rattle.bsp_ret_records.specs.declared.codes.Profile.TheVariants.{P001}
 use Rattle.bsp_ret_records.specs.declared.codes.TransactionCode.{TransactionCode}
 use Rattle.bsp_ret_records.specs.declared.codes.TransactionCode.TheVariants.{Tktt}
 use Rattle.bsp_ret.specs.declared.model.LastRecord.{LastRecord}
@@ -15,10 +18,10 @@ use Rattle.bsp_ret.specs.declared.model.LastRecord.TheVariants as last
 use Rattle.bsp_ret.specs.declared.model.FaultCode.TheVariants.{F08}
 use Rattle.bsp_ret.specs.declared.model.Standing.{Standing}
 use Rattle.bsp_records.specs.Columns.{identifier}
-use Rattle.bsp_ret_records.specs.Records.{is_header, code_of, form_of}
+use Rattle.bsp_ret_records.specs.Records.{is_header, profile_of, code_of, related_order, form_of}
 use Rattle.bsp_ret.specs.Said.{record_in}
-use Rattle.bsp_ret.specs.Table.{is_sale, is_related, paid, total_paid, code_or, behind_sale, kind, standing, has_ended, row_fault}
-use Rattle.bsp_ret.specs.Standings.{standing_behind}
+use Rattle.bsp_ret.specs.Table.{is_sale, is_related, is_head, paid, total_paid, code_or, profile_or, behind_sale, only_order, kind, standing, has_ended, row_fault}
+use Rattle.bsp_ret.specs.Standings.{only_with, standing_behind}
 use Rattle.bsp_ret.specs.Reading.{Draft, with_group, add, or_read, read_from}
 use Rattle.bsp_ret.proofs.Rows.{Clean, no_row}
 
@@ -35,12 +38,13 @@ pub total_paid_snoc : (before : List (List ℕ)) (line : List ℕ) → total_pai
 total_paid_snoc [] line = +ℤ_idr (paid line) ∙ sym (+ℤ_idl (paid line))
 total_paid_snoc (first ∷ before) line = ap (λ (x : ℤ). paid first +ℤ x) (total_paid_snoc before line) ∙ sym (+ℤ_assoc (paid first) (total_paid before) (paid line))
 
-last_code_snoc : (before : List (List ℕ)) (line : List ℕ) → code_or Tktt (last_or None (filter is_sale (before ++ line ∷ []))) ≡ cond (is_sale line) (code_or Tktt (Some line)) (code_or Tktt (last_or None (filter is_sale before)))
-last_code_snoc before line =
-    let joined = filter-append is_sale before (line ∷ []) in
-    elim (cases_Bool (is_sale line)) [
-      | inl k ↦ rw (joined, k, last_or_snoc None (filter is_sale before) line) refl
-      | inr k ↦ rw (joined, k) (simp append-nil)
+-- what is said of the last element that passes a test
+last_such_snoc : {A B : Type 0} (says : Option A → B) (test : A → Bool) (before : List A) (x : A) → says (last_or None (filter test (before ++ x ∷ []))) ≡ cond (test x) (says (Some x)) (says (last_or None (filter test before)))
+last_such_snoc says test before x =
+    let joined = filter-append test before (x ∷ []) in
+    elim (cases_Bool (test x)) [
+      | inl k ↦ rw (joined, k, last_or_snoc None (filter test before) x) refl
+      | inr k ↦ rw (joined, k) (ap (λ xs. says (last_or None xs)) (append-nil (filter test before)))
     ]
 
 -- behind a record 2 nothing stands
@@ -67,13 +71,40 @@ related_snoc before line =
       | inr k ↦ rw (k, behind_sale_more before line k, list_any-append is_related (behind_sale before) (line ∷ []), or-false (is_related line)) refl
     ]
 
+-- another record 3, or the first
+not_only : (first : List ℕ) (lines : List (List ℕ)) (line : List ℕ) → only_order (first ∷ (lines ++ line ∷ [])) ≡ None
+not_only first [] line = refl
+not_only first (second ∷ lines) line = refl
+
+only_pushed : (lines : List (List ℕ)) (line : List ℕ) → only_order (filter is_related lines ++ line ∷ []) ≡ only_with (list_any is_related lines) (related_order line)
+only_pushed [] line = refl
+only_pushed (first ∷ lines) line =
+    elim (cases_Bool (is_related first)) [
+      | inl k ↦ rw k (not_only first (filter is_related lines) line)
+      | inr k ↦ rw k (only_pushed lines line)
+    ]
+
+only_snoc : (before : List (List ℕ)) (line : List ℕ) → only_order (filter is_related (behind_sale (before ++ line ∷ [])))
+    ≡ cond (is_sale line) None (cond (is_related line) (only_with (list_any is_related (behind_sale before)) (related_order line)) (only_order (filter is_related (behind_sale before))))
+only_snoc before line =
+    let joined = filter-append is_related (behind_sale before) (line ∷ []) in
+    elim (cases_Bool (is_sale line)) [
+      | inl k ↦ rw (k, behind_sale_none before line k) refl
+      | inr k ↦ elim (cases_Bool (is_related line)) [
+        | inl r ↦ rw (k, behind_sale_more before line k, joined, r) (only_pushed (behind_sale before) line)
+        | inr r ↦ rw (k, behind_sale_more before line k, joined, r) (ap only_order (append-nil (filter is_related (behind_sale before))))
+      ]
+    ]
+
 -- how records stand with one more, part by part
 stands_with : (at : Standing) (line : List ℕ) → standing_behind at line ≡ record {
   records = at.records + 1;
   transactions = at.transactions + cond (is_sale line) 1 0;
   sum = at.sum +ℤ paid line;
   code = cond (is_sale line) (code_or Tktt (Some line)) at.code;
+  profile = cond (is_head line) (profile_or P001 (Some line)) at.profile;
   related = cond (is_sale line) false (at.related || is_related line);
+  only = cond (is_sale line) None (cond (is_related line) (only_with at.related (related_order line)) at.only);
   last = kind (record_in line);
 }
 unfolding record_in
@@ -99,14 +130,15 @@ stands_with at line =
 pub standing_snoc : (before : List (List ℕ)) (line : List ℕ) → standing (before ++ line ∷ []) ≡ standing_behind (standing before) line
 standing_snoc before line =
     let count : length (before ++ line ∷ []) ≡ length before + 1 = length-append before (line ∷ []) in
-    rw (count, count_by_snoc is_sale before line, total_paid_snoc before line, last_code_snoc before line, related_snoc before line, last_or_snoc None before line) (sym (stands_with (standing before) line))
+    rw (count, count_by_snoc is_sale before line, total_paid_snoc before line, last_such_snoc (code_or Tktt) is_sale before line, last_such_snoc (profile_or P001) is_head before line, related_snoc before line, only_snoc before line, last_or_snoc None before line) (sym (stands_with (standing before) line))
 
 -- ---- what stands behind each kind of record
 
--- this many transactions stand, with this code, record 3 and last record
-pub record Stands (at : Standing) (count : ℕ) (code : TransactionCode) (related : Bool) (latest : LastRecord) : Type 0 where
+-- this many transactions stand, with this code, profile, record 3 and last record
+pub record Stands (at : Standing) (count : ℕ) (code : TransactionCode) (profile : Profile) (related : Bool) (latest : LastRecord) : Type 0 where
   pub transactions_are : at.transactions ≡ count
   pub code_is : at.code ≡ code
+  pub profile_is : at.profile ≡ profile
   pub related_is : at.related ≡ related
   pub last_is : at.last ≡ latest
 
@@ -115,52 +147,75 @@ pub begins_49 : (line : List ℕ) → is_header line ≡ true → identifier lin
 unfolding is_header
 begins_49 line h = eqb-true _ _ (and_parts (identifier line == 49) _ h).0
 
-pub after_header : (at : Standing) (line : List ℕ) (n : ℕ) (code : TransactionCode) (b : Bool) (l : LastRecord) → Stands at n code b l → identifier line ≡ 49 → Stands (standing_behind at line) n code b last.Header
+-- and its profile is one of the two
+of_profile : (o : Option Profile) → is_some o ≡ true → o ≡ Some (unwrap_or o P001)
+of_profile None some = absurd (cc some)
+of_profile (Some profile) some = refl
+
+pub has_profile : (line : List ℕ) → is_header line ≡ true → profile_of line ≡ Some (unwrap_or (profile_of line) P001)
+unfolding is_header
+has_profile line h = of_profile (profile_of line) (and_parts _ (is_some (profile_of line)) h).1
+
+pub after_header : (at : Standing) (line : List ℕ) (n : ℕ) (code : TransactionCode) (profile : Profile) (b : Bool) (l : LastRecord) → Stands at n code profile b l → identifier line ≡ 49 → Stands (standing_behind at line) n code (unwrap_or (profile_of line) P001) b last.Header
 unfolding record_in
-after_header at line n code b l s k = record {
+after_header at line n code profile b l s k = record {
   transactions_are = rw k s.transactions_are;
   code_is = rw k s.code_is;
+  profile_is = rw k refl;
   related_is = rw k s.related_is;
   last_is = rw k refl;
 }
 
-pub after_sale : (at : Standing) (line : List ℕ) (n : ℕ) (before code : TransactionCode) (b : Bool) (l : LastRecord) → Stands at n before b l → identifier line ≡ 50 → code_of line ≡ Some code
-    → Stands (standing_behind at line) (n + 1) code false last.Sale
+pub after_sale : (at : Standing) (line : List ℕ) (n : ℕ) (before code : TransactionCode) (profile : Profile) (b : Bool) (l : LastRecord) → Stands at n before profile b l → identifier line ≡ 50 → code_of line ≡ Some code
+    → Stands (standing_behind at line) (n + 1) code profile false last.Sale
 unfolding record_in
-after_sale at line n before code b l s k e = record {
+after_sale at line n before code profile b l s k e = record {
   transactions_are = rw k (ap (λ (x : ℕ). x + 1) s.transactions_are);
   code_is = rw (k, e) refl;
+  profile_is = rw k s.profile_is;
   related_is = rw k refl;
   last_is = rw k refl;
 }
 
-pub after_related : (at : Standing) (line : List ℕ) (n : ℕ) (code : TransactionCode) (b : Bool) (l : LastRecord) → Stands at n code b l → identifier line ≡ 51 → Stands (standing_behind at line) n code true last.Related
+pub after_related : (at : Standing) (line : List ℕ) (n : ℕ) (code : TransactionCode) (profile : Profile) (b : Bool) (l : LastRecord) → Stands at n code profile b l → identifier line ≡ 51 → Stands (standing_behind at line) n code profile true last.Related
 unfolding record_in
-after_related at line n code b l s k = record {
+after_related at line n code profile b l s k = record {
   transactions_are = rw k s.transactions_are;
   code_is = rw k s.code_is;
+  profile_is = rw k s.profile_is;
   related_is = rw k refl;
   last_is = rw k refl;
 }
 
-pub after_amounts : (at : Standing) (line : List ℕ) (n : ℕ) (code : TransactionCode) (b : Bool) (l : LastRecord) → Stands at n code b l → identifier line ≡ 53 → Stands (standing_behind at line) n code b last.Amounts
+pub after_amounts : (at : Standing) (line : List ℕ) (n : ℕ) (code : TransactionCode) (profile : Profile) (b : Bool) (l : LastRecord) → Stands at n code profile b l → identifier line ≡ 53 → Stands (standing_behind at line) n code profile b last.Amounts
 unfolding record_in
-after_amounts at line n code b l s k = record {
+after_amounts at line n code profile b l s k = record {
   transactions_are = rw k s.transactions_are;
   code_is = rw k s.code_is;
+  profile_is = rw k s.profile_is;
   related_is = rw k s.related_is;
   last_is = rw k refl;
 }
 
-pub after_form : (at : Standing) (line : List ℕ) (n : ℕ) (code : TransactionCode) (b : Bool) (l : LastRecord) (kind : FormOfPayment) → Stands at n code b l → identifier line ≡ 56 → form_of line ≡ Some kind
-    → Stands (standing_behind at line) n code b (last.Form kind)
+pub after_form : (at : Standing) (line : List ℕ) (n : ℕ) (code : TransactionCode) (profile : Profile) (b : Bool) (l : LastRecord) (kind : FormOfPayment) → Stands at n code profile b l → identifier line ≡ 56 → form_of line ≡ Some kind
+    → Stands (standing_behind at line) n code profile b (last.Form kind)
 unfolding record_in
-after_form at line n code b l kind s k e = record {
+after_form at line n code profile b l kind s k e = record {
   transactions_are = rw k s.transactions_are;
   code_is = rw k s.code_is;
+  profile_is = rw k s.profile_is;
   related_is = rw k s.related_is;
   last_is = rw (k, e) refl;
 }
+
+-- by what the record 3 is in order that is alone
+pub only_behind_sale : (at : Standing) (line : List ℕ) → identifier line ≡ 50 → (standing_behind at line).only ≡ None
+unfolding record_in
+only_behind_sale at line k = rw k refl
+
+pub only_behind_related : (at : Standing) (line : List ℕ) → identifier line ≡ 51 → (standing_behind at line).only ≡ only_with at.related (related_order line)
+unfolding record_in
+only_behind_related at line k = rw k refl
 
 pub after_trailer : (at : Standing) (line : List ℕ) → identifier line ≡ 90 → (standing_behind at line).last ≡ last.Trailer
 unfolding record_in

@@ -9,7 +9,7 @@ use Rattle.bsp_ret_records.specs.declared.codes.TransactionCode.{TransactionCode
 use Rattle.bsp_ret_records.specs.declared.codes.TransactionCode.TheVariants.{Tktt, Rfnd, Canx}
 use Rattle.bsp_records.specs.Columns.{is_wide}
 use Rattle.bsp_ret_records.specs.Records.{code_of, related_fits, amounts_fit}
-use Rattle.bsp_ret.specs.Ret.{Group, File, flatten, forms_of, IsRecord, IsForm, IsPaid, HasRelated, HasBody, IsGroup, AreGroups, Ret}
+use Rattle.bsp_ret.specs.Ret.{Group, File, flatten, forms_of, IsRecord, IsForm, IsPaid, AreRelated, HasBody, IsGroup, AreGroups, Ret}
 
 abbrev AllWide : List (List ℕ) → Type 0
 AllWide lines = list_all is_wide lines ≡ true
@@ -21,10 +21,11 @@ maybe_wide : (o : Option (List ℕ)) → IfSome o (λ line. is_wide line ≡ tru
 maybe_wide None h = refl
 maybe_wide (Some line) h = and_from _ _ h refl
 
-related_wide : (n : ℕ) (related exchange : Option (List ℕ)) → HasRelated n related exchange → AllWide (option_to_list related)
-related_wide n None exchange h = refl
-related_wide n (Some line) (Some form) h = maybe_wide (Some line) h.wide
-related_wide n (Some line) None h = absurd h
+related_wide : (n : ℕ) (related second : Option (List ℕ)) (rest : List (List ℕ)) → AreRelated n related second → AllWide rest → AllWide (option_to_list related ++ (option_to_list second ++ rest))
+related_wide n None None rest h all = all
+related_wide n (Some line) None rest h all = and_from _ _ h.wide all
+related_wide n (Some line) (Some second) rest h all = and_from _ _ h.0.wide (and_from _ _ h.1.wide all)
+related_wide n None (Some second) rest h all = absurd h
 
 one_wide : (letter n : ℕ) (fits : List ℕ → Bool) (o : Option (List ℕ)) → IsSomeAnd o (IsRecord letter n fits) → AllWide (option_to_list o)
 one_wide letter n fits None h = absurd h
@@ -36,11 +37,11 @@ form_wide n kind o h = maybe_wide o (IfSome_then o h (λ line is. is.stands.wide
 paid_wide : (n : ℕ) (g : Group) → IsPaid n g → AllWide (option_to_list g.amounts ++ forms_of g)
 paid_wide n g p = joined_wide _ _ (one_wide 53 n amounts_fit g.amounts p.amounts) (joined_wide _ _ (form_wide n _ g.cash p.cash) (joined_wide _ _ (form_wide n _ g.credit p.credit) (form_wide n _ g.exchange p.exchange)))
 
-body_wide : (n : ℕ) (g : Group) (code : Option TransactionCode) → HasBody n g code → AllWide (option_to_list g.related ++ (option_to_list g.amounts ++ forms_of g))
+body_wide : (n : ℕ) (g : Group) (code : Option TransactionCode) → HasBody n g code → AllWide (option_to_list g.related ++ (option_to_list g.second ++ (option_to_list g.amounts ++ forms_of g)))
 body_wide n g None body = absurd body
-body_wide n g (Some Tktt) body = joined_wide _ _ (related_wide n g.related g.exchange body.0) (paid_wide n g body.1)
-body_wide n g (Some Rfnd) body = joined_wide _ _ (one_wide 51 n related_fits g.related body.0) (paid_wide n g body.1)
-body_wide n g (Some Canx) body = rw (body.0, body.1, body.2) refl
+body_wide n g (Some Tktt) body = related_wide n g.related g.second _ body.0 (paid_wide n g body.2)
+body_wide n g (Some Rfnd) body = joined_wide _ _ (one_wide 51 n related_fits g.related body.0) (rw body.1 (paid_wide n g body.3))
+body_wide n g (Some Canx) body = rw (body.0, body.1, body.2, body.3) refl
 
 -- the lines of a group
 pub group_wide : (n : ℕ) (lines : List (List ℕ)) → IsGroup n lines → list_all is_wide lines ≡ true

@@ -30,7 +30,7 @@ file_of b = record { header = b.header.now; groups = b.closed.items; trailer = b
 
 -- the sum of its forms, with one more record
 abbrev pub paid_with : ℤ → Record → ℤ
-paid_with sum said.Related = sum
+paid_with sum (said.Related order) = sum
 paid_with sum said.Amounts = sum
 paid_with sum (said.Form form amount) = sum +ℤ amount
 paid_with sum begins = pos 0

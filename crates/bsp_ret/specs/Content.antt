@@ -14,10 +14,12 @@ InBoth holds (Some x) (Some y) = holds x y
 InBoth holds None (Some y) = ⊥
 InBoth holds (Some x) None = ⊥
 
--- record 3 where the first place has a document; the second has none
-abbrev pub HasRelatedValues : Option (List ℕ) → List (Option ReportedDocument) → Type 0
-HasRelatedValues line [] = ⊥
-HasRelatedValues line (first ∷ others) = InBoth IsRelated line first × (others ≡ None ∷ [])
+-- a record 3 where the first place has a document, and a second one where the second place has one
+abbrev pub HasRelatedValues : Option (List ℕ) → Option (List ℕ) → List (Option ReportedDocument) → Type 0
+HasRelatedValues line second [] = ⊥
+HasRelatedValues line second (d ∷ []) = ⊥
+HasRelatedValues line second (d ∷ e ∷ []) = InBoth IsRelated line d × InBoth IsRelated second e
+HasRelatedValues line second (d ∷ e ∷ f ∷ others) = ⊥
 
 -- the values of a group
 pub record IsContent (g : Group) (t : Transaction) : Type 0 where
@@ -26,7 +28,7 @@ pub record IsContent (g : Group) (t : Transaction) : Type 0 where
   pub document : IsDocument (document g.sale) t.document
   pub issued : record_reading (issued g.sale) ≡ Ok t.issued
   pub passenger : t.passenger ≡ passenger g.sale
-  pub related : HasRelatedValues g.related t.related
+  pub related : HasRelatedValues g.related g.second t.related
   pub amounts : InBoth AreAmounts g.amounts t.amounts
   pub cash : InBoth IsPayment g.cash t.cash
   pub credit : InBoth IsCardPayment g.credit t.credit

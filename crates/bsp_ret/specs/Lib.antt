@@ -19,6 +19,7 @@ pub use Rattle.bsp_ret_records.specs.Records
 pub use Rattle.bsp_ret_records.specs.Texts as RetRecordsTexts
 pub use Rattle.bsp_ret_records.specs.Values
 pub use Rattle.bsp_ret_records.specs.declared.codes.FormOfPayment
+pub use Rattle.bsp_ret_records.specs.declared.codes.Profile
 pub use Rattle.bsp_ret_records.specs.declared.codes.TransactionCode
 pub use Rattle.bsp_ret_records.specs.declared.transactions.Amounts
 pub use Rattle.bsp_ret_records.specs.declared.transactions.CardPayment

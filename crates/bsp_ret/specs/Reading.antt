@@ -31,7 +31,7 @@ nothing = record { header = []; closed = []; latest = []; trailer = [] }
 
 -- one more line: a header, a record 2 that begins a group, a trailer, or a further record of the last group
 abbrev pub added : Draft → List ℕ → Record → Draft
-added d line said.Header = record { header = line; closed = d.closed; latest = []; trailer = d.trailer }
+added d line (said.Header profile) = record { header = line; closed = d.closed; latest = []; trailer = d.trailer }
 added d line (said.Sale code) = record { header = d.header; closed = groups_of d; latest = line ∷ []; trailer = d.trailer }
 added d line said.Trailer = record { header = d.header; closed = groups_of d; latest = []; trailer = line }
 added d line more = record { header = d.header; closed = d.closed; latest = d.latest ++ line ∷ []; trailer = d.trailer }

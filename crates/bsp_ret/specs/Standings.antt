@@ -1,5 +1,5 @@
 -- How the lines stand with one more, and what is at fault behind lines that stand so.
-use Rattle.std.specs.Prelude.{◌≤◌, ℕ, ◌+◌, ◌*◌, ◌^◌, ◌+ℤ◌, unsigned_abs, true, false, List, [], ◌∷◌, Option, Some, None, if◌then◌else◌}
+use Rattle.std.specs.Prelude.{Bool, ◌≤◌, ℕ, ◌+◌, ◌*◌, ◌^◌, ◌+ℤ◌, unsigned_abs, true, false, List, [], ◌∷◌, Option, Some, None, if◌then◌else◌}
 use Rattle.bsp_ret.specs.declared.model.Record.{Record}
 use Rattle.bsp_ret.specs.declared.model.Record.TheVariants as said
 use Rattle.bsp_ret.specs.declared.model.LastRecord.TheVariants as last
@@ -9,11 +9,17 @@ use Rattle.bsp_ret.specs.declared.model.RetFault.{RetFault}
 use Rattle.bsp_ret.specs.Said.{record_in}
 use Rattle.bsp_ret.specs.Table.{has_ended, row_fault, or_later}
 
+-- by what a record 3 is in order that is alone, where the group has another or not
+abbrev pub only_with : Bool → ℕ → Option ℕ
+only_with true order = None
+only_with false order = Some order
+
 abbrev pub standing_with : Standing → Record → Standing
-standing_with at said.Header = record at { records = at.records + 1; last = last.Header }
+standing_with at (said.Header profile) = record at { records = at.records + 1; profile = profile; last = last.Header }
 standing_with at (said.Sale code) =
-    record at { records = at.records + 1; transactions = at.transactions + 1; code = code; related = false; last = last.Sale }
-standing_with at said.Related = record at { records = at.records + 1; related = true; last = last.Related }
+    record at { records = at.records + 1; transactions = at.transactions + 1; code = code; related = false; only = None; last = last.Sale }
+standing_with at (said.Related order) =
+    record at { records = at.records + 1; related = true; only = only_with at.related order; last = last.Related }
 standing_with at said.Amounts = record at { records = at.records + 1; last = last.Amounts }
 standing_with at (said.Form form amount) = record at { records = at.records + 1; sum = at.sum +ℤ amount; last = last.Form form }
 standing_with at said.Trailer = record at { records = at.records + 1; last = last.Trailer }

@@ -1,10 +1,12 @@
 -- The fault table, over the lines before a record and the record.
-use Rattle.std.specs.Prelude.{ℕ, ℤ, pos, ◌+ℤ◌, ◌+◌, ◌==◌, Bool, true, false, ◌&&◌, not, List, [], ◌∷◌, ◌++◌, length, Option, Some, None, unwrap_or, filter, Result, Ok, Err, if◌then◌else◌}
+use Rattle.std.specs.Prelude.{nat_lt, ℕ, ℤ, pos, ◌+ℤ◌, ◌+◌, ◌==◌, Bool, true, false, ◌&&◌, not, List, [], ◌∷◌, ◌++◌, length, Option, Some, None, unwrap_or, filter, Result, Ok, Err, if◌then◌else◌}
 use Rattle.std.specs.List.{count_by, last_or, list_any}
 use Rattle.std.specs.Ordering.{int_eq}
 use Rattle.bsp_fields.specs.FirstFault.{first_fault_or}
 use Rattle.bsp_fields.specs.Zoned.{zoned_reading}
 use Rattle.bsp_fields.specs.declared.fault.FieldFault.{FieldFault}
+use Rattle.bsp_ret_records.specs.declared.codes.Profile.{Profile}
+use Rattle.bsp_ret_records.specs.declared.codes.Profile.TheVariants.{P001, P002}
 use Rattle.bsp_ret_records.specs.declared.codes.TransactionCode.{TransactionCode}
 use Rattle.bsp_ret_records.specs.declared.codes.TransactionCode.TheVariants.{Tktt, Rfnd, Canx}
 use Rattle.bsp_ret_records.specs.declared.codes.FormOfPayment.{FormOfPayment}
@@ -19,7 +21,7 @@ use Rattle.bsp_ret.specs.declared.model.FaultCode.TheVariants.{F01, F02, F03, F0
 use Rattle.bsp_ret.specs.declared.model.RetFault.{RetFault}
 use Rattle.bsp_records.specs.Columns.{identifier, is_wide}
 use Rattle.bsp_records.specs.Fields.{spells}
-use Rattle.bsp_ret_records.specs.Records.{transaction_number, record_count, transaction_count, total, is_header, is_production, header_fits, code_of, sale_fits, related_fits, amounts_fit, form_of, form_fits, form_amount, trailer_fits}
+use Rattle.bsp_ret_records.specs.Records.{transaction_number, record_count, transaction_count, total, is_header, is_production, header_fits, profile_of, code_of, sale_fits, related_order, related_fits, amounts_fit, form_of, form_fits, form_amount, trailer_fits}
 use Rattle.bsp_ret.specs.Said.{record_in}
 
 -- ---- kinds of records
@@ -45,6 +47,11 @@ abbrev pub code_or : TransactionCode → Option (List ℕ) → TransactionCode
 code_or code None = code
 code_or code (Some line) = unwrap_or (code_of line) code
 
+-- the profile of a header, or else this one
+abbrev pub profile_or : Profile → Option (List ℕ) → Profile
+profile_or profile None = profile
+profile_or profile (Some line) = unwrap_or (profile_of line) profile
+
 -- the lines behind the last record 2, all where there is none
 abbrev pub behind_sale : List (List ℕ) → List (List ℕ)
 behind_sale [] = []
@@ -53,29 +60,45 @@ behind_sale (line ∷ lines) =
 
 -- the kind of a record
 abbrev pub kind : Record → LastRecord
-kind said.Header = last.Header
+kind (said.Header profile) = last.Header
 kind (said.Sale code) = last.Sale
-kind said.Related = last.Related
+kind (said.Related order) = last.Related
 kind said.Amounts = last.Amounts
 kind (said.Form form amount) = last.Form form
 kind said.Trailer = last.Trailer
+
+abbrev pub is_headed : LastRecord → Bool
+is_headed last.Header = true
+is_headed _ = false
 
 abbrev pub kind_or_start : Option (List ℕ) → LastRecord
 kind_or_start None = last.Start
 kind_or_start (Some line) = kind (record_in line)
 
--- the state behind the lines: the code is that of the last record 2, TKTT where there is none
+-- a record of no other kind is a header
+abbrev pub is_head : List ℕ → Bool
+is_head line = is_headed (kind (record_in line))
+
+-- by what a record 3 is in order that is alone
+abbrev pub only_order : List (List ℕ) → Option ℕ
+only_order [] = None
+only_order (line ∷ []) = Some (related_order line)
+only_order (line ∷ next ∷ lines) = None
+
+-- the state behind the lines: the code is that of the last record 2, TKTT where there is none, and the profile that of the last header, 001 where there is none
 abbrev pub standing : List (List ℕ) → Standing
 standing before = record {
   records = length before;
   transactions = count_by is_sale before;
   sum = total_paid before;
   code = code_or Tktt (last_or None (filter is_sale before));
+  profile = profile_or P001 (last_or None (filter is_head before));
   related = list_any is_related (behind_sale before);
+  only = only_order (filter is_related (behind_sale before));
   last = kind_or_start (last_or None before);
 }
 
--- ---- what may stand where, by the last record, its group's code and whether the group has a record 3
+-- ---- what may stand where, by the last record, its group's code, the file's profile, whether the group has a record 3, and by what it is in order where it is alone
 
 abbrev pub has_ended : LastRecord → Bool
 has_ended last.Trailer = true
@@ -94,10 +117,17 @@ is_complete (last.Form Credit) Tktt related = not related
 is_complete (last.Form form) code related = true
 is_complete _ code related = false
 
-abbrev pub takes_related : LastRecord → TransactionCode → Bool
-takes_related last.Sale Tktt = true
-takes_related last.Sale Rfnd = true
-takes_related _ code = false
+-- a second record 3 stands in a TKTT of profile 002
+abbrev pub takes_related : LastRecord → TransactionCode → Profile → Option ℕ → Bool
+takes_related last.Sale Tktt profile only = true
+takes_related last.Sale Rfnd profile only = true
+takes_related last.Related Tktt P002 (Some order) = true
+takes_related _ code profile only = false
+
+-- a second record 3 has a greater airline and number
+abbrev pub comes_behind : Option ℕ → ℕ → Bool
+comes_behind None order = true
+comes_behind (Some first) order = nat_lt first order
 
 abbrev pub takes_amounts : LastRecord → TransactionCode → Bool
 takes_amounts last.Sale Tktt = true
@@ -159,7 +189,7 @@ later_table at line =
     if identifier line == 50
     then transaction_table (is_complete at.last at.code at.related) (at.transactions + 1) (sale_fits line) line
     else (if identifier line == 51
-    then transaction_table (takes_related at.last at.code) at.transactions (related_fits line) line
+    then transaction_table (takes_related at.last at.code at.profile at.only) at.transactions (related_fits line && comes_behind at.only (related_order line)) line
     else (if identifier line == 53
     then transaction_table (takes_amounts at.last at.code) at.transactions (amounts_fit line) line
     else (if identifier line == 56

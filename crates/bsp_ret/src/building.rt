@@ -95,7 +95,7 @@ impl<'a> Building<'a> {
         ensures err { OnErr result (result ≡ Err no_memory) }
     {
         match next {
-            Record::Header => {
+            Record::Header(_) => {
                 self.header = line;
                 self.latest = after;
                 self.paid = 0;
@@ -106,7 +106,7 @@ impl<'a> Building<'a> {
                 self.paid = 0;
             }
             Record::Form(_, amount) => self.paid += amount.get(),
-            Record::Related => {}
+            Record::Related(_) => {}
             Record::Amounts => {}
             Record::Trailer => {
                 self.close_latest(rest)?;

@@ -1,17 +1,19 @@
 //! The fault table over one record, after records in this state, and what the record says.
 
-ghost use Rattle.std.specs.Prelude.{◌≡◌, ◌+◌, ◌^◌, ◌<◌, ◌≤◌, length, true, false, Ok, Err, IfOk, IfErr};
+ghost use Rattle.std.specs.Prelude.{◌≡◌, ◌+◌, ◌^◌, ◌<◌, ◌≤◌, ◌&&◌, length, true, false, unwrap_or, Ok, Err, IfOk, IfErr};
 ghost use Rattle.bsp_fields.specs.FirstFault.{first_fault_or};
 ghost use Rattle.bsp_records.specs.Columns.{identifier, is_wide};
-ghost use Rattle.bsp_ret_records.specs.Records.{IsFit, sale_fits, related_fits, amounts_fit, form_of, form_fits, trailer_fits};
+ghost use Rattle.bsp_ret_records.specs.Records.{IsFit, profile_of, sale_fits, related_order, related_fits, amounts_fit, form_of, form_fits, trailer_fits};
 ghost use Rattle.bsp_ret.specs.Said.{record_in};
-ghost use Rattle.bsp_ret.specs.Table.{has_ended, has_counts, has_sum, header_table, is_complete, takes_related, takes_amounts, takes_form, transaction_table, trailer_table, later_table, record_table, row_fault};
+ghost use Rattle.bsp_ret.specs.Table.{has_ended, has_counts, has_sum, header_table, is_complete, takes_related, comes_behind, takes_amounts, takes_form, transaction_table, trailer_table, later_table, record_table, row_fault};
 
 use crate::model::{FaultCode, Record, Standing};
+use crate::standing::comes_behind;
 use bsp_records::{is_wide, spells};
 use bsp_ret_records::{
-    amounts_fit, form_of, header_fits, is_header, is_production, paid_amount, record_count,
-    related_fits, sale_code, told_sum, trailer_fits, transaction_count, transaction_number,
+    Profile, amounts_fit, form_of, header_fits, is_header, is_production, paid_amount, profile_of,
+    record_count, related_fits, related_order, sale_code, told_sum, trailer_fits,
+    transaction_count, transaction_number,
 };
 
 /// Whether a trailer has the numbers of the records and the transactions.
@@ -33,8 +35,9 @@ fn has_sum(at: Standing, line: &[u8]) -> bool
 
 fn header_record(line: &[u8]) -> Result<Record, FaultCode>
     requires { length line.now ≡ 136 }
-    ensures { result ≡ first_fault_or (header_table line.now) Record.Header }
+    ensures { result ≡ first_fault_or (header_table line.now) (Record.Header (unwrap_or (profile_of line.now) Profile.P001)) }
 {
+    let profile = profile_of(line).unwrap_or(Profile::P001);
     if !is_header(line) {
         Err(FaultCode::F02)
     } else if !is_production(line) {
@@ -42,7 +45,7 @@ fn header_record(line: &[u8]) -> Result<Record, FaultCode>
     } else if !header_fits(line) {
         Err(FaultCode::F05)
     } else {
-        Ok(Record::Header)
+        Ok(Record::Header(profile))
     }
 }
 
@@ -69,14 +72,21 @@ fn sale_record(at: Standing, line: &[u8]) -> Result<Record, FaultCode>
 fn related_record(at: Standing, line: &[u8]) -> Result<Record, FaultCode>
     requires wide { length line.now ≡ 136 }
     requires kind { identifier line.now ≡ 51 }
-    ensures { result ≡ first_fault_or (transaction_table (takes_related at.last at.code) at.transactions (related_fits line.now) line.now) (record_in line.now) }
+    ensures { result ≡ first_fault_or (transaction_table (takes_related at.last at.code at.profile at.only) at.transactions (related_fits line.now && comes_behind at.only (related_order line.now)) line.now) (record_in line.now) }
 {
-    if !at.last.takes_related(at.code) || !spells(at.transactions, transaction_number(line)) {
-        Err(FaultCode::F03)
-    } else if !related_fits(line) {
-        Err(FaultCode::F05)
+    if !at.last.takes_related(at.code, at.profile, at.only)
+        || !spells(at.transactions, transaction_number(line))
+    {
+        return Err(FaultCode::F03);
+    }
+    if !related_fits(line) {
+        return Err(FaultCode::F05);
+    }
+    let order = related_order(line);
+    if comes_behind(at.only, order) {
+        Ok(Record::Related(order))
     } else {
-        Ok(Record::Related)
+        Err(FaultCode::F05)
     }
 }
 

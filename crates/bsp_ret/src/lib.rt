@@ -14,8 +14,8 @@ mod standing;
 mod values;
 
 pub use bsp_ret_records::{
-    Amounts, CardPayment, FormOfPayment, PaidSale, ReportedDocument, Sale, Tax, Transaction,
-    TransactionCode,
+    Amounts, CardPayment, FormOfPayment, PaidSale, Profile, ReportedDocument, Sale, Tax,
+    Transaction, TransactionCode,
 };
 pub use file::RetFile;
 pub use model::{FaultCode, Progress, RetFault};

@@ -4,7 +4,7 @@ ghost use Rattle.std.specs.Prelude.{◌≡◌};
 ghost use Rattle.bsp_ret.specs.Texts.{fault_text};
 
 use bsp_fields::Amount;
-use bsp_ret_records::{FormOfPayment, TransactionCode};
+use bsp_ret_records::{FormOfPayment, Profile, TransactionCode};
 use thiserror::Error;
 
 /// A row of the fault table of RET files.
@@ -12,7 +12,7 @@ use thiserror::Error;
 pub enum FaultCode {
     /// Not 136 characters, or a character outside 0x20 to 0x7E.
     F01,
-    /// Record 1 is no header of profile 001.
+    /// Record 1 is no header of profile 001 or 002.
     F02,
     /// A record, its transaction number or its form is not allowed at its place.
     F03,
@@ -43,16 +43,16 @@ pub struct RetFault {
     pub at: usize,
 }
 
-/// What a record says of the transactions: its kind, the code of a record 2, and the form and the
-/// amount of a record 8.
+/// What a record says of the file and its transactions: its kind, the profile of a header, the code
+/// of a record 2, by what a record 3 is in order, and the form and the amount of a record 8.
 #[derive(Clone, Copy, Debug, PartialEq, Eq)]
 pub enum Record {
     /// Record 1.
-    Header,
+    Header(Profile),
     /// Record 2.
     Sale(TransactionCode),
-    /// Record 3.
-    Related,
+    /// Record 3, with its airline and number as the number that their digits write.
+    Related(u64),
     /// Record 5.
     Amounts,
     /// Record 8.
@@ -91,8 +91,12 @@ pub struct Standing {
     pub sum: i128,
     /// The code of the last record 2, TKTT where there is none.
     pub code: TransactionCode,
-    /// Whether a record 3 follows it.
+    /// The profile of the header, 001 where there is none.
+    pub profile: Profile,
+    /// Whether a record 3 follows the last record 2.
     pub related: bool,
+    /// The airline and the number of that record 3, where it is the only one.
+    pub only: Option<u64>,
     /// The kind of the last record.
     pub last: LastRecord,
 }

@@ -15,6 +15,8 @@ pub(crate) struct Records<'a> {
     pub sale: &'a [u8],
     /// Record 3.
     pub related: Option<&'a [u8]>,
+    /// A second record 3.
+    pub second: Option<&'a [u8]>,
     /// Record 5.
     pub amounts: Option<&'a [u8]>,
     /// Record 8 with CA.
@@ -26,7 +28,7 @@ pub(crate) struct Records<'a> {
 }
 
 impl<'a> Records<'a> {
-    ghost use Rattle.bsp_ret.specs.Groups.{records_of, sale_alone, with_record, with_records};
+    ghost use Rattle.bsp_ret.specs.Groups.{records_of, sale_alone, with_related, with_record, with_records};
 
     /// The records of these lines.
     pub(crate) fn of(text: &'a [u8]) -> Records<'a>
@@ -38,6 +40,7 @@ impl<'a> Records<'a> {
         let mut records = Records {
             sale,
             related: None,
+            second: None,
             amounts: None,
             cash: None,
             credit: None,
@@ -51,6 +54,16 @@ impl<'a> Records<'a> {
         records
     }
 
+    /// Puts a record 3 in its place.
+    fn put_related(&mut self, line: &'a [u8])
+        ensures { records_of self.new ≡ with_related (records_of self.old).related (records_of self.old) line.now }
+    {
+        match self.related {
+            None => self.related = Some(line),
+            Some(_) => self.second = Some(line),
+        }
+    }
+
     /// Puts a further record in its place.
     #[tactic(auto, unfolding(crate::specs::Groups::with_record))]
     fn put(&mut self, line: &'a [u8])
@@ -58,7 +71,7 @@ impl<'a> Records<'a> {
         ensures { records_of self.new ≡ with_record (records_of self.old) line.now }
     {
         match line[0] {
-            b'3' => self.related = Some(line),
+            b'3' => self.put_related(line),
             b'5' => self.amounts = Some(line),
             _ => match form_of(line) {
                 Some(FormOfPayment::Cash) => self.cash = Some(line),

@@ -1,11 +1,11 @@
 //! What may follow a record of each kind.
 
 ghost use Rattle.std.specs.Prelude.{◌≡◌, ◌+◌, ◌*◌, ◌^◌, ◌<◌, ◌≤◌, [], unsigned_abs};
-ghost use Rattle.bsp_ret.specs.Standings.{standing_with};
-ghost use Rattle.bsp_ret.specs.Table.{kind, standing, has_ended, is_start, is_complete, takes_related, takes_amounts, has_form, is_later, takes_form};
+ghost use Rattle.bsp_ret.specs.Standings.{only_with, standing_with};
+ghost use Rattle.bsp_ret.specs.Table.{kind, standing, has_ended, is_start, is_complete, takes_related, comes_behind, takes_amounts, has_form, is_later, takes_form};
 
 use crate::model::{FaultCode, LastRecord, Record, RetFault, Standing};
-use bsp_ret_records::{FormOfPayment, TransactionCode};
+use bsp_ret_records::{FormOfPayment, Profile, TransactionCode};
 
 /// Whether the form may be in a group with the code, which has a record 3 or none.
 fn has_form(code: TransactionCode, related: bool, form: FormOfPayment) -> bool
@@ -25,6 +25,23 @@ fn is_later(before: FormOfPayment, form: FormOfPayment) -> bool
     }
 }
 
+/// By what a record 3 is in order that is alone, where the group has another or not.
+fn only_with(related: bool, order: u64) -> Option<u64>
+    ensures { result ≡ only_with related order }
+{
+    if related { None } else { Some(order) }
+}
+
+/// Whether a record 3 is behind the one before it, if there is one.
+pub(crate) fn comes_behind(only: Option<u64>, order: u64) -> bool
+    ensures { result ≡ comes_behind only order }
+{
+    match only {
+        Some(first) => first < order,
+        None => true,
+    }
+}
+
 impl Standing {
     /// The state before any record.
     pub(crate) fn start() -> Standing
@@ -35,7 +52,9 @@ impl Standing {
             transactions: 0,
             sum: 0,
             code: TransactionCode::Tktt,
+            profile: Profile::P001,
             related: false,
+            only: None,
             last: LastRecord::Start,
         }
     }
@@ -56,21 +75,27 @@ impl Standing {
             ..self
         };
         match next {
+            Record::Header(profile) => Standing {
+                profile: *profile,
+                ..at
+            },
             Record::Sale(code) => Standing {
                 transactions: self.transactions + 1,
                 code: *code,
                 related: false,
+                only: None,
                 ..at
             },
-            Record::Related => Standing {
+            Record::Related(order) => Standing {
                 related: true,
+                only: only_with(self.related, *order),
                 ..at
             },
             Record::Form(_, amount) => Standing {
                 sum: self.sum + amount.get() as i128,
                 ..at
             },
-            Record::Header | Record::Amounts | Record::Trailer => at,
+            Record::Amounts | Record::Trailer => at,
         }
     }
 
@@ -91,9 +116,9 @@ impl Record {
         ensures { result ≡ kind self.now }
     {
         match self {
-            Record::Header => LastRecord::Header,
+            Record::Header(_) => LastRecord::Header,
             Record::Sale(_) => LastRecord::Sale,
-            Record::Related => LastRecord::Related,
+            Record::Related(_) => LastRecord::Related,
             Record::Amounts => LastRecord::Amounts,
             Record::Form(form, _) => LastRecord::Form(*form),
             Record::Trailer => LastRecord::Trailer,
@@ -126,10 +151,23 @@ impl LastRecord {
         }
     }
 
-    pub(crate) fn takes_related(self, code: TransactionCode) -> bool
-        ensures { result ≡ takes_related self code }
+    /// Whether a record 3 may come here, the first of its group or a second one behind this one that
+    /// is alone.
+    pub(crate) fn takes_related(
+        self,
+        code: TransactionCode,
+        profile: Profile,
+        only: Option<u64>,
+    ) -> bool
+        ensures { result ≡ takes_related self code profile only }
     {
-        matches!(self, LastRecord::Sale) && code != TransactionCode::Canx
+        match self {
+            LastRecord::Sale => code != TransactionCode::Canx,
+            LastRecord::Related => {
+                code == TransactionCode::Tktt && profile == Profile::P002 && only.is_some()
+            }
+            _ => false,
+        }
     }
 
     pub(crate) fn takes_amounts(self, code: TransactionCode) -> bool

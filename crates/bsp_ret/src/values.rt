@@ -28,7 +28,10 @@ fn values_of(records: Records<'_>) -> Transaction
         document,
         issued,
         passenger: sale_passenger(records.sale),
-        related: [records.related.map(|line| related_values(line)), None],
+        related: [
+            records.related.map(|line| related_values(line)),
+            records.second.map(|line| related_values(line)),
+        ],
         amounts: records.amounts.map(|line| amounts_values(line)),
         cash: records.cash.map(|line| payment_value(line)),
         credit: records.credit.map(|line| card_values(line)),

@@ -57,6 +57,9 @@ unfolding related_fits
 related_digits line fits =
     (and_parts (all_ascii_digits (related_document line)) (list_all is_space (columns 22 136 line)) fits).0
 
+pub order_digits : (line : List ℕ) → related_fits line ≡ true → all_ascii_digits (columns 1 13 (related_document line)) ≡ true
+order_digits line fits = digits_inside (related_document line) 0 13 (related_digits line fits)
+
 -- ---- tax places
 
 first_digit : (text : List ℕ) → length text ≡ 11 → all_ascii_digits (take 10 text) ≡ true → is_ascii_digit (get_or text 0 0) ≡ true

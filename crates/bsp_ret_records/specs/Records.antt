@@ -3,10 +3,13 @@ use Rattle.std.specs.Prelude.{◌≡◌, ℕ, ℤ, pos, ◌==◌, Bool, true, fa
 use Rattle.std.specs.Result.{result_unwrap_or}
 use Rattle.std.specs.List.{list_all}
 use Rattle.std.specs.Str.{all_ascii_digits, bytes_eq}
+use Rattle.bsp_fields.specs.Decimal.{number_of}
 use Rattle.bsp_fields.specs.Zoned.{zoned_reading}
 use Rattle.bsp_records.specs.Columns.{columns, identifier, is_letter, is_letter_or_digit, is_space}
 use Rattle.bsp_records.specs.Fields.{spells_at_most, is_amount, is_total, is_record_day}
 use Rattle.bsp_records.specs.Taxes.{tax_places, taxes_fit}
+use Rattle.bsp_ret_records.specs.declared.codes.Profile.{Profile}
+use Rattle.bsp_ret_records.specs.declared.codes.Profile.TheVariants.{P001, P002}
 use Rattle.bsp_ret_records.specs.declared.codes.TransactionCode.{TransactionCode}
 use Rattle.bsp_ret_records.specs.declared.codes.TransactionCode.TheVariants.{Tktt, Rfnd, Canx}
 use Rattle.bsp_ret_records.specs.declared.codes.FormOfPayment.{FormOfPayment}
@@ -22,8 +25,13 @@ transaction_number line = columns 2 7 line
 
 -- ---- record 1, the header
 
+unfoldable pub profile_of : List ℕ → Option Profile
+profile_of line =
+    if bytes_eq (columns 28 30 line) (codes "001") then Some P001
+    else (if bytes_eq (columns 28 30 line) (codes "002") then Some P002 else None)
+
 unfoldable pub is_header : List ℕ → Bool
-is_header line = (identifier line == 49) && bytes_eq (columns 28 30 line) (codes "001")
+is_header line = (identifier line == 49) && is_some (profile_of line)
 
 unfoldable pub is_production : List ℕ → Bool
 is_production line = bytes_eq (columns 24 27 line) (codes "PROD")
@@ -69,6 +77,13 @@ sale_fits line =
 
 abbrev pub related_document : List ℕ → List ℕ
 related_document line = columns 8 21 line
+
+-- the airline and the number of a document in fourteen digits, by which documents are in order: digits of one width are in order by bytes as the numbers that they write
+abbrev pub order_of : List ℕ → ℕ
+order_of text = number_of (columns 1 13 text)
+
+abbrev pub related_order : List ℕ → ℕ
+related_order line = order_of (related_document line)
 
 unfoldable pub related_fits : List ℕ → Bool
 related_fits line = all_ascii_digits (related_document line) && list_all is_space (columns 22 136 line)

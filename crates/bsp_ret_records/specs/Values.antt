@@ -1,5 +1,5 @@
 -- The values of records whose fields fit.
-use Rattle.std.specs.Prelude.{◌≡◌, ℕ, ℤ, Bool, true, List, [], ◌∷◌, Option, Some, None, Ok}
+use Rattle.std.specs.Prelude.{◌≡◌, ◌==◌, nat_lt, ◌&&◌, ◌||◌, ℕ, ℤ, Bool, true, List, [], ◌∷◌, Option, Some, None, Ok}
 use Rattle.std.specs.List.{list_all}
 use Rattle.bsp_fields.specs.Decimal.{number_of}
 use Rattle.bsp_fields.specs.Zoned.{zoned_reading}
@@ -24,6 +24,10 @@ pub record IsDocument (text : List ℕ) (d : ReportedDocument) : Type 0 where
   pub airline : code_reading 3 (columns 1 3 text) ≡ Ok d.airline
   pub number : d.number ≡ columns 4 13 text
   pub check_digit : number_of (columns 14 14 text) ≡ d.check_digit
+
+-- a document comes before another: by the airline, then by the number
+abbrev pub is_before : ReportedDocument → ReportedDocument → Bool
+is_before d e = nat_lt d.airline e.airline || ((d.airline == e.airline) && nat_lt (number_of d.number) (number_of e.number))
 
 -- ---- record 2
 

@@ -1,4 +1,4 @@
-//! The codes of transactions and of forms of payment.
+//! The profiles of files, and the codes of transactions and of forms of payment.
 
 ghost use Rattle.std.specs.Prelude.{◌≡◌};
 ghost use Rattle.bsp_ret_records.specs.Texts.{code_text};
@@ -12,6 +12,15 @@ pub enum TransactionCode {
     Rfnd,
     /// A cancelled document.
     Canx,
+}
+
+/// A profile of RET files, columns 28 to 30 of the header.
+#[derive(Clone, Copy, Debug, PartialEq, Eq, Hash)]
+pub enum Profile {
+    /// 001: an exchange has one related document.
+    P001,
+    /// 002: an exchange has one related document or two.
+    P002,
 }
 
 /// A form of payment of record 8.

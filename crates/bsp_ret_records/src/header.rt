@@ -1,19 +1,33 @@
 //! Record 1, the header.
 
 ghost use Rattle.std.specs.Prelude.{◌≡◌, length};
-ghost use Rattle.bsp_ret_records.specs.Records.{is_header, is_production, header_fits};
+ghost use Rattle.bsp_ret_records.specs.Records.{profile_of, is_header, is_production, header_fits};
 
+use crate::codes::Profile;
 use bsp_records::{
     all_digits, all_letters, all_letters_or_digits, all_spaces, is_record_day, spells_at_most,
 };
 
-/// Whether a record is a header of this profile.
+/// The profile of a record, where it is one that a header may have.
+#[tactic(auto, unfolding(crate::specs::Records::profile_of))]
+pub fn profile_of(line: &[u8]) -> Option<Profile>
+    requires { length line.now ≡ 136 }
+    ensures { result ≡ profile_of line.now }
+{
+    match &line[27..30] {
+        b"001" => Some(Profile::P001),
+        b"002" => Some(Profile::P002),
+        _ => None,
+    }
+}
+
+/// Whether a record is a header of profile 001 or 002.
 #[tactic(auto, unfolding(crate::specs::Records::is_header))]
 pub fn is_header(line: &[u8]) -> bool
     requires { length line.now ≡ 136 }
     ensures { result ≡ is_header line.now }
 {
-    line[0] == b'1' && &line[27..30] == b"001".as_slice()
+    line[0] == b'1' && profile_of(line).is_some()
 }
 
 /// Whether a header says that the file is no test.

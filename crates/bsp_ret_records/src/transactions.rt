@@ -1,7 +1,12 @@
 //! The values of a transaction, as its group of records has them.
 
+ghost use Rattle.std.specs.Prelude.{◌≡◌, true};
+ghost use Rattle.std.specs.Str.{all_ascii_digits};
+ghost use Rattle.bsp_ret_records.specs.Values.{is_before};
+
 use crate::codes::TransactionCode;
 use bsp_fields::{AirlineCode, Amount, Day};
+use bsp_records::number_of;
 
 /// A document as it is reported, its check digit not judged: columns 20 to 33 of record 2, and 8 to
 /// 21 of record 3.
@@ -13,6 +18,18 @@ pub struct ReportedDocument {
     pub number: [u8; 10],
     /// The value of the check digit, 0 to 9, right or wrong.
     pub check_digit: u8,
+}
+
+impl ReportedDocument {
+    /// Whether the other comes behind it: by the airline, then by the number, as by their bytes.
+    pub fn is_before(&self, other: &ReportedDocument) -> bool
+        requires digits { all_ascii_digits self.now.number ≡ true }
+        requires other_digits { all_ascii_digits other.now.number ≡ true }
+        ensures { result ≡ is_before self.now other.now }
+    {
+        self.airline < other.airline
+            || self.airline == other.airline && number_of(&self.number) < number_of(&other.number)
+    }
 }
 
 /// A used tax place of record 5, 13 columns from 19 on.
@@ -81,7 +98,8 @@ pub struct Transaction {
     pub issued: Day,
     /// Columns 40 to 88 of record 2, the passenger's name, 49 characters from 0x20 to 0x7E.
     pub passenger: [u8; 49],
-    /// Records 3; the second place has none in this profile.
+    /// Records 3; the second place has one only in an exchange that relates to two documents, of
+    /// which the second has the greater airline and number by bytes.
     pub related: [Option<ReportedDocument>; 2],
     /// Record 5.
     pub amounts: Option<Amounts>,

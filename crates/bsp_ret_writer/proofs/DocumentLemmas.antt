@@ -10,9 +10,10 @@ use Rattle.bsp_fields.proofs.DecimalLemmas.{length-fixed_digits, digits-fixed_di
 use Rattle.bsp_fields.proofs.CodeLemmas.{code_reading-fixed_digits}
 use Rattle.bsp_ret_records.specs.declared.transactions.ReportedDocument.{ReportedDocument}
 use Rattle.bsp_records.specs.Columns.{columns, identifier, is_wide, is_printable, is_space}
-use Rattle.bsp_ret_records.specs.Records.{transaction_number, related_document, related_fits}
+use Rattle.bsp_ret_records.specs.Records.{transaction_number, related_document, related_order, related_fits}
 use Rattle.bsp_ret.specs.Ret.{IsRecord}
-use Rattle.bsp_ret_records.specs.Values.{IsDocument, IsRelated}
+use Rattle.bsp_ret_records.specs.Values.{IsDocument, IsRelated, is_before}
+use Rattle.bsp_ret_records.proofs.OrderLemmas.{HasNumber, order_rises}
 use Rattle.bsp_ret_writer.specs.GroupValues.{is_document}
 use Rattle.bsp_ret_writer.specs.Writing.{document_fields, related_line, spaces}
 use Rattle.bsp_records.proofs.FieldLemmas.{field_at, fields_at, wide_fields}
@@ -30,6 +31,12 @@ unfolding is_document
 document_facts d h =
     let parts = and_parts (all_ascii_digits d.number) (nat_le d.check_digit 9) h in
     record { digits = parts.0; check_digit = leb-true d.check_digit 9 parts.1 }
+
+pub document_digits : (d : ReportedDocument) → is_document d ≡ true → all_ascii_digits d.number ≡ true
+document_digits d h = (document_facts d h).digits
+
+pub has_number : (d : ReportedDocument) → IsStoredDocument d → is_document d ≡ true → HasNumber d
+has_number d stored fits = record { ten = stored.number; digits = document_digits d fits }
 
 -- the fourteen characters of a document that is written read back
 pub document_reads : (d : ReportedDocument) → IsStoredDocument d → is_document d ≡ true → IsDocument (concat (document_fields d)) d
@@ -104,3 +111,8 @@ pub related_line-reads : (n : ℕ) (d : ReportedDocument) → IsStoredDocument d
 related_line-reads n d stored fits =
     let Reads : List ℕ → Type 0 = λ text. IsDocument text d in
     subst Reads (sym ((related_line-columns n d stored fits).document_at)) (document_reads d stored fits)
+
+-- of two that are written, the second is behind the first where its document is
+pub related_line-rises : (n : ℕ) (d e : ReportedDocument) → IsStoredDocument d → IsStoredDocument e → is_document d ≡ true → is_document e ≡ true → is_before d e ≡ true → related_order (related_line n d) < related_order (related_line n e)
+related_line-rises n d e stored also_stored fits also_fits before =
+    order_rises (related_document (related_line n d)) (related_document (related_line n e)) d e (related_line-reads n d stored fits) (related_line-reads n e also_stored also_fits) (has_number d stored fits) (has_number e also_stored also_fits) before

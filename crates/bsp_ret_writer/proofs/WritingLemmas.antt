@@ -37,7 +37,7 @@ text_of-append [] ys = refl
 text_of-append (x ∷ xs) ys =
     ap (λ rest. (x ++ 10 ∷ []) ++ rest) (text_of-append xs ys) ∙ sym (append_assoc (x ++ 10 ∷ []) (text_of xs) (text_of ys))
 
--- a line, and five lists of lines, written one after the other
-pub text_of-parts : (old first : List ℕ) (a b d e f : List (List ℕ)) → (((((old ++ first ++ 10 ∷ []) ++ text_of a) ++ text_of b) ++ text_of d) ++ text_of e) ++ text_of f ≡ old ++ text_of (first ∷ (a ++ (b ++ (d ++ (e ++ f)))))
-text_of-parts old first a b d e f =
-    rw (text_of-append a (b ++ (d ++ (e ++ f))), text_of-append b (d ++ (e ++ f)), text_of-append d (e ++ f), text_of-append e f) (simp append_assoc)
+-- a line, and six lists of lines, written one after the other
+pub text_of-parts : (old first : List ℕ) (a b d e f g : List (List ℕ)) → ((((((old ++ first ++ 10 ∷ []) ++ text_of a) ++ text_of b) ++ text_of d) ++ text_of e) ++ text_of f) ++ text_of g ≡ old ++ text_of (first ∷ (a ++ (b ++ (d ++ (e ++ (f ++ g))))))
+text_of-parts old first a b d e f g =
+    rw (text_of-append a (b ++ (d ++ (e ++ (f ++ g)))), text_of-append b (d ++ (e ++ (f ++ g))), text_of-append d (e ++ (f ++ g)), text_of-append e (f ++ g), text_of-append f g) (simp append_assoc)

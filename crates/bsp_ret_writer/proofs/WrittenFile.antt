@@ -1,13 +1,13 @@
 -- A file that is written stands in Ret, with the same values.
-use Rattle.std.proofs.Common.{◌≡◌, ℕ, suc, ◌+◌, ◌<◌, ◌^◌, ℤ, pos, ◌+ℤ◌, Bool, true, false, List, [], ◌∷◌, ◌++◌, length, take, get_or, Option, Some, None, IfSome, refl, sym, ap, subst, ◌∙◌, arith, append_assoc, length-append, length-take, length-drop, drop, map}
+use Rattle.std.proofs.Common.{◌≡◌, ℕ, suc, ◌+◌, ◌<◌, ◌^◌, ℤ, pos, ◌+ℤ◌, Bool, true, false, List, [], ◌∷◌, ◌++◌, length, take, get_or, Option, Some, None, IfSome, refl, sym, ap, subst, ◌∙◌, arith, append_assoc, length-append, length-take, length-drop, drop, map, count_by}
 use Rattle.std.proofs.Math.IntN.{+ℤ_assoc, +ℤ_idl}
-use Rattle.std.specs.Prelude.{codes, ◌==◌, OnOk, Result, Ok, Err}
+use Rattle.std.specs.Prelude.{codes, nat_le, ◌==◌, OnOk, Result, Ok, Err}
 use Rattle.std.specs.Str.{all_ascii_digits}
 use Rattle.std.proofs.lemmas.Grind.{common_steps}
 use Rattle.std.specs.List.{concat, list_all}
 use Rattle.std.specs.Option.{option_to_list}
 use Rattle.std.proofs.lemmas.List.{take_more, append-nil}
-use Rattle.std.proofs.lemmas.Bool.{and_parts, eqb-true}
+use Rattle.std.proofs.lemmas.Bool.{and_parts, and_from, eqb-true}
 use Rattle.bsp_fields.specs.Zoned.{spelling}
 use Rattle.bsp_fields.specs.Decimal.{number_of}
 use Rattle.bsp_fields.proofs.DecimalLemmas.{number_of-lt}
@@ -17,20 +17,22 @@ use Rattle.bsp_records.specs.Lines.{lines, has_end, without_cr}
 use Rattle.bsp_records.specs.Columns.{columns, identifier, is_wide, is_printable, is_space}
 use Rattle.bsp_records.specs.Fields.{is_total, spells}
 use Rattle.bsp_ret_records.specs.Records.{transaction_number, record_count, transaction_count, total, sale_fits, related_fits, amounts_fit, trailer_fits, form_amount}
-use Rattle.bsp_ret.specs.Table.{paid, total_paid}
-use Rattle.bsp_ret.specs.Ret.{File, flatten, forms_of, IsRecord, IsForm, HasBody, AreGroups, IsTrailer, Ret, file_lines}
+use Rattle.bsp_ret.specs.Table.{is_related, paid, total_paid}
+use Rattle.bsp_ret.specs.Ret.{File, flatten, forms_of, IsRecord, IsForm, HasBody, AreGroups, has_one_related, IsTrailer, Ret, file_lines}
 use Rattle.bsp_ret_writer.specs.Stored.{IsStored}
 use Rattle.bsp_ret.specs.Content.{InBoth, HasContent}
 use Rattle.bsp_ret_records.specs.Values.{IsRelated, AreAmounts, IsPayment, IsCardPayment}
-use Rattle.bsp_ret_writer.specs.GroupValues.{related_of}
+use Rattle.bsp_ret_writer.specs.GroupValues.{related_of, second_of}
 use Rattle.bsp_ret_records.specs.declared.codes.TransactionCode.{TransactionCode}
 use Rattle.bsp_ret_records.specs.declared.codes.FormOfPayment.{FormOfPayment}
 use Rattle.bsp_ret_records.specs.declared.codes.FormOfPayment.TheVariants.{Cash, Credit, Exchange}
 use Rattle.bsp_ret_writer.specs.Writing.{spaces, group_lines, written_groups, trailer_line, text_of, written_file, HaveContents, AreWritten, IsWritten, IsWrittenTrailer}
 use Rattle.bsp_records.proofs.CutLemmas.{lines_nil, lines_cut}
 use Rattle.bsp_ret_writer.proofs.WritingLemmas.{text_of-append}
-use Rattle.bsp_ret_writer.proofs.ContentMakes.{content_makes, first_of_places}
-use Rattle.bsp_ret.proofs.BodyLemmas.{body_facts}
+use Rattle.bsp_ret_writer.proofs.ContentMakes.{content_makes, first_of_places, second_of_places}
+use Rattle.bsp_ret.proofs.BodyLemmas.{body_facts, first_related, second_related}
+use Rattle.bsp_ret.proofs.RelatedLemmas.{count_of, related_count}
+use Rattle.bsp_ret.proofs.SameContent.{has_body_facts}
 use Rattle.bsp_ret.proofs.GroupLemmas.{wide_length}
 use Rattle.bsp_ret.proofs.TrailerLemmas.{same_sum_of}
 use Rattle.bsp_ret.proofs.Wide.{wide_all}
@@ -112,10 +114,6 @@ abbrev card_amount : Option CardPayment → Option ℤ
 card_amount None = None
 card_amount (Some card) = Some card.amount
 
-abbrev count_of : {A : Type 0} → Option A → ℕ
-count_of None = 0
-count_of (Some x) = 1
-
 -- records that are no form pay nothing
 total_other : (letter n : ℕ) (fits : List ℕ → Bool) (o : Option (List ℕ)) (rest : List (List ℕ)) → (letter == 56) ≡ false → IfSome o (IsRecord letter n fits) → total_paid (option_to_list o ++ rest) ≡ total_paid rest
 total_other letter n fits None rest other is = refl
@@ -149,8 +147,9 @@ group_total n lines t has =
     let forms = option_to_list g.credit ++ option_to_list g.exchange in
     let last : total_paid (option_to_list g.exchange) ≡ amount_or t.exchange +ℤ pos 0 = ap total_paid (sym (append-nil (option_to_list g.exchange))) ∙ total_form n Exchange g.exchange t.exchange [] facts.exchange content.exchange in
     ap total_paid has.is.lines_are
-    ∙ total_other 50 n sale_fits (Some g.sale) (option_to_list g.related ++ (option_to_list g.amounts ++ forms_of g)) refl has.is.sale
-    ∙ total_other 51 n related_fits g.related (option_to_list g.amounts ++ forms_of g) refl facts.related
+    ∙ total_other 50 n sale_fits (Some g.sale) (option_to_list g.related ++ (option_to_list g.second ++ (option_to_list g.amounts ++ forms_of g))) refl has.is.sale
+    ∙ total_other 51 n related_fits g.related (option_to_list g.second ++ (option_to_list g.amounts ++ forms_of g)) refl (first_related n g.related g.second facts.related)
+    ∙ total_other 51 n related_fits g.second (option_to_list g.amounts ++ forms_of g) refl (second_related n g.related g.second facts.related)
     ∙ total_other 53 n amounts_fit g.amounts (forms_of g) refl facts.amounts
     ∙ total_form n Cash g.cash t.cash forms facts.cash content.cash
     ∙ ap (λ x. amount_or t.cash +ℤ x) (total_form n Credit g.credit (card_amount t.credit) (option_to_list g.exchange) facts.credit (card_pays g.credit t.credit content.credit) ∙ ap (λ x. amount_or (card_amount t.credit) +ℤ x) last)
@@ -162,18 +161,48 @@ same_count P None (Some y) both = absurd both
 same_count P (Some x) None both = absurd both
 
 abbrev records_in : Transaction → ℕ
-records_in t = 1 + (count_of (related_of t) + (count_of t.amounts + (count_of t.cash + (count_of t.credit + count_of t.exchange))))
+records_in t =
+    1 + (count_of (related_of t) + (count_of (second_of t) + (count_of t.amounts + (count_of t.cash + (count_of t.credit + count_of t.exchange)))))
 
 group_length : (n : ℕ) (lines : List (List ℕ)) (t : Transaction) → HasContent n lines t → length lines ≡ records_in t
 group_length n lines t has =
     let g = has.is.group in
     let content = has.content in
-    let first = first_of_places g.related t.related content.related in
-    let behind : length (option_to_list g.related ++ (option_to_list g.amounts ++ forms_of g)) ≡ count_of (related_of t) + (count_of t.amounts + (count_of t.cash + (count_of t.credit + count_of t.exchange))) =
-    length-append (option_to_list g.related) (option_to_list g.amounts ++ forms_of g)
-    ∙ rw (length-append (option_to_list g.amounts) (forms_of g), length-append (option_to_list g.cash) (option_to_list g.credit ++ option_to_list g.exchange), length-append (option_to_list g.credit) (option_to_list g.exchange), same_count IsRelated g.related (related_of t) first, same_count AreAmounts g.amounts t.amounts content.amounts, same_count IsPayment g.cash t.cash content.cash, same_count IsCardPayment g.credit t.credit content.credit, same_count IsPayment g.exchange t.exchange content.exchange) refl in
-    let all : suc (length (option_to_list g.related ++ (option_to_list g.amounts ++ forms_of g))) ≡ records_in t = omega (arith, behind) in
+    let first = first_of_places g.related g.second t.related content.related in
+    let second = second_of_places g.related g.second t.related content.related in
+    let behind : length (option_to_list g.related ++ (option_to_list g.second ++ (option_to_list g.amounts ++ forms_of g))) ≡ count_of (related_of t) + (count_of (second_of t) + (count_of t.amounts + (count_of t.cash + (count_of t.credit + count_of t.exchange)))) =
+    length-append (option_to_list g.related) (option_to_list g.second ++ (option_to_list g.amounts ++ forms_of g))
+    ∙ rw (length-append (option_to_list g.second) (option_to_list g.amounts ++ forms_of g), length-append (option_to_list g.amounts) (forms_of g), length-append (option_to_list g.cash) (option_to_list g.credit ++ option_to_list g.exchange), length-append (option_to_list g.credit) (option_to_list g.exchange), same_count IsRelated g.related (related_of t) first, same_count IsRelated g.second (second_of t) second, same_count AreAmounts g.amounts t.amounts content.amounts, same_count IsPayment g.cash t.cash content.cash, same_count IsCardPayment g.credit t.credit content.credit, same_count IsPayment g.exchange t.exchange content.exchange) refl in
+    let all : suc (length (option_to_list g.related ++ (option_to_list g.second ++ (option_to_list g.amounts ++ forms_of g)))) ≡ records_in t = omega (arith, behind) in
     ap length has.is.lines_are ∙ all
+
+-- the records 3 of a group
+same_number : {A B : Type 0} (P : A → B → Type 0) (o : Option A) (p : Option B) → InBoth P o p → count_of o ≡ count_of p
+same_number P None None both = refl
+same_number P (Some x) (Some y) both = refl
+same_number P None (Some y) both = absurd both
+same_number P (Some x) None both = absurd both
+
+group_related : (n : ℕ) (lines : List (List ℕ)) (t : Transaction) → HasContent n lines t → count_by is_related lines ≡ count_of (related_of t) + count_of (second_of t)
+group_related n lines t has =
+    let g = has.is.group in
+    let first = same_number IsRelated g.related (related_of t) (first_of_places g.related g.second t.related has.content.related) in
+    let second = same_number IsRelated g.second (second_of t) (second_of_places g.related g.second t.related has.content.related) in
+    ap (count_by is_related) has.is.lines_are ∙ related_count n g has.is.sale (has_body_facts n lines t has) ∙ rw (first, second) refl
+
+group_one : (n : ℕ) (lines others : List (List ℕ)) (t : Transaction) → HasContent n lines t → HasContent n others t → has_one_related lines ≡ true → has_one_related others ≡ true
+group_one n lines others t has other one =
+    ap (λ k. nat_le k 1) (group_related n others t other ∙ sym (group_related n lines t has)) ∙ one
+
+all_one : (n : ℕ) (groups others : List (List (List ℕ))) (ts : List Transaction) → HaveContents n groups ts → HaveContents n others ts → list_all has_one_related groups ≡ true → list_all has_one_related others ≡ true
+all_one n [] [] [] have other one = refl
+all_one n (group ∷ groups) (again ∷ others) (t ∷ ts) have other one =
+    let parts = and_parts (has_one_related group) (list_all has_one_related groups) one in
+    and_from _ _ (group_one n group again t have.0 other.0 parts.0) (all_one (suc n) groups others ts have.1 other.1 parts.1)
+all_one n [] others (t ∷ ts) have other one = absurd have
+all_one n (group ∷ groups) others [] have other one = absurd have
+all_one n groups [] (t ∷ ts) have other one = absurd other
+all_one n groups (again ∷ others) [] have other one = absurd other
 
 abbrev sums_of : List Transaction → ℤ
 sums_of [] = pos 0
@@ -320,6 +349,7 @@ stands_again ls file ts sum ret have again written =
       lines_are = refl;
       header = ret.header;
       groups = are_groups 1 (written_groups 1 ts) ts again;
+      related = λ old. all_one 1 file.groups (written_groups 1 ts) ts have again (ret.related old);
       trailer = subst Records records (subst Count count (subst Sum (sym is_sum ∙ same_total) ends));
     }
 

@@ -14,7 +14,7 @@ use Rattle.bsp_ret_records.specs.declared.transactions.Transaction.{Transaction}
 use Rattle.bsp_records.specs.Lines.{lines}
 use Rattle.bsp_ret_records.specs.Records.{record_count, transaction_count, total}
 use Rattle.bsp_ret.specs.Ret.{Group, File, file_lines, lines_of, flatten, Ret}
-use Rattle.bsp_ret_writer.specs.GroupValues.{related_of}
+use Rattle.bsp_ret_writer.specs.GroupValues.{related_of, second_of}
 use Rattle.bsp_ret.specs.Content.{HasContent}
 
 abbrev pub spaces : ℕ → List ℕ
@@ -64,6 +64,7 @@ abbrev pub group_of : ℕ → Transaction → Group
 group_of n t = record {
   sale = sale_line n t;
   related = option_map (related_line n) (related_of t);
+  second = option_map (related_line n) (second_of t);
   amounts = option_map (amounts_line n) t.amounts;
   cash = option_map (cash_line n) t.cash;
   credit = option_map (credit_line n) t.credit;

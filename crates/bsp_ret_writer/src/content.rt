@@ -1,6 +1,7 @@
 //! When values make a group.
 
-ghost use Rattle.std.specs.Prelude.{◌≡◌, ◌↔◌, IsTrue};
+ghost use Rattle.std.specs.Prelude.{◌≡◌, ◌↔◌, ◌&&◌, IsTrue};
+ghost use Rattle.bsp_ret_records.specs.Values.{is_before};
 ghost use Rattle.bsp_ret_writer.specs.Stored.{InEach, IsStored, IsStoredTax};
 ghost use Rattle.bsp_ret_writer.specs.GroupValues.{is_document, are_related, are_taxes, are_amounts, is_group_values, MakesGroup};
 
@@ -15,17 +16,27 @@ fn fits_document(document: &ReportedDocument) -> bool
     all_digits(&document.number) && document.check_digit <= 9
 }
 
-/// The first place has nothing or a document, and the second nothing.
+/// Two documents fit, and the second comes behind the first.
+#[tactic(auto, using(crate::proofs::DocumentLemmas::document_digits))]
+fn fits_pair(first: &ReportedDocument, second: &ReportedDocument) -> bool
+    ensures { result ≡ (is_document first.now && is_document second.now && is_before first.now second.now) }
+{
+    fits_document(first) && fits_document(second) && first.is_before(second)
+}
+
+/// There is nothing, a document, or in an exchange two, of which the second comes behind the first.
 #[tactic(auto, unfolding(crate::specs::GroupValues::are_related))]
-fn fits_related(related: &[Option<ReportedDocument>; 2]) -> bool
-    ensures { result ≡ are_related related.now }
+fn fits_related(exchange: bool, related: &[Option<ReportedDocument>; 2]) -> bool
+    ensures { result ≡ are_related exchange related.now }
 {
     let [first, second] = related;
-    let first_fits = match first {
-        Some(document) => fits_document(document),
-        None => true,
-    };
-    first_fits && second.is_none()
+    match first {
+        None => second.is_none(),
+        Some(document) => match second {
+            None => fits_document(document),
+            Some(other) => exchange && fits_pair(document, other),
+        },
+    }
 }
 
 /// Used places come first, with codes of letters and digits that rise by bytes.
@@ -72,7 +83,7 @@ fn fits_group(transaction: &Transaction) -> bool
     let fields_fit = all_digits(&transaction.agent)
         && fits_document(&transaction.document)
         && all_printable(&transaction.passenger)
-        && fits_related(&transaction.related);
+        && fits_related(transaction.exchange.is_some(), &transaction.related);
     let related = transaction.related[0].is_some();
     let amounts = transaction.amounts.is_some();
     let cash = transaction.cash.is_some();
@@ -103,12 +114,12 @@ pub(crate) fn stored(transaction: Transaction)
     }
 }
 
-/// The values are those of a group in this profile. Digits are digits, the passenger's name is
+/// The values are those of a group, in profile 002 if not in 001. Digits are digits, the passenger's name is
 /// printable, and tax codes and the vendor are letters and digits. Used tax places come first and
-/// their codes rise by bytes. The rate is at most 10,000, and there is no second related document.
-/// A TKTT has amounts, a form of payment, and a related document if and only if it has an exchange.
-/// An RFND has a related document, amounts, cash or credit, and no exchange. A CANX has nothing
-/// else.
+/// their codes rise by bytes. The rate is at most 10,000. A TKTT has amounts, a form of payment, and
+/// one or two related documents if and only if it has an exchange; the second comes behind the first,
+/// by its airline and its number. An RFND has a related document, amounts, cash or credit, and no
+/// exchange. A CANX has nothing else.
 pub fn is_group(transaction: &Transaction) -> bool
     ensures value { result ≡ is_group_values transaction.now }
     ensures makes { IsTrue result ↔ MakesGroup transaction.now }

@@ -207,6 +207,7 @@ pub(crate) fn push_group(
 {
     push_sale(out, number, transaction)?;
     push_some_related(out, number, &transaction.related[0])?;
+    push_some_related(out, number, &transaction.related[1])?;
     push_some_amounts(out, number, &transaction.amounts)?;
     push_some_form(out, number, b"CA", transaction.cash)?;
     push_some_credit(out, number, &transaction.credit)?;

@@ -17,7 +17,7 @@ use Rattle.bsp_memos.specs.Owed.{is_billed_in, is_period}
 use Rattle.bsp_postings.proofs.ListLemmas.{filter_filter}
 use Rattle.bsp_postings.specs.Postings.{is_counted, is_document, item_posting, item_postings, memo_posting, memo_postings, postings}
 use Rattle.bsp_postings.specs.Tallies.{IsTallyOf, is_item_under, is_under, items_under, same_key as same_tally, under}
-use Rattle.bsp_postings.specs.Nets.{cash_of, commission_of, credit_of, memos_of}
+use Rattle.bsp_postings.specs.Nets.{cash_of, commission_of, credit_of, memos_of, tax_of}
 use Rattle.bsp_postings.specs.declared.posting.Posting.{Posting}
 use Rattle.bsp_postings.specs.declared.tally.Tally.{Tally}
 use Rattle.bsp_rows.specs.Laws.{AskedAreTallies, is_billing_asked, is_item_asked, is_key_asked}
@@ -159,6 +159,7 @@ each_tally which rows k asked =
       cash = s.cash ∙ ap cash_of rest;
       credit = s.credit ∙ ap credit_of rest;
       commission = s.commission ∙ ap commission_of rest;
+      tax = s.tax ∙ ap tax_of rest;
       memos = s.memos ∙ ap memos_of rest;
     }
 

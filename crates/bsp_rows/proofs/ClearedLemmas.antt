@@ -51,10 +51,14 @@ ticket_code Canx h = absurd (cc h)
 
 -- ---- related documents
 
--- its TKTT is at its key and lives, and nothing that lives relates to it
+abbrev found_in : List Item → ReportedDocument → Option Item
+found_in items d = ticket d items
+
+-- its TKTT is the one that the facts find, is at its key and lives, and nothing that lives relates to it
 pub record IsOpenTicket (rows : Rows) (agent airline : ℕ) (d : ReportedDocument) : Type 0 where
   pub own : d.airline ≡ airline
   pub ticket : Item
+  pub found : found_in (agent_items agent rows) d ≡ Some ticket
   pub there : get rows.items (ticket_key agent d) ≡ Some ticket
   pub is : is_ticket d ticket ≡ true
   pub lives : ticket.lives ≡ true
@@ -81,6 +85,7 @@ open_ticket rows agent airline d (Some i) sound is m e =
     record {
       own = eqb-true d.airline airline (not-false _ (or_parts (not (d.airline == airline)) false m).0);
       ticket = i;
+      found = is;
       there = found.0;
       is = found.1;
       lives = not-false i.lives ended.0;

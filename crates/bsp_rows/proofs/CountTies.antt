@@ -1,5 +1,5 @@
 -- How many of a list pass a test, and which they are.
-use Rattle.std.proofs.Common.{◌≡◌, ℕ, ◌+◌, ◌≤◌, Bool, true, false, cond, List, [], ◌∷◌, map, count_by, Option, Some, None, refl, sym, ap, subst, ◌∙◌, arith, inl, inr, Ordering, Less}
+use Rattle.std.proofs.Common.{◌≡◌, ℕ, ◌+◌, ◌≤◌, Bool, true, false, ◌&&◌, ◌||◌, cond, List, [], ◌∷◌, ◌++◌, map, count_by, Option, Some, None, refl, sym, ap, subst, ◌∙◌, arith, inl, inr, Ordering, Less}
 use Rattle.std.specs.Bool.{Decides}
 use Rattle.std.specs.List.{Contains, filter_map}
 use Rattle.std.specs.Ordering.{eq_by_cmp, is_eq}
@@ -8,6 +8,7 @@ use Rattle.std.specs.BTreeMap.{BTreeMap, IsOrdered}
 use Rattle.std.specs.FinMap.{IsAntisymmetric, entries, entries_sorted, is_sorted}
 use Rattle.std.specs.FinMap.Entries.{below_all}
 use Rattle.std.proofs.lemmas.Bool.{and_parts, both_ways, false_from_ne_true}
+use Rattle.std.proofs.lemmas.List.Sums.{sum_by-append}
 use Rattle.bsp_calendar.proofs.ListLemmas.{contains_head, contains_tail, contains_cases, contains_none}
 use Rattle.bsp_rows.specs.Audit.{as_map}
 use Rattle.bsp_rows.proofs.DemandLemmas.{same_entries}
@@ -43,9 +44,26 @@ count_alike p q (x ∷ xs) alike =
     ∙ ((λ i. cond (alike x (contains_head x xs) i) 1 0 + count_alike p q xs (λ y in'. alike y (contains_tail x xs y in')) i)
     ∙ sym (counted q x xs))
 
+pub count_append : {A : Type 0} (p : A → Bool) (xs ys : List A) → count_by p (xs ++ ys) ≡ count_by p xs + count_by p ys
+count_append p xs ys = sum_by-append (λ x. cond (p x) 1 0) xs ys
+
+two_counted : (p q : Bool) → cond p 1 0 + cond q 1 0 ≡ cond (p || q) 1 0 + cond (p && q) 1 0
+two_counted true true = refl
+two_counted true false = refl
+two_counted false true = refl
+two_counted false false = refl
+
+-- what passes either test, and what passes both
+pub count_two : {A : Type 0} (p q : A → Bool) (xs : List A) → count_by p xs + count_by q xs ≡ count_by (λ x. p x || q x) xs + count_by (λ x. p x && q x) xs
+count_two p q [] = refl
+count_two p q (x ∷ xs) =
+    let rest = count_two p q xs in
+    let both = two_counted (p x) (q x) in
+    omega (arith, rest, both, counted p x xs, counted q x xs, counted (λ y. p y || q y) x xs, counted (λ y. p y && q y) x xs)
+
 -- ---- none, one, few
 
-none_counted : {A : Type 0} (p : A → Bool) (xs : List A) → ((x : A) → Contains xs x → p x ≡ false) → count_by p xs ≡ 0
+pub none_counted : {A : Type 0} (p : A → Bool) (xs : List A) → ((x : A) → Contains xs x → p x ≡ false) → count_by p xs ≡ 0
 none_counted p [] none = refl
 none_counted p (x ∷ xs) none =
     counted p x xs ∙ ((λ i. cond (none x (contains_head x xs) i) 1 0 + none_counted p xs (λ y in'. none y (contains_tail x xs y in')) i) ∙ omega arith)

@@ -1,6 +1,6 @@
 -- An accepted transaction keeps the items sound.
 use Rattle.std.proofs.Common.{◌≡◌, ℕ, ◌+◌, ◌≤◌, ◌==◌, Bool, true, false, not, ◌&&◌, ◌||◌, cond, List, count_by, Option, Some, None, is_some, Ok, refl, sym, ap, subst, ◌∙◌, inl, inr, arith}
-use Rattle.std.specs.List.{Contains}
+use Rattle.std.specs.List.{Contains, list_any}
 use Rattle.std.specs.FinMap.{FinMap, get, entries}
 use Rattle.std.proofs.lemmas.Bool.{and_parts, eqb-true, both_ways, false_from_ne_true}
 use Rattle.std.proofs.lemmas.Slice.Eq.{bytes_eq-Decides}
@@ -16,17 +16,20 @@ use Rattle.bsp_calendar.proofs.TargetLemmas.{in_target}
 use Rattle.bsp_ret_writer.specs.GroupValues.{is_group_values}
 use Rattle.bsp_ret_records.specs.declared.transactions.ReportedDocument.{ReportedDocument}
 use Rattle.bsp_ret_records.specs.declared.transactions.Transaction.{Transaction}
-use Rattle.bsp_rules.specs.FactsOf.{counts}
+use Rattle.bsp_rules.specs.FactsOf.{counts, related_document}
 use Rattle.bsp_rules.specs.Rows.{is_canx, names, names_number, is_living_relation, relates}
-use Rattle.bsp_rules.specs.Verdicts.{limit_of}
+use Rattle.bsp_rules.specs.Tax.{accepted_item, hundredths_for, issued_of, tax_on}
+use Rattle.bsp_rules.specs.Verdicts.{is_wrong_place, limit_of}
+use Rattle.bsp_rules.specs.declared.facts.RelatedDocument.{RelatedDocument}
 use Rattle.bsp_rules.specs.declared.rows.Item.{Item}
 use Rattle.bsp_rows.specs.declared.keys.ItemKey.{ItemKey}
-use Rattle.bsp_rows.specs.Rows.{Rows, canx_of, item_cmp, key_of, agent_items}
-use Rattle.bsp_rows.specs.Sound.{IsInTime, HasTicket, IsSoundItem, AreSoundItems, ticket_key, is_counted}
-use Rattle.bsp_rows.specs.Changes.{sale_key, after_accepted}
+use Rattle.bsp_rows.specs.Rows.{Rows, canx_of, item_cmp, key_of, agent_items, agent_token, ranges_of}
+use Rattle.bsp_rows.specs.Sound.{IsInTime, HasTicket, IsSoundItem, IsTaxed, AreSoundItems, document_at, ticket_key, is_counted}
+use Rattle.bsp_rows.specs.Changes.{sale_key, after_accepted, facts_at}
 use Rattle.bsp_rows.proofs.MapLemmas.{same_Some}
 use Rattle.bsp_rows.proofs.RowLemmas.{none_passes}
 use Rattle.bsp_rows.proofs.ClearedLemmas.{IsCleared}
+use Rattle.bsp_rows.proofs.TaxTies.{AreIssuedAlike, document_issued, facts_related, facts_ticket, related_reads, same_hundredths}
 use Rattle.bsp_rows.proofs.TakenLemmas.{fate, ends, IsTaken, taken, lives_on, count_taken}
 
 -- ---- the target is a published period whose last day is not before the date of issue
@@ -72,7 +75,10 @@ canx_unrelated i number true c h = absurd (both_ways _ (no_canx i.lives (names n
 canx_unrelated i number false c h = refl
 
 module _ (rows : Rows) (item : Item) (sound : AreSoundItems rows.published rows.agents rows.ranges rows.items) (apart : AreApart rows.published.periods) (c : IsCleared rows item)
-    (group : is_group_values item.transaction ≡ true) (bears : agent_reading item.transaction.agent ≡ Ok item.agent) (lives : item.lives ≡ true) where
+    (group : is_group_values item.transaction ≡ true) (bears : agent_reading item.transaction.agent ≡ Ok item.agent) (as_accepted : item ≡ accepted_item item.agent item.period item.transaction (facts_at item.agent item.transaction rows).related rows.published) where
+  lives : item.lives ≡ true
+  lives = ap (λ (x : Item). x.lives) as_accepted
+
   abbrev new : FinMap item_cmp Item
   new = (after_accepted item rows).items
 
@@ -91,6 +97,45 @@ module _ (rows : Rows) (item : Item) (sound : AreSoundItems rows.published rows.
 
   has_ticket : (agent airline : ℕ) (d : ReportedDocument) → HasTicket rows.items agent airline d → HasTicket new agent airline d
   has_ticket agent airline d h = record { own = h.own; ticket = fate item (ticket_key agent d) h.ticket; there = all_taken.kept (ticket_key agent d) h.ticket h.there; is = h.is }
+
+  -- ---- its tax
+
+  -- a ticket stays, as one of the same date of issue
+  issued_still : (agent : ℕ) (t : Transaction) (d : ReportedDocument) (ticket : Item) → list_any is_wrong_place t.related ≡ false → Contains t.related (Some d) → get rows.items (ticket_key agent d) ≡ Some ticket → issued_of (document_at new agent d).ticket ≡ Some ticket.transaction.issued
+  issued_still agent t d ticket checked in' there = document_issued new agent d (fate item (ticket_key agent d) ticket) (related_reads t d checked in') (all_taken.kept (ticket_key agent d) ticket there)
+
+  found_alike : AreIssuedAlike (related_document (agent_items item.agent rows)) (document_at new item.agent) item.transaction.related
+  found_alike d in' =
+      let o = c.tickets d in' in
+      ap issued_of (facts_ticket (agent_items item.agent rows) d ∙ o.found) ∙ sym (issued_still item.agent item.transaction d o.ticket c.checked in' o.there)
+
+  item_taxed : IsTaxed rows.published new key item
+  item_taxed =
+      let own : item.hundredths ≡ hundredths_for item.transaction (facts_at item.agent item.transaction rows).related rows.published = ap (λ (x : Item). x.hundredths) as_accepted in
+      let places = facts_related (is_some (agent_token item.agent rows)) (ranges_of item.agent rows) (agent_items item.agent rows) item.transaction rows.published in
+      record {
+        hundredths = own
+            ∙ (ap (λ (r : List (Option RelatedDocument)). hundredths_for item.transaction r rows.published) places
+            ∙ same_hundredths (related_document (agent_items item.agent rows)) (document_at new item.agent) item.transaction rows.published found_alike);
+        tax = ap (λ (x : Item). x.tax) as_accepted ∙ ap (λ (h : ℕ). tax_on h item.transaction) (sym own);
+      }
+
+  old_alike : (k : ItemKey) (i : Item) → get rows.items k ≡ Some i → AreIssuedAlike (document_at rows.items k.agent) (document_at new k.agent) i.transaction.related
+  old_alike k i there d in' =
+      let s = sound.each k i there in
+      let t = s.tied.related d in' in
+      document_issued rows.items k.agent d t.ticket (related_reads i.transaction d s.right.checked in') t.there
+      ∙ sym (issued_still k.agent i.transaction d t.ticket s.right.checked in' t.there)
+
+  old_taxed : (k : ItemKey) (i : Item) → get rows.items k ≡ Some i → IsTaxed rows.published new k (fate item k i)
+  old_taxed k i there =
+      let s = (sound.each k i there).taxed in
+      record {
+        hundredths = s.hundredths ∙ same_hundredths (document_at rows.items k.agent) (document_at new k.agent) i.transaction rows.published (old_alike k i there);
+        tax = s.tax;
+      }
+
+  -- ---- each item
 
   -- no item is at the key of its CANX, but itself
   alone : (found : Option Item) → get new (canx_of key) ≡ found → (canx : Bool) → is_canx item ≡ canx → (canx || not (is_some found)) ≡ true
@@ -116,6 +161,7 @@ module _ (rows : Rows) (item : Item) (sound : AreSoundItems rows.published rows.
       ];
       related = λ d in'. let o = c.tickets d in' in has_ticket item.agent item.transaction.document.airline d (record { own = o.own; ticket = o.ticket; there = o.there; is = o.is });
     };
+    taxed = item_taxed;
   }
 
   -- the item's own CANX key is that of an old item that it ends
@@ -139,6 +185,7 @@ module _ (rows : Rows) (item : Item) (sound : AreSoundItems rows.published rows.
           ];
           related = λ d in'. has_ticket k.agent i.transaction.document.airline d (s.tied.related d in');
         };
+        taxed = old_taxed k i there;
       }
 
   each : (k : ItemKey) (j : Item) → get new k ≡ Some j → IsSoundItem rows.published rows.agents rows.ranges new k j

@@ -53,7 +53,7 @@ pub accepted_sound : AcceptedIsSound
 accepted_sound reporter rows item s a =
     let passed = (accepted_is_passed reporter item.transaction (facts_at item.agent item.transaction rows) rows.published item.period).0 a.accepted in
     let c = cleared reporter rows item s.items a.group passed in
-    let kept = items_kept rows item s.items s.plan.periods c a.group a.bears a.lives in
+    let kept = items_kept rows item s.items s.plan.periods c a.group a.bears a.as_accepted in
     let same : after_accepted item rows ≡ record rows { items = (after_accepted item rows).items } = ap (with_item item) (items_alone (is_canx item) (sale_key item) rows) in
     subst Sound (sym same) (record { plan = s.plan; ranges = s.ranges; items = kept; memos = s.memos })
 

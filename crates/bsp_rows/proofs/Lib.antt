@@ -3,6 +3,7 @@ pub mod KeyOrders
 pub mod MapLemmas
 pub mod RowLemmas
 pub mod GroupLemmas
+pub mod TaxTies
 pub mod ClearedLemmas
 pub mod TakenLemmas
 pub mod ItemLemmas
@@ -41,9 +42,11 @@ pub use Rattle.bsp_postings.proofs.RemovalLemmas
 pub use Rattle.bsp_postings.proofs.SideLemmas
 pub use Rattle.bsp_postings.proofs.TallyLemmas
 pub use Rattle.bsp_ret_records.proofs.DigitLemmas
+pub use Rattle.bsp_ret_records.proofs.OrderLemmas
 pub use Rattle.bsp_ret_records.proofs.ReadLemmas
 pub use Rattle.bsp_ret_records.proofs.ValueLemmas
 pub use Rattle.bsp_ret_writer.proofs.ContentMakes
 pub use Rattle.bsp_ret_writer.proofs.WrittenFile
 pub use Rattle.bsp_rules.proofs.MeaningLemmas
 pub use Rattle.bsp_rules.proofs.SameContentLemmas
+pub use Rattle.bsp_rules.proofs.TaxLemmas

@@ -4,12 +4,11 @@ use Rattle.std.specs.FinMap.{FinMap, get, insert, entries}
 use Rattle.std.specs.Ordering.{nat_cmp, eq_by_cmp}
 use Rattle.std.proofs.lemmas.Bool.{and_parts, eqb-true}
 use Rattle.bsp_fields.specs.CivilDay.{CivilDay}
-use Rattle.bsp_fields.specs.Days.{day_number}
 use Rattle.bsp_calendar.specs.DayOrder.{is_up_to}
 use Rattle.bsp_calendar.specs.Published.{Published, is_closed}
 use Rattle.bsp_calendar.specs.declared.entries.Terms.{Terms}
-use Rattle.bsp_calendar.proofs.DayLemmas.{up_to_true, up_to_from, up_to_trans}
 use Rattle.bsp_rules.specs.Verdicts.{limit_of}
+use Rattle.bsp_rules.proofs.TaxLemmas.{up_to_later}
 use Rattle.bsp_memos.specs.declared.fields.MemoFields.{MemoFields}
 use Rattle.bsp_memos.specs.Billing.{admits, billed_in}
 use Rattle.bsp_memos.specs.Lives.{Acted, after_action}
@@ -42,9 +41,6 @@ billing_grows p m g memo period b = record {
   there = g.terms b.terms b.there;
   rightly = right_later b.terms.review_days p.day m.day memo g.day b.rightly;
 }
-
-pub up_to_later : (a b c : CivilDay) → is_up_to a b ≡ true → is_up_to b c ≡ true → is_up_to a c ≡ true
-up_to_later a b c x y = up_to_from (day_number a) (day_number c) (up_to_trans (day_number a) (day_number b) (day_number c) (up_to_true (day_number a) (day_number b) x) (up_to_true (day_number b) (day_number c) y))
 
 -- a request for the plan keeps the memos
 pub memos_grow : (p m : Published) (agents : FinMap nat_cmp (List ℕ)) (memos : FinMap memo_cmp MemoFields) → Grows p m → AreSoundMemos p agents memos → AreSoundMemos m agents memos

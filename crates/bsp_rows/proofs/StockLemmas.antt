@@ -17,7 +17,9 @@ use Rattle.bsp_rows.proofs.KeyOrders.{item_total, item_exact, range_total, range
 use Rattle.bsp_rows.specs.Sound.{HasNumber, AreApart, AreSoundRanges, IsInStock, IsInTime, AreSoundItems}
 use Rattle.bsp_rows.proofs.MapLemmas.{get_entry, get_written, get_other, same_key, same_Some}
 use Rattle.bsp_calendar.specs.SoundPlan.{Grows}
-use Rattle.bsp_rows.proofs.MemoLemmas.{limit_grows, up_to_later}
+use Rattle.bsp_rules.proofs.TaxLemmas.{up_to_later}
+use Rattle.bsp_rows.proofs.MemoLemmas.{limit_grows}
+use Rattle.bsp_rows.proofs.TaxTies.{taxed_grows}
 
 time_grows : (p m : Published) (issued : CivilDay) (code : ℕ) → Grows p m → IsInTime p issued code → IsInTime m issued code
 time_grows p m issued code g h = record { day = up_to_later issued p.day m.day h.day g.day; period = h.period; there = g.periods code h.period h.there; end = h.end }
@@ -31,6 +33,7 @@ items_beside p m agents more ranges others items s g known stock = record {
     in_stock = stock k i h o.in_stock;
     in_time = time_grows p m i.transaction.issued i.period g o.in_time;
     tied = o.tied;
+    taxed = taxed_grows p m items k i g o.in_time.day o.taxed;
   };
   related_once = s.related_once;
   related_lives = s.related_lives;

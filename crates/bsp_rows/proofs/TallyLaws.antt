@@ -81,6 +81,7 @@ tallies_sum k rows = record {
   cash = refl;
   credit = refl;
   commission = refl;
+  tax = refl;
   memos = refl;
 }
 
@@ -100,6 +101,7 @@ same_tally items memos t h =
       cash = h.cash i;
       credit = h.credit i;
       commission = h.commission i;
+      tax = h.tax i;
       memos = h.memos i;
     }
 

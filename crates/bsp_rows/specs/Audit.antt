@@ -1,5 +1,5 @@
 -- Rows in memory, and what an audit demands of them.
-use Rattle.std.specs.Prelude.{◌≡◌, ℕ, ◌≤◌, Bool, true, false, ◌&&◌, ◌||◌, not, List, map, is_some, count_by, Option, MatchOption, Some, None, IsSome, option_map, Ok}
+use Rattle.std.specs.Prelude.{◌≡◌, ℕ, ◌≤◌, Bool, true, false, ◌&&◌, ◌||◌, not, List, ◌++◌, map, is_some, count_by, Option, MatchOption, Some, None, IsSome, option_map, Ok, slice_index_or}
 use Rattle.std.specs.List.{Contains, filter_map}
 use Rattle.std.specs.Ordering.{eq_by_cmp, nat_cmp, on, then_cmp}
 use Rattle.std.specs.Cmp.Lexicographic.{slice_cmp}
@@ -13,7 +13,6 @@ use Rattle.bsp_calendar.specs.Published.{Published}
 use Rattle.bsp_calendar.specs.declared.entries.Terms.{Terms}
 use Rattle.bsp_memos.specs.Billing.{is_rightly_billed}
 use Rattle.bsp_maps.specs.declared.spans.Span.{Span}
-use Rattle.bsp_ret_writer.specs.GroupValues.{related_of}
 use Rattle.bsp_ret_records.specs.declared.transactions.ReportedDocument.{ReportedDocument}
 use Rattle.bsp_rules.specs.Rows.{is_canx}
 use Rattle.bsp_rules.specs.Verdicts.{limit_of}
@@ -27,7 +26,7 @@ use Rattle.bsp_rows.specs.declared.limits.PartiesKey.{PartiesKey}
 use Rattle.bsp_rows.specs.declared.unsound.Unsound.{Unsound}
 use Rattle.bsp_rows.specs.declared.unsound.Unsound.TheVariants.{Range, Item as OfItem, Memo}
 use Rattle.bsp_rows.specs.Rows.{Rows, canx_of, item_cmp, memo_cmp, range_cmp}
-use Rattle.bsp_rows.specs.Sound.{HasNumber, HasTicket, IsInTime, IsRight, IsSoundMemo}
+use Rattle.bsp_rows.specs.Sound.{HasNumber, HasTicket, IsInTime, IsRight, IsSoundMemo, IsTaxed}
 use Rattle.bsp_rows.specs.Tallies.{item_tally_key, tally_cmp}
 
 -- a map in memory as a value
@@ -82,9 +81,13 @@ abbrev pub relation_by : Bool → ℕ → Option ReportedDocument → Option Rel
 relation_by false agent place = None
 relation_by true agent place = option_map (λ d. record { agent = agent; number = d.number }) place
 
--- the agent and the number of the ticket to which a living TKTT or RFND relates
-abbrev pub relation_of : Item → Option RelationKey
-relation_of i = relation_by (is_living_sale i) i.agent (related_of i.transaction)
+-- the agent and the number of the ticket to which a living TKTT or RFND relates in a place
+abbrev pub relation_in : ℕ → Item → Option RelationKey
+relation_in place i = relation_by (is_living_sale i) i.agent (slice_index_or i.transaction.related place None)
+
+-- in the first places of the items, and in the second
+abbrev pub relations_of : List Item → List RelationKey
+relations_of items = filter_map (relation_in 0) items ++ filter_map (relation_in 1) items
 
 -- by airline, and then by agent
 abbrev pub parties_cmp : PartiesKey → PartiesKey → Ordering
@@ -134,10 +137,11 @@ pub record IsTiedItem (items : FinMap item_cmp Item) (k : ItemKey) (i : Item) : 
 pub record IsAuditedItem (published : Published) (agents : FinMap nat_cmp (List ℕ)) (ranges : FinMap range_cmp ℕ) (items : FinMap item_cmp Item) (k : ItemKey) (i : Item) : Type 0 where
   pub right : IsRightItem published agents ranges k i
   pub tied : IsTiedItem items k i
+  pub taxed : IsTaxed published items k i
 
 pub record AreItemsAudited (published : Published) (agents : BTreeMap ℕ (List ℕ)) (ranges : BTreeMap RangeKey ℕ) (items : BTreeMap ItemKey Item) : Type 0 where
   pub each : EachItem (as_map item_cmp items) (IsAuditedItem published (as_map nat_cmp agents) (as_map range_cmp ranges) (as_map item_cmp items))
-  pub once : AreWithin relation_cmp 1 (filter_map relation_of (values items))
+  pub once : AreWithin relation_cmp 1 (relations_of (values items))
   pub documents : AreWithin tally_cmp (limit_of published.terms) (map item_tally_key (values items))
 
 pub record AreMemosAudited (published : Published) (agents : BTreeMap ℕ (List ℕ)) (memos : BTreeMap MemoKey MemoFields) : Type 0 where

@@ -8,6 +8,7 @@ use Rattle.bsp_ret_writer.specs.GroupValues.{is_group_values}
 use Rattle.bsp_ret_records.specs.declared.transactions.Transaction.{Transaction}
 use Rattle.bsp_rules.specs.FactsOf.{facts_in}
 use Rattle.bsp_rules.specs.Rows.{is_canx}
+use Rattle.bsp_rules.specs.Tax.{accepted_item}
 use Rattle.bsp_rules.specs.Verdicts.{verdict_on}
 use Rattle.bsp_rules.specs.declared.facts.Facts.{Facts}
 use Rattle.bsp_rules.specs.declared.rows.Item.{Item}
@@ -25,11 +26,11 @@ use Rattle.bsp_rows.specs.Writes.{with_item, with_end}
 abbrev pub facts_at : ℕ → Transaction → Rows → Facts
 facts_at agent t rows = facts_in (is_some (agent_token agent rows)) (ranges_of agent rows) (agent_items agent rows) t rows.published
 
--- the item is a transaction that is accepted over these rows, in the item's period
+-- the item is a transaction that is accepted over these rows in the item's period, and its tax is taken
 pub record IsAcceptance (reporter : Reporter) (rows : Rows) (item : Item) : Type 0 where
   pub group : is_group_values item.transaction ≡ true
   pub bears : agent_reading item.transaction.agent ≡ Ok item.agent
-  pub lives : item.lives ≡ true
+  pub as_accepted : item ≡ accepted_item item.agent item.period item.transaction (facts_at item.agent item.transaction rows).related rows.published
   pub accepted : verdict_on reporter item.transaction (facts_at item.agent item.transaction rows) rows.published ≡ Accepted item.period
 
 -- the key of the TKTT or RFND of its number

@@ -15,6 +15,7 @@ pub use Rattle.bsp_calendar.specs.Published
 pub use Rattle.bsp_calendar.specs.Requests
 pub use Rattle.bsp_calendar.specs.SoundPlan
 pub use Rattle.bsp_calendar.specs.Standing
+pub use Rattle.bsp_calendar.specs.declared.entries.CommissionTax
 pub use Rattle.bsp_calendar.specs.declared.entries.Period
 pub use Rattle.bsp_calendar.specs.declared.entries.PlanText
 pub use Rattle.bsp_calendar.specs.declared.entries.Rate
@@ -55,6 +56,7 @@ pub use Rattle.bsp_ret_records.specs.Taxes
 pub use Rattle.bsp_ret_records.specs.Texts as RetRecordsTexts
 pub use Rattle.bsp_ret_records.specs.Values
 pub use Rattle.bsp_ret_records.specs.declared.codes.FormOfPayment
+pub use Rattle.bsp_ret_records.specs.declared.codes.Profile
 pub use Rattle.bsp_ret_records.specs.declared.codes.TransactionCode
 pub use Rattle.bsp_ret_records.specs.declared.transactions.Amounts
 pub use Rattle.bsp_ret_records.specs.declared.transactions.CardPayment
@@ -71,6 +73,7 @@ pub use Rattle.bsp_rules.specs.Nets as RulesNets
 pub use Rattle.bsp_rules.specs.Rows as RulesRows
 pub use Rattle.bsp_rules.specs.SameContent
 pub use Rattle.bsp_rules.specs.Selected
+pub use Rattle.bsp_rules.specs.Tax as RulesTax
 pub use Rattle.bsp_rules.specs.Tickets
 pub use Rattle.bsp_rules.specs.Verdicts
 pub use Rattle.bsp_rules.specs.declared.facts.RelatedDocument

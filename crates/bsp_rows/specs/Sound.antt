@@ -1,11 +1,12 @@
 -- Sound rows: the rules that an audit demands, table by table.
-use Rattle.std.specs.Prelude.{◌≡◌, ℕ, ◌≤◌, ◌==◌, ◌&&◌, ◌||◌, not, Bool, true, false, List, count_by, Some, IsSome, is_some, Ok}
+use Rattle.std.specs.Prelude.{◌≡◌, ℕ, ◌≤◌, ◌==◌, ◌&&◌, ◌||◌, not, Bool, true, false, List, map, count_by, Option, Some, None, IsSome, is_some, option_map, Result, Ok, Err}
 use Rattle.std.specs.List.{Contains, list_any}
 use Rattle.std.specs.FinMap.{FinMap, get, entries}
 use Rattle.std.specs.Ordering.{nat_cmp}
 use Rattle.bsp_fields.specs.CivilDay.{CivilDay}
 use Rattle.bsp_fields.specs.Decimal.{number_of}
-use Rattle.bsp_fields.specs.Codes.{agent_reading}
+use Rattle.bsp_fields.specs.Codes.{agent_reading, code_reading}
+use Rattle.bsp_fields.specs.declared.fault.FieldFault.{FieldFault}
 use Rattle.bsp_calendar.specs.Published.{Published, is_closed, period_of}
 use Rattle.bsp_calendar.specs.DayOrder.{is_up_to}
 use Rattle.bsp_calendar.specs.SoundPlan.{IsSoundPlan}
@@ -13,10 +14,13 @@ use Rattle.bsp_calendar.specs.declared.entries.Period.{Period}
 use Rattle.bsp_calendar.specs.declared.entries.Terms.{Terms}
 use Rattle.bsp_ret_writer.specs.GroupValues.{is_group_values}
 use Rattle.bsp_ret_records.specs.declared.transactions.ReportedDocument.{ReportedDocument}
+use Rattle.bsp_ret_records.specs.declared.transactions.Transaction.{Transaction}
+use Rattle.bsp_rules.specs.declared.facts.RelatedDocument.{RelatedDocument}
 use Rattle.bsp_rules.specs.declared.rows.Item.{Item}
 use Rattle.bsp_rules.specs.Rows.{is_canx, is_living_relation, is_ticket}
 use Rattle.bsp_rules.specs.FactsOf.{counts}
 use Rattle.bsp_rules.specs.Verdicts.{is_wrong_place, limit_of}
+use Rattle.bsp_rules.specs.Tax.{hundredths_for, tax_on}
 use Rattle.bsp_memos.specs.declared.fields.MemoFields.{MemoFields}
 use Rattle.bsp_memos.specs.Billing.{is_rightly_billed}
 use Rattle.bsp_memos.specs.Memos.{is_memo}
@@ -86,12 +90,31 @@ pub record IsTied (items : FinMap item_cmp Item) (k : ItemKey) (i : Item) : Type
   pub cancelled : (j : Item) → get items (canx_of k) ≡ Some j → j.transaction.document.airline ≡ i.transaction.document.airline
   pub related : (d : ReportedDocument) → Contains i.transaction.related (Some d) → HasTicket items k.agent i.transaction.document.airline d
 
+-- the item at the key of a TKTT or RFND with this number
+abbrev pub numbered_at : FinMap item_cmp Item → ℕ → Result ℕ FieldFault → Option Item
+numbered_at items agent (Ok number) = get items (record { agent = agent; number = number; is_canx = false })
+numbered_at items agent (Err fault) = None
+
+-- a related document with the agent's ticket of its number; a tax does not ask whether another relates to it
+abbrev pub document_at : FinMap item_cmp Item → ℕ → ReportedDocument → RelatedDocument
+document_at items agent d = record { document = d; ticket = numbered_at items agent (code_reading 10 d.number); is_related_to = false }
+
+-- the related documents of an agent's transaction, in its places
+abbrev pub documents_at : FinMap item_cmp Item → ℕ → Transaction → List (Option RelatedDocument)
+documents_at items agent t = map (λ place. option_map (document_at items agent) place) t.related
+
+-- its tax on commission is that of the plan and of its tickets
+pub record IsTaxed (published : Published) (items : FinMap item_cmp Item) (k : ItemKey) (i : Item) : Type 0 where
+  pub hundredths : i.hundredths ≡ hundredths_for i.transaction (documents_at items k.agent i.transaction) published
+  pub tax : i.tax ≡ tax_on i.hundredths i.transaction
+
 pub record IsSoundItem (published : Published) (agents : FinMap nat_cmp (List ℕ)) (ranges : FinMap range_cmp ℕ) (items : FinMap item_cmp Item) (k : ItemKey) (i : Item) : Type 0 where
   pub right : IsRight k i
   pub registered : IsSome (get agents k.agent)
   pub in_stock : IsInStock ranges k.agent k.number
   pub in_time : IsInTime published i.transaction.issued i.period
   pub tied : IsTied items k i
+  pub taxed : IsTaxed published items k i
 
 -- all of an agent and an airline in a period, cancelled ones and CANX too
 abbrev pub is_counted : ℕ → ℕ → ℕ → ItemKey × Item → Bool

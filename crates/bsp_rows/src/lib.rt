@@ -11,10 +11,11 @@ mod limits;
 mod questions;
 mod rules;
 mod sound_item;
+mod tax_rules;
 mod unsound;
 
 pub use audit::are_sound;
-pub use bsp_calendar::{Currency, Period, Plan, PlanFault, PlanText, Rate, Terms};
+pub use bsp_calendar::{CommissionTax, Currency, Period, Plan, PlanFault, PlanText, Rate, Terms};
 pub use bsp_fields::{AgentCode, AirlineCode, Amount, Change, Day, DocNumber, PeriodCode, Token};
 pub use bsp_memos::{Memo, MemoFields, MemoKind, MemoState, Reason};
 pub use bsp_postings::Tally;

@@ -1,12 +1,12 @@
 //! What the audit counts: ranges of one number, relations to one ticket, documents and memos.
 
-ghost use Rattle.std.specs.Prelude.{◌≡◌, IfOk, map};
+ghost use Rattle.std.specs.Prelude.{◌≡◌, ◌<◌, ◌++◌, IfOk, map};
 ghost use Rattle.std.specs.BTreeMap.{values};
 ghost use Rattle.std.specs.Bool.{Decides};
 ghost use Rattle.std.specs.List.{filter_map};
 ghost use Rattle.bsp_maps.specs.Spans.{AreDisjoint};
 ghost use Rattle.bsp_rules.specs.Verdicts.{limit_of};
-ghost use Rattle.bsp_rows.specs.Audit.{AreWithin, parties_cmp, parties_of, relation_cmp, relation_of, span_of};
+ghost use Rattle.bsp_rows.specs.Audit.{AreWithin, parties_cmp, parties_of, relation_cmp, relation_in, relations_of, span_of};
 ghost use Rattle.bsp_rows.specs.Tallies.{item_tally_key, tally_cmp};
 
 use crate::item_rules::is_living_sale;
@@ -71,14 +71,15 @@ pub(crate) struct RelationKey {
     number: [u8; 10],
 }
 
-/// The ticket to which an item relates, if it is a living TKTT or RFND.
-fn relation(item: &Item) -> Option<RelationKey>
-    ensures { result ≡ relation_of item.now }
+/// The ticket to which an item relates in a place, if it is a living TKTT or RFND.
+fn relation(item: &Item, place: usize) -> Option<RelationKey>
+    requires { place < 2 }
+    ensures { result ≡ relation_in place item.now }
 {
     if !is_living_sale(item) {
         return None;
     }
-    let Some(document) = &item.transaction.related[0] else {
+    let Some(document) = &item.transaction.related[place] else {
         return None;
     };
     let number = document.number;
@@ -88,16 +89,30 @@ fn relation(item: &Item) -> Option<RelationKey>
     })
 }
 
-/// The tickets to which living TKTT and RFND relate, each as often as one relates to it.
-fn relations(alloc: Global, items: &BTreeMap<ItemKey, Item>) -> Result<Vec<RelationKey>, AllocError>
-    ensures { IfOk result (λ keys. keys.items ≡ filter_map relation_of (values items.now)) }
+/// Adds the tickets to which living TKTT and RFND relate in a place, each as often as one relates to it.
+fn add_relations(
+    keys: &mut Vec<RelationKey>,
+    items: &BTreeMap<ItemKey, Item>,
+    place: usize,
+) -> Result<(), AllocError>
+    requires { place < 2 }
+    ensures { IfOk result (λ done. keys.new.items ≡ keys.old.items ++ filter_map (relation_in place) (values items.now)) }
 {
-    let mut keys = Vec::new(alloc);
     for item in items.values() {
-        if let Some(key) = relation(item) {
+        if let Some(key) = relation(item, place) {
             keys.push(key)?;
         }
     }
+    Ok(())
+}
+
+/// The tickets to which living TKTT and RFND relate, each as often as one relates to it.
+fn relations(alloc: Global, items: &BTreeMap<ItemKey, Item>) -> Result<Vec<RelationKey>, AllocError>
+    ensures { IfOk result (λ keys. keys.items ≡ relations_of (values items.now)) }
+{
+    let mut keys = Vec::new(alloc);
+    add_relations(&mut keys, items, 0)?;
+    add_relations(&mut keys, items, 1)?;
     Ok(keys)
 }
 
@@ -106,7 +121,7 @@ pub(crate) fn are_related_once(
     alloc: Global,
     items: &BTreeMap<ItemKey, Item>,
 ) -> Result<bool, AllocError>
-    ensures { IfOk result (λ once. Decides once (AreWithin relation_cmp 1 (filter_map relation_of (values items.now)))) }
+    ensures { IfOk result (λ once. Decides once (AreWithin relation_cmp 1 (relations_of (values items.now)))) }
 {
     let keys = relations(alloc, items)?;
     are_within(alloc, &keys, 1)

@@ -9,13 +9,14 @@ use crate::demands::Demand;
 use crate::item_rules::{CancelledByAirline, InStock, InTime, Marked, Related, Right};
 use crate::keys::{ItemKey, RangeKey};
 use crate::rules::OfRegistered;
+use crate::tax_rules::Taxed;
 use bsp_calendar::Plan;
 use bsp_fields::{AgentCode, DocNumber, Token};
 use bsp_rules::Item;
 use std::collections::BTreeMap;
 
 /// An item is right by itself, of a registered agent, in its stock and in time. It agrees with the CANX of its number
-/// and with the tickets to which it relates.
+/// and with the tickets to which it relates. Its tax is that of the plan and of those tickets.
 #[derive(Clone, Copy)]
 pub(crate) struct SoundItem<'a> {
     pub(crate) plan: &'a Plan,
@@ -51,6 +52,10 @@ impl<'a> Demand<ItemKey, Item> for SoundItem<'a> {
     ghost asks = { λ rule k i. IsAuditedItem rule.plan.now (as_map nat_cmp rule.agents.now) (as_map range_cmp rule.ranges.now) (as_map item_cmp rule.items.now) k i };
 
     fn is_met(&self, key: &ItemKey, item: &Item) -> bool {
-        is_right(self, key, item) && is_tied(self.items, key, item)
+        let taxed = Taxed {
+            plan: self.plan,
+            items: self.items,
+        };
+        is_right(self, key, item) && is_tied(self.items, key, item) && taxed.is_met(key, item)
     }
 }

@@ -1,11 +1,11 @@
 -- Lemmas on commission.
-use Rattle.std.proofs.Common.{◌≡◌, ℕ, ℤ, pos, negsuc, suc, neg_ℤ, ◌+◌, ◌*◌, ◌<◌, ◌≤◌, ◌*ℤ◌, ◌-ℤ◌, Bool, ◌&&◌, ◌||◌, nat_lt, nat_le, unsigned_abs, true, false, sym, ◌∙◌, arith}
+use Rattle.std.proofs.Common.{◌≡◌, ℕ, ℤ, pos, negsuc, suc, neg_ℤ, ◌+◌, ◌*◌, ◌/◌, ◌<◌, ◌≤◌, ◌*ℤ◌, ◌-ℤ◌, Bool, ◌&&◌, ◌||◌, nat_lt, nat_le, unsigned_abs, true, false, refl, sym, ◌∙◌, arith}
 use Rattle.std.specs.Prelude.{int_lt}
 use Rattle.std.proofs.lemmas.Int.{ints}
-use Rattle.std.proofs.lemmas.Bool.Decides.{nat_tests}
+use Rattle.std.proofs.lemmas.Bool.Decides.{Decides-int_eq, nat_tests}
 use Rattle.std.specs.Ordering.{int_eq}
 use Rattle.std.proofs.lemmas.Bool.{false≢true}
-use Rattle.bsp_rules.specs.Commission.{IsCommission, is_commission}
+use Rattle.bsp_rules.specs.Commission.{IsCommission, commission_on, is_commission}
 
 -- the test, where rate * basis is `exact` and 10,000 times the amount is `told`
 abbrev passes : ℤ → ℤ → Bool
@@ -59,3 +59,28 @@ commission_from_test r b k h = record {
 -- at a rate of at most 10,000 the commission is of no greater size than the basis
 pub size_within : (r n s : ℕ) → r ≤ 10_000 → 10_000 * s ≤ r * n + 5_000 → s ≤ n
 size_within r n s h i = grind arith
+
+-- ---- the commission as a number
+
+quotient_low : (x : ℕ) → 10_000 * (x / 10_000) ≤ x
+quotient_low x = omega arith
+
+quotient_high : (x : ℕ) → x < 10_000 * (x / 10_000) + 10_000
+quotient_high x = omega arith
+
+below_zero : (n : ℕ) → int_lt (negsuc n) (pos 0) ≡ true
+below_zero n = grind (arith, ints, nat_tests)
+
+-- the test passes this number alone
+commission_only : (r : ℕ) (b k : ℤ) → is_commission r b k ≡ int_eq k (commission_on r b)
+unfolding commission_on
+commission_only r (pos n) k =
+    commission_above r (pos n) ((r * n + 5_000) / 10_000) (quotient_low (r * n + 5_000)) (quotient_high (r * n + 5_000)) (not_below n) k
+commission_only r (negsuc n) k =
+    commission_below r (negsuc n) ((r * suc n + 5_000) / 10_000) (quotient_low (r * suc n + 5_000)) (quotient_high (r * suc n + 5_000)) (below_zero n) k
+
+pub commission_number : (r : ℕ) (b k : ℤ) → is_commission r b k ≡ true → k ≡ commission_on r b
+commission_number r b k h = (Decides-int_eq k (commission_on r b)).0 (sym (commission_only r b k) ∙ h)
+
+pub commission_is : (r : ℕ) (b : ℤ) → IsCommission r b (commission_on r b)
+commission_is r b = commission_from_test r b (commission_on r b) (commission_only r b (commission_on r b) ∙ (Decides-int_eq (commission_on r b) (commission_on r b)).1 refl)

@@ -1,5 +1,6 @@
 -- Lemmas on the rules.
 pub mod CommissionLemmas
+pub mod TaxLemmas
 pub mod SharedLemmas
 pub mod SelectedLemmas
 pub mod SameContentLemmas

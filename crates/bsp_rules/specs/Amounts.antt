@@ -43,9 +43,9 @@ abbrev pub commission_amount : Option Amounts → ℤ
 commission_amount None = pos 0
 commission_amount (Some a) = a.commission
 
--- what the agent owes for an item: cash less commission of a TKTT or an RFND, and nothing of a CANX
+-- what the agent owes for an item: cash less commission less the tax on it of a TKTT or an RFND, and nothing of a CANX
 abbrev pub net_of : Item → ℤ
-net_of i = by_code i.transaction.code (amount_or_zero i.transaction.cash -ℤ commission_amount i.transaction.amounts) where
+net_of i = by_code i.transaction.code ((amount_or_zero i.transaction.cash -ℤ commission_amount i.transaction.amounts) -ℤ i.tax) where
   by_code : TransactionCode → ℤ → ℤ
   by_code Tktt net = net
   by_code Rfnd net = net

@@ -4,6 +4,7 @@ pub mod SameContent
 pub mod Refusals
 pub mod Amounts
 pub mod Nets
+pub mod Tax
 pub mod Tickets
 pub mod Rows
 pub mod FactsOf

@@ -2,6 +2,7 @@
 
 ghost use Rattle.bsp_rules.specs.Meanings.{AcceptedCanxIsFree, AcceptedIsPassed, AcceptedTicketsLive, AgentIsReporters, HeldIsFound, RefusedIsFirst, WrongAgentIsFirst};
 ghost use Rattle.bsp_rules.specs.Selected.{AreFoundFacts};
+ghost use Rattle.bsp_rules.specs.Tax.{UntaxedInForm1};
 
 /// The facts over items that are found by key are those over all of the agent's items, the count
 /// apart. The items found are some of the agent's, among them all that share a number with the
@@ -23,4 +24,11 @@ pub fn meaning_of_verdicts()
     ensures refused { RefusedIsFirst }
     ensures tickets { AcceptedTicketsLive }
     ensures canx { AcceptedCanxIsFree }
+{}
+
+/// In a period of form 1 ([`Plan::is_taxed`](bsp_calendar::Plan::is_taxed)) no tax is taken of what is
+/// issued by its last day: [`hundredths_for`](crate::hundredths_for) and the tax are 0. The contract is
+/// the law; the body has nothing to do.
+pub fn untaxed_in_form_1()
+    ensures { UntaxedInForm1 }
 {}

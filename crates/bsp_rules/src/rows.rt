@@ -3,7 +3,7 @@
 ghost use Rattle.std.specs.Prelude.{◌≡◌};
 ghost use Rattle.bsp_rules.specs.Nets.{lives_in};
 
-use bsp_fields::{AgentCode, DocNumber, PeriodCode};
+use bsp_fields::{AgentCode, Amount, DocNumber, PeriodCode};
 use bsp_ret_records::Transaction;
 
 /// A transaction as it was accepted.
@@ -17,6 +17,10 @@ pub struct Item {
     pub transaction: Transaction,
     /// Whether it lives: no CANX of its number has been accepted. A CANX itself always lives.
     pub lives: bool,
+    /// The tax on its commission, and 0 of a CANX.
+    pub tax: Amount,
+    /// The hundredths of a percent, 0 to 10,000, that were taken for the tax, and 0 of a CANX.
+    pub hundredths: u16,
 }
 
 impl Item {

@@ -1,6 +1,6 @@
 //! Sums of the amounts of a transaction, and its net.
 
-ghost use Rattle.std.specs.Prelude.{◌≡◌, ◌≤◌, map, unsigned_abs};
+ghost use Rattle.std.specs.Prelude.{◌≡◌, ◌≤◌, ◌-ℤ◌, map, unsigned_abs};
 ghost use Rattle.bsp_rules.specs.Amounts.{amount_or_zero, card_amount, commission_amount, gross, net_of, paid, sum_of, tax_amount};
 
 use crate::rows::Item;
@@ -78,16 +78,22 @@ pub(crate) fn paid(transaction: &Transaction) -> i64
         + amount_or_zero(transaction.exchange)
 }
 
-/// What an agent owes for an item, in minor units: its cash less its commission for a TKTT or an
-/// RFND, and nothing for a CANX.
+/// Cash less commission.
+fn untaxed(transaction: &Transaction) -> i64
+    ensures value { result ≡ amount_or_zero transaction.now.cash -ℤ commission_amount transaction.now.amounts }
+    ensures bound { unsigned_abs result ≤ 199_999_999_998 }
+{
+    amount_or_zero(transaction.cash) - commission_amount(&transaction.amounts)
+}
+
+/// What an agent owes for an item, in minor units: its cash less its commission less the tax on that
+/// for a TKTT or an RFND, and nothing for a CANX.
 pub fn net(item: &Item) -> i64
     ensures { result ≡ net_of item.now }
 {
     let transaction = &item.transaction;
     match transaction.code {
-        TransactionCode::Tktt | TransactionCode::Rfnd => {
-            amount_or_zero(transaction.cash) - commission_amount(&transaction.amounts)
-        }
+        TransactionCode::Tktt | TransactionCode::Rfnd => untaxed(transaction) - item.tax.get(),
         TransactionCode::Canx => 0,
     }
 }

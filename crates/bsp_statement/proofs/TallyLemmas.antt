@@ -142,11 +142,13 @@ module _ (items : List Item) (memos : List MemoFields) (tallies : List Tally) (a
         ∙ sym (documents_as_int (filter own rows)) in
         let cash = by_tallies (λ p. p.cash) (λ t is. is.cash) in
         let commission = by_tallies (λ p. p.commission) (λ t is. is.commission) in
+        let tax = by_tallies (λ p. p.tax) (λ t is. is.tax) in
         let memos_sum = by_tallies (λ p. p.memos) (λ t is. is.memos) in
-        figures_same _ _ (cc) cash (by_tallies (λ p. p.credit) (λ t is. is.credit)) commission memos_sum
-        (ap (λ (x : ℤ). (x -ℤ sums (λ p. p.commission) (filter own from_tallies)) +ℤ sums (λ p. p.memos) (filter own from_tallies)) cash
-        ∙ ap (λ (x : ℤ). (sums (λ p. p.cash) (filter own rows) -ℤ x) +ℤ sums (λ p. p.memos) (filter own from_tallies)) commission
-        ∙ ap (λ (x : ℤ). (sums (λ p. p.cash) (filter own rows) -ℤ sums (λ p. p.commission) (filter own rows)) +ℤ x) memos_sum)
+        figures_same _ _ (cc) cash (by_tallies (λ p. p.credit) (λ t is. is.credit)) commission tax memos_sum
+        (ap (λ (x : ℤ). ((x -ℤ sums (λ p. p.commission) (filter own from_tallies)) -ℤ sums (λ p. p.tax) (filter own from_tallies)) +ℤ sums (λ p. p.memos) (filter own from_tallies)) cash
+        ∙ ap (λ (x : ℤ). ((sums (λ p. p.cash) (filter own rows) -ℤ x) -ℤ sums (λ p. p.tax) (filter own from_tallies)) +ℤ sums (λ p. p.memos) (filter own from_tallies)) commission
+        ∙ ap (λ (x : ℤ). ((sums (λ p. p.cash) (filter own rows) -ℤ sums (λ p. p.commission) (filter own rows)) -ℤ x) +ℤ sums (λ p. p.memos) (filter own from_tallies)) tax
+        ∙ ap (λ (x : ℤ). ((sums (λ p. p.cash) (filter own rows) -ℤ sums (λ p. p.commission) (filter own rows)) -ℤ sums (λ p. p.tax) (filter own rows)) +ℤ x) memos_sum)
 
     module _ (code_of : Posting → ℕ) (same_code : (t : Tally) (p : Posting) → is_under t p ≡ true → code_of p ≡ code_of (tally_posting t)) (code : ℕ) where
       pub to_rows : Contains (map code_of (filter own from_tallies)) code → Contains (map code_of (filter own rows)) code

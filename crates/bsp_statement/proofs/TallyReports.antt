@@ -46,14 +46,14 @@ both_agree : (agent airline : ℕ) (t : Tally) (p : Posting) → is_under t p �
 both_agree agent airline t p below =
     ap (λ (b : Bool). b && is_of_airline airline p) (of_agent_agrees agent t p below) ∙ ap (λ (b : Bool). is_of_agent agent (tally_posting t) && b) (of_airline_agrees airline t p below)
 
-abbrev pub line_of : ℕ → Figures → List ℕ
-line_of airline f = figures_line (fixed_digits 3 airline) f
+abbrev pub line_of : Bool → ℕ → Figures → List ℕ
+line_of taxed airline f = figures_line taxed (fixed_digits 3 airline) f
 
-abbrev airline_line_of : ℕ → List Posting → List ℕ
-airline_line_of airline ps = figures_line (fixed_digits 3 airline) (figures_of ps)
+abbrev airline_line_of : Bool → ℕ → List Posting → List ℕ
+airline_line_of taxed airline ps = figures_line taxed (fixed_digits 3 airline) (figures_of ps)
 
-abbrev pub text_with : ℕ → List ℕ → List ℕ → Figures → List ℕ
-text_with agent of_period lines f = codes "STATEMENT " ++ (fixed_digits 8 agent ++ (codes " " ++ (of_period ++ (heading ++ (lines ++ figures_line (codes "TOT") f)))))
+abbrev pub text_with : Bool → ℕ → List ℕ → List ℕ → Figures → List ℕ
+text_with taxed agent of_period lines f = codes "STATEMENT " ++ (fixed_digits 8 agent ++ (codes " " ++ (of_period ++ (heading taxed ++ (lines ++ figures_line taxed (codes "TOT") f)))))
 
 abbrev pub agent_net_with : ℕ → Figures → AgentNet
 agent_net_with code f = record { agent = code; net = f.net }
@@ -62,15 +62,15 @@ abbrev pub airline_net_with : ℕ → Figures → AirlineNet
 airline_net_with code f = record { airline = code; net = f.net }
 
 module _ (items : List Item) (memos : List MemoFields) (tallies : List Tally) (are : AreTallies items memos tallies) (period : ℕ) where
-  line_agrees : (agent airline : ℕ) → airline_line (of_agent agent (tally_postings period tallies)) airline ≡ airline_line (of_agent agent (postings period items memos)) airline
-  line_agrees agent airline =
+  line_agrees : (taxed : Bool) (agent airline : ℕ) → airline_line taxed (of_agent agent (tally_postings period tallies)) airline ≡ airline_line taxed (of_agent agent (postings period items memos)) airline
+  line_agrees taxed agent airline =
       let both = λ (p : Posting). is_of_agent agent p && is_of_airline airline p in
-      ap (λ (ps : List Posting). airline_line_of airline ps) (filter_filter (is_of_agent agent) (is_of_airline airline) (tally_postings period tallies))
-      ∙ ap (λ (f : Figures). line_of airline f) (own_figures items memos tallies are period both (both_agree agent airline))
-      ∙ sym (ap (λ (ps : List Posting). airline_line_of airline ps) (filter_filter (is_of_agent agent) (is_of_airline airline) (postings period items memos)))
+      ap (λ (ps : List Posting). airline_line_of taxed airline ps) (filter_filter (is_of_agent agent) (is_of_airline airline) (tally_postings period tallies))
+      ∙ ap (λ (f : Figures). line_of taxed airline f) (own_figures items memos tallies are period both (both_agree agent airline))
+      ∙ sym (ap (λ (ps : List Posting). airline_line_of taxed airline ps) (filter_filter (is_of_agent agent) (is_of_airline airline) (postings period items memos)))
 
-  pub statement_over_rows : (agent : ℕ) (of_period text : List ℕ) → IsStatement agent of_period (of_agent agent (tally_postings period tallies)) text → IsStatement agent of_period (of_agent agent (postings period items memos)) text
-  statement_over_rows agent of_period text is = record {
+  pub statement_over_rows : (taxed : Bool) (agent : ℕ) (of_period text : List ℕ) → IsStatement taxed agent of_period (of_agent agent (tally_postings period tallies)) text → IsStatement taxed agent of_period (of_agent agent (postings period items memos)) text
+  statement_over_rows taxed agent of_period text is = record {
     airlines = is.airlines;
     are = record {
       rising = is.are.rising;
@@ -80,8 +80,8 @@ module _ (items : List Item) (memos : List MemoFields) (tallies : List Tally) (a
       );
     };
     text_is = is.text_is
-        ∙ ap (λ (lines : List ℕ). text_with agent of_period lines (figures_of (of_agent agent (tally_postings period tallies)))) (flat_map_agree _ _ (line_agrees agent) is.airlines)
-        ∙ ap (λ (f : Figures). text_with agent of_period (flat_map (airline_line (of_agent agent (postings period items memos))) is.airlines) f) (own_figures items memos tallies are period (is_of_agent agent) (of_agent_agrees agent));
+        ∙ ap (λ (lines : List ℕ). text_with taxed agent of_period lines (figures_of (of_agent agent (tally_postings period tallies)))) (flat_map_agree _ _ (line_agrees taxed agent) is.airlines)
+        ∙ ap (λ (f : Figures). text_with taxed agent of_period (flat_map (airline_line taxed (of_agent agent (postings period items memos))) is.airlines) f) (own_figures items memos tallies are period (is_of_agent agent) (of_agent_agrees agent));
   }
 
   all_agree : (t : Tally) (p : Posting) → is_under t p ≡ true → true ≡ true

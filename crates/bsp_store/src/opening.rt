@@ -146,7 +146,7 @@ impl<S: Alter + Drop> SqlBook<S> {
     ///
     /// # Errors
     ///
-    /// Each comes with the store. `OtherVersion`, where `meta` has another version than 1. `Damaged`, where the tables
+    /// Each comes with the store. `OtherVersion`, where `meta` has another version than 3. `Damaged`, where the tables
     /// are not those of a book, a row is no row of a book, or the rows are not sound. `NoRoom`, where an allocation is
     /// refused. `Failed` with the error of the store, where it fails for another cause.
     pub fn adopt(alloc: Global, conn: Connection<S>) -> Result<SqlBook<S>, (OpenFault, S)>

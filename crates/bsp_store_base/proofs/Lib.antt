@@ -12,5 +12,9 @@ pub mod Opening
 pub mod Days
 pub mod Keys
 pub mod Orders
+pub mod Placing
+pub mod AirlineLemmas
 pub mod Writes
 pub mod MapTables
+pub mod SecondLemmas
+pub mod ReadBack

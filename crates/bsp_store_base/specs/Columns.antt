@@ -10,12 +10,14 @@ use Rattle.bsp_rows.specs.Days.{day_number}
 use Rattle.bsp_rows.specs.CivilDay.{CivilDay}
 use Rattle.bsp_rows.specs.Period.{Period}
 use Rattle.bsp_rows.specs.Rate.{Rate}
+use Rattle.bsp_rows.specs.CommissionTax.{CommissionTax}
 use Rattle.bsp_rows.specs.Terms.{Terms}
 use Rattle.bsp_rows.specs.Amounts.{Amounts}
 use Rattle.bsp_rows.specs.RetRecordsTexts.{code_text as transaction_code_text}
 use Rattle.bsp_rows.specs.Writing.{tax_text}
 use Rattle.bsp_rows.specs.GroupValues.{related_of}
 use Rattle.bsp_rows.specs.Item.{Item}
+use Rattle.bsp_rows.specs.ReportedDocument.{ReportedDocument}
 use Rattle.bsp_rows.specs.MemoFields.{MemoFields}
 use Rattle.bsp_rows.specs.Texts.{kind_text, state_text}
 use Rattle.bsp_rows.specs.Tally.{Tally}
@@ -23,6 +25,10 @@ use Rattle.bsp_rows.specs.declared.keys.RangeKey.{RangeKey}
 use Rattle.bsp_rows.specs.declared.keys.ItemKey.{ItemKey}
 use Rattle.bsp_rows.specs.declared.keys.MemoKey.{MemoKey}
 use Rattle.bsp_rows.specs.declared.keys.TallyKey.{TallyKey}
+use Rattle.bsp_store_base.specs.declared.airlines.AirlineEntry.{AirlineEntry}
+use Rattle.bsp_store_base.specs.declared.taxes.ItemTax.{ItemTax}
+use Rattle.bsp_store_base.specs.declared.tickets.TicketKey.{TicketKey}
+use Rattle.bsp_store_base.specs.Taxes.{tax_with}
 
 -- ---- values
 
@@ -61,7 +67,7 @@ only_id = Int (pos 1)
 
 -- the version of the tables
 abbrev pub version : ℕ
-version = 1
+version = 3
 
 -- the business day, and how many periods are closed
 pub record Meta : Type 0 where
@@ -82,11 +88,14 @@ abbrev pub terms_rows : Option Terms → List Row
 terms_rows None = []
 terms_rows (Some terms) = terms_row terms ∷ []
 
-abbrev pub airline_row : ℕ × ℕ → Row
-airline_row e = airline_text e.1 ∷ count e.0 ∷ []
+abbrev pub airline_row : ℕ × AirlineEntry → Row
+airline_row e = airline_text e.0 ∷ or_null count e.1.place ∷ or_null Text e.1.token ∷ []
 
 abbrev pub rate_row : ℕ × Rate → Row
 rate_row e = airline_text e.1.airline ∷ Int (day_number e.1.from) ∷ count e.0 ∷ count e.1.hundredths ∷ []
+
+abbrev pub commission_tax_row : ℕ × CommissionTax → Row
+commission_tax_row e = Int (day_number e.1.from) ∷ count e.0 ∷ count e.1.hundredths ∷ []
 
 abbrev pub period_row : ℕ × Period → Row
 period_row e = period_text e.1.code ∷ count e.0 ∷ Int (day_number e.1.first) ∷ Int (day_number e.1.last) ∷ Int (day_number e.1.remittance) ∷ []
@@ -96,17 +105,15 @@ period_row e = period_text e.1.code ∷ count e.0 ∷ Int (day_number e.1.first)
 abbrev pub agent_row : ℕ × List ℕ → Row
 agent_row e = agent_text e.0 ∷ Text e.1 ∷ []
 
-abbrev pub airline_token_row : ℕ × List ℕ → Row
-airline_token_row e = airline_text e.0 ∷ Text e.1 ∷ []
-
 abbrev pub stock_row : RangeKey × ℕ → Row
 stock_row e = agent_text e.0.agent ∷ number_text e.0.first ∷ number_text e.1 ∷ []
 
--- ---- items, memos and tallies
+-- ---- items, memos and tallies, with their taxes
 
 abbrev pub taxes_text : Amounts → Value
 taxes_text a = Text (concat (map tax_text a.taxes))
 
+-- without its tax, and without a second related document
 abbrev pub item_row : ItemKey × Item → Row
 item_row e = let t = e.1.transaction in
     agent_text e.0.agent ∷ number_text e.0.number ∷ flag e.0.is_canx
@@ -115,12 +122,25 @@ item_row e = let t = e.1.transaction in
     ∷ or_null (λ d. airline_text d.airline) (related_of t) ∷ or_null (λ d. Text d.number) (related_of t)
     ∷ or_null Int t.cash ∷ or_null (λ p. Int p.amount) t.credit ∷ or_null Int t.exchange ∷ or_null (λ p. Text p.vendor) t.credit ∷ []
 
+abbrev pub tax_row : ItemKey × ItemTax → Row
+tax_row e = agent_text e.0.agent ∷ number_text e.0.number ∷ flag e.0.is_canx ∷ Int e.1.tax ∷ count e.1.hundredths ∷ []
+
+abbrev pub item_tax_row : ItemKey × Item → Row
+item_tax_row e = tax_row (e.0, tax_with e.1)
+
+abbrev pub second_row : TicketKey × ReportedDocument → Row
+second_row e = agent_text e.0.agent ∷ number_text e.0.number ∷ airline_text e.1.airline ∷ Text e.1.number ∷ []
+
 abbrev pub memo_row : MemoKey × MemoFields → Row
 memo_row e = let m = e.1 in
     airline_text e.0.airline ∷ number_text e.0.document ∷ agent_text m.agent ∷ Text (kind_text m.kind) ∷ Int m.amount ∷ Int m.issued_amount ∷ Text m.reason ∷ Int (day_number m.issued)
     ∷ Text (state_text m.state) ∷ or_null period_text m.billed ∷ []
 
+-- without its tax
 abbrev pub tally_row : TallyKey × Tally → Row
 tally_row e = let t = e.1 in
     agent_text e.0.agent ∷ airline_text e.0.airline ∷ period_text e.0.period ∷ count t.accepted ∷ count t.living ∷ count t.canx ∷ count t.memo_count
     ∷ Int t.cash ∷ Int t.credit ∷ Int t.commission ∷ Int t.memos ∷ []
+
+abbrev pub tally_tax_row : TallyKey × Tally → Row
+tally_tax_row e = agent_text e.0.agent ∷ airline_text e.0.airline ∷ period_text e.0.period ∷ Int e.1.tax ∷ []

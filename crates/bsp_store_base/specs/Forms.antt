@@ -8,15 +8,21 @@ use Rattle.bsp_rows.specs.Tokens.{is_token}
 use Rattle.bsp_rows.specs.Letters.{currency_reading}
 use Rattle.bsp_rows.specs.Period.{Period}
 use Rattle.bsp_rows.specs.Rate.{Rate}
+use Rattle.bsp_rows.specs.CommissionTax.{CommissionTax}
 use Rattle.bsp_rows.specs.Terms.{Terms}
-use Rattle.bsp_rows.specs.Stored.{IsStored}
+use Rattle.bsp_rows.specs.Stored.{IsStored, IsStoredAmount, IsStoredDocument}
 use Rattle.bsp_rows.specs.Item.{Item}
+use Rattle.bsp_rows.specs.ReportedDocument.{ReportedDocument}
 use Rattle.bsp_rows.specs.MemoFields.{MemoFields}
 use Rattle.bsp_rows.specs.Reasons.{is_reason}
 use Rattle.bsp_rows.specs.declared.keys.RangeKey.{RangeKey}
 use Rattle.bsp_rows.specs.declared.keys.ItemKey.{ItemKey}
 use Rattle.bsp_rows.specs.declared.keys.MemoKey.{MemoKey}
 use Rattle.bsp_rows.specs.declared.keys.TallyKey.{TallyKey}
+use Rattle.bsp_store_base.specs.declared.airlines.AirlineEntry.{AirlineEntry}
+use Rattle.bsp_store_base.specs.declared.taxes.ItemTax.{ItemTax}
+use Rattle.bsp_store_base.specs.declared.tickets.TicketKey.{TicketKey}
+use Rattle.bsp_store_base.specs.Airlines.{HasStoredPlace}
 use Rattle.bsp_store_base.specs.Columns.{Meta}
 use Rattle.bsp_store_base.specs.Content.{Content}
 
@@ -39,6 +45,10 @@ pub record IsRate (rate : Rate) : Type 0 where
   pub has_day : IsTrue (is_day rate.from)
   pub has_hundredths : rate.hundredths < 2 ^ 16
 
+pub record IsCommissionTax (tax : CommissionTax) : Type 0 where
+  pub has_day : IsTrue (is_day tax.from)
+  pub has_hundredths : tax.hundredths < 2 ^ 16
+
 pub record IsPeriod (period : Period) : Type 0 where
   pub has_code : period.code < 10 ^ 5
   pub has_first : IsTrue (is_day period.first)
@@ -56,9 +66,10 @@ pub record IsAgentEntry (e : ℕ × List ℕ) : Type 0 where
   pub agent : IsAgent e.0
   pub token : is_token e.1 ≡ true
 
-pub record IsAirlineEntry (e : ℕ × List ℕ) : Type 0 where
+pub record IsAirlineEntry (e : ℕ × AirlineEntry) : Type 0 where
   pub airline : IsAirline e.0
-  pub token : is_token e.1 ≡ true
+  pub place : HasStoredPlace e.1
+  pub token : IfSome e.1.token (λ token. is_token token ≡ true)
 
 pub record IsRangeEntry (e : RangeKey × ℕ) : Type 0 where
   pub agent : IsAgent e.0.agent
@@ -72,6 +83,19 @@ pub record IsItemEntry (e : ItemKey × Item) : Type 0 where
   pub number : e.0.number < 10 ^ 10
   pub period : e.1.period < 10 ^ 5
   pub stored : IsStored e.1.transaction
+  pub tax : IsStoredAmount e.1.tax
+  pub hundredths : e.1.hundredths < 2 ^ 16
+
+pub record IsTaxEntry (e : ItemKey × ItemTax) : Type 0 where
+  pub agent : IsAgent e.0.agent
+  pub number : e.0.number < 10 ^ 10
+  pub tax : IsStoredAmount e.1.tax
+  pub hundredths : e.1.hundredths < 2 ^ 16
+
+pub record IsSecondEntry (e : TicketKey × ReportedDocument) : Type 0 where
+  pub agent : IsAgent e.0.agent
+  pub number : e.0.number < 10 ^ 10
+  pub document : IsStoredDocument e.1
 
 pub record IsMemoEntry (e : MemoKey × MemoFields) : Type 0 where
   pub airline : IsAirline e.0.airline
@@ -88,22 +112,25 @@ pub record IsTallyKey (k : TallyKey) : Type 0 where
 
 -- ---- a content
 
--- the places of the plan's entries are integers of a store
+-- the places of rates, periods and commission taxes are integers of a store
 pub record ArePlaces (c : Content) : Type 0 where
-  pub airlines : length c.published < 2 ^ 63
   pub rates : length c.rates < 2 ^ 63
   pub periods : length c.periods < 2 ^ 63
+  pub commission_taxes : length c.commission_taxes < 2 ^ 63
 
 pub record IsFormed (c : Content) : Type 0 where
   pub places : ArePlaces c
   pub meta : IfSome c.meta IsMeta
   pub terms : IfSome c.terms AreTerms
-  pub published : AllByRecursion IsAirline c.published
+  pub airlines : AllByRecursion IsAirlineEntry (entries c.airlines)
   pub rates : AllByRecursion IsRate c.rates
   pub periods : AllByRecursion IsPeriod c.periods
   pub agents : AllByRecursion IsAgentEntry (entries c.agents)
-  pub airlines : AllByRecursion IsAirlineEntry (entries c.airlines)
   pub ranges : AllByRecursion IsRangeEntry (entries c.ranges)
   pub items : AllByRecursion IsItemEntry (entries c.items)
   pub memos : AllByRecursion IsMemoEntry (entries c.memos)
   pub tallies : AllByRecursion (λ e. IsTallyKey e.0) (entries c.tallies)
+  pub commission_taxes : AllByRecursion IsCommissionTax c.commission_taxes
+  pub item_taxes : AllByRecursion IsItemEntry (entries c.item_taxes)
+  pub tally_taxes : AllByRecursion (λ e. IsTallyKey e.0) (entries c.tally_taxes)
+  pub seconds : AllByRecursion IsSecondEntry (entries c.seconds)

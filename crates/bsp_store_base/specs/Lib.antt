@@ -2,6 +2,9 @@ pub mod Kept
 pub mod Simple
 pub mod Synced
 pub mod Columns
+pub mod Airlines
+pub mod Seconds
+pub mod Taxes
 pub mod Reading
 pub mod Content
 pub mod Calls

@@ -6,6 +6,7 @@ use Rattle.sqlite_value.specs.declared.value.Value.TheVariants.{Null, Int, Text}
 use Rattle.bsp_rows.specs.CivilDay.{CivilDay, is_day}
 use Rattle.bsp_rows.specs.Codes.{agent_reading, code_reading}
 use Rattle.bsp_rows.specs.Days.{day_number}
+use Rattle.bsp_rows.specs.Tokens.{token_reading}
 use Rattle.bsp_rows.specs.Zoned.{within}
 
 abbrev pub is_null : Value → Bool
@@ -32,6 +33,9 @@ agent_in v = option_and_then (λ t. result_ok (agent_reading t)) (text_in v)
 -- a code of that many digits: an airline has 3, a period 5, and a document's number 10
 abbrev pub code_in : ℕ → Value → Option ℕ
 code_in width v = option_and_then (λ t. result_ok (code_reading width t)) (text_in v)
+
+abbrev pub token_in : Value → Option (List ℕ)
+token_in v = option_and_then token_reading (text_in v)
 
 abbrev pub amount_in : Value → Option ℤ
 amount_in v = option_and_then (λ n. result_ok (within 99_999_999_999 n)) (int_in v)

@@ -3,9 +3,9 @@
 ghost use Rattle.std.specs.Prelude.{◌≡◌, IfSome};
 ghost use Rattle.sqlite_value.specs.Order.{column};
 ghost use Rattle.bsp_store_base.specs.Columns.{agent_text, airline_text, number_text, period_text};
-ghost use Rattle.bsp_store_base.specs.Reading.{IsDayIn, agent_in, amount_in, below, code_in, int_in, is_null};
+ghost use Rattle.bsp_store_base.specs.Reading.{IsDayIn, agent_in, amount_in, below, code_in, int_in, is_null, token_in};
 
-use bsp_rows::{AgentCode, AirlineCode, Amount, Day, DocNumber, PeriodCode};
+use bsp_rows::{AgentCode, AirlineCode, Amount, Day, DocNumber, PeriodCode, Token};
 use sqlite::Row;
 use sqlite_value::value::ValueRef;
 
@@ -80,6 +80,16 @@ pub fn number_at(row: &Row, at: usize) -> Option<DocNumber>
 {
     match row.get_ref(at) {
         Ok(ValueRef::Text(text)) => DocNumber::read_unchecked(text).ok(),
+        _ => None,
+    }
+}
+
+/// The token in a column.
+pub fn token_at(row: &Row, at: usize) -> Option<Token>
+    ensures { result ≡ token_in (column row.now at) }
+{
+    match row.get_ref(at) {
+        Ok(ValueRef::Text(text)) => Token::read(text),
         _ => None,
     }
 }

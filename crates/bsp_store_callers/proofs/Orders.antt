@@ -4,9 +4,9 @@ use Rattle.std.specs.FinMap.{entries}
 use Rattle.sqlite_trees.specs.Tree.{IsAscending}
 use Rattle.bsp_store_base.proofs.Rising.{IsBefore, entries_rise, rows_rise}
 use Rattle.bsp_rows.specs.Rows.{range_cmp}
-use Rattle.bsp_store_base.specs.Columns.{agent_row, airline_token_row, stock_row}
+use Rattle.bsp_store_base.specs.Columns.{agent_row, stock_row}
 use Rattle.bsp_store_base.specs.Content.{Content}
-use Rattle.bsp_store_base.specs.Forms.{IsFormed, IsAgentEntry, IsAirlineEntry, IsRangeEntry}
+use Rattle.bsp_store_base.specs.Forms.{IsFormed, IsAgentEntry, IsRangeEntry}
 use Rattle.bsp_store_base.proofs.Orders.{code_order, one_order, two_orders}
 use Rattle.bsp_store_callers.proofs.Texts.{by_code, by_range}
 
@@ -14,11 +14,6 @@ pub agents_rise : (c : Content) → IsFormed c → IsAscending (IsBefore by_code
 agents_rise c formed =
     rows_rise IsAgentEntry (λ a b. nat_cmp a.0 b.0 ≡ Less) (IsBefore by_code) agent_row
     (λ a b f g less. one_order _ _ (code_order 8 a.0 b.0 f.agent.has_digits g.agent.has_digits) ∙ less) (entries c.agents) formed.agents (entries_rise nat_cmp c.agents)
-
-pub airline_tokens_rise : (c : Content) → IsFormed c → IsAscending (IsBefore by_code) (map airline_token_row (entries c.airlines))
-airline_tokens_rise c formed =
-    rows_rise IsAirlineEntry (λ a b. nat_cmp a.0 b.0 ≡ Less) (IsBefore by_code) airline_token_row
-    (λ a b f g less. one_order _ _ (code_order 3 a.0 b.0 f.airline.has_digits g.airline.has_digits) ∙ less) (entries c.airlines) formed.airlines (entries_rise nat_cmp c.airlines)
 
 pub ranges_rise : (c : Content) → IsFormed c → IsAscending (IsBefore by_range) (map stock_row (entries c.ranges))
 ranges_rise c formed =

@@ -11,9 +11,9 @@ use Rattle.sqlite_tied.specs.Compute.{everything}
 use Rattle.sqlite.specs.Listing.{understood, reads_listing}
 use Rattle.sqlite.proofs.Callers.{IsPlain, command_of}
 use Rattle.bsp_store_base.specs.Simple.{simple}
-use Rattle.bsp_store_base.specs.Schema.{our_schema, agent_columns, agent_table, airline_token_columns, airline_token_table, stock_columns, stock_table}
+use Rattle.bsp_store_base.specs.Schema.{our_schema, agent_columns, agent_table, stock_columns, stock_table}
 use Rattle.bsp_store_base.proofs.MapTables.{change, deletion, insertion}
-use Rattle.bsp_store_callers.proofs.CallerTables.{agents_table, airline_tokens_table, ranges_table}
+use Rattle.bsp_store_callers.proofs.CallerTables.{agents_table, ranges_table}
 
 -- ---- agents
 
@@ -51,39 +51,6 @@ by_code = (col 1 1, ascending Binary) ∷ []
 pub all_agents_is : (command_of (understood our_schema agents_query) ≡ Select (record { lets = []; body = simple agent_table.tree [] (map (col 1) (range_with_len 1 2)) by_code }) agent_names) × IsPlain (understood our_schema agents_query) × (reads_listing our_schema agents_query ≡ false)
 unfolding understood everything
 all_agents_is = (refl, (refl, refl), refl)
-
--- ---- the tokens of airlines
-
-abbrev pub delete_airline_token : List ℕ
-delete_airline_token = codes "DELETE FROM airline_token WHERE airline = ?1"
-
-pub delete_airline_token_is : (command_of (understood our_schema delete_airline_token) ≡ deletion airline_tokens_table) × IsPlain (understood our_schema delete_airline_token)
-unfolding understood everything
-delete_airline_token_is = (refl, (refl, refl))
-
-abbrev pub insert_airline_token : List ℕ
-insert_airline_token = codes "INSERT INTO airline_token (airline, token) VALUES (?1, ?2)"
-
-pub insert_airline_token_is : (command_of (understood our_schema insert_airline_token) ≡ insertion airline_tokens_table) × IsPlain (understood our_schema insert_airline_token)
-unfolding understood everything
-insert_airline_token_is = (refl, (refl, refl))
-
-abbrev pub update_airline_token : List ℕ
-update_airline_token = codes "UPDATE airline_token SET token = ?2 WHERE airline = ?1"
-
-pub update_airline_token_is : (command_of (understood our_schema update_airline_token) ≡ change airline_tokens_table) × IsPlain (understood our_schema update_airline_token)
-unfolding understood everything
-update_airline_token_is = (refl, (refl, refl))
-
-abbrev pub airline_tokens_query : List ℕ
-airline_tokens_query = codes "SELECT airline, token FROM airline_token ORDER BY airline"
-
-abbrev pub airline_token_names : List (List ℕ)
-airline_token_names = map (λ (c : Column). c.name) airline_token_columns
-
-pub all_airline_tokens_is : (command_of (understood our_schema airline_tokens_query) ≡ Select (record { lets = []; body = simple airline_token_table.tree [] (map (col 1) (range_with_len 1 2)) by_code }) airline_token_names) × IsPlain (understood our_schema airline_tokens_query) × (reads_listing our_schema airline_tokens_query ≡ false)
-unfolding understood everything
-all_airline_tokens_is = (refl, (refl, refl), refl)
 
 -- ---- ranges
 

@@ -1,20 +1,14 @@
--- The texts of agents' rows, of rows of airlines' tokens and of ranges.
+-- The texts of rows of agents and of ranges.
 use Rattle.std.specs.Prelude.{[], ◌∷◌}
 use Rattle.sqlite_value.specs.declared.value.Value.TheVariants.{Text}
 use Rattle.sqlite_value.specs.Order.{Row}
 use Rattle.bsp_store_callers.specs.declared.agents.AgentRow.{AgentRow}
-use Rattle.bsp_store_callers.specs.declared.airline_tokens.AirlineTokenRow.{AirlineTokenRow}
 use Rattle.bsp_store_callers.specs.declared.ranges.RangeRow.{RangeRow}
 
 -- ---- agents
 
 abbrev pub agent_texts : AgentRow → Row
 agent_texts row = Text row.code ∷ Text row.token ∷ []
-
--- ---- the tokens of airlines
-
-abbrev pub airline_texts : AirlineTokenRow → Row
-airline_texts row = Text row.airline ∷ Text row.token ∷ []
 
 -- ---- ranges
 

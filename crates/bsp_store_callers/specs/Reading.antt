@@ -1,19 +1,11 @@
 -- What a row of each table reads as, whatever its form.
 use Rattle.std.specs.Prelude.{ℕ, List, Option, option_map, option_and_then}
-use Rattle.sqlite_value.specs.declared.value.Value.{Value}
 use Rattle.sqlite_value.specs.Order.{Row, column}
-use Rattle.bsp_rows.specs.Tokens.{token_reading}
 use Rattle.bsp_rows.specs.declared.keys.RangeKey.{RangeKey}
-use Rattle.bsp_store_base.specs.Reading.{text_in, agent_in as agent_code_in, code_in}
-
-abbrev pub token_in : Value → Option (List ℕ)
-token_in value = option_and_then token_reading (text_in value)
+use Rattle.bsp_store_base.specs.Reading.{agent_in as agent_code_in, code_in, token_in}
 
 abbrev pub agent_in : Row → Option (ℕ × List ℕ)
 agent_in row = option_and_then (λ code. option_map (λ token. (code, token)) (token_in (column row 1))) (agent_code_in (column row 0))
-
-abbrev pub airline_token_in : Row → Option (ℕ × List ℕ)
-airline_token_in row = option_and_then (λ code. option_map (λ token. (code, token)) (token_in (column row 1))) (code_in 3 (column row 0))
 
 abbrev pub range_in : Row → Option (RangeKey × ℕ)
 range_in row =

@@ -1,15 +1,13 @@
-//! The tables of a book's callers: agents, the tokens of airlines, and ranges of stock.
+//! The tables of agents and of their ranges of stock.
 //!
 //! Each table has a row that is made from an entry, and a write that leaves a value or none at a
 //! key. It also has the text of a query for all its rows, and a reader of one row.
 #![tactic(auto)]
 
 mod agents;
-mod airline_tokens;
 mod ranges;
 mod reading;
 
 pub use agents::{AgentRow, agents_query, put_agent};
-pub use airline_tokens::{AirlineTokenRow, airline_tokens_query, put_airline_token};
 pub use ranges::{RangeRow, put_range, ranges_query};
-pub use reading::{read_agent, read_airline_token, read_range};
+pub use reading::{read_agent, read_range};

@@ -28,7 +28,7 @@ impl fmt::Display for Damage {
             Damage::Row(table, key) => write!(f, "{table}{key}"),
             Damage::Count(table) => write!(f, "{table} has too few rows or too many"),
             Damage::Plan => f.write_str(
-                "no plan has these terms, airlines, rates, periods and closes",
+                "no plan has these terms, airlines, rates, taxes, periods and closes",
             ),
             Damage::Rows => f.write_str(
                 "ranges meet, two items relate to one ticket, or a limit is passed",

@@ -1,6 +1,7 @@
 //! The key of a row as text: each column after a space, texts between quotes.
 
 use bsp_rows::{ItemKey, MemoKey, RangeKey};
+use bsp_store_base::TicketKey;
 use sqlite::Row;
 use sqlite_value::value::ValueRef;
 use std::alloc::{AllocError, Global};
@@ -40,6 +41,11 @@ pub(crate) fn range_key(alloc: Global, key: &RangeKey) -> Result<String, AllocEr
 pub(crate) fn item_key(alloc: Global, key: &ItemKey) -> Result<String, AllocError> {
     let (agent, number, canx) = (key.agent, key.number, key.is_canx as u8);
     format!(in alloc; " \"{agent}\" \"{number}\" {canx}")
+}
+
+pub(crate) fn ticket_key(alloc: Global, key: &TicketKey) -> Result<String, AllocError> {
+    let (agent, number) = (key.agent, key.number);
+    format!(in alloc; " \"{agent}\" \"{number}\"")
 }
 
 pub(crate) fn memo_key(alloc: Global, key: &MemoKey) -> Result<String, AllocError> {

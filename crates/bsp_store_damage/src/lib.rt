@@ -3,6 +3,7 @@
 //! [`find_damage`] looks for it in a store that was refused as damaged, and [`Damage`] is a line's end for an operator.
 #![tactic(auto)]
 
+mod beside;
 mod damage;
 mod key;
 mod rows;

@@ -2,20 +2,24 @@
 
 ghost use Rattle.bsp_store_load.specs.Kept.{Spares};
 
+use crate::beside::{first_spare_second, first_spare_tax};
 use crate::damage::Damage;
-use crate::key::{item_key, memo_key, range_key, row_key};
+use crate::key::{item_key, memo_key, range_key, row_key, ticket_key};
 use crate::rows::first_unwritten;
 use crate::schema::schema_damage;
 use crate::tables::Table;
 use crate::tallies::{first_wrong, used};
 use bsp_memory_rows::Tables;
-use bsp_rows::Unsound;
+use bsp_rows::{ItemKey, ReportedDocument, Unsound};
+use bsp_store_base::{ItemTax, TicketKey};
 use bsp_store_load::{
-    Agents, AirlineTokens, PlanRows, Ranges, StoredItems, StoredMemos, StoredTable, plan_tables,
+    Agents, PlanRows, Ranges, StoredItems, StoredMemos, StoredSeconds, StoredTable, StoredTaxes,
+    plan_tables,
 };
-use bsp_store_open::{OpenFault, load_rows, plan_rows, tallies};
+use bsp_store_open::{OpenFault, load_rows, plan_rows, tallies, tally_taxes};
 use sqlite::{Alter, Connection, Row};
 use std::alloc::{AllocError, Global};
+use std::collections::BTreeMap;
 
 fn at_row(alloc: Global, table: Table, row: &Row) -> Result<Damage, AllocError> {
     let key = row_key(alloc, row, table.key_columns())?;
@@ -45,22 +49,22 @@ fn plan_damage(alloc: Global, rows: &PlanRows) -> Result<Option<Damage>, AllocEr
 }
 
 /// The first row of a table that no office writes; those before it are put into memory.
-fn row_damage<S: Alter, K, V, T: StoredTable<K, V>>(
+fn row_damage<S: Alter, K, V, M, T: StoredTable<K, V, M>>(
     alloc: Global,
     conn: &mut Connection<S>,
-    tables: &mut Tables,
+    memory: &mut M,
     table: Table,
     stored: &T,
 ) -> Result<Option<Damage>, OpenFault>
     ensures spares { Spares S.Store conn.old conn.new }
 {
-    match load_rows(stored, conn, tables)? {
+    match load_rows(stored, conn, memory)? {
         Some(row) => Ok(Some(at_row(alloc, table, &row)?)),
         None => Ok(None),
     }
 }
 
-/// The first row of the tables of callers that no office writes.
+/// The first row of agents and ranges that no office writes.
 fn caller_damage<S: Alter>(
     alloc: Global,
     conn: &mut Connection<S>,
@@ -71,24 +75,104 @@ fn caller_damage<S: Alter>(
     if let Some(damage) = row_damage(alloc, conn, tables, Table::Agent, &Agents)? {
         return Ok(Some(damage));
     }
-    if let Some(damage) = row_damage(alloc, conn, tables, Table::AirlineToken, &AirlineTokens)? {
-        return Ok(Some(damage));
-    }
     row_damage(alloc, conn, tables, Table::Stock, &Ranges)
 }
 
-/// The first row of items and memos that no office writes.
+/// The first row of the taxes of items and of second related documents that no office writes.
+fn beside_damage<S: Alter>(
+    alloc: Global,
+    conn: &mut Connection<S>,
+    taxes: &mut BTreeMap<ItemKey, ItemTax>,
+    seconds: &mut BTreeMap<TicketKey, ReportedDocument>,
+) -> Result<Option<Damage>, OpenFault>
+    ensures spares { Spares S.Store conn.old conn.new }
+{
+    if let Some(damage) = row_damage(alloc, conn, taxes, Table::ItemTax, &StoredTaxes)? {
+        return Ok(Some(damage));
+    }
+    row_damage(alloc, conn, seconds, Table::SecondRelated, &StoredSeconds)
+}
+
+/// The first row of items, with these taxes and second related documents, and of memos that no office writes.
 fn sale_damage<S: Alter>(
+    alloc: Global,
+    conn: &mut Connection<S>,
+    tables: &mut Tables,
+    taxes: &BTreeMap<ItemKey, ItemTax>,
+    seconds: &BTreeMap<TicketKey, ReportedDocument>,
+) -> Result<Option<Damage>, OpenFault>
+    ensures spares { Spares S.Store conn.old conn.new }
+{
+    let items = StoredItems { taxes, seconds };
+    if let Some(damage) = row_damage(alloc, conn, tables, Table::Item, &items)? {
+        return Ok(Some(damage));
+    }
+    row_damage(alloc, conn, tables, Table::Memo, &StoredMemos)
+}
+
+/// The first tax and the first second related document that is of no item.
+fn spare_damage(
+    alloc: Global,
+    tables: &Tables,
+    taxes: &BTreeMap<ItemKey, ItemTax>,
+    seconds: &BTreeMap<TicketKey, ReportedDocument>,
+) -> Result<Option<Damage>, AllocError> {
+    if let Some(key) = first_spare_tax(taxes, tables.item_table()) {
+        return Ok(Some(Damage::Row(Table::ItemTax, item_key(alloc, key)?)));
+    }
+    match first_spare_second(seconds, tables.item_table()) {
+        Some(ticket) => Ok(Some(Damage::Row(Table::SecondRelated, ticket_key(alloc, ticket)?))),
+        None => Ok(None),
+    }
+}
+
+/// What damages the items and the memos, which are put into memory, with what is kept beside the items.
+fn document_damage<S: Alter>(
     alloc: Global,
     conn: &mut Connection<S>,
     tables: &mut Tables,
 ) -> Result<Option<Damage>, OpenFault>
     ensures spares { Spares S.Store conn.old conn.new }
 {
-    if let Some(damage) = row_damage(alloc, conn, tables, Table::Item, &StoredItems)? {
+    let mut taxes = BTreeMap::new(alloc);
+    let mut seconds = BTreeMap::new(alloc);
+    if let Some(damage) = beside_damage(alloc, conn, &mut taxes, &mut seconds)? {
         return Ok(Some(damage));
     }
-    row_damage(alloc, conn, tables, Table::Memo, &StoredMemos)
+    if let Some(damage) = sale_damage(alloc, conn, tables, &taxes, &seconds)? {
+        return Ok(Some(damage));
+    }
+    Ok(spare_damage(alloc, tables, &taxes, &seconds)?)
+}
+
+/// The row of tallies, or of their taxes, that is not what the rows add up to, or the table that has too few or too many.
+fn tally_damage(
+    alloc: Global,
+    table: Table,
+    stored: &[Row],
+    tables: &Tables,
+) -> Result<Option<Damage>, AllocError> {
+    if let Some(row) = first_wrong(table, stored, tables.tally_table()) {
+        return Ok(Some(at_row(alloc, table, row)?));
+    }
+    if stored.len() != used(tables.tally_table()) {
+        return Ok(Some(Damage::Count(table)));
+    }
+    Ok(None)
+}
+
+/// What damages the tallies, with their taxes.
+fn sum_damage<S: Alter>(
+    alloc: Global,
+    conn: &mut Connection<S>,
+    tables: &Tables,
+) -> Result<Option<Damage>, OpenFault>
+    ensures spares { Spares S.Store conn.old conn.new }
+{
+    if let Some(damage) = tally_damage(alloc, Table::Tally, &tallies(conn)?, tables)? {
+        return Ok(Some(damage));
+    }
+    Ok(tally_damage(alloc, Table::TallyTax, &tally_taxes(conn)?, tables)?)
 }
 
 /// The row that breaks a rule of the audit.
@@ -101,14 +185,8 @@ fn at_key(alloc: Global, found: &Unsound) -> Result<Damage, AllocError> {
     Ok(Damage::Row(table, key))
 }
 
-/// The tally that is not what the rows add up to, if there is one, or the row that breaks a rule of the audit.
-fn table_damage(alloc: Global, stored: &[Row], tables: &Tables) -> Result<Damage, AllocError> {
-    if let Some(row) = first_wrong(stored, tables.tally_table()) {
-        return at_row(alloc, Table::Tally, row);
-    }
-    if stored.len() != used(tables.tally_table()) {
-        return Ok(Damage::Count(Table::Tally));
-    }
+/// The row that breaks a rule of the audit, or a rule on many rows.
+fn audit_damage(alloc: Global, tables: &Tables) -> Result<Damage, AllocError> {
     match tables.first_unsound(alloc)? {
         Some(found) => at_key(alloc, &found),
         None => Ok(Damage::Rows),
@@ -126,11 +204,13 @@ fn rest_damage<S: Alter>(
     if let Some(damage) = caller_damage(alloc, conn, tables)? {
         return Ok(damage);
     }
-    if let Some(damage) = sale_damage(alloc, conn, tables)? {
+    if let Some(damage) = document_damage(alloc, conn, tables)? {
         return Ok(damage);
     }
-    let stored = tallies(conn)?;
-    Ok(table_damage(alloc, &stored, tables)?)
+    if let Some(damage) = sum_damage(alloc, conn, tables)? {
+        return Ok(damage);
+    }
+    Ok(audit_damage(alloc, tables)?)
 }
 
 /// What damages the rows of a book's tables.

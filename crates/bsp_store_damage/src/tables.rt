@@ -11,7 +11,7 @@ pub enum Table {
     Meta,
     /// Terms of the market.
     Terms,
-    /// Published airlines.
+    /// Airlines that are published or registered.
     Airline,
     /// Rates of commission.
     Rate,
@@ -19,8 +19,6 @@ pub enum Table {
     Period,
     /// Tokens of agents.
     Agent,
-    /// Tokens of airlines.
-    AirlineToken,
     /// Ranges of stock.
     Stock,
     /// Items.
@@ -29,30 +27,42 @@ pub enum Table {
     Memo,
     /// Tallies.
     Tally,
+    /// Taxes on commission.
+    CommissionTax,
+    /// The tax on the commission of each item.
+    ItemTax,
+    /// The tax of each tally.
+    TallyTax,
+    /// The second related documents of tickets.
+    SecondRelated,
 }
 
 /// The tables in the order in which they are made.
-pub(crate) const TABLES: [Table; 11] = [
+pub(crate) const TABLES: [Table; 14] = [
     Table::Meta,
     Table::Terms,
     Table::Airline,
     Table::Rate,
     Table::Period,
     Table::Agent,
-    Table::AirlineToken,
     Table::Stock,
     Table::Item,
     Table::Memo,
     Table::Tally,
+    Table::CommissionTax,
+    Table::ItemTax,
+    Table::TallyTax,
+    Table::SecondRelated,
 ];
 
 /// The tables of the plan.
-pub(crate) const PLAN_TABLES: [Table; 5] = [
+pub(crate) const PLAN_TABLES: [Table; 6] = [
     Table::Meta,
     Table::Terms,
     Table::Airline,
     Table::Rate,
     Table::Period,
+    Table::CommissionTax,
 ];
 
 impl Table {
@@ -65,25 +75,24 @@ impl Table {
             Table::Rate => "rate",
             Table::Period => "period",
             Table::Agent => "agent",
-            Table::AirlineToken => "airline_token",
             Table::Stock => "stock",
             Table::Item => "item",
             Table::Memo => "memo",
             Table::Tally => "tally",
+            Table::CommissionTax => "commission_tax",
+            Table::ItemTax => "item_tax",
+            Table::TallyTax => "tally_tax",
+            Table::SecondRelated => "second_related",
         }
     }
 
     /// How many columns its key has; they are its first.
     pub(crate) fn key_columns(self) -> usize {
         match self {
-            Table::Meta
-            | Table::Terms
-            | Table::Airline
-            | Table::Period
-            | Table::Agent
-            | Table::AirlineToken => 1,
-            Table::Rate | Table::Stock | Table::Memo => 2,
-            Table::Item | Table::Tally => 3,
+            Table::Meta | Table::Terms | Table::Airline => 1,
+            Table::Period | Table::Agent | Table::CommissionTax => 1,
+            Table::Rate | Table::Stock | Table::Memo | Table::SecondRelated => 2,
+            Table::Item | Table::ItemTax | Table::Tally | Table::TallyTax => 3,
         }
     }
 
@@ -95,6 +104,7 @@ impl Table {
             Table::Airline => &rows.airlines,
             Table::Rate => &rows.rates,
             Table::Period => &rows.periods,
+            Table::CommissionTax => &rows.commission_taxes,
             _ => &[],
         }
     }

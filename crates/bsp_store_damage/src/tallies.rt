@@ -1,25 +1,40 @@
-//! Whether tallies are those that the rows add up to.
+//! Whether the rows of tallies, and of their taxes, are those that the rows of the book add up to.
 
 use crate::tables::Table;
 use bsp_memory_tables::TallyTable;
+use bsp_rows::{Tally, TallyKey};
 use bsp_store_load::is_row;
-use bsp_store_memos::{TallyRow, read_tally};
+use bsp_store_memos::{TallyRow, read_tally_key};
+use bsp_store_taxes::TallyTaxRow;
 use sqlite::Row;
 
-fn is_sum(row: &Row, table: &TallyTable) -> bool {
-    match read_tally(row) {
-        Some((key, tally)) => {
-            is_row(row, &TallyRow::of(&key, &tally).values())
-                && table.map().get(&key).copied() == Some(tally)
-        }
+/// Whether a row of a table is that of a tally.
+fn is_sum(table: Table, row: &Row, key: &TallyKey, tally: &Tally) -> bool {
+    match table {
+        Table::TallyTax => is_row(row, &TallyTaxRow::of(key, tally).values()),
+        _ => is_row(row, &TallyRow::of(key, tally).values()),
+    }
+}
+
+/// Whether a row of a table is that of the tally that has its key.
+fn is_of_tally(table: Table, row: &Row, tallies: &TallyTable) -> bool {
+    let Some(key) = read_tally_key(row) else {
+        return false;
+    };
+    match tallies.map().get(&key) {
+        Some(tally) => is_sum(table, row, &key, tally),
         None => false,
     }
 }
 
-/// The first tally that is not what the rows add up to.
-pub(crate) fn first_wrong<'r>(rows: &'r [Row], table: &TallyTable) -> Option<&'r Row> {
+/// The first row of tallies, or of their taxes, that is not what the rows add up to.
+pub(crate) fn first_wrong<'r>(
+    table: Table,
+    rows: &'r [Row],
+    tallies: &TallyTable,
+) -> Option<&'r Row> {
     for row in rows {
-        if !is_sum(row, table) {
+        if !is_of_tally(table, row, tallies) {
             return Some(row);
         }
     }

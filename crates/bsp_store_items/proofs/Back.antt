@@ -32,7 +32,7 @@ use Rattle.bsp_rows.specs.CardPayment.{CardPayment}
 use Rattle.bsp_rows.specs.ReportedDocument.{ReportedDocument}
 use Rattle.bsp_rows.specs.Tax.{Tax}
 use Rattle.bsp_rows.specs.Transaction.{Transaction}
-use Rattle.bsp_ret_writer.specs.GroupValues.{are_taxes, are_amounts, related_of}
+use Rattle.bsp_ret_writer.specs.GroupValues.{are_taxes, are_amounts, related_of, second_of}
 use Rattle.bsp_ret_writer.specs.Stored.{InEach, IsStored, IsStoredTax, IsStoredAmount, IsStoredAmounts, IsStoredCard, IsStoredDocument}
 use Rattle.bsp_ret_writer.specs.Writing.{tax_text}
 use Rattle.bsp_ret_writer.proofs.WrittenGroup.{facts_from}
@@ -42,16 +42,16 @@ use Rattle.bsp_rows.specs.Verdicts.{is_wrong_place}
 use Rattle.bsp_rows.specs.declared.keys.ItemKey.{ItemKey}
 use Rattle.bsp_store_base.specs.Columns.{code_digits, airline_text, flag, taxes_text, count, item_row}
 use Rattle.bsp_store_base.specs.Reading.{agent_in, amount_in, below, code_in, if_there}
+use Rattle.bsp_store_base.specs.declared.taxes.ItemTax.{ItemTax}
+use Rattle.bsp_store_base.specs.Taxes.{tax_with}
 use Rattle.bsp_store_base.proofs.Keys.{code_digits-fits}
-use Rattle.bsp_store_items.specs.Reading.{amounts_in, card_in, document_in, entry_in, flag_in, item_in, key_in, kind_in, numbered, related_in, tax_in, taxes_in, transaction_in, wide_in}
+use Rattle.bsp_store_base.proofs.ReadBack.{amount_back, below_back, code_back}
+use Rattle.bsp_store_items.specs.Reading.{amounts_in, card_in, document_in, flag_in, item_in, key_in, kind_in, numbered, related_in, reported_in, tax_in, taxes_in, transaction_in, wide_in}
 
 abbrev places_text : List (Option Tax) → List ℕ
 places_text taxes = concat (map tax_text taxes)
 
 -- ---- codes
-
-code_back : (w n : ℕ) → n < 10 ^ w → code_in w (Text (code_digits w n)) ≡ Some n
-code_back w n fits = rw (code_digits-fits w n fits, code_reading-fixed_digits w n fits) refl
 
 -- an agent's eight digits
 record IsSpelled (text : List ℕ) (agent : ℕ) : Type 0 where
@@ -76,12 +76,12 @@ agent_back : (text : List ℕ) (agent : ℕ) → agent_reading text ≡ Ok agent
 agent_back text agent reads is = ap (λ t. agent_in (Text t)) (code_digits-fits 8 agent is.fits ∙ is.spelled) ∙ ap result_ok reads
 
 -- a document's ten digits, of this number, with their check digit
-record IsChecked (text : List ℕ) (check number : ℕ) : Type 0 where
+pub record IsChecked (text : List ℕ) (check number : ℕ) : Type 0 where
   fits : number < 10 ^ 10
   spelled : fixed_digits 10 number ≡ text
   checked : check ≡ check_digit_of number
 
-is_checked : (text : List ℕ) (check number : ℕ) → document_reading text check ≡ Ok number → IsChecked text check number
+pub is_checked : (text : List ℕ) (check number : ℕ) → document_reading text check ≡ Ok number → IsChecked text check number
 is_checked text check number reads =
     let n = number_of text in
     let wide = row_passed (not (length text == 10)) Width ((not (all_ascii_digits text), NotDigit) ∷ (not (check == check_digit_of n), CheckDigit) ∷ []) n number reads in
@@ -96,16 +96,13 @@ is_checked text check number reads =
       checked = eqb-true _ _ (not-false _ last.0) ∙ ap check_digit_of is;
     }
 
-number_back : (text : List ℕ) (number : ℕ) → number < 10 ^ 10 → fixed_digits 10 number ≡ text → code_in 10 (Text text) ≡ Some number
+pub number_back : (text : List ℕ) (number : ℕ) → number < 10 ^ 10 → fixed_digits 10 number ≡ text → code_in 10 (Text text) ≡ Some number
 number_back text number fits spelled = subst (λ t. code_in 10 (Text t) ≡ Some number) spelled (ap result_ok (code_reading-fixed_digits 10 number fits))
 
-same_document : (d : ReportedDocument) (number : ℕ) → IsChecked d.number d.check_digit number → numbered d.airline number ≡ d
+pub same_document : (d : ReportedDocument) (number : ℕ) → IsChecked d.number d.check_digit number → numbered d.airline number ≡ d
 same_document d number is = λ i. record { airline = d.airline; number = is.spelled i; check_digit = (sym is.checked) i }
 
 -- ---- single columns
-
-amount_back : (n : ℤ) → IsStoredAmount n → amount_in (Int n) ≡ Some n
-amount_back n is = rw (le-leb (unsigned_abs n) 99_999_999_999 is.size) refl
 
 maybe_amount_back : (o : Option ℤ) → IfSome o IsStoredAmount → if_there (or_null Int o) (amount_in (or_null Int o)) ≡ Some o
 maybe_amount_back None is = refl
@@ -119,12 +116,9 @@ kind_back Canx = refl
 wide_back : (n : ℕ) (text : List ℕ) → length text ≡ n → wide_in n (Text text) ≡ Some text
 wide_back n text is = rw (is, eq-eqb n n refl) refl
 
-flag_back : (b : Bool) → flag_in (flag b) ≡ b
+pub flag_back : (b : Bool) → flag_in (flag b) ≡ b
 flag_back true = refl
 flag_back false = refl
-
-below_back : (most n : ℕ) → n < most → below most (count n) ≡ Some n
-below_back most n fits = rw (lt-ltb n most fits) refl
 
 -- ---- taxes
 
@@ -178,8 +172,15 @@ length-taxes (tax ∷ taxes) stored = length-append (tax_text tax) (places_text 
 document_from : (number : ℕ) (r : Row) (d : ReportedDocument) → code_in 3 (column r 3) ≡ Some d.airline → numbered d.airline number ≡ d → document_in number r ≡ Some d
 document_from number r d a same = rw a (ap (λ x. Some x) same)
 
-related_from : (r : Row) (d : ReportedDocument) (n : ℕ) → code_in 3 (column r 13) ≡ Some d.airline → code_in 10 (column r 14) ≡ Some n → numbered d.airline n ≡ d → related_in r ≡ Some d
-related_from r d n a there same = rw (a, there) (ap (λ x. Some x) same)
+reported_from : (airline number : ℕ) (r : Row) (d : ReportedDocument) (n : ℕ) → code_in 3 (column r airline) ≡ Some d.airline → code_in 10 (column r number) ≡ Some n → numbered d.airline n ≡ d → reported_in airline number r ≡ Some d
+reported_from airline number r d n a there same = rw (a, there) (ap (λ x. Some x) same)
+
+-- a document in two columns
+pub reported_back : (airline number : ℕ) (r : Row) (d : ReportedDocument) → column r airline ≡ airline_text d.airline → column r number ≡ Text d.number → IsStoredDocument d → is_wrong_place (Some d) ≡ false
+    → reported_in airline number r ≡ Some d
+reported_back airline number r d a n stored fits =
+    let is = is_checked d.number d.check_digit _ (reads_without_fault d.number d.check_digit fits) in
+    reported_from airline number r d _ (ap (code_in 3) a ∙ code_back 3 d.airline stored.airline) (ap (code_in 10) n ∙ number_back d.number _ is.fits is.spelled) (same_document d _ is)
 
 amounts_from : (r : Row) (a : Amounts) (text : List ℕ) → amount_in (column r 9) ≡ Some a.fare → wide_in 78 (column r 10) ≡ Some text → taxes_in 6 text ≡ Some a.taxes → below (2 ^ 16) (column r 11) ≡ Some a.rate → amount_in (column r 12) ≡ Some a.commission → amounts_in r ≡ Some a
 amounts_from r a text f w t n c = rw (f, w, t, n, c) refl
@@ -198,10 +199,7 @@ rate_back a fits =
 module _ (r : Row) where
   related_back : (o : Option ReportedDocument) → column r 13 ≡ or_null (λ d. airline_text d.airline) o → column r 14 ≡ or_null (λ d. Text d.number) o → IfSome o IsStoredDocument → is_wrong_place o ≡ false → if_there (column r 13) (related_in r) ≡ Some o
   related_back None a n stored fits = rw a refl
-  related_back (Some d) a n stored fits =
-      let is = is_checked d.number d.check_digit _ (reads_without_fault d.number d.check_digit fits) in
-      let read = related_from r d _ (ap (code_in 3) a ∙ code_back 3 d.airline stored.airline) (ap (code_in 10) n ∙ number_back d.number _ is.fits is.spelled) (same_document d _ is) in
-      rw (read, a) refl
+  related_back (Some d) a n stored fits = rw (reported_back 13 14 r d a n stored fits, a) refl
 
   amounts_back : (o : Option Amounts) → column r 9 ≡ or_null (λ (a : Amounts). Int a.fare) o → column r 10 ≡ or_null taxes_text o → column r 11 ≡ or_null (λ (a : Amounts). count a.rate) o → column r 12 ≡ or_null (λ (a : Amounts). Int a.commission) o
       → IfSome o IsStoredAmounts → none_or are_amounts o ≡ true → if_there (column r 9) (amounts_in r) ≡ Some o
@@ -224,7 +222,7 @@ module _ (r : Row) where
 transaction_from : (key : ItemKey) (r : Row) (t : Transaction) → kind_in (column r 4) ≡ Some t.code → document_in key.number r ≡ Some t.document → wide_in 49 (column r 8) ≡ Some t.passenger
     → if_there (column r 13) (related_in r) ≡ Some (related_of t) → if_there (column r 9) (amounts_in r) ≡ Some t.amounts
     → if_there (column r 15) (amount_in (column r 15)) ≡ Some t.cash → if_there (column r 16) (card_in r) ≡ Some t.credit → if_there (column r 17) (amount_in (column r 17)) ≡ Some t.exchange
-    → transaction_in key t.issued r ≡ Some (record t { agent = fixed_digits 8 key.agent; related = related_of t ∷ None ∷ [] })
+    → transaction_in key t.issued (second_of t) r ≡ Some (record t { agent = fixed_digits 8 key.agent; related = related_of t ∷ second_of t ∷ [] })
 transaction_from key r t a b c d e f g h = rw (a, b, c, d, e, f, g, h) refl
 
 first_stored : (places : List (Option ReportedDocument)) → InEach IsStoredDocument places → IfSome (slice_index_or places 0 None) IsStoredDocument
@@ -235,14 +233,11 @@ first_checked : (places : List (Option ReportedDocument)) → list_any is_wrong_
 first_checked [] right = refl
 first_checked (first ∷ others) right = (or_parts (is_wrong_place first) (list_any is_wrong_place others) right).0
 
-key_from : (r : Row) (k : ItemKey) → agent_in (column r 0) ≡ Some k.agent → code_in 10 (column r 1) ≡ Some k.number → flag_in (column r 2) ≡ k.is_canx → key_in r ≡ Some k
+pub key_from : (r : Row) (k : ItemKey) → agent_in (column r 0) ≡ Some k.agent → code_in 10 (column r 1) ≡ Some k.number → flag_in (column r 2) ≡ k.is_canx → key_in r ≡ Some k
 key_from r k a n c = rw (a, n, c) refl
 
-item_from : (issued : CivilDay) (r : Row) (k : ItemKey) (i : Item) → i.agent ≡ k.agent → code_in 5 (column r 6) ≡ Some i.period → transaction_in k issued r ≡ Some i.transaction → flag_in (column r 7) ≡ i.lives → item_in k issued r ≡ Some i
-item_from issued r k i a p t l = rw (p, t, l, ← a) refl
-
-entry_from : (issued : CivilDay) (r : Row) (k : ItemKey) (i : Item) → key_in r ≡ Some k → item_in k issued r ≡ Some i → entry_in issued r ≡ Some (k, i)
-entry_from issued r k i a b = rw (a, b) refl
+item_from : (issued : CivilDay) (second : Option ReportedDocument) (r : Row) (k : ItemKey) (i : Item) → i.agent ≡ k.agent → code_in 5 (column r 6) ≡ Some i.period → transaction_in k issued second r ≡ Some i.transaction → flag_in (column r 7) ≡ i.lives → item_in k issued (tax_with i) second r ≡ Some i
+item_from issued second r k i a p t l = rw (p, t, l, ← a) refl
 
 module _ (k : ItemKey) (i : Item) (right : IsRight k i) (stored : IsStored i.transaction) (period : i.period < 10 ^ 5) where
   abbrev pub t : Transaction
@@ -257,7 +252,7 @@ module _ (k : ItemKey) (i : Item) (right : IsRight k i) (stored : IsStored i.tra
   own : IsChecked t.document.number t.document.check_digit (number_of t.document.number)
   own = is_checked t.document.number t.document.check_digit _ right.numbered
 
-  transaction_back : transaction_in k t.issued (item_row (k, i)) ≡ Some t
+  transaction_back : transaction_in k t.issued (second_of t) (item_row (k, i)) ≡ Some t
   transaction_back =
       let r = item_row (k, i) in
       let facts = facts_from t stored.places right.group in
@@ -270,11 +265,14 @@ module _ (k : ItemKey) (i : Item) (right : IsRight k i) (stored : IsStored i.tra
       (maybe_amount_back t.cash stored.cash) (card_back r t.credit refl refl stored.credit) (maybe_amount_back t.exchange stored.exchange)
       ∙ (λ j. Some (record t { agent = agent j; related = (sym facts.related.two) j }))
 
-  -- a right item is read back
-  pub entry_back : entry_in t.issued (item_row (k, i)) ≡ Some (k, i)
-  entry_back =
-      let r = item_row (k, i) in
+  -- its key is read back
+  pub key_back : key_in (item_row (k, i)) ≡ Some k
+  key_back =
       let spelled = is_spelled t.agent i.agent right.bears in
       let agent : agent_in (Text (code_digits 8 k.agent)) ≡ Some k.agent = subst (λ a. agent_in (Text (code_digits 8 a)) ≡ Some a) agent_is (agent_back t.agent i.agent right.bears spelled) in
       let number : code_in 10 (Text (code_digits 10 k.number)) ≡ Some k.number = code_back 10 k.number (subst (λ n. n < 10 ^ 10) number_is own.fits) in
-      entry_from t.issued r k i (key_from r k agent number (flag_back k.is_canx)) (item_from t.issued r k i agent_is (code_back 5 i.period period) transaction_back (flag_back i.lives))
+      key_from (item_row (k, i)) k agent number (flag_back k.is_canx)
+
+  -- a right item is read back, with its tax and its second document
+  pub item_back : item_in k t.issued (tax_with i) (second_of t) (item_row (k, i)) ≡ Some i
+  item_back = item_from t.issued (second_of t) (item_row (k, i)) k i agent_is (code_back 5 i.period period) transaction_back (flag_back i.lives)

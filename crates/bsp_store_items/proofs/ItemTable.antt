@@ -31,7 +31,7 @@ item_cast e = cast_same item_columns (item_row e) (refl, (refl, (cast_int _, (re
 
 abbrev pub items_table : MapTable ItemKey Item item_cmp
 items_table = record {
-  at = 8;
+  at = 7;
   table = item_table;
   of = λ c. c.items;
   with = λ m c. record c { items = m };
@@ -45,8 +45,8 @@ items_table = record {
   uncounted = refl;
   plain_tree = λ db. refl;
   free = no_work item_table.tree;
-  here = λ c trees kept. kept.1.1.1.1.1.1.1.1.0;
-  moved = λ c m rows same. (refl, (refl, (refl, (refl, (refl, (refl, (refl, (refl, (same, (refl, (refl, tt)))))))))));
+  here = λ c trees kept. kept.1.1.1.1.1.1.1.0;
+  moved = λ c m rows same. (refl, (refl, (refl, (refl, (refl, (refl, (refl, (same, (refl, (refl, (refl, (refl, (refl, (refl, tt))))))))))))));
   same = λ c. refl;
   tests = λ key r. refl;
   again = λ r. refl;

@@ -19,6 +19,7 @@ use Rattle.bsp_rows.specs.Tax.{Tax}
 use Rattle.bsp_rows.specs.Transaction.{Transaction}
 use Rattle.bsp_rows.specs.declared.keys.ItemKey.{ItemKey}
 use Rattle.bsp_rows.specs.Item.{Item}
+use Rattle.bsp_store_base.specs.declared.taxes.ItemTax.{ItemTax}
 use Rattle.bsp_store_base.specs.Reading.{agent_in, amount_in, below, code_in, if_there, text_in}
 
 -- ---- a column
@@ -55,8 +56,12 @@ taxes_in (suc n) text = option_and_then (λ tax. option_map (λ taxes. tax ∷ t
 abbrev pub numbered : ℕ → ℕ → ReportedDocument
 numbered airline number = record { airline = airline; number = fixed_digits 10 number; check_digit = check_digit_of number }
 
+-- the document whose airline is in one column and whose number is in another
+abbrev pub reported_in : ℕ → ℕ → Row → Option ReportedDocument
+reported_in airline number r = option_and_then (λ a. option_map (λ n. numbered a n) (code_in 10 (column r number))) (code_in 3 (column r airline))
+
 abbrev pub related_in : Row → Option ReportedDocument
-related_in r = option_and_then (λ a. option_map (λ n. numbered a n) (code_in 10 (column r 14))) (code_in 3 (column r 13))
+related_in r = reported_in 13 14 r
 
 abbrev pub amounts_in : Row → Option Amounts
 amounts_in r =
@@ -70,16 +75,16 @@ card_in r = option_and_then (λ a. option_map (λ v. record { amount = a; vendor
 abbrev pub document_in : ℕ → Row → Option ReportedDocument
 document_in number r = option_map (λ a. numbered a number) (code_in 3 (column r 3))
 
--- the transaction of a key's agent and number, with this day of issue
-abbrev pub transaction_in : ItemKey → CivilDay → Row → Option Transaction
-transaction_in key issued r =
+-- the transaction of a key's agent and number, with this day of issue and this second related document
+abbrev pub transaction_in : ItemKey → CivilDay → Option ReportedDocument → Row → Option Transaction
+transaction_in key issued second r =
     option_and_then (λ code. option_and_then (λ document. option_and_then (λ passenger. option_and_then (λ related. option_and_then (λ amounts. option_and_then (λ cash. option_and_then (λ credit. option_map (λ exchange. record {
       code = code;
       agent = fixed_digits 8 key.agent;
       document = document;
       issued = issued;
       passenger = passenger;
-      related = related ∷ None ∷ [];
+      related = related ∷ second ∷ [];
       amounts = amounts;
       cash = cash;
       credit = credit;
@@ -87,15 +92,20 @@ transaction_in key issued r =
     }) (if_there (column r 17) (amount_in (column r 17)))) (if_there (column r 16) (card_in r))) (if_there (column r 15) (amount_in (column r 15))))
     (if_there (column r 9) (amounts_in r))) (if_there (column r 13) (related_in r))) (wide_in 49 (column r 8))) (document_in key.number r)) (kind_in (column r 4))
 
--- ---- an entry
+-- ---- an item
 
+-- the key in the first three columns
 abbrev pub key_in : Row → Option ItemKey
 key_in r = option_and_then (λ agent. option_map (λ number. record { agent = agent; number = number; is_canx = flag_in (column r 2) }) (code_in 10 (column r 1))) (agent_in (column r 0))
 
--- the item of a key, with this day of issue
-abbrev pub item_in : ItemKey → CivilDay → Row → Option Item
-item_in key issued r = option_and_then (λ period. option_map (λ t. record { agent = key.agent; period = period; transaction = t; lives = flag_in (column r 7) }) (transaction_in key issued r)) (code_in 5 (column r 6))
-
--- the entry, with this day of issue
-abbrev pub entry_in : CivilDay → Row → Option (ItemKey × Item)
-entry_in issued r = option_and_then (λ (key : ItemKey). option_map (λ item. (key, item)) (item_in key issued r)) (key_in r)
+-- the item of a key, with this day of issue, this tax and this second related document
+abbrev pub item_in : ItemKey → CivilDay → ItemTax → Option ReportedDocument → Row → Option Item
+item_in key issued tax second r =
+    option_and_then (λ period. option_map (λ t. record {
+      agent = key.agent;
+      period = period;
+      transaction = t;
+      lives = flag_in (column r 7);
+      tax = tax.tax;
+      hundredths = tax.hundredths;
+    }) (transaction_in key issued second r)) (code_in 5 (column r 6))

@@ -5,7 +5,7 @@ ghost use Rattle.sqlite_value.specs.Order.{column};
 ghost use Rattle.sqlite_value.specs.declared.value.Value.TheVariants.{Int};
 ghost use Rattle.bsp_fields.specs.CivilDay.{CivilDay, is_day};
 ghost use Rattle.bsp_fields.specs.Days.{day_number};
-ghost use Rattle.bsp_store_items.specs.Reading.{amounts_in, card_in, document_in, entry_in, item_in, key_in, numbered, related_in, transaction_in};
+ghost use Rattle.bsp_store_items.specs.Reading.{amounts_in, card_in, document_in, item_in, key_in, numbered, related_in, reported_in, transaction_in};
 ghost use Rattle.bsp_store_base.specs.Content.{item_part};
 ghost use Rattle.bsp_store_base.specs.Shows.{ShowsTable};
 ghost use Rattle.bsp_store_base.specs.Reading.{amount_in, if_there};
@@ -13,7 +13,9 @@ ghost use Rattle.bsp_store_base.specs.Reading.{amount_in, if_there};
 use crate::columns::{read_flag, read_kind, read_rate, read_taxes, read_wide};
 use bsp_fields::{AirlineCode, Amount, Day, DocNumber};
 use bsp_rows::{Amounts, CardPayment, Item, ItemKey, ReportedDocument, Transaction};
-use bsp_store_base::{agent_at, airline_at, amount_at, day_at, is_null, number_at, period_at};
+use bsp_store_base::{
+    ItemTax, agent_at, airline_at, amount_at, day_at, is_null, number_at, period_at,
+};
 use sqlite::Row;
 
 /// The query for the rows of the items, in the order of their keys.
@@ -24,37 +26,44 @@ pub fn items_query() -> &'static str
      commission, rel_airline, rel_number, ca, cc, ex, vendor FROM item ORDER BY agent, number, canx"
 }
 
-/// Reads an item and its key out of a row, whatever another program wrote there.
-pub fn read_item(row: &Row) -> Option<(ItemKey, Item)>
-    ensures day { (d : CivilDay) → IsTrue (is_day d) → column row.now 5 ≡ Int (day_number d) → result ≡ entry_in d row.now }
+/// Reads the item of a key out of a row, whatever another program wrote there. Its tax and its second related document
+/// are in other tables.
+pub fn read_item(
+    row: &Row,
+    key: &ItemKey,
+    tax: ItemTax,
+    second: Option<ReportedDocument>,
+) -> Option<Item>
+    ensures day { (d : CivilDay) → IsTrue (is_day d) → column row.now 5 ≡ Int (day_number d) → result ≡ item_in key.now d tax second row.now }
     ensures none { ((d : CivilDay) → IsTrue (is_day d) → column row.now 5 ≢ Int (day_number d)) → result ≡ None }
 {
     let issued = day_at(row, 5)?;
-    entry_of(row, issued)
+    item_of(row, key, issued, tax, second)
 }
 
-fn entry_of(row: &Row, issued: Day) -> Option<(ItemKey, Item)>
-    ensures { result ≡ entry_in issued row.now }
-{
-    let key = read_key(row)?;
-    let item = item_of(row, &key, issued)?;
-    Some((key, item))
-}
-
-fn item_of(row: &Row, key: &ItemKey, issued: Day) -> Option<Item>
-    ensures { result ≡ item_in key.now issued row.now }
+fn item_of(
+    row: &Row,
+    key: &ItemKey,
+    issued: Day,
+    tax: ItemTax,
+    second: Option<ReportedDocument>,
+) -> Option<Item>
+    ensures { result ≡ item_in key.now issued tax second row.now }
 {
     let period = period_at(row, 6)?;
-    let transaction = read_transaction(row, key, issued)?;
+    let transaction = read_transaction(row, key, issued, second)?;
     Some(Item {
         agent: key.agent,
         period,
         transaction,
         lives: read_flag(row, 7),
+        tax: tax.tax,
+        hundredths: tax.hundredths,
     })
 }
 
-fn read_key(row: &Row) -> Option<ItemKey>
+/// Reads the key of an item out of the first three columns of a row.
+pub fn read_item_key(row: &Row) -> Option<ItemKey>
     ensures { result ≡ key_in row.now }
 {
     let agent = agent_at(row, 0)?;
@@ -66,8 +75,13 @@ fn read_key(row: &Row) -> Option<ItemKey>
     })
 }
 
-fn read_transaction(row: &Row, key: &ItemKey, issued: Day) -> Option<Transaction>
-    ensures { result ≡ transaction_in key.now issued row.now }
+fn read_transaction(
+    row: &Row,
+    key: &ItemKey,
+    issued: Day,
+    second: Option<ReportedDocument>,
+) -> Option<Transaction>
+    ensures { result ≡ transaction_in key.now issued second row.now }
 {
     let code = read_kind(row, 4)?;
     let document = read_document(row, key.number)?;
@@ -83,7 +97,7 @@ fn read_transaction(row: &Row, key: &ItemKey, issued: Day) -> Option<Transaction
         document,
         issued,
         passenger,
-        related: [related, None],
+        related: [related, second],
         amounts,
         cash,
         credit,
@@ -111,11 +125,13 @@ fn read_document(row: &Row, number: DocNumber) -> Option<ReportedDocument>
     Some(numbered(airline, number))
 }
 
-fn read_related(row: &Row) -> Option<ReportedDocument>
-    ensures { result ≡ related_in row.now }
+/// Reads the document whose airline is in one column and whose number is in another. Its check digit is that of its
+/// number.
+pub fn read_reported(row: &Row, airline: usize, number: usize) -> Option<ReportedDocument>
+    ensures { result ≡ reported_in airline number row.now }
 {
-    let airline = airline_at(row, 13)?;
-    let number = number_at(row, 14)?;
+    let airline = airline_at(row, airline)?;
+    let number = number_at(row, number)?;
     Some(numbered(airline, number))
 }
 
@@ -125,7 +141,7 @@ fn maybe_related(row: &Row) -> Option<Option<ReportedDocument>>
     if is_null(row, 13) {
         return Some(None);
     }
-    Some(Some(read_related(row)?))
+    Some(Some(read_reported(row, 13, 14)?))
 }
 
 fn read_amounts(row: &Row) -> Option<Amounts>

@@ -1,4 +1,4 @@
-//! An item as a row of its table.
+//! An item as a row of its table, without its tax and its second related document.
 
 ghost use Rattle.std.specs.Prelude.{◌≡◌, ℕ, List, Option, map, pos, option_map};
 ghost use Rattle.std.specs.List.{flat_map};
@@ -209,7 +209,7 @@ fn vendor_of(credit: &Option<CardPayment>) -> Option<[u8; 2]>
 // ---- values
 
 /// A flag as an integer.
-pub(crate) fn flag(holds: bool) -> ValueRef<'static>
+pub fn flag(holds: bool) -> ValueRef<'static>
     ensures { owned result ≡ flag_of holds }
 {
     ValueRef::Int(if holds { 1 } else { 0 })

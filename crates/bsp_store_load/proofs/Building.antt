@@ -10,19 +10,20 @@ use Rattle.bsp_store_load.specs.Stored.{IsFormedPlan}
 use Rattle.bsp_store_load.proofs.TallyLemmas.{content_is, one_content}
 
 -- the plan of a formed content is formed
-pub formed_plan : (book : Rows) (c : Content) → IsContentOf book c → IsFormed c → IsFormedPlan book.published
+pub formed_plan : (book : Rows) (c : Content) → IsContentOf book c → IsFormed c → IsFormedPlan book.published book.airlines
 formed_plan book c of formed =
     let f : IsFormed (content_with book c.tallies) = subst IsFormed of.same formed in
     record {
       day = f.meta.has_day;
       closed = f.meta.has_closed;
       terms = f.terms;
-      airlines = f.published;
+      airlines = f.airlines;
       rates = f.rates;
       periods = f.periods;
-      airline_places = f.places.airlines;
+      commission_taxes = f.commission_taxes;
       rate_places = f.places.rates;
       period_places = f.places.periods;
+      commission_tax_places = f.places.commission_taxes;
     }
 
 -- the content of tables is that of their rows

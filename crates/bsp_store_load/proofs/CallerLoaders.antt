@@ -1,18 +1,18 @@
--- The tables of callers, as the maps in memory.
+-- The tables of agents and of ranges, as the maps in memory.
 use Rattle.std.proofs.Common.{◌≡◌, ℕ, List, refl, nat_cmp}
 use Rattle.std.specs.Prelude.{None}
 use Rattle.std.specs.Cmp.{nat_cmp_total}
 use Rattle.std.specs.FinMap.{get}
-use Rattle.bsp_rows.specs.Rows.{range_cmp, range_of}
-use Rattle.bsp_rows.specs.Writes.{with_agent_token, with_airline_token, with_range}
+use Rattle.bsp_rows.specs.Rows.{Rows, range_cmp, range_of}
+use Rattle.bsp_rows.specs.Writes.{with_agent_token, with_range}
 use Rattle.bsp_rows.specs.declared.keys.RangeKey.{RangeKey}
 use Rattle.bsp_rows.proofs.KeyOrders.{range_total}
-use Rattle.bsp_store_base.specs.Columns.{agent_row, airline_token_row, stock_row}
-use Rattle.bsp_store_base.specs.Content.{agent_part, airline_token_part, stock_part}
-use Rattle.bsp_store_base.specs.Forms.{IsAgentEntry, IsAirlineEntry, IsRangeEntry}
+use Rattle.bsp_store_base.specs.Columns.{agent_row, stock_row}
+use Rattle.bsp_store_base.specs.Content.{agent_part, stock_part}
+use Rattle.bsp_store_base.specs.Forms.{IsAgentEntry, IsRangeEntry}
 use Rattle.bsp_store_load.proofs.Loaders.{Loader}
 
-abbrev pub agents_loader : Loader ℕ (List ℕ) nat_cmp IsAgentEntry (λ e rows. get rows.agents e.0 ≡ None)
+abbrev pub agents_loader : Loader ℕ (List ℕ) Rows nat_cmp IsAgentEntry (λ e rows. get rows.agents e.0 ≡ None)
 agents_loader = record {
   total = nat_cmp_total;
   part = agent_part;
@@ -29,24 +29,7 @@ agents_loader = record {
   rows_are = λ c. refl;
 }
 
-abbrev pub airlines_loader : Loader ℕ (List ℕ) nat_cmp IsAirlineEntry (λ e rows. get rows.airlines e.0 ≡ None)
-airlines_loader = record {
-  total = nat_cmp_total;
-  part = airline_token_part;
-  row_of = airline_token_row;
-  step = λ e. with_airline_token e.0 e.1;
-  of = λ rows. rows.airlines;
-  with = λ m rows. record rows { airlines = m };
-  in_content = λ c. c.airlines;
-  steps = λ e rows fit. refl;
-  free = λ e rows fit none. none;
-  alone = λ e rows. refl;
-  with_of = λ rows. refl;
-  with_with = λ m n rows. refl;
-  rows_are = λ c. refl;
-}
-
-abbrev pub ranges_loader : Loader RangeKey ℕ range_cmp IsRangeEntry (λ e rows. get rows.ranges e.0 ≡ None)
+abbrev pub ranges_loader : Loader RangeKey ℕ Rows range_cmp IsRangeEntry (λ e rows. get rows.ranges e.0 ≡ None)
 ranges_loader = record {
   total = range_total;
   part = stock_part;

@@ -1,7 +1,7 @@
 -- The closed periods of a plan, closed one after another.
-use Rattle.std.proofs.Common.{◌≡◌, ℕ, Bool, true, List, [], ◌∷◌, map, Result, Ok, Err, refl, sym, ap, subst, ◌∙◌}
+use Rattle.std.proofs.Common.{◌≡◌, ℕ, Bool, true, List, [], ◌∷◌, map, Result, Ok, Err, refl, sym, ap, subst, ◌∙◌, nat_cmp}
 use Rattle.std.specs.Prelude.{IfOk, IsOk, Some}
-use Rattle.std.specs.FinMap.{FinMap, entries, get}
+use Rattle.std.specs.FinMap.{FinMap, empty, entries, get}
 use Rattle.std.specs.List.{AllByRecursion, Contains}
 use Rattle.std.specs.declared.cmp.Ordering.{Ordering}
 use Rattle.std.specs.Cmp.{IsTotalOrder}
@@ -47,6 +47,26 @@ module _ {K X : Type 0} {R : K → K → Ordering} (o : IsTotalOrder R) (exact :
 -- one after the other changes the plan alone
 pub plan_alone : (old mid new : Rows) → mid ≡ record old { published = mid.published } → new ≡ record mid { published = new.published } → new ≡ record old { published = new.published }
 plan_alone old mid new first second = let with_plan : Rows → Rows = λ r. record r { published = new.published } in second ∙ ap with_plan first
+
+-- and so it does where no airline gets a token
+pub plan_and_none : (old new : Rows) → new ≡ record old { published = new.published } → new ≡ record old { published = new.published; airlines = new.airlines }
+plan_and_none old new is =
+    let with_airlines : FinMap nat_cmp (List ℕ) → Rows = λ m. record old { published = new.published; airlines = m } in
+    is ∙ ap with_airlines (sym (ap (λ (r : Rows). r.airlines) is))
+
+-- the plan, and then the tokens of airlines
+pub both_alone : (old mid new : Rows) → mid ≡ record old { published = mid.published } → new ≡ record mid { airlines = new.airlines } → new ≡ record old { published = new.published; airlines = new.airlines }
+both_alone old mid new first second =
+    let with_airlines : Rows → Rows = λ r. record r { airlines = new.airlines } in
+    let with_plan : Published → Rows = λ q. record old { published = q; airlines = new.airlines } in
+    second ∙ ap with_airlines first ∙ ap with_plan (sym (ap (λ (r : Rows). r.published) second))
+
+pub tokens_put : (p : Published) (tokens : FinMap nat_cmp (List ℕ)) (old mid new : Rows) → mid ≡ record old { published = p } → new ≡ record mid { airlines = new.airlines } → old.airlines ≡ empty
+    → (mid.airlines ≡ empty → new.airlines ≡ tokens) → (true ≡ true) × (new ≡ record old { published = p; airlines = tokens })
+tokens_put p tokens old mid new first second none put =
+    let with_airlines : Rows → Rows = λ r. record r { airlines = new.airlines } in
+    let with_tokens : FinMap nat_cmp (List ℕ) → Rows = λ m. record old { published = p; airlines = m } in
+    (refl, second ∙ ap with_airlines first ∙ ap with_tokens (put (ap (λ (r : Rows). r.airlines) first ∙ none)))
 
 -- what a call that closes the periods of rows ensures
 abbrev pub Closed : Rows → Rows → List Row → Bool → Type 0

@@ -8,7 +8,6 @@ use Rattle.std.specs.List.{AllByRecursion}
 use Rattle.std.specs.Ordering.{is_lt, ordering_reverse}
 use Rattle.bsp_maps.proofs.OrderLemmas.{no_length}
 use Rattle.bsp_maps.proofs.Orderings.{first, less, second}
-use Rattle.bsp_rows.specs.Rows.{Rows}
 use Rattle.bsp_store_load.specs.Entries.{MayAll}
 
 pub no_entries : {K X : Type 0} {R : K → K → Ordering} (m : FinMap R X) → m ≡ empty → entries m ≡ []
@@ -30,9 +29,9 @@ module _ {K V : Type 0} {R : K → K → Ordering} (o : IsTotalOrder R) where
   none_in m none [] = tt
   none_in m none (e ∷ es) = (ap (λ n. get n e.0) none ∙ get-empty R e.0, none_in m none es)
 
-  module _ (of : Rows → FinMap R V) (step : K × V → Rows → Rows) (fits : K × V → Type 0) (lacks : K × V → Rows → Type 0)
-      (steps : (e : K × V) (w : Rows) → fits e → of (step e w) ≡ insert (of w) e.0 e.1) (free : (e : K × V) (w : Rows) → fits e → get (of w) e.0 ≡ None → lacks e w) where
-    pub all_may : (es : List (K × V)) (w : Rows) → T (is_sorted R es) → AllByRecursion fits es → AllByRecursion (λ e. get (of w) e.0 ≡ None) es → MayAll step (λ e v. fits e × lacks e v) es w
+  module _ {W : Type 0} (of : W → FinMap R V) (step : K × V → W → W) (fits : K × V → Type 0) (lacks : K × V → W → Type 0)
+      (steps : (e : K × V) (w : W) → fits e → of (step e w) ≡ insert (of w) e.0 e.1) (free : (e : K × V) (w : W) → fits e → get (of w) e.0 ≡ None → lacks e w) where
+    pub all_may : (es : List (K × V)) (w : W) → T (is_sorted R es) → AllByRecursion fits es → AllByRecursion (λ e. get (of w) e.0 ≡ None) es → MayAll step (λ e v. fits e × lacks e v) es w
     all_may [] w up fit none = tt
     all_may (e ∷ es) w up fit none = (
       (fit.0, free e w fit.0 none.0),

@@ -1,4 +1,8 @@
 pub mod Lists
+pub mod PlacedOrder
+pub mod Gathering
+pub mod AirlineReads
+pub mod AirlineMap
 pub mod Remaining
 pub mod PutLemmas
 pub mod CloseLemmas
@@ -9,8 +13,11 @@ pub mod Moves
 pub mod Following
 pub mod Showing
 pub mod Fresh
+pub mod BesideLemmas
+pub mod JoinLemmas
 pub mod Loaders
 pub mod CallerLoaders
+pub mod BesideLoaders
 pub mod SaleLoaders
 pub mod Building
 pub mod RowReads
@@ -18,10 +25,14 @@ pub mod RangeReads
 pub mod ItemReads
 pub mod MemoReads
 pub mod Maps
+pub mod EntryLemmas
 pub mod PlainRows
 pub mod TallyLemmas
 pub mod NothingLemmas
 pub use Rattle.bsp_rows.proofs.KeptLemmas
+pub use Rattle.bsp_store_base.proofs.AirlineLemmas
 pub use Rattle.bsp_store_base.proofs.Held
+pub use Rattle.bsp_store_base.proofs.Placing
 pub use Rattle.bsp_store_base.proofs.Rising
+pub use Rattle.bsp_store_base.proofs.SecondLemmas
 pub use Rattle.bsp_store_base.proofs.Syncing

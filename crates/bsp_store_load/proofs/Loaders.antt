@@ -7,7 +7,6 @@ use Rattle.std.proofs.lemmas.List.Sorted.{IsPermutation-trans}
 use Rattle.std.specs.Prelude.{IsPermutation}
 use Rattle.sqlite_value.specs.Order.{Row}
 use Rattle.sqlite_trees.specs.Tree.{Trees}
-use Rattle.bsp_rows.specs.Rows.{Rows}
 use Rattle.bsp_store_base.specs.Content.{Content, form, width_of}
 use Rattle.bsp_store_base.specs.Forms.{IsFormed}
 use Rattle.bsp_store_base.specs.Kept.{KeepsRows, Part, columns_of}
@@ -16,46 +15,46 @@ use Rattle.bsp_store_load.specs.Loading.{IsLoaded, LeavesRow, and_after}
 use Rattle.bsp_store_load.proofs.Fresh.{all_may, no_entries, none_in}
 use Rattle.bsp_store_load.proofs.PutLemmas.{inserted, inserted_all}
 
-pub record Loader (K V : Type 0) (R : K → K → Ordering) (fits : K × V → Type 0) (lacks : K × V → Rows → Type 0) : Type 0 where
+pub record Loader (K V W : Type 0) (R : K → K → Ordering) (fits : K × V → Type 0) (lacks : K × V → W → Type 0) : Type 0 where
   pub total : IsTotalOrder R
   pub part : Part Content
   pub row_of : K × V → Row
-  pub step : K × V → Rows → Rows
+  pub step : K × V → W → W
   -- the map in memory, and that of a content
-  pub of : Rows → FinMap R V
-  pub with : FinMap R V → Rows → Rows
+  pub of : W → FinMap R V
+  pub with : FinMap R V → W → W
   pub in_content : Content → FinMap R V
-  pub steps : (e : K × V) (rows : Rows) → fits e → of (step e rows) ≡ insert (of rows) e.0 e.1
-  pub free : (e : K × V) (rows : Rows) → fits e → get (of rows) e.0 ≡ None → lacks e rows
-  pub alone : (e : K × V) (rows : Rows) → step e rows ≡ with (of (step e rows)) rows
-  pub with_of : (rows : Rows) → with (of rows) rows ≡ rows
-  pub with_with : (m n : FinMap R V) (rows : Rows) → with m (with n rows) ≡ with m rows
+  pub steps : (e : K × V) (rows : W) → fits e → of (step e rows) ≡ insert (of rows) e.0 e.1
+  pub free : (e : K × V) (rows : W) → fits e → get (of rows) e.0 ≡ None → lacks e rows
+  pub alone : (e : K × V) (rows : W) → step e rows ≡ with (of (step e rows)) rows
+  pub with_of : (rows : W) → with (of rows) rows ≡ rows
+  pub with_with : (m n : FinMap R V) (rows : W) → with m (with n rows) ≡ with m rows
   pub rows_are : (c : Content) → part.rows c ≡ map row_of (entries (in_content c))
 
-module _ {K V : Type 0} {R : K → K → Ordering} {fits : K × V → Type 0} {lacks : K × V → Rows → Type 0} (t : Loader K V R fits lacks) where
-  abbrev pub rows_in : Rows → List Row
+module _ {K V W : Type 0} {R : K → K → Ordering} {fits : K × V → Type 0} {lacks : K × V → W → Type 0} (t : Loader K V W R fits lacks) where
+  abbrev pub rows_in : W → List Row
   rows_in rows = map t.row_of (entries (t.of rows))
 
   -- what a call for the table ensures
-  abbrev pub Loads : Trees → Rows → Rows → Option Row → Type 0
+  abbrev pub Loads : Trees → W → W → Option Row → Type 0
   Loads = IsLoaded t.part t.row_of t.step fits lacks rows_in
 
-  abbrev pub Leaves : Trees → Rows → Rows → Type 0
+  abbrev pub Leaves : Trees → W → W → Type 0
   Leaves = LeavesRow t.part t.row_of t.step fits lacks rows_in
 
   -- no other table is changed
-  changes : (es : List (K × V)) (rows : Rows) → after_all t.step es rows ≡ t.with (t.of (after_all t.step es rows)) rows
+  changes : (es : List (K × V)) (rows : W) → after_all t.step es rows ≡ t.with (t.of (after_all t.step es rows)) rows
   changes [] rows = sym (t.with_of rows)
   changes (e ∷ es) rows =
       let last = t.of (after_all t.step es (t.step e rows)) in
       changes es (t.step e rows) ∙ ap (t.with last) (t.alone e rows) ∙ t.with_with last (t.of (t.step e rows)) rows
 
   -- entries one after another are inserted
-  inserts : (es : List (K × V)) (rows : Rows) → AllByRecursion fits es → t.of (after_all t.step es rows) ≡ inserted (t.of rows) es
+  inserts : (es : List (K × V)) (rows : W) → AllByRecursion fits es → t.of (after_all t.step es rows) ≡ inserted (t.of rows) es
   inserts [] rows fit = refl
   inserts (e ∷ es) rows fit = inserts es (t.step e rows) fit.1 ∙ ap (λ m. inserted m es) (t.steps e rows fit.0)
 
-  module _ (trees : Trees) (old new : Rows) (left : Option Row) (loaded : Loads trees old new left) where
+  module _ (trees : Trees) (old new : W) (left : Option Row) (loaded : Loads trees old new left) where
     pub others : new ≡ t.with (t.of new) old
     others = let made = loaded.made in made.1 ∙ changes made.0 old ∙ ap (λ r. t.with (t.of r) old) (sym made.1)
 

@@ -1,5 +1,6 @@
 -- The business day is set, and the closed periods are closed.
-use Rattle.std.proofs.Common.{◌≡◌, ℕ, zero, suc, ◌+◌, ◌≤◌, Bool, true, false, List, [], ◌∷◌, map, length, take, Option, Some, Result, is_err, refl, sym, ap, subst, ◌∙◌, arith}
+use Rattle.std.proofs.Common.{◌≡◌, ℕ, zero, suc, ◌+◌, ◌≤◌, Bool, true, false, List, [], ◌∷◌, map, length, take, Option, Some, Result, is_err, refl, sym, ap, subst, ◌∙◌, arith, nat_cmp}
+use Rattle.std.specs.FinMap.{FinMap}
 use Rattle.std.specs.List.{AllByRecursion}
 use Rattle.std.proofs.lemmas.List.{length-map, take-map}
 use Rattle.sqlite_value.specs.Order.{Row}
@@ -35,7 +36,7 @@ first_all P zero before qs all = tt
 first_all P (suc n) before [] all = tt
 first_all P (suc n) before (q ∷ qs) all = (all.0, first_all P n (before + 1) qs all.1)
 
-module _ (p : Published) (s : IsSoundPlan p) (formed : IsFormedPlan p) (stored : PlanRows) (are : AreRowsOfPlan p stored) where
+module _ (p : Published) (tokens : FinMap nat_cmp (List ℕ)) (s : IsSoundPlan p) (formed : IsFormedPlan p tokens) (stored : PlanRows) (are : AreRowsOfPlan p tokens stored) where
   pub meta_read : (rows : List Row) (o : Option (CivilDay × ℕ)) → rows ≡ stored.meta.items → ((meta : Meta) → IsMeta meta → rows ≡ meta_rows (Some meta) → o ≡ Some (meta.day, meta.closed)) → o ≡ Some (p.day, length p.closed)
   meta_read rows o same reads = reads (record { day = p.day; closed = length p.closed }) (record { has_day = formed.day; has_closed = formed.closed }) (same ∙ are.meta)
 

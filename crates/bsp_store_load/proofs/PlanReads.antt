@@ -1,7 +1,7 @@
 -- The entries of a plan, read of rows one after another.
-use Rattle.std.proofs.Common.{◌≡◌, ℕ, zero, suc, ◌+◌, ◌<◌, ◌≤◌, List, [], ◌∷◌, ◌++◌, map, length, take, get_or, Option, Some, None, refl, sym, ap, ◌∙◌, arith}
+use Rattle.std.proofs.Common.{◌≡◌, ℕ, zero, suc, ◌+◌, ◌<◌, ◌≤◌, List, [], ◌∷◌, ◌++◌, map, length, take, get_or, Option, Some, None, refl, sym, ap, subst, ◌∙◌, arith}
 use Rattle.std.specs.List.{AllByRecursion}
-use Rattle.std.proofs.lemmas.List.{length-map, take_all, take_more}
+use Rattle.std.proofs.lemmas.List.{get_or-map, length-map, take_all, take_more}
 use Rattle.bsp_store_base.specs.Columns.{placed}
 use Rattle.bsp_rows.proofs.MapLemmas.{same_Some}
 
@@ -71,3 +71,42 @@ module _ {A R : Type 0} (row_of : ℕ × A → R) where
   -- all were read
   pub all_read : (xs : List A) (rows : List R) (i : ℕ) (found : List A) → rows ≡ map row_of (placed 0 xs) → length rows ≤ i → found ≡ take i xs → found ≡ xs
   all_read xs rows i found same past so_far = let count = long xs rows same in so_far ∙ take_all i xs (omega (arith, count))
+
+-- ---- the rows of entries that have no places
+
+-- the element at a place
+at_place : {A : Type 0} (xs : List A) (i : ℕ) → i < length xs → (x : A) × (x ≡ get_or xs i x)
+at_place [] i below = absurd (omega arith)
+at_place (x ∷ xs) zero below = (x, refl)
+at_place (x ∷ xs) (suc i) below = let n = at_place xs i (omega arith) in (n.0, n.1)
+
+module _ {A R : Type 0} (row_of : A → R) (P : A → Type 0) (xs : List A) (rows : List R) (same : rows ≡ map row_of xs) where
+  count_same : length rows ≡ length xs
+  count_same = ap length same ∙ length-map xs row_of
+
+  module _ (i : ℕ) (row : R) (o : Option A) (all : AllByRecursion P xs) (below : i < length rows) (at : row ≡ get_or rows i row) (back : (x : A) → P x → row ≡ row_of x → o ≡ Some x) where
+    entry_read : (x : A) → x ≡ get_or xs i x → P x → o ≡ Some x
+    entry_read x is fits =
+        let count = count_same in
+        back x fits (at ∙ ap (λ l. get_or l i row) same ∙ get_or-map row_of xs i x row (omega (arith, count)) ∙ ap row_of (sym is))
+
+    next_entry : (x : A) × (o ≡ Some x) × (take (i + 1) xs ≡ take i xs ++ x ∷ [])
+    next_entry =
+        let count = count_same in
+        let n = at_place xs i (omega (arith, count)) in
+        (n.0, entry_read n.0 n.1 (subst P (sym n.1) (each_of P xs i n.0 all (omega (arith, count)))), take_more xs i n.0 (omega (arith, count)) ∙ ap (λ v. take i xs ++ v ∷ []) (sym n.1))
+
+    -- it does not read as nothing
+    pub entry_some : o ≡ None → ⊥
+    entry_some none = let n = next_entry in let some = n.1 in cc (some, none)
+
+    -- the entry is the next
+    pub entry_next : (x : A) (before after : List A) → o ≡ Some x → after ≡ before ++ x ∷ [] → before ≡ take i xs → after ≡ take (i + 1) xs
+    entry_next x before after read is so_far =
+        let n = next_entry in
+        let value : x ≡ n.0 = same_Some x n.0 (sym read ∙ n.1) in
+        is ∙ ap (λ l. l ++ x ∷ []) so_far ∙ ap (λ v. take i xs ++ v ∷ []) value ∙ sym n.2
+
+  -- all were read
+  pub entries_read : (i : ℕ) (found : List A) → length rows ≤ i → found ≡ take i xs → found ≡ xs
+  entries_read i found past so_far = let count = count_same in so_far ∙ take_all i xs (omega (arith, count))

@@ -1,6 +1,7 @@
 -- The plan that rows say, published in a plan that has nothing.
-use Rattle.std.proofs.Common.{◌≡◌, ◌==◌, Bool, true, false, List, [], ◌∷◌, map, length, Option, Some, None, Result, Ok, is_ok, refl, sym, ap, subst, ◌∙◌, arith}
+use Rattle.std.proofs.Common.{◌≡◌, ℕ, ◌==◌, Bool, true, false, List, [], ◌∷◌, map, length, Option, Some, None, Result, Ok, is_ok, refl, sym, ap, subst, ◌∙◌, arith, nat_cmp}
 use Rattle.std.specs.Prelude.{IsSomeAnd}
+use Rattle.std.specs.FinMap.{FinMap, entries}
 use Rattle.std.proofs.lemmas.List.{nil_from_length}
 use Rattle.sqlite_value.specs.Order.{Row}
 use Rattle.bsp_rows.specs.Change.{Change}
@@ -14,6 +15,8 @@ use Rattle.bsp_rows.specs.Terms.{Terms}
 use Rattle.bsp_rows.specs.PlanFault.{PlanFault}
 use Rattle.bsp_rows.proofs.MadeLemmas.{made_again}
 use Rattle.bsp_rows.proofs.SoundLemmas.{closed_within}
+use Rattle.bsp_store_base.specs.declared.airlines.AirlineEntry.{AirlineEntry}
+use Rattle.bsp_store_base.specs.Airlines.{airline_entries}
 use Rattle.bsp_store_base.specs.Columns.{terms_rows}
 use Rattle.bsp_rows.specs.Rows.{Rows}
 use Rattle.bsp_rows.specs.Writes.{after_request, change_or_fault, is_held, plan_left, request_answer}
@@ -55,13 +58,14 @@ module _ (p : Published) (s : IsSoundPlan p) where
         let out : outcome old.published (Publish text) ≡ Ok made.0 = ap (λ q. outcome q (Publish text)) start ∙ made.1 in
         (ap is_ok told ∙ ap (λ r. is_ok (change_or_fault (is_held old.published (Publish text)) r)) out, made.0, after ∙ ap (λ r. record old { published = plan_left old.published r }) out, made.2)
 
-    module _ (formed : IsFormedPlan p) (stored : PlanRows) (are : AreRowsOfPlan p stored) where
+    module _ (tokens : FinMap nat_cmp (List ℕ)) (formed : IsFormedPlan p tokens) (stored : PlanRows) (are : AreRowsOfPlan p tokens stored) where
       pub without_terms : (length stored.terms.items == 0) ≡ true → Follows true old old p
       without_terms none = day_alone (no_terms p.terms stored.terms.items are.terms none)
 
-      module _ (some : (length stored.terms.items == 0) ≡ false) (found : Option PlanText) (says : (q : Published) (terms : Terms) → q.terms ≡ Some terms → IsFormedPlan q → AreRowsOfPlan q stored → IsSomeAnd found (IsTextOf q)) where
+      module _ (some : (length stored.terms.items == 0) ≡ false) (airlines : List (ℕ × AirlineEntry)) (listed : airlines ≡ entries (airline_entries p.airlines tokens)) (found : Option PlanText)
+          (says : (q : Published) (ts : FinMap nat_cmp (List ℕ)) (terms : Terms) → q.terms ≡ Some terms → IsSoundPlan q → IsFormedPlan q ts → AreRowsOfPlan q ts stored → airlines ≡ entries (airline_entries q.airlines ts) → IsSomeAnd found (IsTextOf q)) where
         text_found : IsSomeAnd found (IsTextOf p)
-        text_found = let has = has_terms p.terms stored.terms.items are.terms some in says p has.terms has.is formed are
+        text_found = let has = has_terms p.terms stored.terms.items are.terms some in says p tokens has.terms has.is s formed are listed
 
         pub no_text : found ≡ None → ⊥
         no_text none = subst (λ o. IsSomeAnd o (IsTextOf p)) none text_found

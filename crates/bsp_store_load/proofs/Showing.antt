@@ -1,5 +1,5 @@
 -- The rows of a table, read one at a time and put.
-use Rattle.std.proofs.Common.{◌≡◌, inl, inr, ℕ, Bool, true, false, List, [], ◌∷◌, ◌++◌, Some, None, IsPermutation, refl, sym, ap, subst, ◌∙◌, append_assoc, append-nil, arith}
+use Rattle.std.proofs.Common.{◌≡◌, inl, inr, ℕ, Bool, false, List, [], ◌∷◌, ◌++◌, Some, None, IsPermutation, refl, sym, ap, subst, ◌∙◌, append_assoc, append-nil, arith}
 use Rattle.std.proofs.lemmas.List.Sorted.{IsPermutation-refl}
 use Rattle.sqlite_value.specs.Order.{Row}
 use Rattle.sqlite_trees.specs.declared.store.Store.{Ghosts}
@@ -10,7 +10,6 @@ use Rattle.sqlite.specs.Listing.{understood}
 use Rattle.sqlite.specs.State.{CommitsShowing, IsUnchanged, State, Survives}
 use Rattle.sqlite.proofs.Callers.{IsPlain, begun_plain, given_begin, never_commits}
 use Rattle.sqlite.proofs.StateLemmas.{survives_weaker}
-use Rattle.bsp_rows.specs.Rows.{Rows}
 use Rattle.bsp_store_base.specs.Content.{Content}
 use Rattle.bsp_store_base.specs.Kept.{Part, Spares}
 use Rattle.bsp_store_base.specs.Schema.{our_schema}
@@ -48,13 +47,13 @@ module _ {S : Type 0} (g : Ghosts S) (old new : Held S) where
 
 -- ---- a table
 
-module _ (part : Part Content) {E : Type 0} (row_of : E → Row) (with_entry : E → Rows → Rows) (fits : E → Type 0) (lacks : E → Rows → Type 0) (rows_in : Rows → List Row) where
-  abbrev may : E → Rows → Type 0
+module _ (part : Part Content) {E W : Type 0} (row_of : E → Row) (with_entry : E → W → W) (fits : E → Type 0) (lacks : E → W → Type 0) (rows_in : W → List Row) where
+  abbrev may : E → W → Type 0
   may e rows = fits e × lacks e rows
 
   module _ {S : Type 0} (g : Ghosts S) where
     -- the rows so far were put
-    pub record IsSoFar (old now : Held S) (zero rows : Rows) : Type 0 where
+    pub record IsSoFar (old now : Held S) (zero rows : W) : Type 0 where
       pub text : List ℕ
       pub shows : ShowsTable part text
       pub unchanged : IsUnchanged (state g old) (state g now)
@@ -65,7 +64,7 @@ module _ (part : Part Content) {E : Type 0} (row_of : E → Row) (with_entry : E
       pub made : rows ≡ after_all with_entry entries zero
       pub follows : Follows row_of with_entry may before zero rows
 
-    pub begun : (text : List ℕ) → ShowsTable part text → (old now : Held S) (zero : Rows) → old.schema ≡ our_schema → HasBegun g text [] old now → IsSoFar old now zero zero
+    pub begun : (text : List ℕ) → ShowsTable part text → (old now : Held S) (zero : W) → old.schema ≡ our_schema → HasBegun g text [] old now → IsSoFar old now zero zero
     begun text shows old now zero ours made =
         let first = begun_plain g text [] old now (subst (λ s. IsPlain (understood s text)) (sym ours) shows.plain) made in
         record {
@@ -80,7 +79,7 @@ module _ (part : Part Content) {E : Type 0} (row_of : E → Row) (with_entry : E
           follows = none_yet row_of with_entry may zero;
         }
 
-    module _ (old now next : Held S) (ours : old.schema ≡ our_schema) (zero rows : Rows) (so_far : IsSoFar old now zero rows) (same : IsUnchanged (state g now) (state g next)) where
+    module _ (old now next : Held S) (ours : old.schema ≡ our_schema) (zero rows : W) (so_far : IsSoFar old now zero rows) (same : IsUnchanged (state g now) (state g next)) where
       whole : IsUnchanged (state g old) (state g next)
       whole = unchanged_both (state g old) (state g now) (state g next) so_far.unchanged same
 
@@ -104,11 +103,11 @@ module _ (part : Part Content) {E : Type 0} (row_of : E → Row) (with_entry : E
         entries = λ es all is. (refl, so_far.follows es all (sym (append-nil so_far.before) ∙ is));
       }
 
-      module _ (row : Row) (moved : Advances g now next (Some row)) (more : Rows) (done : Bool) (puts : Puts row_of with_entry may row rows more done) where
+      module _ (row : Row) (moved : Advances g now next (Some row)) (more : W) (done : Bool) (puts : Puts row_of with_entry may row rows more done) where
         given : HasGiven g so_far.text [] next (so_far.before ++ row ∷ [])
         given = moved so_far.text [] so_far.before so_far.given
 
-        pub row_put : (e : E) → lacks e rows → row ≡ row_of e → more ≡ with_entry e rows → ((entry : E) (all : Rows) → lacks entry all → IsPermutation (row_of entry ∷ rows_in all) (rows_in (with_entry entry all))) → IsSoFar old next zero more
+        pub row_put : (e : E) → lacks e rows → row ≡ row_of e → more ≡ with_entry e rows → ((entry : E) (all : W) → lacks entry all → IsPermutation (row_of entry ∷ rows_in all) (rows_in (with_entry entry all))) → IsSoFar old next zero more
         row_put e new is made adds = record {
           text = so_far.text;
           shows = so_far.shows;

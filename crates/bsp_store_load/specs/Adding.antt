@@ -1,35 +1,34 @@
 -- An entry whose key is new adds its row to those of its table.
-use Rattle.std.proofs.Common.{◌≡◌, ℕ, List, ◌∷◌, map, None, sym, subst, IsPermutation}
-use Rattle.std.specs.Cmp.{nat_cmp_total}
-use Rattle.std.specs.FinMap.{entries, get, insert}
-use Rattle.std.specs.Ordering.{nat_cmp}
+use Rattle.std.proofs.Common.{◌≡◌, ℕ, List, ◌∷◌, map, None, sym, subst, IsPermutation, Ordering}
+use Rattle.std.specs.Cmp.{IsTotalOrder, nat_cmp_total}
+use Rattle.std.specs.FinMap.{FinMap, entries, get, insert}
 use Rattle.std.proofs.lemmas.List.Sorted.{IsPermutation-sym}
+use Rattle.sqlite_value.specs.Order.{Row}
 use Rattle.bsp_rows.specs.Item.{Item}
 use Rattle.bsp_rows.specs.MemoFields.{MemoFields}
-use Rattle.bsp_rows.specs.Rows.{Rows, item_cmp, key_of, memo_cmp, memo_key, range_cmp, range_of}
-use Rattle.bsp_rows.specs.Writes.{with_agent_token, with_airline_token, with_item, with_memo, with_range}
+use Rattle.bsp_rows.specs.Rows.{Rows, key_of, memo_key, range_of}
+use Rattle.bsp_rows.specs.Writes.{with_agent_token, with_item, with_memo, with_range}
 use Rattle.bsp_rows.specs.declared.keys.ItemKey.{ItemKey}
 use Rattle.bsp_rows.specs.declared.keys.MemoKey.{MemoKey}
 use Rattle.bsp_rows.specs.declared.keys.RangeKey.{RangeKey}
 use Rattle.bsp_rows.proofs.KeyOrders.{item_total, memo_total, range_total}
-use Rattle.bsp_store_base.specs.Columns.{agent_row, airline_token_row, item_row, memo_row, stock_row}
+use Rattle.bsp_store_base.specs.Columns.{agent_row, item_row, memo_row, stock_row}
 use Rattle.bsp_store_base.proofs.Syncing.{rows_added}
 
-pub agent_added : (e : ℕ × List ℕ) (rows : Rows) → get rows.agents e.0 ≡ None → IsPermutation (agent_row e ∷ map agent_row (entries rows.agents)) (map agent_row (entries (with_agent_token e.0 e.1 rows).agents))
-agent_added e rows none = IsPermutation-sym _ _ (rows_added nat_cmp nat_cmp_total agent_row rows.agents e.0 e.1 none)
+-- to those of a map
+pub entry_added : {K V : Type 0} {R : K → K → Ordering} (o : IsTotalOrder R) (row_of : K × V → Row) (e : K × V) (m : FinMap R V) → get m e.0 ≡ None → IsPermutation (row_of e ∷ map row_of (entries m)) (map row_of (entries (insert m e.0 e.1)))
+entry_added {R = R} o row_of e m none = IsPermutation-sym _ _ (rows_added R o row_of m e.0 e.1 none)
 
-pub airline_added : (e : ℕ × List ℕ) (rows : Rows) → get rows.airlines e.0 ≡ None → IsPermutation (airline_token_row e ∷ map airline_token_row (entries rows.airlines)) (map airline_token_row (entries (with_airline_token e.0 e.1 rows).airlines))
-airline_added e rows none = IsPermutation-sym _ _ (rows_added nat_cmp nat_cmp_total airline_token_row rows.airlines e.0 e.1 none)
+pub agent_added : (e : ℕ × List ℕ) (rows : Rows) → get rows.agents e.0 ≡ None → IsPermutation (agent_row e ∷ map agent_row (entries rows.agents)) (map agent_row (entries (with_agent_token e.0 e.1 rows).agents))
+agent_added e rows none = entry_added nat_cmp_total agent_row e rows.agents none
 
 pub range_added : (e : RangeKey × ℕ) (rows : Rows) → get rows.ranges e.0 ≡ None → IsPermutation (stock_row e ∷ map stock_row (entries rows.ranges)) (map stock_row (entries (with_range e.0.agent (range_of e) rows).ranges))
-range_added e rows none = IsPermutation-sym _ _ (rows_added range_cmp range_total stock_row rows.ranges e.0 e.1 none)
+range_added e rows none = entry_added range_total stock_row e rows.ranges none
 
 pub item_added : (e : ItemKey × Item) (rows : Rows) → (key_of e.1 ≡ e.0) × (get rows.items e.0 ≡ None) → IsPermutation (item_row e ∷ map item_row (entries rows.items)) (map item_row (entries (with_item e.1 rows).items))
 item_added e rows new =
-    subst (λ k. IsPermutation (item_row e ∷ map item_row (entries rows.items)) (map item_row (entries (insert rows.items k e.1)))) (sym new.0)
-    (IsPermutation-sym _ _ (rows_added item_cmp item_total item_row rows.items e.0 e.1 new.1))
+    subst (λ k. IsPermutation (item_row e ∷ map item_row (entries rows.items)) (map item_row (entries (insert rows.items k e.1)))) (sym new.0) (entry_added item_total item_row e rows.items new.1)
 
 pub memo_added : (e : MemoKey × MemoFields) (rows : Rows) → (memo_key e.1 ≡ e.0) × (get rows.memos e.0 ≡ None) → IsPermutation (memo_row e ∷ map memo_row (entries rows.memos)) (map memo_row (entries (with_memo e.1 rows).memos))
 memo_added e rows new =
-    subst (λ k. IsPermutation (memo_row e ∷ map memo_row (entries rows.memos)) (map memo_row (entries (insert rows.memos k e.1)))) (sym new.0)
-    (IsPermutation-sym _ _ (rows_added memo_cmp memo_total memo_row rows.memos e.0 e.1 new.1))
+    subst (λ k. IsPermutation (memo_row e ∷ map memo_row (entries rows.memos)) (map memo_row (entries (insert rows.memos k e.1)))) (sym new.0) (entry_added memo_total memo_row e rows.memos new.1)

@@ -2,7 +2,6 @@
 use Rattle.std.specs.Prelude.{◌≡◌, ◌++◌, List, [], ◌∷◌, map, Option, Some, None, IfSome, IsPermutation}
 use Rattle.sqlite_value.specs.Order.{Row}
 use Rattle.sqlite_trees.specs.Tree.{Trees}
-use Rattle.bsp_rows.specs.Rows.{Rows}
 use Rattle.bsp_store_base.specs.Content.{Content, width_of}
 use Rattle.bsp_store_base.specs.Kept.{Part, columns_of}
 use Rattle.bsp_store_base.specs.Shows.{AreAllOf}
@@ -17,14 +16,15 @@ abbrev pub and_after : Option Row → List Row → List Row
 and_after None after = []
 and_after (Some row) after = row ∷ after
 
-module _ (part : Part Content) {E : Type 0} (row_of : E → Row) (with_entry : E → Rows → Rows) (fits : E → Type 0) (lacks : E → Rows → Type 0) (rows_in : Rows → List Row) where
-  -- the entry may be put into the rows
-  abbrev pub MayPut : E → Rows → Type 0
-  MayPut e rows = fits e × lacks e rows
+-- W is what the rows are put into, as clauses see it
+module _ (part : Part Content) {E W : Type 0} (row_of : E → Row) (with_entry : E → W → W) (fits : E → Type 0) (lacks : E → W → Type 0) (rows_in : W → List Row) where
+  -- the entry may be put into memory
+  abbrev pub MayPut : E → W → Type 0
+  MayPut e whole = fits e × lacks e whole
 
-  -- the rows of the table that the trees have, in the order in which they were read, and what those put have made of the
-  -- rows in memory: all of them, or all before one that was left
-  pub record IsLoaded (trees : Trees) (old new : Rows) (left : Option Row) : Type 0 where
+  -- the rows of the table that the trees have, in the order in which they were read, and what those put have made of what
+  -- is in memory: all of them, or all before one that was left
+  pub record IsLoaded (trees : Trees) (old new : W) (left : Option Row) : Type 0 where
     pub before : List Row
     pub after : List Row
     pub are : AreAllOf part trees (before ++ and_after left after)
@@ -36,5 +36,5 @@ module _ (part : Part Content) {E : Type 0} (row_of : E → Row) (with_entry : E
     pub entries : (es : List E) → MayAll with_entry MayPut es old → before ++ and_after left after ≡ map row_of es → (left ≡ None) × (new ≡ after_all with_entry es old)
 
   -- a row was left
-  abbrev pub LeavesRow : Trees → Rows → Rows → Type 0
+  abbrev pub LeavesRow : Trees → W → W → Type 0
   LeavesRow trees old new = (row : Row) × IsLoaded trees old new (Some row)

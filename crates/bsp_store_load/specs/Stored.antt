@@ -1,14 +1,18 @@
 -- The rows of the plan's tables, and what tables in memory are as a commit leaves them.
-use Rattle.std.specs.Prelude.{◌≡◌, ◌<◌, ◌^◌, ℕ, length, map, IfSome, IsOk, IsTrue, Some}
+use Rattle.std.specs.Prelude.{◌≡◌, ◌<◌, ◌^◌, ℕ, List, length, map, IfSome, IsOk, IsTrue, Some}
+use Rattle.std.specs.FinMap.{FinMap, entries}
 use Rattle.std.specs.List.{AllByRecursion}
+use Rattle.std.specs.Ordering.{nat_cmp}
 use Rattle.bsp_rows.specs.CivilDay.{is_day}
 use Rattle.bsp_rows.specs.History.Request.{Close}
 use Rattle.bsp_rows.specs.Period.{Period}
 use Rattle.bsp_rows.specs.Published.{Published}
 use Rattle.bsp_rows.specs.Rows.{Rows}
 use Rattle.bsp_rows.specs.Writes.{after_request, request_answer}
-use Rattle.bsp_store_base.specs.Columns.{airline_row, meta_rows, period_row, placed, rate_row, terms_rows}
-use Rattle.bsp_store_base.specs.Forms.{AreTerms, IsAirline, IsPeriod, IsRate}
+use Rattle.bsp_store_base.specs.declared.airlines.AirlineEntry.{AirlineEntry}
+use Rattle.bsp_store_base.specs.Airlines.{airline_entries, entry_of}
+use Rattle.bsp_store_base.specs.Columns.{airline_row, commission_tax_row, meta_rows, period_row, placed, rate_row, terms_rows}
+use Rattle.bsp_store_base.specs.Forms.{AreTerms, IsAirlineEntry, IsCommissionTax, IsPeriod, IsRate}
 use Rattle.bsp_memory_rows.specs.declared.tables.Tables.{Tables}
 use Rattle.bsp_memory_rows.specs.Tables.{IsDerived, WasDerived, committed_rows, rows_of}
 use Rattle.bsp_store_load.specs.declared.plan_rows.PlanRows.{PlanRows}
@@ -21,25 +25,32 @@ pub record AreCommitted (tables : Tables) : Type 0 where
 
 -- ---- the plan
 
--- they are the rows of the plan, table by table, each in the order of its entries
-pub record AreRowsOfPlan (p : Published) (rows : PlanRows) : Type 0 where
+-- they are the rows of the plan and of airlines with these tokens, table by table, each in the order of its entries
+pub record AreRowsOfPlan (p : Published) (tokens : FinMap nat_cmp (List ℕ)) (rows : PlanRows) : Type 0 where
   pub meta : rows.meta.items ≡ meta_rows (Some (record { day = p.day; closed = length p.closed }))
   pub terms : rows.terms.items ≡ terms_rows p.terms
-  pub airlines : rows.airlines.items ≡ map airline_row (placed 0 p.airlines)
+  pub airlines : rows.airlines.items ≡ map airline_row (entries (airline_entries p.airlines tokens))
   pub rates : rows.rates.items ≡ map rate_row (placed 0 p.rates)
   pub periods : rows.periods.items ≡ map period_row (placed 0 p.periods)
+  pub commission_taxes : rows.commission_taxes.items ≡ map commission_tax_row (placed 0 p.commission_taxes)
 
--- its values are such as the program's types have, and its places are integers of a store
-pub record IsFormedPlan (p : Published) : Type 0 where
+-- the values are such as the program's types have, and the places are integers of a store
+pub record IsFormedPlan (p : Published) (tokens : FinMap nat_cmp (List ℕ)) : Type 0 where
   pub day : IsTrue (is_day p.day)
   pub closed : length p.closed < 2 ^ 63
   pub terms : IfSome p.terms AreTerms
-  pub airlines : AllByRecursion IsAirline p.airlines
+  pub airlines : AllByRecursion IsAirlineEntry (entries (airline_entries p.airlines tokens))
   pub rates : AllByRecursion IsRate p.rates
   pub periods : AllByRecursion IsPeriod p.periods
-  pub airline_places : length p.airlines < 2 ^ 63
+  pub commission_taxes : AllByRecursion IsCommissionTax p.commission_taxes
   pub rate_places : length p.rates < 2 ^ 63
   pub period_places : length p.periods < 2 ^ 63
+  pub commission_tax_places : length p.commission_taxes < 2 ^ 63
+
+-- an airline that has a place or a token
+pub record IsListedAirline (e : ℕ × AirlineEntry) : Type 0 where
+  pub formed : IsAirlineEntry e
+  pub some : entry_of e.1.place e.1.token ≡ Some e.1
 
 -- ---- periods that are closed one after another
 

@@ -1,23 +1,22 @@
-//! The tables of callers: each row, put into memory.
+//! The tables of agents and of ranges: each row, put into memory.
 
 use crate::equal::is_row;
 use crate::load::StoredTable;
 use bsp_memory_rows::{NoRoom, Tables};
-use bsp_rows::{AgentCode, AirlineCode, DocNumber, RangeKey, Token};
-use bsp_store_callers::{
-    AgentRow, AirlineTokenRow, RangeRow, agents_query, airline_tokens_query, ranges_query,
-    read_agent, read_airline_token, read_range,
-};
+use bsp_rows::{AgentCode, DocNumber, RangeKey, Token};
+use bsp_store_callers::{AgentRow, RangeRow, agents_query, ranges_query, read_agent, read_range};
 use sqlite::Row;
 
 /// Tokens of agents.
 #[derive(Clone, Copy, Debug)]
 pub struct Agents;
 
-impl StoredTable<AgentCode, Token> for Agents {
+impl StoredTable<AgentCode, Token, Tables> for Agents {
     ghost use Rattle.std.specs.Prelude.{◌≡◌, map, None};
     ghost use Rattle.std.specs.FinMap.{entries, get};
+    ghost use Rattle.bsp_rows.specs.Rows.{Rows};
     ghost use Rattle.bsp_rows.specs.Writes.{with_agent_token};
+    ghost use Rattle.bsp_memory_rows.specs.Tables.{IsDerived, rows_of};
     ghost use Rattle.bsp_store_base.specs.Columns.{agent_row};
     ghost use Rattle.bsp_store_base.specs.Content.{agent_part};
     ghost use Rattle.bsp_store_base.specs.Forms.{IsAgentEntry};
@@ -25,11 +24,17 @@ impl StoredTable<AgentCode, Token> for Agents {
 
     ghost part = { agent_part };
 
+    ghost Whole = { Rows };
+
+    ghost whole = { rows_of };
+
+    ghost is_kept = { IsDerived };
+
     ghost row_of = { agent_row };
 
     ghost with_entry = { λ e. with_agent_token e.0 e.1 };
 
-    ghost fits = { IsAgentEntry };
+    ghost fits = { λ table e. IsAgentEntry e };
 
     ghost lacks = { λ e rows. get rows.agents e.0 ≡ None };
 
@@ -52,52 +57,7 @@ impl StoredTable<AgentCode, Token> for Agents {
             return Ok(false);
         }
         tables.set_agent_token(agent, token)?;
-        Ok(true)
-    }
-}
-
-/// Tokens of airlines.
-#[derive(Clone, Copy, Debug)]
-pub struct AirlineTokens;
-
-impl StoredTable<AirlineCode, Token> for AirlineTokens {
-    ghost use Rattle.std.specs.Prelude.{◌≡◌, map, None};
-    ghost use Rattle.std.specs.FinMap.{entries, get};
-    ghost use Rattle.bsp_rows.specs.Writes.{with_airline_token};
-    ghost use Rattle.bsp_store_base.specs.Columns.{airline_token_row};
-    ghost use Rattle.bsp_store_base.specs.Content.{airline_token_part};
-    ghost use Rattle.bsp_store_base.specs.Forms.{IsAirlineEntry};
-    ghost use Rattle.bsp_store_load.specs.Adding.{airline_added};
-
-    ghost part = { airline_token_part };
-
-    ghost row_of = { airline_token_row };
-
-    ghost with_entry = { λ e. with_airline_token e.0 e.1 };
-
-    ghost fits = { IsAirlineEntry };
-
-    ghost lacks = { λ e rows. get rows.airlines e.0 ≡ None };
-
-    ghost rows_in = { λ rows. map airline_token_row (entries rows.airlines) };
-
-    ghost adds = { airline_added };
-
-    fn query(&self) -> &'static str {
-        airline_tokens_query()
-    }
-
-    fn put(&self, tables: &mut Tables, row: &Row) -> Result<bool, NoRoom> {
-        let Some((airline, token)) = read_airline_token(row) else {
-            return Ok(false);
-        };
-        if !is_row(row, &AirlineTokenRow::of(airline, &token).values()) {
-            return Ok(false);
-        }
-        if tables.airline_token(airline).is_some() {
-            return Ok(false);
-        }
-        tables.set_airline_token(airline, token)?;
+        tables.commit();
         Ok(true)
     }
 }
@@ -106,11 +66,12 @@ impl StoredTable<AirlineCode, Token> for AirlineTokens {
 #[derive(Clone, Copy, Debug)]
 pub struct Ranges;
 
-impl StoredTable<RangeKey, DocNumber> for Ranges {
+impl StoredTable<RangeKey, DocNumber, Tables> for Ranges {
     ghost use Rattle.std.specs.Prelude.{◌≡◌, map, None};
     ghost use Rattle.std.specs.FinMap.{entries, get};
-    ghost use Rattle.bsp_rows.specs.Rows.{range_of};
+    ghost use Rattle.bsp_rows.specs.Rows.{Rows, range_of};
     ghost use Rattle.bsp_rows.specs.Writes.{with_range};
+    ghost use Rattle.bsp_memory_rows.specs.Tables.{IsDerived, rows_of};
     ghost use Rattle.bsp_store_base.specs.Columns.{stock_row};
     ghost use Rattle.bsp_store_base.specs.Content.{stock_part};
     ghost use Rattle.bsp_store_base.specs.Forms.{IsRangeEntry};
@@ -118,11 +79,17 @@ impl StoredTable<RangeKey, DocNumber> for Ranges {
 
     ghost part = { stock_part };
 
+    ghost Whole = { Rows };
+
+    ghost whole = { rows_of };
+
+    ghost is_kept = { IsDerived };
+
     ghost row_of = { stock_row };
 
     ghost with_entry = { λ e. with_range e.0.agent (range_of e) };
 
-    ghost fits = { IsRangeEntry };
+    ghost fits = { λ table e. IsRangeEntry e };
 
     ghost lacks = { λ e rows. get rows.ranges e.0 ≡ None };
 
@@ -145,6 +112,7 @@ impl StoredTable<RangeKey, DocNumber> for Ranges {
             return Ok(false);
         }
         tables.add_range(key.agent, &key.up_to(last))?;
+        tables.commit();
         Ok(true)
     }
 }

@@ -1,55 +1,84 @@
-//! Tables in memory with the plan of a store.
+//! Tables in memory with the plan and the tokens of airlines of a store.
 
-ghost use Rattle.std.specs.Prelude.{◌≡◌, true, IfOk, IfSome, IsSomeAnd, IsTrue, OnOk};
+ghost use Rattle.std.specs.Prelude.{◌≡◌, ℕ, List, true, IfOk, IfSome, IsSomeAnd, IsTrue, OnOk};
+ghost use Rattle.std.specs.FinMap.{FinMap, empty};
+ghost use Rattle.std.specs.Ordering.{nat_cmp};
 ghost use Rattle.bsp_rows.specs.Published.{Published, opening};
 ghost use Rattle.bsp_rows.specs.SoundPlan.{IsSoundPlan};
 ghost use Rattle.bsp_rows.specs.Rows.{Rows, no_rows};
 ghost use Rattle.bsp_memory_rows.specs.Tables.{IsDerived, rows_of};
 ghost use Rattle.bsp_store_load.specs.Stored.{AreRowsOfPlan, IsFormedPlan};
 
-use crate::plan::{are_airlines, are_meta, are_periods, are_rates, are_terms};
+use crate::airline_map::are_airlines;
+use crate::airlines::{airlines_in, put_tokens};
+use crate::plan::{are_commission_taxes, are_meta, are_periods, are_rates, are_terms};
 use crate::plan_rows::PlanRows;
 use crate::published::put_plan;
 use bsp_memory_rows::{NoRoom, Tables};
-use bsp_rows::Plan;
-use std::alloc::Global;
+use std::alloc::{AllocError, Global};
 
-/// Whether the rows are those of the plan, table by table and in the same order.
-fn are_rows_of_plan(rows: &PlanRows, plan: &Plan) -> bool
-    ensures same { IsTrue result → AreRowsOfPlan plan.now rows.now }
-    ensures whole { IsFormedPlan plan.now → AreRowsOfPlan plan.now rows.now → IsTrue result }
+/// Whether the rows are those of the plan of tables and of their airlines, table by table and in the same order.
+fn are_rows_of_plan(alloc: Global, rows: &PlanRows, tables: &Tables) -> Result<bool, AllocError>
+    ensures same { IfOk result (λ are. IsTrue are → AreRowsOfPlan (rows_of tables.now).published (rows_of tables.now).airlines rows.now) }
+    ensures whole { IfOk result (λ are. IsFormedPlan (rows_of tables.now).published (rows_of tables.now).airlines → AreRowsOfPlan (rows_of tables.now).published (rows_of tables.now).airlines rows.now → IsTrue are) }
 {
-    are_meta(&rows.meta, plan)
-        && are_terms(&rows.terms, plan)
-        && are_airlines(&rows.airlines, plan)
-        && are_rates(&rows.rates, plan)
-        && are_periods(&rows.periods, plan)
+    let airlines = are_airlines(alloc, &rows.airlines, tables)?;
+    let plan = tables.plan();
+    Ok(
+        airlines
+            && are_meta(&rows.meta, plan)
+            && are_terms(&rows.terms, plan)
+            && are_rates(&rows.rates, plan)
+            && are_periods(&rows.periods, plan)
+            && are_commission_taxes(&rows.commission_taxes, plan),
+    )
 }
 
-/// Makes the plan that rows say in tables that have none, and answers false where they are the rows of no plan.
-fn put_whole_plan(alloc: Global, tables: &mut Tables, rows: &PlanRows) -> Result<bool, NoRoom>
+/// Puts the plan that rows say, and the tokens of airlines, into tables that have none, and answers false where the rows
+/// are those of no plan.
+fn put_rows(alloc: Global, tables: &mut Tables, rows: &PlanRows) -> Result<bool, NoRoom>
     ensures derived { OnOk result (IsDerived tables.old → IsDerived tables.new) }
-    ensures others { OnOk result (rows_of tables.new ≡ record (rows_of tables.old) { published = (rows_of tables.new).published }) }
-    ensures rows { IfOk result (λ done. IsTrue done → AreRowsOfPlan (rows_of tables.new).published rows.now) }
-    ensures plan { IfOk result (λ done. (p : Published) → IsSoundPlan p → IsFormedPlan p → AreRowsOfPlan p rows.now → (rows_of tables.old).published ≡ opening
-        → (done ≡ true) × (rows_of tables.new ≡ record (rows_of tables.old) { published = p })) }
+    ensures others { OnOk result (rows_of tables.new ≡ record (rows_of tables.old) { published = (rows_of tables.new).published; airlines = (rows_of tables.new).airlines }) }
+    ensures plan { IfOk result (λ done. (p : Published) (tokens : FinMap nat_cmp (List ℕ)) → IsSoundPlan p → IsFormedPlan p tokens → AreRowsOfPlan p tokens rows.now → (rows_of tables.old).published ≡ opening → (rows_of tables.old).airlines ≡ empty
+        → (done ≡ true) × (rows_of tables.new ≡ record (rows_of tables.old) { published = p; airlines = tokens })) }
 {
-    if !put_plan(alloc, tables, rows)? {
+    let Some(airlines) = airlines_in(alloc, &rows.airlines)? else {
+        return Ok(false);
+    };
+    if !put_plan(alloc, tables, rows, &airlines)? {
         return Ok(false);
     }
-    Ok(are_rows_of_plan(rows, tables.plan()))
+    put_tokens(tables, &airlines)?;
+    Ok(true)
 }
 
-/// Tables in memory with the plan whose rows these are, and nothing else; none where they are the rows of no plan.
+/// Makes the plan that rows say, with the tokens of airlines, in tables that have none, and answers false where they are
+/// the rows of no plan.
+fn put_whole_plan(alloc: Global, tables: &mut Tables, rows: &PlanRows) -> Result<bool, NoRoom>
+    ensures derived { OnOk result (IsDerived tables.old → IsDerived tables.new) }
+    ensures others { OnOk result (rows_of tables.new ≡ record (rows_of tables.old) { published = (rows_of tables.new).published; airlines = (rows_of tables.new).airlines }) }
+    ensures rows { IfOk result (λ done. IsTrue done → AreRowsOfPlan (rows_of tables.new).published (rows_of tables.new).airlines rows.now) }
+    ensures plan { IfOk result (λ done. (p : Published) (tokens : FinMap nat_cmp (List ℕ)) → IsSoundPlan p → IsFormedPlan p tokens → AreRowsOfPlan p tokens rows.now → (rows_of tables.old).published ≡ opening → (rows_of tables.old).airlines ≡ empty
+        → (done ≡ true) × (rows_of tables.new ≡ record (rows_of tables.old) { published = p; airlines = tokens })) }
+{
+    if !put_rows(alloc, tables, rows)? {
+        return Ok(false);
+    }
+    Ok(are_rows_of_plan(alloc, rows, tables)?)
+}
+
+/// Tables in memory with the plan and the tokens of airlines whose rows these are, and nothing else; none where they are
+/// the rows of no plan.
 ///
 /// # Errors
 ///
 /// `NoRoom` where an allocation was refused.
 pub fn plan_tables(alloc: Global, rows: &PlanRows) -> Result<Option<Tables>, NoRoom>
     ensures derived { IfOk result (λ found. IfSome found IsDerived) }
-    ensures rows { IfOk result (λ found. IfSome found (λ tables. AreRowsOfPlan (rows_of tables).published rows.now)) }
-    ensures alone { IfOk result (λ found. IfSome found (λ tables. rows_of tables ≡ record no_rows { published = (rows_of tables).published })) }
-    ensures plan { IfOk result (λ found. (p : Published) → IsSoundPlan p → IsFormedPlan p → AreRowsOfPlan p rows.now → IsSomeAnd found (λ tables. rows_of tables ≡ record no_rows { published = p })) }
+    ensures rows { IfOk result (λ found. IfSome found (λ tables. AreRowsOfPlan (rows_of tables).published (rows_of tables).airlines rows.now)) }
+    ensures alone { IfOk result (λ found. IfSome found (λ tables. rows_of tables ≡ record no_rows { published = (rows_of tables).published; airlines = (rows_of tables).airlines })) }
+    ensures plan { IfOk result (λ found. (p : Published) (tokens : FinMap nat_cmp (List ℕ)) → IsSoundPlan p → IsFormedPlan p tokens → AreRowsOfPlan p tokens rows.now
+        → IsSomeAnd found (λ tables. rows_of tables ≡ record no_rows { published = p; airlines = tokens })) }
 {
     let mut tables = Tables::new(alloc);
     if put_whole_plan(alloc, &mut tables, rows)? {

@@ -9,12 +9,13 @@ use std::alloc::Global;
 
 /// Whether nothing is published, no period is closed, and this is the business day.
 fn is_first_plan(plan: &Plan, day: Day) -> bool
-    ensures { IsTrue result ↔ (plan.now ≡ record { terms = None; airlines = []; rates = []; periods = []; day = day; closed = [] }) }
+    ensures { IsTrue result ↔ (plan.now ≡ record { terms = None; airlines = []; rates = []; periods = []; commission_taxes = []; day = day; closed = [] }) }
 {
     plan.terms().is_none()
         && plan.airlines().is_empty()
         && plan.rates().is_empty()
         && plan.periods().is_empty()
+        && plan.commission_taxes().is_empty()
         && plan.closed_count() == 0
         && plan.day() == day
 }

@@ -1,13 +1,20 @@
 //! The rows of a book in memory, made from all rows of its tables.
 //!
-//! [`plan_tables`] makes tables in memory with the plan. [`load_table`] puts the rows of a further table into them, one
-//! at a time as a query shows them. [`are_tallies`] says whether the tallies of a store are those of the tables.
+//! [`plan_tables`] makes tables in memory with the plan and the tokens of airlines. [`load_table`] puts the rows of a
+//! further table into them, one at a time as a query shows them. The taxes and the second related documents of items are
+//! put into maps first, with which the items are then put. [`are_taxes`] and [`are_seconds`] say whether these maps are
+//! those of the items in memory, [`are_tallies`] and [`are_tally_taxes`] whether the tallies of a store are those of the
+//! tables.
 #![tactic(auto)]
 
+mod airline_map;
+mod airlines;
 mod callers;
 mod compared;
+mod entries;
 mod equal;
 mod first;
+mod item_taxes;
 mod items;
 mod listed;
 mod load;
@@ -15,20 +22,27 @@ mod memos;
 mod plan;
 mod plan_rows;
 mod published;
+mod seconds;
 mod tallies;
 
 pub use bsp_memory_rows::{NoRoom, SavedPlan, Tables};
+pub use bsp_rows::{ItemKey, ReportedDocument};
+pub use bsp_store_base::{ItemTax, TicketKey};
 pub use bsp_store_memos::all_tallies;
 pub use bsp_store_plan::{
-    VERSION, all_airlines, all_meta, all_periods, all_rates, all_terms, read_version,
+    VERSION, all_airlines, all_commission_taxes, all_meta, all_periods, all_rates, all_terms,
+    read_version,
 };
-pub use callers::{Agents, AirlineTokens, Ranges};
+pub use bsp_store_taxes::all_tally_taxes;
+pub use callers::{Agents, Ranges};
 pub use compared::plan_tables;
 pub use equal::is_row;
 pub use first::has_nothing;
+pub use item_taxes::{StoredTaxes, are_taxes};
 pub use items::StoredItems;
 pub use listed::{RowOf, are_placed_rows_of, are_rows_of};
 pub use load::{StoredTable, load_table};
 pub use memos::StoredMemos;
 pub use plan_rows::PlanRows;
-pub use tallies::are_tallies;
+pub use seconds::{StoredSeconds, are_seconds};
+pub use tallies::{are_tallies, are_tally_taxes};

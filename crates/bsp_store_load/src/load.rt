@@ -3,20 +3,17 @@
 ghost use Rattle.std.specs.Prelude.{◌≡◌, false, true, IfOk, IsTrue, OnOk};
 ghost use Rattle.sqlite.specs.Held.{state};
 ghost use Rattle.sqlite.specs.State.{HasCleanDisk};
-ghost use Rattle.bsp_memory_rows.specs.Tables.{IsDerived, rows_of};
 ghost use Rattle.bsp_store_base.specs.Schema.{our_schema};
 ghost use Rattle.bsp_store_base.specs.Kept.{Reads, Spares};
 ghost use Rattle.bsp_store_load.specs.Loading.{IsLoaded};
 
-use bsp_memory_rows::{NoRoom, Tables};
+use bsp_memory_rows::NoRoom;
 use sqlite::{Alter, Connection, Error, ErrorCode, Row};
 
-/// A table of the store whose rows are put into memory one at a time.
-pub trait StoredTable<K, V> {
+/// A table of the store whose rows are put into memory one at a time: into `M`, such as the tables in memory, or a map.
+pub trait StoredTable<K, V, M> {
     ghost use Rattle.std.specs.Prelude.{◌≡◌, ◌∷◌, List, false, true, IfOk, IsTrue, OnOk, IsPermutation};
     ghost use Rattle.sqlite_value.specs.Order.{Row as Values};
-    ghost use Rattle.bsp_rows.specs.Rows.{Rows};
-    ghost use Rattle.bsp_memory_rows.specs.Tables.{IsDerived, rows_of};
     ghost use Rattle.bsp_store_base.specs.Content.{Content};
     ghost use Rattle.bsp_store_base.specs.Kept.{Part};
     ghost use Rattle.bsp_store_base.specs.Shows.{ShowsTable};
@@ -24,51 +21,55 @@ pub trait StoredTable<K, V> {
     // the table
     ghost part: { Part Content };
 
-    // the row of an entry, and the rows in memory with the entry
+    // what is in memory, as clauses see it, and what else is kept of it
+    ghost Whole: { Type 0 };
+
+    ghost whole: { M → Whole };
+
+    ghost is_kept: { M → Type 0 };
+
+    // the row of an entry, and what is in memory with the entry
     ghost row_of: { K × V → Values };
 
-    ghost with_entry: { K × V → Rows → Rows };
+    ghost with_entry: { K × V → Whole → Whole };
 
     // the entry is one that a book may have
-    ghost fits: { K × V → Type 0 };
+    ghost fits: { Self → K × V → Type 0 };
 
-    // the rows in memory have nothing at the entry's key
-    ghost lacks: { K × V → Rows → Type 0 };
+    // nothing is in memory at the entry's key
+    ghost lacks: { K × V → Whole → Type 0 };
 
     // the rows of this table that are in memory
-    ghost rows_in: { Rows → List Values };
+    ghost rows_in: { Whole → List Values };
 
-    ghost adds: { (e : K × V) (rows : Rows) → lacks e rows → IsPermutation (row_of e ∷ rows_in rows) (rows_in (with_entry e rows)) };
+    ghost adds: { (e : K × V) (all : Whole) → lacks e all → IsPermutation (row_of e ∷ rows_in all) (rows_in (with_entry e all)) };
 
     /// The query for its rows, in the order of their keys.
     fn query(&self) -> &'static str
         ensures { ShowsTable part result.now };
 
-    /// Puts the entry of a row into memory. It answers false, and puts nothing, where the row is not that of an entry, or
-    /// there is an entry of its key.
-    fn put(&self, tables: &mut Tables, row: &Row) -> Result<bool, NoRoom>
-        ensures derived { OnOk result (IsDerived tables.old → IsDerived tables.new) }
-        ensures kept { IfOk result (λ done. done ≡ false → rows_of tables.new ≡ rows_of tables.old) }
-        ensures row { IfOk result (λ done. IsTrue done → (e : K × V) × (row.now ≡ row_of e) × lacks e (rows_of tables.old) × (rows_of tables.new ≡ with_entry e (rows_of tables.old))) }
-        ensures entry { IfOk result (λ done. (e : K × V) → fits e → lacks e (rows_of tables.old) → row.now ≡ row_of e → (done ≡ true) × (rows_of tables.new ≡ with_entry e (rows_of tables.old))) };
+    /// Puts the entry of a row into memory, and keeps nothing to undo it. It answers false, and puts nothing, where the
+    /// row is not that of an entry, or there is an entry of its key.
+    fn put(&self, memory: &mut M, row: &Row) -> Result<bool, NoRoom>
+        ensures derived { OnOk result (is_kept memory.old → is_kept memory.new) }
+        ensures kept { IfOk result (λ done. done ≡ false → whole memory.new ≡ whole memory.old) }
+        ensures row { IfOk result (λ done. IsTrue done → (e : K × V) × (row.now ≡ row_of e) × lacks e (whole memory.old) × (whole memory.new ≡ with_entry e (whole memory.old))) }
+        ensures entry { IfOk result (λ done. (e : K × V) → fits self.now e → lacks e (whole memory.old) → row.now ≡ row_of e → (done ≡ true) × (whole memory.new ≡ with_entry e (whole memory.old))) };
 }
 
-/// Puts the entry of a row into memory, and keeps nothing to undo it.
-fn put_row<K, V, T: StoredTable<K, V>>(
+/// Puts the entry of a row into memory.
+fn put_row<K, V, M, T: StoredTable<K, V, M>>(
     table: &T,
-    tables: &mut Tables,
+    memory: &mut M,
     row: &Row,
 ) -> Result<bool, Error>
-    ensures derived { OnOk result (IsDerived tables.old → IsDerived tables.new) }
-    ensures kept { IfOk result (λ done. done ≡ false → rows_of tables.new ≡ rows_of tables.old) }
-    ensures row { IfOk result (λ done. IsTrue done → (e : K × V) × (row.now ≡ T.row_of e) × T.lacks e (rows_of tables.old) × (rows_of tables.new ≡ T.with_entry e (rows_of tables.old))) }
-    ensures entry { IfOk result (λ done. (e : K × V) → T.fits e → T.lacks e (rows_of tables.old) → row.now ≡ T.row_of e → (done ≡ true) × (rows_of tables.new ≡ T.with_entry e (rows_of tables.old))) }
+    ensures derived { OnOk result (T.is_kept memory.old → T.is_kept memory.new) }
+    ensures kept { IfOk result (λ done. done ≡ false → T.whole memory.new ≡ T.whole memory.old) }
+    ensures row { IfOk result (λ done. IsTrue done → (e : K × V) × (row.now ≡ T.row_of e) × T.lacks e (T.whole memory.old) × (T.whole memory.new ≡ T.with_entry e (T.whole memory.old))) }
+    ensures entry { IfOk result (λ done. (e : K × V) → T.fits table.now e → T.lacks e (T.whole memory.old) → row.now ≡ T.row_of e → (done ≡ true) × (T.whole memory.new ≡ T.with_entry e (T.whole memory.old))) }
 {
-    match table.put(tables, row) {
-        Ok(done) => {
-            tables.commit();
-            Ok(done)
-        }
+    match table.put(memory, row) {
+        Ok(done) => Ok(done),
         Err(NoRoom) => Err(Error::SqliteFailure(ErrorCode::OutOfMemory)),
     }
 }
@@ -79,13 +80,13 @@ fn put_row<K, V, T: StoredTable<K, V>>(
 ///
 /// Those of the store. `OutOfMemory` also where an allocation in memory is refused, or a count or a sum of a tally does
 /// not fit its type.
-pub fn load_table<S: Alter, K, V, T: StoredTable<K, V>>(
+pub fn load_table<S: Alter, K, V, M, T: StoredTable<K, V, M>>(
     table: &T,
     conn: &mut Connection<S>,
-    tables: &mut Tables,
+    memory: &mut M,
 ) -> Result<Option<Row>, Error>
-    ensures derived { OnOk result (IsDerived tables.old → IsDerived tables.new) }
-    ensures loaded { conn.old.schema ≡ our_schema → HasCleanDisk (state S.Store conn.new) → IfOk result (λ left. IsLoaded T.part T.row_of T.with_entry T.fits T.lacks T.rows_in (state S.Store conn.old).now.trees (rows_of tables.old) (rows_of tables.new) left) }
+    ensures derived { OnOk result (T.is_kept memory.old → T.is_kept memory.new) }
+    ensures loaded { conn.old.schema ≡ our_schema → HasCleanDisk (state S.Store conn.new) → IfOk result (λ left. IsLoaded T.part T.row_of T.with_entry (T.fits table.now) T.lacks T.rows_in (state S.Store conn.old).now.trees (T.whole memory.old) (T.whole memory.new) left) }
     ensures read { OnOk result (conn.old.schema ≡ our_schema → Reads S.Store conn.old conn.new) }
     ensures spares { conn.old.schema ≡ our_schema → Spares S.Store conn.old conn.new }
 {
@@ -94,7 +95,7 @@ pub fn load_table<S: Alter, K, V, T: StoredTable<K, V>>(
         let Some(row) = rows.next()? else {
             return Ok(None);
         };
-        if !put_row(table, tables, row)? {
+        if !put_row(table, memory, row)? {
             return Ok(Some(row.copy()?));
         }
     }

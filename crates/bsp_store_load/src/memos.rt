@@ -11,12 +11,13 @@ use sqlite::Row;
 #[derive(Clone, Copy, Debug)]
 pub struct StoredMemos;
 
-impl StoredTable<MemoKey, Memo> for StoredMemos {
+impl StoredTable<MemoKey, Memo, Tables> for StoredMemos {
     ghost use Rattle.std.specs.Prelude.{◌≡◌, map, None, true};
     ghost use Rattle.std.specs.FinMap.{entries, get};
     ghost use Rattle.bsp_rows.specs.Memos.{is_memo};
-    ghost use Rattle.bsp_rows.specs.Rows.{memo_key};
+    ghost use Rattle.bsp_rows.specs.Rows.{Rows, memo_key};
     ghost use Rattle.bsp_rows.specs.Writes.{with_memo};
+    ghost use Rattle.bsp_memory_rows.specs.Tables.{IsDerived, rows_of};
     ghost use Rattle.bsp_store_base.specs.Columns.{memo_row};
     ghost use Rattle.bsp_store_base.specs.Content.{memo_part};
     ghost use Rattle.bsp_store_base.specs.Forms.{IsMemoEntry};
@@ -24,11 +25,17 @@ impl StoredTable<MemoKey, Memo> for StoredMemos {
 
     ghost part = { memo_part };
 
+    ghost Whole = { Rows };
+
+    ghost whole = { rows_of };
+
+    ghost is_kept = { IsDerived };
+
     ghost row_of = { memo_row };
 
     ghost with_entry = { λ e. with_memo e.1 };
 
-    ghost fits = { λ e. IsMemoEntry e × (memo_key e.1 ≡ e.0) × (is_memo e.1 ≡ true) };
+    ghost fits = { λ table e. IsMemoEntry e × (memo_key e.1 ≡ e.0) × (is_memo e.1 ≡ true) };
 
     ghost lacks = { λ e rows. (memo_key e.1 ≡ e.0) × (get rows.memos e.0 ≡ None) };
 
@@ -52,6 +59,7 @@ impl StoredTable<MemoKey, Memo> for StoredMemos {
             return Ok(false);
         }
         tables.put_memo(&memo)?;
+        tables.commit();
         Ok(true)
     }
 }

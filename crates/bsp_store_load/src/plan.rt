@@ -1,12 +1,12 @@
-//! The tables of the plan: each row against the plan in memory.
+//! The tables of the plan beside that of airlines: each row against the plan in memory.
 
 ghost use Rattle.std.specs.Prelude.{◌≡◌, ◌↔◌, ◌<◌, ◌^◌, length, map, IsTrue, Some};
-ghost use Rattle.bsp_store_base.specs.Columns.{airline_row, meta_rows, period_row, placed, rate_row, terms_rows};
+ghost use Rattle.bsp_store_base.specs.Columns.{commission_tax_row, meta_rows, period_row, placed, rate_row, terms_rows};
 
 use crate::equal::{is_only_row, is_row};
 use crate::listed::{RowOf, are_placed_rows_of};
-use bsp_rows::{AirlineCode, Period, Plan, Rate};
-use bsp_store_plan::{AirlineRow, MetaRow, PeriodRow, RateRow, TermsRow};
+use bsp_rows::{CommissionTax, Period, Plan, Rate};
+use bsp_store_plan::{CommissionTaxRow, MetaRow, PeriodRow, RateRow, TermsRow};
 use sqlite::Row;
 
 /// Whether a count fits the integers of a store.
@@ -14,23 +14,6 @@ fn is_integer(count: usize) -> bool
     ensures { IsTrue result ↔ (count < 2 ^ 63) }
 {
     (count as u64) < 1 << 63
-}
-
-/// Published airlines.
-#[derive(Clone, Copy, Debug)]
-struct Airlines;
-
-impl RowOf<usize, AirlineCode> for Airlines {
-    ghost use Rattle.bsp_store_base.specs.Columns.{airline_row};
-    ghost use Rattle.std.specs.Prelude.{◌<◌, ◌^◌};
-
-    ghost row_of = { airline_row };
-
-    ghost has_row = { λ e. e.0 < 2 ^ 63 };
-
-    fn is_row_of(&self, row: &Row, place: &usize, airline: &AirlineCode) -> bool {
-        is_integer(*place) && is_row(row, &AirlineRow::of(*place, *airline).values())
-    }
 }
 
 /// Rates of commission.
@@ -67,6 +50,23 @@ impl RowOf<usize, Period> for Periods {
     }
 }
 
+/// Taxes on commission.
+#[derive(Clone, Copy, Debug)]
+struct CommissionTaxes;
+
+impl RowOf<usize, CommissionTax> for CommissionTaxes {
+    ghost use Rattle.bsp_store_base.specs.Columns.{commission_tax_row};
+    ghost use Rattle.std.specs.Prelude.{◌<◌, ◌^◌};
+
+    ghost row_of = { commission_tax_row };
+
+    ghost has_row = { λ e. e.0 < 2 ^ 63 };
+
+    fn is_row_of(&self, row: &Row, place: &usize, tax: &CommissionTax) -> bool {
+        is_integer(*place) && is_row(row, &CommissionTaxRow::of(*place, tax).values())
+    }
+}
+
 /// Whether there is one row, of the plan's business day and of how many of its periods are closed.
 pub(crate) fn are_meta(rows: &[Row], plan: &Plan) -> bool
     ensures same { IsTrue result → rows.now ≡ meta_rows (Some (record { day = plan.now.day; closed = length plan.now.closed })) }
@@ -86,14 +86,6 @@ pub(crate) fn are_terms(rows: &[Row], plan: &Plan) -> bool
     }
 }
 
-/// Whether the rows are those of the plan's airlines.
-pub(crate) fn are_airlines(rows: &[Row], plan: &Plan) -> bool
-    ensures same { IsTrue result → rows.now ≡ map airline_row (placed 0 plan.now.airlines) }
-    ensures whole { length plan.now.airlines < 2 ^ 63 → rows.now ≡ map airline_row (placed 0 plan.now.airlines) → IsTrue result }
-{
-    are_placed_rows_of(&Airlines, rows, plan.airlines())
-}
-
 /// Whether the rows are those of the plan's rates.
 pub(crate) fn are_rates(rows: &[Row], plan: &Plan) -> bool
     ensures same { IsTrue result → rows.now ≡ map rate_row (placed 0 plan.now.rates) }
@@ -108,4 +100,12 @@ pub(crate) fn are_periods(rows: &[Row], plan: &Plan) -> bool
     ensures whole { length plan.now.periods < 2 ^ 63 → rows.now ≡ map period_row (placed 0 plan.now.periods) → IsTrue result }
 {
     are_placed_rows_of(&Periods, rows, plan.periods())
+}
+
+/// Whether the rows are those of the plan's taxes on commission.
+pub(crate) fn are_commission_taxes(rows: &[Row], plan: &Plan) -> bool
+    ensures same { IsTrue result → rows.now ≡ map commission_tax_row (placed 0 plan.now.commission_taxes) }
+    ensures whole { length plan.now.commission_taxes < 2 ^ 63 → rows.now ≡ map commission_tax_row (placed 0 plan.now.commission_taxes) → IsTrue result }
+{
+    are_placed_rows_of(&CommissionTaxes, rows, plan.commission_taxes())
 }

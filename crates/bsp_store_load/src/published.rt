@@ -1,24 +1,30 @@
 //! The plan that rows say, published in tables in memory.
 
 ghost use Rattle.std.specs.Prelude.{◌≡◌, ◌∷◌, ℕ, List, map, true, IfOk, IsSomeAnd, OnOk, Some};
+ghost use Rattle.std.specs.FinMap.{FinMap, entries};
 ghost use Rattle.std.specs.List.{AllByRecursion};
+ghost use Rattle.std.specs.Ordering.{nat_cmp};
 ghost use Rattle.bsp_rows.specs.History.{IsReached, IsTextOf};
 ghost use Rattle.bsp_rows.specs.History.Request.{Close, SetDay};
 ghost use Rattle.bsp_rows.specs.Published.{Published, opening};
 ghost use Rattle.bsp_rows.specs.SoundPlan.{IsSoundPlan};
 ghost use Rattle.bsp_rows.specs.Period.{Period as PeriodEntry};
 ghost use Rattle.bsp_rows.specs.Rate.{Rate as RateEntry};
+ghost use Rattle.bsp_rows.specs.CommissionTax.{CommissionTax as TaxEntry};
 ghost use Rattle.bsp_rows.specs.Terms.{Terms as TermsEntry};
-ghost use Rattle.bsp_store_base.specs.Columns.{Meta, airline_row, meta_rows, period_row, placed, rate_row, terms_rows};
-ghost use Rattle.bsp_store_base.specs.Forms.{AreTerms, IsAirline, IsMeta, IsPeriod, IsRate};
+ghost use Rattle.bsp_store_base.specs.Airlines.{airline_entries};
+ghost use Rattle.bsp_store_base.specs.Columns.{Meta, commission_tax_row, meta_rows, period_row, placed, rate_row, terms_rows};
+ghost use Rattle.bsp_store_base.specs.Forms.{AreTerms, IsCommissionTax, IsMeta, IsPeriod, IsRate};
 ghost use Rattle.bsp_memory_rows.specs.Tables.{IsDerived, rows_of};
 ghost use Rattle.bsp_store_load.specs.Entries.{MayAll, after_all};
 ghost use Rattle.bsp_store_load.specs.Stored.{AreRowsOfPlan, IsFormedPlan, MayClose, closing};
 
+use crate::airlines::published_in;
 use crate::plan_rows::PlanRows;
 use bsp_memory_rows::{NoRoom, Tables};
-use bsp_rows::{AirlineCode, Day, Period, PlanText, Rate, Terms};
-use bsp_store_plan::{read_airline, read_meta, read_period, read_rate, read_terms};
+use bsp_rows::{AirlineCode, CommissionTax, Day, Period, PlanText, Rate, Terms};
+use bsp_store_base::AirlineEntry;
+use bsp_store_plan::{read_commission_tax, read_meta, read_period, read_rate, read_terms};
 use sqlite::Row;
 use std::alloc::{AllocError, Global};
 
@@ -34,20 +40,6 @@ fn terms_in(rows: &[Row]) -> Option<Terms>
     ensures { (terms : TermsEntry) → AreTerms terms → rows.now ≡ terms_rows (Some terms) → result ≡ Some terms }
 {
     read_terms(rows.first()?)
-}
-
-/// The airlines of rows; none where one reads as none.
-fn airlines_in(alloc: Global, rows: &[Row]) -> Result<Option<Vec<AirlineCode>>, AllocError>
-    ensures { IfOk result (λ found. (values : List ℕ) → AllByRecursion IsAirline values → rows.now ≡ map airline_row (placed 0 values) → IsSomeAnd found (λ v. v.items ≡ values)) }
-{
-    let mut found = Vec::new(alloc);
-    for row in rows {
-        let Some(airline) = read_airline(row) else {
-            return Ok(None);
-        };
-        found.push(airline)?;
-    }
-    Ok(Some(found))
 }
 
 /// The rates of rows; none where one reads as none.
@@ -78,15 +70,34 @@ fn periods_in(alloc: Global, rows: &[Row]) -> Result<Option<Vec<Period>>, AllocE
     Ok(Some(found))
 }
 
-/// The plan's text that rows of terms say, with the airlines, rates and periods; none where there are no terms,
-/// or a row reads as none.
-fn text_of(alloc: Global, rows: &PlanRows) -> Result<Option<PlanText>, AllocError>
-    ensures { IfOk result (λ found. (p : Published) (terms : TermsEntry) → p.terms ≡ Some terms → IsFormedPlan p → AreRowsOfPlan p rows.now → IsSomeAnd found (IsTextOf p)) }
+/// The taxes on commission of rows; none where one reads as none.
+fn commission_taxes_in(
+    alloc: Global,
+    rows: &[Row],
+) -> Result<Option<Vec<CommissionTax>>, AllocError>
+    ensures { IfOk result (λ found. (values : List TaxEntry) → AllByRecursion IsCommissionTax values → rows.now ≡ map commission_tax_row (placed 0 values) → IsSomeAnd found (λ v. v.items ≡ values)) }
+{
+    let mut found = Vec::new(alloc);
+    for row in rows {
+        let Some(tax) = read_commission_tax(row) else {
+            return Ok(None);
+        };
+        found.push(tax)?;
+    }
+    Ok(Some(found))
+}
+
+/// The plan's text that rows of terms say, with the airlines, rates, periods and taxes on commission; none where there
+/// are no terms, or a row reads as none.
+fn text_of(
+    alloc: Global,
+    rows: &PlanRows,
+    airlines: &[(AirlineCode, AirlineEntry)],
+) -> Result<Option<PlanText>, AllocError>
+    ensures { IfOk result (λ found. (p : Published) (tokens : FinMap nat_cmp (List ℕ)) (terms : TermsEntry) → p.terms ≡ Some terms → IsSoundPlan p → IsFormedPlan p tokens → AreRowsOfPlan p tokens rows.now
+        → airlines.now ≡ entries (airline_entries p.airlines tokens) → IsSomeAnd found (IsTextOf p)) }
 {
     let Some(terms) = terms_in(&rows.terms) else {
-        return Ok(None);
-    };
-    let Some(airlines) = airlines_in(alloc, &rows.airlines)? else {
         return Ok(None);
     };
     let Some(rates) = rates_in(alloc, &rows.rates)? else {
@@ -95,26 +106,37 @@ fn text_of(alloc: Global, rows: &PlanRows) -> Result<Option<PlanText>, AllocErro
     let Some(periods) = periods_in(alloc, &rows.periods)? else {
         return Ok(None);
     };
+    let Some(commission_taxes) = commission_taxes_in(alloc, &rows.commission_taxes)? else {
+        return Ok(None);
+    };
+    let airlines = published_in(alloc, airlines)?;
     Ok(Some(PlanText {
         terms,
         airlines,
         rates,
         periods,
+        commission_taxes,
     }))
 }
 
 /// Publishes the entries that rows say, if there are terms, and answers false where that is refused.
-fn publish_rows(alloc: Global, tables: &mut Tables, rows: &PlanRows) -> Result<bool, NoRoom>
+fn publish_rows(
+    alloc: Global,
+    tables: &mut Tables,
+    rows: &PlanRows,
+    airlines: &[(AirlineCode, AirlineEntry)],
+) -> Result<bool, NoRoom>
     ensures derived { OnOk result (IsDerived tables.old → IsDerived tables.new) }
     ensures others { OnOk result (rows_of tables.new ≡ record (rows_of tables.old) { published = (rows_of tables.new).published }) }
-    ensures plan { IfOk result (λ done. (p : Published) → IsSoundPlan p → IsFormedPlan p → AreRowsOfPlan p rows.now → (rows_of tables.old).published ≡ opening
+    ensures plan { IfOk result (λ done. (p : Published) (tokens : FinMap nat_cmp (List ℕ)) → IsSoundPlan p → IsFormedPlan p tokens → AreRowsOfPlan p tokens rows.now
+        → airlines.now ≡ entries (airline_entries p.airlines tokens) → (rows_of tables.old).published ≡ opening
         → (done ≡ true) × (next : Published) × (rows_of tables.new ≡ record (rows_of tables.old) { published = next }) × IsReached next (SetDay p.day ∷ map (λ code. Close code) p.closed) p) }
 {
     let terms = rows.terms.as_slice();
     if terms.is_empty() {
         return Ok(true);
     }
-    match text_of(alloc, rows)? {
+    match text_of(alloc, rows, airlines)? {
         Some(text) => Ok(tables.publish(&text)?.is_ok()),
         None => Ok(false),
     }
@@ -150,7 +172,7 @@ fn close_periods(tables: &mut Tables, rows: &[Row]) -> Result<bool, NoRoom>
 fn move_on(tables: &mut Tables, rows: &PlanRows) -> Result<bool, NoRoom>
     ensures derived { OnOk result (IsDerived tables.old → IsDerived tables.new) }
     ensures others { OnOk result (rows_of tables.new ≡ record (rows_of tables.old) { published = (rows_of tables.new).published }) }
-    ensures plan { IfOk result (λ done. (p : Published) → IsSoundPlan p → IsFormedPlan p → AreRowsOfPlan p rows.now → IsReached (rows_of tables.old).published (SetDay p.day ∷ map (λ code. Close code) p.closed) p
+    ensures plan { IfOk result (λ done. (p : Published) (tokens : FinMap nat_cmp (List ℕ)) → IsSoundPlan p → IsFormedPlan p tokens → AreRowsOfPlan p tokens rows.now → IsReached (rows_of tables.old).published (SetDay p.day ∷ map (λ code. Close code) p.closed) p
         → (done ≡ true) × (rows_of tables.new ≡ record (rows_of tables.old) { published = p })) }
 {
     let Some((day, closed)) = meta_in(&rows.meta) else {
@@ -168,13 +190,19 @@ fn move_on(tables: &mut Tables, rows: &PlanRows) -> Result<bool, NoRoom>
 }
 
 /// Makes the plan that rows say, and answers false where there is none.
-pub(crate) fn put_plan(alloc: Global, tables: &mut Tables, rows: &PlanRows) -> Result<bool, NoRoom>
+pub(crate) fn put_plan(
+    alloc: Global,
+    tables: &mut Tables,
+    rows: &PlanRows,
+    airlines: &[(AirlineCode, AirlineEntry)],
+) -> Result<bool, NoRoom>
     ensures derived { OnOk result (IsDerived tables.old → IsDerived tables.new) }
     ensures others { OnOk result (rows_of tables.new ≡ record (rows_of tables.old) { published = (rows_of tables.new).published }) }
-    ensures plan { IfOk result (λ done. (p : Published) → IsSoundPlan p → IsFormedPlan p → AreRowsOfPlan p rows.now → (rows_of tables.old).published ≡ opening
+    ensures plan { IfOk result (λ done. (p : Published) (tokens : FinMap nat_cmp (List ℕ)) → IsSoundPlan p → IsFormedPlan p tokens → AreRowsOfPlan p tokens rows.now
+        → airlines.now ≡ entries (airline_entries p.airlines tokens) → (rows_of tables.old).published ≡ opening
         → (done ≡ true) × (rows_of tables.new ≡ record (rows_of tables.old) { published = p })) }
 {
-    if !publish_rows(alloc, tables, rows)? {
+    if !publish_rows(alloc, tables, rows, airlines)? {
         return Ok(false);
     }
     move_on(tables, rows)

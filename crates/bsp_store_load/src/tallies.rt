@@ -1,8 +1,8 @@
-//! The table of tallies: each row against those in memory.
+//! The tables of tallies and of their taxes: each row against the tallies in memory.
 
 ghost use Rattle.std.specs.Prelude.{◌≡◌, ◌↔◌, map, IsTrue};
 ghost use Rattle.std.specs.FinMap.{entries};
-ghost use Rattle.bsp_store_base.specs.Columns.{tally_row};
+ghost use Rattle.bsp_store_base.specs.Columns.{tally_row, tally_tax_row};
 ghost use Rattle.bsp_store_load.specs.Contents.{used_tallies};
 ghost use Rattle.bsp_memory_tables.specs.TallyTables.{tally_rows};
 
@@ -12,6 +12,7 @@ use bsp_maps::Rule;
 use bsp_memory_tables::TallyTable;
 use bsp_rows::{Tally, TallyKey};
 use bsp_store_memos::TallyRow;
+use bsp_store_taxes::TallyTaxRow;
 use sqlite::Row;
 
 /// Tallies.
@@ -28,7 +29,21 @@ impl RowOf<TallyKey, Tally> for StoredTallies {
     }
 }
 
-/// A tally to which some row adds has a row.
+/// The taxes of tallies.
+#[derive(Clone, Copy, Debug)]
+struct StoredTallyTaxes;
+
+impl RowOf<TallyKey, Tally> for StoredTallyTaxes {
+    ghost use Rattle.bsp_store_base.specs.Columns.{tally_tax_row};
+
+    ghost row_of = { tally_tax_row };
+
+    fn is_row_of(&self, row: &Row, key: &TallyKey, tally: &Tally) -> bool {
+        is_row(row, &TallyTaxRow::of(key, tally).values())
+    }
+}
+
+/// A tally to which some row adds has a row in each of the two tables.
 #[derive(Clone, Copy, Debug)]
 struct Used;
 
@@ -47,4 +62,11 @@ pub fn are_tallies(rows: &[Row], table: &TallyTable) -> bool
     ensures { IsTrue result ↔ (rows.now ≡ map tally_row (entries (used_tallies (tally_rows table.now)))) }
 {
     are_rows_of(&StoredTallies, &Used, rows, table.map())
+}
+
+/// Whether the rows are those of the taxes of the tallies to which some row adds.
+pub fn are_tally_taxes(rows: &[Row], table: &TallyTable) -> bool
+    ensures { IsTrue result ↔ (rows.now ≡ map tally_tax_row (entries (used_tallies (tally_rows table.now)))) }
+{
+    are_rows_of(&StoredTallyTaxes, &Used, rows, table.map())
 }

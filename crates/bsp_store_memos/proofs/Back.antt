@@ -6,9 +6,7 @@ use Rattle.sqlite_value.specs.declared.value.Value.TheVariants.{Int, Text}
 use Rattle.sqlite_value.specs.Order.{Row, column}
 use Rattle.sqlite.specs.Values.{or_null}
 use Rattle.bsp_rows.specs.CivilDay.{CivilDay}
-use Rattle.bsp_rows.specs.Codes.{check_digit_of}
 use Rattle.bsp_rows.specs.Days.{day_number}
-use Rattle.bsp_rows.proofs.CodeLemmas.{agent_reading-fixed_digits, code_reading-fixed_digits}
 use Rattle.bsp_rows.specs.MemoFields.{MemoFields}
 use Rattle.bsp_rows.specs.MemoKind.{MemoKind}
 use Rattle.bsp_rows.specs.MemoKind.TheVariants.{Debit, Credit}
@@ -19,26 +17,14 @@ use Rattle.bsp_rows.specs.Reasons.{is_reason}
 use Rattle.bsp_rows.specs.Texts.{kind_text, state_text}
 use Rattle.bsp_rows.specs.declared.keys.MemoKey.{MemoKey}
 use Rattle.bsp_rows.specs.Rows.{memo_key}
-use Rattle.bsp_store_base.specs.Columns.{agent_text, airline_text, number_text, period_text, memo_row}
+use Rattle.bsp_store_base.specs.Columns.{period_text, memo_row}
 use Rattle.bsp_store_base.specs.Reading.{agent_in, amount_in, code_in, if_there}
 use Rattle.bsp_store_base.specs.Forms.{IsMemoEntry}
 use Rattle.bsp_store_base.proofs.Days.{same_day}
-use Rattle.bsp_store_base.proofs.Keys.{code_digits-fits}
+use Rattle.bsp_store_base.proofs.ReadBack.{agent_back, code_back}
 use Rattle.bsp_store_memos.specs.Reading.{IsMemoIn, kind_in, memo_in, memo_key_in, memo_of, reason_in, restored, state_in}
 
 -- ---- single columns
-
-agent_back : (agent : ℕ) → agent < 10 ^ 8 → agent % 10 ≡ check_digit_of (agent / 10) → agent_in (agent_text agent) ≡ Some agent
-agent_back agent fits checked = rw (code_digits-fits 8 agent fits, agent_reading-fixed_digits agent fits checked) refl
-
-airline_back : (airline : ℕ) → airline < 10 ^ 3 → code_in 3 (airline_text airline) ≡ Some airline
-airline_back airline fits = rw (code_digits-fits 3 airline fits, code_reading-fixed_digits 3 airline fits) refl
-
-number_back : (number : ℕ) → number < 10 ^ 10 → code_in 10 (number_text number) ≡ Some number
-number_back number fits = rw (code_digits-fits 10 number fits, code_reading-fixed_digits 10 number fits) refl
-
-period_back : (period : ℕ) → period < 10 ^ 5 → code_in 5 (period_text period) ≡ Some period
-period_back period fits = rw (code_digits-fits 5 period fits, code_reading-fixed_digits 5 period fits) refl
 
 kind_back : (kind : MemoKind) → kind_in (Text (kind_text kind)) ≡ Some kind
 kind_back Debit = refl
@@ -65,7 +51,7 @@ amount_back n fits = rw (few_digits n fits) refl
 
 billed_back : (o : Option ℕ) → IfSome o (λ period. period < 10 ^ 5) → if_there (or_null period_text o) (code_in 5 (or_null period_text o)) ≡ Some o
 billed_back None fits = refl
-billed_back (Some period) fits = rw (period_back period fits) refl
+billed_back (Some period) fits = rw (code_back 5 period fits) refl
 
 -- ---- a memo
 
@@ -96,7 +82,7 @@ module _ (key : MemoKey) (m : MemoFields) (formed : IsMemoEntry (key, m)) (keyed
   back_on day =
       let r = memo_row (key, m) in
       let sums = amounts_fit m fits in
-      let own = key_from r key (airline_back key.airline formed.airline.has_digits) (number_back key.document formed.document) in
+      let own = key_from r key (code_back 3 key.airline formed.airline.has_digits) (code_back 10 key.document formed.document) in
       let memo = memo_from key day r m keyed (agent_back m.agent formed.agent.has_digits formed.agent.is_checked) (kind_back m.kind) (amount_back m.amount sums.0) (amount_back m.issued_amount sums.1) (reason_back m.reason formed.reason) (state_back m.state) (billed_back m.billed formed.billed) fits in
       rw (own, memo) refl
 

@@ -41,7 +41,7 @@ is_of key e = two_columns _ _ (nat_cmp key.airline e.0.airline) (nat_cmp key.doc
 
 abbrev pub memo_map : MapTable MemoKey MemoFields memo_cmp
 memo_map = record {
-  at = 9;
+  at = 8;
   table = memo_table;
   of = λ c. c.memos;
   with = λ m c. record c { memos = m };
@@ -55,8 +55,8 @@ memo_map = record {
   uncounted = refl;
   plain_tree = λ db. refl;
   free = no_work memo_table.tree;
-  here = λ c trees kept. kept.1.1.1.1.1.1.1.1.1.0;
-  moved = λ c m rows same. (refl, (refl, (refl, (refl, (refl, (refl, (refl, (refl, (refl, (same, (refl, tt)))))))))));
+  here = λ c trees kept. kept.1.1.1.1.1.1.1.1.0;
+  moved = λ c m rows same. (refl, (refl, (refl, (refl, (refl, (refl, (refl, (refl, (same, (refl, (refl, (refl, (refl, (refl, tt))))))))))))));
   same = λ c. refl;
   tests = λ key r. refl;
   again = λ r. refl;

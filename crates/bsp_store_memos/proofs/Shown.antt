@@ -9,4 +9,4 @@ use Rattle.bsp_store_memos.proofs.Orders.{memos_rise}
 pub memos_shown : ShowsTable memo_part memos_query
 memos_shown =
     table_shown memo_part memos_query names order all_is.0 all_is.1 all_is.2 (λ db. refl) (λ trees r. refl) (λ trees r. refl) memos_rise
-    (λ content trees kept. kept.1.1.1.1.1.1.1.1.1.0.rows)
+    (λ content trees kept. kept.1.1.1.1.1.1.1.1.0.rows)

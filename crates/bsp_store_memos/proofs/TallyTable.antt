@@ -41,7 +41,7 @@ is_of key e =
 
 abbrev pub tally_map : MapTable TallyKey Tally tally_cmp
 tally_map = record {
-  at = 10;
+  at = 9;
   table = tally_table;
   of = λ c. c.tallies;
   with = λ m c. record c { tallies = m };
@@ -55,8 +55,8 @@ tally_map = record {
   uncounted = refl;
   plain_tree = λ db. refl;
   free = no_work tally_table.tree;
-  here = λ c trees kept. kept.1.1.1.1.1.1.1.1.1.1.0;
-  moved = λ c m rows same. (refl, (refl, (refl, (refl, (refl, (refl, (refl, (refl, (refl, (refl, (same, tt)))))))))));
+  here = λ c trees kept. kept.1.1.1.1.1.1.1.1.1.0;
+  moved = λ c m rows same. (refl, (refl, (refl, (refl, (refl, (refl, (refl, (refl, (refl, (same, (refl, (refl, (refl, (refl, tt))))))))))))));
   same = λ c. refl;
   tests = λ key r. refl;
   again = λ r. refl;

@@ -1,5 +1,5 @@
 -- What a row of the tables reads as, whatever its form.
-use Rattle.std.specs.Prelude.{◌≡◌, ◌^◌, if◌then◌else◌, List, ℕ, Option, Some, None, option_map, option_and_then}
+use Rattle.std.specs.Prelude.{◌≡◌, if◌then◌else◌, List, ℕ, Option, Some, None, option_map, option_and_then}
 use Rattle.sqlite_value.specs.declared.value.Value.{Value}
 use Rattle.sqlite_value.specs.declared.value.Value.TheVariants.{Text}
 use Rattle.sqlite_value.specs.Order.{Row, column}
@@ -10,10 +10,9 @@ use Rattle.bsp_rows.specs.MemoState.{MemoState}
 use Rattle.bsp_rows.specs.Memos.{is_memo}
 use Rattle.bsp_rows.specs.Reasons.{reason_reading}
 use Rattle.bsp_rows.specs.Texts.{kind_reading, state_reading}
-use Rattle.bsp_rows.specs.Tally.{Tally}
 use Rattle.bsp_rows.specs.declared.keys.MemoKey.{MemoKey}
 use Rattle.bsp_rows.specs.declared.keys.TallyKey.{TallyKey}
-use Rattle.bsp_store_base.specs.Reading.{IsDayIn, agent_in, amount_in, below, code_in, if_there, int_in}
+use Rattle.bsp_store_base.specs.Reading.{IsDayIn, agent_in, amount_in, code_in, if_there}
 
 -- ---- words
 
@@ -35,27 +34,6 @@ abbrev pub tally_key_in : Row → Option TallyKey
 tally_key_in r =
     option_and_then (λ agent. option_and_then (λ airline. option_map (λ period. record { agent = agent; airline = airline; period = period })
     (code_in 5 (column r 2))) (code_in 3 (column r 1))) (agent_in (column r 0))
-
-abbrev pub tally_of : TallyKey → Row → Option Tally
-tally_of key r =
-    option_and_then (λ accepted. option_and_then (λ living. option_and_then (λ canx. option_and_then (λ memo_count.
-    option_and_then (λ cash. option_and_then (λ credit. option_and_then (λ commission. option_map (λ memos. record {
-      agent = key.agent;
-      airline = key.airline;
-      period = key.period;
-      accepted = accepted;
-      living = living;
-      canx = canx;
-      memo_count = memo_count;
-      cash = cash;
-      credit = credit;
-      commission = commission;
-      memos = memos;
-    }) (int_in (column r 10))) (int_in (column r 9))) (int_in (column r 8))) (int_in (column r 7)))
-    (below (2 ^ 32) (column r 6))) (below (2 ^ 32) (column r 5))) (below (2 ^ 32) (column r 4))) (below (2 ^ 32) (column r 3))
-
-abbrev pub tally_in : Row → Option (TallyKey × Tally)
-tally_in r = option_and_then (λ key. option_map (λ tally. (key, tally)) (tally_of key r)) (tally_key_in r)
 
 -- ---- memos
 

@@ -13,7 +13,7 @@ use bsp_store_base::{agent_digits, airline_digits, period_digits};
 use sqlite::{Alter, Connection, Error, Row};
 use sqlite_value::value::ValueRef;
 
-/// What is written of a tally: its key in digits, its counts and its sums.
+/// What is written of a tally: its key in digits, its counts and its sums, the tax apart.
 #[derive(Clone, Copy, Debug)]
 pub struct TallyRow {
     agent: [u8; 8],

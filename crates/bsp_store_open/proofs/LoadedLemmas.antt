@@ -1,24 +1,32 @@
 -- From one table to the next, as they are put into memory.
-use Rattle.std.proofs.Common.{◌≡◌, Bool, true, false, Option, Some, None, is_some, refl, sym, ap, subst, ◌∙◌, IsPermutation, map}
+use Rattle.std.proofs.Common.{◌≡◌, ℕ, List, Bool, true, false, Option, Some, None, is_some, refl, sym, ap, subst, ◌∙◌, IsPermutation, map, nat_cmp}
 use Rattle.std.specs.List.{AllByRecursion}
-use Rattle.std.specs.FinMap.{empty, entries}
+use Rattle.std.specs.FinMap.{FinMap, empty, entries}
 use Rattle.sqlite_trees.specs.Tree.{Trees}
 use Rattle.bsp_store_load.specs.Memos.{is_memo}
-use Rattle.bsp_book.specs.Rows.{Rows, memo_key, no_rows}
+use Rattle.bsp_book.specs.Rows.{Rows, item_cmp, memo_key, no_rows}
 use Rattle.bsp_book.specs.Sound.{IsRight, Sound}
 use Rattle.bsp_store_load.specs.MemoryRowsTables.{IsDerived, rows_of}
 use Rattle.bsp_store_load.specs.Tables.{Tables}
 use Rattle.bsp_store_load.specs.Kept.{KeepsRows, Part, columns_of}
-use Rattle.bsp_store_load.specs.Content.{Content, agent_part, airline_part, airline_token_part, form, item_part, meta_part, period_part, rate_part, stock_part, tally_part, terms_part}
+use Rattle.bsp_store_load.specs.Content.{Content, agent_part, airline_part, commission_tax_part, content_with, form, item_part, item_tax_part, meta_part, period_part, rate_part, second_part, stock_part, tally_part, tally_tax_part, terms_part, width_of}
+use Rattle.bsp_store_load.specs.Beside.{IsJoined, IsStoredItem, taxes_of}
+use Rattle.bsp_store_load.specs.Columns.{second_row, tax_row}
 use Rattle.bsp_store_load.specs.Contents.{IsContentOf, content_now}
 use Rattle.bsp_store_load.specs.Forms.{IsFormed}
+use Rattle.bsp_store_load.specs.ItemTax.{ItemTax}
 use Rattle.bsp_store_load.specs.Loading.{HasRows}
+use Rattle.bsp_store_load.specs.ReportedDocument.{ReportedDocument}
+use Rattle.bsp_store_load.specs.Seconds.{seconds_of, ticket_cmp}
+use Rattle.bsp_store_load.proofs.BesideLemmas.{seconds_checked, seconds_fit, tax_rows, taxes_formed}
+use Rattle.bsp_store_load.proofs.BesideLoaders.{seconds_loader, taxes_loader}
 use Rattle.bsp_store_load.proofs.Building.{content_of, formed_plan}
-use Rattle.bsp_store_load.proofs.CallerLoaders.{agents_loader, airlines_loader, ranges_loader}
+use Rattle.bsp_store_load.proofs.CallerLoaders.{agents_loader, ranges_loader}
+use Rattle.bsp_store_load.proofs.JoinLemmas.{items_joined, items_may}
 use Rattle.bsp_store_load.proofs.Loaders.{Leaves, Loads, others, rows_here, whole_here}
 use Rattle.bsp_store_load.proofs.SaleLoaders.{items_loader, memos_loader}
-use Rattle.bsp_store_load.proofs.TableLemmas.{both_all, items_right, memos_fit, memos_may}
-use Rattle.bsp_store_open.specs.Loaded.{AreCallersLoaded, AreRight, AreSalesLoaded, HasNoCallers, HasNoSales, IsAllLoaded, IsPlanned, NoCallers, NoSales}
+use Rattle.bsp_store_load.proofs.TableLemmas.{items_right, memos_fit, memos_may}
+use Rattle.bsp_store_open.specs.Loaded.{AreBeside, AreCallersLoaded, AreItemsLoaded, AreRight, AreSalesLoaded, AreSecondsRead, AreTaxesRead, HasNoCallers, HasNoSales, IsAllLoaded, IsPlanned, NoFormed, NoRight}
 use Rattle.bsp_store_load.specs.Stored.{AreRowsOfPlan, IsFormedPlan}
 use Rattle.bsp_store_load.specs.Published.{Published}
 use Rattle.bsp_store_load.specs.SoundPlan.{IsSoundPlan}
@@ -38,84 +46,121 @@ pub one_left : {X : Type 0} (o : Option X) (b : Bool) → b ≡ is_some o → b 
 one_left None b is some = absurd (cc (is, some))
 one_left (Some x) b is some = (x, refl)
 
--- ---- callers
+-- ---- agents and ranges
 
-module _ (trees : Trees) (zero one two three : Rows) (none : HasNoCallers zero) where
+module _ (trees : Trees) (zero one two : Rows) (none : HasNoCallers zero) where
   module _ (agents : Loads agents_loader trees zero one None) where
     agents_only : one ≡ record zero { agents = one.agents }
     agents_only = others agents_loader trees zero one None agents
 
-    no_airlines : one.airlines ≡ empty
-    no_airlines = ap (λ (r : Rows). r.airlines) agents_only ∙ none.airlines
+    no_ranges : one.ranges ≡ empty
+    no_ranges = ap (λ (r : Rows). r.ranges) agents_only ∙ none.ranges
 
-    module _ (airlines : Loads airlines_loader trees one two None) where
-      airlines_only : two ≡ record one { airlines = two.airlines }
-      airlines_only = others airlines_loader trees one two None airlines
+    pub callers_loaded : Loads ranges_loader trees one two None → AreCallersLoaded trees zero two
+    callers_loaded ranges =
+        let ranges_only : two ≡ record one { ranges = two.ranges } = others ranges_loader trees one two None ranges in
+        let same_agents : two.agents ≡ one.agents = ap (λ (r : Rows). r.agents) ranges_only in
+        let put_ranges : Rows → Rows = λ r. record r { ranges = two.ranges } in
+        let whole : two ≡ record zero { agents = one.agents; ranges = two.ranges } = ranges_only ∙ ap put_ranges agents_only in
+        record {
+          others = whole ∙ (λ i. record zero { agents = sym same_agents i; ranges = two.ranges });
+          agents = subst (λ m. IsPermutation (map (columns_of (width_of agent_part.tree)) (trees agent_part.tree)) (map agents_loader.row_of (entries m))) (sym same_agents) (rows_here agents_loader trees zero one None agents none.agents refl);
+          ranges = rows_here ranges_loader trees one two None ranges no_ranges refl;
+          whole = λ c formed keeps.
+              let with_ranges : Rows → Rows = λ r. record r { ranges = c.ranges } in
+              (whole_here ranges_loader trees one two None ranges no_ranges c formed keeps formed.ranges).1
+              ∙ ap with_ranges (whole_here agents_loader trees zero one None agents none.agents c formed keeps formed.agents).1;
+        }
 
-      no_ranges : two.ranges ≡ empty
-      no_ranges = ap (λ (r : Rows). r.ranges) airlines_only ∙ ap (λ (r : Rows). r.ranges) agents_only ∙ none.ranges
+    pub no_ranges_loaded : Leaves ranges_loader trees one two → NoFormed trees
+    no_ranges_loaded ranges c formed keeps = cc (whole_here ranges_loader trees one two (Some ranges.0) ranges.1 no_ranges c formed keeps formed.ranges).0
 
-      pub callers_loaded : Loads ranges_loader trees two three None → AreCallersLoaded trees zero three
-      callers_loaded ranges =
-          let ranges_only : three ≡ record two { ranges = three.ranges } = others ranges_loader trees two three None ranges in
-          let same_airlines : three.airlines ≡ two.airlines = ap (λ (r : Rows). r.airlines) ranges_only in
-          let same_agents : three.agents ≡ one.agents = ap (λ (r : Rows). r.agents) ranges_only ∙ ap (λ (r : Rows). r.agents) airlines_only in
-          let put_airlines : Rows → Rows = λ r. record r { airlines = two.airlines } in
-          let put_ranges : Rows → Rows = λ r. record r { ranges = three.ranges } in
-          let whole : three ≡ record zero { agents = one.agents; airlines = two.airlines; ranges = three.ranges } = ranges_only ∙ ap put_ranges (airlines_only ∙ ap put_airlines agents_only) in
-          record {
-            others = whole ∙ (λ i. record zero { agents = sym same_agents i; airlines = sym same_airlines i; ranges = three.ranges });
-            agents = subst (λ m. IsPermutation (map (columns_of 2) (trees agent_part.tree)) (map agents_loader.row_of (entries m))) (sym same_agents) (rows_here agents_loader trees zero one None agents none.agents refl);
-            airlines = subst (λ m. IsPermutation (map (columns_of 2) (trees airline_token_part.tree)) (map airlines_loader.row_of (entries m))) (sym same_airlines) (rows_here airlines_loader trees one two None airlines no_airlines refl);
-            ranges = rows_here ranges_loader trees two three None ranges no_ranges refl;
-            whole = λ c formed keeps.
-                let with_airlines : Rows → Rows = λ r. record r { airlines = c.airlines } in
-                let with_ranges : Rows → Rows = λ r. record r { ranges = c.ranges } in
-                (whole_here ranges_loader trees two three None ranges no_ranges c formed keeps formed.ranges).1
-                ∙ ap with_ranges ((whole_here airlines_loader trees one two None airlines no_airlines c formed keeps formed.airlines).1
-                ∙ ap with_airlines (whole_here agents_loader trees zero one None agents none.agents c formed keeps formed.agents).1);
-          }
-
-      pub no_ranges_loaded : Leaves ranges_loader trees two three → NoCallers trees
-      no_ranges_loaded ranges c formed keeps = cc (whole_here ranges_loader trees two three (Some ranges.0) ranges.1 no_ranges c formed keeps formed.ranges).0
-
-    pub no_airlines_loaded : Leaves airlines_loader trees one two → NoCallers trees
-    no_airlines_loaded airlines c formed keeps = cc (whole_here airlines_loader trees one two (Some airlines.0) airlines.1 no_airlines c formed keeps formed.airlines).0
-
-  pub no_agents_loaded : Leaves agents_loader trees zero one → NoCallers trees
+  pub no_agents_loaded : Leaves agents_loader trees zero one → NoFormed trees
   no_agents_loaded agents c formed keeps = cc (whole_here agents_loader trees zero one (Some agents.0) agents.1 none.agents c formed keeps formed.agents).0
+
+-- ---- what the tables beside that of items keep
+
+module _ (trees : Trees) (zero one : FinMap item_cmp ItemTax) (none : zero ≡ empty) where
+  pub taxes_read : Loads taxes_loader trees zero one None → AreTaxesRead trees one
+  taxes_read taxes = record {
+    rows = rows_here taxes_loader trees zero one None taxes none refl;
+    whole = λ c formed keeps. (whole_here taxes_loader trees zero one None taxes none c formed keeps (taxes_formed c.item_taxes formed.item_taxes)).1;
+  }
+
+  pub no_taxes_read : Leaves taxes_loader trees zero one → NoFormed trees
+  no_taxes_read taxes c formed keeps = cc (whole_here taxes_loader trees zero one (Some taxes.0) taxes.1 none c formed keeps (taxes_formed c.item_taxes formed.item_taxes)).0
+
+module _ (trees : Trees) (zero one : FinMap ticket_cmp ReportedDocument) (none : zero ≡ empty) where
+  pub seconds_read : Loads seconds_loader trees zero one None → AreSecondsRead trees one
+  seconds_read seconds = record {
+    rows = rows_here seconds_loader trees zero one None seconds none refl;
+    whole = λ c formed right keeps. (whole_here seconds_loader trees zero one None seconds none c formed keeps right.fit).1;
+  }
+
+  pub no_seconds_read : Leaves seconds_loader trees zero one → NoRight trees
+  no_seconds_read seconds c formed right keeps = cc (whole_here seconds_loader trees zero one (Some seconds.0) seconds.1 none c formed keeps right.fit).0
+
+-- ---- items
+
+module _ (trees : Trees) (zero one : Rows) (none : HasNoSales zero) (taxes : FinMap item_cmp ItemTax) (seconds : FinMap ticket_cmp ReportedDocument) (read : AreTaxesRead trees taxes) (documents : AreSecondsRead trees seconds) where
+  -- the items of a content that the trees keep have what the maps have
+  items_fit : (c : Content) → IsFormed c → AreRight c → KeepsRows form c trees → AllByRecursion (IsStoredItem taxes seconds) (entries c.items)
+  items_fit c formed right keeps =
+      let own_taxes : taxes ≡ taxes_of c.items = read.whole c formed keeps ∙ ap taxes_of right.taxed in
+      let own_seconds : seconds ≡ seconds_of c.items = documents.whole c formed right keeps ∙ right.related in
+      items_may taxes seconds (entries c.items) formed.items right.items
+      (subst (λ m. AllByRecursion (IsJoined m seconds) (entries c.items)) (sym own_taxes) (subst (λ m. AllByRecursion (IsJoined (taxes_of c.items) m) (entries c.items)) (sym own_seconds) right.joined))
+
+  module _ (items : Loads (items_loader taxes seconds) trees zero one None) where
+    items_whole : (c : Content) → IsFormed c → AreRight c → KeepsRows form c trees → one ≡ record zero { items = c.items }
+    items_whole c formed right keeps = (whole_here (items_loader taxes seconds) trees zero one None items none.items c formed keeps (items_fit c formed right keeps)).1
+
+    pub items_loaded : AreBeside taxes seconds one.items → AreItemsLoaded trees zero one
+    items_loaded beside = record {
+      others = others (items_loader taxes seconds) trees zero one None items;
+      items = rows_here (items_loader taxes seconds) trees zero one None items none.items refl;
+      taxes = subst (IsPermutation _) (ap (λ m. map tax_row (entries m)) beside.taxes_are ∙ tax_rows one.items) read.rows;
+      seconds = subst (IsPermutation _) (ap (λ m. map second_row (entries m)) beside.seconds_are) documents.rows;
+      whole = items_whole;
+    }
+
+    -- maps that are not those of the items in memory
+    pub others_beside : (AreBeside taxes seconds one.items → ⊥) → NoRight trees
+    others_beside other c formed right keeps =
+        let same : c.items ≡ one.items = sym (ap (λ (r : Rows). r.items) (items_whole c formed right keeps)) in
+        other (record {
+          taxes_are = read.whole c formed keeps ∙ ap taxes_of (right.taxed ∙ same);
+          seconds_are = documents.whole c formed right keeps ∙ right.related ∙ ap seconds_of same;
+        })
+
+  pub no_items_loaded : Leaves (items_loader taxes seconds) trees zero one → NoRight trees
+  no_items_loaded items c formed right keeps = cc (whole_here (items_loader taxes seconds) trees zero one (Some items.0) items.1 none.items c formed keeps (items_fit c formed right keeps)).0
 
 -- ---- items and memos
 
-module _ (trees : Trees) (zero one two : Rows) (none : HasNoSales zero) where
-  module _ (items : Loads items_loader trees zero one None) where
-    items_only : one ≡ record zero { items = one.items }
-    items_only = others items_loader trees zero one None items
+module _ (trees : Trees) (zero one two : Rows) (none : HasNoSales zero) (items : AreItemsLoaded trees zero one) where
+  no_memos : one.memos ≡ empty
+  no_memos = ap (λ (r : Rows). r.memos) items.others ∙ none.memos
 
-    no_memos : one.memos ≡ empty
-    no_memos = ap (λ (r : Rows). r.memos) items_only ∙ none.memos
+  pub sales_loaded : Loads memos_loader trees one two None → AreSalesLoaded trees zero two
+  sales_loaded memos =
+      let memos_only : two ≡ record one { memos = two.memos } = others memos_loader trees one two None memos in
+      let same_items : two.items ≡ one.items = ap (λ (r : Rows). r.items) memos_only in
+      let put_memos : Rows → Rows = λ r. record r { memos = two.memos } in
+      let whole : two ≡ record zero { items = one.items; memos = two.memos } = memos_only ∙ ap put_memos items.others in
+      record {
+        others = whole ∙ (λ i. record zero { items = sym same_items i; memos = two.memos });
+        items = subst (λ m. HasRows item_part (content_with (record one { items = m }) empty) trees) (sym same_items) items.items;
+        taxes = subst (λ m. HasRows item_tax_part (content_with (record one { items = m }) empty) trees) (sym same_items) items.taxes;
+        seconds = subst (λ m. HasRows second_part (content_with (record one { items = m }) empty) trees) (sym same_items) items.seconds;
+        memos = rows_here memos_loader trees one two None memos no_memos refl;
+        whole = λ c formed right keeps.
+            let with_memos : Rows → Rows = λ r. record r { memos = c.memos } in
+            (whole_here memos_loader trees one two None memos no_memos c formed keeps (memos_may (entries c.memos) formed.memos right.memos)).1 ∙ ap with_memos (items.whole c formed right keeps);
+      }
 
-    pub sales_loaded : Loads memos_loader trees one two None → AreSalesLoaded trees zero two
-    sales_loaded memos =
-        let memos_only : two ≡ record one { memos = two.memos } = others memos_loader trees one two None memos in
-        let same_items : two.items ≡ one.items = ap (λ (r : Rows). r.items) memos_only in
-        let put_memos : Rows → Rows = λ r. record r { memos = two.memos } in
-        let whole : two ≡ record zero { items = one.items; memos = two.memos } = memos_only ∙ ap put_memos items_only in
-        record {
-          others = whole ∙ (λ i. record zero { items = sym same_items i; memos = two.memos });
-          items = subst (λ m. IsPermutation (map (columns_of 19) (trees item_part.tree)) (map items_loader.row_of (entries m))) (sym same_items) (rows_here items_loader trees zero one None items none.items refl);
-          memos = rows_here memos_loader trees one two None memos no_memos refl;
-          whole = λ c formed right keeps.
-              let with_memos : Rows → Rows = λ r. record r { memos = c.memos } in
-              (whole_here memos_loader trees one two None memos no_memos c formed keeps (memos_may (entries c.memos) formed.memos right.memos)).1
-              ∙ ap with_memos (whole_here items_loader trees zero one None items none.items c formed keeps (both_all _ _ (entries c.items) formed.items right.items)).1;
-        }
-
-    pub no_memos_loaded : Leaves memos_loader trees one two → NoSales trees
-    no_memos_loaded memos c formed right keeps = cc (whole_here memos_loader trees one two (Some memos.0) memos.1 no_memos c formed keeps (memos_may (entries c.memos) formed.memos right.memos)).0
-
-  pub no_items_loaded : Leaves items_loader trees zero one → NoSales trees
-  no_items_loaded items c formed right keeps = cc (whole_here items_loader trees zero one (Some items.0) items.1 none.items c formed keeps (both_all _ _ (entries c.items) formed.items right.items)).0
+  pub no_memos_loaded : Leaves memos_loader trees one two → NoRight trees
+  no_memos_loaded memos c formed right keeps = cc (whole_here memos_loader trees one two (Some memos.0) memos.1 no_memos c formed keeps (memos_may (entries c.memos) formed.memos right.memos)).0
 
 -- ---- all tables
 
@@ -123,7 +168,6 @@ module _ (trees : Trees) (zero : Rows) (planned : IsPlanned trees zero) where
   pub callers_none : HasNoCallers zero
   callers_none = record {
     agents = ap (λ (r : Rows). r.agents) planned.alone;
-    airlines = ap (λ (r : Rows). r.airlines) planned.alone;
     ranges = ap (λ (r : Rows). r.ranges) planned.alone;
   }
 
@@ -145,25 +189,34 @@ module _ (trees : Trees) (zero : Rows) (planned : IsPlanned trees zero) where
 
     module _ (book : Rows) (c : Content) (sound : Sound book) (of : IsContentOf book c) (formed : IsFormed c) (keeps : KeepsRows form c trees) where
       pub right : AreRight c
-      right = record {
-        items = subst (λ m. AllByRecursion (λ e. IsRight e.0 e.1) (entries m)) (sym (ap (λ (d : Content). d.items) of.same)) (items_right book sound);
-        memos = subst (λ m. AllByRecursion (λ e. (memo_key e.1 ≡ e.0) × (is_memo e.1 ≡ true)) (entries m)) (sym (ap (λ (d : Content). d.memos) of.same)) (memos_fit book sound);
-      }
+      right =
+          let own : IsFormed (content_with book c.tallies) = subst IsFormed of.same formed in
+          let items = items_right book sound in
+          let it : AreRight (content_with book c.tallies) = record {
+            items = items;
+            memos = memos_fit book sound;
+            taxed = refl;
+            related = refl;
+            joined = items_joined book sound;
+            fit = seconds_fit (entries (seconds_of book.items)) own.seconds (seconds_checked book.items items);
+          } in
+          subst AreRight (sym of.same) it
 
-      plan_is : zero ≡ record no_rows { published = book.published }
-      plan_is = planned.only book.published sound.plan (formed_plan book c of formed) (record {
+      plan_is : zero ≡ record no_rows { published = book.published; airlines = book.airlines }
+      plan_is = planned.only book.published book.airlines sound.plan (formed_plan book c of formed) (record {
         meta = planned.are.meta.in_order c formed keeps ∙ ap meta_part.rows of.same;
         terms = planned.are.terms.in_order c formed keeps ∙ ap terms_part.rows of.same;
         airlines = planned.are.airlines.in_order c formed keeps ∙ ap airline_part.rows of.same;
         rates = planned.are.rates.in_order c formed keeps ∙ ap rate_part.rows of.same;
         periods = planned.are.periods.in_order c formed keeps ∙ ap period_part.rows of.same;
+        commission_taxes = planned.are.commission_taxes.in_order c formed keeps ∙ ap commission_tax_part.rows of.same;
       })
 
       pub book_is : (two : Rows) → AreSalesLoaded trees one two → two ≡ book
       book_is two sales =
-          let with_callers : Rows → Rows = λ r. record r { agents = c.agents; airlines = c.airlines; ranges = c.ranges } in
+          let with_callers : Rows → Rows = λ r. record r { agents = c.agents; ranges = c.ranges } in
           let with_sales : Rows → Rows = λ r. record r { items = c.items; memos = c.memos } in
-          let rows_in : Content → Rows = λ d. record { published = book.published; agents = d.agents; airlines = d.airlines; ranges = d.ranges; items = d.items; memos = d.memos } in
+          let rows_in : Content → Rows = λ d. record { published = book.published; agents = d.agents; airlines = book.airlines; ranges = d.ranges; items = d.items; memos = d.memos } in
           sales.whole c formed right keeps ∙ ap with_sales (callers.whole c formed keeps ∙ ap with_callers plan_is) ∙ ap rows_in of.same
 
     module _ (tables : Tables) (sales : AreSalesLoaded trees one (rows_of tables)) where
@@ -174,11 +227,16 @@ module _ (trees : Trees) (zero : Rows) (planned : IsPlanned trees zero) where
       same_plan : (rows_of tables).published ≡ zero.published
       same_plan = ap (λ (r : Rows). r.published) sales.others ∙ ap (λ (r : Rows). r.published) callers.others
 
-      plan_rows_are : AreRowsOfPlan (rows_of tables).published planned.stored
-      plan_rows_are = subst (λ p. AreRowsOfPlan p planned.stored) (sym same_plan) planned.of
+      same_airlines : (rows_of tables).airlines ≡ zero.airlines
+      same_airlines = ap (λ (r : Rows). r.airlines) sales.others ∙ ap (λ (r : Rows). r.airlines) callers.others
 
-      pub all_loaded : HasRows tally_part (content_now tables) trees → IsAllLoaded trees tables
-      all_loaded tallies =
+      plan_rows_are : AreRowsOfPlan (rows_of tables).published (rows_of tables).airlines planned.stored
+      plan_rows_are =
+          subst (λ p. AreRowsOfPlan p (rows_of tables).airlines planned.stored) (sym same_plan)
+          (subst (λ m. AreRowsOfPlan zero.published m planned.stored) (sym same_airlines) planned.of)
+
+      pub all_loaded : HasRows tally_part (content_now tables) trees × HasRows tally_tax_part (content_now tables) trees → IsAllLoaded trees tables
+      all_loaded sums =
           let are = plan_rows_are in
           record {
             rows = (
@@ -192,12 +250,12 @@ module _ (trees : Trees) (zero : Rows) (planned : IsPlanned trees zero) where
                     (
                       subst (IsPermutation _) are.periods planned.are.periods.in_any_order,
                       (
-                        subst (λ m. IsPermutation (map (columns_of 2) (trees agent_part.tree)) (map agents_loader.row_of (entries m))) (sym (ap (λ (r : Rows). r.agents) sales.others)) callers.agents,
+                        subst (λ m. IsPermutation (map (columns_of (width_of agent_part.tree)) (trees agent_part.tree)) (map agents_loader.row_of (entries m))) (sym (ap (λ (r : Rows). r.agents) sales.others)) callers.agents,
                         (
-                          subst (λ m. IsPermutation (map (columns_of 2) (trees airline_token_part.tree)) (map airlines_loader.row_of (entries m))) (sym (ap (λ (r : Rows). r.airlines) sales.others)) callers.airlines,
+                          subst (λ m. IsPermutation (map (columns_of (width_of stock_part.tree)) (trees stock_part.tree)) (map ranges_loader.row_of (entries m))) (sym (ap (λ (r : Rows). r.ranges) sales.others)) callers.ranges,
                           (
-                            subst (λ m. IsPermutation (map (columns_of 3) (trees stock_part.tree)) (map ranges_loader.row_of (entries m))) (sym (ap (λ (r : Rows). r.ranges) sales.others)) callers.ranges,
-                            (sales.items, (sales.memos, (tallies, tt))),
+                            sales.items,
+                            (sales.memos, (sums.0, (subst (IsPermutation _) are.commission_taxes planned.are.commission_taxes.in_any_order, (sales.taxes, (sums.1, (sales.seconds, tt)))))),
                           ),
                         ),
                       ),
@@ -227,14 +285,15 @@ still_loaded trees a b was derived same loaded =
 -- ---- what is refused
 
 -- rows that are those of no plan
-pub no_plan : (trees : Trees) (stored : PlanRows) → ArePlanRows trees stored → IsOfVersion stored.meta.items → ((p : Published) → IsSoundPlan p → IsFormedPlan p → AreRowsOfPlan p stored → ⊥) → ShowsNoBook Damaged trees
+pub no_plan : (trees : Trees) (stored : PlanRows) → ArePlanRows trees stored → IsOfVersion stored.meta.items → ((p : Published) (tokens : FinMap nat_cmp (List ℕ)) → IsSoundPlan p → IsFormedPlan p tokens → AreRowsOfPlan p tokens stored → ⊥) → ShowsNoBook Damaged trees
 no_plan trees stored are version none = record {
-  none = λ book c sound of formed keeps. none book.published sound.plan (formed_plan book c of formed) (record {
+  none = λ book c sound of formed keeps. none book.published book.airlines sound.plan (formed_plan book c of formed) (record {
     meta = are.meta.in_order c formed keeps ∙ ap meta_part.rows of.same;
     terms = are.terms.in_order c formed keeps ∙ ap terms_part.rows of.same;
     airlines = are.airlines.in_order c formed keeps ∙ ap airline_part.rows of.same;
     rates = are.rates.in_order c formed keeps ∙ ap rate_part.rows of.same;
     periods = are.periods.in_order c formed keeps ∙ ap period_part.rows of.same;
+    commission_taxes = are.commission_taxes.in_order c formed keeps ∙ ap commission_tax_part.rows of.same;
   });
   meta = stored.meta.items;
   all = are.meta.in_any_order;

@@ -1,19 +1,26 @@
 -- What is known of rows in memory, as the tables of a store are put into them.
-use Rattle.std.specs.Prelude.{◌≡◌, true}
-use Rattle.std.specs.FinMap.{empty, entries}
+use Rattle.std.specs.Prelude.{◌≡◌, ℕ, List, map, true, IsPermutation}
+use Rattle.std.specs.FinMap.{FinMap, empty, entries}
 use Rattle.std.specs.List.{AllByRecursion}
+use Rattle.std.specs.Ordering.{nat_cmp}
 use Rattle.sqlite_trees.specs.Tree.{Trees}
 use Rattle.bsp_store_load.specs.Memos.{is_memo}
 use Rattle.bsp_store_load.specs.Published.{Published}
 use Rattle.bsp_store_load.specs.SoundPlan.{IsSoundPlan}
-use Rattle.bsp_book.specs.Rows.{Rows, memo_key, no_rows}
+use Rattle.bsp_store_load.specs.Item.{Item}
+use Rattle.bsp_store_load.specs.ReportedDocument.{ReportedDocument}
+use Rattle.bsp_book.specs.Rows.{Rows, item_cmp, memo_key, no_rows}
 use Rattle.bsp_book.specs.Sound.{IsRight, Sound}
 use Rattle.bsp_store_load.specs.MemoryRowsTables.{rows_of}
 use Rattle.bsp_store_load.specs.Tables.{Tables}
-use Rattle.bsp_store_load.specs.Kept.{KeepsRows, Part}
-use Rattle.bsp_store_load.specs.Content.{Content, agent_part, airline_token_part, content_with, form, item_part, memo_part, stock_part}
+use Rattle.bsp_store_load.specs.Beside.{IsJoined, IsSecond, taxes_of}
+use Rattle.bsp_store_load.specs.Columns.{second_row, tax_row}
+use Rattle.bsp_store_load.specs.ItemTax.{ItemTax}
+use Rattle.bsp_store_load.specs.Kept.{KeepsRows, Part, columns_of}
+use Rattle.bsp_store_load.specs.Content.{Content, agent_part, content_with, form, item_part, item_tax_part, memo_part, second_part, stock_part, width_of}
 use Rattle.bsp_store_load.specs.Contents.{IsContentOf, content_now}
 use Rattle.bsp_store_load.specs.Forms.{IsFormed}
+use Rattle.bsp_store_load.specs.Seconds.{seconds_of, ticket_cmp}
 use Rattle.bsp_store_load.specs.Loading.{HasRows}
 use Rattle.bsp_store_load.specs.Stored.{AreRowsOfPlan, IsFormedPlan}
 use Rattle.bsp_store_load.specs.declared.plan_rows.PlanRows.{PlanRows}
@@ -21,37 +28,35 @@ use Rattle.bsp_store_open.specs.Opening.{ArePlanRows, IsOfVersion}
 
 -- ---- the plan
 
--- the trees have the rows of a plan, and in memory is that plan alone
+-- the trees have the rows of a plan and of airlines, and in memory are that plan and the tokens of the airlines alone
 pub record IsPlanned (trees : Trees) (rows : Rows) : Type 0 where
   pub stored : PlanRows
   pub are : ArePlanRows trees stored
   pub version : IsOfVersion stored.meta.items
-  pub of : AreRowsOfPlan rows.published stored
-  pub alone : rows ≡ record no_rows { published = rows.published }
-  pub only : (p : Published) → IsSoundPlan p → IsFormedPlan p → AreRowsOfPlan p stored → rows ≡ record no_rows { published = p }
+  pub of : AreRowsOfPlan rows.published rows.airlines stored
+  pub alone : rows ≡ record no_rows { published = rows.published; airlines = rows.airlines }
+  pub only : (p : Published) (tokens : FinMap nat_cmp (List ℕ)) → IsSoundPlan p → IsFormedPlan p tokens → AreRowsOfPlan p tokens stored → rows ≡ record no_rows { published = p; airlines = tokens }
 
--- ---- callers
+-- ---- agents and ranges
 
 pub record HasNoCallers (rows : Rows) : Type 0 where
   pub agents : rows.agents ≡ empty
-  pub airlines : rows.airlines ≡ empty
   pub ranges : rows.ranges ≡ empty
 
 -- rows in memory have the rows of a table, whatever the tallies are
 abbrev pub Has : Part Content → Rows → Trees → Type 0
 Has part rows = HasRows part (content_with rows empty)
 
--- the rows of callers are in memory, and nothing else has changed
+-- the rows of agents and of ranges are in memory, and nothing else has changed
 pub record AreCallersLoaded (trees : Trees) (old new : Rows) : Type 0 where
-  pub others : new ≡ record old { agents = new.agents; airlines = new.airlines; ranges = new.ranges }
+  pub others : new ≡ record old { agents = new.agents; ranges = new.ranges }
   pub agents : Has agent_part new trees
-  pub airlines : Has airline_token_part new trees
   pub ranges : Has stock_part new trees
-  pub whole : (c : Content) → IsFormed c → KeepsRows form c trees → new ≡ record old { agents = c.agents; airlines = c.airlines; ranges = c.ranges }
+  pub whole : (c : Content) → IsFormed c → KeepsRows form c trees → new ≡ record old { agents = c.agents; ranges = c.ranges }
 
 -- the trees keep no formed content
-abbrev pub NoCallers : Trees → Type 0
-NoCallers trees = (c : Content) → IsFormed c → KeepsRows form c trees → ⊥
+abbrev pub NoFormed : Trees → Type 0
+NoFormed trees = (c : Content) → IsFormed c → KeepsRows form c trees → ⊥
 
 -- ---- items and memos
 
@@ -59,19 +64,50 @@ pub record HasNoSales (rows : Rows) : Type 0 where
   pub items : rows.items ≡ empty
   pub memos : rows.memos ≡ empty
 
--- each item is by its key what it says, and so is each memo
+-- each item is by its key what it says, and so is each memo; and what the tables beside that of items keep is that of the
+-- items
 pub record AreRight (c : Content) : Type 0 where
   pub items : AllByRecursion (λ e. IsRight e.0 e.1) (entries c.items)
   pub memos : AllByRecursion (λ e. (memo_key e.1 ≡ e.0) × (is_memo e.1 ≡ true)) (entries c.memos)
+  pub taxed : c.item_taxes ≡ c.items
+  pub related : c.seconds ≡ seconds_of c.items
+  pub joined : AllByRecursion (IsJoined (taxes_of c.items) (seconds_of c.items)) (entries c.items)
+  pub fit : AllByRecursion IsSecond (entries c.seconds)
+
+-- the trees keep no formed content that is right
+abbrev pub NoRight : Trees → Type 0
+NoRight trees = (c : Content) → IsFormed c → AreRight c → KeepsRows form c trees → ⊥
+
+-- the trees have the taxes of items in a map, and those of a content that they keep are in it
+pub record AreTaxesRead (trees : Trees) (taxes : FinMap item_cmp ItemTax) : Type 0 where
+  pub rows : IsPermutation (map (columns_of (width_of item_tax_part.tree)) (trees item_tax_part.tree)) (map tax_row (entries taxes))
+  pub whole : (c : Content) → IsFormed c → KeepsRows form c trees → taxes ≡ taxes_of c.item_taxes
+
+-- and the second related documents of tickets
+pub record AreSecondsRead (trees : Trees) (seconds : FinMap ticket_cmp ReportedDocument) : Type 0 where
+  pub rows : IsPermutation (map (columns_of (width_of second_part.tree)) (trees second_part.tree)) (map second_row (entries seconds))
+  pub whole : (c : Content) → IsFormed c → AreRight c → KeepsRows form c trees → seconds ≡ c.seconds
+
+-- the maps are those of items
+pub record AreBeside (taxes : FinMap item_cmp ItemTax) (seconds : FinMap ticket_cmp ReportedDocument) (items : FinMap item_cmp Item) : Type 0 where
+  pub taxes_are : taxes ≡ taxes_of items
+  pub seconds_are : seconds ≡ seconds_of items
+
+-- the rows of items, of their taxes and of their second related documents are in memory, and nothing else has changed
+pub record AreItemsLoaded (trees : Trees) (old new : Rows) : Type 0 where
+  pub others : new ≡ record old { items = new.items }
+  pub items : Has item_part new trees
+  pub taxes : Has item_tax_part new trees
+  pub seconds : Has second_part new trees
+  pub whole : (c : Content) → IsFormed c → AreRight c → KeepsRows form c trees → new ≡ record old { items = c.items }
 
 pub record AreSalesLoaded (trees : Trees) (old new : Rows) : Type 0 where
   pub others : new ≡ record old { items = new.items; memos = new.memos }
   pub items : Has item_part new trees
+  pub taxes : Has item_tax_part new trees
+  pub seconds : Has second_part new trees
   pub memos : Has memo_part new trees
   pub whole : (c : Content) → IsFormed c → AreRight c → KeepsRows form c trees → new ≡ record old { items = c.items; memos = c.memos }
-
-abbrev pub NoSales : Trees → Type 0
-NoSales trees = (c : Content) → IsFormed c → AreRight c → KeepsRows form c trees → ⊥
 
 -- ---- all
 

@@ -18,7 +18,7 @@ use Rattle.bsp_store_schema.specs.Order.{AreInOrder}
 use Rattle.bsp_store_load.specs.Schema.{no_schema, our_schema}
 use Rattle.bsp_store_load.specs.Kept.{IsOutside, KeepsRows, Reads, HasContents, columns_of}
 use Rattle.bsp_store_load.specs.Columns.{count, version}
-use Rattle.bsp_store_load.specs.Content.{Content, airline_part, form, meta_part, period_part, rate_part, terms_part, width_of}
+use Rattle.bsp_store_load.specs.Content.{Content, airline_part, commission_tax_part, form, meta_part, period_part, rate_part, terms_part, width_of}
 use Rattle.bsp_store_load.specs.Contents.{IsContentOf, KeepsBook}
 use Rattle.bsp_store_load.specs.Forms.{IsFormed}
 use Rattle.bsp_store_load.specs.Shows.{AreAllOf}
@@ -35,6 +35,7 @@ pub record ArePlanRows (trees : Trees) (rows : PlanRows) : Type 0 where
   pub airlines : AreAllOf airline_part trees rows.airlines.items
   pub rates : AreAllOf rate_part trees rows.rates.items
   pub periods : AreAllOf period_part trees rows.periods.items
+  pub commission_taxes : AreAllOf commission_tax_part trees rows.commission_taxes.items
 
 -- the first row of `meta` has the version of this crate
 pub record IsOfVersion (rows : List Row) : Type 0 where

@@ -1,8 +1,8 @@
 //! A store read as a book, before the book is opened.
 //!
 //! [`kept_list`] reads all rows of a store and answers the book in memory that they keep, and [`empty_list`] does so in a
-//! new store. [`plan_rows`] and [`tallies`] answer rows as they are, and [`load_rows`] puts those of a further table into
-//! memory. [`again`] opens a connection again over its own store.
+//! new store. [`plan_rows`], [`tallies`] and [`tally_taxes`] answer rows as they are, and [`load_rows`] puts those of a
+//! further table into memory. [`again`] opens a connection again over its own store.
 //! [`OpenFault`] says why a store is refused.
 #![tactic(auto)]
 
@@ -14,5 +14,5 @@ mod tables;
 pub use bsp_store_schema::{is_bare, is_ours, open_in_order};
 pub use fault::OpenFault;
 pub use opening::{again, empty_list, kept_list};
-pub use reading::{plan_rows, refusal, tallies};
+pub use reading::{plan_rows, refusal, tallies, tally_taxes};
 pub use tables::load_rows;

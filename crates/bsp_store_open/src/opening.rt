@@ -45,7 +45,7 @@ fn expect_sound(alloc: Global, tables: &Tables) -> Result<(), OpenFault>
 ///
 /// # Errors
 ///
-/// `OtherVersion`, where `meta` has another version than 1. `Damaged`, where the tables are not those of a book, a row
+/// `OtherVersion`, where `meta` has another version than 3. `Damaged`, where the tables are not those of a book, a row
 /// is no row of a book, or the rows are not sound. `NoRoom`, where an allocation is refused. `Failed`, where the store
 /// fails for another cause, or a transaction is open on the connection.
 pub fn kept_list<S: Alter>(alloc: Global, conn: &mut Connection<S>) -> Result<ListBook, OpenFault>

@@ -1,18 +1,18 @@
-//! All rows of the plan's tables of a store, and of its tallies.
+//! All rows of the plan's tables of a store, and of its tallies and their taxes.
 
 ghost use Rattle.std.specs.Prelude.{◌≡◌, true, IfErr, IfOk, MatchResult, OnOk};
 ghost use Rattle.sqlite.specs.Held.{state};
 ghost use Rattle.bsp_store_load.specs.Schema.{our_schema};
 ghost use Rattle.bsp_store_load.specs.Kept.{Spares};
-ghost use Rattle.bsp_store_load.specs.Content.{airline_part, meta_part, period_part, rate_part, tally_part, terms_part};
+ghost use Rattle.bsp_store_load.specs.Content.{airline_part, commission_tax_part, meta_part, period_part, rate_part, tally_part, tally_tax_part, terms_part};
 ghost use Rattle.bsp_store_load.specs.Shows.{AreAllOf};
 ghost use Rattle.bsp_store_open.specs.Faults.{is_refusal, refusal_for};
 ghost use Rattle.bsp_store_open.specs.Opening.{ArePlanRows, Finds, HasNoBook, IsAskedVersion, IsOfVersion, IsRefusalOf, Reports};
 
 use crate::fault::{OpenFault, fault_of};
 use bsp_store_load::{
-    PlanRows, VERSION, all_airlines, all_meta, all_periods, all_rates, all_tallies, all_terms,
-    read_version,
+    PlanRows, VERSION, all_airlines, all_commission_taxes, all_meta, all_periods, all_rates,
+    all_tallies, all_tally_taxes, all_terms, read_version,
 };
 use bsp_store_schema::is_ours;
 use sqlite::{Alter, Connection, Error as StoreError, Row};
@@ -92,6 +92,15 @@ fn periods<S: Alter>(conn: &mut Connection<S>) -> Result<Vec<Row>, OpenFault>
     Ok(all_periods(conn)?)
 }
 
+fn commission_taxes<S: Alter>(conn: &mut Connection<S>) -> Result<Vec<Row>, OpenFault>
+    ensures found { IfOk result (λ rows. Finds S.Store conn.old conn.new (λ trees. AreAllOf commission_tax_part trees rows.items)) }
+    ensures spares { Spares S.Store conn.old conn.new }
+    ensures refused { IfErr result (λ fault. is_refusal fault ≡ true → HasNoBook S.Store fault conn.old conn.new) }
+{
+    expect_tables(conn)?;
+    Ok(all_commission_taxes(conn)?)
+}
+
 /// All rows of the table of tallies.
 ///
 /// # Errors
@@ -104,6 +113,20 @@ pub fn tallies<S: Alter>(conn: &mut Connection<S>) -> Result<Vec<Row>, OpenFault
 {
     expect_tables(conn)?;
     Ok(all_tallies(conn)?)
+}
+
+/// All rows of the table of the taxes of tallies.
+///
+/// # Errors
+///
+/// Those of [`tallies`].
+pub fn tally_taxes<S: Alter>(conn: &mut Connection<S>) -> Result<Vec<Row>, OpenFault>
+    ensures found { IfOk result (λ rows. Finds S.Store conn.old conn.new (λ trees. AreAllOf tally_tax_part trees rows.items)) }
+    ensures spares { Spares S.Store conn.old conn.new }
+    ensures refused { IfErr result (λ fault. is_refusal fault ≡ true → (fault ≡ OpenFault.Damaged) × ¬ (conn.old.schema ≡ our_schema)) }
+{
+    expect_tables(conn)?;
+    Ok(all_tally_taxes(conn)?)
 }
 
 /// All rows of the plan's tables.
@@ -124,12 +147,14 @@ pub fn plan_rows<S: Alter>(conn: &mut Connection<S>) -> Result<PlanRows, OpenFau
     let airlines = airlines(conn)?;
     let rates = rates(conn)?;
     let periods = periods(conn)?;
+    let commission_taxes = commission_taxes(conn)?;
     Ok(PlanRows {
         meta,
         terms,
         airlines,
         rates,
         periods,
+        commission_taxes,
     })
 }
 

@@ -1,7 +1,8 @@
 //! Tables in memory with all that the tables of a store keep.
 
 ghost use Rattle.std.specs.Prelude.{◌≡◌, true, None, IfErr, IfOk, OnOk};
-ghost use Rattle.bsp_store_load.specs.Content.{tally_part};
+ghost use Rattle.std.specs.FinMap.{from_entries};
+ghost use Rattle.bsp_store_load.specs.Content.{tally_part, tally_tax_part};
 ghost use Rattle.bsp_store_load.specs.Contents.{content_now};
 ghost use Rattle.bsp_store_load.specs.Kept.{Spares};
 ghost use Rattle.bsp_store_load.specs.Loading.{HasRows, IsLoaded, LeavesRow};
@@ -9,19 +10,21 @@ ghost use Rattle.bsp_store_load.specs.MemoryRowsTables.{IsDerived, rows_of};
 ghost use Rattle.bsp_store_load.specs.Schema.{our_schema};
 ghost use Rattle.bsp_store_load.specs.Stored.{AreCommitted};
 ghost use Rattle.bsp_store_open.specs.Faults.{is_refusal};
-ghost use Rattle.bsp_store_open.specs.Loaded.{AreCallersLoaded, AreSalesLoaded, HasNoCallers, HasNoSales, IsAllLoaded, IsPlanned, KeepsNone, NoCallers, NoSales, OtherTallies};
+ghost use Rattle.bsp_store_open.specs.Loaded.{AreBeside, AreCallersLoaded, AreItemsLoaded, AreSalesLoaded, AreSecondsRead, AreTaxesRead, HasNoCallers, HasNoSales, IsAllLoaded, IsPlanned, KeepsNone, NoFormed, NoRight, OtherTallies};
 ghost use Rattle.bsp_store_open.specs.Opening.{Finds, HasNoBook, Misses};
 
 use crate::fault::OpenFault;
-use crate::reading::{expect_tables, plan_rows, tallies};
+use crate::reading::{expect_tables, plan_rows, tallies, tally_taxes};
 use bsp_store_load::{
-    Agents, AirlineTokens, Ranges, StoredItems, StoredMemos, StoredTable, Tables, are_tallies,
-    load_table, plan_tables,
+    Agents, ItemKey, ItemTax, Ranges, ReportedDocument, StoredItems, StoredMemos, StoredSeconds,
+    StoredTable, StoredTaxes, Tables, TicketKey, are_seconds, are_tallies, are_tally_taxes,
+    are_taxes, load_table, plan_tables,
 };
 use sqlite::{Alter, Connection, Row};
 use std::alloc::Global;
+use std::collections::BTreeMap;
 
-/// Tables with the plan of a store, and nothing else.
+/// Tables with the plan of a store and the tokens of its airlines, and nothing else.
 fn planned_tables<S: Alter>(alloc: Global, conn: &mut Connection<S>) -> Result<Tables, OpenFault>
     ensures derived { IfOk result IsDerived }
     ensures found { IfOk result (λ tables. Finds S.Store conn.old conn.new (λ trees. IsPlanned trees (rows_of tables))) }
@@ -40,61 +43,148 @@ fn planned_tables<S: Alter>(alloc: Global, conn: &mut Connection<S>) -> Result<T
 /// # Errors
 ///
 /// `Damaged`, where the tables are not those of a book. Those of the store.
-pub fn load_rows<S: Alter, K, V, T: StoredTable<K, V>>(
+pub fn load_rows<S: Alter, K, V, M, T: StoredTable<K, V, M>>(
     table: &T,
     conn: &mut Connection<S>,
-    tables: &mut Tables,
+    memory: &mut M,
 ) -> Result<Option<Row>, OpenFault>
-    ensures derived { OnOk result (IsDerived tables.old → IsDerived tables.new) }
-    ensures found { IfOk result (λ left. Finds S.Store conn.old conn.new (λ trees. IsLoaded T.part T.row_of T.with_entry T.fits T.lacks T.rows_in trees (rows_of tables.old) (rows_of tables.new) left)) }
+    ensures derived { OnOk result (T.is_kept memory.old → T.is_kept memory.new) }
+    ensures found { IfOk result (λ left. Finds S.Store conn.old conn.new (λ trees. IsLoaded T.part T.row_of T.with_entry (T.fits table.now) T.lacks T.rows_in trees (T.whole memory.old) (T.whole memory.new) left)) }
     ensures refused { IfErr result (λ fault. is_refusal fault ≡ true → (fault ≡ OpenFault.Damaged) × ¬ (conn.old.schema ≡ our_schema)) }
     ensures spares { Spares S.Store conn.old conn.new }
 {
     expect_tables(conn)?;
-    Ok(load_table(table, conn, tables)?)
+    Ok(load_table(table, conn, memory)?)
 }
 
 /// Puts all rows of a table into memory.
-fn load<S: Alter, K, V, T: StoredTable<K, V>>(
+fn load<S: Alter, K, V, M, T: StoredTable<K, V, M>>(
     table: &T,
     conn: &mut Connection<S>,
-    tables: &mut Tables,
+    memory: &mut M,
 ) -> Result<(), OpenFault>
-    ensures derived { OnOk result (IsDerived tables.old → IsDerived tables.new) }
-    ensures found { OnOk result (Finds S.Store conn.old conn.new (λ trees. IsLoaded T.part T.row_of T.with_entry T.fits T.lacks T.rows_in trees (rows_of tables.old) (rows_of tables.new) None)) }
-    ensures missed { IfErr result (λ fault. is_refusal fault ≡ true → Misses S.Store conn.old conn.new (λ trees. LeavesRow T.part T.row_of T.with_entry T.fits T.lacks T.rows_in trees (rows_of tables.old) (rows_of tables.new))) }
+    ensures derived { OnOk result (T.is_kept memory.old → T.is_kept memory.new) }
+    ensures found { OnOk result (Finds S.Store conn.old conn.new (λ trees. IsLoaded T.part T.row_of T.with_entry (T.fits table.now) T.lacks T.rows_in trees (T.whole memory.old) (T.whole memory.new) None)) }
+    ensures missed { IfErr result (λ fault. is_refusal fault ≡ true → Misses S.Store conn.old conn.new (λ trees. LeavesRow T.part T.row_of T.with_entry (T.fits table.now) T.lacks T.rows_in trees (T.whole memory.old) (T.whole memory.new))) }
     ensures fault { IfErr result (λ fault. is_refusal fault ≡ true → fault ≡ OpenFault.Damaged) }
     ensures spares { Spares S.Store conn.old conn.new }
 {
-    let left = load_rows(table, conn, tables)?;
+    let left = load_rows(table, conn, memory)?;
     if left.is_some() {
         return Err(OpenFault::Damaged);
     }
     Ok(())
 }
 
-/// Puts the rows of callers into memory.
+/// Puts the rows of agents and of ranges into memory.
 fn load_callers<S: Alter>(conn: &mut Connection<S>, tables: &mut Tables) -> Result<(), OpenFault>
     ensures derived { OnOk result (IsDerived tables.old → IsDerived tables.new) }
     ensures found { OnOk result (Finds S.Store conn.old conn.new (λ trees. HasNoCallers (rows_of tables.old) → AreCallersLoaded trees (rows_of tables.old) (rows_of tables.new))) }
-    ensures missed { IfErr result (λ fault. is_refusal fault ≡ true → Misses S.Store conn.old conn.new (λ trees. HasNoCallers (rows_of tables.old) → NoCallers trees)) }
+    ensures missed { IfErr result (λ fault. is_refusal fault ≡ true → Misses S.Store conn.old conn.new (λ trees. HasNoCallers (rows_of tables.old) → NoFormed trees)) }
     ensures fault { IfErr result (λ fault. is_refusal fault ≡ true → fault ≡ OpenFault.Damaged) }
     ensures spares { Spares S.Store conn.old conn.new }
 {
     load(&Agents, conn, tables)?;
-    load(&AirlineTokens, conn, tables)?;
     load(&Ranges, conn, tables)
 }
 
-/// Puts items and memos into memory, which makes the tallies.
-fn load_sales<S: Alter>(conn: &mut Connection<S>, tables: &mut Tables) -> Result<(), OpenFault>
-    ensures derived { OnOk result (IsDerived tables.old → IsDerived tables.new) }
-    ensures found { OnOk result (Finds S.Store conn.old conn.new (λ trees. HasNoSales (rows_of tables.old) → AreSalesLoaded trees (rows_of tables.old) (rows_of tables.new))) }
-    ensures missed { IfErr result (λ fault. is_refusal fault ≡ true → Misses S.Store conn.old conn.new (λ trees. HasNoSales (rows_of tables.old) → NoSales trees)) }
+/// The taxes of items that a store keeps, by the keys of the items.
+fn taxes<S: Alter>(
+    alloc: Global,
+    conn: &mut Connection<S>,
+) -> Result<BTreeMap<ItemKey, ItemTax>, OpenFault>
+    ensures found { IfOk result (λ taxes. Finds S.Store conn.old conn.new (λ trees. AreTaxesRead trees (from_entries taxes.entries))) }
+    ensures missed { IfErr result (λ fault. is_refusal fault ≡ true → Misses S.Store conn.old conn.new NoFormed) }
     ensures fault { IfErr result (λ fault. is_refusal fault ≡ true → fault ≡ OpenFault.Damaged) }
     ensures spares { Spares S.Store conn.old conn.new }
 {
-    load(&StoredItems, conn, tables)?;
+    let mut taxes = BTreeMap::new(alloc);
+    load(&StoredTaxes, conn, &mut taxes)?;
+    Ok(taxes)
+}
+
+/// The second related documents that a store keeps, by their tickets.
+fn seconds<S: Alter>(
+    alloc: Global,
+    conn: &mut Connection<S>,
+) -> Result<BTreeMap<TicketKey, ReportedDocument>, OpenFault>
+    ensures found { IfOk result (λ seconds. Finds S.Store conn.old conn.new (λ trees. AreSecondsRead trees (from_entries seconds.entries))) }
+    ensures missed { IfErr result (λ fault. is_refusal fault ≡ true → Misses S.Store conn.old conn.new NoRight) }
+    ensures fault { IfErr result (λ fault. is_refusal fault ≡ true → fault ≡ OpenFault.Damaged) }
+    ensures spares { Spares S.Store conn.old conn.new }
+{
+    let mut seconds = BTreeMap::new(alloc);
+    load(&StoredSeconds, conn, &mut seconds)?;
+    Ok(seconds)
+}
+
+/// Refuses taxes and second related documents that are not those of the items in memory.
+fn expect_beside(
+    tables: &Tables,
+    taxes: &BTreeMap<ItemKey, ItemTax>,
+    seconds: &BTreeMap<TicketKey, ReportedDocument>,
+) -> Result<(), OpenFault>
+    ensures same { OnOk result (AreBeside (from_entries taxes.now.entries) (from_entries seconds.now.entries) (rows_of tables.now).items) }
+    ensures other { IfErr result (λ fault. ¬ AreBeside (from_entries taxes.now.entries) (from_entries seconds.now.entries) (rows_of tables.now).items) }
+    ensures fault { IfErr result (λ fault. fault ≡ OpenFault.Damaged) }
+{
+    let items = tables.item_table();
+    if !are_taxes(taxes, items) {
+        return Err(OpenFault::Damaged);
+    }
+    if !are_seconds(seconds, items) {
+        return Err(OpenFault::Damaged);
+    }
+    Ok(())
+}
+
+/// Puts items into memory, each with its tax and its second related document, and refuses taxes and documents of others.
+fn load_with<S: Alter>(
+    conn: &mut Connection<S>,
+    tables: &mut Tables,
+    taxes: &BTreeMap<ItemKey, ItemTax>,
+    seconds: &BTreeMap<TicketKey, ReportedDocument>,
+) -> Result<(), OpenFault>
+    ensures derived { OnOk result (IsDerived tables.old → IsDerived tables.new) }
+    ensures found { OnOk result (Finds S.Store conn.old conn.new (λ trees. AreTaxesRead trees (from_entries taxes.now.entries) → AreSecondsRead trees (from_entries seconds.now.entries) → HasNoSales (rows_of tables.old) → AreItemsLoaded trees (rows_of tables.old) (rows_of tables.new))) }
+    ensures missed { IfErr result (λ fault. is_refusal fault ≡ true → Misses S.Store conn.old conn.new (λ trees. AreTaxesRead trees (from_entries taxes.now.entries) → AreSecondsRead trees (from_entries seconds.now.entries) → HasNoSales (rows_of tables.old) → NoRight trees)) }
+    ensures fault { IfErr result (λ fault. is_refusal fault ≡ true → fault ≡ OpenFault.Damaged) }
+    ensures spares { Spares S.Store conn.old conn.new }
+{
+    load(&StoredItems { taxes, seconds }, conn, tables)?;
+    expect_beside(tables, taxes, seconds)
+}
+
+/// Puts items into memory with what two other tables keep of them. What is read of these is dropped then.
+fn load_items<S: Alter>(
+    alloc: Global,
+    conn: &mut Connection<S>,
+    tables: &mut Tables,
+) -> Result<(), OpenFault>
+    ensures derived { OnOk result (IsDerived tables.old → IsDerived tables.new) }
+    ensures found { OnOk result (Finds S.Store conn.old conn.new (λ trees. HasNoSales (rows_of tables.old) → AreItemsLoaded trees (rows_of tables.old) (rows_of tables.new))) }
+    ensures missed { IfErr result (λ fault. is_refusal fault ≡ true → Misses S.Store conn.old conn.new (λ trees. HasNoSales (rows_of tables.old) → NoRight trees)) }
+    ensures fault { IfErr result (λ fault. is_refusal fault ≡ true → fault ≡ OpenFault.Damaged) }
+    ensures spares { Spares S.Store conn.old conn.new }
+{
+    let taxes = taxes(alloc, conn)?;
+    let seconds = seconds(alloc, conn)?;
+    load_with(conn, tables, &taxes, &seconds)
+}
+
+/// Puts items and memos into memory, which makes the tallies.
+fn load_sales<S: Alter>(
+    alloc: Global,
+    conn: &mut Connection<S>,
+    tables: &mut Tables,
+) -> Result<(), OpenFault>
+    ensures derived { OnOk result (IsDerived tables.old → IsDerived tables.new) }
+    ensures found { OnOk result (Finds S.Store conn.old conn.new (λ trees. HasNoSales (rows_of tables.old) → AreSalesLoaded trees (rows_of tables.old) (rows_of tables.new))) }
+    ensures missed { IfErr result (λ fault. is_refusal fault ≡ true → Misses S.Store conn.old conn.new (λ trees. HasNoSales (rows_of tables.old) → NoRight trees)) }
+    ensures fault { IfErr result (λ fault. is_refusal fault ≡ true → fault ≡ OpenFault.Damaged) }
+    ensures spares { Spares S.Store conn.old conn.new }
+{
+    load_items(alloc, conn, tables)?;
     load(&StoredMemos, conn, tables)
 }
 
@@ -112,8 +202,37 @@ fn expect_tallies<S: Alter>(conn: &mut Connection<S>, tables: &Tables) -> Result
     Ok(())
 }
 
+/// Refuses a store that has other taxes of tallies than the rows in memory add up to.
+fn expect_tally_taxes<S: Alter>(conn: &mut Connection<S>, tables: &Tables) -> Result<(), OpenFault>
+    ensures found { OnOk result (Finds S.Store conn.old conn.new (HasRows tally_tax_part (content_now tables.now))) }
+    ensures missed { IfErr result (λ fault. is_refusal fault ≡ true → Misses S.Store conn.old conn.new (OtherTallies (content_now tables.now))) }
+    ensures fault { IfErr result (λ fault. is_refusal fault ≡ true → fault ≡ OpenFault.Damaged) }
+    ensures spares { Spares S.Store conn.old conn.new }
+{
+    let rows = tally_taxes(conn)?;
+    if !are_tally_taxes(&rows, tables.tally_table()) {
+        return Err(OpenFault::Damaged);
+    }
+    Ok(())
+}
+
+/// Refuses a store that has other sums, in either table, than the rows in memory add up to.
+fn expect_sums<S: Alter>(conn: &mut Connection<S>, tables: &Tables) -> Result<(), OpenFault>
+    ensures found { OnOk result (Finds S.Store conn.old conn.new (λ trees. HasRows tally_part (content_now tables.now) trees × HasRows tally_tax_part (content_now tables.now) trees)) }
+    ensures missed { IfErr result (λ fault. is_refusal fault ≡ true → Misses S.Store conn.old conn.new (OtherTallies (content_now tables.now))) }
+    ensures fault { IfErr result (λ fault. is_refusal fault ≡ true → fault ≡ OpenFault.Damaged) }
+    ensures spares { Spares S.Store conn.old conn.new }
+{
+    expect_tallies(conn, tables)?;
+    expect_tally_taxes(conn, tables)
+}
+
 /// Puts all rows but the plan's into memory, and refuses other tallies than they add up to.
-fn load_rest<S: Alter>(conn: &mut Connection<S>, tables: &mut Tables) -> Result<(), OpenFault>
+fn load_rest<S: Alter>(
+    alloc: Global,
+    conn: &mut Connection<S>,
+    tables: &mut Tables,
+) -> Result<(), OpenFault>
     ensures derived { OnOk result (IsDerived tables.old → IsDerived tables.new) }
     ensures found { OnOk result (Finds S.Store conn.old conn.new (λ trees. IsPlanned trees (rows_of tables.old) → IsAllLoaded trees tables.new)) }
     ensures missed { IfErr result (λ fault. is_refusal fault ≡ true → IsDerived tables.old → Misses S.Store conn.old conn.new (λ trees. IsPlanned trees (rows_of tables.old) → KeepsNone trees)) }
@@ -121,8 +240,8 @@ fn load_rest<S: Alter>(conn: &mut Connection<S>, tables: &mut Tables) -> Result<
     ensures spares { Spares S.Store conn.old conn.new }
 {
     load_callers(conn, tables)?;
-    load_sales(conn, tables)?;
-    expect_tallies(conn, tables)
+    load_sales(alloc, conn, tables)?;
+    expect_sums(conn, tables)
 }
 
 /// The tables in memory that the tables of a store keep.
@@ -136,7 +255,7 @@ pub(crate) fn kept_tables<S: Alter>(
     ensures spares { Spares S.Store conn.old conn.new }
 {
     let mut tables = planned_tables(alloc, conn)?;
-    load_rest(conn, &mut tables)?;
+    load_rest(alloc, conn, &mut tables)?;
     tables.commit();
     Ok(tables)
 }

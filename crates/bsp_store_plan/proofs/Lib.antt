@@ -1,3 +1,4 @@
+pub mod Back
 pub mod Orders
 pub mod Sharing
 pub mod MetaTable
@@ -5,4 +6,5 @@ pub mod TermsTable
 pub mod AirlineTable
 pub mod PlacedTables
 pub mod RateTable
+pub mod CommissionTaxTable
 pub mod PeriodTable

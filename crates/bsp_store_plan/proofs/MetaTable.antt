@@ -63,7 +63,7 @@ replaces old new was entry count now there keeps h =
     let row = meta_row entry in
     let it = updates our_schema 0 meta_table refl refl (λ db. refl) 4 (no_work meta_table.tree) set_text set_is.1 row (key_test 1) (key_project 1 4) set_is.0 meta_row (λ e. true) (λ r. refl) (λ r. refl) (λ e. one_column _ Equal (flag_is true true)) (λ e. refl) was row (λ r same. ap (λ cs. eval_all (key_project 1 4) (row ∷ (rowid r ∷ cs) ∷ [])) same)
     (cast_same meta_columns row (cast_int _, (cast_int _, (cast_int _, (cast_int _, tt))))) (λ id. refl) old new keeps.schema count h (was ∷ []) refl (subst (λ l. KeepsTable 4 l (old.now.trees meta_table.tree)) (ap meta_rows there) keeps.kept.0) in
-    wrote form old.now new.now meta_table.tree now (with entry now) _ it.same it.kept it.others (IsPermutation-refl _, (refl, (refl, (refl, (refl, (refl, (refl, (refl, (refl, (refl, (refl, tt))))))))))) keeps
+    wrote form old.now new.now meta_table.tree now (with entry now) _ it.same it.kept it.others (IsPermutation-refl _, (refl, (refl, (refl, (refl, (refl, (refl, (refl, (refl, (refl, (refl, (refl, (refl, (refl, tt)))))))))))))) keeps
 
 -- the row that is there
 replaces_some : (old new : State) (entry : Meta) (count : ℕ) (now : Content) (was : Option Meta) → now.meta ≡ was → is_some was ≡ true → Keeps form now old.now → Executes set_text (meta_row entry) old new (Ok count) → Keeps form (with entry now) new.now
@@ -76,7 +76,7 @@ adds old new entry count now none keeps h =
     let it = inserts our_schema 0 meta_table refl refl (λ db. refl) 4 (no_work meta_table.tree) add_text add_is.1 row _ 5 add_is.0 (Null ∷ row) row refl
     (ap₂ ◌∷◌ cast_null (cast_same meta_columns row (cast_int _, (cast_int _, (cast_int _, (cast_int _, tt)))))) (λ id. refl) old new keeps.schema count h _ keeps.kept.0 in
     let alone = subst (λ o. IsPermutation (row ∷ []) (row ∷ meta_rows o)) (sym none) (IsPermutation-refl _) in
-    wrote form old.now new.now meta_table.tree now (with entry now) _ it.same it.kept it.others (alone, (refl, (refl, (refl, (refl, (refl, (refl, (refl, (refl, (refl, (refl, tt))))))))))) keeps
+    wrote form old.now new.now meta_table.tree now (with entry now) _ it.same it.kept it.others (alone, (refl, (refl, (refl, (refl, (refl, (refl, (refl, (refl, (refl, (refl, (refl, (refl, (refl, tt)))))))))))))) keeps
 
 -- ---- the calls
 

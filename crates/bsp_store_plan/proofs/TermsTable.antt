@@ -71,7 +71,7 @@ clears old new count now keeps h =
     let entries = option_to_list now.terms in
     let it = deletes our_schema 1 terms_table refl refl (λ db. refl) 4 (no_work terms_table.tree) clear_text clear_is.1 [] [] clear_is.0 terms_row (λ e. true) (λ r. refl) (λ r. refl) (λ e. refl) (λ e. refl)
     old new keeps.schema count h entries (subst (λ l. KeepsTable 4 l (old.now.trees terms_table.tree)) (listed now.terms) keeps.kept.1.0) in
-    wrote form old.now new.now terms_table.tree now (without now) _ it.same it.kept it.others (refl, (no_rows terms_row entries, (refl, (refl, (refl, (refl, (refl, (refl, (refl, (refl, (refl, tt))))))))))) keeps
+    wrote form old.now new.now terms_table.tree now (without now) _ it.same it.kept it.others (refl, (no_rows terms_row entries, (refl, (refl, (refl, (refl, (refl, (refl, (refl, (refl, (refl, (refl, (refl, (refl, tt)))))))))))))) keeps
 
 adds : (old new : State) (entry : Terms) (count : ℕ) (now : Content) → now.terms ≡ None → Keeps form now old.now → Executes add_text (terms_row entry) old new (Ok count) → Keeps form (with entry now) new.now
 adds old new entry count now none keeps h =
@@ -79,7 +79,7 @@ adds old new entry count now none keeps h =
     let it = inserts our_schema 1 terms_table refl refl (λ db. refl) 4 (no_work terms_table.tree) add_text add_is.1 row _ 5 add_is.0 (Null ∷ row) row refl
     (ap₂ ◌∷◌ cast_null (cast_same terms_columns row (cast_int _, (refl, (cast_int _, (cast_int _, tt)))))) (λ id. refl) old new keeps.schema count h _ keeps.kept.1.0 in
     let alone = subst (λ o. IsPermutation (row ∷ []) (row ∷ terms_rows o)) (sym none) (IsPermutation-refl _) in
-    wrote form old.now new.now terms_table.tree now (with entry now) _ it.same it.kept it.others (refl, (alone, (refl, (refl, (refl, (refl, (refl, (refl, (refl, (refl, (refl, tt))))))))))) keeps
+    wrote form old.now new.now terms_table.tree now (with entry now) _ it.same it.kept it.others (refl, (alone, (refl, (refl, (refl, (refl, (refl, (refl, (refl, (refl, (refl, (refl, (refl, (refl, tt)))))))))))))) keeps
 
 -- ---- the calls
 

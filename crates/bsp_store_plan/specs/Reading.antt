@@ -1,13 +1,17 @@
 -- Which entry a row is read as.
-use Rattle.std.specs.Prelude.{◌≡◌, ℕ}
+use Rattle.std.specs.Prelude.{◌≡◌, ◌^◌, ℕ, Option, option_and_then, option_map}
 use Rattle.sqlite_value.specs.declared.value.Value.TheVariants.{Int, Text}
 use Rattle.sqlite_value.specs.Order.{Row, column}
 use Rattle.bsp_rows.specs.CivilDay.{CivilDay}
 use Rattle.bsp_rows.specs.Days.{day_number}
 use Rattle.bsp_rows.specs.Period.{Period}
 use Rattle.bsp_rows.specs.Rate.{Rate}
+use Rattle.bsp_rows.specs.CommissionTax.{CommissionTax}
 use Rattle.bsp_rows.specs.Terms.{Terms}
+use Rattle.bsp_store_base.specs.declared.airlines.AirlineEntry.{AirlineEntry}
+use Rattle.bsp_store_base.specs.Airlines.{entry_of}
 use Rattle.bsp_store_base.specs.Columns.{version, count, airline_text, period_text}
+use Rattle.bsp_store_base.specs.Reading.{below, code_in, if_there, token_in}
 
 -- ---- what the columns of a row say, its place and its id apart
 
@@ -21,6 +25,12 @@ pub record IsTermsRow (r : Row) (terms : Terms) : Type 0 where
   pub bears_review : column r 2 ≡ count terms.review_days
   pub bears_documents : column r 3 ≡ count terms.documents_limit
 
+-- the airline of a row, under its code
+abbrev pub airline_in : Row → Option (ℕ × AirlineEntry)
+airline_in r =
+    option_and_then (λ code. option_and_then (λ place. option_and_then (λ token. option_map (λ airline. (code, airline)) (entry_of place token))
+    (if_there (column r 2) (token_in (column r 2)))) (if_there (column r 1) (below (2 ^ 63) (column r 1)))) (code_in 3 (column r 0))
+
 pub record IsRateRow (r : Row) (rate : Rate) : Type 0 where
   pub bears_airline : column r 0 ≡ airline_text rate.airline
   pub bears_from : column r 1 ≡ Int (day_number rate.from)
@@ -31,3 +41,7 @@ pub record IsPeriodRow (r : Row) (period : Period) : Type 0 where
   pub bears_first : column r 2 ≡ Int (day_number period.first)
   pub bears_last : column r 3 ≡ Int (day_number period.last)
   pub bears_remittance : column r 4 ≡ Int (day_number period.remittance)
+
+pub record IsCommissionTaxRow (r : Row) (tax : CommissionTax) : Type 0 where
+  pub bears_from : column r 0 ≡ Int (day_number tax.from)
+  pub bears_hundredths : column r 2 ≡ count tax.hundredths

@@ -1,91 +1,157 @@
-ghost use Rattle.std.specs.Prelude.{◌≡◌, ◌<◌, ◌^◌, ◌+◌, ◌++◌, ◌∷◌, [], length, OnOk, OnErr, ⊤, take};
-ghost use Rattle.sqlite.specs.Values.{bound};
-ghost use Rattle.bsp_store_base.specs.Calls.{Changes, GivesUp, GivesUpIf};
+ghost use Rattle.std.specs.Prelude.{◌≡◌, is_some, None, true, ⊤, OnOk, OnErr, pos, option_map};
+ghost use Rattle.std.specs.FinMap.{get, insert, remove};
+ghost use Rattle.std.specs.Option.{ForSome};
+ghost use Rattle.sqlite_value.specs.Value.{owned};
+ghost use Rattle.sqlite_value.specs.declared.value.Value.TheVariants.{Int, Text};
+ghost use Rattle.sqlite.specs.Values.{bound, bound_value, or_null};
+ghost use Rattle.bsp_store_base.specs.Airlines.{HasStoredPlace};
+ghost use Rattle.bsp_store_base.specs.Calls.{Changes, GivesUp};
 ghost use Rattle.bsp_store_base.specs.Columns.{airline_row};
 ghost use Rattle.bsp_store_base.specs.Content.{airline_part};
 ghost use Rattle.bsp_store_base.specs.Shows.{ShowsAll};
+ghost use Rattle.bsp_store_base.specs.Synced.{with_value};
 ghost use Rattle.bsp_store_plan.specs.Values.{airline_values};
 
-use bsp_rows::AirlineCode;
-use bsp_store_base::airline_digits;
+use bsp_rows::{AirlineCode, Token};
+use bsp_store_base::{AirlineEntry, airline_digits};
 use sqlite::{Alter, Connection, Error, Row};
 use sqlite_value::value::ValueRef;
 
-/// The row of an airline at its place.
-#[derive(Clone, Copy, Debug)]
+/// The row of an airline that is published, registered, or both.
+#[derive(Clone, Copy)]
 pub struct AirlineRow {
     code: [u8; 3],
-    place: i64,
+    place: Option<i64>,
+    token: Option<Token>,
+}
+
+fn stored_place(airline: &AirlineEntry) -> Option<i64>
+    requires { HasStoredPlace airline.now }
+    ensures { result ≡ option_map pos airline.now.place }
+{
+    match airline.place {
+        Some(place) => Some(place as i64),
+        None => None,
+    }
+}
+
+fn place_value<'a>(place: Option<i64>) -> ValueRef<'a>
+    ensures { bound_value (owned result) ≡ or_null Int place }
+{
+    match place {
+        Some(place) => ValueRef::Int(place),
+        None => ValueRef::Null,
+    }
+}
+
+fn token_value<'a>(token: &'a Option<Token>) -> ValueRef<'a>
+    ensures { bound_value (owned result) ≡ or_null Text token.now }
+{
+    match token {
+        Some(token) => ValueRef::Text(token.as_bytes()),
+        None => ValueRef::Null,
+    }
 }
 
 impl AirlineRow {
-    /// The row of an airline at a place, counted from 1.
-    pub fn of(place: usize, airline: AirlineCode) -> AirlineRow
-        requires { place < 2 ^ 63 }
-        ensures { airline_values result ≡ airline_row (place, airline) }
+    /// The row of an airline.
+    pub fn of(code: AirlineCode, airline: &AirlineEntry) -> AirlineRow
+        requires { HasStoredPlace airline.now }
+        ensures { airline_values result ≡ airline_row (code, airline.now) }
     {
         AirlineRow {
-            code: airline_digits(airline),
-            place: place as i64,
+            code: airline_digits(code),
+            place: stored_place(airline),
+            token: airline.token,
         }
     }
 
     /// A value for each column.
-    pub fn values(&self) -> [ValueRef<'_>; 2]
+    pub fn values(&self) -> [ValueRef<'_>; 3]
         ensures { bound result ≡ airline_values self.now }
     {
-        [ValueRef::Text(&self.code), ValueRef::Int(self.place)]
+        [
+            ValueRef::Text(&self.code),
+            place_value(self.place),
+            token_value(&self.token),
+        ]
     }
 }
 
-/// Takes out all rows.
-///
-/// # Errors
-///
-/// That of the statement.
-pub fn clear_airlines<S: Alter>(conn: &mut Connection<S>) -> Result<usize, Error>
-    ensures ok { OnOk result (Changes S.Store conn.old conn.new (λ now. ⊤) (λ now. record now { published = [] })) }
+fn delete_airline<S: Alter>(conn: &mut Connection<S>, code: AirlineCode) -> Result<usize, Error>
+    ensures ok { OnOk result (Changes S.Store conn.old conn.new (λ now. ⊤) (λ now. record now { airlines = remove now.airlines code })) }
     ensures err { OnErr result (GivesUp S.Store conn.old conn.new) }
 {
-    conn.execute("DELETE FROM airline", &[])
-}
-
-fn add_airline<S: Alter>(
-    conn: &mut Connection<S>,
-    place: usize,
-    airline: AirlineCode,
-) -> Result<usize, Error>
-    requires { place < 2 ^ 63 }
-    ensures ok { OnOk result (Changes S.Store conn.old conn.new (λ now. place ≡ length now.published + 1) (λ now. record now { published = now.published ++ airline ∷ [] })) }
-    ensures err { OnErr result (GivesUp S.Store conn.old conn.new) }
-{
-    let row = AirlineRow::of(place, airline);
+    let digits = airline_digits(code);
     conn.execute(
-        "INSERT INTO airline (code, place) VALUES (?1, ?2)",
-        &row.values(),
+        "DELETE FROM airline WHERE code = ?1",
+        &[ValueRef::Text(&digits)],
     )
 }
 
-/// Writes the airlines from a place on, counted from 0. The table has those before it.
+fn insert_airline<S: Alter>(
+    conn: &mut Connection<S>,
+    code: AirlineCode,
+    airline: &AirlineEntry,
+) -> Result<usize, Error>
+    requires { HasStoredPlace airline.now }
+    ensures ok { OnOk result (Changes S.Store conn.old conn.new (λ now. get now.airlines code ≡ None) (λ now. record now { airlines = insert now.airlines code airline.now })) }
+    ensures err { OnErr result (GivesUp S.Store conn.old conn.new) }
+{
+    let row = AirlineRow::of(code, airline);
+    let values = row.values();
+    conn.execute(
+        "INSERT INTO airline (code, place, token) VALUES (?1, ?2, ?3)",
+        &values,
+    )
+}
+
+fn update_airline<S: Alter>(
+    conn: &mut Connection<S>,
+    code: AirlineCode,
+    airline: &AirlineEntry,
+) -> Result<usize, Error>
+    requires { HasStoredPlace airline.now }
+    ensures ok { OnOk result (Changes S.Store conn.old conn.new (λ now. is_some (get now.airlines code) ≡ true) (λ now. record now { airlines = insert now.airlines code airline.now })) }
+    ensures err { OnErr result (GivesUp S.Store conn.old conn.new) }
+{
+    let row = AirlineRow::of(code, airline);
+    let values = row.values();
+    conn.execute(
+        "UPDATE airline SET place = ?2, token = ?3 WHERE code = ?1",
+        &values,
+    )
+}
+
+/// Leaves this place and this token at the airline's code, or no row. One statement writes it, by whether the table has a
+/// row of the code.
 ///
 /// # Errors
 ///
-/// That of the statement which failed.
-pub fn add_airlines<S: Alter>(
+/// Those of the store.
+pub fn put_airline<S: Alter>(
     conn: &mut Connection<S>,
-    from: usize,
-    airlines: &[AirlineCode],
+    code: AirlineCode,
+    is_there: bool,
+    airline: Option<AirlineEntry>,
 ) -> Result<(), Error>
-    ensures ok { OnOk result (Changes S.Store conn.old conn.new (λ now. now.published ≡ take from airlines.now) (λ now. record now { published = airlines.now })) }
-    ensures err { OnErr result (GivesUpIf S.Store conn.old conn.new (λ now. now.published ≡ take from airlines.now)) }
+    requires { ForSome airline HasStoredPlace }
+    ensures ok { OnOk result (Changes S.Store conn.old conn.new (λ now. is_some (get now.airlines code) ≡ is_there) (λ now. record now { airlines = with_value code airline now.airlines })) }
+    ensures err { OnErr result (GivesUp S.Store conn.old conn.new) }
 {
-    for at in from..airlines.len() {
-        add_airline(conn, at + 1, airlines[at])?;
+    if let Some(airline) = airline {
+        if is_there {
+            update_airline(conn, code, &airline)?;
+        } else {
+            insert_airline(conn, code, &airline)?;
+        }
+    } else if is_there {
+        delete_airline(conn, code)?;
     }
     Ok(())
 }
 
-/// The rows of the airlines in the order of their places.
+/// The rows of the airlines in the order of their codes.
 ///
 /// # Errors
 ///
@@ -93,5 +159,5 @@ pub fn add_airlines<S: Alter>(
 pub fn all_airlines<S: Alter>(conn: &mut Connection<S>) -> Result<Vec<Row>, Error>
     ensures { ShowsAll airline_part S.Store conn.old conn.new result }
 {
-    conn.query_all("SELECT code, place FROM airline ORDER BY place", &[])
+    conn.query_all("SELECT code, place, token FROM airline ORDER BY code", &[])
 }

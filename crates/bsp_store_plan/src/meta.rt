@@ -14,7 +14,7 @@ use sqlite::{Alter, Connection, Error, ErrorCode, Row, Transaction};
 use sqlite_value::value::ValueRef;
 
 /// The version of the tables.
-pub const VERSION: i64 = 1;
+pub const VERSION: i64 = 3;
 
 const ADD: &str = "INSERT INTO meta (id, version, day, closed) VALUES (?1, ?2, ?3, ?4)";
 

@@ -5,16 +5,16 @@ ghost use Rattle.sqlite_value.specs.Order.{column};
 ghost use Rattle.bsp_rows.specs.CivilDay.{CivilDay, is_day};
 ghost use Rattle.bsp_rows.specs.Period.{Period as PeriodEntry};
 ghost use Rattle.bsp_rows.specs.Rate.{Rate as RateEntry};
+ghost use Rattle.bsp_rows.specs.CommissionTax.{CommissionTax as TaxEntry};
 ghost use Rattle.bsp_rows.specs.Terms.{Terms as TermsEntry};
-ghost use Rattle.bsp_store_base.specs.Columns.{airline_text};
-ghost use Rattle.bsp_store_base.specs.Reading.{int_in};
-ghost use Rattle.bsp_store_plan.specs.Reading.{IsMetaRow, IsTermsRow, IsRateRow, IsPeriodRow};
-ghost use Rattle.bsp_store_base.specs.Forms.{AreTerms, IsRate, IsPeriod};
+ghost use Rattle.bsp_store_base.specs.Reading.{below, if_there, int_in, token_in};
+ghost use Rattle.bsp_store_plan.specs.Reading.{IsMetaRow, IsTermsRow, IsRateRow, IsPeriodRow, IsCommissionTaxRow, airline_in};
+ghost use Rattle.bsp_store_base.specs.Forms.{AreTerms, IsRate, IsPeriod, IsCommissionTax};
 
 use crate::columns::{airline_at, currency_at, day_at, period_at};
 use crate::meta::VERSION;
-use bsp_rows::{AirlineCode, Day, Period, Rate, Terms};
-use bsp_store_base::{below_at, int_at};
+use bsp_rows::{AirlineCode, CommissionTax, Day, Period, Rate, Terms, Token};
+use bsp_store_base::{AirlineEntry, below_at, int_at, is_null, token_at};
 use sqlite::Row;
 
 /// The version of the tables that a row of `meta` has.
@@ -52,12 +52,32 @@ pub fn read_terms(row: &Row) -> Option<Terms>
     })
 }
 
-/// The airline of a row of `airline`.
-pub fn read_airline(row: &Row) -> Option<AirlineCode>
-    ensures row { IfSome result (λ n. column row.now 0 ≡ airline_text n) }
-    ensures back { (n : ℕ) → n < 10 ^ 3 → column row.now 0 ≡ airline_text n → result ≡ Some n }
+fn maybe_place(row: &Row) -> Option<Option<usize>>
+    ensures { result ≡ if_there (column row.now 1) (below (2 ^ 63) (column row.now 1)) }
 {
-    airline_at(row, 0)
+    if is_null(row, 1) {
+        return Some(None);
+    }
+    Some(Some(below_at(row, 1, 1 << 63)? as usize))
+}
+
+fn maybe_token(row: &Row) -> Option<Option<Token>>
+    ensures { result ≡ if_there (column row.now 2) (token_in (column row.now 2)) }
+{
+    if is_null(row, 2) {
+        return Some(None);
+    }
+    Some(Some(token_at(row, 2)?))
+}
+
+/// The airline of a row of `airline` under its code; none where there is neither a place nor a token.
+pub fn read_airline(row: &Row) -> Option<(AirlineCode, AirlineEntry)>
+    ensures { result ≡ airline_in row.now }
+{
+    let code = bsp_store_base::airline_at(row, 0)?;
+    let place = maybe_place(row)?;
+    let token = maybe_token(row)?;
+    Some((code, AirlineEntry::of(place, token)?))
 }
 
 /// The rate of a row of `rate`.
@@ -90,4 +110,14 @@ pub fn read_period(row: &Row) -> Option<Period>
         last,
         remittance,
     })
+}
+
+/// The tax of a row of `commission_tax`.
+pub fn read_commission_tax(row: &Row) -> Option<CommissionTax>
+    ensures row { IfSome result (IsCommissionTaxRow row.now) }
+    ensures back { (tax : TaxEntry) → IsCommissionTax tax → IsCommissionTaxRow row.now tax → result ≡ Some tax }
+{
+    let from = day_at(row, 0)?;
+    let hundredths = below_at(row, 2, 1 << 16)? as u16;
+    Some(CommissionTax { from, hundredths })
 }

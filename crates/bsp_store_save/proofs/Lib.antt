@@ -1,7 +1,13 @@
+pub mod Followed
 pub mod EachLemmas
+pub mod FollowedTables
 pub mod PlanLemmas
 pub mod StepLemmas
 pub mod WrittenLemmas
+pub mod TogetherLemmas
+pub mod SecondSteps
 pub mod TransactionLemmas
 pub mod MakingLemmas
 pub use Rattle.bsp_store_load.proofs.TallyLemmas
+pub mod AirlineSteps
+pub mod KeptLemmas

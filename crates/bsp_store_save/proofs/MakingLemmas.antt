@@ -1,6 +1,6 @@
--- Eleven tables without a row, and then the row of `meta`, are those of an empty book.
+-- Tables without a row, and then the row of `meta`, are those of an empty book.
 use Rattle.std.proofs.Common.{◌≡◌, ℕ, List, [], map, None, Some, refl, sym, ap, subst, subst₂, ◌∙◌}
-use Rattle.std.specs.List.{filter}
+use Rattle.std.specs.List.{filter, filter_map}
 use Rattle.std.specs.FinMap.{empty, entries, from_entries}
 use Rattle.std.specs.Ordering.{nat_cmp}
 use Rattle.std.proofs.lemmas.List.Sorted.{IsPermutation-refl}
@@ -9,15 +9,20 @@ use Rattle.sqlite.specs.Effect.{Database}
 use Rattle.bsp_maps.proofs.OrderLemmas.{no_entries}
 use Rattle.bsp_rows.specs.CivilDay.{CivilDay}
 use Rattle.bsp_rows.specs.Published.{opening}
+use Rattle.bsp_rows.specs.Item.{Item}
 use Rattle.bsp_rows.specs.Rows.{no_rows, item_cmp, memo_cmp, range_cmp}
 use Rattle.bsp_rows.specs.Tally.{Tally}
 use Rattle.bsp_rows.specs.Tallies.{tally_cmp}
+use Rattle.bsp_rows.specs.declared.keys.ItemKey.{ItemKey}
 use Rattle.bsp_rows.specs.declared.keys.TallyKey.{TallyKey}
 use Rattle.bsp_memory_rows.specs.Lookups.{has_rows}
 use Rattle.bsp_memory_rows.proofs.DerivedLemmas.{no_totals}
 use Rattle.bsp_store_schema.specs.Made.{HasNoRows}
 use Rattle.bsp_store_schema.specs.Schema.{our_schema}
-use Rattle.bsp_store_load.specs.Columns.{agent_row, airline_token_row, item_row, memo_row, stock_row, tally_row}
+use Rattle.bsp_store_base.specs.Airlines.{airline_entries, unplaced}
+use Rattle.bsp_store_base.specs.Seconds.{second_entry, seconds_of}
+use Rattle.bsp_store_base.proofs.SecondLemmas.{entries-seconds_of}
+use Rattle.bsp_store_load.specs.Columns.{agent_row, airline_row, item_row, item_tax_row, memo_row, second_row, stock_row, tally_row, tally_tax_row}
 use Rattle.bsp_store_load.specs.Content.{Content, content_with, form}
 use Rattle.bsp_store_load.specs.Contents.{used_tallies}
 use Rattle.bsp_store_load.specs.Kept.{Keeps, KeepsTable}
@@ -34,6 +39,13 @@ no_content = record new_content { meta = None }
 no_tallies : entries (used_tallies empty) ≡ []
 no_tallies = ap (λ (l : List (TallyKey × Tally)). entries (from_entries {R = tally_cmp} (filter (λ e. has_rows e.1) l))) (no_entries tally_cmp) ∙ no_entries tally_cmp
 
+no_airlines : entries (airline_entries [] empty) ≡ []
+unfolding airline_entries
+no_airlines = ap (λ (l : List (ℕ × List ℕ)). entries (from_entries {R = nat_cmp} (map unplaced l))) (no_entries nat_cmp) ∙ no_entries nat_cmp
+
+no_seconds : entries (seconds_of empty) ≡ []
+no_seconds = entries-seconds_of empty ∙ ap (λ (l : List (ItemKey × Item)). filter_map second_entry l) (no_entries item_cmp)
+
 -- no row of the content, and none of the tree
 keeps_none : (width : ℕ) (content tree : List Row) → content ≡ [] → tree ≡ [] → KeepsTable width content tree
 keeps_none width content tree none bare = subst₂ (KeepsTable width) (sym none) (sym bare) (record { table = tt; keyed = tt; rows = IsPermutation-refl [] })
@@ -43,40 +55,7 @@ bare_keeps db has =
     let e = has.empty in
     record {
       schema = has.schema;
-      kept = (
-        keeps_none _ _ _ refl e.0,
-        (
-          keeps_none _ _ _ refl e.1.0,
-          (
-            keeps_none _ _ _ refl e.1.1.0,
-            (
-              keeps_none _ _ _ refl e.1.1.1.0,
-              (
-                keeps_none _ _ _ refl e.1.1.1.1.0,
-                (
-                  keeps_none _ _ _ (ap (map agent_row) (no_entries nat_cmp)) e.1.1.1.1.1.0,
-                  (
-                    keeps_none _ _ _ (ap (map airline_token_row) (no_entries nat_cmp)) e.1.1.1.1.1.1.0,
-                    (
-                      keeps_none _ _ _ (ap (map stock_row) (no_entries range_cmp)) e.1.1.1.1.1.1.1.0,
-                      (
-                        keeps_none _ _ _ (ap (map item_row) (no_entries item_cmp)) e.1.1.1.1.1.1.1.1.0,
-                        (
-                          keeps_none _ _ _ (ap (map memo_row) (no_entries memo_cmp)) e.1.1.1.1.1.1.1.1.1.0,
-                          (
-                            keeps_none _ _ _ (ap (map tally_row) no_tallies) e.1.1.1.1.1.1.1.1.1.1.0,
-                            tt,
-                          ),
-                        ),
-                      ),
-                    ),
-                  ),
-                ),
-              ),
-            ),
-          ),
-        ),
-      );
+      kept = (keeps_none _ _ _ refl e.0, (keeps_none _ _ _ refl e.1.0, (keeps_none _ _ _ (ap (map airline_row) no_airlines) e.1.1.0, (keeps_none _ _ _ refl e.1.1.1.0, (keeps_none _ _ _ refl e.1.1.1.1.0, (keeps_none _ _ _ (ap (map agent_row) (no_entries nat_cmp)) e.1.1.1.1.1.0, (keeps_none _ _ _ (ap (map stock_row) (no_entries range_cmp)) e.1.1.1.1.1.1.0, (keeps_none _ _ _ (ap (map item_row) (no_entries item_cmp)) e.1.1.1.1.1.1.1.0, (keeps_none _ _ _ (ap (map memo_row) (no_entries memo_cmp)) e.1.1.1.1.1.1.1.1.0, (keeps_none _ _ _ (ap (map tally_row) no_tallies) e.1.1.1.1.1.1.1.1.1.0, (keeps_none _ _ _ refl e.1.1.1.1.1.1.1.1.1.1.0, (keeps_none _ _ _ (ap (map item_tax_row) (no_entries item_cmp)) e.1.1.1.1.1.1.1.1.1.1.1.0, (keeps_none _ _ _ (ap (map tally_tax_row) no_tallies) e.1.1.1.1.1.1.1.1.1.1.1.1.0, (keeps_none _ _ _ (ap (map second_row) no_seconds) e.1.1.1.1.1.1.1.1.1.1.1.1.1.0, tt))))))))))))));
     }
 
 -- after the row of `meta`

@@ -20,14 +20,14 @@ module _ (p : Published) (now : Content) (has : HasPlan p now) where
   pub its_terms : now.terms ≡ p.terms
   its_terms = sym (ap (λ (c : Content). c.terms) has)
 
-  pub its_airlines : now.published ≡ p.airlines
-  its_airlines = sym (ap (λ (c : Content). c.published) has)
-
   pub its_rates : now.rates ≡ p.rates
   its_rates = sym (ap (λ (c : Content). c.rates) has)
 
   pub its_periods : now.periods ≡ p.periods
   its_periods = sym (ap (λ (c : Content). c.periods) has)
+
+  pub its_commission_taxes : now.commission_taxes ≡ p.commission_taxes
+  its_commission_taxes = sym (ap (λ (c : Content). c.commission_taxes) has)
 
   pub meta_there : (day : CivilDay) (closed : ℕ) → day ≡ p.day → closed ≡ length p.closed → now.meta ≡ Some (meta_with day closed)
   meta_there day closed d n = its_meta ∙ sym (ap₂ (λ (x : CivilDay) (k : ℕ). Some (meta_with x k)) d n)
@@ -40,10 +40,10 @@ module _ (p : Published) (day : CivilDay) (closed : ℕ) (within : closed ≤ le
   dated_plan : record now { meta = Some (meta_of p) } ≡ with_plan p now
   dated_plan =
       let terms = its_terms (dated p day closed) now has in
-      let airlines = its_airlines (dated p day closed) now has in
       let rates = its_rates (dated p day closed) now has in
       let periods = its_periods (dated p day closed) now has in
-      λ i. record now { meta = Some (meta_of p); terms = terms i; published = airlines i; rates = rates i; periods = periods i }
+      let taxes = its_commission_taxes (dated p day closed) now has in
+      λ i. record now { meta = Some (meta_of p); terms = terms i; rates = rates i; periods = periods i; commission_taxes = taxes i }
 
 module _ {S : Type 0} (g : Ghosts S) (first second : Held S) where
   pub meta_saved : (p : Published) (was : Meta) (day : CivilDay) (closed : ℕ) → day ≡ p.day → closed ≡ length p.closed → Changes g first second (λ now. is_some now.meta ≡ true) (λ now. record now { meta = Some (meta_with day closed) })

@@ -47,7 +47,7 @@ module _ {S : Type 0} (g : Ghosts S) where
 
   -- ---- keys that are written one after the other
 
-  module _ {K V W : Type 0} (set : K → Option V → Content → Content) (at : K → Option V) (holds : K → Content → Bool) (rows : Option W → Bool) (first : Held S) (all : List (K × Option W)) where
+  module _ {K V W : Type 0} (set : K → Option V → Content → Content) (at : K → Option V) (holds : K → Content → Bool) (rows : K → Option W → Bool) (first : Held S) (all : List (K × Option W)) where
     -- up to those that are left
     abbrev pub IsPut : Held S → List (K × Option W) → Type 0
     IsPut h left =
@@ -58,7 +58,7 @@ module _ {S : Type 0} (g : Ghosts S) where
     none_put left is now last a b there stands inside = (now, subst (λ l. AreThere set at holds rows l now) (sym is) there, ap (λ l. with_each set at l now) is, stands, inside)
 
     module _ (h next : Held S) (left more : List (K × Option W)) (e : K × Option W) (is : left ≡ e ∷ more) (put : IsPut h left) where
-      pub one_put : (k : K) (was : Bool) (v : Option V) → k ≡ e.0 → was ≡ rows e.1 → v ≡ at k → Changes g h next (λ now. holds k now ≡ was) (set k v) → IsPut next more
+      pub one_put : (k : K) (was : Bool) (v : Option V) → k ≡ e.0 → was ≡ rows e.0 e.1 → v ≡ at k → Changes g h next (λ now. holds k now ≡ was) (set k v) → IsPut next more
       one_put k was v key old value changes now last a b there stands inside =
           let so_far = put now last a b there stands inside in
           let mid = so_far.0 in

@@ -8,6 +8,6 @@ module _ {K V W C : Type 0} (set : K → Option V → C → C) (at : K → Optio
   with_each (e ∷ es) c = with_each es (set e.0 (at e.0) c)
 
   -- when it is written, each key has a row if and only if what was there has one
-  abbrev pub AreThere : (K → C → Bool) → (Option W → Bool) → List (K × Option W) → C → Type 0
+  abbrev pub AreThere : (K → C → Bool) → (K → Option W → Bool) → List (K × Option W) → C → Type 0
   AreThere holds rows [] c = ⊤
-  AreThere holds rows (e ∷ es) c = (holds e.0 c ≡ rows e.1) × AreThere holds rows es (set e.0 (at e.0) c)
+  AreThere holds rows (e ∷ es) c = (holds e.0 c ≡ rows e.0 e.1) × AreThere holds rows es (set e.0 (at e.0) c)

@@ -1,4 +1,5 @@
 pub mod Each
+pub mod Seconds
 pub mod Saving
 pub mod Making
 pub use Rattle.bsp_store_load.specs.Calls

@@ -5,7 +5,7 @@ use Rattle.bsp_rows.specs.Rows.{no_rows}
 use Rattle.bsp_store_schema.specs.Schema.{our_schema}
 use Rattle.bsp_store_load.specs.Contents.{KeepsBook}
 
--- the eleven tables and nothing else, with the rows of an empty book
+-- the book's tables and nothing else, with the rows of an empty book
 pub record IsNewBook (db : Database) : Type 0 where
   pub schema : db.schema ≡ our_schema
   pub keeps : KeepsBook no_rows db.trees

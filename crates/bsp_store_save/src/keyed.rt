@@ -18,16 +18,16 @@ pub(crate) trait Keyed<K: Ord + Copy + Drop, V: Copy + Drop> {
     ghost use Rattle.bsp_store_load.specs.Content.{Content};
 
     // the content with the row of a value at a key, or with none
-    ghost set: { K → Option V → Content → Content };
+    ghost set: { Self → K → Option V → Content → Content };
 
-    // whether the content has a row at a key, and whether a value has one
+    // whether the content has a row at a key, and whether a value has one there
     ghost holds: { K → Content → Bool };
 
-    ghost rows: { Option V → Bool };
+    ghost rows: { Self → K → Option V → Bool };
 
-    /// Whether a value has a row.
-    fn has_row(&self, value: Option<V>) -> bool
-        ensures { result ≡ rows value };
+    /// Whether a value has a row at a key.
+    fn has_row(&self, key: K, value: Option<V>) -> bool
+        ensures { result ≡ rows self.now key value };
 
     /// Writes the row of a key in the open transaction, or takes it out where the value has none. The table has a row of
     /// the key if and only if `is_there`.
@@ -42,7 +42,7 @@ pub(crate) trait Keyed<K: Ord + Copy + Drop, V: Copy + Drop> {
         is_there: bool,
         value: Option<V>,
     ) -> Result<(), Error>
-        ensures ok { OnOk result (Changes S.Store conn.old conn.new (λ now. holds key now ≡ is_there) (set key value)) }
+        ensures ok { OnOk result (Changes S.Store conn.old conn.new (λ now. holds key now ≡ is_there) (set self.now key value)) }
         ensures err { OnErr result (GivesUp S.Store conn.old conn.new) };
 }
 
@@ -73,15 +73,15 @@ pub(crate) fn put_written<K: Ord + Copy + Drop, V: Copy + Drop, T: Keyed<K, V>, 
     values: &BTreeMap<K, V>,
 ) -> Result<(), Error>
     ensures ok { OnOk result (Changes S.Store conn.old conn.new
-        (AreThere T.set (get (from_entries {R = K.cmp} values.now.entries)) T.holds T.rows (entries (from_entries {R = K.cmp} before.now.entries)))
-        (with_each T.set (get (from_entries {R = K.cmp} values.now.entries)) (entries (from_entries {R = K.cmp} before.now.entries)))) }
+        (AreThere (T.set table.now) (get (from_entries {R = K.cmp} values.now.entries)) T.holds (T.rows table.now) (entries (from_entries {R = K.cmp} before.now.entries)))
+        (with_each (T.set table.now) (get (from_entries {R = K.cmp} values.now.entries)) (entries (from_entries {R = K.cmp} before.now.entries)))) }
     ensures err { OnErr result (GivesUpIf S.Store conn.old conn.new
-        (AreThere T.set (get (from_entries {R = K.cmp} values.now.entries)) T.holds T.rows (entries (from_entries {R = K.cmp} before.now.entries)))) }
+        (AreThere (T.set table.now) (get (from_entries {R = K.cmp} values.now.entries)) T.holds (T.rows table.now) (entries (from_entries {R = K.cmp} before.now.entries)))) }
 {
     let _count = before.len();
     for (key, old) in before {
         let value = values.get(key).copied();
-        table.put(conn, *key, table.has_row(*old), value)?;
+        table.put(conn, *key, table.has_row(*key, *old), value)?;
     }
     Ok(())
 }

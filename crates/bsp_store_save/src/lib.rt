@@ -4,12 +4,15 @@
 //! one transaction. [`recover`] gives up a transaction that failed.
 #![tactic(auto)]
 
+mod airlines;
 mod ends;
 mod keyed;
 mod making;
 mod parts;
 mod plans;
 mod saving;
+mod seconds;
+mod taxes;
 mod written;
 
 pub use ends::recover;

@@ -3,6 +3,7 @@
 ghost use Rattle.std.specs.Prelude.{◌≡◌, is_some, OnErr, OnOk};
 ghost use Rattle.std.specs.FinMap.{get};
 ghost use Rattle.std.specs.Option.{option_flatten};
+ghost use Rattle.bsp_store_load.specs.Airlines.{entry_of, place_of};
 ghost use Rattle.bsp_store_load.specs.Calls.{Changes, GivesUp};
 ghost use Rattle.bsp_store_load.specs.Contents.{used_at};
 ghost use Rattle.bsp_store_load.specs.Synced.{with_value};
@@ -12,16 +13,21 @@ use bsp_rows::{
     AgentCode, AirlineCode, DocNumber, Item, ItemKey, Memo, MemoKey, RangeKey, Tally, TallyKey,
     Token,
 };
-use bsp_store_callers::{put_agent, put_airline_token, put_range};
+use bsp_store_base::{AirlineEntry, place_of};
+use bsp_store_callers::{put_agent, put_range};
 use bsp_store_items::put_item;
 use bsp_store_memos::{put_memo, put_tally};
+use bsp_store_plan::put_airline;
 use sqlite::{Alter, Connection, Error};
 
 /// The tokens of agents.
 pub(crate) struct Agents;
 
-/// The tokens of airlines.
-pub(crate) struct Airlines;
+/// The tokens of airlines, where these airlines are published.
+#[derive(Clone, Copy)]
+pub(crate) struct Airlines<'a> {
+    pub(crate) published: &'a [AirlineCode],
+}
 
 /// The ranges. One that was withdrawn has no value.
 pub(crate) struct Ranges;
@@ -46,13 +52,13 @@ pub(crate) fn used(tally: Option<Tally>) -> Option<Tally>
 }
 
 impl Keyed<AgentCode, Token> for Agents {
-    ghost set = { λ key value c. record c { agents = with_value key value c.agents } };
+    ghost set = { λ table key value c. record c { agents = with_value key value c.agents } };
 
     ghost holds = { λ key c. is_some (get c.agents key) };
 
-    ghost rows = { λ value. is_some value };
+    ghost rows = { λ table key value. is_some value };
 
-    fn has_row(&self, value: Option<Token>) -> bool
+    fn has_row(&self, _key: AgentCode, value: Option<Token>) -> bool
         ensures { result ≡ is_some value }
     {
         value.is_some()
@@ -72,17 +78,17 @@ impl Keyed<AgentCode, Token> for Agents {
     }
 }
 
-impl Keyed<AirlineCode, Token> for Airlines {
-    ghost set = { λ key value c. record c { airlines = with_value key value c.airlines } };
+impl<'a> Keyed<AirlineCode, Token> for Airlines<'a> {
+    ghost set = { λ table key value c. record c { airlines = with_value key (entry_of (place_of key table.published.now) value) c.airlines } };
 
     ghost holds = { λ key c. is_some (get c.airlines key) };
 
-    ghost rows = { λ value. is_some value };
+    ghost rows = { λ table key value. is_some (entry_of (place_of key table.published.now) value) };
 
-    fn has_row(&self, value: Option<Token>) -> bool
-        ensures { result ≡ is_some value }
+    fn has_row(&self, key: AirlineCode, value: Option<Token>) -> bool
+        ensures { result ≡ is_some (entry_of (place_of key self.now.published.now) value) }
     {
-        value.is_some()
+        AirlineEntry::of(place_of(key, self.published), value).is_some()
     }
 
     fn put<S: Alter>(
@@ -92,21 +98,22 @@ impl Keyed<AirlineCode, Token> for Airlines {
         is_there: bool,
         value: Option<Token>,
     ) -> Result<(), Error>
-        ensures ok { OnOk result (Changes S.Store conn.old conn.new (λ c. is_some (get c.airlines key) ≡ is_there) (λ c. record c { airlines = with_value key value c.airlines })) }
+        ensures ok { OnOk result (Changes S.Store conn.old conn.new (λ c. is_some (get c.airlines key) ≡ is_there) (λ c. record c { airlines = with_value key (entry_of (place_of key self.now.published.now) value) c.airlines })) }
         ensures err { OnErr result (GivesUp S.Store conn.old conn.new) }
     {
-        put_airline_token(conn, key, is_there, value)
+        let airline = AirlineEntry::of(place_of(key, self.published), value);
+        put_airline(conn, key, is_there, airline)
     }
 }
 
 impl Keyed<RangeKey, Option<DocNumber>> for Ranges {
-    ghost set = { λ key value c. record c { ranges = with_value key (option_flatten value) c.ranges } };
+    ghost set = { λ table key value c. record c { ranges = with_value key (option_flatten value) c.ranges } };
 
     ghost holds = { λ key c. is_some (get c.ranges key) };
 
-    ghost rows = { λ value. is_some (option_flatten value) };
+    ghost rows = { λ table key value. is_some (option_flatten value) };
 
-    fn has_row(&self, value: Option<Option<DocNumber>>) -> bool
+    fn has_row(&self, _key: RangeKey, value: Option<Option<DocNumber>>) -> bool
         ensures { result ≡ is_some (option_flatten value) }
     {
         value.flatten().is_some()
@@ -127,13 +134,13 @@ impl Keyed<RangeKey, Option<DocNumber>> for Ranges {
 }
 
 impl Keyed<ItemKey, Item> for ItemRows {
-    ghost set = { λ key value c. record c { items = with_value key value c.items } };
+    ghost set = { λ table key value c. record c { items = with_value key value c.items } };
 
     ghost holds = { λ key c. is_some (get c.items key) };
 
-    ghost rows = { λ value. is_some value };
+    ghost rows = { λ table key value. is_some value };
 
-    fn has_row(&self, value: Option<Item>) -> bool
+    fn has_row(&self, _key: ItemKey, value: Option<Item>) -> bool
         ensures { result ≡ is_some value }
     {
         value.is_some()
@@ -154,13 +161,13 @@ impl Keyed<ItemKey, Item> for ItemRows {
 }
 
 impl Keyed<MemoKey, Memo> for MemoRows {
-    ghost set = { λ key value c. record c { memos = with_value key value c.memos } };
+    ghost set = { λ table key value c. record c { memos = with_value key value c.memos } };
 
     ghost holds = { λ key c. is_some (get c.memos key) };
 
-    ghost rows = { λ value. is_some value };
+    ghost rows = { λ table key value. is_some value };
 
-    fn has_row(&self, value: Option<Memo>) -> bool
+    fn has_row(&self, _key: MemoKey, value: Option<Memo>) -> bool
         ensures { result ≡ is_some value }
     {
         value.is_some()
@@ -181,13 +188,13 @@ impl Keyed<MemoKey, Memo> for MemoRows {
 }
 
 impl Keyed<TallyKey, Tally> for TallyRows {
-    ghost set = { λ key value c. record c { tallies = with_value key (used_at value) c.tallies } };
+    ghost set = { λ table key value c. record c { tallies = with_value key (used_at value) c.tallies } };
 
     ghost holds = { λ key c. is_some (get c.tallies key) };
 
-    ghost rows = { λ value. is_some (used_at value) };
+    ghost rows = { λ table key value. is_some (used_at value) };
 
-    fn has_row(&self, value: Option<Tally>) -> bool
+    fn has_row(&self, _key: TallyKey, value: Option<Tally>) -> bool
         ensures { result ≡ is_some (used_at value) }
     {
         used(value).is_some()

@@ -1,4 +1,4 @@
-//! The plan, brought up to date: what is new in it is written.
+//! The plan, its airlines apart, brought up to date: what is new in it is written.
 
 ghost use Rattle.std.specs.Prelude.{◌≡◌, OnErr, OnOk, Some};
 ghost use Rattle.std.specs.Bool.{Decides};
@@ -9,7 +9,7 @@ ghost use Rattle.bsp_store_save.specs.Saving.{HasPlan, meta_of, meta_with, with_
 
 use bsp_rows::{Day, Plan};
 use bsp_store_load::SavedPlan;
-use bsp_store_plan::{add_airlines, add_periods, add_rates, put_meta, put_terms};
+use bsp_store_plan::{add_commission_taxes, add_periods, add_rates, put_meta, put_terms};
 use sqlite::{Alter, Connection, Error};
 
 /// Whether a plan has a business day and a number of closed periods.
@@ -53,19 +53,6 @@ fn save_terms<S: Alter>(conn: &mut Connection<S>, old: &Plan, new: &Plan) -> Res
     put_terms(conn, new.terms())
 }
 
-/// Writes the airlines that are new.
-fn save_airlines<S: Alter>(conn: &mut Connection<S>, old: &Plan, new: &Plan) -> Result<(), Error>
-    requires { Continues old.now new.now }
-    ensures ok { OnOk result (Changes S.Store conn.old conn.new (λ c. c.published ≡ old.now.airlines) (λ c. record c { published = new.now.airlines })) }
-    ensures err { OnErr result (GivesUpIf S.Store conn.old conn.new (λ c. c.published ≡ old.now.airlines)) }
-{
-    let kept = old.airlines();
-    let all = new.airlines();
-    // No airline of a plan is there twice.
-    new.meets_rules();
-    add_airlines(conn, kept.len(), all)
-}
-
 /// Writes the rates that are new.
 fn save_rates<S: Alter>(conn: &mut Connection<S>, old: &Plan, new: &Plan) -> Result<(), Error>
     requires { Continues old.now new.now }
@@ -88,7 +75,22 @@ fn save_periods<S: Alter>(conn: &mut Connection<S>, old: &Plan, new: &Plan) -> R
     add_periods(conn, kept.len(), all)
 }
 
-/// Writes what is new in a plan that continues another.
+/// Writes the taxes on commission that are new.
+fn save_commission_taxes<S: Alter>(
+    conn: &mut Connection<S>,
+    old: &Plan,
+    new: &Plan,
+) -> Result<(), Error>
+    requires { Continues old.now new.now }
+    ensures ok { OnOk result (Changes S.Store conn.old conn.new (λ c. c.commission_taxes ≡ old.now.commission_taxes) (λ c. record c { commission_taxes = new.now.commission_taxes })) }
+    ensures err { OnErr result (GivesUpIf S.Store conn.old conn.new (λ c. c.commission_taxes ≡ old.now.commission_taxes)) }
+{
+    let kept = old.commission_taxes();
+    let all = new.commission_taxes();
+    add_commission_taxes(conn, kept.len(), all)
+}
+
+/// Writes what is new in a plan that continues another, its airlines apart.
 fn save_growth<S: Alter>(conn: &mut Connection<S>, old: &Plan, new: &Plan) -> Result<(), Error>
     requires { Continues old.now new.now }
     ensures ok { OnOk result (Changes S.Store conn.old conn.new (HasPlan old.now) (with_plan new.now)) }
@@ -96,12 +98,12 @@ fn save_growth<S: Alter>(conn: &mut Connection<S>, old: &Plan, new: &Plan) -> Re
 {
     save_meta(conn, old.day(), old.closed_count(), new)?;
     save_terms(conn, old, new)?;
-    save_airlines(conn, old, new)?;
     save_rates(conn, old, new)?;
-    save_periods(conn, old, new)
+    save_periods(conn, old, new)?;
+    save_commission_taxes(conn, old, new)
 }
 
-/// Writes what is new in a plan. Where only its business day and its closed periods are, it takes the same time for every
+/// Writes what is new in a plan, its airlines apart. Where only its business day and its closed periods are, it takes the same time for every
 /// plan.
 pub(crate) fn save_plan<S: Alter>(
     conn: &mut Connection<S>,

@@ -7,16 +7,15 @@ ghost use Rattle.bsp_store_load.specs.Calls.{Changes, GivesUpIf, IsKept};
 ghost use Rattle.bsp_store_load.specs.Contents.{content_before, content_now};
 ghost use Rattle.bsp_store_save.specs.Saving.{HasCallers, HasDocuments, with_callers, with_documents};
 
+use crate::airlines::save_airlines;
 use crate::ends::{close_transaction, open_transaction};
 use crate::plans::save_plan;
-use crate::written::{
-    save_agents, save_airlines, save_items, save_memos, save_ranges, save_tallies,
-};
+use crate::written::{save_agents, save_items, save_memos, save_ranges, save_tallies};
 use bsp_store_load::Tables;
 use sqlite::{Alter, Connection, Error};
 use std::alloc::Global;
 
-/// Writes the tokens and ranges that were written in memory.
+/// Writes the tokens and ranges that were written in memory, and the airlines that are published since the last commit.
 fn save_callers<S: Alter>(
     alloc: Global,
     conn: &mut Connection<S>,
@@ -26,12 +25,18 @@ fn save_callers<S: Alter>(
     ensures err { OnErr result (GivesUpIf S.Store conn.old conn.new (HasCallers tables.now)) }
 {
     save_agents(alloc, conn, tables.agent_tokens())?;
-    save_airlines(alloc, conn, tables.airline_tokens())?;
+    save_airlines(
+        alloc,
+        conn,
+        tables.saved_plan(),
+        tables.plan(),
+        tables.airline_tokens(),
+    )?;
     save_ranges(alloc, conn, tables.range_table())?;
     Ok(())
 }
 
-/// Writes the items, memos and tallies that were written in memory.
+/// Writes the items, memos and tallies that were written in memory, with what else follows from them.
 fn save_documents<S: Alter>(
     alloc: Global,
     conn: &mut Connection<S>,

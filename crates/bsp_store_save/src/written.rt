@@ -1,4 +1,4 @@
-//! Each table whose rows are found by keys, brought up to date with the one in memory.
+//! The tables whose rows are found by keys, brought up to date with those in memory.
 
 ghost use Rattle.std.specs.Prelude.{◌≡◌, OnErr, OnOk};
 ghost use Rattle.std.specs.Ordering.{nat_cmp};
@@ -7,11 +7,14 @@ ghost use Rattle.bsp_memory_tables.specs.ItemTables.{item_rows, item_rows_before
 ghost use Rattle.bsp_memory_tables.specs.MemoTables.{memo_rows, memo_rows_before};
 ghost use Rattle.bsp_memory_tables.specs.RangeTables.{range_rows, range_rows_before};
 ghost use Rattle.bsp_memory_tables.specs.TallyTables.{tally_rows, tally_rows_before};
-ghost use Rattle.bsp_store_load.specs.Contents.{used_tallies};
+ghost use Rattle.bsp_store_load.specs.Airlines.{airline_entries};
 ghost use Rattle.bsp_store_load.specs.Calls.{Changes, GivesUpIf};
+ghost use Rattle.bsp_store_save.specs.Saving.{HasItems, HasTallies, with_items, with_tallies};
 
 use crate::keyed::{put_written, written_before};
 use crate::parts::{Agents, Airlines, ItemRows, MemoRows, Ranges, TallyRows};
+use crate::seconds::Seconds;
+use crate::taxes::{ItemTaxRows, TallyTaxRows};
 use bsp_maps::Logged;
 use bsp_memory_tables::{ItemTable, MemoTable, RangeTable, TallyTable};
 use bsp_rows::{AgentCode, AirlineCode, Token};
@@ -32,18 +35,19 @@ pub(crate) fn save_agents<S: Alter>(
     put_written(&Agents, conn, &before, values)
 }
 
-/// Writes the tokens of airlines that were written in memory.
-pub(crate) fn save_airlines<S: Alter>(
+/// Writes the tokens of airlines that were written in memory, where these airlines are published.
+pub(crate) fn save_tokens<S: Alter>(
     alloc: Global,
     conn: &mut Connection<S>,
+    published: &[AirlineCode],
     tokens: &Logged<AirlineCode, Token>,
 ) -> Result<(), Error>
-    ensures ok { OnOk result (Changes S.Store conn.old conn.new (λ c. c.airlines ≡ before nat_cmp tokens.now) (λ c. record c { airlines = content nat_cmp tokens.now })) }
-    ensures err { OnErr result (GivesUpIf S.Store conn.old conn.new (λ c. c.airlines ≡ before nat_cmp tokens.now)) }
+    ensures ok { OnOk result (Changes S.Store conn.old conn.new (λ c. c.airlines ≡ airline_entries published.now (before nat_cmp tokens.now)) (λ c. record c { airlines = airline_entries published.now (content nat_cmp tokens.now) })) }
+    ensures err { OnErr result (GivesUpIf S.Store conn.old conn.new (λ c. c.airlines ≡ airline_entries published.now (before nat_cmp tokens.now))) }
 {
     let values = tokens.map();
     let before = written_before(alloc, tokens.written(), values)?;
-    put_written(&Airlines, conn, &before, values)
+    put_written(&Airlines { published }, conn, &before, values)
 }
 
 /// Writes the ranges that were written in memory.
@@ -60,18 +64,20 @@ pub(crate) fn save_ranges<S: Alter>(
     put_written(&Ranges, conn, &before, values)
 }
 
-/// Writes the items that were written in memory.
+/// Writes the items that were written in memory, with their taxes and their second related documents.
 pub(crate) fn save_items<S: Alter>(
     alloc: Global,
     conn: &mut Connection<S>,
     table: &ItemTable,
 ) -> Result<(), Error>
-    ensures ok { OnOk result (Changes S.Store conn.old conn.new (λ c. c.items ≡ item_rows_before table.now) (λ c. record c { items = item_rows table.now })) }
-    ensures err { OnErr result (GivesUpIf S.Store conn.old conn.new (λ c. c.items ≡ item_rows_before table.now)) }
+    ensures ok { OnOk result (Changes S.Store conn.old conn.new (HasItems (item_rows_before table.now)) (with_items (item_rows table.now))) }
+    ensures err { OnErr result (GivesUpIf S.Store conn.old conn.new (HasItems (item_rows_before table.now))) }
 {
     let values = table.map();
     let before = written_before(alloc, table.written(), values)?;
-    put_written(&ItemRows, conn, &before, values)
+    put_written(&ItemRows, conn, &before, values)?;
+    put_written(&ItemTaxRows, conn, &before, values)?;
+    put_written(&Seconds, conn, &before, values)
 }
 
 /// Writes the memos that were written in memory.
@@ -88,16 +94,17 @@ pub(crate) fn save_memos<S: Alter>(
     put_written(&MemoRows, conn, &before, values)
 }
 
-/// Writes the tallies to which some row adds that were written in memory.
+/// Writes the tallies to which some row adds that were written in memory, with their taxes.
 pub(crate) fn save_tallies<S: Alter>(
     alloc: Global,
     conn: &mut Connection<S>,
     table: &TallyTable,
 ) -> Result<(), Error>
-    ensures ok { OnOk result (Changes S.Store conn.old conn.new (λ c. c.tallies ≡ used_tallies (tally_rows_before table.now)) (λ c. record c { tallies = used_tallies (tally_rows table.now) })) }
-    ensures err { OnErr result (GivesUpIf S.Store conn.old conn.new (λ c. c.tallies ≡ used_tallies (tally_rows_before table.now))) }
+    ensures ok { OnOk result (Changes S.Store conn.old conn.new (HasTallies (tally_rows_before table.now)) (with_tallies (tally_rows table.now))) }
+    ensures err { OnErr result (GivesUpIf S.Store conn.old conn.new (HasTallies (tally_rows_before table.now))) }
 {
     let values = table.map();
     let before = written_before(alloc, table.written(), values)?;
-    put_written(&TallyRows, conn, &before, values)
+    put_written(&TallyRows, conn, &before, values)?;
+    put_written(&TallyTaxRows, conn, &before, values)
 }

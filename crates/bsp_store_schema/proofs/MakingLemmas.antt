@@ -124,40 +124,7 @@ module _ {S : Type 0} (g : Ghosts S) (held : ℕ) where
 
 tables_make : MakeAll no_schema TABLES.now our_tables
 unfolding understood everything
-tables_make = (
-  record { some = refl; is = refl; plain = (refl, refl); defined = refl; uncounted = refl },
-  (
-    record { some = refl; is = refl; plain = (refl, refl); defined = refl; uncounted = refl },
-    (
-      record { some = refl; is = refl; plain = (refl, refl); defined = refl; uncounted = refl },
-      (
-        record { some = refl; is = refl; plain = (refl, refl); defined = refl; uncounted = refl },
-        (
-          record { some = refl; is = refl; plain = (refl, refl); defined = refl; uncounted = refl },
-          (
-            record { some = refl; is = refl; plain = (refl, refl); defined = refl; uncounted = refl },
-            (
-              record { some = refl; is = refl; plain = (refl, refl); defined = refl; uncounted = refl },
-              (
-                record { some = refl; is = refl; plain = (refl, refl); defined = refl; uncounted = refl },
-                (
-                  record { some = refl; is = refl; plain = (refl, refl); defined = refl; uncounted = refl },
-                  (
-                    record { some = refl; is = refl; plain = (refl, refl); defined = refl; uncounted = refl },
-                    (
-                      record { some = refl; is = refl; plain = (refl, refl); defined = refl; uncounted = refl },
-                      refl,
-                    ),
-                  ),
-                ),
-              ),
-            ),
-          ),
-        ),
-      ),
-    ),
-  ),
-)
+tables_make = (record { some = refl; is = refl; plain = (refl, refl); defined = refl; uncounted = refl }, (record { some = refl; is = refl; plain = (refl, refl); defined = refl; uncounted = refl }, (record { some = refl; is = refl; plain = (refl, refl); defined = refl; uncounted = refl }, (record { some = refl; is = refl; plain = (refl, refl); defined = refl; uncounted = refl }, (record { some = refl; is = refl; plain = (refl, refl); defined = refl; uncounted = refl }, (record { some = refl; is = refl; plain = (refl, refl); defined = refl; uncounted = refl }, (record { some = refl; is = refl; plain = (refl, refl); defined = refl; uncounted = refl }, (record { some = refl; is = refl; plain = (refl, refl); defined = refl; uncounted = refl }, (record { some = refl; is = refl; plain = (refl, refl); defined = refl; uncounted = refl }, (record { some = refl; is = refl; plain = (refl, refl); defined = refl; uncounted = refl }, (record { some = refl; is = refl; plain = (refl, refl); defined = refl; uncounted = refl }, (record { some = refl; is = refl; plain = (refl, refl); defined = refl; uncounted = refl }, (record { some = refl; is = refl; plain = (refl, refl); defined = refl; uncounted = refl }, (record { some = refl; is = refl; plain = (refl, refl); defined = refl; uncounted = refl }, refl))))))))))))))
 
 pub tables_made : {S : Type 0} (g : Ghosts S) (old new : Held S) (r : Result (Unit {0}) Error) → (HasCleanDisk (state g new) → ExecutesAllInside g 0 TABLES.now old new r)
     → OnOk r (HasCleanDisk (state g new) → (state g old).now.schema ≡ no_schema → HasNoRows our_schema (state g new).now)

@@ -5,7 +5,7 @@ use Rattle.sqlite_trees.specs.Tree.{Trees, IsTable, rowid}
 use Rattle.sqlite_trees.specs.View.{is_int}
 use Rattle.bsp_store_schema.specs.Schema.{our_tables}
 
--- the trees of the eleven tables
+-- the trees of the fourteen tables
 abbrev pub table_trees : List ℕ
 table_trees = map (λ t. t.tree) our_tables
 

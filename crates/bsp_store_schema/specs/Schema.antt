@@ -1,5 +1,5 @@
 -- The tables of the book's store.
-use Rattle.std.specs.Prelude.{◌≡◌, ◌⊎◌, ℕ, Bool, true, false, List, [], ◌∷◌, None, codes}
+use Rattle.std.specs.Prelude.{◌≡◌, ◌⊎◌, ℕ, ◌==◌, Bool, true, false, if◌then◌else◌, List, [], ◌∷◌, length, None, codes}
 use Rattle.sqlite_value.specs.declared.keys.Collation.TheVariants.{Binary}
 use Rattle.sqlite_value.specs.declared.keys.Order.{Order}
 use Rattle.sqlite_value.specs.declared.value.Value.TheVariants.{Null}
@@ -80,9 +80,9 @@ terms_table = strict (codes "terms") 2 terms_columns [] (1 ∷ [])
 
 -- the columns of an airline
 abbrev pub airline_columns : List Column
-airline_columns = must (codes "code") Text ∷ must (codes "place") Integer ∷ []
+airline_columns = must (codes "code") Text ∷ may (codes "place") Integer ∷ may (codes "token") Text ∷ []
 
--- the published airlines, each with its place in the order of publication
+-- the airlines: of a published one its place in the order of publication, of a registered one its token
 abbrev pub airline_table : Table
 airline_table = strict (codes "airline") 4 airline_columns [] (1 ∷ [])
 
@@ -112,21 +112,13 @@ agent_columns = must (codes "code") Text ∷ must (codes "token") Text ∷ []
 abbrev pub agent_table : Table
 agent_table = strict (codes "agent") 10 agent_columns [] (1 ∷ [])
 
--- the columns of an airline's token
-abbrev pub airline_token_columns : List Column
-airline_token_columns = must (codes "airline") Text ∷ must (codes "token") Text ∷ []
-
--- the registered airlines with their tokens
-abbrev pub airline_token_table : Table
-airline_token_table = strict (codes "airline_token") 12 airline_token_columns [] (1 ∷ [])
-
 -- the columns of a range of stock
 abbrev pub stock_columns : List Column
 stock_columns = must (codes "agent") Text ∷ must (codes "lo") Text ∷ must (codes "hi") Text ∷ []
 
 -- the ranges of numbers that agents hold
 abbrev pub stock_table : Table
-stock_table = strict (codes "stock") 14 stock_columns (refers 1 (codes "agent") ∷ []) (1 ∷ 2 ∷ [])
+stock_table = strict (codes "stock") 12 stock_columns (refers 1 (codes "agent") ∷ []) (1 ∷ 2 ∷ [])
 
 -- the columns of an item
 abbrev pub item_columns : List Column
@@ -139,7 +131,7 @@ item_columns =
 
 -- the accepted transactions
 abbrev pub item_table : Table
-item_table = strict (codes "item") 16 item_columns (refers 1 (codes "agent") ∷ refers 7 (codes "period") ∷ []) (1 ∷ 2 ∷ 3 ∷ [])
+item_table = strict (codes "item") 14 item_columns (refers 1 (codes "agent") ∷ refers 7 (codes "period") ∷ []) (1 ∷ 2 ∷ 3 ∷ [])
 
 -- the columns of a memo
 abbrev pub memo_columns : List Column
@@ -150,7 +142,7 @@ memo_columns =
 
 -- the memos
 abbrev pub memo_table : Table
-memo_table = strict (codes "memo") 18 memo_columns (refers 3 (codes "agent") ∷ refers 10 (codes "period") ∷ []) (1 ∷ 2 ∷ [])
+memo_table = strict (codes "memo") 16 memo_columns (refers 3 (codes "agent") ∷ refers 10 (codes "period") ∷ []) (1 ∷ 2 ∷ [])
 
 -- the columns of a tally
 abbrev pub tally_columns : List Column
@@ -161,21 +153,83 @@ tally_columns =
 
 -- the tallies
 abbrev pub tally_table : Table
-tally_table = strict (codes "tally") 20 tally_columns [] (1 ∷ 2 ∷ 3 ∷ [])
+tally_table = strict (codes "tally") 18 tally_columns [] (1 ∷ 2 ∷ 3 ∷ [])
+
+-- the columns of a commission tax
+abbrev pub commission_tax_columns : List Column
+commission_tax_columns = must (codes "begins") Integer ∷ must (codes "place") Integer ∷ must (codes "hundredths") Integer ∷ []
+
+-- the published taxes on commission
+abbrev pub commission_tax_table : Table
+commission_tax_table = strict (codes "commission_tax") 20 commission_tax_columns [] (1 ∷ [])
+
+-- the columns of an item's tax
+abbrev pub item_tax_columns : List Column
+item_tax_columns =
+    must (codes "agent") Text ∷ must (codes "number") Text ∷ must (codes "canx") Integer ∷ must (codes "tax") Integer
+    ∷ must (codes "hundredths") Integer ∷ []
+
+-- the tax on the commission of each item
+abbrev pub item_tax_table : Table
+item_tax_table = strict (codes "item_tax") 22 item_tax_columns [] (1 ∷ 2 ∷ 3 ∷ [])
+
+-- the columns of a tally's tax
+abbrev pub tally_tax_columns : List Column
+tally_tax_columns = must (codes "agent") Text ∷ must (codes "airline") Text ∷ must (codes "period") Text ∷ must (codes "tax") Integer ∷ []
+
+-- the tax of each tally
+abbrev pub tally_tax_table : Table
+tally_tax_table = strict (codes "tally_tax") 24 tally_tax_columns [] (1 ∷ 2 ∷ 3 ∷ [])
+
+-- the columns of a second related document
+abbrev pub second_related_columns : List Column
+second_related_columns =
+    must (codes "agent") Text ∷ must (codes "number") Text ∷ must (codes "airline") Text ∷ must (codes "rel_number") Text ∷ []
+
+-- the second related documents of the tickets that have two
+abbrev pub second_related_table : Table
+second_related_table = strict (codes "second_related") 26 second_related_columns [] (1 ∷ 2 ∷ [])
+
+-- the tables of taxes and of second related documents
+abbrev pub tax_tables : List Table
+tax_tables = commission_tax_table ∷ item_tax_table ∷ tally_tax_table ∷ second_related_table ∷ []
+
+-- those from the items on
+abbrev pub record_tables : List Table
+record_tables = item_table ∷ memo_table ∷ tally_table ∷ tax_tables
+
+-- those from the agents on
+abbrev pub holder_tables : List Table
+holder_tables = agent_table ∷ stock_table ∷ record_tables
+
+-- those from the airlines on
+abbrev pub calendar_tables : List Table
+calendar_tables = airline_table ∷ rate_table ∷ period_table ∷ holder_tables
 
 -- the tables in the order of their trees
 abbrev pub our_tables : List Table
-our_tables =
-    meta_table ∷ terms_table ∷ airline_table ∷ rate_table ∷ period_table ∷ agent_table ∷ airline_token_table ∷ stock_table
-    ∷ item_table ∷ memo_table ∷ tally_table ∷ []
+our_tables = meta_table ∷ terms_table ∷ calendar_tables
 
--- one of the plan's tables
+-- how many columns the table of a tree has, and 0 where it is the tree of none of these tables
+abbrev pub columns_at : List Table → ℕ → ℕ
+columns_at [] tree = 0
+columns_at (t ∷ ts) tree = if t.tree == tree then length t.columns else columns_at ts tree
+
+-- how many columns the table of a tree has
+abbrev pub width_of : ℕ → ℕ
+width_of tree = columns_at our_tables tree
+
+-- one of the plan's tables, commission taxes apart
 abbrev pub IsOfPlan : Table → Type 0
 IsOfPlan t = (t ≡ meta_table) ⊎ ((t ≡ terms_table) ⊎ ((t ≡ airline_table) ⊎ ((t ≡ rate_table) ⊎ (t ≡ period_table))))
 
--- one of the others
+-- one of callers, items, memos and tallies
 abbrev pub IsOfCallers : Table → Type 0
-IsOfCallers t = (t ≡ agent_table) ⊎ ((t ≡ airline_token_table) ⊎ ((t ≡ stock_table) ⊎ ((t ≡ item_table) ⊎ ((t ≡ memo_table) ⊎ (t ≡ tally_table)))))
+IsOfCallers t = (t ≡ agent_table) ⊎ ((t ≡ stock_table) ⊎ ((t ≡ item_table) ⊎ ((t ≡ memo_table) ⊎ (t ≡ tally_table))))
+
+-- one of taxes and second related documents
+abbrev pub IsOfTaxes : Table → Type 0
+IsOfTaxes t = (t ≡ commission_tax_table) ⊎ ((t ≡ item_tax_table) ⊎ ((t ≡ tally_tax_table) ⊎ (t ≡ second_related_table)))
 
 -- the index of each key
 abbrev pub our_indexes : List Index
@@ -186,11 +240,14 @@ our_indexes =
     ∷ key_index (codes "sqlite_autoindex_rate_1") 7 6 (1 ∷ 2 ∷ [])
     ∷ key_index (codes "sqlite_autoindex_period_1") 9 8 (1 ∷ [])
     ∷ key_index (codes "sqlite_autoindex_agent_1") 11 10 (1 ∷ [])
-    ∷ key_index (codes "sqlite_autoindex_airline_token_1") 13 12 (1 ∷ [])
-    ∷ key_index (codes "sqlite_autoindex_stock_1") 15 14 (1 ∷ 2 ∷ [])
-    ∷ key_index (codes "sqlite_autoindex_item_1") 17 16 (1 ∷ 2 ∷ 3 ∷ [])
-    ∷ key_index (codes "sqlite_autoindex_memo_1") 19 18 (1 ∷ 2 ∷ [])
-    ∷ key_index (codes "sqlite_autoindex_tally_1") 21 20 (1 ∷ 2 ∷ 3 ∷ [])
+    ∷ key_index (codes "sqlite_autoindex_stock_1") 13 12 (1 ∷ 2 ∷ [])
+    ∷ key_index (codes "sqlite_autoindex_item_1") 15 14 (1 ∷ 2 ∷ 3 ∷ [])
+    ∷ key_index (codes "sqlite_autoindex_memo_1") 17 16 (1 ∷ 2 ∷ [])
+    ∷ key_index (codes "sqlite_autoindex_tally_1") 19 18 (1 ∷ 2 ∷ 3 ∷ [])
+    ∷ key_index (codes "sqlite_autoindex_commission_tax_1") 21 20 (1 ∷ [])
+    ∷ key_index (codes "sqlite_autoindex_item_tax_1") 23 22 (1 ∷ 2 ∷ 3 ∷ [])
+    ∷ key_index (codes "sqlite_autoindex_tally_tax_1") 25 24 (1 ∷ 2 ∷ 3 ∷ [])
+    ∷ key_index (codes "sqlite_autoindex_second_related_1") 27 26 (1 ∷ 2 ∷ [])
     ∷ []
 
 -- a schema with no view

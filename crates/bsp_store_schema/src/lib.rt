@@ -1,6 +1,6 @@
 //! The schema of the book's store: its tables are made, and a store is tested for them.
 //!
-//! [`make_tables`] makes the eleven tables in a store that [`is_bare`]. [`is_ours`] tests that a store has these tables
+//! [`make_tables`] makes the fourteen tables in a store that [`is_bare`]. [`is_ours`] tests that a store has these tables
 //! and nothing else, column by column, so that a caller knows the schema that its statements are read by. [`reopen`]
 //! hands a connection back of which the order of the rows is known too.
 #![tactic(auto)]
@@ -19,7 +19,7 @@ pub use openings::{open_in_order, reopen};
 use sqlite_schema::schema::Schema;
 pub use tables::is_our_table;
 
-/// Whether the tables are the eleven of this crate, and nothing else is in the store.
+/// Whether the tables are the fourteen of this crate, and nothing else is in the store.
 pub fn is_ours(schema: &Schema) -> bool
     ensures { IsTrue result ↔ (schema.now ≡ our_schema) }
 {

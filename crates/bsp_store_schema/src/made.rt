@@ -14,13 +14,12 @@ const TABLES: &str = "\
         closed INTEGER NOT NULL) STRICT; \
     CREATE TABLE terms (id INT NOT NULL PRIMARY KEY, currency TEXT NOT NULL, review INTEGER NOT NULL, \
         documents INTEGER NOT NULL) STRICT; \
-    CREATE TABLE airline (code TEXT NOT NULL PRIMARY KEY, place INTEGER NOT NULL) STRICT; \
+    CREATE TABLE airline (code TEXT NOT NULL PRIMARY KEY, place INTEGER, token TEXT) STRICT; \
     CREATE TABLE rate (airline TEXT NOT NULL, begins INTEGER NOT NULL, place INTEGER NOT NULL, \
         hundredths INTEGER NOT NULL, PRIMARY KEY (airline, begins)) STRICT; \
     CREATE TABLE period (code TEXT NOT NULL PRIMARY KEY, place INTEGER NOT NULL, \
         begins INTEGER NOT NULL, ends INTEGER NOT NULL, remit INTEGER NOT NULL) STRICT; \
     CREATE TABLE agent (code TEXT NOT NULL PRIMARY KEY, token TEXT NOT NULL) STRICT; \
-    CREATE TABLE airline_token (airline TEXT NOT NULL PRIMARY KEY, token TEXT NOT NULL) STRICT; \
     CREATE TABLE stock (agent TEXT NOT NULL REFERENCES agent (code), lo TEXT NOT NULL, hi TEXT NOT NULL, \
         PRIMARY KEY (agent, lo)) STRICT; \
     CREATE TABLE item (agent TEXT NOT NULL REFERENCES agent (code), number TEXT NOT NULL, \
@@ -35,7 +34,15 @@ const TABLES: &str = "\
     CREATE TABLE tally (agent TEXT NOT NULL, airline TEXT NOT NULL, period TEXT NOT NULL, \
         accepted INTEGER NOT NULL, living INTEGER NOT NULL, canx INTEGER NOT NULL, \
         memo_count INTEGER NOT NULL, cash INTEGER NOT NULL, credit INTEGER NOT NULL, \
-        commission INTEGER NOT NULL, memos INTEGER NOT NULL, PRIMARY KEY (agent, airline, period)) STRICT";
+        commission INTEGER NOT NULL, memos INTEGER NOT NULL, PRIMARY KEY (agent, airline, period)) STRICT; \
+    CREATE TABLE commission_tax (begins INT NOT NULL PRIMARY KEY, place INTEGER NOT NULL, \
+        hundredths INTEGER NOT NULL) STRICT; \
+    CREATE TABLE item_tax (agent TEXT NOT NULL, number TEXT NOT NULL, canx INTEGER NOT NULL, \
+        tax INTEGER NOT NULL, hundredths INTEGER NOT NULL, PRIMARY KEY (agent, number, canx)) STRICT; \
+    CREATE TABLE tally_tax (agent TEXT NOT NULL, airline TEXT NOT NULL, period TEXT NOT NULL, \
+        tax INTEGER NOT NULL, PRIMARY KEY (agent, airline, period)) STRICT; \
+    CREATE TABLE second_related (agent TEXT NOT NULL, number TEXT NOT NULL, airline TEXT NOT NULL, \
+        rel_number TEXT NOT NULL, PRIMARY KEY (agent, number)) STRICT";
 
 /// Whether the store has nothing in it.
 pub fn is_bare<S: Alter>(conn: &Connection<S>) -> bool
@@ -45,7 +52,7 @@ pub fn is_bare<S: Alter>(conn: &Connection<S>) -> bool
     schema.tables.is_empty() && schema.indexes.is_empty() && schema.views.is_empty()
 }
 
-/// Makes the eleven tables, without a row in them, in a store that has nothing in it. The transaction stays open, and
+/// Makes the fourteen tables, without a row in them, in a store that has nothing in it. The transaction stays open, and
 /// nothing is committed.
 ///
 /// # Errors

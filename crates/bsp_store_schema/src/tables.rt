@@ -1,7 +1,7 @@
-//! Tests of the eleven tables.
+//! Tests of the fourteen tables.
 
-ghost use Rattle.std.specs.Prelude.{◌≡◌, ◌⊎◌, ◌↔◌, [], ◌∷◌, IsTrue};
-ghost use Rattle.bsp_store_schema.specs.Schema.{meta_table, terms_table, airline_table, rate_table, period_table, agent_table, airline_token_table, stock_table, item_table, memo_table, tally_table, our_tables, IsOfCallers, IsOfPlan};
+ghost use Rattle.std.specs.Prelude.{◌≡◌, ◌⊎◌, ◌↔◌, IsTrue};
+ghost use Rattle.bsp_store_schema.specs.Schema.{meta_table, terms_table, airline_table, rate_table, period_table, agent_table, stock_table, item_table, memo_table, tally_table, commission_tax_table, item_tax_table, tally_tax_table, second_related_table, calendar_tables, holder_tables, our_tables, record_tables, tax_tables, IsOfCallers, IsOfPlan, IsOfTaxes};
 
 use crate::plain::is_strict;
 use sqlite_schema::schema::{Kind, Table};
@@ -20,9 +20,10 @@ const TERMS: [(&[u8], Kind, bool); 4] = [
     (b"documents", Kind::Integer, true),
 ];
 
-const AIRLINE: [(&[u8], Kind, bool); 2] = [
+const AIRLINE: [(&[u8], Kind, bool); 3] = [
     (b"code", Kind::Text, true),
-    (b"place", Kind::Integer, true),
+    (b"place", Kind::Integer, false),
+    (b"token", Kind::Text, false),
 ];
 
 const RATE: [(&[u8], Kind, bool); 4] = [
@@ -41,11 +42,6 @@ const PERIOD: [(&[u8], Kind, bool); 5] = [
 ];
 
 const AGENT: [(&[u8], Kind, bool); 2] = [(b"code", Kind::Text, true), (b"token", Kind::Text, true)];
-
-const AIRLINE_TOKEN: [(&[u8], Kind, bool); 2] = [
-    (b"airline", Kind::Text, true),
-    (b"token", Kind::Text, true),
-];
 
 const STOCK: [(&[u8], Kind, bool); 3] = [
     (b"agent", Kind::Text, true),
@@ -102,6 +98,34 @@ const TALLY: [(&[u8], Kind, bool); 11] = [
     (b"memos", Kind::Integer, true),
 ];
 
+const COMMISSION_TAX: [(&[u8], Kind, bool); 3] = [
+    (b"begins", Kind::Integer, true),
+    (b"place", Kind::Integer, true),
+    (b"hundredths", Kind::Integer, true),
+];
+
+const ITEM_TAX: [(&[u8], Kind, bool); 5] = [
+    (b"agent", Kind::Text, true),
+    (b"number", Kind::Text, true),
+    (b"canx", Kind::Integer, true),
+    (b"tax", Kind::Integer, true),
+    (b"hundredths", Kind::Integer, true),
+];
+
+const TALLY_TAX: [(&[u8], Kind, bool); 4] = [
+    (b"agent", Kind::Text, true),
+    (b"airline", Kind::Text, true),
+    (b"period", Kind::Text, true),
+    (b"tax", Kind::Integer, true),
+];
+
+const SECOND_RELATED: [(&[u8], Kind, bool); 4] = [
+    (b"agent", Kind::Text, true),
+    (b"number", Kind::Text, true),
+    (b"airline", Kind::Text, true),
+    (b"rel_number", Kind::Text, true),
+];
+
 /// Of each foreign key the place of its column, and the table to whose code it refers.
 const STOCK_REFERENCES: [(usize, &[u8]); 1] = [(1, b"agent")];
 
@@ -145,88 +169,124 @@ fn is_agent(table: &Table) -> bool
     is_strict(table, b"agent", 10, &AGENT, &[], &[1])
 }
 
-fn is_airline_token(table: &Table) -> bool
-    ensures { IsTrue result ↔ (table.now ≡ airline_token_table) }
-{
-    is_strict(table, b"airline_token", 12, &AIRLINE_TOKEN, &[], &[1])
-}
-
 fn is_stock(table: &Table) -> bool
     ensures { IsTrue result ↔ (table.now ≡ stock_table) }
 {
-    is_strict(table, b"stock", 14, &STOCK, &STOCK_REFERENCES, &[1, 2])
+    is_strict(table, b"stock", 12, &STOCK, &STOCK_REFERENCES, &[1, 2])
 }
 
 fn is_item(table: &Table) -> bool
     ensures { IsTrue result ↔ (table.now ≡ item_table) }
 {
-    is_strict(table, b"item", 16, &ITEM, &ITEM_REFERENCES, &[1, 2, 3])
+    is_strict(table, b"item", 14, &ITEM, &ITEM_REFERENCES, &[1, 2, 3])
 }
 
 fn is_memo(table: &Table) -> bool
     ensures { IsTrue result ↔ (table.now ≡ memo_table) }
 {
-    is_strict(table, b"memo", 18, &MEMO, &MEMO_REFERENCES, &[1, 2])
+    is_strict(table, b"memo", 16, &MEMO, &MEMO_REFERENCES, &[1, 2])
 }
 
 fn is_tally(table: &Table) -> bool
     ensures { IsTrue result ↔ (table.now ≡ tally_table) }
 {
-    is_strict(table, b"tally", 20, &TALLY, &[], &[1, 2, 3])
+    is_strict(table, b"tally", 18, &TALLY, &[], &[1, 2, 3])
 }
 
-/// Whether the table is one of the plan's.
+fn is_commission_tax(table: &Table) -> bool
+    ensures { IsTrue result ↔ (table.now ≡ commission_tax_table) }
+{
+    is_strict(table, b"commission_tax", 20, &COMMISSION_TAX, &[], &[1])
+}
+
+fn is_item_tax(table: &Table) -> bool
+    ensures { IsTrue result ↔ (table.now ≡ item_tax_table) }
+{
+    is_strict(table, b"item_tax", 22, &ITEM_TAX, &[], &[1, 2, 3])
+}
+
+fn is_tally_tax(table: &Table) -> bool
+    ensures { IsTrue result ↔ (table.now ≡ tally_tax_table) }
+{
+    is_strict(table, b"tally_tax", 24, &TALLY_TAX, &[], &[1, 2, 3])
+}
+
+fn is_second_related(table: &Table) -> bool
+    ensures { IsTrue result ↔ (table.now ≡ second_related_table) }
+{
+    is_strict(table, b"second_related", 26, &SECOND_RELATED, &[], &[1, 2])
+}
+
+/// Whether the table is one of the plan's, commission taxes apart.
 fn is_of_plan(table: &Table) -> bool
     ensures { IsTrue result ↔ IsOfPlan table.now }
 {
     is_meta(table) || is_terms(table) || is_airline(table) || is_rate(table) || is_period(table)
 }
 
-/// Whether the table is one of the others.
+/// Whether the table is one of callers, items, memos and tallies.
 fn is_of_callers(table: &Table) -> bool
     ensures { IsTrue result ↔ IsOfCallers table.now }
 {
-    is_agent(table)
-        || is_airline_token(table)
-        || is_stock(table)
-        || is_item(table)
-        || is_memo(table)
-        || is_tally(table)
+    is_agent(table) || is_stock(table) || is_item(table) || is_memo(table) || is_tally(table)
 }
 
-/// Whether the table is one of the eleven.
-pub fn is_our_table(table: &Table) -> bool
-    ensures { IsTrue result ↔ (IsOfPlan table.now ⊎ IsOfCallers table.now) }
+/// Whether the table is one of the taxes and the second related documents.
+fn is_of_taxes(table: &Table) -> bool
+    ensures { IsTrue result ↔ IsOfTaxes table.now }
 {
-    is_of_plan(table) || is_of_callers(table)
+    is_commission_tax(table)
+        || is_item_tax(table)
+        || is_tally_tax(table)
+        || is_second_related(table)
 }
 
-/// Whether the tables are the last three.
-fn are_records(tables: &[Table]) -> bool
-    ensures { IsTrue result ↔ (tables.now ≡ item_table ∷ memo_table ∷ tally_table ∷ []) }
+/// Whether the table is one of the fourteen.
+pub fn is_our_table(table: &Table) -> bool
+    ensures { IsTrue result ↔ (IsOfPlan table.now ⊎ (IsOfCallers table.now ⊎ IsOfTaxes table.now)) }
+{
+    is_of_plan(table) || is_of_callers(table) || is_of_taxes(table)
+}
+
+/// Whether the tables are the last four.
+fn are_taxes(tables: &[Table]) -> bool
+    ensures { IsTrue result ↔ (tables.now ≡ tax_tables) }
 {
     match tables {
-        [item, memo, tally] => is_item(item) && is_memo(memo) && is_tally(tally),
+        [commission_tax, item_tax, tally_tax, second_related] => is_commission_tax(commission_tax)
+            && is_item_tax(item_tax)
+            && is_tally_tax(tally_tax)
+            && is_second_related(second_related),
+        _ => false,
+    }
+}
+
+/// Whether the tables are those from the items on.
+fn are_records(tables: &[Table]) -> bool
+    ensures { IsTrue result ↔ (tables.now ≡ record_tables) }
+{
+    match tables {
+        [item, memo, tally, more @ ..] => is_item(item)
+            && is_memo(memo)
+            && is_tally(tally)
+            && are_taxes(more),
         _ => false,
     }
 }
 
 /// Whether the tables are those from the agents on.
 fn are_holders(tables: &[Table]) -> bool
-    ensures { IsTrue result ↔ (tables.now ≡ agent_table ∷ airline_token_table ∷ stock_table ∷ item_table ∷ memo_table ∷ tally_table ∷ []) }
+    ensures { IsTrue result ↔ (tables.now ≡ holder_tables) }
 {
     match tables {
-        [agent, airline_token, stock, more @ ..] => is_agent(agent)
-            && is_airline_token(airline_token)
-            && is_stock(stock)
-            && are_records(more),
+        [agent, stock, more @ ..] => is_agent(agent) && is_stock(stock) && are_records(more),
         _ => false,
     }
 }
 
 /// Whether the tables are those from the airlines on.
 fn are_calendar(tables: &[Table]) -> bool
-    ensures { IsTrue result ↔ (tables.now ≡ airline_table ∷ rate_table ∷ period_table ∷ agent_table ∷ airline_token_table ∷ stock_table ∷ item_table ∷ memo_table ∷ tally_table ∷ []) }
+    ensures { IsTrue result ↔ (tables.now ≡ calendar_tables) }
 {
     match tables {
         [airline, rate, period, more @ ..] => is_airline(airline)
@@ -237,7 +297,7 @@ fn are_calendar(tables: &[Table]) -> bool
     }
 }
 
-/// Whether the tables are the eleven, in this order.
+/// Whether the tables are the fourteen, in this order.
 pub(crate) fn are_our_tables(tables: &[Table]) -> bool
     ensures { IsTrue result ↔ (tables.now ≡ our_tables) }
 {

@@ -46,6 +46,25 @@ fn agents_after(alloc: Global, statements: &str) -> Option<usize> {
     agents(&mut book)
 }
 
+/// Statements that each put a row into a book which no office writes there.
+const SPARE_ROWS: [&str; 4] = [
+    "INSERT INTO commission_tax VALUES (19723, 1, 1900)",
+    "INSERT INTO item_tax VALUES ('12345675', '1300000001', 0, 0, 0)",
+    "INSERT INTO tally_tax VALUES ('12345675', '125', '24011', 0)",
+    "INSERT INTO second_related VALUES ('12345675', '1300000001', '125', '1300000002')",
+];
+
+/// How many books are opened again, each after some statements.
+fn opened_after(alloc: Global, each: &[&str]) -> usize {
+    let mut count = 0_usize;
+    for statements in each {
+        if agents_after(alloc, statements).is_some() {
+            count = count.saturating_add(1);
+        }
+    }
+    count
+}
+
 #[test]
 fn a_new_book_is_empty(rt: HostRuntime) {
     assert_eq!(rt; new_agents(rt.alloc()), Some(0));
@@ -60,4 +79,9 @@ fn what_was_committed_is_there_again(rt: HostRuntime) {
 fn what_was_not_committed_is_not_there(rt: HostRuntime) {
     let found = agents_after(rt.alloc(), "BEGIN; DELETE FROM agent");
     assert_eq!(rt; found, Some(1));
+}
+
+#[test]
+fn taxes_and_second_documents_of_nothing_are_refused(rt: HostRuntime) {
+    assert_eq!(rt; opened_after(rt.alloc(), &SPARE_ROWS), 0);
 }

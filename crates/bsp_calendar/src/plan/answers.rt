@@ -1,11 +1,13 @@
-//! The rates, the airlines and the terms of a plan, and its business day.
+//! The rates, the taxes on commission, the airlines and the terms of a plan, and its business day.
 
-ghost use Rattle.std.specs.Prelude.{◌≡◌};
-ghost use Rattle.bsp_calendar.specs.Published.{IsLatestRate, has_airline, rate_on};
+ghost use Rattle.std.specs.Prelude.{◌≡◌, ◌≤◌};
+ghost use Rattle.bsp_calendar.specs.Published.{IsLatestRate, IsLatestTax, commission_tax_on, has_airline, is_taxed, rate_on};
 
-use crate::entries::Terms;
+use crate::checks::has_one_begun;
+use crate::entries::{Period, Terms};
 use crate::keys::{has_airline, rate_key};
 use crate::plan::Plan;
+use crate::taxes::day_key;
 use bsp_fields::{AirlineCode, Day};
 
 impl Plan {
@@ -19,6 +21,27 @@ impl Plan {
             Some(rate) if rate.airline == airline => rate.hundredths,
             _ => 0,
         }
+    }
+
+    /// The tax on commission on a day, in hundredths of a percent of the commission. It is that of the
+    /// entry with the latest first day not after the day, and 0 where there is none.
+    pub fn commission_tax(&self, day: Day) -> u16
+        ensures value { result ≡ commission_tax_on self.now day }
+        ensures latest { IsLatestTax self.now.commission_taxes day result }
+        ensures bound { result ≤ 10_000 }
+    {
+        match self.lists.commission_taxes.last_up_to(day_key(day)) {
+            Some(tax) => tax.hundredths,
+            None => 0,
+        }
+    }
+
+    /// Whether a tax on commission has begun by the last day of a period. The reports of such a period
+    /// have form 2, and those of another form 1. A closed period keeps its form (`closed_stays`).
+    pub fn is_taxed(&self, period: &Period) -> bool
+        ensures { result ≡ is_taxed self.now period.now }
+    {
+        has_one_begun(self.lists.commission_taxes.list(), period.last)
     }
 
     /// Whether the airline is published.

@@ -3,7 +3,7 @@
 ghost use Rattle.std.specs.Prelude.{◌≡◌, length};
 ghost use Rattle.bsp_calendar.specs.SoundPlan.{IsSoundPlan};
 
-use crate::entries::{Period, Rate};
+use crate::entries::{CommissionTax, Period, Rate};
 use crate::plan::Plan;
 use bsp_fields::AirlineCode;
 
@@ -27,6 +27,13 @@ impl Plan {
         ensures { result.now ≡ self.now.periods }
     {
         self.lists.periods.list()
+    }
+
+    /// The taxes on commission, in the order of their first publication.
+    pub fn commission_taxes(&self) -> &[CommissionTax]
+        ensures { result.now ≡ self.now.commission_taxes }
+    {
+        self.lists.commission_taxes.list()
     }
 
     /// How many periods are closed. They are the first of `periods`.

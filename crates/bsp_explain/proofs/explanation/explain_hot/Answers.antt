@@ -1,7 +1,8 @@
-use Rattle.std.proofs.Common.{◌≡◌, ◌-◌, drop, refl, sym, ap, ◌∙◌}
+use Rattle.std.proofs.Common.{◌≡◌, ◌-◌, drop, refl, sym, ap, subst, ◌∙◌}
 use Rattle.bsp_records.specs.Lines.{lines}
 use Rattle.bsp_records.proofs.RestLemmas.{lines_empty}
-use Rattle.bsp_explain.specs.HotReasons.{record_name}
+use Rattle.bsp_hot_records.specs.declared.form.FileForm.{FileForm}
+use Rattle.bsp_explain.specs.HotReasons.{SaysOfHot, file_form, record_name}
 use Rattle.bsp_explain.proofs.FaultLemmas.{not_empty, said_of_hot, same_line}
 use Rattle.bsp_explain.proofs.explanation.explain_hot.Goals as goal
 
@@ -25,5 +26,5 @@ returns c =
     record {
       number = refl;
       name = λ line is. c.record_name-name.ensures ∙ ap record_name (same_line ls rest (c.args.fault.number - 1) line c.first_line.result.0.now left is (after, c.first_line.ensures.cut));
-      says = λ line is. said_of_hot ls rest c.args.fault.number line c.first_line.result.0.now c.hot_line_reason-reason.result left is (after, c.first_line.ensures.cut) c.hot_line_reason-reason.ensures;
+      says = λ line is. said_of_hot (file_form ls) ls rest c.args.fault.number line c.first_line.result.0.now c.hot_line_reason-reason.result left is (after, c.first_line.ensures.cut) (subst (λ (form : FileForm). SaysOfHot form c.args.fault.number c.first_line.result.0.now c.hot_line_reason-reason.result) c.file_form-form.ensures c.hot_line_reason-reason.ensures);
     }

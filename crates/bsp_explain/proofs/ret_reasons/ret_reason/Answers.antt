@@ -30,9 +30,9 @@ returns-in-F04 c = record {
 
 pub returns-in-F05 : goal.returns-in-F05
 returns-in-F05 c = record {
-  says = c.field_fault-field.ensures.says c.args.before;
-  row = rw c.in-F05.is c.field_fault-field.ensures.row_five;
-  none = rw c.in-F05.is c.field_fault-field.ensures.none;
+  says = c.form_fault-form.ensures.says c.args.before;
+  row = rw c.in-F05.is c.form_fault-form.ensures.row;
+  none = rw c.in-F05.is (c.form_fault-form.ensures.none c.args.before);
 }
 
 pub returns-in-F06 : goal.returns-in-F06

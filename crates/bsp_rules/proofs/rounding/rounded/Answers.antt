@@ -35,3 +35,15 @@ returns-else-basis-lt0-clause-fits c small =
     let e = rw (to_z-of_z _ _ c.ranges.basis) at c.unsigned_abs.ensures.value in
     let n = rw (to_z-of_z _ _ c.ranges.basis) at c.if-basis-lt0.false in
     grind (arith, ints)
+
+pub returns-then-basis-lt0-clause-size : goal.returns-then-basis-lt0-clause-size
+returns-then-basis-lt0-clause-size c small =
+    let within = size_within c.args.rate c.unsigned_abs.result c.rounded_size-size.result small c.rounded_size-size.ensures.not_above in
+    let e = rw (to_z-of_z _ _ c.ranges.basis) at c.unsigned_abs.ensures.value in
+    grind (arith, ints)
+
+pub returns-else-basis-lt0-clause-size : goal.returns-else-basis-lt0-clause-size
+returns-else-basis-lt0-clause-size c small =
+    let within = size_within c.args.rate c.unsigned_abs.result c.rounded_size-size.result small c.rounded_size-size.ensures.not_above in
+    let e = rw (to_z-of_z _ _ c.ranges.basis) at c.unsigned_abs.ensures.value in
+    grind (arith, ints)

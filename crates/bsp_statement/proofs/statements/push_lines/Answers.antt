@@ -14,8 +14,9 @@ pub returns : goal.returns
 returns c =
     let rows = c.args.postings.now in
     let grouped = c.in_ok-sums.ensures in
-    let line = λ (e : ℕ × Figures). figures_line (fixed_digits 3 e.0) e.1 in
-    let lines : flat_map line c.in_ok-sums.sums.entries ≡ flat_map (airline_line rows) grouped.codes =
+    let taxed = c.args.taxed in
+    let line = λ (e : ℕ × Figures). figures_line taxed (fixed_digits 3 e.0) e.1 in
+    let lines : flat_map line c.in_ok-sums.sums.entries ≡ flat_map (airline_line taxed rows) grouped.codes =
     ap (λ (es : List (ℕ × Figures)). flat_map line es) grouped.entries_are ∙ flat_map_map line (λ code. (code, figures_of (of_airline code rows))) grouped.codes in
     let before_lines = string_bytes c.push_heading.new.out in
     let before_total = string_bytes c.push_airlines.new.out in
@@ -23,9 +24,9 @@ returns c =
     (λ last. (
       grouped.codes,
       grouped.are,
-      pieces3 (string_bytes c.args.out.now) heading (flat_map (airline_line rows) grouped.codes) (figures_line (codes "TOT") (figures_of rows)) before_lines before_total (string_bytes c.push_figures.new.out)
+      pieces3 (string_bytes c.args.out.now) (heading taxed) (flat_map (airline_line taxed rows) grouped.codes) (figures_line taxed (codes "TOT") (figures_of rows)) before_lines before_total (string_bytes c.push_figures.new.out)
           c.in_ok-push_heading.ensures
           (c.in_ok-push_airlines.ensures ∙ ap (λ (ls : List ℕ). before_lines ++ ls) lines)
-          (last ∙ ap (λ (f : Figures). before_total ++ figures_line (codes "TOT") f) c.total.ensures),
+          (last ∙ ap (λ (f : Figures). before_total ++ figures_line taxed (codes "TOT") f) c.total.ensures),
     ))
     c.push_figures.ensures

@@ -2,7 +2,6 @@ use Rattle.std.proofs.Common.{rules, [], refl, sym, subst, Some, ◌∙◌, arit
 use Rattle.sqlite.specs.Held.{state}
 use Rattle.sqlite.specs.State.{CommitsShowing, HasCleanDisk, Survives}
 use Rattle.sqlite.proofs.StateLemmas.{survives_then}
-use Rattle.bsp_memory_rows.specs.Tables.{rows_of}
 use Rattle.bsp_store_load.specs.Loading.{IsLoaded}
 use Rattle.bsp_store_load.proofs.Showing.{all_put, begun, commits_nothing, row_left, row_put, spares_of}
 use Rattle.bsp_store_load.proofs.load.load_table.Goals as goal
@@ -20,8 +19,8 @@ rows-init g c = record {
   name = refl;
   derived = λ is. is;
   survives = λ ours. commits_nothing g.S.Store c.args.conn.now c.in_ok-rows.rows.conn.now c.query.result.now c.query.ensures.plain ours c.in_ok-rows.ensures.survives;
-  so_far = λ ours clean. begun g.T.StoredTable.part g.T.StoredTable.row_of g.T.StoredTable.with_entry g.T.StoredTable.fits g.T.StoredTable.lacks g.T.StoredTable.rows_in g.S.Store
-      c.query.result.now c.query.ensures c.args.conn.now c.in_ok-rows.rows.conn.now (rows_of c.args.tables.now) ours (c.in_ok-rows.ensures.begun clean);
+  so_far = λ ours clean. begun g.T.StoredTable.part g.T.StoredTable.row_of g.T.StoredTable.with_entry (g.T.StoredTable.fits c.args.table.now) g.T.StoredTable.lacks g.T.StoredTable.rows_in g.S.Store
+      c.query.result.now c.query.ensures c.args.conn.now c.in_ok-rows.rows.conn.now (g.T.StoredTable.whole c.args.memory.now) ours (c.in_ok-rows.ensures.begun clean);
 }
 
 pub returns-in_default-clause-loaded : goal.returns-in_default-clause-loaded
@@ -30,8 +29,8 @@ returns-in_default-clause-loaded g c = λ ours clean.
     let next = c.next.follows.lender-at-none.conn.now in
     let late : HasCleanDisk (state g.S.Store next) = search rules in
     let so_far = c.rows.invariant.so_far ours (omega (arith, moved.survives.clean)) in
-    all_put g.T.StoredTable.part g.T.StoredTable.row_of g.T.StoredTable.with_entry g.T.StoredTable.fits g.T.StoredTable.lacks g.T.StoredTable.rows_in g.S.Store c.args.conn.now c.rows.rows.conn.now next ours
-    (rows_of c.args.tables.now) (rows_of c.rows.tables) so_far (rw c.in_ok-row.was at (moved.same late)) (rw (c.in_ok-row.was, c.in_default.is) at (moved.ok late))
+    all_put g.T.StoredTable.part g.T.StoredTable.row_of g.T.StoredTable.with_entry (g.T.StoredTable.fits c.args.table.now) g.T.StoredTable.lacks g.T.StoredTable.rows_in g.S.Store c.args.conn.now c.rows.rows.conn.now next ours
+    (g.T.StoredTable.whole c.args.memory.now) (g.T.StoredTable.whole c.rows.memory) so_far (rw c.in_ok-row.was at (moved.same late)) (rw (c.in_ok-row.was, c.in_default.is) at (moved.ok late))
 
 pub returns-then-not-branch-clause-loaded : goal.returns-then-not-branch-clause-loaded
 returns-then-not-branch-clause-loaded g c = λ ours clean.
@@ -39,10 +38,10 @@ returns-then-not-branch-clause-loaded g c = λ ours clean.
     let next = c.next.follows.lender-at-none.conn.now in
     let late : HasCleanDisk (state g.S.Store next) = search rules in
     let so_far = c.rows.invariant.so_far ours (omega (arith, moved.survives.clean)) in
-    subst (λ r. IsLoaded g.T.StoredTable.part g.T.StoredTable.row_of g.T.StoredTable.with_entry g.T.StoredTable.fits g.T.StoredTable.lacks g.T.StoredTable.rows_in (state g.S.Store c.args.conn.now).now.trees (rows_of c.args.tables.now) (rows_of c.put_row.new.tables) (Some r)) (sym c.in_ok-copy.ensures)
-    (row_left g.T.StoredTable.part g.T.StoredTable.row_of g.T.StoredTable.with_entry g.T.StoredTable.fits g.T.StoredTable.lacks g.T.StoredTable.rows_in g.S.Store c.args.conn.now c.rows.rows.conn.now next ours
-    (rows_of c.args.tables.now) (rows_of c.rows.tables) so_far (rw c.in_ok-row.was at (moved.same late)) c.in-Some.row.now (rw (c.in_ok-row.was, c.in-Some.is) at (moved.ok late))
-    (rows_of c.put_row.new.tables) c.in_ok-put_row.field-0 (λ e may is. c.in_ok-put_row.ensures.entry e may.0 may.1 is) c.if-not-branch.true (c.in_ok-put_row.ensures.kept c.if-not-branch.true))
+    subst (λ r. IsLoaded g.T.StoredTable.part g.T.StoredTable.row_of g.T.StoredTable.with_entry (g.T.StoredTable.fits c.args.table.now) g.T.StoredTable.lacks g.T.StoredTable.rows_in (state g.S.Store c.args.conn.now).now.trees (g.T.StoredTable.whole c.args.memory.now) (g.T.StoredTable.whole c.put_row.new.memory) (Some r)) (sym c.in_ok-copy.ensures)
+    (row_left g.T.StoredTable.part g.T.StoredTable.row_of g.T.StoredTable.with_entry (g.T.StoredTable.fits c.args.table.now) g.T.StoredTable.lacks g.T.StoredTable.rows_in g.S.Store c.args.conn.now c.rows.rows.conn.now next ours
+    (g.T.StoredTable.whole c.args.memory.now) (g.T.StoredTable.whole c.rows.memory) so_far (rw c.in_ok-row.was at (moved.same late)) c.in-Some.row.now (rw (c.in_ok-row.was, c.in-Some.is) at (moved.ok late))
+    (g.T.StoredTable.whole c.put_row.new.memory) c.in_ok-put_row.field-0 (λ e may is. c.in_ok-put_row.ensures.entry e may.0 may.1 is) c.if-not-branch.true (c.in_ok-put_row.ensures.kept c.if-not-branch.true))
 
 pub rows-preserved : goal.rows-preserved
 rows-preserved g c =
@@ -55,7 +54,7 @@ rows-preserved g c =
       so_far = λ ours clean.
           let so_far = c.rows.invariant.so_far ours (omega (arith, moved.survives.clean)) in
           let put = c.in_ok-put_row.ensures.row c.if-not-branch.false in
-          row_put g.T.StoredTable.part g.T.StoredTable.row_of g.T.StoredTable.with_entry g.T.StoredTable.fits g.T.StoredTable.lacks g.T.StoredTable.rows_in g.S.Store c.args.conn.now c.rows.rows.conn.now next ours
-          (rows_of c.args.tables.now) (rows_of c.rows.tables) so_far (rw c.in_ok-row.was at (moved.same clean)) c.in-Some.row.now (rw (c.in_ok-row.was, c.in-Some.is) at (moved.ok clean))
-          (rows_of c.put_row.new.tables) c.in_ok-put_row.field-0 (λ e may is. c.in_ok-put_row.ensures.entry e may.0 may.1 is) put.0 put.2 put.1 put.3 g.T.StoredTable.adds;
+          row_put g.T.StoredTable.part g.T.StoredTable.row_of g.T.StoredTable.with_entry (g.T.StoredTable.fits c.args.table.now) g.T.StoredTable.lacks g.T.StoredTable.rows_in g.S.Store c.args.conn.now c.rows.rows.conn.now next ours
+          (g.T.StoredTable.whole c.args.memory.now) (g.T.StoredTable.whole c.rows.memory) so_far (rw c.in_ok-row.was at (moved.same clean)) c.in-Some.row.now (rw (c.in_ok-row.was, c.in-Some.is) at (moved.ok clean))
+          (g.T.StoredTable.whole c.put_row.new.memory) c.in_ok-put_row.field-0 (λ e may is. c.in_ok-put_row.ensures.entry e may.0 may.1 is) put.0 put.2 put.1 put.3 g.T.StoredTable.adds;
     }

@@ -7,5 +7,5 @@ use Rattle.bsp_store_memos.proofs.tallies.all_tallies.Goals as goal
 
 pub returns : goal.returns
 returns g c =
-    all_shown tally_part all_text names order all_is.0 all_is.1 all_is.2 (λ db. refl) (λ trees r. refl) (λ trees r. refl) tallies_rise (λ content trees kept. kept.1.1.1.1.1.1.1.1.1.1.0.rows)
+    all_shown tally_part all_text names order all_is.0 all_is.1 all_is.2 (λ db. refl) (λ trees r. refl) (λ trees r. refl) tallies_rise (λ content trees kept. kept.1.1.1.1.1.1.1.1.1.0.rows)
     g.S.Store c.args.conn.now c.query_all.new.self c.query_all.result c.query_all.ensures.ok c.query_all.ensures.survives c.query_all.ensures.mode

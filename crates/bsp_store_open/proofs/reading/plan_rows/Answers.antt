@@ -10,13 +10,15 @@ returns-clause-found g c =
     let three = both g.S.Store _ _ _ _ _ two c.in_ok-airlines.ensures.found in
     let four = both g.S.Store _ _ _ _ _ three c.in_ok-rates.ensures.found in
     let five = both g.S.Store _ _ _ _ _ four c.in_ok-periods.ensures.found in
+    let six = both g.S.Store _ _ _ _ _ five c.in_ok-commission_taxes.ensures.found in
     weaker g.S.Store _ _ _ _ (λ trees found. record {
-      meta = found.0.0.0.0;
-      terms = found.0.0.0.1;
-      airlines = found.0.0.1;
-      rates = found.0.1;
-      periods = found.1;
-    }) five
+      meta = found.0.0.0.0.0;
+      terms = found.0.0.0.0.1;
+      airlines = found.0.0.0.1;
+      rates = found.0.0.1;
+      periods = found.0.1;
+      commission_taxes = found.1;
+    }) six
 
 pub returns-in_err-meta-clause-refused : goal.returns-in_err-meta-clause-refused
 returns-in_err-meta-clause-refused g c = passed_on (λ fault. is_refusal fault ≡ true → HasNoBook g.S.Store fault c.args.conn.now c.meta.new.conn) _ _ c.from_residual.ensures.1 c.in_err-meta.ensures.refused
@@ -42,6 +44,14 @@ returns-in_err-periods-clause-refused g c =
     let three = both g.S.Store _ _ _ _ _ two c.in_ok-airlines.ensures.found in
     let four = both g.S.Store _ _ _ _ _ three c.in_ok-rates.ensures.found in
     passed_on (λ fault. is_refusal fault ≡ true → HasNoBook g.S.Store fault c.args.conn.now c.periods.new.conn) _ _ c.from_residual-in_err-periods.ensures.1 (λ refused. no_book_before g.S.Store _ _ _ _ four c.in_err-periods.ensures.spares (c.in_err-periods.ensures.refused refused))
+
+pub returns-in_err-commission_taxes-clause-refused : goal.returns-in_err-commission_taxes-clause-refused
+returns-in_err-commission_taxes-clause-refused g c =
+    let two = both g.S.Store _ _ _ _ _ c.in_ok-meta.ensures.found c.in_ok-terms.ensures.found in
+    let three = both g.S.Store _ _ _ _ _ two c.in_ok-airlines.ensures.found in
+    let four = both g.S.Store _ _ _ _ _ three c.in_ok-rates.ensures.found in
+    let five = both g.S.Store _ _ _ _ _ four c.in_ok-periods.ensures.found in
+    passed_on (λ fault. is_refusal fault ≡ true → HasNoBook g.S.Store fault c.args.conn.now c.commission_taxes.new.conn) _ _ c.from_residual-in_err-commission_taxes.ensures.1 (λ refused. no_book_before g.S.Store _ _ _ _ five c.in_err-commission_taxes.ensures.spares (c.in_err-commission_taxes.ensures.refused refused))
 
 pub returns-in_err-expect_version-clause-refused : goal.returns-in_err-expect_version-clause-refused
 returns-in_err-expect_version-clause-refused g c = passed_on (λ fault. is_refusal fault ≡ true → HasNoBook g.S.Store fault c.args.conn.now c.meta.new.conn) _ _ c.from_residual-in_err-expect_version.ensures.1

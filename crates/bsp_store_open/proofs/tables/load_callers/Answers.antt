@@ -1,47 +1,33 @@
 use Rattle.std.proofs.Common.{◌≡◌, true, None}
-use Rattle.bsp_store_load.proofs.CallerLoaders.{agents_loader, airlines_loader, ranges_loader}
+use Rattle.bsp_store_load.proofs.CallerLoaders.{agents_loader, ranges_loader}
 use Rattle.bsp_store_load.proofs.Loaders.{Leaves, Loads}
 use Rattle.bsp_store_load.specs.MemoryRowsTables.{rows_of}
 use Rattle.bsp_store_open.specs.Faults.{is_refusal}
-use Rattle.bsp_store_open.specs.Loaded.{HasNoCallers, NoCallers}
+use Rattle.bsp_store_open.specs.Loaded.{HasNoCallers, NoFormed}
 use Rattle.bsp_store_open.specs.Opening.{Misses}
-use Rattle.bsp_store_open.proofs.LoadedLemmas.{callers_loaded, no_agents_loaded, no_airlines_loaded, no_ranges_loaded}
+use Rattle.bsp_store_open.proofs.LoadedLemmas.{callers_loaded, no_agents_loaded, no_ranges_loaded}
 use Rattle.bsp_store_open.proofs.OpeningLemmas.{both, if_err, missed_after, misses_more, on_ok, passed_on, weaker}
 use Rattle.bsp_store_open.proofs.tables.load_callers.Goals as goal
 
 pub returns-in_err-load-clause-missed : goal.returns-in_err-load-clause-missed
 returns-in_err-load-clause-missed g c =
     let zero = rows_of c.args.tables.now in
-    let one = rows_of c.load.new.tables in
-    passed_on (λ fault. is_refusal fault ≡ true → Misses g.S.Store c.args.conn.now c.load.new.conn (λ trees. HasNoCallers zero → NoCallers trees)) _ _ c.from_residual.ensures.1
-    (λ refused. misses_more g.S.Store c.args.conn.now c.load.new.conn (λ trees. Leaves agents_loader trees zero one) (λ trees. HasNoCallers zero → NoCallers trees) (c.in_err-load.ensures.missed refused) (λ trees loaded none. no_agents_loaded trees zero one one one none loaded))
-
-pub returns-in_err-load-2-clause-missed : goal.returns-in_err-load-2-clause-missed
-returns-in_err-load-2-clause-missed g c =
-    let zero = rows_of c.args.tables.now in
-    let one = rows_of c.load.new.tables in
-    let two = rows_of c.load-2.new.tables in
-    passed_on (λ fault. is_refusal fault ≡ true → Misses g.S.Store c.args.conn.now c.load-2.new.conn (λ trees. HasNoCallers zero → NoCallers trees)) _ _ c.from_residual-in_err-load-2.ensures.1
-    (λ refused. misses_more g.S.Store c.args.conn.now c.load-2.new.conn (λ trees. Loads agents_loader trees zero one None × Leaves airlines_loader trees one two) (λ trees. HasNoCallers zero → NoCallers trees)
-    (missed_after g.S.Store c.args.conn.now c.load.new.conn c.load-2.new.conn (λ trees. Loads agents_loader trees zero one None) (λ trees. Leaves airlines_loader trees one two) c.in_ok-load.ensures.found c.in_err-load-2.ensures.spares (c.in_err-load-2.ensures.missed refused))
-    (λ trees found none. no_airlines_loaded trees zero one two two none found.0 found.1))
+    let one = rows_of c.load.new.memory in
+    passed_on (λ fault. is_refusal fault ≡ true → Misses g.S.Store c.args.conn.now c.load.new.conn (λ trees. HasNoCallers zero → NoFormed trees)) _ _ c.from_residual.ensures.1
+    (λ refused. misses_more g.S.Store c.args.conn.now c.load.new.conn (λ trees. Leaves agents_loader trees zero one) (λ trees. HasNoCallers zero → NoFormed trees) (c.in_err-load.ensures.missed refused) (λ trees loaded none. no_agents_loaded trees zero one one none loaded))
 
 pub returns-clause-found : goal.returns-clause-found
 returns-clause-found g c =
     let zero = rows_of c.args.tables.now in
-    let one = rows_of c.load.new.tables in
-    let two = rows_of c.load-2.new.tables in
-    let three = rows_of c.load-3.new.tables in
-    let first = both g.S.Store _ _ _ _ _ c.in_ok-load.ensures.found c.in_ok-load-2.ensures.found in
-    on_ok _ _ c.load-3.result c.load-3.ensures.found (λ last. weaker g.S.Store _ _ _ _ (λ trees found none. callers_loaded trees zero one two three none found.0.0 found.0.1 found.1) (both g.S.Store _ _ _ _ _ first last))
+    let one = rows_of c.load.new.memory in
+    let two = rows_of c.load-2.new.memory in
+    on_ok _ _ c.load-2.result c.load-2.ensures.found (λ last. weaker g.S.Store _ _ _ _ (λ trees found none. callers_loaded trees zero one two none found.0 found.1) (both g.S.Store _ _ _ _ _ c.in_ok-load.ensures.found last))
 
 pub returns-clause-missed : goal.returns-clause-missed
 returns-clause-missed g c =
     let zero = rows_of c.args.tables.now in
-    let one = rows_of c.load.new.tables in
-    let two = rows_of c.load-2.new.tables in
-    let three = rows_of c.load-3.new.tables in
-    let first = both g.S.Store _ _ _ _ _ c.in_ok-load.ensures.found c.in_ok-load-2.ensures.found in
-    if_err _ _ c.load-3.result c.load-3.ensures.missed (λ fault missed refused.
-    misses_more g.S.Store c.args.conn.now c.load-3.new.conn (λ trees. (Loads agents_loader trees zero one None × Loads airlines_loader trees one two None) × Leaves ranges_loader trees two three) (λ trees. HasNoCallers zero → NoCallers trees)
-    (missed_after g.S.Store c.args.conn.now c.load-2.new.conn c.load-3.new.conn (λ trees. Loads agents_loader trees zero one None × Loads airlines_loader trees one two None) (λ trees. Leaves ranges_loader trees two three) first c.load-3.ensures.spares (missed refused)) (λ trees found none. no_ranges_loaded trees zero one two three none found.0.0 found.0.1 found.1))
+    let one = rows_of c.load.new.memory in
+    let two = rows_of c.load-2.new.memory in
+    if_err _ _ c.load-2.result c.load-2.ensures.missed (λ fault missed refused.
+    misses_more g.S.Store c.args.conn.now c.load-2.new.conn (λ trees. Loads agents_loader trees zero one None × Leaves ranges_loader trees one two) (λ trees. HasNoCallers zero → NoFormed trees)
+    (missed_after g.S.Store c.args.conn.now c.load.new.conn c.load-2.new.conn (λ trees. Loads agents_loader trees zero one None) (λ trees. Leaves ranges_loader trees one two) c.in_ok-load.ensures.found c.load-2.ensures.spares (missed refused)) (λ trees found none. no_ranges_loaded trees zero one two none found.0 found.1))

@@ -16,7 +16,7 @@ returns-in_err-rows-clause-refused g c = passed_on (λ fault. is_refusal fault �
 pub returns-in_default-clause-refused : goal.returns-in_default-clause-refused
 returns-in_default-clause-refused g c = λ refused clean ours.
     no_plan _ c.in_ok-rows.rows (c.in_ok-rows.ensures.found.found clean) c.in_ok-rows.ensures.version
-    (λ p sound formed are. subst (λ o. IsSomeAnd o (λ (t : Tables). rows_of t ≡ record no_rows { published = p })) c.in_default.is (c.in_ok-tables.ensures.plan p sound formed are))
+    (λ p tokens sound formed are. subst (λ o. IsSomeAnd o (λ (t : Tables). rows_of t ≡ record no_rows { published = p; airlines = tokens })) c.in_default.is (c.in_ok-tables.ensures.plan p tokens sound formed are))
 
 pub returns-clause-found : goal.returns-clause-found
 returns-clause-found g c =
@@ -24,7 +24,7 @@ returns-clause-found g c =
       stored = c.in_ok-rows.rows;
       are = are;
       version = c.in_ok-rows.ensures.version;
-      of = subst (λ o. IfSome o (λ (t : Tables). AreRowsOfPlan (rows_of t).published c.in_ok-rows.rows)) c.in-Some.is c.in_ok-tables.ensures.rows;
-      alone = subst (λ o. IfSome o (λ (t : Tables). rows_of t ≡ record no_rows { published = (rows_of t).published })) c.in-Some.is c.in_ok-tables.ensures.alone;
-      only = λ p sound formed rows. subst (λ o. IsSomeAnd o (λ (t : Tables). rows_of t ≡ record no_rows { published = p })) c.in-Some.is (c.in_ok-tables.ensures.plan p sound formed rows);
+      of = subst (λ o. IfSome o (λ (t : Tables). AreRowsOfPlan (rows_of t).published (rows_of t).airlines c.in_ok-rows.rows)) c.in-Some.is c.in_ok-tables.ensures.rows;
+      alone = subst (λ o. IfSome o (λ (t : Tables). rows_of t ≡ record no_rows { published = (rows_of t).published; airlines = (rows_of t).airlines })) c.in-Some.is c.in_ok-tables.ensures.alone;
+      only = λ p tokens sound formed rows. subst (λ o. IsSomeAnd o (λ (t : Tables). rows_of t ≡ record no_rows { published = p; airlines = tokens })) c.in-Some.is (c.in_ok-tables.ensures.plan p tokens sound formed rows);
     }) c.in_ok-rows.ensures.found

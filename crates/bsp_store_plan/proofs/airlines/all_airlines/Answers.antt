@@ -1,14 +1,11 @@
-use Rattle.std.proofs.Common.{refl, [], ◌∷◌}
-use Rattle.sqlite_sql.specs.Term.{col}
-use Rattle.sqlite_value.specs.Keys.{ascending}
-use Rattle.sqlite_value.specs.declared.keys.Collation.TheVariants.{Binary}
+use Rattle.std.proofs.Common.{refl}
 use Rattle.bsp_store_base.proofs.Opening.{all_shown}
-use Rattle.bsp_store_plan.proofs.AirlineTable.{all_text, names, all_is}
+use Rattle.bsp_store_plan.proofs.AirlineTable.{all_text, names, by_code, all_is}
 use Rattle.bsp_store_base.specs.Content.{airline_part}
 use Rattle.bsp_store_plan.proofs.Orders.{airlines_rise}
 use Rattle.bsp_store_plan.proofs.airlines.all_airlines.Goals as goal
 
 pub returns : goal.returns
 returns g c =
-    all_shown airline_part all_text names ((col 1 2, ascending Binary) ∷ []) all_is.0 all_is.1 all_is.2 (λ db. refl) (λ trees r. refl) (λ trees r. refl) airlines_rise (λ content trees kept. kept.1.1.0.rows)
+    all_shown airline_part all_text names by_code all_is.0 all_is.1 all_is.2 (λ db. refl) (λ trees r. refl) (λ trees r. refl) airlines_rise (λ content trees kept. kept.1.1.0.rows)
     g.S.Store c.args.conn.now c.query_all.new.self c.query_all.result c.query_all.ensures.ok c.query_all.ensures.survives c.query_all.ensures.mode

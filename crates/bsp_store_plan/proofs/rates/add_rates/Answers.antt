@@ -4,7 +4,7 @@ use Rattle.bsp_rows.specs.Rate.{Rate}
 use Rattle.bsp_store_base.specs.Kept.{HasContents, IsInside}
 use Rattle.bsp_store_base.specs.Content.{form}
 use Rattle.bsp_store_base.proofs.Writes.{on_err}
-use Rattle.bsp_store_plan.proofs.Sharing.{next_place, one_more}
+use Rattle.bsp_store_base.proofs.Placing.{next_place, one_more}
 use Rattle.bsp_store_plan.proofs.RateTable.{with}
 use Rattle.bsp_store_plan.proofs.rates.add_rates.Goals as goal
 

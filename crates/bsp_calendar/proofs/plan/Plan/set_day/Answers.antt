@@ -7,7 +7,7 @@ use Rattle.bsp_calendar.proofs.plan.Plan.set_day.Goals as goal
 pub invariant_of-self : goal.invariant_of-self
 invariant_of-self c =
     let i = c.self.inside in
-    let p = plan_of i.terms i.lists.airlines i.lists.rates i.lists.periods i.day i.closed in
+    let p = plan_of i.terms i.lists.airlines i.lists.rates i.lists.periods i.lists.commission_taxes i.day i.closed in
     let early : is_before c.args.day i.day ≡ false = sym c.if-is_before.ensures in
     record {
       within = c.self.invariant.within;

@@ -10,4 +10,4 @@ returns c =
     let y = c.args.other in
     let one = c.requires.small in
     let other = c.requires.also_small in
-    rw (added x.cash y.cash one.cash other.cash, added x.credit y.credit one.credit other.credit, added x.commission y.commission one.commission other.commission) refl
+    rw (added x.cash y.cash one.cash other.cash, added x.credit y.credit one.credit other.credit, added x.commission y.commission one.commission other.commission, added x.tax y.tax one.tax other.tax) refl

@@ -1,0 +1,120 @@
+-- The map of the airlines: what is at each of them, and what one more publication or another token makes of it.
+use Rattle.std.proofs.Common.{◌≡◌, ℕ, ◌+◌, ◌<◌, ◌==◌, Bool, true, false, cond, List, [], ◌∷◌, ◌++◌, map, length, take, get_or, refl, sym, ap, ◌∙◌, arith}
+use Rattle.std.specs.Prelude.{Option, Some, None}
+use Rattle.std.specs.Option.{option_or}
+use Rattle.std.specs.Ordering.{eq_by_cmp, nat_cmp}
+use Rattle.std.specs.Cmp.{Equal-is, nat_cmp_total, unsigned_tied}
+use Rattle.std.specs.FinMap.{FinMap, entries, find, get, get-entries, get-from_entries, get-insert, insert, nat_cmp-IsAntisymmetric, same_map}
+use Rattle.std.proofs.lemmas.Bool.{eqb-true}
+use Rattle.std.proofs.lemmas.List.{length-take-le}
+use Rattle.bsp_store_base.specs.declared.airlines.AirlineEntry.{AirlineEntry}
+use Rattle.bsp_store_base.specs.Airlines.{airline_entries, entry_of, place_among, place_of, published_at, registered, unplaced, with_published}
+use Rattle.bsp_store_base.specs.Columns.{placed}
+use Rattle.bsp_store_base.specs.Synced.{with_value}
+use Rattle.bsp_store_base.proofs.Placing.{one_more, placed_next}
+use Rattle.bsp_store_base.proofs.Syncing.{get-with_value}
+
+-- ---- places
+
+first_of : (b : Bool) (n : ℕ) (x y : Option ℕ) → option_or (cond b (Some n) x) y ≡ cond b (Some n) (option_or x y)
+first_of true n x y = refl
+first_of false n x y = refl
+
+place_among-last : (a : ℕ) (es : List (ℕ × ℕ)) (e : ℕ × ℕ) → place_among a (es ++ e ∷ []) ≡ cond (a == e.1) (Some e.0) (place_among a es)
+place_among-last a [] e = refl
+place_among-last a (d ∷ es) e =
+    let own : Option ℕ = cond (a == d.1) (Some d.0) None in
+    ap (λ o. option_or o own) (place_among-last a es e) ∙ first_of (a == e.1) e.0 (place_among a es) own
+
+pub place_of-next : (a : ℕ) (ps : List ℕ) (p : ℕ) → place_of a (ps ++ p ∷ []) ≡ cond (a == p) (Some (length ps + 1)) (place_of a ps)
+place_of-next a ps p = ap (place_among a) (placed_next ps p) ∙ place_among-last a (placed 0 ps) (length ps + 1, p)
+
+-- the place among one more of a list
+pub place_taken : (a : ℕ) (ps : List ℕ) (i p : ℕ) → i < length ps → p ≡ get_or ps i p → place_of a (take (i + 1) ps) ≡ cond (a == p) (Some (i + 1)) (place_of a (take i ps))
+place_taken a ps i p below is =
+    ap (place_of a) (sym (one_more ps i p below is)) ∙ place_of-next a (take i ps) p
+    ∙ ap (λ (n : ℕ). cond (a == p) (Some (n + 1)) (place_of a (take i ps))) (length-take-le i ps (omega arith))
+
+-- ---- what is at an airline
+
+without_place : (b : Bool) (token : List ℕ) (o : Option (List ℕ)) → cond b (Some (record { place = None; token = Some token })) (entry_of None o) ≡ entry_of None (cond b (Some token) o)
+without_place true token o = refl
+without_place false token o = refl
+
+-- an airline at a place, and else what was there
+abbrev over : Option ℕ → Option (List ℕ) → Option AirlineEntry → Option AirlineEntry
+over None token old = old
+over (Some place) token old = Some (record { place = Some place; token = token })
+
+over_step : (b : Bool) (at : Option ℕ) (place : ℕ) (own token : Option (List ℕ)) (old : Option AirlineEntry) → (b ≡ true → own ≡ token)
+    → over at token (cond b (Some (record { place = Some place; token = own })) old) ≡ over (option_or at (cond b (Some place) None)) token old
+over_step b (Some p) place own token old same = refl
+over_step true None place own token old same = ap (λ (t : Option (List ℕ)). over (Some place) t None) (same refl)
+over_step false None place own token old same = refl
+
+over_registered : (at : Option ℕ) (token : Option (List ℕ)) → over at token (entry_of None token) ≡ entry_of at token
+over_registered None token = refl
+over_registered (Some place) token = refl
+
+module _ (tokens : FinMap nat_cmp (List ℕ)) where
+  find-unplaced : (q : ℕ) (es : List (ℕ × List ℕ)) → find nat_cmp q (map unplaced es) ≡ entry_of None (find nat_cmp q es)
+  find-unplaced q [] = refl
+  find-unplaced q (e ∷ es) =
+      ap (cond (eq_by_cmp nat_cmp q e.0) (Some (record { place = None; token = Some e.1 }))) (find-unplaced q es)
+      ∙ without_place (eq_by_cmp nat_cmp q e.0) e.1 (find nat_cmp q es)
+
+  get-registered : (q : ℕ) → get (registered tokens) q ≡ entry_of None (get tokens q)
+  get-registered q =
+      get-from_entries nat_cmp_total (map unplaced (entries tokens)) q ∙ find-unplaced q (entries tokens) ∙ ap (entry_of None) (sym (get-entries tokens q))
+
+  get-with_published : (q : ℕ) (es : List (ℕ × ℕ)) (m : FinMap nat_cmp AirlineEntry) → get (with_published tokens es m) q ≡ over (place_among q es) (get tokens q) (get m q)
+  get-with_published q [] m = refl
+  get-with_published q (e ∷ es) m =
+      get-with_published q es (insert m e.1 (published_at tokens e))
+      ∙ ap (over (place_among q es) (get tokens q)) (get-insert nat_cmp_total m e.1 (published_at tokens e) q ∙ ap (λ b. cond b (Some (published_at tokens e)) (get m q)) (unsigned_tied q e.1))
+      ∙ over_step (q == e.1) (place_among q es) e.0 (get tokens e.1) (get tokens q) (get m q) (λ tie. ap (get tokens) (sym (eqb-true q e.1 tie)))
+
+  -- nothing where it is neither published nor registered
+  pub get-airline_entries : (ps : List ℕ) (q : ℕ) → get (airline_entries ps tokens) q ≡ entry_of (place_of q ps) (get tokens q)
+  unfolding airline_entries
+  get-airline_entries ps q =
+      get-with_published q (placed 0 ps) (registered tokens) ∙ ap (over (place_of q ps) (get tokens q)) (get-registered q)
+      ∙ over_registered (place_of q ps) (get tokens q)
+
+  -- ---- one airline more
+
+  with_published-last : (es : List (ℕ × ℕ)) (e : ℕ × ℕ) (m : FinMap nat_cmp AirlineEntry) → with_published tokens (es ++ e ∷ []) m ≡ insert (with_published tokens es m) e.1 (published_at tokens e)
+  with_published-last [] e m = refl
+  with_published-last (d ∷ es) e m = with_published-last es e (insert m d.1 (published_at tokens d))
+
+  with_published-next : (ps : List ℕ) (p : ℕ) (m : FinMap nat_cmp AirlineEntry) → with_published tokens (placed 0 (ps ++ p ∷ [])) m ≡ insert (with_published tokens (placed 0 ps) m) p (published_at tokens (length ps + 1, p))
+  with_published-next ps p m = ap (λ es. with_published tokens es m) (placed_next ps p) ∙ with_published-last (placed 0 ps) (length ps + 1, p) m
+
+  -- one airline more of a list
+  pub with_published-taken : (ps : List ℕ) (i p : ℕ) (m : FinMap nat_cmp AirlineEntry) → i < length ps → p ≡ get_or ps i p
+      → with_published tokens (placed 0 (take (i + 1) ps)) m ≡ insert (with_published tokens (placed 0 (take i ps)) m) p (published_at tokens (i + 1, p))
+  with_published-taken ps i p m below is =
+      ap (λ l. with_published tokens (placed 0 l) m) (sym (one_more ps i p below is)) ∙ with_published-next (take i ps) p m
+      ∙ ap (λ (n : ℕ). insert (with_published tokens (placed 0 (take i ps)) m) p (published_at tokens (n + 1, p))) (length-take-le i ps (omega arith))
+
+  pub airline_entries-taken : (ps : List ℕ) (i p : ℕ) → i < length ps → p ≡ get_or ps i p
+      → airline_entries (take (i + 1) ps) tokens ≡ insert (airline_entries (take i ps) tokens) p (record { place = Some (i + 1); token = get tokens p })
+  unfolding airline_entries
+  airline_entries-taken ps i p below is = with_published-taken ps i p (registered tokens) below is
+
+  pub airline_entries-next : (ps : List ℕ) (p : ℕ) → airline_entries (ps ++ p ∷ []) tokens ≡ insert (airline_entries ps tokens) p (record { place = Some (length ps + 1); token = get tokens p })
+  unfolding airline_entries
+  airline_entries-next ps p = with_published-next ps p (registered tokens)
+
+-- ---- another token
+
+pub airline_entries-token : (ps : List ℕ) (tokens : FinMap nat_cmp (List ℕ)) (k : ℕ) (token : Option (List ℕ))
+    → airline_entries ps (with_value k token tokens) ≡ with_value k (entry_of (place_of k ps) token) (airline_entries ps tokens)
+airline_entries-token ps tokens k token = same_map nat_cmp_total nat_cmp-IsAntisymmetric _ _ (λ q.
+    get-airline_entries (with_value k token tokens) ps q ∙ ap (entry_of (place_of q ps)) (get-with_value nat_cmp_total k token tokens q)
+    ∙ at (eq_by_cmp nat_cmp q k) q refl
+    ∙ sym (get-with_value nat_cmp_total k (entry_of (place_of k ps) token) (airline_entries ps tokens) q ∙ ap (cond (eq_by_cmp nat_cmp q k) (entry_of (place_of k ps) token)) (get-airline_entries tokens ps q)))
+  where
+    at : (b : Bool) (q : ℕ) → eq_by_cmp nat_cmp q k ≡ b → entry_of (place_of q ps) (cond b token (get tokens q)) ≡ cond b (entry_of (place_of k ps) token) (entry_of (place_of q ps) (get tokens q))
+    at true q tie = ap (λ (x : ℕ). entry_of (place_of x ps) token) (nat_cmp-IsAntisymmetric q k ((Equal-is (nat_cmp q k)).0 tie))
+    at false q tie = refl

@@ -1,0 +1,52 @@
+-- The tables beside that of items, as maps of their own.
+use Rattle.std.proofs.Common.{◌≡◌, refl, sym}
+use Rattle.std.specs.Prelude.{None}
+use Rattle.std.specs.FinMap.{FinMap, get, insert}
+use Rattle.bsp_rows.specs.ReportedDocument.{ReportedDocument}
+use Rattle.bsp_rows.specs.Rows.{item_cmp}
+use Rattle.bsp_rows.specs.declared.keys.ItemKey.{ItemKey}
+use Rattle.bsp_rows.proofs.KeyOrders.{item_total}
+use Rattle.bsp_store_base.specs.Columns.{second_row, tax_row}
+use Rattle.bsp_store_base.specs.Content.{item_tax_part, second_part}
+use Rattle.bsp_store_base.specs.Forms.{IsTaxEntry}
+use Rattle.bsp_store_base.specs.Seconds.{ticket_cmp}
+use Rattle.bsp_store_base.specs.declared.taxes.ItemTax.{ItemTax}
+use Rattle.bsp_store_base.specs.declared.tickets.TicketKey.{TicketKey}
+use Rattle.bsp_store_base.proofs.SecondLemmas.{ticket_total}
+use Rattle.bsp_store_load.specs.Beside.{IsSecond, taxes_of}
+use Rattle.bsp_store_load.proofs.BesideLemmas.{tax_rows}
+use Rattle.bsp_store_load.proofs.Loaders.{Loader}
+
+abbrev pub taxes_loader : Loader ItemKey ItemTax (FinMap item_cmp ItemTax) item_cmp IsTaxEntry (λ e taxes. get taxes e.0 ≡ None)
+taxes_loader = record {
+  total = item_total;
+  part = item_tax_part;
+  row_of = tax_row;
+  step = λ e taxes. insert taxes e.0 e.1;
+  of = λ taxes. taxes;
+  with = λ m taxes. m;
+  in_content = λ c. taxes_of c.item_taxes;
+  steps = λ e taxes fit. refl;
+  free = λ e taxes fit none. none;
+  alone = λ e taxes. refl;
+  with_of = λ taxes. refl;
+  with_with = λ m n taxes. refl;
+  rows_are = λ c. sym (tax_rows c.item_taxes);
+}
+
+abbrev pub seconds_loader : Loader TicketKey ReportedDocument (FinMap ticket_cmp ReportedDocument) ticket_cmp IsSecond (λ e seconds. get seconds e.0 ≡ None)
+seconds_loader = record {
+  total = ticket_total;
+  part = second_part;
+  row_of = second_row;
+  step = λ e seconds. insert seconds e.0 e.1;
+  of = λ seconds. seconds;
+  with = λ m seconds. m;
+  in_content = λ c. c.seconds;
+  steps = λ e seconds fit. refl;
+  free = λ e seconds fit none. none;
+  alone = λ e seconds. refl;
+  with_of = λ seconds. refl;
+  with_with = λ m n seconds. refl;
+  rows_are = λ c. refl;
+}

@@ -1,0 +1,23 @@
+use Rattle.std.proofs.Common.{map, sym, ap, ◌∙◌, nat_cmp}
+use Rattle.std.specs.Cmp.{nat_cmp_total}
+use Rattle.std.specs.FinMap.{from_entries, nat_cmp-IsAntisymmetric}
+use Rattle.std.specs.Map.Iter.{deref_pair}
+use Rattle.std.proofs.lemmas.Map.Iter.{rest_all, rest_more}
+use Rattle.bsp_maps.proofs.UndoLemmas.{written}
+use Rattle.bsp_store_base.specs.Airlines.{unplaced}
+use Rattle.bsp_store_load.proofs.AirlineMap.{registered_all}
+use Rattle.bsp_store_load.proofs.PutLemmas.{inserted}
+use Rattle.bsp_store_load.proofs.airline_map.registered.Goals as goal
+
+pub loop-code-preserved : goal.loop-code-preserved
+loop-code-preserved c =
+    let made = from_entries {R = nat_cmp} c.loop-code.airlines.entries in
+    let more = rest_more deref_pair c.loop-code.code-iterator c.next.new.self c.next.result (c.in-Some.code, c.in-Some.token) c.in-Some.is c.next.ensures.steps in
+    ap (λ m. inserted m (map unplaced c.next.new.self)) (written nat_cmp_total nat_cmp-IsAntisymmetric c.loop-code.airlines c.insert.new.self _ _ c.in_ok-insert.ensures.updates.0)
+    ∙ ap (λ l. inserted made (map unplaced l)) (sym more) ∙ c.loop-code.invariant
+
+pub returns : goal.returns
+returns c =
+    let made = from_entries {R = nat_cmp} c.loop-code.airlines.entries in
+    ap (λ l. inserted made (map unplaced l)) (sym (rest_all deref_pair c.loop-code.code-iterator c.next.new.self c.next.result c.in-None.is c.next.ensures.steps))
+    ∙ c.loop-code.invariant ∙ registered_all c.args.tokens.now.entries c.len-count.ensures.ordered

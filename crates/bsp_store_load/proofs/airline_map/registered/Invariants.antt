@@ -1,0 +1,8 @@
+use Rattle.std.proofs.Common.{◌≡◌, map, nat_cmp}
+use Rattle.std.specs.FinMap.{empty, from_entries}
+use Rattle.bsp_store_base.specs.Airlines.{unplaced}
+use Rattle.bsp_store_load.proofs.PutLemmas.{inserted}
+use Rattle.bsp_store_load.proofs.airline_map.registered.Given as goal
+
+abbrev pub invariant-loop-code : goal.invariant-loop-code
+invariant-loop-code l = inserted (from_entries {R = nat_cmp} l.airlines.entries) (map unplaced l.code-iterator) ≡ inserted empty (map unplaced l.tokens.entries)

@@ -1,0 +1,42 @@
+use Rattle.std.proofs.Common.{◌≡◌, ℕ, refl, sym, ap, ◌∙◌}
+use Rattle.std.specs.FinMap.{get}
+use Rattle.bsp_rows.specs.Rows.{range_of}
+use Rattle.bsp_rows.specs.Writes.{with_range}
+use Rattle.bsp_rows.specs.declared.keys.RangeKey.{RangeKey}
+use Rattle.bsp_memory_rows.specs.Tables.{rows_of}
+use Rattle.bsp_memory_tables.specs.RangeTables.{range_rows}
+use Rattle.bsp_store_base.specs.Columns.{stock_row}
+use Rattle.bsp_store_load.specs.Entries.{has_real}
+use Rattle.bsp_store_load.proofs.RangeReads.{range_is}
+use Rattle.bsp_store_load.proofs.RowReads.{found_none, none_found, not_none, own_is, own_row}
+use Rattle.bsp_store_load.proofs.callers.RangesStoredTableRangeKeyDocNumberTables.put.Goals as goal
+
+pub returns-in_default-clause-entry : goal.returns-in_default-clause-entry
+returns-in_default-clause-entry c = λ e fits lacks is. absurd (not_none stock_row c.args.row.now c.read_range.result e (range_is c.args.row.now c.read_range.result e c.read_range.ensures fits is) c.in_default.is)
+
+pub returns-then-not-is_row-clause-entry : goal.returns-then-not-is_row-clause-entry
+returns-then-not-is_row-clause-entry c = λ e fits lacks is.
+    let some = range_is c.args.row.now c.read_range.result e c.read_range.ensures fits is in
+    let own = own_row stock_row c.args.row.now c.read_range.result e some (c.in-Some.key, c.in-Some.last) c.in-Some.is is in
+    let fine = c.is_row.ensures.whole (own ∙ sym c.of.ensures ∙ sym c.values.ensures) (ap has_real is) in
+    absurd (cc (fine, c.if-not-is_row.true))
+
+pub returns-then-is_some-clause-entry : goal.returns-then-is_some-clause-entry
+returns-then-is_some-clause-entry c = λ e fits lacks is.
+    let some = range_is c.args.row.now c.read_range.result e c.read_range.ensures fits is in
+    let same = own_is stock_row c.args.row.now c.read_range.result e some (c.in-Some.key, c.in-Some.last) c.in-Some.is in
+    absurd (none_found c.get.result c.is_some.result c.is_some.ensures c.if-is_some.true
+    (c.get.ensures ∙ ap (λ t. get (range_rows t) c.in-Some.key) c.range_table.ensures ∙ ap (λ (p : RangeKey × ℕ). get (rows_of c.args.tables.now).ranges p.0) same ∙ lacks))
+
+pub returns-clause-row : goal.returns-clause-row
+returns-clause-row c = λ t.
+    let row_is = c.is_row.ensures.same c.if-not-is_row.false ∙ c.values.ensures ∙ c.of.ensures in
+    let none = found_none c.get.result c.is_some.result c.is_some.ensures c.if-is_some.false in
+    let at : c.get.result ≡ get (rows_of c.args.tables.now).ranges c.in-Some.key = c.get.ensures ∙ ap (λ t. get (range_rows t) c.in-Some.key) c.range_table.ensures in
+    ((c.in-Some.key, c.in-Some.last), row_is, sym at ∙ none, c.commit.ensures.rows ∙ c.in_ok-add_range.ensures.ok ∙ ap (λ r. with_range c.in-Some.key.agent r (rows_of c.args.tables.now)) c.up_to.ensures)
+
+pub returns-clause-entry : goal.returns-clause-entry
+returns-clause-entry c = λ e fits lacks is.
+    let some = range_is c.args.row.now c.read_range.result e c.read_range.ensures fits is in
+    let same = own_is stock_row c.args.row.now c.read_range.result e some (c.in-Some.key, c.in-Some.last) c.in-Some.is in
+    (refl, c.commit.ensures.rows ∙ c.in_ok-add_range.ensures.ok ∙ ap (λ r. with_range c.in-Some.key.agent r (rows_of c.args.tables.now)) c.up_to.ensures ∙ ap (λ (p : RangeKey × ℕ). with_range p.0.agent (range_of p) (rows_of c.args.tables.now)) same)

@@ -1,0 +1,35 @@
+use Rattle.std.proofs.Common.{sym, ap, ◌∙◌}
+use Rattle.std.specs.FinMap.{from_entries, get, insert}
+use Rattle.bsp_rows.specs.Rows.{item_cmp}
+use Rattle.bsp_rows.specs.declared.keys.ItemKey.{ItemKey}
+use Rattle.bsp_store_base.specs.declared.taxes.ItemTax.{ItemTax}
+use Rattle.bsp_store_base.specs.Columns.{tax_row}
+use Rattle.bsp_store_taxes.specs.Reading.{item_tax_in}
+use Rattle.bsp_store_taxes.proofs.Back.{item_tax_back}
+use Rattle.bsp_store_load.specs.Entries.{has_real}
+use Rattle.bsp_store_load.proofs.EntryLemmas.{none_there, put_told}
+use Rattle.bsp_store_load.proofs.RowReads.{not_none, own_is, own_row}
+use Rattle.bsp_store_load.proofs.item_taxes.StoredTaxesStoredTableItemKeyItemTaxBTreeMapItemKeyItemTax.put.Goals as goal
+
+pub returns-in_default-clause-entry : goal.returns-in_default-clause-entry
+returns-in_default-clause-entry c = λ e fits lacks is. absurd (not_none tax_row c.args.row.now c.read_item_tax.result e (c.read_item_tax.ensures ∙ ap item_tax_in is ∙ item_tax_back e fits) c.in_default.is)
+
+pub returns-then-not-is_row-clause-entry : goal.returns-then-not-is_row-clause-entry
+returns-then-not-is_row-clause-entry c = λ e fits lacks is.
+    let some = c.read_item_tax.ensures ∙ ap item_tax_in is ∙ item_tax_back e fits in
+    let own = own_row tax_row c.args.row.now c.read_item_tax.result e some (c.in-Some.key, c.in-Some.tax) c.in-Some.is is in
+    let fine = c.is_row.ensures.whole (own ∙ sym c.of.ensures ∙ sym c.values.ensures) (ap has_real is) in
+    absurd (cc (fine, c.if-not-is_row.true))
+
+pub returns-clause-row : goal.returns-clause-row
+returns-clause-row c = λ done.
+    let row_is = c.is_row.ensures.same c.if-not-is_row.false ∙ c.values.ensures ∙ c.of.ensures in
+    ((c.in-Some.key, c.in-Some.tax), row_is, none_there _ _ c.in_ok-put_new.ensures.there done, c.in_ok-put_new.ensures.put done)
+
+pub returns-clause-entry : goal.returns-clause-entry
+returns-clause-entry c = λ e fits lacks is.
+    let all = from_entries {R = item_cmp} c.args.taxes.now.entries in
+    let some = c.read_item_tax.ensures ∙ ap item_tax_in is ∙ item_tax_back e fits in
+    let same = own_is tax_row c.args.row.now c.read_item_tax.result e some (c.in-Some.key, c.in-Some.tax) c.in-Some.is in
+    let put = put_told _ _ c.in_ok-put_new.ensures.there (ap (λ (p : ItemKey × ItemTax). get all p.0) same ∙ lacks) in
+    (put, c.in_ok-put_new.ensures.put put ∙ ap (λ (p : ItemKey × ItemTax). insert all p.0 p.1) same)

@@ -1,0 +1,14 @@
+use Rattle.std.proofs.Common.{sym, ap, ◌∙◌}
+use Rattle.std.specs.Prelude.{option_and_then}
+use Rattle.std.specs.FinMap.{from_entries, get}
+use Rattle.bsp_maps.proofs.UndoLemmas.{found}
+use Rattle.bsp_store_base.specs.Seconds.{ticket_cmp}
+use Rattle.bsp_store_base.specs.declared.tickets.TicketKey.{TicketKey}
+use Rattle.bsp_store_base.proofs.SecondLemmas.{ticket_total}
+use Rattle.bsp_store_load.proofs.items.StoredItems.second_at.Goals as goal
+
+pub returns : goal.returns
+returns c =
+    let seconds = from_entries {R = ticket_cmp} c.args.self.now.seconds.now.entries in
+    c.copied.ensures ∙ c.get.ensures.value ∙ sym (found ticket_total c.args.self.now.seconds.now.entries c.in_ok-ticket.ticket)
+    ∙ ap (option_and_then (λ (t : TicketKey). get seconds t)) (sym c.in_ok-ticket.was ∙ c.of.ensures)

@@ -1,0 +1,44 @@
+use Rattle.std.proofs.Common.{rules, ◌≡◌, refl, sym, ap, ◌∙◌}
+use Rattle.std.specs.FinMap.{get}
+use Rattle.sqlite.specs.Values.{bound}
+use Rattle.bsp_rows.specs.Rows.{memo_key}
+use Rattle.bsp_rows.specs.Writes.{with_memo}
+use Rattle.bsp_memory_rows.specs.Tables.{rows_of}
+use Rattle.bsp_store_base.specs.Columns.{memo_row}
+use Rattle.bsp_store_load.specs.Entries.{has_real}
+use Rattle.bsp_store_load.proofs.MemoReads.{memo_none, memo_same}
+use Rattle.bsp_store_load.proofs.PlainRows.{plain_memo}
+use Rattle.bsp_store_load.proofs.RowReads.{found_none, none_found}
+use Rattle.bsp_store_load.proofs.memos.StoredMemosStoredTableMemoKeyMemoTables.put.Goals as goal
+
+pub returns-in_default-clause-entry : goal.returns-in_default-clause-entry
+returns-in_default-clause-entry c = λ e fits lacks is. absurd (memo_none c.args.row.now c.read_memo.result e c.read_memo.ensures fits is c.in_default.is)
+
+pub returns-then-not-is_row-clause-entry : goal.returns-then-not-is_row-clause-entry
+returns-then-not-is_row-clause-entry c = λ e fits lacks is.
+    let same = memo_same c.args.row.now c.read_memo.result e c.read_memo.ensures fits is c.in-Some.field-0-0 c.in-Some.memo c.in-Some.is in
+    let key : c.of-key.result ≡ memo_key c.in-Some.memo = search rules in
+    let texts : bound c.values.result ≡ memo_row (c.of-key.result, c.in-Some.memo) = search rules in
+    let own : c.args.row.now ≡ memo_row (c.of-key.result, c.in-Some.memo) = is ∙ (λ i. memo_row (sym (key ∙ ap memo_key same ∙ lacks.0) i, sym same i)) in
+    let fine = c.is_row.ensures.whole (own ∙ sym texts) (ap has_real is ∙ plain_memo e) in
+    absurd (cc (fine, c.if-not-is_row.true))
+
+pub returns-then-is_some-clause-entry : goal.returns-then-is_some-clause-entry
+returns-then-is_some-clause-entry c = λ e fits lacks is.
+    let same = memo_same c.args.row.now c.read_memo.result e c.read_memo.ensures fits is c.in-Some.field-0-0 c.in-Some.memo c.in-Some.is in
+    let key : c.of-key.result ≡ memo_key c.in-Some.memo = search rules in
+    absurd (none_found c.memo.result c.is_some.result c.is_some.ensures c.if-is_some.true (c.memo.ensures ∙ ap (λ k. get (rows_of c.args.tables.now).memos k) (key ∙ ap memo_key same ∙ lacks.0) ∙ lacks.1))
+
+pub returns-clause-row : goal.returns-clause-row
+returns-clause-row c = λ t.
+    let key : c.of-key.result ≡ memo_key c.in-Some.memo = search rules in
+    let texts : bound c.values.result ≡ memo_row (c.of-key.result, c.in-Some.memo) = search rules in
+    let none = found_none c.memo.result c.is_some.result c.is_some.ensures c.if-is_some.false in
+    let put : rows_of c.put_memo.new.self ≡ with_memo c.in-Some.memo (rows_of c.args.tables.now) = search rules in
+    ((c.of-key.result, c.in-Some.memo), c.is_row.ensures.same c.if-not-is_row.false ∙ texts, (sym key, sym c.memo.ensures ∙ none), c.commit.ensures.rows ∙ put)
+
+pub returns-clause-entry : goal.returns-clause-entry
+returns-clause-entry c = λ e fits lacks is.
+    let same = memo_same c.args.row.now c.read_memo.result e c.read_memo.ensures fits is c.in-Some.field-0-0 c.in-Some.memo c.in-Some.is in
+    let put : rows_of c.put_memo.new.self ≡ with_memo c.in-Some.memo (rows_of c.args.tables.now) = search rules in
+    (refl, c.commit.ensures.rows ∙ put ∙ ap (λ m. with_memo m (rows_of c.args.tables.now)) same)

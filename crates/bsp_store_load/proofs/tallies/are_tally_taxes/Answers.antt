@@ -1,0 +1,11 @@
+use Rattle.std.proofs.Common.{sym, ◌∙◌}
+use Rattle.std.specs.List.{filter}
+use Rattle.bsp_memory_rows.specs.Lookups.{has_rows}
+use Rattle.bsp_store_base.specs.Columns.{tally_tax_row}
+use Rattle.bsp_store_load.proofs.Maps.{all_have, used_are}
+use Rattle.bsp_store_load.proofs.tallies.are_tally_taxes.Goals as goal
+
+pub returns : goal.returns
+returns c =
+    let same = used_are tally_tax_row c.args.table.now.rows c.map.result.now c.map.ensures c.are_rows_of.ensures.ordered in
+    (λ t. c.are_rows_of.ensures.same t ∙ same, λ is. c.are_rows_of.ensures.whole (all_have (filter (λ e. has_rows e.1) c.map.result.now.entries)) (is ∙ sym same))

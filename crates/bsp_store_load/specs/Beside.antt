@@ -1,0 +1,56 @@
+-- What the tables beside that of items keep of the items.
+use Rattle.std.specs.Prelude.{◌≡◌, false, Option, Some, option_and_then}
+use Rattle.std.specs.FinMap.{FinMap, entries, from_sorted, get}
+use Rattle.std.specs.List.{filter_map}
+use Rattle.bsp_rows.specs.GroupValues.{second_of}
+use Rattle.bsp_rows.specs.Item.{Item}
+use Rattle.bsp_rows.specs.ReportedDocument.{ReportedDocument}
+use Rattle.bsp_rows.specs.Rows.{HasNumberKey, item_cmp, key_of}
+use Rattle.bsp_rows.specs.Sound.{IsRight}
+use Rattle.bsp_rows.specs.Verdicts.{is_wrong_place}
+use Rattle.bsp_rows.specs.declared.keys.ItemKey.{ItemKey}
+use Rattle.bsp_store_base.specs.Forms.{IsItemEntry, IsSecondEntry}
+use Rattle.bsp_store_base.specs.Seconds.{ticket_cmp, ticket_of}
+use Rattle.bsp_store_base.specs.Taxes.{tax_with}
+use Rattle.bsp_store_base.specs.declared.taxes.ItemTax.{ItemTax}
+use Rattle.bsp_store_base.specs.declared.tickets.TicketKey.{TicketKey}
+
+-- ---- taxes
+
+-- the tax of an item, under the item's key
+abbrev pub tax_entry : ItemKey × Item → Option (ItemKey × ItemTax)
+tax_entry e = Some (e.0, tax_with e.1)
+
+-- those of all items
+unfoldable pub taxes_of : FinMap item_cmp Item → FinMap item_cmp ItemTax
+taxes_of items = from_sorted (filter_map tax_entry (entries items))
+
+-- ---- second related documents
+
+-- one that a book may have: its number has its check digit
+pub record IsSecond (e : TicketKey × ReportedDocument) : Type 0 where
+  pub formed : IsSecondEntry e
+  pub checked : is_wrong_place (Some e.1) ≡ false
+
+-- that of the ticket of an item's key, and none of a CANX
+abbrev pub second_at : FinMap ticket_cmp ReportedDocument → ItemKey → Option ReportedDocument
+second_at seconds k = option_and_then (λ t. get seconds t) (ticket_of k)
+
+-- ---- items with both
+
+-- an item is under its own key
+pub record IsKeyed (e : ItemKey × Item) : Type 0 where
+  pub numbered : HasNumberKey e.1
+  pub keyed : key_of e.1 ≡ e.0
+
+module _ (taxes : FinMap item_cmp ItemTax) (seconds : FinMap ticket_cmp ReportedDocument) (e : ItemKey × Item) where
+  -- an item has the tax and the second document that are kept of its key
+  pub record IsJoined : Type 0 where
+    pub tax : get taxes e.0 ≡ Some (tax_with e.1)
+    pub second : second_of e.1.transaction ≡ second_at seconds e.0
+
+  -- an item that a book may have by itself, with what is kept of its key
+  pub record IsStoredItem : Type 0 where
+    pub formed : IsItemEntry e
+    pub right : IsRight e.0 e.1
+    pub joined : IsJoined

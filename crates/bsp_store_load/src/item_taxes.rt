@@ -1,0 +1,92 @@
+//! The table of the taxes of items: each row, put into a map, and the map against the items in memory.
+
+ghost use Rattle.std.specs.Prelude.{◌≡◌, ◌↔◌, IsTrue};
+ghost use Rattle.std.specs.FinMap.{from_entries};
+ghost use Rattle.bsp_memory_tables.specs.ItemTables.{item_rows};
+ghost use Rattle.bsp_store_load.specs.Beside.{taxes_of};
+
+use crate::entries::{EntryOf, are_entries_of, put_new};
+use crate::equal::is_row;
+use crate::load::StoredTable;
+use bsp_memory_rows::NoRoom;
+use bsp_memory_tables::ItemTable;
+use bsp_rows::{Item, ItemKey};
+use bsp_store_base::ItemTax;
+use bsp_store_taxes::{ItemTaxRow, item_taxes_query, read_item_tax};
+use sqlite::Row;
+use std::collections::BTreeMap;
+
+/// The taxes of items by the keys of the items.
+#[derive(Clone, Copy, Debug)]
+pub struct StoredTaxes;
+
+impl StoredTable<ItemKey, ItemTax, BTreeMap<ItemKey, ItemTax>> for StoredTaxes {
+    ghost use Rattle.std.specs.Prelude.{◌≡◌, map, None};
+    ghost use Rattle.std.specs.FinMap.{FinMap, entries, from_entries, get, insert};
+    ghost use Rattle.bsp_rows.specs.Rows.{item_cmp};
+    ghost use Rattle.bsp_rows.proofs.KeyOrders.{item_total};
+    ghost use Rattle.bsp_store_base.specs.Columns.{tax_row};
+    ghost use Rattle.bsp_store_base.specs.Content.{item_tax_part};
+    ghost use Rattle.bsp_store_base.specs.Forms.{IsTaxEntry};
+    ghost use Rattle.bsp_store_base.specs.declared.taxes.ItemTax.{ItemTax as TaxEntry};
+    ghost use Rattle.bsp_store_load.specs.Adding.{entry_added};
+
+    ghost part = { item_tax_part };
+
+    ghost Whole = { FinMap item_cmp TaxEntry };
+
+    ghost whole = { λ taxes. from_entries taxes.entries };
+
+    ghost is_kept = { λ taxes. Unit {0} };
+
+    ghost row_of = { tax_row };
+
+    ghost with_entry = { λ e taxes. insert taxes e.0 e.1 };
+
+    ghost fits = { λ table e. IsTaxEntry e };
+
+    ghost lacks = { λ e taxes. get taxes e.0 ≡ None };
+
+    ghost rows_in = { λ taxes. map tax_row (entries taxes) };
+
+    ghost adds = { entry_added item_total tax_row };
+
+    fn query(&self) -> &'static str {
+        item_taxes_query()
+    }
+
+    fn put(&self, taxes: &mut BTreeMap<ItemKey, ItemTax>, row: &Row) -> Result<bool, NoRoom> {
+        let Some((key, tax)) = read_item_tax(row) else {
+            return Ok(false);
+        };
+        if !is_row(row, &ItemTaxRow::of(&key, &tax).values()) {
+            return Ok(false);
+        }
+        Ok(put_new(taxes, key, tax)?)
+    }
+}
+
+/// Each item has a tax, under its own key.
+#[derive(Clone, Copy, Debug)]
+struct TaxOf;
+
+impl EntryOf<ItemKey, Item, ItemKey, ItemTax> for TaxOf {
+    ghost use Rattle.bsp_store_load.specs.Beside.{tax_entry};
+
+    ghost entry_of = { tax_entry };
+
+    fn has_entry(&self, _key: &ItemKey, _item: &Item) -> bool {
+        true
+    }
+
+    fn is_entry(&self, key: &ItemKey, item: &Item, own_key: &ItemKey, own: &ItemTax) -> bool {
+        *own_key == *key && *own == ItemTax::of(item)
+    }
+}
+
+/// Whether the taxes are those of the items of a table, each under its item's key.
+pub fn are_taxes(taxes: &BTreeMap<ItemKey, ItemTax>, items: &ItemTable) -> bool
+    ensures { IsTrue result ↔ (from_entries taxes.now.entries ≡ taxes_of (item_rows items.now)) }
+{
+    are_entries_of(&TaxOf, taxes, items.map())
+}

@@ -1,9 +1,0 @@
-use Rattle.bsp_store_save.proofs.StepLemmas.{if_err, on_ok}
-use Rattle.bsp_store_save.proofs.WrittenLemmas.{airlines_not_saved, airlines_saved}
-use Rattle.bsp_store_save.proofs.written.save_airlines.Goals as goal
-
-pub returns-clause-ok : goal.returns-clause-ok
-returns-clause-ok g c = on_ok _ _ c.put_written.result c.put_written.ensures.ok (airlines_saved g.S.Store c.args.conn.now c.put_written.new.conn c.args.tokens.now c.map-values.result.now c.written.result.now c.in_ok-before.before c.map-values.ensures c.written.ensures c.in_ok-before.ensures)
-
-pub returns-clause-err : goal.returns-clause-err
-returns-clause-err g c = if_err _ _ c.put_written.result c.put_written.ensures.err (airlines_not_saved g.S.Store c.args.conn.now c.put_written.new.conn c.args.tokens.now c.map-values.result.now c.written.result.now c.in_ok-before.before c.map-values.ensures c.written.ensures c.in_ok-before.ensures)

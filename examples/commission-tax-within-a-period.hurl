@@ -1,0 +1,116 @@
+# A tax that begins within a period makes the whole period one of form 2.
+# after: opening/plan.hurl opening/callers.hurl
+
+POST {{base}}/agents/12345675/ret
+Bsp-Token: agenttoken000001
+file,samples/sale.ret;
+HTTP 200
+{"results":[{"n":1,"period":"24011","verdict":"accepted"}]}
+
+POST {{base}}/office/day
+Bsp-Token: officetoken00001
+{"day":"2024-01-16"}
+HTTP 200
+{"result":"done"}
+
+POST {{base}}/office/close
+Bsp-Token: officetoken00001
+{"period":"24011"}
+HTTP 200
+{"result":"done"}
+
+GET {{base}}/agents/12345675/statements/24011
+Bsp-Token: agenttoken000001
+HTTP 200
+```
+STATEMENT 12345675 PERIOD 24011 REMIT 2024-02-15 EUR
+AIR    DOCS            CASH          CREDIT      COMMISSION           MEMOS             NET
+125       1          235.00            0.00           10.00            0.00          225.00
+TOT       1          235.00            0.00           10.00            0.00          225.00
+```
+
+# On the first day of the period it is too late for that day.
+POST {{base}}/office/plan
+Bsp-Token: officetoken00001
+```
+currency = "EUR"
+review_days = 14
+documents_limit = 1000
+[[commission_tax]]
+from = "2024-01-16"
+hundredths = 1900
+```
+HTTP 409
+{"code":"P05"}
+
+POST {{base}}/office/plan
+Bsp-Token: officetoken00001
+```
+currency = "EUR"
+review_days = 14
+documents_limit = 1000
+[[commission_tax]]
+from = "2024-01-17"
+hundredths = 1900
+```
+HTTP 200
+{"result":"done"}
+
+GET {{base}}/agents/12345675/statements/24011
+Bsp-Token: agenttoken000001
+HTTP 200
+```
+STATEMENT 12345675 PERIOD 24011 REMIT 2024-02-15 EUR
+AIR    DOCS            CASH          CREDIT      COMMISSION           MEMOS             NET
+125       1          235.00            0.00           10.00            0.00          225.00
+TOT       1          235.00            0.00           10.00            0.00          225.00
+```
+
+GET {{base}}/airlines/125/hot/24011
+Bsp-Token: airlinetoken0125
+HTTP 200
+file,examples/files/125-24011-sale.hot;
+
+POST {{base}}/office/day
+Bsp-Token: officetoken00001
+{"day":"2024-01-17"}
+HTTP 200
+{"result":"done"}
+
+POST {{base}}/agents/12345675/ret
+Bsp-Token: agenttoken000001
+file,examples/files/sales-on-16-and-17.ret;
+HTTP 200
+{"results":[{"n":1,"period":"24012","verdict":"accepted"},{"n":2,"period":"24012","verdict":"accepted"}]}
+
+GET {{base}}/agents/12345675/periods/24012
+Bsp-Token: agenttoken000001
+HTTP 200
+{"closed":false,"documents":2,"net":"448.10","period":"24012"}
+
+POST {{base}}/office/day
+Bsp-Token: officetoken00001
+{"day":"2024-02-01"}
+HTTP 200
+{"result":"done"}
+
+POST {{base}}/office/close
+Bsp-Token: officetoken00001
+{"period":"24012"}
+HTTP 200
+{"result":"done"}
+
+GET {{base}}/agents/12345675/statements/24012
+Bsp-Token: agenttoken000001
+HTTP 200
+```
+STATEMENT 12345675 PERIOD 24012 REMIT 2024-02-29 EUR
+AIR    DOCS            CASH          CREDIT      COMMISSION  COMMISSION TAX           MEMOS             NET
+125       2          470.00            0.00           20.00            1.90            0.00          448.10
+TOT       2          470.00            0.00           20.00            1.90            0.00          448.10
+```
+
+GET {{base}}/airlines/125/hot/24012
+Bsp-Token: airlinetoken0125
+HTTP 200
+file,examples/files/125-24012-from-17.hot;
