@@ -4,4 +4,5 @@ pub mod Fits
 pub mod Sent
 pub mod Reach
 pub mod Alike
+pub mod Outliving
 pub use Rattle.bsp_desk_base.proofs.RequestsRead
