@@ -4,5 +4,4 @@ pub mod Fits
 pub mod Sent
 pub mod Reach
 pub mod Alike
-pub mod Outliving
 pub use Rattle.bsp_desk_base.proofs.RequestsRead

@@ -6,7 +6,6 @@ pub mod Replies
 pub mod Steps
 pub mod Runs
 pub mod Laws
-pub mod Stops
 pub use Rattle.bsp_book.specs.Calls as BookCalls
 pub use Rattle.bsp_desk_base.specs.Contents
 pub use Rattle.bsp_desk_base.specs.Requests

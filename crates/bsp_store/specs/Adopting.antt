@@ -7,7 +7,7 @@ use Rattle.bsp_rows.specs.Rows.{Rows}
 use Rattle.bsp_rows.specs.Sound.{Sound}
 use Rattle.bsp_store_open.specs.Contents.{KeepsBook}
 use Rattle.bsp_store_open.specs.Faults.{is_refusal}
-use Rattle.bsp_store_open.specs.Opening.{AreThoseOf, KeepsOnly}
+use Rattle.bsp_store_open.specs.Opening.{AreThoseOf}
 use Rattle.bsp_store_open.specs.declared.fault.OpenFault.{OpenFault}
 use Rattle.bsp_store.specs.Meanings.{Holds}
 use Rattle.bsp_store.specs.declared.book.SqlBook.{SqlBook}
@@ -20,7 +20,6 @@ module _ {S : Type 0} (g : Ghosts S) where
     pub holds : Holds g book rows None
     pub earlier : HasCleanDisk (state g book.conn) → HasCleanDisk (state g h)
     pub found : HasCleanDisk (state g book.conn) → KeepsBook rows (state g h).now.trees
-    pub only : HasCleanDisk (state g book.conn) → KeepsOnly rows (state g h).now.trees
 
   -- the book has sound rows, those of the store
   pub record Adopts (h : Held S) (book : SqlBook S) : Type 0 where

@@ -1,4 +1,3 @@
 pub mod Meanings
 pub mod Adopting
-pub mod Stops
 pub use Rattle.bsp_store_open.specs.Faults

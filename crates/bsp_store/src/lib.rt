@@ -2,12 +2,10 @@
 #![tactic(auto)]
 
 mod book;
-mod laws;
 mod logged;
 mod opening;
 
 pub use book::SqlBook;
 pub use bsp_store_damage::Damage;
 pub use bsp_store_open::OpenFault;
-pub use laws::stops_are_found;
 pub use opening::damage_at;

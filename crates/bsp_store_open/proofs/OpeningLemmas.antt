@@ -11,7 +11,7 @@ use Rattle.sqlite_schema.specs.declared.schema.Schema.{Schema}
 use Rattle.sqlite_trees.specs.declared.store.Store.{Ghosts}
 use Rattle.sqlite.specs.Effect.{Database}
 use Rattle.sqlite.specs.Held.{Held, state}
-use Rattle.sqlite.specs.State.{HasCleanDisk, IsLive}
+use Rattle.sqlite.specs.State.{HasCleanDisk}
 use Rattle.bsp_book.specs.Rows.{Rows}
 use Rattle.bsp_book.specs.Sound.{Sound}
 use Rattle.bsp_store_load.specs.MemoryRowsTables.{rows_of}
@@ -20,11 +20,10 @@ use Rattle.bsp_book.specs.Listed.{Holds as ListHolds}
 use Rattle.bsp_book.specs.declared.list.ListBook.{ListBook}
 use Rattle.bsp_store_schema.specs.Order.{AreInOrder, IsInOrder}
 use Rattle.bsp_store_load.specs.Schema.{no_schema, our_schema}
-use Rattle.bsp_store_load.specs.Kept.{AreTreesOf, Keeps, KeepsRows, KeepsTable, Part, Reads, Spares, columns_of}
+use Rattle.bsp_store_load.specs.Kept.{Keeps, KeepsRows, KeepsTable, Part, Reads, Spares, columns_of}
 use Rattle.bsp_store_load.specs.Columns.{Meta, count, meta_row, meta_rows, version}
 use Rattle.bsp_store_load.specs.Content.{Content, form, meta_part, width_of}
 use Rattle.bsp_store_load.specs.Contents.{IsContentOf, KeepsBook, content_now}
-use Rattle.bsp_store_load.specs.Formed.{AreFormed}
 use Rattle.bsp_store_load.specs.Forms.{IsFormed}
 use Rattle.bsp_store_load.specs.Loading.{HasRows}
 use Rattle.bsp_store_load.specs.Shows.{AreAllOf}
@@ -34,8 +33,6 @@ use Rattle.bsp_store_open.specs.declared.fault.OpenFault.{OpenFault}
 use Rattle.bsp_store_open.specs.declared.fault.OpenFault.TheVariants.{NoRoom}
 use Rattle.bsp_store_open.specs.Loaded.{IsAllLoaded}
 use Rattle.bsp_store_open.specs.Opening.{Finds, HasNoBook, IsNoBook, IsOfOther, IsOfVersion, IsOrdered, IsRead, KeepsAtRest, LeavesCommitted, LeavesEmptyBook, LeavesWhole, Misses, Reopens, Reports, ShowsNone, SparesStore, WasBare, WasNoBook}
-use Rattle.bsp_store_load.proofs.FormedContent.{formed_content}
-use Rattle.bsp_store_load.proofs.Held.{trees_of}
 use Rattle.bsp_store_load.proofs.TallyLemmas.{content_is}
 
 -- ---- one query after another
@@ -160,18 +157,18 @@ module _ {S : Type 0} (g : Ghosts S) (old new : Held S) (order : IsOrdered g old
   keeps_new clean = subst (Keeps form c) (sym (finds.read.same clean)) (record { schema = finds.ours; kept = keeps_old clean })
 
   -- no transaction is open, so the tables that are seen are committed, and a stop leaves them
-  pub at_rest : IsLive (state g new) → new.in_transaction ≡ false → (IsTrue (state g new).is_open → (state g new).now ≡ (state g new).committed)
+  pub at_rest : new.in_transaction ≡ false → (IsTrue (state g new).is_open → (state g new).now ≡ (state g new).committed)
       → ((db : Trees) → IsTrue (state g new).is_open → (state g new).may_leave db → db ≡ (state g new).committed.trees) → KeepsAtRest g new rows
-  at_rest live outside settled leaves = (
+  at_rest outside settled leaves = (
     c,
     content,
     (
       record {
-        held = λ clean is. (keeps_new clean, (live is).0);
-        kept = λ clean is. (subst (Keeps form c) (settled is) (keeps_new clean), (live is).1);
+        held = λ clean is. keeps_new clean;
+        kept = λ clean is. subst (Keeps form c) (settled is) (keeps_new clean);
         leaves = λ clean db may.
             let is = finds.read.is_open clean in
-            inl (subst (AreTreesOf form c) (sym (leaves db is may)) (trees_of form c (state g new).committed (subst (Keeps form c) (settled is) (keeps_new clean), (live is).1)));
+            inl (subst (KeepsRows form c) (ap (λ (d : Database). d.trees) (settled is) ∙ sym (leaves db is may)) (keeps_new clean).kept);
       },
       λ clean. outside,
     ),
@@ -179,25 +176,23 @@ module _ {S : Type 0} (g : Ghosts S) (old new : Held S) (order : IsOrdered g old
 
 -- the tables have the rows of tables in memory, which become a book
 module _ {S : Type 0} (g : Ghosts S) (old new : Held S) (order : IsOrdered g old) (tables : Tables) (kept : AreCommitted tables) (finds : Finds g old new (λ trees. IsAllLoaded trees tables)) where
-  pub tables_read : (list : ListBook) (rows : Rows) → list.tables ≡ tables → ListHolds list (rows_of tables) None → rows_of tables ≡ rows → Sound rows → AreFormed (rows_of tables) → IsLive (state g new) → new.in_transaction ≡ false
+  pub tables_read : (list : ListBook) (rows : Rows) → list.tables ≡ tables → ListHolds list (rows_of tables) None → rows_of tables ≡ rows → Sound rows → new.in_transaction ≡ false
       → (IsTrue (state g new).is_open → (state g new).now ≡ (state g new).committed) → ((db : Trees) → IsTrue (state g new).is_open → (state g new).may_leave db → db ≡ (state g new).committed.trees)
       → IsRead g old new list rows
-  tables_read list rows same holds is sound formed live outside settled leaves =
+  tables_read list rows same holds is sound outside settled leaves =
       let content : IsContentOf rows (content_now tables) = subst (λ r. IsContentOf r (content_now tables)) is (content_is (rows_of tables) _ kept.derived.totals) in
       let has = weaker g old new _ _ (λ trees loaded. loaded.rows) finds in
       record {
         listed = subst (λ r. ListHolds list r None) is holds;
         sound = sound;
-        formed = subst AreFormed is formed;
-        kept = at_rest g old new order (content_now tables) has rows content live outside settled leaves;
+        kept = at_rest g old new order (content_now tables) has rows content outside settled leaves;
         earlier = has.read.earlier;
         found = found_of g old new order (content_now tables) has rows content;
-        only = λ clean other its formed_too kept_too. sym ((finds.found clean).only other kept_too.0 its kept_too.1 (formed_content other kept_too.0 formed_too kept_too.1) kept_too.2) ∙ is;
       }
 
 -- ---- an opening that is refused
 
-pub no_tables : no_schema ≡ our_schema → ⊥
+no_tables : no_schema ≡ our_schema → ⊥
 no_tables same = absurd (cc (ap (λ (s : Schema). s.tables) same))
 
 module _ {S : Type 0} (g : Ghosts S) where
@@ -226,9 +221,9 @@ module _ {S : Type 0} (g : Ghosts S) where
         settled db opens.is_open may ∙ ap (λ (d : Database). d.trees) (sym opens.clean) ∙ again.trees clean
 
     -- a store without tables
-    pub bare_refused : {X : Type 0} (r : Result X (OpenFault × S)) → now.schema ≡ no_schema → IfErr r (λ e. LeavesEmptyBook g now e.1) → IfErr r (λ e. is_refusal e.0 ≡ true → WasNoBook g e.0 before e.1)
-    bare_refused (Ok x) bare left = tt
-    bare_refused (Err e) bare left = λ refused clean. (now, left.earlier clean, again, record { ours = λ ours. absurd (no_tables (sym bare ∙ ours)); others = λ other some. absurd (some bare) })
+    pub bare_refused : {X : Type 0} (r : Result X (OpenFault × S)) → now.schema ≡ no_schema → IfErr r (λ e. is_refusal e.0 ≡ true → WasNoBook g e.0 before e.1)
+    bare_refused (Ok x) bare = tt
+    bare_refused (Err e) bare = λ refused clean. (now, again, record { ours = λ ours. absurd (no_tables (sym bare ∙ ours)); others = λ other some. absurd (some bare) })
 
     pub bare_left : {X : Type 0} (r : Result X (OpenFault × S)) → now.schema ≡ no_schema → IsSettled now → IfErr r (λ e. LeavesEmptyBook g now e.1) → IfErr r (λ e. LeavesWhole g before e.1)
     bare_left (Ok x) bare settled left = tt
@@ -241,9 +236,9 @@ module _ {S : Type 0} (g : Ghosts S) where
     }
 
     -- a store with tables
-    pub kept_refused : {X : Type 0} (r : Result X (OpenFault × S)) → IfErr r (λ e. SparesStore g now e.1) → IfErr r (λ e. is_refusal e.0 ≡ true → IsClean (g.view e.1) → ShowsNone g e.0 now) → IfErr r (λ e. is_refusal e.0 ≡ true → WasNoBook g e.0 before e.1)
-    kept_refused (Ok x) left none = tt
-    kept_refused (Err e) left none = λ refused clean. (now, left.earlier clean, again, none refused clean)
+    pub kept_refused : {X : Type 0} (r : Result X (OpenFault × S)) → IfErr r (λ e. is_refusal e.0 ≡ true → IsClean (g.view e.1) → ShowsNone g e.0 now) → IfErr r (λ e. is_refusal e.0 ≡ true → WasNoBook g e.0 before e.1)
+    kept_refused (Ok x) none = tt
+    kept_refused (Err e) none = λ refused clean. (now, again, none refused clean)
 
     -- what a store that was opened again leaves is what was committed
     pub left_committed : (left : S) → IsSettled now → SparesStore g now left → LeavesCommitted g before left

@@ -20,7 +20,6 @@ use Rattle.bsp_store_load.specs.Kept.{IsOutside, KeepsRows, Reads, HasContents, 
 use Rattle.bsp_store_load.specs.Columns.{count, version}
 use Rattle.bsp_store_load.specs.Content.{Content, airline_part, commission_tax_part, form, meta_part, period_part, rate_part, terms_part, width_of}
 use Rattle.bsp_store_load.specs.Contents.{IsContentOf, KeepsBook}
-use Rattle.bsp_store_load.specs.Formed.{AreFormed, IsBook}
 use Rattle.bsp_store_load.specs.Forms.{IsFormed}
 use Rattle.bsp_store_load.specs.Shows.{AreAllOf}
 use Rattle.bsp_store_load.specs.declared.plan_rows.PlanRows.{PlanRows}
@@ -82,10 +81,6 @@ pub record ShowsNoBook (fault : OpenFault) (trees : Trees) : Type 0 where
 abbrev pub IsNoBook : OpenFault → Database → Type 0
 IsNoBook fault db = db.schema ≡ our_schema → ShowsNoBook fault db.trees
 
--- these rows are all that the trees keep, of sound rows whose values are such as the program's types have
-abbrev pub KeepsOnly : Rows → Trees → Type 0
-KeepsOnly rows trees = (other : Rows) → Sound other → AreFormed other → KeepsBook other trees → other ≡ rows
-
 -- ---- an opening, step by step
 
 module _ {S : Type 0} (g : Ghosts S) where
@@ -115,11 +110,9 @@ module _ {S : Type 0} (g : Ghosts S) where
   pub record IsRead (old new : Held S) (list : ListBook) (rows : Rows) : Type 0 where
     pub listed : listed.holds list rows None
     pub sound : Sound rows
-    pub formed : AreFormed rows
     pub kept : KeepsAtRest new rows
     pub earlier : HasCleanDisk (state g new) → HasCleanDisk (state g old)
     pub found : HasCleanDisk (state g new) → KeepsBook rows (state g old).now.trees
-    pub only : HasCleanDisk (state g new) → KeepsOnly rows (state g old).now.trees
 
   -- tables that are not a book's were asked for their version, and the fault is what follows from the answer
   pub record IsAskedVersion (fault : OpenFault) (old new : Held S) : Type 0 where
@@ -142,9 +135,9 @@ module _ {S : Type 0} (g : Ghosts S) where
   abbrev pub WasBare : Held S → Type 0
   WasBare h = (now : Held S) × Reopens h now × ((state g now).now.schema ≡ no_schema)
 
-  -- the rows are those that the store kept, and no others, or none, in a store that was bare
+  -- the rows are those that the store kept, or none, in a store that was bare
   abbrev pub AreThoseOf : Held S → Held S → Rows → Type 0
-  AreThoseOf before after rows = (HasCleanDisk (state g after) → KeepsBook rows (state g before).committed.trees × KeepsOnly rows (state g before).committed.trees) ⊎ ((bare : WasBare before) × (HasCleanDisk (state g after) → HasCleanDisk (state g bare.0)) × (rows ≡ no_rows))
+  AreThoseOf before after rows = (HasCleanDisk (state g after) → KeepsBook rows (state g before).committed.trees) ⊎ (WasBare before × (rows ≡ no_rows))
 
   -- a connection shows no book of this version, for what the fault says: its tables keep none, or they are not a book's,
   -- and that is what they are asked for their version
@@ -154,7 +147,7 @@ module _ {S : Type 0} (g : Ghosts S) where
 
   -- opened again, the store showed no book of this version, for what the fault says
   abbrev pub WasNoBook : OpenFault → Held S → S → Type 0
-  WasNoBook fault h left = IsClean (g.view left) → (now : Held S) × HasCleanDisk (state g now) × Reopens h now × ShowsNone fault now
+  WasNoBook fault h left = IsClean (g.view left) → (now : Held S) × Reopens h now × ShowsNone fault now
 
   -- a store that is given up leaves to a stop no more than its connection did
   pub record SparesStore (h : Held S) (left : S) : Type 0 where
@@ -169,13 +162,13 @@ module _ {S : Type 0} (g : Ghosts S) where
   -- a stop leaves what it left before, or the whole of an empty book
   pub record LeavesEmptyBook (h : Held S) (left : S) : Type 0 where
     pub earlier : IsClean (g.view left) → HasCleanDisk (state g h)
-    pub leaves : IsClean (g.view left) → (db : Trees) → g.recovers left db → g.recovers h.store db ⊎ IsBook no_rows db
+    pub leaves : IsClean (g.view left) → (db : Trees) → g.recovers left db → g.recovers h.store db ⊎ KeepsBook no_rows db
 
   -- a stop leaves what was committed, what it left before, or the whole of an empty book where the store, opened again,
   -- showed no table
   pub record LeavesWhole (h : Held S) (left : S) : Type 0 where
     pub earlier : IsClean (g.view left) → HasCleanDisk (state g h)
-    pub leaves : IsClean (g.view left) → (db : Trees) → g.recovers left db → ((db ≡ (state g h).committed.trees) ⊎ g.recovers h.store db) ⊎ (WasBare h × IsBook no_rows db)
+    pub leaves : IsClean (g.view left) → (db : Trees) → g.recovers left db → ((db ≡ (state g h).committed.trees) ⊎ g.recovers h.store db) ⊎ (WasBare h × KeepsBook no_rows db)
 
   -- a refused opening: the store, opened again, showed no book, and what a stop leaves is whole
   pub record Refuses (fault : OpenFault) (h : Held S) (left : S) : Type 0 where

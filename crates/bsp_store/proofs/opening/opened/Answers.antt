@@ -12,7 +12,7 @@ new_book-requires-clause-bare g c = let bare : IsTrue c.is_bare.result = search 
 pub returns-then-is_bare-clause-ok : goal.returns-then-is_bare-clause-ok
 returns-then-is_bare-clause-ok g c =
     let bare : IsTrue c.is_bare.result = search rules in
-    each_ok (λ h. Reopens g.S.Store h c.args.conn) c.new_book.result (Adopts g.S.Store) (λ before again. new_adopted g.S.Store before c.args.conn again c.new_book.result (c.is_bare.ensures.0 bare) c.new_book.ensures.ok c.new_book.ensures.earlier)
+    each_ok (λ h. Reopens g.S.Store h c.args.conn) c.new_book.result (Adopts g.S.Store) (λ before again. new_adopted g.S.Store before c.args.conn again c.new_book.result (c.is_bare.ensures.0 bare) c.new_book.ensures.ok)
 
 pub returns-else-is_bare-clause-ok : goal.returns-else-is_bare-clause-ok
 returns-else-is_bare-clause-ok g c =
@@ -22,12 +22,12 @@ pub returns-then-is_bare-clause-refused : goal.returns-then-is_bare-clause-refus
 returns-then-is_bare-clause-refused g c =
     let bare : IsTrue c.is_bare.result = search rules in
     each_err (λ h. Reopens g.S.Store h c.args.conn) c.new_book.result (λ before e. is_refusal e.0 ≡ true → WasNoBook g.S.Store e.0 before e.1)
-    (λ before again. bare_refused g.S.Store before c.args.conn again c.new_book.result (c.is_bare.ensures.0 bare) c.new_book.ensures.left)
+    (λ before again. bare_refused g.S.Store before c.args.conn again c.new_book.result (c.is_bare.ensures.0 bare))
 
 pub returns-else-is_bare-clause-refused : goal.returns-else-is_bare-clause-refused
 returns-else-is_bare-clause-refused g c =
     each_err (λ h. Reopens g.S.Store h c.args.conn) c.kept_book.result (λ before e. is_refusal e.0 ≡ true → WasNoBook g.S.Store e.0 before e.1)
-    (λ before again. kept_refused g.S.Store before c.args.conn again c.kept_book.result c.kept_book.ensures.left c.kept_book.ensures.refused)
+    (λ before again. kept_refused g.S.Store before c.args.conn again c.kept_book.result c.kept_book.ensures.refused)
 
 pub returns-then-is_bare-clause-left : goal.returns-then-is_bare-clause-left
 returns-then-is_bare-clause-left g c =
