@@ -266,8 +266,6 @@ VERSIONS = {
     "version 9, with other tables": "UPDATE meta SET version = 9; DROP TABLE tally",
     "version 2, on another day": "UPDATE meta SET version = 2, day = 10957, closed = 0",
     "version 1": "UPDATE meta SET version = 1",
-    "version 1, with its tables": f"UPDATE meta SET version = 1; {FIRST_TABLES}",
     "version 2": "UPDATE meta SET version = 2",
-    "version 2, with its tables": "UPDATE meta SET version = 2; DROP TABLE second_related",
     "version 4": "UPDATE meta SET version = 4",
 }

@@ -8,6 +8,8 @@
   first of the two.
 - the same over a book in a file, for each allocation of a short conversation and one in forty of the opening before it; the
   file is then opened again.
+- its command `audit` on such a file, for the first hundred allocations and one in forty behind them: it reports as with ample
+  memory, or prints nothing, with status 3 and the line that memory was short.
 Exits with the number of cases that differ.
 
 usage: .ci/refused.py [PROGRAM]   (with no PROGRAM it takes the one that is built)
@@ -17,6 +19,7 @@ import itertools
 import os
 import pathlib
 import re
+import shutil
 import subprocess
 import sys
 import tempfile
@@ -224,12 +227,33 @@ def over_files():
     yield "bsp_office run --db", each_refused("bsp_office run --db", over, twice(KEPT), is_kept, numbers)
 
 
+def audited(number):
+    """The words of an audit of a copy of the book."""
+    shutil.copy("book.db", f"{number}.db")
+    return [PROGRAM, "audit", f"{number}.db"]
+
+
+def is_audited(ample, found, number):
+    """The report on the copy, which is as it was and has no log, or the line that memory was short."""
+    is_kept = pathlib.Path(f"{number}.db").read_bytes() == pathlib.Path("book.db").read_bytes()
+    left = [str(it) for it in pathlib.Path().glob(f"{number}.db*")]
+    pathlib.Path(f"{number}.db").unlink()
+    return is_same_or_failed(ample, found, number) and is_kept and left == [f"{number}.db"]
+
+
+def audits():
+    subprocess.run([PROGRAM, "run", "--token", TOKEN, "--db", "book.db"], input=twice(KEPT), capture_output=True, check=True)
+    subprocess.run([PROGRAM, "run", "--token", TOKEN, "--db", "book.db"], input=b"", capture_output=True, check=True)
+    numbers = itertools.chain(range(1, 100), itertools.count(101, 40))
+    yield "bsp_office audit", each_refused("bsp_office audit", audited, b"", is_audited, numbers)
+
+
 def main():
     library = [os.environ.get("CC", "cc"), "-O2", "-shared", "-fPIC", "-o", "refuse.so", f"{TOP}/.ci/refuse.c"]
     with tempfile.TemporaryDirectory() as folder:
         os.chdir(folder)
         subprocess.run(library, check=True)
-        for part in pages, words, conversations, over_files:
+        for part in pages, words, conversations, over_files, audits:
             begun, count = time.monotonic(), sum(it[1] for it in part())
             print(f"{part.__name__}: {count} allocations refused in turn, in {time.monotonic() - begun:.0f} seconds", flush=True)
         os.chdir(TOP)

@@ -219,6 +219,25 @@ mistakes hotcheck 125-exchange-of-two.hot <<'END'
 25s/ \{15\}$/00000000000000{/|H04 record 25|record 25 (BFT99), columns 93-136: the rest of the record has a character that is not a space
 END
 
+# a book in a file, and files that have none
+printf '' | "$program" run --token officetoken00001 --db new.db 2>/dev/null
+expect 0 'OK version 3 day 2000-01-01 agents 0 items 0 memos 0 periods 0' none audit new.db
+expect 0 'OK version 3 day 2000-01-01 agents 0 items 0 memos 0 periods 0' none audit ./new.db
+expect 1 $'B02\nthe file is empty' none audit empty
+unopened='B03 unable to open database file'
+expect 3 '' "missing: $unopened: $none" audit missing
+expect 3 '' "missing/it: $unopened: $none" audit missing/it
+expect 3 '' ".: $unopened: it is a directory" audit .
+expect 3 '' "/dev/zero: $unopened" audit /dev/zero
+expect 3 '' ": $unopened: $none" audit ''
+expect 3 '' ":memory:: $unopened: it names no file" audit :memory:
+expect 3 '' "file:new.db: $unopened: it names no file" audit file:new.db
+expect 3 '' 'v1.ret: B03 file is not a database that obeys its schema' audit v1.ret
+for made in missing missing-wal empty-wal v1.ret-wal :memory: file:new.db; do
+  [ ! -e "$made" ]
+  same 0 $? "$made was made"
+done
+
 expect 1 'F08 record 1' none check --quiet empty
 expect 1 'H04 record 1' none hotcheck empty --quiet
 expect 3 '' none check --quiet missing
@@ -234,12 +253,15 @@ expect 2 '' "error: unrecognized subcommand 'hot'" hot v3.hot
 expect 2 '' "error: unrecognized subcommand 'report'" report v1.ret
 expect 2 '' "$required" check
 expect 2 '' "$required" hotcheck
+expect 2 '' "$required" audit
 expect 2 '' "error: unexpected argument '--version' found" check --version
 expect 2 '' "error: unexpected argument '-x' found" check -x
 expect 2 '' "error: unexpected argument '--unknown' found" check --unknown
 expect 2 '' "error: unexpected argument 'v3.hot' found" check v1.ret v3.hot
 expect 2 '' "error: unexpected argument '--unknown' found" hotcheck --unknown
 expect 2 '' "error: unexpected argument 'v1.ret' found" hotcheck v3.hot v1.ret
+expect 2 '' "error: unexpected argument '--quiet' found" audit --quiet new.db
+expect 2 '' "error: unexpected argument 'v1.ret' found" audit new.db v1.ret
 
 token=officetoken00001
 given="error: exactly one of --token T and --token-file FILE gives the office's token, \
@@ -251,6 +273,7 @@ expect 2 '' "$given" run --token short
 expect 2 '' "$given" run --token $token --token-file token
 expect 2 '' "$given" run --token-file -
 expect 2 '' "$given" run --token $token --db -
+expect 2 '' "$given" audit -
 expect 2 '' "$required" serve --token $token
 
 # no_number WORD VALUE WHY WORD..: a value of `serve` that is no number of its range
@@ -281,6 +304,10 @@ same_error 3 $? none 'quiet, standard output full'
 same_error 3 $? "$unwritten" 'hotcheck, standard output closed'
 "$program" hotcheck v3.hot >/dev/full 2>err
 same_error 3 $? "$unwritten" 'hotcheck, standard output full'
+"$program" audit new.db >/dev/full 2>err
+same_error 3 $? "$unwritten" 'audit, standard output full'
+"$program" audit empty >&- 2>err
+same_error 3 $? "$unwritten" 'audit, standard output closed'
 "$program" check - <&- 2>err
 same_error 3 $? 'standard input: a read failed' 'standard input closed'
 "$program" check - <. 2>err
@@ -289,7 +316,7 @@ same_error 3 $? 'standard input: a read failed' 'standard input a directory'
 same_error 3 $? 'standard input: out of memory' 'an input for which there is no memory'
 "$program" check empty >out 2>/dev/full
 same 1 $? 'check, standard error full'
-for words in --help 'check --help' 'hotcheck --help' 'run --help' 'serve --help'; do
+for words in --help 'check --help' 'hotcheck --help' 'audit --help' 'run --help' 'serve --help'; do
   # shellcheck disable=SC2086
   "$program" $words >out 2>err && grep -q '^Usage: bsp_office' out && [ ! -s err ]
   same 0 $? "$words"

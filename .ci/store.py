@@ -2,8 +2,8 @@
 """Runs the built program over a book in a file, and looks at the file with SQLite's own library:
 the requests of a month, with the program killed after each reply, are answered as over a book in memory; sales that
 were answered before a kill at any moment are there afterwards; the file passes SQLite's integrity check; a book that
-SQLite wrote is opened; the queries of docs/TABLES.md agree with the replies; the examples 22, 26, 27, 41 to 43, 49
-and 52 of docs/EXAMPLES.md are as it says; a book of 10,000 requests, opened again, gives the same statements; and a file that
+SQLite wrote is opened; the queries of docs/TABLES.md agree with the replies; the examples 22, 26, 27, 41 to 43 and
+49 of docs/EXAMPLES.md are as it says; a book of 10,000 requests, opened again, gives the same statements; and a file that
 is no book, or is a damaged one (.ci/damages.py), is refused with its status and one line on standard error. Exits with
 the number of cases that differ.
 
@@ -598,4 +598,5 @@ def main():
     office.finish(f"bsp_office: a book in a file is as docs/TABLES.md says, in {time.monotonic() - begun:.0f} seconds")
 
 
-main()
+if __name__ == "__main__":
+    main()

@@ -1,11 +1,12 @@
 #!/usr/bin/env python3
-"""Runs the commands of README.md, docs/GUIDE.md, docs/FORMATS.md and samples/README.md as they are printed there, and
-compares what they print with what is shown.
+"""Runs the commands of README.md, of docs/ and of samples/README.md as they are printed there, and compares what they print
+with what is shown.
 
-The commands are in the blocks that begin with ```console. A line that begins with $ is a command, those that follow it are
-what it prints. Those of a file are pasted whole into one shell, with no wait between them, in a folder that has samples/
-and ./bsp_office, a link to PROGRAM. Lines of the office itself, which begin with its name, may come between others: they
-are compared apart. A line of curl that it could not connect is left out, since curl tries again until the office listens. A free port takes the place of 8080, so that two tours can run on one machine.
+The commands are in the blocks that begin with ```console; a file without one is left out. A line that begins with $ is a
+command, those that follow it are what it prints. Those of a file are pasted whole into one shell, with no wait between
+them, in a folder that has samples/ and ./bsp_office, a link to PROGRAM. Lines of the office itself, which begin with its
+name, may come between others: they are compared apart. A line of curl that it could not connect is left out, since curl
+tries again until the office listens. A free port takes the place of 8080, so that two tours can run on one machine.
 
 usage: .ci/tour.py [PROGRAM]   (with no PROGRAM it takes the one that is built)
 """
@@ -14,7 +15,6 @@ import re
 import shutil
 import signal
 import subprocess
-import sys
 import tempfile
 
 import office
@@ -77,8 +77,6 @@ def apart(lines):
 def compare(name, program):
     """Pastes the commands of the file, and compares what they print."""
     commands = commands_of((TOP / name).read_text(encoding="utf-8"))
-    if not commands:
-        sys.exit(f"{name} has no commands")
     port = str(office.free_port())
     with tempfile.TemporaryDirectory() as folder, tempfile.TemporaryDirectory() as programs:
         shutil.copytree(f"{TOP}/samples", f"{folder}/samples")
@@ -94,7 +92,8 @@ def compare(name, program):
 
 def main():
     program = office.program()
-    files = ["README.md", "docs/GUIDE.md", "docs/FORMATS.md", "samples/README.md"]
+    pages = [TOP / "README.md", *sorted(TOP.glob("docs/*.md")), TOP / "samples/README.md"]
+    files = [str(it.relative_to(TOP)) for it in pages if BLOCK.search(it.read_text(encoding="utf-8"))]
     for name in files:
         compare(name, program)
     office.finish(f"the commands of {len(files)} documents print what they show")

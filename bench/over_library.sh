@@ -36,10 +36,11 @@ workspace() {
 # source_file PROGRAM NAME: a file of the program, from standard input
 source_file() { cat >"$work/space/crates/$1/src/$2"; }
 
-# build PROGRAM: builds it, and sets program to its path
+# build PROGRAM: builds it, and sets program to its path. It is run once in the place where it is built, where it may
+# find no input and say so.
 build() {
   program="$work/space/crates/$1/out/$1"
-  (cd "$work/space/crates/$1" && rt run </dev/null) >"$work/built.log" 2>&1 || {
+  (cd "$work/space/crates/$1" && rt run </dev/null) >"$work/built.log" 2>&1 || [ -x "$program" ] || {
     tail -n 30 "$work/built.log"
     exit 1
   }

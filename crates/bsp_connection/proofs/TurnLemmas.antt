@@ -18,7 +18,7 @@ use Rattle.bsp_heads.specs.declared.fault.HeadFault.TheVariants.{HeadTooLarge}
 use Rattle.bsp_heads.specs.declared.fault.Refused.{Refused}
 use Rattle.bsp_heads.specs.declared.parts.HeadParts.{HeadParts}
 use Rattle.bsp_heads.specs.declared.parts.Wanted.{Wanted}
-use Rattle.bsp_responses.specs.Responses.{ReplyText, refusal_reply, response}
+use Rattle.bsp_heads.specs.Responses.{ReplyText, refusal_reply, response}
 use Rattle.bsp_connection.specs.Arrivals.{IsAsked}
 use Rattle.bsp_connection.specs.Conversations.{AnswersMessage, HasHead, HasMessage, IsBegun, connection}
 use Rattle.bsp_connection.specs.Conversations.Closes.{refused, unroomed, answered}

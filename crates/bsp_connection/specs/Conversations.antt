@@ -8,7 +8,7 @@ use Rattle.bsp_heads.specs.Scan.{head_len}
 use Rattle.bsp_heads.specs.declared.fault.HeadFault.TheVariants.{HeadTooLarge}
 use Rattle.bsp_heads.specs.declared.fault.Refused.{Refused}
 use Rattle.bsp_heads.specs.declared.parts.Wanted.{Wanted}
-use Rattle.bsp_responses.specs.Responses.{refusal_reply, response}
+use Rattle.bsp_heads.specs.Responses.{refusal_reply, response}
 use Rattle.bsp_connection.specs.Exchanges.{Exchange, Meaning, RequestText, interim, used}
 use Rattle.bsp_connection.specs.declared.end.End.{End}
 use Rattle.bsp_connection.specs.declared.end.End.TheVariants.{Clean, Cut, Closed}

@@ -5,7 +5,7 @@ use Rattle.std.specs.Option.{option_map}
 use Rattle.std.specs.Io.KnownBytes.{Appends}
 use Rattle.std.specs.Cow.{cow_slice_items}
 use Rattle.bsp_ret.specs.Lines.{lines}
-use Rattle.bsp_responses.specs.Responses.{ReplyText, continue_text}
+use Rattle.bsp_heads.specs.Responses.{ReplyText, continue_text}
 use Rattle.bsp_ret.specs.Ret.{File, Ret}
 use Rattle.bsp_ret.specs.Table.{first_fault}
 use Rattle.bsp_ret.specs.declared.model.RetFault.{RetFault}

@@ -3,7 +3,7 @@ use Rattle.std.specs.Prelude.{◌≡◌, ℕ, Bool, true, false, List, Option, S
 use Rattle.std.specs.Io.KnownBytes.{Keeps}
 use Rattle.bsp_connection.specs.declared.passing.Short.{Short}
 use Rattle.bsp_connection.specs.declared.passing.Short.TheVariants as short
-use Rattle.bsp_responses.specs.Responses.{response}
+use Rattle.bsp_heads.specs.Responses.{response}
 use Rattle.bsp_connection.specs.Exchanges.{IsWritten, Meaning}
 use Rattle.bsp_connection.specs.declared.end.End.{End}
 use Rattle.bsp_connection.specs.declared.end.End.TheVariants.{Cut, Closed}

@@ -3,10 +3,10 @@
 ghost use Rattle.std.specs.Prelude.{◌≡◌, true, false, IsErr, OnErr};
 ghost use Rattle.std.specs.Io.KnownBytes.{Keeps};
 ghost use Rattle.bsp_connection.specs.Exchanges.{IsWritten};
-ghost use Rattle.bsp_responses.specs.Responses.{reply_text, response};
+ghost use Rattle.bsp_heads.specs.Responses.{reply_text, response};
 
 use crate::noted::Noted;
-use bsp_responses::{Reply, Response};
+use bsp_heads::{Reply, Response};
 use std::io::Write;
 
 /// A write failed, or took no byte.

@@ -1,10 +1,10 @@
 //! What answers the messages of a connection.
 
 ghost use Rattle.std.specs.Prelude.{◌≡◌, ℕ, List};
-ghost use Rattle.bsp_responses.specs.Responses.{reply_text};
+ghost use Rattle.bsp_heads.specs.Responses.{reply_text};
 ghost use Rattle.bsp_connection.specs.Exchanges.{IsFileRead, Meaning, answer_text, request_of};
 
-use bsp_responses::{Media, Methods, Reply, Status};
+use bsp_heads::{Media, Methods, Reply, Status};
 use bsp_ret::{RetFault, RetFile};
 use std::alloc::Global;
 use std::borrow::CowSlice;

@@ -18,8 +18,7 @@ use crate::responding::{refuse, respond, stop};
 use crate::room::Room;
 use crate::sending::{send, send_on};
 use crate::service::{Message, Service};
-use bsp_heads::{HeadFault, HeadParts, Refused, read_head};
-use bsp_responses::interim;
+use bsp_heads::{HeadFault, HeadParts, Refused, interim, read_head};
 use std::io::{Read, Write};
 
 /// The messages that were answered before the last that a connection may have.

@@ -1,4 +1,4 @@
--- How requests are read and answered, and what a run of them is.
+-- How requests are read and answered, what a run of them is, and what reports add up and look up.
 pub mod Calls
 pub mod Callers
 pub mod Reading
@@ -6,6 +6,9 @@ pub mod Replies
 pub mod Steps
 pub mod Runs
 pub mod Laws
+pub mod Sums
+pub mod Documents
+pub mod Stock
 pub use Rattle.bsp_book.specs.Calls as BookCalls
 pub use Rattle.bsp_desk_base.specs.Contents
 pub use Rattle.bsp_desk_base.specs.Requests

@@ -4,11 +4,13 @@ ghost use Rattle.bsp_desk_base.specs.Contents.{IsAgentCall};
 ghost use Rattle.bsp_desk_base.specs.Serves.{EndsOnFault, ServesAgent};
 ghost use Rattle.bsp_desk_base.specs.Requests.{AgentRequest};
 
+use crate::documents::document;
+use crate::periods::period;
+use crate::statements::statement;
+use crate::stocks::stock;
 use bsp_book::{Book, BookFault};
 use bsp_desk_base::Content;
-use bsp_desk_files::report_of_agent;
-use bsp_desk_memos::{agent_memos, agree, dispute};
-use bsp_desk_reports::{document, period, statement, stock};
+use bsp_desk_writes::{agent_memos, agree, dispute, report_of_agent};
 use bsp_messages::Answer;
 use bsp_routes::AgentCall;
 use bsp_rows::AgentCode;

@@ -4,10 +4,10 @@ ghost use Rattle.bsp_desk_base.specs.Contents.{bytes_in};
 ghost use Rattle.bsp_desk_base.specs.Serves.{EndsOnFault, ServesAirline};
 ghost use Rattle.bsp_desk_base.specs.Requests.{AirlineRequest, IsAirlineRequest};
 
+use crate::hot_files::hot;
 use bsp_book::{Book, BookFault};
 use bsp_desk_base::Content;
-use bsp_desk_memos::{airline_memos, issue, reduce, uphold, withdraw};
-use bsp_desk_reports::hot;
+use bsp_desk_writes::{airline_memos, issue, reduce, uphold, withdraw};
 use bsp_messages::Answer;
 use bsp_routes::AirlineCall;
 use bsp_rows::AirlineCode;

@@ -4,13 +4,13 @@ ghost use Rattle.bsp_desk_base.specs.Contents.{IsOfficeCall};
 ghost use Rattle.bsp_desk_base.specs.Serves.{EndsOnFault, ServesOffice};
 ghost use Rattle.bsp_desk_base.specs.Requests.{OfficeRequest};
 
+use crate::settlements::settlement;
 use bsp_book::{Book, BookFault};
 use bsp_desk_base::Content;
-use bsp_desk_files::report_of_office;
-use bsp_desk_office::{
-    allot, close, publish, register_agent, register_airline, set_day, withdraw_range,
+use bsp_desk_writes::{
+    allot, close, publish, register_agent, register_airline, report_of_office, set_day,
+    withdraw_range,
 };
-use bsp_desk_reports::settlement;
 use bsp_messages::Answer;
 use bsp_routes::OfficeCall;
 use std::alloc::Global;

@@ -10,10 +10,7 @@ use Rattle.bsp_hot_records.specs.Records.{Part}
 use Rattle.bsp_hot_records.specs.Sums.{no_sums, one_document, add, sum_of, is_code}
 use Rattle.bsp_hot_records.proofs.SumLemmas.{plus_assoc, none_right, sum_of_snoc}
 use Rattle.bsp_hot_check.specs.Hot.{Item, Office, part_sums, document_sums, item_sums, items_sums, code_sums, file_sums}
-use Rattle.bsp_hot_check.specs.declared.model.Standing.{Standing}
-use Rattle.bsp_hot_check.specs.declared.model.Progress.{Progress}
-use Rattle.bsp_hot_check.specs.declared.model.Place.TheVariants.{InDocument}
-use Rattle.bsp_hot_check.specs.Standings.{add_at, moved, counted}
+use Rattle.bsp_hot_check.specs.Standings.{add_at}
 
 map_snoc : {A : Type 0} (f : A → Sums) (xs : List A) (x : A) → sum_of (map f (xs ++ x ∷ [])) ≡ add (sum_of (map f xs)) (f x)
 map_snoc f xs x = ap sum_of (map-append f xs (x ∷ [])) ∙ sum_of_snoc (map f xs) (f x)
@@ -87,15 +84,3 @@ add_at_more sums Rfnd x y = rw (plus_assoc sums.rfnd x y) refl
 add_at_more sums Canx x y = rw (plus_assoc sums.canx x y) refl
 add_at_more sums Adma x y = rw (plus_assoc sums.adma x y) refl
 add_at_more sums Acma x y = rw (plus_assoc sums.acma x y) refl
-
--- ---- a record that adds nothing
-
-add_at_none : (sums : CodeSums) (c : DocumentCode) → add_at sums c no_sums ≡ sums
-add_at_none sums Tktt = rw (none_right sums.tktt) refl
-add_at_none sums Rfnd = rw (none_right sums.rfnd) refl
-add_at_none sums Canx = rw (none_right sums.canx) refl
-add_at_none sums Adma = rw (none_right sums.adma) refl
-add_at_none sums Acma = rw (none_right sums.acma) refl
-
-pub counted_none : (at : Standing) (x : Progress) → counted at x no_sums ≡ moved at (InDocument x)
-counted_none at x = rw (none_right at.file, none_right at.office.all, add_at_none at.office.codes x.code) refl

@@ -7,11 +7,10 @@ ghost use Rattle.bsp_hot_check.specs.Standings.{step, form_at, is_airline, is_pe
 ghost use Rattle.bsp_hot_check.specs.Judging.{step_line};
 
 use crate::model::{DocumentKey, OfficeSums, Place, Progress, Stage, Standing};
-use crate::places::added_by;
 use bsp_fields::{AirlineCode, PeriodCode};
 use bsp_hot_records::{
     AgentDigits, CodeTotals, Document, DocumentCode, FileForm, FileTotals, Heading, OfficeHeader,
-    OfficeTotals, PartOf, PeriodTotals, Record, Sums, TransactionHeader, read_record,
+    OfficeTotals, PartOf, PeriodTotals, Record, TransactionHeader, read_record,
 };
 
 /// The form of the file. Before BFH01, which is the same in each form, it is form 1.
@@ -190,12 +189,12 @@ impl Standing {
             related: false,
             only: None,
         };
-        self.count(progress, Sums::DOCUMENT);
+        self.count_document(progress);
         true
     }
 
     /// BKS30, BKS39, BKS42, BKS45 or BKP84 follows where the document takes it.
-    #[tactic(auto, using(crate::proofs::SumLemmas::counted_none), unfolding(crate::specs::Standings::step))]
+    #[tactic(auto, unfolding(crate::specs::Standings::step))]
     fn take_part(&mut self, next: PartOf) -> bool
         requires room { self.old.records < 2 ^ 63 }
         requires small { IsSmall self.old }
@@ -211,11 +210,7 @@ impl Standing {
         if !allowed {
             return false;
         }
-        let behind = progress.behind(heading.form, next.part);
-        match added_by(next.part) {
-            Some(sums) => self.count(behind, sums),
-            None => self.move_to(Place::InDocument(behind)),
-        }
+        self.count(progress.behind(heading.form, next.part), &next.part);
         true
     }
 

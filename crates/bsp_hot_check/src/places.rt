@@ -1,10 +1,10 @@
 //! What may follow what.
 
-ghost use Rattle.std.specs.Prelude.{◌≡◌, IfSome, IfNone};
+ghost use Rattle.std.specs.Prelude.{◌≡◌, ◌^◌};
 ghost use Rattle.std.specs.List.{find};
 ghost use Rattle.std.specs.Option.{option_copied};
 ghost use Rattle.bsp_hot_records.specs.Judged.{IsSmallPart};
-ghost use Rattle.bsp_hot_records.specs.Sums.{no_sums, AreSmall};
+ghost use Rattle.bsp_hot_records.specs.Sums.{add, AreSmall};
 ghost use Rattle.bsp_hot_check.specs.Standings.{is_at, is_complete, is_complete_progress, comes_behind, takes_related, takes, commission_stage, stage_of, only_behind, progress_behind, takes_transaction, stands_in, left_codes, next_code, judged_sums};
 
 use crate::model::{CodeSums, Place, Progress, Stage};
@@ -140,31 +140,20 @@ impl Stage {
     }
 }
 
-/// What a record of a document adds, if anything. EX is in no total.
-pub(crate) fn added_by(part: Part) -> Option<Sums>
-    requires { IsSmallPart part }
-    ensures value { IfSome result (λ sums. sums ≡ judged_sums part) }
-    ensures one { IfSome result (λ sums. AreSmall 1 sums) }
-    ensures none { IfNone result (judged_sums part ≡ no_sums) }
+/// Adds to sums what a record of a document adds. EX is in no total.
+#[inline]
+#[tactic(auto, using(crate::proofs::PartLemmas::adds_cash, crate::proofs::PartLemmas::adds_credit, crate::proofs::PartLemmas::adds_commission, crate::proofs::PartLemmas::adds_tax, bsp_hot_records::proofs::SumLemmas::none_right))]
+pub(crate) fn add_part(sums: &mut Sums, part: &Part)
+    requires small { AreSmall (2 ^ 63) sums.old }
+    requires part { IsSmallPart part.now }
+    ensures { sums.new ≡ add sums.old (judged_sums part.now) }
 {
     match part {
-        Part::Commission(amount) => Some(Sums {
-            commission: amount as i128,
-            ..Sums::NONE
-        }),
-        Part::CommissionTax(amount) => Some(Sums {
-            tax: amount as i128,
-            ..Sums::NONE
-        }),
-        Part::Cash(amount) => Some(Sums {
-            cash: amount as i128,
-            ..Sums::NONE
-        }),
-        Part::Credit(amount) => Some(Sums {
-            credit: amount as i128,
-            ..Sums::NONE
-        }),
-        _ => None,
+        Part::Commission(amount) => sums.commission += *amount as i128,
+        Part::CommissionTax(amount) => sums.tax += *amount as i128,
+        Part::Cash(amount) => sums.cash += *amount as i128,
+        Part::Credit(amount) => sums.credit += *amount as i128,
+        _ => {}
     }
 }
 

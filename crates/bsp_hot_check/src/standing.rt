@@ -1,11 +1,13 @@
 //! The state of the records before a place, and the state with one more.
 
 ghost use Rattle.std.specs.Prelude.{◌≡◌, ◌<◌, ◌^◌};
-ghost use Rattle.bsp_hot_records.specs.Sums.{AreSmall};
-ghost use Rattle.bsp_hot_check.specs.Standings.{start, moved, counted, totals_at, IsSmall};
+ghost use Rattle.bsp_hot_records.specs.Judged.{IsSmallPart};
+ghost use Rattle.bsp_hot_records.specs.Sums.{one_document};
+ghost use Rattle.bsp_hot_check.specs.Standings.{start, moved, counted, judged_sums, totals_at, IsSmall};
 
 use crate::model::{HotTotals, OfficeSums, Place, Progress, Standing};
-use bsp_hot_records::Sums;
+use crate::places::add_part;
+use bsp_hot_records::{Part, Sums};
 
 impl Standing {
     /// The state before any record.
@@ -34,18 +36,30 @@ impl Standing {
         self.place = place;
     }
 
-    /// Takes one more record of a document, which adds these sums.
+    /// Takes BKS24, which adds a document.
     #[inline]
-    pub(crate) fn count(&mut self, progress: Progress, sums: Sums)
+    pub(crate) fn count_document(&mut self, progress: Progress)
         requires room { self.old.records < 2 ^ 63 }
         requires small { IsSmall self.old }
-        requires one { AreSmall 1 sums }
-        ensures { self.new ≡ counted self.old progress sums }
+        ensures { self.new ≡ counted self.old progress one_document }
     {
         self.move_to(Place::InDocument(progress));
-        self.file = self.file.plus(sums);
-        self.office.all = self.office.all.plus(sums);
-        self.office.codes.add(progress.code, sums);
+        self.file = self.file.plus(Sums::DOCUMENT);
+        self.office.all = self.office.all.plus(Sums::DOCUMENT);
+        self.office.codes.add(progress.code, Sums::DOCUMENT);
+    }
+
+    /// Takes one more record of a document, with what it adds.
+    #[inline]
+    pub(crate) fn count(&mut self, progress: Progress, part: &Part)
+        requires room { self.old.records < 2 ^ 63 }
+        requires small { IsSmall self.old }
+        requires part { IsSmallPart part.now }
+        ensures { self.new ≡ counted self.old progress (judged_sums part.now) }
+    {
+        self.move_to(Place::InDocument(progress));
+        add_part(&mut self.file, part);
+        self.office.add_part(progress.code, part);
     }
 
     /// The totals of a file in this state.

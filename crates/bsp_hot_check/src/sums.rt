@@ -1,12 +1,14 @@
 //! What documents add up to by code, and their order.
 
 ghost use Rattle.std.specs.Prelude.{◌≡◌, ◌-◌, ◌^◌};
-ghost use Rattle.bsp_hot_records.specs.Sums.{AreSmall};
+ghost use Rattle.bsp_hot_records.specs.Judged.{IsSmallPart};
+ghost use Rattle.bsp_hot_records.specs.Sums.{add, AreSmall};
 ghost use Rattle.bsp_hot_check.specs.Hot.{is_before};
-ghost use Rattle.bsp_hot_check.specs.Standings.{sums_at, add_at, AreSmallSums};
+ghost use Rattle.bsp_hot_check.specs.Standings.{sums_at, add_at, judged_sums, AreSmallSums};
 
 use crate::model::{CodeSums, DocumentKey, OfficeSums};
-use bsp_hot_records::{DocumentCode, Sums};
+use crate::places::add_part;
+use bsp_hot_records::{DocumentCode, Part, Sums};
 
 impl DocumentKey {
     /// Whether the other comes behind it: by the code, then by the number.
@@ -68,6 +70,24 @@ impl CodeSums {
     }
 }
 
+impl CodeSums {
+    /// Adds to those of the code what a record of a document adds.
+    #[inline]
+    pub(crate) fn add_part(&mut self, code: DocumentCode, part: &Part)
+        requires small { AreSmallSums (2 ^ 63) self.old }
+        requires part { IsSmallPart part.now }
+        ensures { self.new ≡ add_at self.old code (judged_sums part.now) }
+    {
+        match code {
+            DocumentCode::Tktt => add_part(&mut self.tktt, part),
+            DocumentCode::Rfnd => add_part(&mut self.rfnd, part),
+            DocumentCode::Canx => add_part(&mut self.canx, part),
+            DocumentCode::Adma => add_part(&mut self.adma, part),
+            DocumentCode::Acma => add_part(&mut self.acma, part),
+        }
+    }
+}
+
 impl OfficeSums {
     /// Of an office without documents.
     pub(crate) const NONE: OfficeSums = OfficeSums {
@@ -75,4 +95,16 @@ impl OfficeSums {
         all: Sums::NONE,
         latest: None,
     };
+
+    /// Adds what a record of a document with the code adds.
+    #[inline]
+    pub(crate) fn add_part(&mut self, code: DocumentCode, part: &Part)
+        requires codes { AreSmallSums (2 ^ 63) self.old.codes }
+        requires all { AreSmall (2 ^ 63) self.old.all }
+        requires part { IsSmallPart part.now }
+        ensures { self.new ≡ record self.old { codes = add_at self.old.codes code (judged_sums part.now); all = add self.old.all (judged_sums part.now) } }
+    {
+        self.codes.add_part(code, part);
+        add_part(&mut self.all, part);
+    }
 }

@@ -14,7 +14,7 @@ use bsp_records::spells;
 /// What is judged of a line that has a record's width, where it is a record with this number in a
 /// file of that form. BFH01 is the same in each form.
 #[tactic(auto, unfolding(crate::specs::Reading::record_at))]
-#[inline]
+#[inline(always)]
 pub fn read_record(form: FileForm, number: usize, line: &[u8]) -> Option<Record>
     requires wide { is_wide line.now ≡ true }
     requires long { length line.now ≡ 136 }

@@ -288,7 +288,7 @@ fn file_totals(form: FileForm, line: &[u8]) -> Option<Record>
 }
 
 /// What a record with the name in a file of the form says that is judged, where its fields fit.
-#[inline]
+#[inline(always)]
 pub(crate) fn record_of(form: FileForm, name: RecordName, line: &[u8]) -> Option<Record>
     requires { length line.now ≡ 136 }
     ensures value { result ≡ judged_if form name line.now }

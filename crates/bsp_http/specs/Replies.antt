@@ -9,11 +9,11 @@ use Rattle.bsp_desk.specs.Media.{Media as ReplyMedia}
 use Rattle.bsp_desk.specs.Media.TheVariants as reply_media
 use Rattle.bsp_desk.specs.Status.{Status as ReplyStatus}
 use Rattle.bsp_desk.specs.Status.TheVariants as reply_status
-use Rattle.bsp_responses.specs.Responses.{ReplyText}
-use Rattle.bsp_responses.specs.declared.status.Media.{Media}
-use Rattle.bsp_responses.specs.declared.status.Media.TheVariants as media
-use Rattle.bsp_responses.specs.declared.status.Status.{Status}
-use Rattle.bsp_responses.specs.declared.status.Status.TheVariants as status
+use Rattle.bsp_heads.specs.Responses.{ReplyText}
+use Rattle.bsp_heads.specs.declared.status.Media.{Media}
+use Rattle.bsp_heads.specs.declared.status.Media.TheVariants as media
+use Rattle.bsp_heads.specs.declared.status.Status.{Status}
+use Rattle.bsp_heads.specs.declared.status.Status.TheVariants as status
 use Rattle.bsp_desk.specs.Asking.{Asking}
 use Rattle.bsp_desk.specs.Asking.TheVariants as asking
 use Rattle.bsp_desk.specs.Methods.{Methods}

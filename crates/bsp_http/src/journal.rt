@@ -2,7 +2,7 @@
 
 use bsp_connection::Message;
 use bsp_desk::{Book, Desk};
-use bsp_responses::Reply;
+use bsp_heads::Reply;
 
 /// Takes note of the replies of an office over a book of type `B`.
 pub trait Journal<B: Book> {

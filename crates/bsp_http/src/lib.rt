@@ -13,7 +13,7 @@ mod replies;
 
 pub use bsp_connection::{End, Message, Noted, ServeFault, Served};
 pub use bsp_desk::Routes;
-pub use bsp_responses::{Reply, Status};
+pub use bsp_heads::{Reply, Status};
 pub use connection::serve;
 pub use journal::{Journal, NoJournal};
 pub use laws::{messages_are_read, messages_are_run};

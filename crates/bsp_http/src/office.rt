@@ -8,7 +8,7 @@ use crate::journal::Journal;
 use crate::replies::{answer_with, no_room_reply};
 use bsp_connection::{Answer, BodyUse, Message, Service};
 use bsp_desk::{Asking, BodyKind, Book, Content, Desk, Request, Route, Routes};
-use bsp_responses::Reply;
+use bsp_heads::Reply;
 use bsp_ret::{RetFault, RetFile};
 
 /// Answers messages at the office's desk, by the office's routes.

@@ -9,7 +9,7 @@ ghost use Rattle.bsp_http.specs.Replies.{allow_at, media_as, no_room, reply_as, 
 
 use bsp_connection::Answer;
 use bsp_desk::{Asking, Body, Media as ReplyMedia, Reply, RequestRefusal, Status as ReplyStatus};
-use bsp_responses::{Media, Methods, Status};
+use bsp_heads::{Media, Methods, Status};
 use std::alloc::Global;
 use std::borrow::CowSlice;
 

@@ -1,8 +1,10 @@
 //! The program of the office: it reads its command line and runs the work that the words ask for.
 //! `check` and `hotcheck` report on a RET file and on a HOT file. Of a fault both say on standard error which field,
-//! count or sum it is. `run` and `serve` are the office over HTTP, on standard input and output or on a port.
+//! count or sum it is. `audit` reports on the book in a file. `run` and `serve` are the office over HTTP, on standard
+//! input and output or on a port.
 #![tactic(auto)]
 
+mod audit;
 mod book_file;
 mod input;
 mod kept;

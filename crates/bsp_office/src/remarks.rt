@@ -29,12 +29,17 @@ pub(crate) fn say_unopened(rt: &HostRuntime, file: &str, error: &io::Error) {
     say(rt, named(file), error);
 }
 
+/// Says that a report was not written, or not all of it.
+pub(crate) fn say_unwritten(rt: &HostRuntime) {
+    say(rt, "standard output", &cause(Fault::Write));
+}
+
 /// Says which fault a FILE has, or why no whole report on it was written.
 pub(crate) fn say_answer(rt: &HostRuntime, file: &str, answer: &Result<Verdict, Fault>) {
     match answer {
         Ok(Verdict::Passed) => {}
         Ok(Verdict::Refused(explanation)) => say(rt, named(file), explanation),
-        Err(Fault::Write) => say(rt, "standard output", &cause(Fault::Write)),
+        Err(Fault::Write) => say_unwritten(rt),
         Err(fault) => say(rt, named(file), &cause(*fault)),
     }
 }

@@ -1,5 +1,6 @@
 //! Runs the work that the command line asks for.
 
+use crate::audit::run_audit;
 use crate::input::Input;
 use crate::remarks::{say_answer, say_unopened};
 use crate::serving::{Port, run_office, serve_office};
@@ -56,6 +57,7 @@ fn run_work(rt: &HostRuntime, work: &Work<'_>) -> u8 {
     match work {
         Work::Check { file, quiet } => run_check(rt, file, *quiet),
         Work::Hotcheck { file, quiet } => run_hotcheck(rt, file, *quiet),
+        Work::Audit { file } => run_audit(rt, file),
         Work::Run { token, book } => run_office(rt, token, book),
         Work::Serve {
             port,

@@ -15,7 +15,10 @@ use Rattle.bsp_store_open.specs.Opening.{IsOrdered, IsRead, KeepsAtRest, LeavesC
 use Rattle.bsp_store_open.proofs.OpeningLemmas.{still_clean}
 use Rattle.bsp_store_save.specs.Making.{IsNewBook}
 use Rattle.bsp_store.specs.Meanings.{Holds}
-use Rattle.bsp_store.specs.Adopting.{Adopts, IsFoundIn}
+use Rattle.bsp_store_migration.specs.Migrating.{IsMigrated, KeepsOldBook, LeavesMigration}
+use Rattle.bsp_store_migration.specs.Old.{old_schema}
+use Rattle.bsp_store_migration.specs.OldVersion.{OldVersion}
+use Rattle.bsp_store.specs.Adopting.{Adopts, IsFoundIn, IsMigratedIn, LeavesMigrated}
 use Rattle.bsp_store.specs.declared.book.SqlBook.{SqlBook}
 
 -- a book in memory that was read, with its tables
@@ -34,6 +37,29 @@ book_found g old new list rows read book made = record {
   holds = book_read g old new list rows read book made;
   earlier = λ clean. read.earlier (subst (λ h. HasCleanDisk (state g h)) made.1 clean);
   found = λ clean. read.found (subst (λ h. HasCleanDisk (state g h)) made.1 clean);
+}
+
+-- the same of tables of an earlier version, which were brought to this one
+pub book_migrated : {S : Type 0} (g : Ghosts S) (version : OldVersion) (old new : Held S) (list : ListBook) (rows : Rows) → IsMigrated g version old new list rows → (book : SqlBook S)
+    → (book.list ≡ list) × (book.conn ≡ new) × (book.failed ≡ false) → IsMigratedIn g version old book
+book_migrated g version old new list rows read book made = record {
+  rows = rows;
+  sound = read.sound;
+  holds = record {
+    works = made.2;
+    listed = subst (λ l. ListHolds l rows None) (sym made.0) read.listed;
+    kept = subst (λ h. KeepsAtRest g h rows) (sym made.1) read.kept;
+  };
+  earlier = λ clean. read.earlier (subst (λ h. HasCleanDisk (state g h)) made.1 clean);
+  found = λ clean. read.found (subst (λ h. HasCleanDisk (state g h)) made.1 clean);
+}
+
+-- a migration that was given up
+pub migration_given_up : {S : Type 0} (g : Ghosts S) (version : OldVersion) (old new : Held S) → LeavesMigration g version old new → (left : S) → IsQuiet g.view g.faults g.recovers g.is_shielded new.store left
+    → LeavesMigrated g version old left
+migration_given_up g version old new stop left quiet = record {
+  earlier = λ clean. stop.earlier (still_clean g new left quiet clean);
+  leaves = λ clean db may. stop.leaves (still_clean g new left quiet clean) db (quiet.outcomes db may);
 }
 
 -- ---- a book that is made in a store without tables
@@ -62,13 +88,23 @@ module _ {S : Type 0} (g : Ghosts S) (old new : Held S) (stop : Survives (state 
 module _ {S E : Type 0} (g : Ghosts S) (before now : Held S) (again : Reopens g before now) where
   pub new_adopted : (r : Result (SqlBook S) E) → (state g now).now.schema ≡ no_schema → IfOk r (λ book. Holds g book no_rows None) → IfOk r (Adopts g before)
   new_adopted (Err e) bare holds = tt
-  new_adopted (Ok book) bare holds = record { rows = no_rows; sound = no_rows_sound; holds = holds; those = inr ((now, again, bare), refl) }
+  new_adopted (Ok book) bare holds = record { rows = no_rows; sound = no_rows_sound; holds = holds; those = inr (inl ((now, again, bare), refl)) }
 
   pub kept_adopted : (r : Result (SqlBook S) E) → IfOk r (λ book. IsOrdered g now → IsFoundIn g now book) → IfOk r (Adopts g before)
   kept_adopted (Err e) found = tt
   kept_adopted (Ok book) found =
       let it = found again.ordered in
       record { rows = it.rows; sound = it.sound; holds = it.holds; those = inl (λ clean. subst (KeepsBook it.rows) (again.trees (it.earlier clean)) (it.found clean)) }
+
+module _ {S E : Type 0} (g : Ghosts S) (before now : Held S) (again : Reopens g before now) (version : OldVersion) (has : now.schema ≡ old_schema version) where
+  pub migrated_adopted : (r : Result (SqlBook S) E) → IfOk r (IsMigratedIn g version now) → IfOk r (Adopts g before)
+  migrated_adopted (Err e) found = tt
+  migrated_adopted (Ok book) it = record {
+    rows = it.rows;
+    sound = it.sound;
+    holds = it.holds;
+    those = inr (inr (version, (now, again, has), it.earlier, λ clean. subst (KeepsOldBook version it.rows) (again.trees (it.earlier clean)) (it.found clean)));
+  }
 
 -- ---- of each connection before it
 

@@ -1,18 +1,26 @@
 -- What an opening makes of a store: a book, or why it is refused.
-use Rattle.std.specs.Prelude.{◌≡◌, Result, IfErr, true, None}
+use Rattle.std.specs.Prelude.{◌≡◌, ◌⊎◌, Result, IfErr, true, None}
+use Rattle.sqlite_trees.specs.Tree.{Trees}
+use Rattle.sqlite_trees.specs.View.{IsClean}
 use Rattle.sqlite_trees.specs.declared.store.Store.{Ghosts}
 use Rattle.sqlite.specs.Held.{Held, state}
 use Rattle.sqlite.specs.State.{HasCleanDisk}
-use Rattle.bsp_rows.specs.Rows.{Rows}
+use Rattle.bsp_rows.specs.Rows.{Rows, no_rows}
 use Rattle.bsp_rows.specs.Sound.{Sound}
 use Rattle.bsp_store_open.specs.Contents.{KeepsBook}
 use Rattle.bsp_store_open.specs.Faults.{is_refusal}
-use Rattle.bsp_store_open.specs.Opening.{AreThoseOf}
+use Rattle.bsp_store_open.specs.Opening.{IsAskedVersion, IsNoBook, Reopens}
+use Rattle.bsp_store_open.specs.Schema.{no_schema, our_schema}
 use Rattle.bsp_store_open.specs.declared.fault.OpenFault.{OpenFault}
+use Rattle.bsp_store_migration.specs.Migrating.{IsMigrationOf, KeepsOldBook, ShowsNoOldBook}
+use Rattle.bsp_store_migration.specs.Old.{old_schema}
+use Rattle.bsp_store_migration.specs.OldVersion.{OldVersion}
 use Rattle.bsp_store.specs.Meanings.{Holds}
 use Rattle.bsp_store.specs.declared.book.SqlBook.{SqlBook}
 
 module _ {S : Type 0} (g : Ghosts S) where
+  -- ---- a store with tables
+
   -- the book has the rows that the tables kept, and they are sound
   pub record IsFoundIn (h : Held S) (book : SqlBook S) : Type 0 where
     pub rows : Rows
@@ -21,13 +29,72 @@ module _ {S : Type 0} (g : Ghosts S) where
     pub earlier : HasCleanDisk (state g book.conn) → HasCleanDisk (state g h)
     pub found : HasCleanDisk (state g book.conn) → KeepsBook rows (state g h).now.trees
 
+  -- the same of tables that kept them as a book of an earlier version
+  pub record IsMigratedIn (version : OldVersion) (h : Held S) (book : SqlBook S) : Type 0 where
+    pub rows : Rows
+    pub sound : Sound rows
+    pub holds : Holds g book rows None
+    pub earlier : HasCleanDisk (state g book.conn) → HasCleanDisk (state g h)
+    pub found : HasCleanDisk (state g book.conn) → KeepsOldBook version rows (state g h).now.trees
+
+  -- a stop leaves of a store that is given up what it left before, or the whole of the book that was migrated
+  pub record LeavesMigrated (version : OldVersion) (h : Held S) (left : S) : Type 0 where
+    pub earlier : IsClean (g.view left) → HasCleanDisk (state g h)
+    pub leaves : IsClean (g.view left) → (db : Trees) → g.recovers left db → g.recovers h.store db ⊎ IsMigrationOf version (state g h).now.trees db
+
+  -- ---- a whole opening
+
+  -- opened again, the store showed no table
+  abbrev pub WasBare : Held S → Type 0
+  WasBare h = (now : Held S) × Reopens g h now × ((state g now).now.schema ≡ no_schema)
+
+  -- opened again, the store showed the tables of an earlier version
+  abbrev pub WasOld : OldVersion → Held S → Type 0
+  WasOld version h = (now : Held S) × Reopens g h now × ((state g now).now.schema ≡ old_schema version)
+
+  -- the rows are those that the store kept as a book of an earlier version, whose tables it showed
+  abbrev pub AreMigrated : Held S → Held S → Rows → Type 0
+  AreMigrated before after rows = (version : OldVersion) × (old : WasOld version before) × (HasCleanDisk (state g after) → HasCleanDisk (state g old.0)) × (HasCleanDisk (state g after) → KeepsOldBook version rows (state g before).committed.trees)
+
+  -- the rows are those that the store kept, or none, in a store that was bare
+  abbrev pub AreThoseOf : Held S → Held S → Rows → Type 0
+  AreThoseOf before after rows = (HasCleanDisk (state g after) → KeepsBook rows (state g before).committed.trees) ⊎ ((WasBare before × (rows ≡ no_rows)) ⊎ AreMigrated before after rows)
+
   -- the book has sound rows, those of the store
   pub record Adopts (h : Held S) (book : SqlBook S) : Type 0 where
     pub rows : Rows
     pub sound : Sound rows
     pub holds : Holds g book rows None
-    pub those : AreThoseOf g h book.conn rows
+    pub those : AreThoseOf h book.conn rows
 
--- where no book of this version is reported, some connection, and the store that it left, are so
+  -- ---- an opening that is refused
+
+  -- a connection shows no book, for what the fault says: its tables keep none, as tables of this version or of an earlier
+  -- one, or they are not a book's, and that is what they are asked for their version
+  pub record ShowsNone (fault : OpenFault) (h : Held S) : Type 0 where
+    pub ours : IsNoBook fault (state g h).now
+    pub older : (version : OldVersion) → h.schema ≡ old_schema version → ShowsNoOldBook version fault (state g h).now.trees
+    pub others : (h.schema ≡ our_schema → ⊥) → (h.schema ≡ no_schema → ⊥) → ((version : OldVersion) → h.schema ≡ old_schema version → ⊥) → (later : Held S) × HasCleanDisk (state g later) × IsAskedVersion g fault h later
+
+  -- opened again, the store showed no book, for what the fault says
+  abbrev pub WasNoBook : OpenFault → Held S → S → Type 0
+  WasNoBook fault h left = IsClean (g.view left) → (now : Held S) × HasCleanDisk (state g now) × Reopens g h now × ShowsNone fault now
+
+  -- the trees have the whole of a new book: an empty one where the store, opened again, showed no table, and the migrated
+  -- one where it showed those of an earlier version
+  abbrev pub IsNewBookOf : Held S → Trees → Type 0
+  IsNewBookOf h db = (WasBare h × KeepsBook no_rows db) ⊎ ((version : OldVersion) × WasOld version h × IsMigrationOf version (state g h).committed.trees db)
+
+  -- a stop leaves what was committed, what it left before, or the whole of a new book
+  pub record LeavesWhole (h : Held S) (left : S) : Type 0 where
+    pub earlier : IsClean (g.view left) → HasCleanDisk (state g h)
+    pub leaves : IsClean (g.view left) → (db : Trees) → g.recovers left db → ((db ≡ (state g h).committed.trees) ⊎ g.recovers h.store db) ⊎ IsNewBookOf h db
+
+  -- a refused opening: the store, opened again, showed no book, and what a stop leaves is whole
+  pub record Refuses (fault : OpenFault) (h : Held S) (left : S) : Type 0 where
+    pub no_book : WasNoBook fault h left
+    pub leaves : LeavesWhole h left
+
+-- where no book is reported, some connection, and the store that it left, are so
 abbrev pub IfRefused : {S : Type 0} → Result (SqlBook S) OpenFault → (OpenFault → Held S → S → Type 0) → Type 0
 IfRefused {S} result Is = IfErr result (λ fault. is_refusal fault ≡ true → (h : Held S) × (left : S) × Is fault h left)

@@ -1,10 +1,13 @@
 //! The book in tables of `sqlite`.
 #![tactic(auto)]
 
+mod audit;
 mod book;
 mod logged;
+mod missing_log;
 mod opening;
 
+pub use audit::{AuditFault, Summary, audit_at, audit_store};
 pub use book::SqlBook;
 pub use bsp_store_damage::Damage;
 pub use bsp_store_open::OpenFault;

@@ -11,34 +11,53 @@ ghost use Rattle.sqlite.specs.Files.{file_state, over_files};
 ghost use Rattle.bsp_rows.specs.Rows.{no_rows};
 ghost use Rattle.bsp_store_open.specs.Schema.{no_schema};
 ghost use Rattle.bsp_store_open.specs.Faults.{is_refusal};
-ghost use Rattle.bsp_store_open.specs.Opening.{IsOrdered, LeavesCommitted, LeavesEmptyBook, LeavesWhole, Refuses, Reopens, ShowsNone, SparesStore, WasNoBook};
+ghost use Rattle.bsp_store_open.specs.Opening.{IsOrdered, LeavesCommitted, LeavesEmptyBook, Reopens, SparesStore};
+ghost use Rattle.bsp_store_migration.specs.Migrating.{AreAllInOrder, IsOld, ShowsNoOldBook};
+ghost use Rattle.bsp_store_migration.specs.Old.{old_schema};
+ghost use Rattle.bsp_store_migration.specs.OldVersion.{OldVersion};
 ghost use Rattle.bsp_store.specs.Meanings.{Holds};
-ghost use Rattle.bsp_store.specs.Adopting.{Adopts, IfRefused, IsFoundIn};
+ghost use Rattle.bsp_store.specs.Adopting.{Adopts, IfRefused, IsFoundIn, IsMigratedIn, LeavesMigrated, LeavesWhole, Refuses, ShowsNone, WasNoBook};
 
 use crate::book::SqlBook;
 use crate::logged::Logged;
 use bsp_store_damage::{Damage, find_damage};
-use bsp_store_open::{
-    OpenFault, again, empty_list, is_bare, is_ours, kept_list, open_in_order, refusal,
-};
+use bsp_store_migration::{OldVersion, again_ordered, migrated_list, old_version, open_ordered};
+use bsp_store_open::{OpenFault, again, empty_list, is_bare, is_ours, kept_list, refusal};
 use bsp_store_save::make_book;
 use sqlite::{Alter, Connection, Error, ErrorCode, FileFrom, FileStore, MemStore, Start};
 use sqlite_trees::store::Store;
 use std::alloc::Global;
 
-/// Opens the book that a store with tables keeps.
+/// Opens the book that a store with tables keeps, which are not those of an earlier version.
 fn kept_book<S: Alter + Drop>(
     alloc: Global,
     mut conn: Connection<S>,
 ) -> Result<SqlBook<S>, (OpenFault, S)>
     ensures found { IfOk result (λ book. IsOrdered S.Store conn → IsFoundIn S.Store conn book) }
-    ensures refused { IfErr result (λ e. is_refusal e.0 ≡ true → IsClean (S.Store.view e.1) → ShowsNone S.Store e.0 conn) }
+    ensures refused { IfErr result (λ e. is_refusal e.0 ≡ true → IsClean (S.Store.view e.1) → ((version : OldVersion) → conn.schema ≡ old_schema version → ⊥) → ShowsNone S.Store e.0 conn) }
     ensures left { IfErr result (λ e. SparesStore S.Store conn e.1) }
 {
     if !is_ours(conn.schema()) {
         return Err((refusal(&mut conn), conn.into_store()));
     }
     match kept_list(alloc, &mut conn) {
+        Ok(list) => Ok(SqlBook::of(alloc, list, conn)),
+        Err(fault) => Err((fault, conn.into_store())),
+    }
+}
+
+/// Opens the book that tables of an earlier version keep, after they are brought to this version.
+fn migrated_book<S: Alter + Drop>(
+    alloc: Global,
+    mut conn: Connection<S>,
+    version: OldVersion,
+) -> Result<SqlBook<S>, (OpenFault, S)>
+    requires { IsOld S.Store version conn }
+    ensures migrated { IfOk result (IsMigratedIn S.Store version conn) }
+    ensures refused { IfErr result (λ e. is_refusal e.0 ≡ true → IsClean (S.Store.view e.1) → ShowsNoOldBook version e.0 (state S.Store conn).now.trees) }
+    ensures left { IfErr result (λ e. LeavesMigrated S.Store version conn e.1) }
+{
+    match migrated_list(alloc, &mut conn, version) {
         Ok(list) => Ok(SqlBook::of(alloc, list, conn)),
         Err(fault) => Err((fault, conn.into_store())),
     }
@@ -75,17 +94,21 @@ fn new_book<S: Alter + Drop>(
     }
 }
 
-/// What a store that was just opened again has, as a book. A store without any table gets those of an empty book.
+/// What a store that was just opened again has, as a book. A store without any table gets those of an empty book, and one
+/// with the tables of an earlier version is migrated.
 fn opened<S: Alter + Drop>(alloc: Global, conn: Connection<S>) -> Result<SqlBook<S>, (OpenFault, S)>
-    requires { conn.in_transaction ≡ false }
+    requires outside { conn.in_transaction ≡ false }
+    requires ordered { AreAllInOrder S.Store conn }
     ensures ok { IfOk result (λ book. (before : Held S) → Reopens S.Store before conn → Adopts S.Store before book) }
     ensures refused { IfErr result (λ e. (before : Held S) → Reopens S.Store before conn → is_refusal e.0 ≡ true → WasNoBook S.Store e.0 before e.1) }
     ensures left { IfErr result (λ e. (before : Held S) → Reopens S.Store before conn → LeavesWhole S.Store before e.1) }
 {
     if is_bare(&conn) {
-        new_book(alloc, conn)
-    } else {
-        kept_book(alloc, conn)
+        return new_book(alloc, conn);
+    }
+    match old_version(conn.schema()) {
+        Some(version) => migrated_book(alloc, conn, version),
+        None => kept_book(alloc, conn),
     }
 }
 
@@ -95,6 +118,7 @@ fn settled<S: Logged + Drop>(
     conn: Connection<S>,
 ) -> Result<Connection<S>, (OpenFault, S)>
     ensures ok { IfOk result (Reopens S.Store conn) }
+    ensures ordered { IfOk result (AreAllInOrder S.Store) }
     ensures refused { IfErr result (λ e. is_refusal e.0 ≡ false) }
     ensures left { IfErr result (λ e. LeavesCommitted S.Store conn e.1) }
 {
@@ -106,7 +130,7 @@ fn settled<S: Logged + Drop>(
             store,
         ));
     }
-    match open_in_order(alloc, store) {
+    match open_ordered(alloc, store) {
         Ok(conn) => Ok(conn),
         Err((error, store)) => Err((OpenFault::from(error), store)),
     }
@@ -139,22 +163,23 @@ fn settled_book<S: Logged + Drop>(
 
 impl<S: Alter + Drop> SqlBook<S> {
     /// Opens the book that a store keeps, and tests that its rows are sound. A store without any table gets those of an
-    /// empty book, in one transaction.
+    /// empty book, in one transaction. One with the tables of an earlier version gets those that it lacks, also in one
+    /// transaction, and the same book: it is committed only after its rows were found to be sound.
     ///
     /// The connection is opened again over its store, which rolls back a transaction that is open on it and tests the
     /// whole store once more.
     ///
     /// # Errors
     ///
-    /// Each comes with the store. `OtherVersion`, where `meta` has another version than 3. `Damaged`, where the tables
-    /// are not those of a book, a row is no row of a book, or the rows are not sound. `NoRoom`, where an allocation is
+    /// Each comes with the store. `OtherVersion`, where `meta` has another version than that of its tables. `Damaged`, where
+    /// the tables are not those of a book, a row is no row of a book, or the rows are not sound. `NoRoom`, where an allocation is
     /// refused. `Failed` with the error of the store, where it fails for another cause.
     pub fn adopt(alloc: Global, conn: Connection<S>) -> Result<SqlBook<S>, (OpenFault, S)>
         ensures ok { IfOk result (Adopts S.Store conn) }
         ensures refused { IfErr result (λ e. is_refusal e.0 ≡ true → WasNoBook S.Store e.0 conn e.1) }
         ensures left { IfErr result (λ e. LeavesWhole S.Store conn e.1) }
     {
-        let conn = again(alloc, conn)?;
+        let conn = again_ordered(alloc, conn)?;
         opened(alloc, conn)
     }
 }

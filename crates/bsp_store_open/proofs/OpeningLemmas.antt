@@ -1,13 +1,12 @@
 -- From the rows that an opening read to what the tables keep.
-use Rattle.std.proofs.Common.{◌≡◌, ℕ, List, [], ◌∷◌, length, map, None, false, Result, Ok, Err, IfOk, OnOk, IsTrue, IsPermutation, inl, inr, refl, sym, ap, subst, ◌∙◌, arith}
-use Rattle.std.specs.Prelude.{◌⊎◌, IfErr, IsErrAnd, true}
+use Rattle.std.proofs.Common.{◌≡◌, ℕ, List, [], ◌∷◌, length, map, None, false, Result, Ok, Err, IfOk, OnOk, IsTrue, IsPermutation, inl, refl, sym, ap, subst, ◌∙◌, arith}
+use Rattle.std.specs.Prelude.{IfErr, IsErrAnd, true}
 use Rattle.std.specs.List.{AllByRecursion}
 use Rattle.std.proofs.lemmas.List.Sorted.{IsPermutation-sym}
 use Rattle.sqlite_value.specs.Order.{Row, column}
 use Rattle.sqlite_value.specs.declared.value.Value.TheVariants.{Int}
 use Rattle.sqlite_trees.specs.Tree.{Trees, IsTable, rowid}
 use Rattle.sqlite_trees.specs.View.{IsClean, IsQuiet, is_int}
-use Rattle.sqlite_schema.specs.declared.schema.Schema.{Schema}
 use Rattle.sqlite_trees.specs.declared.store.Store.{Ghosts}
 use Rattle.sqlite.specs.Effect.{Database}
 use Rattle.sqlite.specs.Held.{Held, state}
@@ -19,7 +18,7 @@ use Rattle.bsp_store_load.specs.Tables.{Tables}
 use Rattle.bsp_book.specs.Listed.{Holds as ListHolds}
 use Rattle.bsp_book.specs.declared.list.ListBook.{ListBook}
 use Rattle.bsp_store_schema.specs.Order.{AreInOrder, IsInOrder}
-use Rattle.bsp_store_load.specs.Schema.{no_schema, our_schema}
+use Rattle.bsp_store_load.specs.Schema.{our_schema}
 use Rattle.bsp_store_load.specs.Kept.{Keeps, KeepsRows, KeepsTable, Part, Reads, Spares, columns_of}
 use Rattle.bsp_store_load.specs.Columns.{Meta, count, meta_row, meta_rows, version}
 use Rattle.bsp_store_load.specs.Content.{Content, form, meta_part, width_of}
@@ -32,7 +31,7 @@ use Rattle.bsp_store_open.specs.Faults.{is_refusal}
 use Rattle.bsp_store_open.specs.declared.fault.OpenFault.{OpenFault}
 use Rattle.bsp_store_open.specs.declared.fault.OpenFault.TheVariants.{NoRoom}
 use Rattle.bsp_store_open.specs.Loaded.{IsAllLoaded}
-use Rattle.bsp_store_open.specs.Opening.{Finds, HasNoBook, IsNoBook, IsOfOther, IsOfVersion, IsOrdered, IsRead, KeepsAtRest, LeavesCommitted, LeavesEmptyBook, LeavesWhole, Misses, Reopens, Reports, ShowsNone, SparesStore, WasBare, WasNoBook}
+use Rattle.bsp_store_open.specs.Opening.{Finds, HasNoBook, IsNoBook, IsOfOther, IsOfVersion, IsOrdered, IsRead, KeepsAtRest, LeavesCommitted, Misses, Reopens, Reports, SparesStore}
 use Rattle.bsp_store_load.proofs.TallyLemmas.{content_is}
 
 -- ---- one query after another
@@ -142,7 +141,7 @@ keeps_each : (c : Content) (trees : Trees) (parts : List (Part Content)) → All
 keeps_each c trees [] order rows = tt
 keeps_each c trees (p ∷ parts) order rows = (keeps_table (width_of p.tree) (p.rows c) (trees p.tree) order.0 rows.0, keeps_each c trees parts order.1 rows.1)
 
-keeps_all : (c : Content) (trees : Trees) → AreInOrder trees → AllByRecursion (λ (p : Part Content). HasRows p c trees) form.parts → KeepsRows form c trees
+pub keeps_all : (c : Content) (trees : Trees) → AreInOrder trees → AllByRecursion (λ (p : Part Content). HasRows p c trees) form.parts → KeepsRows form c trees
 keeps_all c trees order rows = keeps_each c trees form.parts order rows
 
 module _ {S : Type 0} (g : Ghosts S) (old new : Held S) (order : IsOrdered g old) (c : Content) (finds : Finds g old new (λ trees. AllByRecursion (λ (p : Part Content). HasRows p c trees) form.parts))
@@ -192,9 +191,6 @@ module _ {S : Type 0} (g : Ghosts S) (old new : Held S) (order : IsOrdered g old
 
 -- ---- an opening that is refused
 
-no_tables : no_schema ≡ our_schema → ⊥
-no_tables same = absurd (cc (ap (λ (s : Schema). s.tables) same))
-
 module _ {S : Type 0} (g : Ghosts S) where
   -- a store that is clean when a connection is given up was clean before
   pub still_clean : (h : Held S) (left : S) → IsQuiet g.view g.faults g.recovers g.is_shielded h.store left → IsClean (g.view left) → HasCleanDisk (state g h)
@@ -207,38 +203,15 @@ module _ {S : Type 0} (g : Ghosts S) where
     leaves = λ clean db may. spares.leaves (still_clean new left quiet clean) db (quiet.outcomes db may);
   }
 
-  pub whole_left : (h : Held S) (left : S) → LeavesCommitted g h left → LeavesWhole g h left
-  whole_left h left it = record { earlier = it.earlier; leaves = λ clean db may. inl (it.leaves clean db may) }
-
   -- while a store is open a stop leaves what was committed
-  abbrev IsSettled : Held S → Type 0
+  abbrev pub IsSettled : Held S → Type 0
   IsSettled h = (db : Trees) → IsTrue (state g h).is_open → (state g h).may_leave db → db ≡ (state g h).committed.trees
 
   module _ (before now : Held S) (again : Reopens g before now) where
-    was_committed : IsSettled now → HasCleanDisk (state g now) → (db : Trees) → (state g now).may_leave db → db ≡ (state g before).committed.trees
+    pub was_committed : IsSettled now → HasCleanDisk (state g now) → (db : Trees) → (state g now).may_leave db → db ≡ (state g before).committed.trees
     was_committed settled clean db may =
         let opens = (again.opens clean).0 in
         settled db opens.is_open may ∙ ap (λ (d : Database). d.trees) (sym opens.clean) ∙ again.trees clean
-
-    -- a store without tables
-    pub bare_refused : {X : Type 0} (r : Result X (OpenFault × S)) → now.schema ≡ no_schema → IfErr r (λ e. is_refusal e.0 ≡ true → WasNoBook g e.0 before e.1)
-    bare_refused (Ok x) bare = tt
-    bare_refused (Err e) bare = λ refused clean. (now, again, record { ours = λ ours. absurd (no_tables (sym bare ∙ ours)); others = λ other some. absurd (some bare) })
-
-    pub bare_left : {X : Type 0} (r : Result X (OpenFault × S)) → now.schema ≡ no_schema → IsSettled now → IfErr r (λ e. LeavesEmptyBook g now e.1) → IfErr r (λ e. LeavesWhole g before e.1)
-    bare_left (Ok x) bare settled left = tt
-    bare_left (Err e) bare settled left = record {
-      earlier = λ clean. again.earlier (left.earlier clean);
-      leaves = λ clean db may. elim (left.leaves clean db may) [
-        | inl was ↦ inl (inl (was_committed settled (left.earlier clean) db was))
-        | inr made ↦ inr ((now, again, bare), made)
-      ];
-    }
-
-    -- a store with tables
-    pub kept_refused : {X : Type 0} (r : Result X (OpenFault × S)) → IfErr r (λ e. is_refusal e.0 ≡ true → IsClean (g.view e.1) → ShowsNone g e.0 now) → IfErr r (λ e. is_refusal e.0 ≡ true → WasNoBook g e.0 before e.1)
-    kept_refused (Ok x) none = tt
-    kept_refused (Err e) none = λ refused clean. (now, again, none refused clean)
 
     -- what a store that was opened again leaves is what was committed
     pub left_committed : (left : S) → IsSettled now → SparesStore g now left → LeavesCommitted g before left
@@ -246,7 +219,3 @@ module _ {S : Type 0} (g : Ghosts S) where
       earlier = λ clean. again.earlier (spares.earlier clean);
       leaves = λ clean db may. inl (was_committed settled (spares.earlier clean) db (spares.leaves clean db may));
     }
-
-    pub kept_left : {X : Type 0} (r : Result X (OpenFault × S)) → IsSettled now → IfErr r (λ e. SparesStore g now e.1) → IfErr r (λ e. LeavesWhole g before e.1)
-    kept_left (Ok x) settled left = tt
-    kept_left (Err e) settled left = whole_left before e.1 (left_committed e.1 settled left)

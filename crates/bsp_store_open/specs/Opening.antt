@@ -15,7 +15,7 @@ use Rattle.bsp_book.specs.Sound.{Sound}
 use Rattle.bsp_book.specs.Listed.{meaning as listed}
 use Rattle.bsp_book.specs.declared.list.ListBook.{ListBook}
 use Rattle.bsp_store_schema.specs.Order.{AreInOrder}
-use Rattle.bsp_store_load.specs.Schema.{no_schema, our_schema}
+use Rattle.bsp_store_load.specs.Schema.{our_schema}
 use Rattle.bsp_store_load.specs.Kept.{IsOutside, KeepsRows, Reads, HasContents, columns_of}
 use Rattle.bsp_store_load.specs.Columns.{count, version}
 use Rattle.bsp_store_load.specs.Content.{Content, airline_part, commission_tax_part, form, meta_part, period_part, rate_part, terms_part, width_of}
@@ -129,25 +129,7 @@ module _ {S : Type 0} (g : Ghosts S) where
     pub trees : HasCleanDisk (state g now) → (state g now).now.trees ≡ (state g before).committed.trees
     pub ordered : IsOrdered now
 
-  -- ---- a whole opening
-
-  -- opened again, the store showed no table
-  abbrev pub WasBare : Held S → Type 0
-  WasBare h = (now : Held S) × Reopens h now × ((state g now).now.schema ≡ no_schema)
-
-  -- the rows are those that the store kept, or none, in a store that was bare
-  abbrev pub AreThoseOf : Held S → Held S → Rows → Type 0
-  AreThoseOf before after rows = (HasCleanDisk (state g after) → KeepsBook rows (state g before).committed.trees) ⊎ (WasBare before × (rows ≡ no_rows))
-
-  -- a connection shows no book of this version, for what the fault says: its tables keep none, or they are not a book's,
-  -- and that is what they are asked for their version
-  pub record ShowsNone (fault : OpenFault) (h : Held S) : Type 0 where
-    pub ours : IsNoBook fault (state g h).now
-    pub others : (h.schema ≡ our_schema → ⊥) → (h.schema ≡ no_schema → ⊥) → (later : Held S) × HasCleanDisk (state g later) × IsAskedVersion fault h later
-
-  -- opened again, the store showed no book of this version, for what the fault says
-  abbrev pub WasNoBook : OpenFault → Held S → S → Type 0
-  WasNoBook fault h left = IsClean (g.view left) → (now : Held S) × Reopens h now × ShowsNone fault now
+  -- ---- what a store leaves that is given up
 
   -- a store that is given up leaves to a stop no more than its connection did
   pub record SparesStore (h : Held S) (left : S) : Type 0 where
@@ -163,14 +145,3 @@ module _ {S : Type 0} (g : Ghosts S) where
   pub record LeavesEmptyBook (h : Held S) (left : S) : Type 0 where
     pub earlier : IsClean (g.view left) → HasCleanDisk (state g h)
     pub leaves : IsClean (g.view left) → (db : Trees) → g.recovers left db → g.recovers h.store db ⊎ KeepsBook no_rows db
-
-  -- a stop leaves what was committed, what it left before, or the whole of an empty book where the store, opened again,
-  -- showed no table
-  pub record LeavesWhole (h : Held S) (left : S) : Type 0 where
-    pub earlier : IsClean (g.view left) → HasCleanDisk (state g h)
-    pub leaves : IsClean (g.view left) → (db : Trees) → g.recovers left db → ((db ≡ (state g h).committed.trees) ⊎ g.recovers h.store db) ⊎ (WasBare h × KeepsBook no_rows db)
-
-  -- a refused opening: the store, opened again, showed no book, and what a stop leaves is whole
-  pub record Refuses (fault : OpenFault) (h : Held S) (left : S) : Type 0 where
-    pub no_book : WasNoBook fault h left
-    pub leaves : LeavesWhole h left

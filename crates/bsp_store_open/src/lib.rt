@@ -1,7 +1,8 @@
 //! A store read as a book, before the book is opened.
 //!
 //! [`kept_list`] reads all rows of a store and answers the book in memory that they keep, and [`empty_list`] does so in a
-//! new store. [`plan_rows`], [`tallies`] and [`tally_taxes`] answer rows as they are, and [`load_rows`] puts those of a
+//! new store. [`kept_tables`] answers the tables in memory, also in an open transaction, and [`expect_sound`] tests their
+//! rows. [`plan_rows`], [`tallies`] and [`tally_taxes`] answer rows as they are, and [`load_rows`] puts those of a
 //! further table into memory. [`again`] opens a connection again over its own store.
 //! [`OpenFault`] says why a store is refused.
 #![tactic(auto)]
@@ -13,6 +14,6 @@ mod tables;
 
 pub use bsp_store_schema::{is_bare, is_ours, open_in_order};
 pub use fault::OpenFault;
-pub use opening::{again, empty_list, kept_list};
+pub use opening::{again, empty_list, expect_sound, kept_list};
 pub use reading::{plan_rows, refusal, tallies, tally_taxes};
-pub use tables::load_rows;
+pub use tables::{kept_tables, load_rows};

@@ -31,7 +31,11 @@ fn expect_rest<S: Alter>(conn: &Connection<S>) -> Result<(), OpenFault>
 }
 
 /// Refuses tables in memory whose rows are not sound.
-fn expect_sound(alloc: Global, tables: &Tables) -> Result<(), OpenFault>
+///
+/// # Errors
+///
+/// `Damaged`, where the rows are not sound. `NoRoom`, where an allocation is refused.
+pub fn expect_sound(alloc: Global, tables: &Tables) -> Result<(), OpenFault>
     ensures sound { OnOk result (Sound (rows_of tables.now)) }
     ensures refused { IfErr result (λ fault. is_refusal fault ≡ true → (fault ≡ OpenFault.Damaged) × ¬ Sound (rows_of tables.now)) }
 {

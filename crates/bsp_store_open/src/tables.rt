@@ -244,11 +244,12 @@ fn load_rest<S: Alter>(
     expect_sums(conn, tables)
 }
 
-/// The tables in memory that the tables of a store keep.
-pub(crate) fn kept_tables<S: Alter>(
-    alloc: Global,
-    conn: &mut Connection<S>,
-) -> Result<Tables, OpenFault>
+/// The tables in memory that the tables of a store keep. A transaction may be open, and their rows need not be sound.
+///
+/// # Errors
+///
+/// As those of [`kept_list`](crate::kept_list).
+pub fn kept_tables<S: Alter>(alloc: Global, conn: &mut Connection<S>) -> Result<Tables, OpenFault>
     ensures committed { IfOk result AreCommitted }
     ensures found { IfOk result (λ tables. Finds S.Store conn.old conn.new (λ trees. IsAllLoaded trees tables)) }
     ensures refused { IfErr result (λ fault. is_refusal fault ≡ true → HasNoBook S.Store fault conn.old conn.new) }

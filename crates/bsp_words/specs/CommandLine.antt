@@ -14,7 +14,7 @@ use Rattle.bsp_words.specs.declared.work.BookSource.TheVariants as kept
 use Rattle.bsp_words.specs.declared.work.TokenSource.{TokenSource}
 use Rattle.bsp_words.specs.declared.work.TokenSource.TheVariants as source
 use Rattle.bsp_words.specs.declared.work.Work.{Work}
-use Rattle.bsp_words.specs.declared.work.Work.TheVariants.{Check, Hotcheck, Run, Serve}
+use Rattle.bsp_words.specs.declared.work.Work.TheVariants.{Audit, Check, Hotcheck, Run, Serve}
 use Rattle.bsp_words.specs.declared.work.WordsFault.{WordsFault}
 use Rattle.bsp_words.specs.declared.work.WordsFault.TheVariants.{Refused, OutOfForm}
 
@@ -31,6 +31,10 @@ flag_rule id = record (new_rule id) { long = Some id; action = Some SetTrue }
 -- a command with a FILE behind it, and --quiet: check FILE, hotcheck FILE
 abbrev pub file_app : Text → App
 file_app name = with_rule (with_rule (new_app name) (flag_rule (codes "quiet"))) (wanted_word (codes "FILE"))
+
+-- a command with the FILE of a book behind it: audit FILE
+abbrev pub audit_app : App
+audit_app = with_rule (new_app (codes "audit")) (wanted_word (codes "FILE"))
 
 -- an option with a value behind it: --ID VALUE
 abbrev pub named_option : Text → Rule
@@ -77,8 +81,10 @@ office =
     with_subcommand
     (with_subcommand
     (with_subcommand
+    (with_subcommand
     (with_subcommand (on_top needs_subcommand (new_app (codes "bsp_office"))) (file_app (codes "check")).top)
     (file_app (codes "hotcheck")).top)
+    audit_app.top)
     run_app.top)
     serve_app.top
 
@@ -106,12 +112,14 @@ book_of (kept.File file) = stored_in file.now
 pub data AskedWork : Type 0 where
   check : Text → Bool → AskedWork
   hotcheck : Text → Bool → AskedWork
+  audit : Text → AskedWork
   run : AskedToken → AskedBook → AskedWork
   serve : ℕ → AskedToken → AskedBook → ℕ → ℕ → Bool → AskedWork
 
 abbrev pub work_of : Work → AskedWork
 work_of (Check file quiet) = check file.now quiet
 work_of (Hotcheck file quiet) = hotcheck file.now quiet
+work_of (Audit file) = audit file.now
 work_of (Run token book) = run (token_of token) (book_of book)
 work_of (Serve port token book connections timeout log) = serve port (token_of token) (book_of book) connections timeout log
 
@@ -125,6 +133,13 @@ check_work rows = option_map (λ file. check file (is_set (codes "quiet") rows))
 
 abbrev pub hotcheck_work : List Row → Option AskedWork
 hotcheck_work rows = option_map (λ file. hotcheck file (is_set (codes "quiet") rows)) (first_of (codes "FILE") rows)
+
+-- no file of a book is called -
+abbrev pub audit_of : Text → Option AskedWork
+audit_of file = if bytes_eq file (codes "-") then None else Some (audit file)
+
+abbrev pub audit_work : List Row → Option AskedWork
+audit_work rows = option_and_then audit_of (first_of (codes "FILE") rows)
 
 -- exactly one of the two options gives the token; no file is called -
 abbrev pub token_from : Option Text → Option Text → Option AskedToken
@@ -169,6 +184,7 @@ unfoldable pub work_in : Text → List Row → Option AskedWork
 work_in name rows =
     if bytes_eq name (codes "check") then check_work rows
     else if bytes_eq name (codes "hotcheck") then hotcheck_work rows
+    else if bytes_eq name (codes "audit") then audit_work rows
     else if bytes_eq name (codes "run") then run_work rows
     else if bytes_eq name (codes "serve") then serve_work rows
     else None

@@ -4,7 +4,7 @@
 
 ghost use Rattle.std.specs.Prelude.{◌≡◌, ◌++◌, ◌∷◌, List, [], IfOk, IsOkAnd, OnOk, codes, false};
 ghost use Rattle.clap.specs.Words.{Rule, app_of, new_app, rule_of};
-ghost use Rattle.bsp_words.specs.CommandLine.{connections_rule, file_app, flag_rule, named_option, office, port_rule, run_app, serve_app, timeout_rule, wanted_word};
+ghost use Rattle.bsp_words.specs.CommandLine.{audit_app, connections_rule, file_app, flag_rule, named_option, office, port_rule, run_app, serve_app, timeout_rule, wanted_word};
 ghost use Rattle.bsp_words.specs.Filling.{of_one, rules_in, shapes_in, with_rules};
 
 use clap::{Arg, ArgAction, Command};
@@ -76,6 +76,16 @@ fn file_word<'a>(alloc: Global) -> Arg<'a>
 {
     Arg::new(alloc, "FILE")
         .help("the file, or - for standard input")
+        .required(true)
+}
+
+/// The word FILE of a command on a book.
+fn book_word<'a>(alloc: Global) -> Arg<'a>
+    ensures rule { rule_of result ≡ wanted_word (codes "FILE") }
+    ensures local { result.global ≡ false }
+{
+    Arg::new(alloc, "FILE")
+        .help("the file that keeps the book, which is not changed")
         .required(true)
 }
 
@@ -161,6 +171,20 @@ fn push_hotcheck<'a>(alloc: Global, commands: &mut Vec<Command<'a>>) -> Result<(
     )
 }
 
+fn push_audit<'a>(alloc: Global, commands: &mut Vec<Command<'a>>) -> Result<(), AllocError>
+    ensures { OnOk result (shapes_in commands.new.items ≡ shapes_in commands.old.items ++ of_one (audit_app.top ∷ [])) }
+{
+    let mut arguments = Vec::new(alloc);
+    push_argument(&mut arguments, book_word(alloc))?;
+    push_command(
+        alloc,
+        commands,
+        "audit",
+        "Reads the book in a file and prints what it has, or what is wrong with it",
+        arguments,
+    )
+}
+
 /// Adds the options that give the office's token.
 fn push_token<'a>(alloc: Global, arguments: &mut Vec<Arg<'a>>) -> Result<(), AllocError>
     ensures { OnOk result (rules_in arguments.new.items ≡ rules_in arguments.old.items ++ of_one (named_option (codes "token") ∷ named_option (codes "token-file") ∷ [])) }
@@ -242,10 +266,11 @@ fn push_serve<'a>(alloc: Global, commands: &mut Vec<Command<'a>>) -> Result<(), 
 
 /// Adds each command.
 fn push_commands<'a>(alloc: Global, commands: &mut Vec<Command<'a>>) -> Result<(), AllocError>
-    ensures { OnOk result (shapes_in commands.new.items ≡ shapes_in commands.old.items ++ of_one ((file_app (codes "check")).top ∷ (file_app (codes "hotcheck")).top ∷ run_app.top ∷ serve_app.top ∷ [])) }
+    ensures { OnOk result (shapes_in commands.new.items ≡ shapes_in commands.old.items ++ of_one ((file_app (codes "check")).top ∷ (file_app (codes "hotcheck")).top ∷ audit_app.top ∷ run_app.top ∷ serve_app.top ∷ [])) }
 {
     push_check(alloc, commands)?;
     push_hotcheck(alloc, commands)?;
+    push_audit(alloc, commands)?;
     push_run(alloc, commands)?;
     push_serve(alloc, commands)
 }

@@ -5,7 +5,7 @@
 
 ghost use Rattle.std.specs.Prelude.{◌≡◌, IfOk, IfErr, [], codes, map, option_map};
 ghost use Rattle.clap.specs.Words.{HasKind, fault_of, first_of, found_of, rows_of, subcommand_of, subcommand_rows_of};
-ghost use Rattle.bsp_words.specs.CommandLine.{AnswersWords, asked_book, asked_token, book_of, check_work, hotcheck_work, is_set, number_in, office, run_work, serve_work, token_of, work_from, work_in, work_of};
+ghost use Rattle.bsp_words.specs.CommandLine.{AnswersWords, asked_book, asked_token, audit_work, book_of, check_work, hotcheck_work, is_set, number_in, office, run_work, serve_work, token_of, work_from, work_in, work_of};
 
 use crate::command_line::office_command;
 use bsp_fields::Token;
@@ -46,6 +46,10 @@ pub enum Work<'a> {
         /// As of `Check`.
         quiet: bool,
     },
+    /// `audit FILE`: to report on the book that a file keeps. The FILE `-` is out of form.
+    Audit {
+        file: &'a str,
+    },
     /// `run`: to serve one connection on standard input and output.
     Run {
         token: TokenSource<'a>,
@@ -72,7 +76,7 @@ pub enum WordsFault {
     /// `clap` refuses the words, or was refused memory; a request for help is reported so too.
     Refused(Error),
     /// `clap` takes the words, and a value in them is out of its form. It is the token, which
-    /// exactly one of the two options gives, or the file of the book.
+    /// exactly one of the two options gives, or the file of the book, of `audit` too.
     OutOfForm,
 }
 
@@ -108,6 +112,15 @@ fn hotcheck_given<'a>(matches: &ArgMatches<'a>) -> Option<Work<'a>>
     };
     let quiet = flag_given(matches, "quiet");
     Some(Work::Hotcheck { file, quiet })
+}
+
+fn audit_given<'a>(matches: &ArgMatches<'a>) -> Option<Work<'a>>
+    ensures { option_map work_of result ≡ audit_work (rows_of (found_of matches.now)) }
+{
+    match value_of(matches, "FILE") {
+        Some(file) if file != "-" => Some(Work::Audit { file }),
+        _ => None,
+    }
 }
 
 /// Where the token is, which one of the two options gives.
@@ -203,6 +216,7 @@ fn work_given<'a>(name: &str, matches: &ArgMatches<'a>) -> Option<Work<'a>>
     match name {
         "check" => check_given(matches),
         "hotcheck" => hotcheck_given(matches),
+        "audit" => audit_given(matches),
         "run" => run_given(matches),
         "serve" => serve_given(matches),
         _ => None,

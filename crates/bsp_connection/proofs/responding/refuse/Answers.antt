@@ -1,5 +1,5 @@
 use Rattle.std.proofs.Common.{subst, true}
-use Rattle.bsp_responses.specs.Responses.{ReplyText, response}
+use Rattle.bsp_heads.specs.Responses.{ReplyText, response}
 use Rattle.bsp_connection.specs.Exchanges.{IsWritten}
 use Rattle.bsp_connection.proofs.responding.refuse.Goals as goal
 

@@ -1,5 +1,5 @@
 use Rattle.std.proofs.Common.{subst, true}
-use Rattle.bsp_responses.specs.Responses.{ReplyText, response}
+use Rattle.bsp_heads.specs.Responses.{ReplyText, response}
 use Rattle.bsp_connection.specs.Responding.{IsResponded}
 use Rattle.bsp_connection.proofs.responding.stop.Goals as goal
 

@@ -2,11 +2,12 @@ use Rattle.std.proofs.Common.{inr, ◌∙◌, arith}
 use Rattle.sqlite_trees.specs.View.{IsClean}
 use Rattle.sqlite_rules.proofs.ViewLemmas.{still_quiet}
 use Rattle.bsp_store_open.proofs.OpeningLemmas.{still_clean}
+use Rattle.bsp_store_migration.proofs.OrderLemmas.{ours_in_order}
 use Rattle.bsp_store.proofs.Settling.{committed, fresh}
 use Rattle.bsp_store.proofs.opening.settled.Goals as goal
 
-pub open_in_order-requires : goal.open_in_order-requires
-open_in_order-requires g c =
+pub open_ordered-requires : goal.open_ordered-requires
+open_ordered-requires g c =
     let view = g.S.Store.view in
     let store = c.into_store-store in
     let copied = c.copy_log.new.self in
@@ -32,7 +33,7 @@ returns-in-Ok-clause-ok g c =
           c.in-Ok.ensures.trees disk
           ∙ committed (view c.args.conn.store) (view store.result) (view copied) c.copy_log.ensures.quiet.clean (g.met.S.Store.broken_if_shut copied) c.copy_log.ensures.same
           store.ensures.undone store.ensures.numbered c.is_broken.result c.is_broken.ensures c.if-is_broken.false clean;
-      ordered = c.in-Ok.ensures.order;
+      ordered = ours_in_order g.S.Store c.in-Ok.conn c.in-Ok.ensures.order;
     }
 
 pub returns-in-Err-clause-left : goal.returns-in-Err-clause-left

@@ -1,13 +1,14 @@
 use Rattle.std.proofs.Common.{◌≡◌, true}
 use Rattle.bsp_store_open.specs.Faults.{is_refusal}
-use Rattle.bsp_store_open.specs.Opening.{LeavesWhole, Reopens, WasNoBook}
-use Rattle.bsp_store_open.proofs.OpeningLemmas.{passed_on, whole_left}
-use Rattle.bsp_store.specs.Adopting.{Adopts}
+use Rattle.bsp_store_open.specs.Opening.{Reopens}
+use Rattle.bsp_store_open.proofs.OpeningLemmas.{passed_on}
+use Rattle.bsp_store.specs.Adopting.{Adopts, LeavesWhole, WasNoBook}
 use Rattle.bsp_store.proofs.AdoptingLemmas.{one_err, one_ok}
+use Rattle.bsp_store.proofs.WholeLemmas.{whole_left}
 use Rattle.bsp_store.proofs.opening.settled_book.Goals as goal
 
 pub opened-requires : goal.opened-requires
-opened-requires g c = c.in_ok-conn.ensures.ok.fresh.autocommit
+opened-requires g c = record { outside = c.in_ok-conn.ensures.ok.fresh.autocommit; ordered = c.in_ok-conn.ensures.ordered }
 
 pub returns-in_err-conn-clause-left : goal.returns-in_err-conn-clause-left
 returns-in_err-conn-clause-left g c = passed_on (λ e. LeavesWhole g.S.Store c.args.conn e.1) _ _ c.from_residual.ensures.1 (whole_left g.S.Store c.args.conn _ c.in_err-conn.ensures.left)

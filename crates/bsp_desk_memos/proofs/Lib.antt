@@ -1,4 +1,0 @@
--- Lemmas of this crate.
-pub mod MemoLemmas
-pub mod IssueLemmas
-pub mod ServeLemmas

@@ -1,4 +1,0 @@
--- What is answered about memos, and what it makes of the rows.
-pub mod Answered
-pub mod Actions
-pub mod Issues

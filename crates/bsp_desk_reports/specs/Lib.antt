@@ -1,4 +1,0 @@
--- What the functions of this crate add up and look up.
-pub mod Sums
-pub mod Documents
-pub mod Stock

@@ -1,0 +1,35 @@
+use Rattle.bsp_heads.specs.ResponseHeads.{head_text, allow_lines, closing_lines}
+use Rattle.bsp_heads.proofs.Texts.{text_is}
+use Rattle.bsp_heads.proofs.response_head.ResponseHead.text.Goals as goal
+
+pub returns : goal.returns
+unfolding head_text
+returns c =
+    rw (
+      c.put-12.ensures,
+      c.put-11.ensures,
+      c.put-10.ensures,
+      c.put-9.ensures,
+      c.put-8.ensures,
+      c.put-7.ensures,
+      c.put-6.ensures,
+      c.put-5.ensures,
+      c.put-4.ensures,
+      c.put-3.ensures,
+      c.put-2.ensures,
+      c.put.ensures,
+      c.new-text.ensures,
+      c.as_bytes.ensures.value,
+      c.format.ensures.text,
+      c.as_u16.ensures.value,
+      c.code.ensures,
+      c.as_bytes-2.ensures.value,
+      c.phrase.ensures.value,
+      c.as_bytes-3.ensures.value,
+      c.text.ensures.value,
+      c.as_bytes-4.ensures.value,
+      c.format-2.ensures.text,
+      c.allow_line.ensures.value,
+      c.closing_line.ensures.value,
+    )
+    (text_is _ _ _ _ (allow_lines c.args.self.now.allow) (closing_lines c.args.self.now.closes))

@@ -1,0 +1,70 @@
+//! The head of a response.
+
+ghost use Rattle.std.specs.Prelude.{◌≡◌, ◌≤◌, length};
+ghost use Rattle.bsp_heads.specs.ResponseHeads.{allow_lines, closing_lines, lines_text, head_text};
+
+use crate::status::{Media, Status};
+use crate::text::HeadText;
+use bsp_routes::Methods;
+use itoa::Buffer;
+
+/// What the head of a response says.
+#[derive(Clone, Copy)]
+pub struct ResponseHead {
+    /// The status.
+    pub status: Status,
+    /// The media type of the body.
+    pub media: Media,
+    /// The length of the body in bytes, also where a HEAD is answered and the body is left out
+    /// (RFC 9110, 8.6).
+    pub length: usize,
+    /// The methods of the field `Allow`, which a 405 has (RFC 9110, 10.2.1).
+    pub allow: Option<Methods>,
+    /// Whether the connection closes behind the response (RFC 9112, 9.6).
+    pub closes: bool,
+}
+
+fn allow_line(allow: Option<Methods>) -> &'static [u8]
+    ensures value { result.now ≡ lines_text (allow_lines allow) }
+    ensures short { length result.now ≤ 18 }
+{
+    match allow {
+        None => b"",
+        Some(Methods::Get) => b"Allow: GET\r\n",
+        Some(Methods::Post) => b"Allow: POST\r\n",
+        Some(Methods::GetAndPost) => b"Allow: GET, POST\r\n",
+    }
+}
+
+fn closing_line(closes: bool) -> &'static [u8]
+    ensures value { result.now ≡ lines_text (closing_lines closes) }
+    ensures short { length result.now ≤ 19 }
+{
+    if closes {
+        b"Connection: close\r\n"
+    } else {
+        b""
+    }
+}
+
+impl ResponseHead {
+    /// The head as it is sent: the status line, its fields, and the empty line (RFC 9112, section 2.1).
+    pub fn text(&self) -> HeadText
+        ensures { result ≡ head_text self.now }
+    {
+        let mut text = HeadText::new();
+        text.put(b"HTTP/1.1 ");
+        text.put(Buffer::new().format(self.status.code().as_u16()).as_bytes());
+        text.put(b" ");
+        text.put(self.status.phrase().as_bytes());
+        text.put(b"\r\nContent-Type: ");
+        text.put(self.media.text().as_bytes());
+        text.put(b"\r\nContent-Length: ");
+        text.put(Buffer::new().format(self.length).as_bytes());
+        text.put(b"\r\n");
+        text.put(allow_line(self.allow));
+        text.put(closing_line(self.closes));
+        text.put(b"\r\n");
+        text
+    }
+}

@@ -1,0 +1,66 @@
+-- What an audit finds in a store.
+use Rattle.std.specs.Prelude.{◌≡◌, ℤ, List, ◌∷◌, length}
+use Rattle.std.specs.FinMap.{entries}
+use Rattle.sqlite_value.specs.Order.{Row, column}
+use Rattle.sqlite_value.specs.declared.value.Value.TheVariants.{Int}
+use Rattle.sqlite_trees.specs.View.{IsClean}
+use Rattle.sqlite_trees.specs.declared.store.Store.{Ghosts}
+use Rattle.sqlite.specs.Held.{Held, state}
+use Rattle.sqlite.specs.State.{HasCleanDisk}
+use Rattle.bsp_rows.specs.Rows.{Rows}
+use Rattle.bsp_rows.specs.Sound.{Sound}
+use Rattle.bsp_store_open.specs.Contents.{KeepsBook}
+use Rattle.bsp_store_open.specs.Schema.{our_schema}
+use Rattle.bsp_store_open.specs.Opening.{HasNoBook, IsAskedVersion, Reopens}
+use Rattle.bsp_store_open.specs.declared.fault.OpenFault.{OpenFault}
+use Rattle.bsp_store_open.specs.declared.fault.OpenFault.TheVariants as opening
+use Rattle.bsp_store.specs.declared.audit.AuditFault.{AuditFault}
+use Rattle.bsp_store.specs.declared.audit.AuditFault.TheVariants.{Damaged, OtherVersion, Failed}
+use Rattle.bsp_store.specs.declared.audit.Summary.{Summary}
+
+-- the numbers of the rows
+pub record IsSummaryOf (rows : Rows) (s : Summary) : Type 0 where
+  pub day : s.day ≡ rows.published.day
+  pub agents : s.agents ≡ length (entries rows.agents)
+  pub items : s.items ≡ length (entries rows.items)
+  pub memos : s.memos ≡ length (entries rows.memos)
+  pub periods : s.periods ≡ length rows.published.closed
+
+-- the first row of `meta` has this version
+pub record ShowsNumber (rows : List Row) (number : ℤ) : Type 0 where
+  pub row : Row
+  pub more : List Row
+  pub first : rows ≡ row ∷ more
+  pub has : column row 1 ≡ Int number
+
+-- the fault of an opening that an audit answers
+abbrev pub fault_in : AuditFault → OpenFault
+fault_in (Damaged damage) = opening.Damaged
+fault_in (OtherVersion number) = opening.OtherVersion
+fault_in (Failed fault) = fault
+
+module _ {S : Type 0} (g : Ghosts S) where
+  -- the tables of a connection keep sound rows, and these are their numbers
+  pub record IsCounted (old new : Held S) (s : Summary) : Type 0 where
+    pub rows : Rows
+    pub sound : Sound rows
+    pub counted : IsSummaryOf rows s
+    pub earlier : HasCleanDisk (state g new) → HasCleanDisk (state g old)
+    pub kept : HasCleanDisk (state g new) → KeepsBook rows (state g old).now.trees
+
+  -- a connection has no book of this version, for what the fault says: its tables keep none, or they are not a book's, and
+  -- that is what they are asked for their version
+  pub record HasNone (fault : OpenFault) (old new : Held S) : Type 0 where
+    pub ours : HasNoBook g fault old new
+    pub others : HasCleanDisk (state g new) → (old.schema ≡ our_schema → ⊥) → (later : Held S) × HasCleanDisk (state g later) × IsAskedVersion g fault old later
+
+  -- the tables of a store keep sound rows, and these are their numbers
+  pub record IsAudited (h : Held S) (left : S) (s : Summary) : Type 0 where
+    pub rows : Rows
+    pub sound : Sound rows
+    pub counted : IsSummaryOf rows s
+    pub kept : IsClean (g.view left) → KeepsBook rows (state g h).committed.trees
+
+  -- opened again, the store showed no book of this version, for what the fault says
+  abbrev pub WasRefused : OpenFault → Held S → S → Type 0
+  WasRefused fault h left = IsClean (g.view left) → (now : Held S) × Reopens g h now × ((later : Held S) × HasCleanDisk (state g later) × HasNone fault now later)

@@ -1,0 +1,183 @@
+//! The audit of a book, which changes nothing in its store.
+
+ghost use Rattle.std.specs.Prelude.{◌≡◌, IfErr, IfOk, IfSome, None, true};
+ghost use Rattle.bsp_rows.specs.Rows.{Rows};
+ghost use Rattle.bsp_book.specs.Listed.{Holds as ListHolds};
+ghost use Rattle.bsp_store_save.specs.Kept.{Spares};
+ghost use Rattle.bsp_store_open.specs.Faults.{is_refusal};
+ghost use Rattle.bsp_store_open.specs.Opening.{IsOrdered, LeavesCommitted};
+ghost use Rattle.bsp_store.specs.Auditing.{HasNone, IsAudited, IsCounted, IsSummaryOf, ShowsNumber, WasRefused, fault_in};
+
+use crate::missing_log::MissingLog;
+use bsp_book::ListBook;
+use bsp_rows::Day;
+use bsp_store_damage::{Damage, find_damage};
+use bsp_store_open::{OpenFault, again, is_ours, kept_list, refusal};
+use sqlite::{Alter, Connection, Row, Start};
+use std::alloc::Global;
+use std::fmt;
+
+/// What a sound book has.
+#[derive(Clone, Copy, Debug, PartialEq, Eq)]
+pub struct Summary {
+    /// The business day.
+    pub day: Day,
+    /// How many agents are registered.
+    pub agents: usize,
+    /// How many transactions were accepted.
+    pub items: usize,
+    /// How many memos were issued.
+    pub memos: usize,
+    /// How many periods are closed.
+    pub periods: usize,
+}
+
+impl fmt::Display for Summary {
+    fn fmt<W: fmt::Write>(&self, f: &mut fmt::Formatter<W>) -> fmt::Result {
+        let (day, agents, items) = (self.day, self.agents, self.items);
+        let (memos, periods) = (self.memos, self.periods);
+        write!(f, "version 3 day {day} agents {agents} items {items} ")?;
+        write!(f, "memos {memos} periods {periods}")
+    }
+}
+
+/// Why an audit passes no book.
+#[derive(Debug, Drop)]
+pub enum AuditFault {
+    /// The tables are not those of a book, or have rows that are not sound. (B02.) With what is at fault, as far as it is
+    /// found.
+    Damaged(Option<Damage>),
+    /// The tables are of another version. (B04.) With its number, as far as it can be read.
+    OtherVersion(Option<i64>),
+    /// The store is not opened, or fails, for another cause. (B01, B03.)
+    Failed(OpenFault),
+}
+
+/// The numbers of the rows of a book in memory.
+fn summary_of(list: &ListBook) -> Summary
+    ensures { (rows : Rows) → ListHolds list.now rows None → IsSummaryOf rows result }
+{
+    let tables = list.tables();
+    let plan = tables.plan();
+    Summary {
+        day: plan.day(),
+        agents: tables.agent_tokens().map().len(),
+        items: tables.item_table().map().len(),
+        memos: tables.memo_table().map().len(),
+        periods: plan.closed_count(),
+    }
+}
+
+/// Reads all rows of a store, tests that they are a sound book's, and counts them.
+fn counted<S: Alter>(alloc: Global, conn: &mut Connection<S>) -> Result<Summary, OpenFault>
+    ensures ok { IfOk result (λ summary. IsOrdered S.Store conn.old → IsCounted S.Store conn.old conn.new summary) }
+    ensures refused { IfErr result (λ fault. is_refusal fault ≡ true → HasNone S.Store fault conn.old conn.new) }
+    ensures spares { Spares S.Store conn.old conn.new }
+{
+    if !is_ours(conn.schema()) {
+        return Err(refusal(conn));
+    }
+    let list = kept_list(alloc, conn)?;
+    Ok(summary_of(&list))
+}
+
+/// The version in the first row of `meta`.
+fn first_version(rows: &[Row]) -> Option<i64>
+    ensures { IfSome result (ShowsNumber rows.now) }
+{
+    let row = rows.first()?;
+    row.get(1).ok()
+}
+
+/// The version that the tables of a store have.
+fn version_in<S: Alter>(conn: &mut Connection<S>) -> Option<i64>
+    ensures spares { Spares S.Store conn.old conn.new }
+{
+    let rows = conn.query_all("SELECT id, version FROM meta", &[]).ok()?;
+    first_version(&rows)
+}
+
+/// What is at fault where a store is refused.
+fn explained<S: Alter>(alloc: Global, conn: &mut Connection<S>, fault: OpenFault) -> AuditFault
+    ensures same { fault_in result ≡ fault }
+    ensures spares { Spares S.Store conn.old conn.new }
+{
+    match fault {
+        OpenFault::Damaged => AuditFault::Damaged(find_damage(alloc, conn).ok()),
+        OpenFault::OtherVersion => AuditFault::OtherVersion(version_in(conn)),
+        OpenFault::NoRoom | OpenFault::Failed(_) => AuditFault::Failed(fault),
+    }
+}
+
+/// The audit of a connection that was just opened.
+fn audited<S: Alter>(alloc: Global, conn: &mut Connection<S>) -> Result<Summary, AuditFault>
+    ensures ok { IfOk result (λ summary. IsOrdered S.Store conn.old → IsCounted S.Store conn.old conn.new summary) }
+    ensures refused { IfErr result (λ e. is_refusal (fault_in e) ≡ true → HasNone S.Store (fault_in e) conn.old conn.new) }
+    ensures spares { Spares S.Store conn.old conn.new }
+{
+    match counted(alloc, conn) {
+        Ok(summary) => Ok(summary),
+        Err(fault) => Err(explained(alloc, conn, fault)),
+    }
+}
+
+/// Audits the book that a store keeps: the rows that the tables have are sound, and their numbers are answered. The store
+/// comes back. A stop leaves in it what was committed, or what it left before.
+///
+/// # Errors
+///
+/// `OtherVersion`, where `meta` has another version than 3. `Damaged`, where the tables are not those of a book, a row is
+/// no row of a book, or the rows are not sound. `Failed`, where an allocation is refused or the store fails.
+pub fn audit_store<S: Alter + Drop>(
+    alloc: Global,
+    conn: Connection<S>,
+) -> (Result<Summary, AuditFault>, S)
+    ensures ok { IfOk result.0 (IsAudited S.Store conn result.1) }
+    ensures refused { IfErr result.0 (λ e. is_refusal (fault_in e) ≡ true → WasRefused S.Store (fault_in e) conn result.1) }
+    ensures left { LeavesCommitted S.Store conn result.1 }
+{
+    match again(alloc, conn) {
+        Ok(mut conn) => {
+            let found = audited(alloc, &mut conn);
+            (found, conn.into_store())
+        }
+        Err((fault, store)) => (Err(AuditFault::Failed(fault)), store),
+    }
+}
+
+/// Audits the book of a connection, and takes away the log that its opening made, while the files are still locked.
+fn audited_alone<S: Alter + Drop>(
+    rt: &HostRuntime,
+    conn: Connection<S>,
+    log: &MissingLog,
+) -> Result<Summary, AuditFault>
+    ensures ok { IfOk result (λ summary. (left : S) × IsAudited S.Store conn left summary × LeavesCommitted S.Store conn left) }
+    ensures refused { IfErr result (λ e. is_refusal (fault_in e) ≡ true → (left : S) × WasRefused S.Store (fault_in e) conn left × LeavesCommitted S.Store conn left) }
+{
+    let (found, store) = audit_store(rt.alloc(), conn);
+    log.remove(rt);
+    drop(store);
+    found
+}
+
+/// Audits the book in the file at a path, with its log beside it. It changes nothing in them, and leaves no log where there
+/// was none. A file that is not there is not made; an empty one is made a database without tables.
+///
+/// # Errors
+///
+/// As those of [`audit_store`], which it calls over the files. A file that is not opened is `Failed`.
+pub fn audit_at<T: Start>(rt: &HostRuntime, path: &str, start: T) -> Result<Summary, AuditFault> {
+    let log = match MissingLog::of(rt, path) {
+        Ok(log) => log,
+        Err(fault) => return Err(AuditFault::Failed(fault)),
+    };
+    match Connection::open_from(rt, path, false, start) {
+        Ok(conn) => audited_alone(rt, conn, &log),
+        Err((error, left)) => {
+            if left.is_some() {
+                log.remove(rt);
+            }
+            Err(AuditFault::Failed(OpenFault::from(error)))
+        }
+    }
+}

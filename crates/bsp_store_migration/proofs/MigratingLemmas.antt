@@ -1,0 +1,115 @@
+-- A whole migration, from its steps.
+use Rattle.std.proofs.Common.{◌≡◌, ◌∙◌, inl, inr, ◌∷◌, IsTrue, None, sym, ap, subst}
+use Rattle.sqlite_value.specs.Order.{Row, column}
+use Rattle.sqlite_value.specs.declared.value.Value.TheVariants.{Int}
+use Rattle.sqlite_trees.specs.Tree.{Trees}
+use Rattle.sqlite_trees.specs.declared.store.Store.{Ghosts}
+use Rattle.sqlite.specs.Effect.{Database, IsDatabase}
+use Rattle.sqlite.specs.Held.{Held, state}
+use Rattle.sqlite.specs.State.{HasCleanDisk}
+use Rattle.bsp_book.specs.Rows.{Rows}
+use Rattle.bsp_book.specs.Sound.{Sound}
+use Rattle.bsp_book.specs.Listed.{Holds as ListHolds}
+use Rattle.bsp_book.specs.declared.list.ListBook.{ListBook}
+use Rattle.bsp_store_load.specs.Columns.{count}
+use Rattle.bsp_store_load.specs.Content.{Content, form}
+use Rattle.bsp_store_load.specs.Contents.{IsContentOf}
+use Rattle.bsp_store_load.specs.Kept.{Keeps, KeepsRows, Spares}
+use Rattle.bsp_store_old.specs.Filled.{AreInOldOrder, HasOldNumber, IsBegun, KeepsOldRows}
+use Rattle.bsp_store_old.specs.Old.{old_number}
+use Rattle.bsp_store_old.specs.declared.version.OldVersion.{OldVersion}
+use Rattle.bsp_store_open.specs.Opening.{KeepsAtRest}
+use Rattle.bsp_store_open.specs.declared.fault.OpenFault.{OpenFault}
+use Rattle.bsp_store_open.specs.declared.fault.OpenFault.TheVariants.{Damaged}
+use Rattle.bsp_store_migration.specs.Migrating.{AreOrdered, HasBegun, HasEnded, HasNoOldBook, HasOtherNumber, IsFilledWith, IsMigrated, IsNumbered, IsOld, KeepsNoOld, KeepsOldBook, LeavesMigration, MayEnd, ReportsOld}
+
+module _ {S : Type 0} (g : Ghosts S) where
+  -- what leaves to a stop no more than there was
+  pub spared : (version : OldVersion) (old new : Held S) → Spares g old new → LeavesMigration g version old new
+  spared version old new spares = record { earlier = spares.earlier; leaves = λ clean db may. inl (spares.leaves clean db may) }
+
+-- a number is not another
+not_other : (version : OldVersion) (trees : Trees) (number : HasOldNumber version trees) → HasOtherNumber (old_number version) (number.row ∷ number.more) → ⊥
+not_other version trees number other =
+    let rows_are : number.row ∷ number.more ≡ other.row ∷ other.more = other.first in
+    let same : number.row ≡ other.row = cc rows_are in
+    let value : Int other.found ≡ count (old_number version) = sym other.has ∙ ap (λ (r : Row). column r 1) (sym same) ∙ number.number in
+    other.other (cc value)
+
+module _ {S : Type 0} (g : Ghosts S) (version : OldVersion) (zero one two : Held S) (old : IsOld g version zero) (numbered : IsNumbered g version zero one) (asked : Spares g zero one) (begun : HasBegun g one two) (began : Spares g one two) where
+  same : HasCleanDisk (state g two) → (state g two).now ≡ (state g zero).now
+  same clean = (begun.shown clean).now_is ∙ numbered.read.same (begun.earlier clean)
+
+  still : HasCleanDisk (state g two) → HasCleanDisk (state g zero)
+  still clean = asked.earlier (began.earlier clean)
+
+  was_open : HasCleanDisk (state g two) → IsTrue (state g zero).is_open
+  was_open clean = numbered.was_open (begun.earlier clean)
+
+  -- the transaction is open over the tables of the version
+  pub is_begun : IsBegun g version two
+  is_begun clean =
+      let in_order : AreInOldOrder version (state g zero).now.trees = subst (λ s. AreOrdered (record { schema = s; trees = (state g zero).now.trees })) old.schema (old.ordered (still clean)) in
+      record {
+        schema = ap (λ (d : Database). d.schema) (same clean) ∙ old.schema;
+        inside = (begun.shown clean).mode;
+        is_open = (begun.shown clean).is_open;
+        sound = subst IsDatabase (sym (same clean)) (old.live (was_open clean)).0;
+        ordered = subst (λ (d : Database). AreInOldOrder version d.trees) (sym (same clean)) in_order;
+      }
+
+  pub has_number : HasCleanDisk (state g two) → HasOldNumber version (state g two).now.trees
+  has_number clean = subst (λ (d : Database). HasOldNumber version d.trees) (sym (same clean)) (numbered.number (begun.earlier clean))
+
+  -- the rows are not those of a sound book
+  pub damaged : (three : Held S) → Spares g two three → (fault : OpenFault) → (fault ≡ Damaged) × (HasCleanDisk (state g three) → KeepsNoOld version (state g two).now.trees) → HasNoOldBook g version fault zero three
+  damaged three spares fault none clean =
+      let before = spares.earlier clean in
+      let number = numbered.number (begun.earlier before) in
+      record {
+        none = subst (λ (d : Database). KeepsNoOld version d.trees) (same before) (none.1 clean);
+        meta = number.row ∷ number.more;
+        all = number.shown;
+        reports = subst (λ f. ReportsOld version f (number.row ∷ number.more)) (sym none.0) (not_other version (state g zero).now.trees number);
+      }
+
+  module _ (three four : Held S) (c : Content) (filled : IsFilledWith g version two three c) (filling : Spares g two three) (rows : Rows) (content : IsContentOf rows c) (sound : Sound rows) where
+    kept_before : HasCleanDisk (state g three) → KeepsOldBook version rows (state g zero).now.trees
+    kept_before clean = (c, content, filled.of clean, subst (λ (d : Database). KeepsOldRows version c d.trees) (same (filled.earlier clean)) (filled.kept clean))
+
+    -- a stop leaves what there was, or the whole of the new book
+    pub stopped : MayEnd g three four → LeavesMigration g version zero four
+    stopped end = record {
+      earlier = λ clean. still (filling.earlier (end.earlier clean));
+      leaves = λ clean db may. elim (end.leaves clean db may) [
+        | inl before ↦ inl (asked.leaves (began.earlier (filling.earlier (end.earlier clean))) db (began.leaves (filling.earlier (end.earlier clean)) db (filling.leaves (end.earlier clean) db before)))
+        | inr made ↦ inr (rows, sound, kept_before (end.earlier clean), (c, content, subst (KeepsRows form c) (sym made) (filled.keeps (end.earlier clean))))
+      ];
+    }
+
+    module _ (ended : HasEnded g three four) (settled : (db : Trees) → IsTrue (state g four).is_open → (state g four).may_leave db → db ≡ (state g four).committed.trees) where
+      keeps_now : HasCleanDisk (state g four) → Keeps form c (state g three).now
+      keeps_now clean = record { schema = filled.schema (ended.earlier clean); kept = filled.keeps (ended.earlier clean) }
+
+      at_rest : KeepsAtRest g four rows
+      at_rest = (
+        c,
+        content,
+        (
+          record {
+            held = λ clean is. subst (Keeps form c) (sym (ended.shown clean).now_is) (keeps_now clean);
+            kept = λ clean is. subst (Keeps form c) (sym (ended.shown clean).committed_is) (keeps_now clean);
+            leaves = λ clean db may. inl (subst (KeepsRows form c) (sym (settled db (ended.shown clean).is_open may ∙ ap (λ (d : Database). d.trees) (ended.shown clean).committed_is)) (keeps_now clean).kept);
+          },
+          λ clean. (ended.shown clean).mode,
+        ),
+      )
+
+      pub migrated : (list : ListBook) → ListHolds list rows None → IsMigrated g version zero four list rows
+      migrated list holds = record {
+        listed = holds;
+        sound = sound;
+        kept = at_rest;
+        earlier = λ clean. still (filling.earlier (ended.earlier clean));
+        found = λ clean. kept_before (ended.earlier clean);
+      }

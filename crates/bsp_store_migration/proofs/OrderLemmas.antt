@@ -1,0 +1,51 @@
+-- The rows of each table are in the order of their rowids, whatever the schema is.
+use Rattle.std.proofs.Common.{◌≡◌, ◌≤◌, false, List, [], ◌∷◌, map, Result, Ok, Err, IfOk, sym, subst, arith}
+use Rattle.std.specs.List.{AllByRecursion}
+use Rattle.sqlite_trees.specs.declared.store.Store.{Ghosts}
+use Rattle.sqlite_trees.specs.declared.store.Shape.TheVariants as shape
+use Rattle.sqlite_trees.specs.View.{View, doubt, IsClean, IsOrdered as IsShapedAll}
+use Rattle.sqlite_trees.specs.Objects.{catalog_tree, IsListed}
+use Rattle.sqlite_schema.specs.declared.schema.Schema.{Schema}
+use Rattle.sqlite_schema.specs.declared.schema.Table.{Table}
+use Rattle.sqlite_catalog.specs.Listing.{IsSound}
+use Rattle.sqlite_catalog.proofs.LayoutLemmas.{laid_out}
+use Rattle.sqlite.specs.Held.{Held, state}
+use Rattle.sqlite.specs.State.{HasCleanDisk, IsLive, Opens}
+use Rattle.sqlite.specs.Steps.{IsFresh}
+use Rattle.bsp_store_schema.specs.Order.{IsInOrder}
+use Rattle.bsp_store_open.specs.Opening.{IsOrdered}
+use Rattle.bsp_store_migration.specs.Migrating.{AreAllInOrder, AreOrdered}
+
+-- the trees that have the shape of a table are tables
+all_in_order : (v : View) → IsShapedAll v.shape v.trees → (tables : List Table) → AllByRecursion (λ t. v.shape t.tree ≡ shape.Table) tables
+    → AllByRecursion (IsInOrder v.trees) (map (λ t. t.tree) tables)
+all_in_order v ordered [] shapes = tt
+all_in_order v ordered (t ∷ tables) shapes = (rw shapes.0 at (ordered t.tree), all_in_order v ordered tables shapes.1)
+
+-- a store that lists a database has its tables in order
+tables_are_ordered : (v : View) (schema : Schema) → IsShapedAll v.shape v.trees → IsListed (v.trees catalog_tree) v.shape v.reals → IsSound schema v.trees
+    → AllByRecursion (IsInOrder v.trees) (map (λ t. t.tree) schema.tables)
+tables_are_ordered v schema ordered listed sound =
+    let laid = laid_out listed (rw listed.itself.0 at (ordered catalog_tree)) sound.lists.listed in
+    all_in_order v ordered schema.tables laid.tables
+
+-- a connection over a store that is not broken has the trees of that store
+pub opened_in_order : {S E : Type 0} (g : Ghosts S) (store : S) (r : Result (Held S) E) → (IsClean (g.view store) → IsFresh (g.view store))
+    → ((g.view store).is_broken ≡ false → IsShapedAll (g.view store).shape (g.view store).trees)
+    → ((g.view store).is_broken ≡ false → IsListed ((g.view store).trees catalog_tree) (g.view store).shape (g.view store).reals)
+    → IfOk r (λ c. HasCleanDisk (state g c) → Opens (state g c) × IsLive (state g c))
+    → IfOk r (λ c. doubt (g.view store).is_clean ≤ doubt (state g c).is_clean)
+    → IfOk r (λ c. HasCleanDisk (state g c) → (state g c).now.trees ≡ (g.view store).trees)
+    → IfOk r (AreAllInOrder g)
+opened_in_order g store (Err e) fresh ordered listed opens clean trees = tt
+opened_in_order g store (Ok c) fresh ordered listed opens clean trees = λ disk.
+    let was_clean : IsClean (g.view store) = omega (arith, clean, disk) in
+    let sound = (fresh was_clean).sound in
+    let found = opens disk in
+    let schema : Schema = (state g c).now.schema in
+    let lists : IsSound schema (g.view store).trees = subst (IsSound schema) (trees disk) (found.1 found.0.is_open).0 in
+    subst (λ t. AllByRecursion (IsInOrder t) (map (λ u. u.tree) schema.tables)) (sym (trees disk)) (tables_are_ordered (g.view store) schema (ordered sound) (listed sound) lists)
+
+-- so are those of our tables
+pub ours_in_order : {S : Type 0} (g : Ghosts S) (h : Held S) → AreAllInOrder g h → IsOrdered g h
+ours_in_order g h all clean ours = subst (λ s. AreOrdered (record { schema = s; trees = (state g h).now.trees })) ours (all clean)

@@ -1,0 +1,151 @@
+-- What an opening finds of a book of an earlier version, and what it makes of it.
+use Rattle.std.specs.Prelude.{◌≡◌, ◌⊎◌, ⊤, ℕ, ℤ, pos, false, true, List, ◌∷◌, map, IsPermutation, IsTrue, None}
+use Rattle.std.specs.List.{AllByRecursion}
+use Rattle.sqlite_value.specs.Order.{Row, column}
+use Rattle.sqlite_value.specs.declared.value.Value.TheVariants.{Int}
+use Rattle.sqlite_trees.specs.Tree.{Trees}
+use Rattle.sqlite_trees.specs.declared.store.Store.{Ghosts}
+use Rattle.sqlite.specs.Effect.{Database}
+use Rattle.sqlite.specs.Held.{Held, state}
+use Rattle.sqlite.specs.State.{HasCleanDisk, IsLive, Shows}
+use Rattle.bsp_book.specs.Rows.{Rows}
+use Rattle.bsp_book.specs.Sound.{Sound}
+use Rattle.bsp_book.specs.Listed.{meaning as listed}
+use Rattle.bsp_book.specs.declared.list.ListBook.{ListBook}
+use Rattle.bsp_store_schema.specs.Order.{IsInOrder}
+use Rattle.bsp_store_load.specs.Schema.{our_schema}
+use Rattle.bsp_store_load.specs.Kept.{KeepsRows, Reads, columns_of}
+use Rattle.bsp_store_load.specs.Columns.{count, version as our_version}
+use Rattle.bsp_store_load.specs.Content.{Content, form, meta_part, width_of}
+use Rattle.bsp_store_load.specs.Contents.{IsContentOf, KeepsBook}
+use Rattle.bsp_store_load.specs.Forms.{IsFormed}
+use Rattle.bsp_store_old.specs.Filled.{HasOldNumber, IsOfOld, KeepsOldRows}
+use Rattle.bsp_store_old.specs.Old.{old_number, old_schema}
+use Rattle.bsp_store_old.specs.declared.version.OldVersion.{OldVersion}
+use Rattle.bsp_store_open.specs.Opening.{KeepsAtRest}
+use Rattle.bsp_store_open.specs.declared.fault.OpenFault.{OpenFault}
+use Rattle.bsp_store_open.specs.declared.fault.OpenFault.TheVariants.{NoRoom, Damaged, Failed, OtherVersion}
+
+-- ---- the number of an earlier version
+
+-- the first row of `meta` has this number as its version
+pub record HasNumber (number : ℕ) (rows : List Row) : Type 0 where
+  pub row : Row
+  pub more : List Row
+  pub first : rows ≡ row ∷ more
+  pub version : column row 1 ≡ count number
+
+-- the first row of `meta` has another integer as its version, and not that of this crate
+pub record HasOtherNumber (number : ℕ) (rows : List Row) : Type 0 where
+  pub row : Row
+  pub more : List Row
+  pub first : rows ≡ row ∷ more
+  pub found : ℤ
+  pub has : column row 1 ≡ Int found
+  pub other : found ≡ pos number → ⊥
+  pub later : found ≡ pos our_version → ⊥
+
+-- what a fault says of the rows of `meta`, where the tables are those of an earlier version
+abbrev pub ReportsOld : OldVersion → OpenFault → List Row → Type 0
+ReportsOld version NoRoom rows = ⊤
+ReportsOld version Damaged rows = HasOtherNumber (old_number version) rows → ⊥
+ReportsOld version (Failed error) rows = ⊤
+ReportsOld version OtherVersion rows = HasOtherNumber (old_number version) rows
+
+-- all rows of `meta`, in some order
+abbrev pub AreMetaOf : Trees → List Row → Type 0
+AreMetaOf trees rows = IsPermutation (map (columns_of (width_of meta_part.tree)) (trees meta_part.tree)) rows
+
+-- ---- a book that is refused
+
+-- the trees keep no sound rows, of values that the program's types have, as a book of an earlier version
+abbrev pub KeepsNoOld : OldVersion → Trees → Type 0
+KeepsNoOld version trees = (rows : Rows) (c : Content) → Sound rows → IsContentOf rows c → IsFormed c → IsOfOld version c → KeepsOldRows version c trees → ⊥
+
+-- and the rows of `meta`, in some order, are such as the fault says
+pub record ShowsNoOldBook (version : OldVersion) (fault : OpenFault) (trees : Trees) : Type 0 where
+  pub none : KeepsNoOld version trees
+  pub meta : List Row
+  pub all : AreMetaOf trees meta
+  pub reports : ReportsOld version fault meta
+
+-- ---- a book that is migrated
+
+-- the trees keep these rows as a book of an earlier version, which has no commission tax or second document that the
+-- version does not know
+abbrev pub KeepsOldBook : OldVersion → Rows → Trees → Type 0
+KeepsOldBook version rows trees = (c : Content) × IsContentOf rows c × IsOfOld version c × KeepsOldRows version c trees
+
+-- the first trees keep sound rows as a book of an earlier version, and the others the same rows as a book of this one
+abbrev pub IsMigrationOf : OldVersion → Trees → Trees → Type 0
+IsMigrationOf version old new = (rows : Rows) × Sound rows × KeepsOldBook version rows old × KeepsBook rows new
+
+-- the rows of each table are in the order of their rowids, which are integers
+abbrev pub AreOrdered : Database → Type 0
+AreOrdered db = AllByRecursion (IsInOrder db.trees) (map (λ t. t.tree) db.schema.tables)
+
+module _ {S : Type 0} (g : Ghosts S) where
+  -- so they are in what a connection shows
+  abbrev pub AreAllInOrder : Held S → Type 0
+  AreAllInOrder h = HasCleanDisk (state g h) → AreOrdered (state g h).now
+
+  -- the tables are those of an earlier version, and their rows are in order
+  pub record IsOld (version : OldVersion) (h : Held S) : Type 0 where
+    pub schema : h.schema ≡ old_schema version
+    pub live : IsLive (state g h)
+    pub ordered : AreAllInOrder h
+
+  -- what was read shows that there is no book of the earlier version
+  abbrev pub HasNoOldBook : OldVersion → OpenFault → Held S → Held S → Type 0
+  HasNoOldBook version fault old new = HasCleanDisk (state g new) → ShowsNoOldBook version fault (state g old).now.trees
+
+  -- the book in memory has these rows, which are sound. The tables kept them as a book of an earlier version, and keep
+  -- them as one of this version, with no open transaction
+  pub record IsMigrated (version : OldVersion) (old new : Held S) (list : ListBook) (rows : Rows) : Type 0 where
+    pub listed : listed.holds list rows None
+    pub sound : Sound rows
+    pub kept : KeepsAtRest g new rows
+    pub earlier : HasCleanDisk (state g new) → HasCleanDisk (state g old)
+    pub found : HasCleanDisk (state g new) → KeepsOldBook version rows (state g old).now.trees
+
+  -- a stop leaves what it left before, or the whole of the book that was migrated
+  pub record LeavesMigration (version : OldVersion) (old new : Held S) : Type 0 where
+    pub earlier : HasCleanDisk (state g new) → HasCleanDisk (state g old)
+    pub leaves : HasCleanDisk (state g new) → (db : Trees) → (state g new).may_leave db → (state g old).may_leave db ⊎ IsMigrationOf version (state g old).now.trees db
+
+  -- ---- step by step
+
+  -- all rows of `meta` were read, and the tables are as they were
+  pub record AreOldMeta (old new : Held S) (rows : List Row) : Type 0 where
+    pub read : Reads g old new
+    pub was_open : HasCleanDisk (state g new) → IsTrue (state g old).is_open
+    pub all : HasCleanDisk (state g new) → AreMetaOf (state g old).now.trees rows
+
+  -- they have the number of the version
+  pub record IsNumbered (version : OldVersion) (old new : Held S) : Type 0 where
+    pub read : Reads g old new
+    pub was_open : HasCleanDisk (state g new) → IsTrue (state g old).is_open
+    pub number : HasCleanDisk (state g new) → HasOldNumber version (state g old).now.trees
+
+  -- a transaction was opened over the tables as they were
+  pub record HasBegun (old new : Held S) : Type 0 where
+    pub earlier : HasCleanDisk (state g new) → HasCleanDisk (state g old)
+    pub shown : HasCleanDisk (state g new) → Shows (state g old) (state g new) (state g old).now (state g old).committed true
+
+  -- what the transaction had written was committed
+  pub record HasEnded (old new : Held S) : Type 0 where
+    pub earlier : HasCleanDisk (state g new) → HasCleanDisk (state g old)
+    pub shown : HasCleanDisk (state g new) → Shows (state g old) (state g new) (state g old).now (state g old).now false
+
+  -- a stop leaves what it left before, or what the transaction had written
+  pub record MayEnd (old new : Held S) : Type 0 where
+    pub earlier : HasCleanDisk (state g new) → HasCleanDisk (state g old)
+    pub leaves : HasCleanDisk (state g new) → (db : Trees) → (state g new).may_leave db → (state g old).may_leave db ⊎ (db ≡ (state g old).now.trees)
+
+  -- the open transaction shows a content as a book of this version, which the tables kept as one of an earlier version
+  pub record IsFilledWith (version : OldVersion) (old new : Held S) (c : Content) : Type 0 where
+    pub earlier : HasCleanDisk (state g new) → HasCleanDisk (state g old)
+    pub schema : HasCleanDisk (state g new) → (state g new).now.schema ≡ our_schema
+    pub keeps : HasCleanDisk (state g new) → KeepsRows form c (state g new).now.trees
+    pub of : HasCleanDisk (state g new) → IsOfOld version c
+    pub kept : HasCleanDisk (state g new) → KeepsOldRows version c (state g old).now.trees
