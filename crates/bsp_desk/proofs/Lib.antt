@@ -14,4 +14,5 @@ pub mod Shown
 pub mod DocumentRows
 pub mod NumberOrder
 pub mod StockRows
+pub mod Outliving
 pub use Rattle.bsp_desk_base.proofs.RequestsRead

@@ -1,4 +1,5 @@
 pub mod Meanings
 pub mod Adopting
 pub mod Auditing
+pub mod Stops
 pub use Rattle.bsp_store_open.specs.Faults
