@@ -14,5 +14,4 @@ pub mod Shown
 pub mod DocumentRows
 pub mod NumberOrder
 pub mod StockRows
-pub mod Outliving
 pub use Rattle.bsp_desk_base.proofs.RequestsRead

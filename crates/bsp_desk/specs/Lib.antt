@@ -9,7 +9,6 @@ pub mod Laws
 pub mod Sums
 pub mod Documents
 pub mod Stock
-pub mod Stops
 pub use Rattle.bsp_book.specs.Calls as BookCalls
 pub use Rattle.bsp_desk_base.specs.Contents
 pub use Rattle.bsp_desk_base.specs.Requests

@@ -1,5 +1,4 @@
 pub mod Meanings
 pub mod Adopting
 pub mod Auditing
-pub mod Stops
 pub use Rattle.bsp_store_open.specs.Faults
