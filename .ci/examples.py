@@ -4,12 +4,14 @@ examples/README.md says how a file is written, and what is compared.
 
 Each example is run over a book in memory; over a book in a file; and over a book in a file with the office killed, and
 started again, between each two requests. Each difference is printed with its file and line, and with the ways that have
-it. The status is 1 where there is one, or where a file is not in its form.
+it. A body of which a file has the end alone must be the same in all ways. The status is 1 where something differs, or where
+a file is not in its form.
 
 usage: .ci/examples.py PROGRAM [NAME..]   (NAME as in 05-sale; with none all are run)
 """
 import concurrent.futures
 import dataclasses
+import hashlib
 import http.client
 import itertools
 import json
@@ -289,13 +291,21 @@ def differences(entry, reply):
         yield entry.body_place, *first_difference(entry.wanted, found)
 
 
+def whole(entry, reply):
+    """What stands for the whole body of a reply of which the file has the end alone."""
+    if entry.is_end and not isinstance(reply, str):
+        yield entry.body_place, hashlib.sha256(reply[2]).hexdigest()
+
+
 def run(program, folder, file, number, way):
-    """The name of a conversation in this way, how many requests it has, and its differences."""
+    """The name of a conversation in this way, how many requests it has, its differences, and what stands for its bodies."""
     is_kept, is_killed = WAYS[way]
     name, entries = conversations(file)[number]
     book = ["--db", f"{folder}/{file.stem}-{number}-{way}.db"] if is_kept else []
-    pairs = replies([program, f"{folder}/token", *book], entries, is_killed)
-    return way + name, len(entries), [it for pair in pairs for it in differences(*pair)]
+    pairs = list(replies([program, f"{folder}/token", *book], entries, is_killed))
+    return (
+        way + name, len(entries), [it for pair in pairs for it in differences(*pair)],
+        [it for pair in pairs for it in whole(*pair)])
 
 
 # ---- all
@@ -325,14 +335,17 @@ def checked(files):
 
 def run_all(program, files):
     """How many requests were made, and the differences, each with the ways that have it."""
-    jobs, count, found = checked(files), 0, {}
+    jobs, count, found, bodies = checked(files), 0, {}, {}
     with tempfile.TemporaryDirectory() as folder, concurrent.futures.ProcessPoolExecutor(4) as pool:
         pathlib.Path(folder, "token").write_text(TOKEN + "\n", encoding="utf-8")
         runs = [pool.submit(run, program, folder, *job, way) for way in reversed(WAYS) for job in jobs]
-        for name, requests, differing in (it.result() for it in runs):
+        for name, requests, differing, wholes in (it.result() for it in runs):
             count += requests
             for it in differing:
                 found.setdefault(it, []).append(name)
+            for place, body in wholes:
+                if body != bodies.setdefault(place, body):
+                    found.setdefault((place, "the whole body", bodies[place], body), []).append(name)
     return count, found
 
 

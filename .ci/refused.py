@@ -6,8 +6,10 @@
 - its command `run`, which is sent each request of some conversations twice; these have each request of docs/ROUTES.md.
   Each reply is that of ample memory; or one is 503 B01, and the same request after it has the reply of ample memory to the
   first of the two.
-- the same over a book in a file, for each allocation of a short conversation and one in forty of the opening before it; the
-  file is then opened again.
+- the same over a book in a file, for each allocation of a short conversation, one in 23 of three others, and one in forty of
+  the opening before them; the file is then opened again.
+- the same over books of earlier versions, of samples/books/, for the first hundred allocations and one in forty behind them;
+  the file is then opened again, and shows what ample memory shows.
 - its command `audit` on such a file, for the first hundred allocations and one in forty behind them: it reports as with ample
   memory, or prints nothing, with status 3 and the line that memory was short.
 Exits with the number of cases that differ.
@@ -15,11 +17,13 @@ Exits with the number of cases that differ.
 usage: .ci/refused.py [PROGRAM]   (with no PROGRAM it takes the one that is built)
 """
 import concurrent.futures
+import contextlib
 import itertools
 import os
 import pathlib
 import re
 import shutil
+import sqlite3
 import subprocess
 import sys
 import tempfile
@@ -43,8 +47,8 @@ WORDS = ["check v1.ret", "check kinds.ret", "check two.ret", "check sum.ret", "h
          "check --help", "", "check", "report v1.ret", "check --unknown", "hotcheck v3.hot v3.hot", "check --quiet sum.ret"]
 CONVERSATIONS = ["05-sale", "11b-cancelled-in-one-file", "14-memos", "16-reports", "19-stock", "23b-malformed-bodies",
                  "38-reduced-memo", "50-commission-tax", "53b-exchange-of-two-cancelled", "callers-refused", "memo-actions"]
-# the short one of which the same is tried over a book in a file: its rows are in all tables but that of memos
-KEPT = "exchange-once"
+# those of which the same is tried over a book in a file: the rows of the first are in all tables but that of memos
+KEPT = ["exchange-once", "14-memos", "16-reports", "19-stock"]
 
 
 class Run(typing.NamedTuple):
@@ -198,16 +202,26 @@ def over(number):
     return [PROGRAM, "run", "--token", TOKEN, "--db", f"{number}.db"]
 
 
-def is_kept(ample, found, number):
-    """The same; and the file opens again, with an answer to each request for a report."""
-    _, entries = examples.conversations(TOP / "examples" / f"{KEPT}.hurl")[0]
-    asked = [message(it) for it in entries if it.method == "GET"]
-    again = subprocess.run(over(number), input=b"".join(asked), capture_output=True, timeout=60)
+def removed(number):
     for it in pathlib.Path().glob(f"{number}.db*"):
         it.unlink()
-    found = found._replace(err=found.err.replace(b"%d.db" % number, b"0.db"))
-    answered = [it for it in replies(again.stdout) if re.match(rb"HTTP/1.1 [24]0\d ", it)]
-    return is_answered(ample, found, number) and again.returncode == 0 and len(answered) == len(asked)
+
+
+def over_new(number):
+    """The words of an office over a new book."""
+    removed(number)
+    return over(number)
+
+
+def is_kept(asked):
+    """The same; and the file opens again, with an answer to each of these requests for a report."""
+    def judge(ample, found, number):
+        again = subprocess.run(over(number), input=b"".join(asked), capture_output=True, timeout=60)
+        removed(number)
+        found = found._replace(err=found.err.replace(b"%d.db" % number, b"0.db"))
+        answered = [it for it in replies(again.stdout) if re.match(rb"HTTP/1.1 [24]0\d ", it)]
+        return is_answered(ample, found, number) and again.returncode == 0 and len(answered) == len(asked)
+    return judge
 
 
 def of_opening():
@@ -215,20 +229,62 @@ def of_opening():
     least, most = 0, 1 << 20
     while most - least > 1:
         number = (least + most) // 2
-        least, most = (number, most) if run(over(number), b"", number).is_refused else (least, number)
-        for it in pathlib.Path().glob(f"{number}.db*"):
-            it.unlink()
+        least, most = (number, most) if run(over_new(number), b"", number).is_refused else (least, number)
+        removed(number)
     return least
 
 
 def over_files():
     opened = of_opening()
-    numbers = itertools.chain(range(1, opened, 40), itertools.count(opened + 1))
-    yield "bsp_office run --db", each_refused("bsp_office run --db", over, twice(KEPT), is_kept, numbers)
+    for name in KEPT:
+        _, entries = examples.conversations(TOP / "examples" / f"{name}.hurl")[0]
+        asked = [message(it) for it in entries if it.method == "GET"]
+        # the opening is the same for each, and the first conversation is the short one
+        is_short = name == KEPT[0]
+        numbers = itertools.chain(range(1, opened, 40), itertools.count(opened + 1)) if is_short else itertools.count(opened + 1, 23)
+        yield f"bsp_office run --db, example {name}", each_refused(name, over_new, twice(name), is_kept(asked), numbers)
+
+
+# ---- books of earlier versions
+
+
+def migrated(version):
+    """The words of an office over a copy of a book of that version."""
+    def words(number):
+        removed(number)
+        shutil.copy(f"version-{version}.db", f"{number}.db")
+        return over(number)
+    return words
+
+
+def is_migrated(text):
+    """The same, or no reply by status 3; and the file opens again, with the replies of ample memory."""
+    def judge(ample, found, number):
+        again = subprocess.run(over(number), input=text, capture_output=True, timeout=60)
+        removed(number)
+        found = found._replace(err=found.err.replace(b"%d.db" % number, b"0.db"))
+        return is_answered(ample, found, number) and (again.returncode, again.stdout) == (0, ample.out)
+    return judge
+
+
+def migrations():
+    """For the first hundred allocations and one in forty behind them."""
+    looks = [("agents/12345675/statements/24011", "agenttoken000001"), ("agents/76543213/memos", "agenttoken000002"),
+             ("airlines/125/hot/24011", "airlinetoken0125"), ("office/settlement/24011", TOKEN)]
+    text = b"".join(f"GET /{path} HTTP/1.1\r\nHost: bsp\r\nBsp-Token: {token}\r\n\r\n".encode() * 2 for path, token in looks)
+    for version in 1, 2:
+        with contextlib.closing(sqlite3.connect(f"version-{version}.db", isolation_level=None)) as it:
+            it.executescript((TOP / "samples" / "books" / f"version-{version}.sql").read_text())
+        numbers = itertools.chain(range(1, 100), itertools.count(101, 40))
+        yield f"a book of version {version}", each_refused(f"a book of version {version}", migrated(version), text, is_migrated(text), numbers)
+
+
+# ---- audits
 
 
 def audited(number):
     """The words of an audit of a copy of the book."""
+    removed(number)
     shutil.copy("book.db", f"{number}.db")
     return [PROGRAM, "audit", f"{number}.db"]
 
@@ -242,7 +298,7 @@ def is_audited(ample, found, number):
 
 
 def audits():
-    subprocess.run([PROGRAM, "run", "--token", TOKEN, "--db", "book.db"], input=twice(KEPT), capture_output=True, check=True)
+    subprocess.run([PROGRAM, "run", "--token", TOKEN, "--db", "book.db"], input=twice(KEPT[0]), capture_output=True, check=True)
     subprocess.run([PROGRAM, "run", "--token", TOKEN, "--db", "book.db"], input=b"", capture_output=True, check=True)
     numbers = itertools.chain(range(1, 100), itertools.count(101, 40))
     yield "bsp_office audit", each_refused("bsp_office audit", audited, b"", is_audited, numbers)
@@ -253,7 +309,7 @@ def main():
     with tempfile.TemporaryDirectory() as folder:
         os.chdir(folder)
         subprocess.run(library, check=True)
-        for part in pages, words, conversations, over_files, audits:
+        for part in pages, words, conversations, over_files, migrations, audits:
             begun, count = time.monotonic(), sum(it[1] for it in part())
             print(f"{part.__name__}: {count} allocations refused in turn, in {time.monotonic() - begun:.0f} seconds", flush=True)
         os.chdir(TOP)

@@ -84,6 +84,7 @@ SET_UP = [
 ]
 TALKS = {
     "a stranger": [(STRANGER, FORBIDDEN)],
+    "a stranger where A is registered": [*SET_UP, (STRANGER, FORBIDDEN)],
     "no route, and another method": [
         (STRANGER, FORBIDDEN),
         (message("GET /x"), response("404 Not Found", '{"code":"N02"}')),
@@ -207,6 +208,12 @@ def opened(name, items):
     return f"bsp_office: {name}.db: day 2024-01-05, 0 of 2 periods closed, 1 agent, 0 airlines, {items}, 0 memos\n"
 
 
+def strangers():
+    """A stranger over the book in a file, where A is registered."""
+    wanted = 0, FORBIDDEN, opened("stranger", "0 items"), 2
+    yield "a stranger over a book in a file", [wanted], "stranger", (STRANGER, "read 0")
+
+
 def failed_reads():
     """The reports that were complete before a read that fails are answered and stay, and no other."""
     for number, status, complete in FAILED_READS:
@@ -227,6 +234,27 @@ def failed_writes():
         yield f"{name} fails", [failed, again], name, *runs
 
 
+def in_memory():
+    """The same over a book in memory, whose set-up comes before in one read. A write of it fails too."""
+    begun, replies = joined(SET_UP)
+    reads = -(-len(REPORT * 2) // 100)
+    for number in range(reads + 2):
+        complete = min(number * 100 // len(REPORT), 2)
+        written = replies + (b"", ACCEPTED, ACCEPTED + HELD)[complete]
+        steps = f"read 0 {len(begun)} " + "100 " * number + "fails"
+        # the read behind the last finds the end of the input
+        status, calls = (3, number + 2) if number <= reads else (0, reads + 2)
+        yield f"in memory, read {number + 1} fails", [(status, written, "", calls)], [(begun + REPORT * 2, steps)]
+    for number in range(len(replies + ACCEPTED + HELD)):
+        sent, steps = begun + REPORT * 2, "write 1 " + "1 " * number + "fails"
+        yield f"in memory, write {number} fails", [(3, (replies + ACCEPTED + HELD)[:number], "", number + 1)], [(sent, steps)]
+
+
+def over_memory(runs):
+    """What each of these runs over a book in memory gives, but for the bytes moved."""
+    return [run(sent, steps)[:4] for sent, steps in runs]
+
+
 def main():
     with tempfile.TemporaryDirectory() as folder:
         os.chdir(folder)
@@ -236,10 +264,11 @@ def main():
         sent, written = joined(SET_UP)
         wanted = 0, written, "bsp_office: set-up.db: new book\n", 2, len(sent)
         if office.expect("the set-up", wanted, run(sent, "read 0", "--db", "set-up.db")):
-            for part in failed_reads, failed_writes:
+            for part in strangers, failed_reads, failed_writes:
                 compare(part(), over_book)
+        compare(in_memory(), over_memory)
         os.chdir(office.TOP)
-    office.finish("bsp_office: the bytes of a connection are as docs/HTTP.md says")
+    office.finish(f"bsp_office: {next(numbers):,} connections, whose bytes are as docs/HTTP.md says: heads, pieces, cuts, and each read and write failing")
 
 
 main()

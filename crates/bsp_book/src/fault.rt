@@ -1,3 +1,5 @@
+//! Why a book did not answer.
+
 /// Why a call of a book gives no answer.
 #[derive(Clone, Copy, Debug, PartialEq, Eq)]
 pub enum BookFault {

@@ -72,7 +72,7 @@ agent_sent agent l token NoRoute answer reply h = tt
 agent_sent agent l token OtherMethod answer reply h = tt
 
 agent_replied : (agent : ℕ) (l : Ledger) (reading : Reading) (o : Option Answer) (reply : Reply) → IsReplied o reply
-    → (let e : Exchange = (reading, o) in AreSent (told_reply agent l e) (map (λ a. read_of reply) (told_reply agent l e)))
+    → (let e : Exchange = record { request = reading; reply = o } in AreSent (told_reply agent l e) (map (λ a. read_of reply) (told_reply agent l e)))
 agent_replied agent l reading None reply h = tt
 agent_replied agent l reading (Some answer) reply h = agent_sent agent l reading.token reading.asked answer reply h.1
 
@@ -88,7 +88,7 @@ agent_told agent l (q ∷ qs) (p ∷ ps) [] h = elim h [ ]
 agent_told agent l (q ∷ qs) (p ∷ ps) (e ∷ es) h =
     let next = ledger_all agent l (reply_sights agent l e) in
     sent_append (told_reply agent l e) (told agent next es) (map (λ a. read_of p) (told_reply agent l e)) (agent_replies agent next es ps)
-    (agent_replied agent l e.0 e.1 p h.1) (agent_told agent next qs ps es h.2)
+    (agent_replied agent l e.request e.reply p h.1) (agent_told agent next qs ps es h.2)
 
 -- ---- the replies to an airline
 
@@ -101,7 +101,7 @@ airline_sent airline l token NoRoute answer reply h = tt
 airline_sent airline l token OtherMethod answer reply h = tt
 
 airline_replied : (airline : ℕ) (l : AirlineLedger) (reading : Reading) (o : Option Answer) (reply : Reply) → IsReplied o reply
-    → (let e : Exchange = (reading, o) in AreSent (airline_told_reply airline l e) (map (λ a. read_of reply) (airline_told_reply airline l e)))
+    → (let e : Exchange = record { request = reading; reply = o } in AreSent (airline_told_reply airline l e) (map (λ a. read_of reply) (airline_told_reply airline l e)))
 airline_replied airline l reading None reply h = tt
 airline_replied airline l reading (Some answer) reply h = airline_sent airline l reading.token reading.asked answer reply h.1
 
@@ -117,7 +117,7 @@ airline_told_all airline l (q ∷ qs) (p ∷ ps) [] h = elim h [ ]
 airline_told_all airline l (q ∷ qs) (p ∷ ps) (e ∷ es) h =
     let next = airline_all airline l (airline_reply_sights airline l e) in
     sent_append (airline_told_reply airline l e) (airline_told airline next es) (map (λ a. read_of p) (airline_told_reply airline l e)) (airline_replies airline next es ps)
-    (airline_replied airline l e.0 e.1 p h.1) (airline_told_all airline next qs ps es h.2)
+    (airline_replied airline l e.request e.reply p h.1) (airline_told_all airline next qs ps es h.2)
 
 -- ---- two runs
 

@@ -4,6 +4,8 @@ pub mod Fits
 pub mod Sent
 pub mod Reach
 pub mod Alike
+pub mod BooksAlike
+pub mod ListsRead
 pub mod OwnRows
 pub mod AirlineRows
 pub mod PeriodRows
@@ -11,7 +13,9 @@ pub mod Posted
 pub mod FewTallies
 pub mod PeriodSums
 pub mod Shown
+pub mod HotReplies
 pub mod DocumentRows
 pub mod NumberOrder
 pub mod StockRows
+pub mod Outliving
 pub use Rattle.bsp_desk_base.proofs.RequestsRead

@@ -11,8 +11,11 @@ use Rattle.bsp_desk_base.proofs.Held.{one_owner, repeats_are_held}
 use Rattle.bsp_desk_base.proofs.HeldInRuns.{runs_hold}
 use Rattle.bsp_desk_base.proofs.Isolated.{isolated}
 use Rattle.bsp_desk_base.proofs.NetLemmas.{nets_add_up}
+use Rattle.bsp_desk_base.proofs.PrintedInRuns.{runs_print}
 use Rattle.bsp_desk_base.proofs.Reports.{reports_stay}
 use Rattle.bsp_desk_base.proofs.ShownInRuns.{runs_show}
+use Rattle.bsp_desk_base.proofs.UnmarkedAirline.{airlines_need_no_marks}
+use Rattle.bsp_desk_base.proofs.UnmarkedInRuns.{agents_need_no_marks}
 use Rattle.bsp_desk_base.proofs.Values.{runs_agree}
 use Rattle.bsp_desk_base.specs.Requests.{Request as Reading}
 use Rattle.bsp_desk_base.specs.Step.{Fits, answer_of}
@@ -43,7 +46,7 @@ read_last (q ∷ qs) request (r ∷ rs) h =
     record { before = r ∷ k.before; last = k.last; whole = ap (λ (xs : List Reading). r ∷ xs) k.whole; read = (h.0, k.read); is = k.is }
 
 exchanges_push : (readings : List Reading) (replies : List Reply) (es : List Exchange) (reading : Reading) (reply : Reply) (e : Exchange)
-    → AreExchanges readings replies es → e.0 ≡ reading → IsReplied e.1 reply → AreExchanges (readings ++ reading ∷ []) (replies ++ reply ∷ []) (es ++ e ∷ [])
+    → AreExchanges readings replies es → e.request ≡ reading → IsReplied e.reply reply → AreExchanges (readings ++ reading ∷ []) (replies ++ reply ∷ []) (es ++ e ∷ [])
 exchanges_push [] [] [] reading reply e h is r = (is, r, tt)
 exchanges_push [] [] (x ∷ xs) reading reply e h is r = elim h [ ]
 exchanges_push [] (p ∷ ps) [] reading reply e h is r = elim h [ ]
@@ -53,11 +56,11 @@ exchanges_push (q ∷ qs) [] (x ∷ xs) reading reply e h is r = elim h [ ]
 exchanges_push (q ∷ qs) (p ∷ ps) [] reading reply e h is r = elim h [ ]
 exchanges_push (q ∷ qs) (p ∷ ps) (x ∷ xs) reading reply e h is r = (h.0, h.1, exchanges_push qs ps xs reading reply e h.2 is r)
 
-run_push : (office : List ℕ) (rows : Rows) (es : List Exchange) (new : Rows) (e : Exchange) → Run office rows es new → IsAnswered office new e.0 e.1 → Run office rows (es ++ e ∷ []) (rows_replied new e)
-run_push office rows [] new e h is = (subst (λ (r : Rows). IsAnswered office r e.0 e.1) h is, ap (λ (r : Rows). rows_replied r e) h)
+run_push : (office : List ℕ) (rows : Rows) (es : List Exchange) (new : Rows) (e : Exchange) → Run office rows es new → IsAnswered office new e.request e.reply → Run office rows (es ++ e ∷ []) (rows_replied new e)
+run_push office rows [] new e h is = (subst (λ (r : Rows). IsAnswered office r e.request e.reply) h is, ap (λ (r : Rows). rows_replied r e) h)
 run_push office rows (p ∷ ps) new e h is = (h.0, run_push office (rows_replied rows p) ps new e h.1 is)
 
-fit_push : (es : List Exchange) (e : Exchange) → AllFit es → Fits e.0.asked → AllFit (es ++ e ∷ [])
+fit_push : (es : List Exchange) (e : Exchange) → AllFit es → Fits e.request.asked → AllFit (es ++ e ∷ [])
 fit_push [] e h is = (is, tt)
 fit_push (p ∷ ps) e h is = (h.0, fit_push ps e h.1 is)
 
@@ -91,7 +94,7 @@ module _ {B : Type 0} (m : Meaning B Rows) (mid new : B) (request : Request) (of
   -- by a 503
   unsent : Answers m mid new request office reply → IsRead request reading → m.trusts new → Before → is_unavailable reply.status ≡ true → After
   unsent answers is t h gone =
-      let e : Exchange = (reading, None) in
+      let e : Exchange = record { request = reading; reply = None } in
       (h.0 ++ e ∷ [], h.1, exchanges_push readings replies h.0 reading reply e h.2 refl (answers.unavailable gone), run_push office rows h.0 h.1 e h.3 tt, fit_push h.0 e h.4 (read_fits request reading is), h.5, holds)
     where
       by : m.has_failed new ≡ false → (b : Bool) → m.has_failed mid ≡ b → Refuses NoRoom reply ⊎ Refuses StoreFailed reply → m.holds new h.1 None
@@ -109,7 +112,7 @@ module _ {B : Type 0} (m : Meaning B Rows) (mid new : B) (request : Request) (of
       go : (b : Bool) → m.has_failed mid ≡ b → After
       go true was = absurd (let f = sym here ∙ ap is_unavailable (answers.after_failure was).0.status in cc)
       go false was =
-          let e : Exchange = (reading, Some (answer_of office h.1 reading)) in
+          let e : Exchange = record { request = reading; reply = Some (answer_of office h.1 reading) } in
           let k = answers.kept here reading is t h.1 h.5 (h.6 was) in
           (h.0 ++ e ∷ [], rows_replied h.1 e, exchanges_push readings replies h.0 reading reply e h.2 refl (here, answers.step here reading is t h.1 h.5 (h.6 was)), run_push office rows h.0 h.1 e h.3 refl, fit_push h.0 e h.4 (read_fits request reading is), k.0, λ fine. k.1)
 
@@ -130,8 +133,11 @@ ran office rows es new run fits sound after = record {
   owners = λ k l i j. one_owner new k l i j after;
   values = runs_agree office rows es new run fits sound;
   nets = λ code. nets_add_up new code after;
+  printed = runs_print office rows es new run fits sound;
   agents = λ agent. isolated office agent rows es new run;
   airlines = λ airline. airline_isolated office airline rows es new run fits sound;
+  agent_marks = λ agent. agents_need_no_marks office rows es new agent run fits sound;
+  airline_marks = λ airline. airlines_need_no_marks office rows es new airline run fits sound;
   repeats = λ agent t period has. (
     (repeats_are_held office rows es new agent t period [] run fits sound has tt).0,
     λ ts groups. let h = repeats_are_held office rows es new agent t period ts run fits sound has groups in (h.1, h.2),

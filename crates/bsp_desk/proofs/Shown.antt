@@ -10,16 +10,23 @@ use Rattle.bsp_rows.specs.Published.{Published, closed_period, is_closed, is_tax
 use Rattle.bsp_rows.specs.Period.{Period}
 use Rattle.bsp_rows.specs.Terms.{Terms}
 use Rattle.bsp_hot.specs.Files.{IsTooWide, IsWritten, form_of}
+use Rattle.bsp_hot.specs.Sound.{IsHotFileOver, KeepRules}
+use Rattle.bsp_hot.proofs.OneFile.{one_file}
+use Rattle.bsp_hot_check.specs.FileForm.{FileForm}
+use Rattle.bsp_hot_check.specs.Hot.{Hot as AreHotLines}
+use Rattle.bsp_rows.specs.Lines.{lines}
 use Rattle.bsp_hot.specs.Rows.{Entry, entries}
 use Rattle.bsp_rows.specs.MemoFields.{MemoFields}
 use Rattle.bsp_rows.specs.Owed.{is_billed_in}
 use Rattle.bsp_rules.specs.declared.rows.Item.{Item}
 use Rattle.bsp_rows.specs.Rows.{is_in}
+use Rattle.bsp_rows.proofs.MapLemmas.{same_Some}
 use Rattle.std.specs.List.{filter}
 use Rattle.bsp_rows.specs.declared.questions.Items.TheVariants as items
 use Rattle.bsp_rows.specs.declared.questions.Memos.TheVariants as memos
 use Rattle.bsp_rows.specs.Rows.{items_of, memos_of}
 use Rattle.bsp_desk_base.specs.AirlineLedger.{airline_answer, airline_ledger_of, hot_answer, hot_shown}
+use Rattle.bsp_desk_base.specs.HotRules.{KeepRulesOfSound}
 use Rattle.bsp_desk_base.specs.Requests.AirlineRequest.{AskHot}
 use Rattle.bsp_desk.proofs.AirlineRows.{bearing_items, billed_memos}
 use Rattle.bsp_messages.specs.Values.{period_in}
@@ -52,6 +59,26 @@ pub code_is : (p : Published) (code : ℕ) (q : Period) → closed_period p code
 code_is p code q h =
     let found : period_of p code ≡ Some q = (closed_of (is_closed p code) (period_of p code) q h).1 in
     eqb-true q.code code (find_contains (λ (r : Period). r.code == code) p.periods q found).1
+
+-- ---- a HOT file
+
+-- the text is a HOT file of the closed period and the published terms
+abbrev IsHotOver : Published → ℕ → ℕ → List Entry → List ℕ → Type 0
+IsHotOver plan airline code rows text =
+    (q : Period) × (terms : Terms) × (closed_period plan code ≡ Some q) × (plan.terms ≡ Some terms) × IsHotFileOver (form_of plan q) airline q terms.currency rows text
+
+hot_over : (plan : Published) (airline code : ℕ) (q : Period) (terms : Terms) (rows : List Entry) (text : List ℕ) → closed_period plan code ≡ Some q → plan.terms ≡ Some terms → IsHotOver plan airline code rows text
+    → IsHotFileOver (form_of plan q) airline q terms.currency rows text
+hot_over plan airline code q terms rows text closed published (r, others, closed', published', over) =
+    let period = same_Some r q (sym closed' ∙ closed) in
+    let same = same_Some others terms (sym published' ∙ published) in
+    subst (λ (t : Terms). IsHotFileOver (form_of plan q) airline q t.currency rows text) same
+    (subst (λ (p : Period). IsHotFileOver (form_of plan p) airline p others.currency rows text) period over)
+
+-- its lines are those of the file that is written
+written_lines : (form : FileForm) (airline : ℕ) (q : Period) (currency : List ℕ) (rows : List Entry) (text : List ℕ) → (made : IsWritten form airline q currency rows text) → IsHotFileOver form airline q currency rows text → AreHotLines (lines text) made.file
+written_lines form airline q currency rows text made hot =
+    subst (AreHotLines (lines text)) (one_file form airline q currency rows hot.file made.file hot.over made.over) hot.stands
 
 module _ (rows : Rows) (text : List ℕ) (code : ℕ) (read : Some code ≡ period_in text) (plan : Published) (is : plan ≡ rows.published) (q : Period) (terms : Terms)
     (closed : closed_period plan code ≡ Some q) (published : plan.terms ≡ Some terms) where
@@ -95,13 +122,23 @@ module _ (rows : Rows) (text : List ℕ) (code : ℕ) (read : Some code ≡ peri
       ∙ ap (λ (n : ℕ). entries airline n (filter (is_in n) (values l.own.items)) (filter (is_billed_in n) (values l.own.memos))) numbered)
 
   module _ (airline : ℕ) (own : List Item) (ms : List MemoFields) (found : own ≡ items_of (items.OfAirlineIn airline code) rows) (billed : ms ≡ memos_of (memos.OfAirlineIn airline code) rows) where
-    pub hot_says : (file : Vec ℕ) → IsWritten (form_of plan q) airline q terms.currency (entries airline code own ms) file.items → Says (airline_answer airline (airline_ledger_of airline rows) (AskHot text)) (message.Hot file)
-    hot_says file over =
+    -- rows that are looked up keep the rules of a HOT file
+    pub looked_up : Sound rows → KeepRulesOfSound own ms → KeepRules airline code own ms
+    looked_up sound keep =
         let l = airline_ledger_of airline rows in
-        let formed = subst (λ (p : Published). IsWritten (form_of p q) airline q terms.currency (entries airline code own ms) file.items) is over in
+        let own_items = found ∙ (bearing_items airline code rows ∙ ap (λ (n : ℕ). filter (is_in n) (values l.own.items)) numbered) in
+        let own_memos = billed ∙ (billed_memos airline code rows ∙ ap (λ (n : ℕ). filter (is_billed_in n) (values l.own.memos)) numbered) in
+        subst (λ (n : ℕ). KeepRules airline n own ms) (sym numbered) (keep rows airline q sound own_items own_memos)
+
+    pub hot_says : (file : Vec ℕ) → IsWritten (form_of plan q) airline q terms.currency (entries airline code own ms) file.items → IsHotOver plan airline code (entries airline code own ms) file.items → Says (airline_answer airline (airline_ledger_of airline rows) (AskHot text)) (message.Hot file)
+    hot_says file over hot =
+        let l = airline_ledger_of airline rows in
+        let Both : Published → List Entry → Type 0 = λ p es. IsWritten (form_of p q) airline q terms.currency es file.items × IsHotFileOver (form_of p q) airline q terms.currency es file.items in
+        let formed = subst (λ (p : Published). Both p (entries airline code own ms)) is (over, hot_over plan airline code q terms (entries airline code own ms) file.items closed published hot) in
+        let there_in = subst (Both rows.published) (same_entries airline own ms found billed) formed in
         subst (λ (read_as : Option ℕ). Says (hot_answer airline l read_as) (message.Hot file)) read
         (subst (λ (of_code : Option Period). Says (hot_shown airline l of_code) (message.Hot file)) (sym at)
-        (inl (file, (terms, there, subst (λ (es : List Entry). IsWritten (form_of rows.published q) airline q terms.currency es file.items) (same_entries airline own ms found billed) formed), refl)))
+        (inl (file, (terms, there, there_in.0, written_lines (form_of rows.published q) airline q terms.currency (shown_rows airline) file.items there_in.0 there_in.1), refl)))
 
     pub hot_is_wide : IsTooWide (form_of plan q) airline q terms.currency (entries airline code own ms) → Says (airline_answer airline (airline_ledger_of airline rows) (AskHot text)) (message.Refused HotTooLarge)
     hot_is_wide over =

@@ -6,9 +6,12 @@ pub mod Replies
 pub mod Steps
 pub mod Runs
 pub mod Laws
+pub mod Books
+pub mod HotReplies
 pub mod Sums
 pub mod Documents
 pub mod Stock
+pub mod Stops
 pub use Rattle.bsp_book.specs.Calls as BookCalls
 pub use Rattle.bsp_desk_base.specs.Contents
 pub use Rattle.bsp_desk_base.specs.Requests

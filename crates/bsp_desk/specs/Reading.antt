@@ -2,8 +2,8 @@
 use Rattle.std.specs.Prelude.{◌≡◌, ℕ, List, [], ◌∷◌, Option, Some, None}
 use Rattle.std.specs.Borrow.{Bor}
 use Rattle.bsp_routes.specs.Calls.{asking_text}
-use Rattle.bsp_desk_base.specs.Contents.{IsAskedWith, IsWhole, bytes_in}
-use Rattle.bsp_desk_base.specs.Requests.{IsInMemory, Request as Reading}
+use Rattle.bsp_desk_base.specs.Contents.{IsAskedWith, IsWhole}
+use Rattle.bsp_desk_base.specs.Requests.{Request as Reading}
 use Rattle.bsp_desk.specs.declared.request.Request.{Request}
 
 abbrev pub token_text : Option (Bor (List ℕ)) → Option (List ℕ)
@@ -20,7 +20,14 @@ AreRead [] [] = Unit {0}
 AreRead (request ∷ requests) (reading ∷ readings) = IsRead request reading × AreRead requests readings
 AreRead _ _ = ⊥
 
--- each request whose content is whole and in memory is read as some request
+-- each request whose content is whole is read as some request
 abbrev pub EachIsRead : Type 0
-EachIsRead =
-    (request : Request) → IsWhole request.content → IsInMemory (asking_text request.call) (bytes_in request.content) → (reading : Reading) × IsRead request reading
+EachIsRead = (request : Request) → IsWhole request.content → (reading : Reading) × IsRead request reading
+
+-- and so is each list of them
+abbrev pub AreWhole : List Request → Type 0
+AreWhole [] = Unit {0}
+AreWhole (request ∷ requests) = IsWhole request.content × AreWhole requests
+
+abbrev pub ListsAreRead : Type 0
+ListsAreRead = (requests : List Request) → AreWhole requests → (readings : List Reading) × AreRead requests readings

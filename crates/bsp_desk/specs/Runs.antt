@@ -15,8 +15,10 @@ use Rattle.bsp_desk_base.specs.AirlineView.{airline_all, airline_ledger_answers,
 use Rattle.bsp_desk_base.specs.Answers.{Answer}
 use Rattle.bsp_desk_base.specs.Laws.{HasAccepted, IsHeldIn, IsPeriodKept, NetsAddUp, NewAgreeWithTickets, RepeatsHeld, ShownReportsStay}
 use Rattle.bsp_desk_base.specs.Ledger.{ledger_of, own_verdicts, statement_answer}
+use Rattle.bsp_desk_base.specs.Printed.{ReportsPrintNets}
 use Rattle.bsp_desk_base.specs.Requests.{Request as Reading}
 use Rattle.bsp_desk_base.specs.Step.{AreGroups, office_verdicts, settlement_answer}
+use Rattle.bsp_desk_base.specs.Unmarked.{AgentNeedsNoMarks, AirlineNeedsNoMarks}
 use Rattle.bsp_desk_base.specs.View.{AllFit, Exchange, Run, ledger_all, ledger_answers, told, view}
 use Rattle.bsp_desk.specs.Replies.{IsSent, Refuses, is_unavailable}
 use Rattle.bsp_desk.specs.Steps.{Answers}
@@ -32,7 +34,7 @@ IsReplied (Some answer) reply = (is_unavailable reply.status ≡ false) × IsSen
 -- each request, as it is read, with the answer that its reply sends
 abbrev pub AreExchanges : List Reading → List Reply → List Exchange → Type 0
 AreExchanges [] [] [] = Unit {0}
-AreExchanges (reading ∷ readings) (reply ∷ replies) (e ∷ es) = (e.0 ≡ reading) × IsReplied e.1 reply × AreExchanges readings replies es
+AreExchanges (reading ∷ readings) (reply ∷ replies) (e ∷ es) = (e.request ≡ reading) × IsReplied e.reply reply × AreExchanges readings replies es
 AreExchanges _ _ _ = ⊥
 
 -- ---- request by request
@@ -87,8 +89,13 @@ module _ (rows : Rows) (exchanges : List Exchange) (new : Rows) where
     pub values : NewAgreeWithTickets rows new
     -- the agents' nets and the airlines' nets of each period have one sum
     pub nets : (code : ℕ) → NetsAddUp code new
+    -- each statement, settlement and HOT file that is sent prints these nets
+    pub printed : ReportsPrintNets exchanges new
     pub agents : (agent : ℕ) → AgentAlone agent
     pub airlines : (airline : ℕ) → AirlineAlone airline
+    -- at each point of the run their ledgers need no marks: what lives follows from the items, and a memo from what is seen of it
+    pub agent_marks : (agent : ℕ) → AgentNeedsNoMarks agent rows exchanges
+    pub airline_marks : (airline : ℕ) → AirlineNeedsNoMarks airline rows exchanges
     pub repeats : (agent : ℕ) (t : Transaction) (period : ℕ) → RepeatHeld agent t period
     pub periods : (code : ℕ) (q : Period) → PeriodStays code q
     -- what was accepted before an exchange, in this run too, that exchange holds, and so do later places of one file

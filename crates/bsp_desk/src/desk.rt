@@ -3,6 +3,7 @@ ghost use Rattle.bsp_desk.specs.Callers.{calling};
 ghost use Rattle.bsp_desk.specs.Reading.{AreRead};
 ghost use Rattle.bsp_desk.specs.Runs.{AreAnswered, RanOver};
 ghost use Rattle.bsp_desk.specs.Steps.{Answers};
+ghost use Rattle.bsp_desk.specs.Stops.{Outlives};
 ghost use Rattle.bsp_rows.specs.Rows.{Rows};
 ghost use Rattle.bsp_rows.specs.Sound.{Sound};
 ghost use Rattle.bsp_desk_base.specs.Requests.{Request as Reading};
@@ -64,7 +65,19 @@ impl<B: Book> Desk<B> {
     /// if the book has failed, and then to every request.
     ///
     /// No route and another method are answered 404 N02 and 405 N03 without a transaction, and take no memory.
+    ///
+    /// A stop after it leaves the rows that the book then holds. From the first B03 on it leaves the rows as they were
+    /// before that request, or those that the request leaves, whatever was asked since.
     pub fn answer(&mut self, request: &Request<'_>) -> Reply
+        ensures answered { Answers B.means self.old.book self.new.book request.now self.old.office result }
+        ensures stops { Outlives B.means self.old.book self.new.book request.now self.old.office result }
+        ensures office { self.new.office ≡ self.old.office }
+    {
+        self.reply(request)
+    }
+
+    // The reply to a request.
+    fn reply(&mut self, request: &Request<'_>) -> Reply
         ensures answered { Answers B.means self.old.book self.new.book request.now self.old.office result }
         ensures office { self.new.office ≡ self.old.office }
     {

@@ -8,13 +8,14 @@ ghost use Rattle.bsp_desk_base.specs.Serves.{EndsOnFault, ServesAirline};
 ghost use Rattle.bsp_desk_base.specs.Requests.AirlineRequest.{AskHot};
 
 use bsp_book::{Book, BookFault};
-use bsp_desk_base::give_up;
+use bsp_desk_base::{give_up, hot_rows_keep_rules};
 use bsp_hot::{HotFault, write_hot_of};
 use bsp_messages::{Answer, RequestRefusal};
 use bsp_rows::{AirlineCode, Items, Memos, PeriodCode, Tallies};
 use std::alloc::Global;
 
 /// Shows the HOT file of an airline for a closed period, over the airline's own rows, in the form of the period.
+/// `check_hot` passes it.
 ///
 /// The answer is H02 where the period is unknown or not closed, and H01 where a count or a total does not fit its
 /// place. The rows stay as they are.
@@ -42,7 +43,10 @@ pub(crate) fn hot<B: Book>(
     let memos = book.memos(Memos::OfAirlineIn(airline, code))?;
     let tallies = book.tallies(Tallies::OfAirlineIn(airline, code))?;
     match write_hot_of(alloc, airline, code, &items, &memos, &tallies, book.plan()) {
-        Ok(file) => Ok(Answer::Hot(file)),
+        Ok(file) => {
+            hot_rows_keep_rules(&items, &memos);
+            Ok(Answer::Hot(file))
+        }
         Err(HotFault::TooWide) => Ok(Answer::Refused(RequestRefusal::HotTooLarge)),
         Err(HotFault::NotClosed) => Ok(Answer::Refused(RequestRefusal::NoHot)),
         Err(HotFault::NoMemory) => give_up(book),

@@ -31,5 +31,5 @@ pub use bsp_messages::{Body, Media, Reply, RequestRefusal, Status};
 pub use bsp_routes::{Asking, BodyKind, Route, Routes};
 pub use bsp_rows::Token;
 pub use desk::Desk;
-pub use laws::{replies_are_alike, requests_are_read};
+pub use laws::{books_reply_alike, hot_replies_pass, replies_are_alike, requests_are_read};
 pub use request::Request;

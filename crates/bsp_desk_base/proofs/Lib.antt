@@ -9,6 +9,7 @@ pub use Rattle.bsp_office_spec.proofs.HeldInRuns
 pub use Rattle.bsp_office_spec.proofs.Invariant
 pub use Rattle.bsp_office_spec.proofs.Isolated
 pub use Rattle.bsp_office_spec.proofs.NetLemmas
+pub use Rattle.bsp_office_spec.proofs.PrintedInRuns
 pub use Rattle.bsp_office_spec.proofs.Reports
 pub use Rattle.bsp_office_spec.proofs.RequestsRead
 pub use Rattle.bsp_office_spec.proofs.Runs
@@ -17,4 +18,6 @@ pub use Rattle.bsp_office_spec.proofs.SeenLemmas
 pub use Rattle.bsp_office_spec.proofs.ShownInRuns
 pub use Rattle.bsp_office_spec.proofs.TextLemmas
 pub use Rattle.bsp_office_spec.proofs.Unchanged
+pub use Rattle.bsp_office_spec.proofs.UnmarkedAirline
+pub use Rattle.bsp_office_spec.proofs.UnmarkedInRuns
 pub use Rattle.bsp_office_spec.proofs.Values

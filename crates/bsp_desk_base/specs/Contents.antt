@@ -11,7 +11,7 @@ use Rattle.bsp_office_spec.specs.AgentCall.{AgentCall}
 use Rattle.bsp_office_spec.specs.AgentCall.TheVariants as agent
 use Rattle.bsp_desk_base.specs.declared.content.Content.{Content}
 use Rattle.bsp_desk_base.specs.declared.content.Content.TheVariants.{Bytes, File, Fault}
-use Rattle.bsp_office_spec.specs.Requests.{AgentRequest, Asked, FileRead, IsAgentRequest, IsAsked, IsFileOf, IsInMemory, IsOfficeRequest, OfficeRequest}
+use Rattle.bsp_office_spec.specs.Requests.{AgentRequest, Asked, FileRead, IsAgentRequest, IsAsked, IsFileOf, IsOfficeRequest, OfficeRequest}
 use Rattle.bsp_office_spec.specs.Requests.AgentRequest.{AgentFile}
 use Rattle.bsp_office_spec.specs.Requests.Asked.{ByAgent, ByOffice}
 use Rattle.bsp_office_spec.specs.Requests.OfficeRequest.{OfficeFile}
@@ -52,7 +52,6 @@ IsWhole (Bytes bytes) = Unit {0}
 IsWhole (File file) = HasLines file.now
 IsWhole (Fault fault) = Unit {0}
 
--- each call whose content is whole and in memory is read as some request
+-- each call whose content is whole is read as some request
 abbrev pub EachContentIsRead : Type 0
-EachContentIsRead =
-    (asking : Asking (List ℕ)) (content : Content) → IsWhole content → IsInMemory asking (bytes_in content) → (asked : Asked) × IsAskedWith asking content asked
+EachContentIsRead = (asking : Asking (List ℕ)) (content : Content) → IsWhole content → (asked : Asked) × IsAskedWith asking content asked

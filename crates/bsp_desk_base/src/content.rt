@@ -27,8 +27,7 @@ impl<'r> Content<'r> {
 }
 
 /// Each call with its content is read as some request of `bsp_office_spec`. What a reader gave as a file
-/// is to be one, as each [`RetFile`] is. Of a plan text no list may have 2^63 entries, more than
-/// any memory holds.
+/// is to be one, as each [`RetFile`] is.
 pub fn contents_are_read()
     ensures { EachContentIsRead }
 {}

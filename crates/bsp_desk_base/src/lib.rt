@@ -7,5 +7,6 @@
 mod content;
 mod memory;
 
+pub use bsp_office_spec::hot_rows_keep_rules;
 pub use content::{Content, contents_are_read};
 pub use memory::give_up;

@@ -1,6 +1,7 @@
 -- What requests for the plan leave, by what they are answered.
-use Rattle.std.proofs.Common.{◌≡◌, ℕ, ◌==◌, ◌&&◌, Bool, true, false, cond, List, Result, Ok, Err, refl, sym, ap, subst, ◌∙◌, inl, inr}
+use Rattle.std.proofs.Common.{◌≡◌, ℕ, ◌<◌, ◌^◌, ◌==◌, ◌&&◌, Bool, true, false, cond, List, length, Result, Ok, Err, refl, sym, ap, subst, ◌∙◌, inl, inr, ⊎_elim, arith}
 use Rattle.std.specs.Prelude.{Some}
+use Rattle.std.specs.Global.{Vec}
 use Rattle.std.specs.Result.{result_map_both}
 use Rattle.std.proofs.lemmas.Bool.{and_parts, eqb-true}
 use Rattle.bsp_rows.specs.CivilDay.{CivilDay}
@@ -26,7 +27,7 @@ use Rattle.bsp_rows.specs.Writes.{after_request, change_or_fault, is_held, plan_
 use Rattle.bsp_desk_base.specs.After.{office_after}
 use Rattle.bsp_desk_base.specs.Answers.{is_done}
 use Rattle.bsp_desk_base.specs.Ledger.{review_of}
-use Rattle.bsp_desk_base.specs.Requests.{IsPlanOf, PlanRead}
+use Rattle.bsp_desk_base.specs.Requests.{IsBeyondMemory, IsInMemory, IsPlanOf, PlanRead}
 use Rattle.bsp_desk_base.specs.Requests.OfficeRequest.{ClosePeriod, PublishPlan, SetBusinessDay}
 use Rattle.bsp_desk_base.specs.Step.{office_answer, outcome_answer, with_close}
 use Rattle.bsp_desk_base.specs.Texts.{Says}
@@ -98,13 +99,26 @@ value_of : (read : PlanRead) (wanted : PlanData) → result_map_both plan_data (
 value_of (Ok text) wanted h = (text, refl, cc)
 value_of (Err fault) wanted h = absurd (cc h)
 
+-- a text that is read says no more than memory holds
+not_beyond : (bytes : List ℕ) (text : PlanText) → plan_reading bytes ≡ Ok (plan_data text) → IsBeyondMemory bytes → ⊥
+not_beyond bytes text is (said, also, beyond) =
+    let same : plan_data text ≡ said = same_Ok (plan_data text) said (sym is ∙ also) in
+    beyond (subst IsInMemory same (room text.airlines, room text.rates, room text.periods, room text.commission_taxes))
+  where
+    room : {A : Type 0} (v : Vec A) → length v.items < 2 ^ 63
+    room v = omega (arith, v.ok.0, v.ok.1, v.small)
+
+    same_Ok : (a b : PlanData) → ◌≡◌ {A = Result PlanData PlanFault} (Ok a) (Ok b) → a ≡ b
+    same_Ok a b h = cc
+
 -- a text that is read
 pub text_served : (P : Rows → Type 0) (rows : Rows) (bytes : List ℕ) (read : PlanRead) (text : PlanText) (answered : Result Change PlanFault) (message : Message) → Sound rows →
     IsPlanOf bytes read → plan_reading bytes ≡ Ok (plan_data text) →
     answered ≡ request_answer (Publish text) rows → Says (outcome_answer answered) message → P (after_request (Publish text) rows) →
     Says (office_answer (PublishPlan read) rows) message × P (office_after (PublishPlan read) rows)
 text_served P rows bytes read text answered message s of is answer says h =
-    let (other, value, same) = value_of read (plan_data text) (of ∙ is) in
+    let known : result_map_both plan_data (λ fault. fault) read ≡ plan_reading bytes = ⊎_elim (λ h. h) (λ beyond. absurd (not_beyond bytes text is beyond.0)) of in
+    let (other, value, same) = value_of read (plan_data text) (known ∙ is) in
     let Q : PlanRead → Type 0 = λ r. Says (office_answer (PublishPlan r) rows) message × P (office_after (PublishPlan r) rows) in
     subst Q (sym value) (
       subst (λ (r : Result Change PlanFault). Says (outcome_answer r) message) (answer ∙ sym (same_answer rows other text same)) says,

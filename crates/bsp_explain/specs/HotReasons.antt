@@ -38,8 +38,8 @@ SaysOfNameable form (Some name) line reason = SaysOfNamed form name line reason
 
 -- what a reason says of record number n of a file of this form
 abbrev pub SaysOfHot : FileForm → ℕ → List ℕ → Reason → Type 0
-SaysOfHot form n line (reason.Width width) = SaysOfWidth line (reason.Width width)
-SaysOfHot form n line (reason.Character column c) = SaysOfWidth line (reason.Character column c)
+SaysOfHot form n line (reason.Width width cause) = SaysOfWidth line (reason.Width width cause)
+SaysOfHot form n line (reason.Character column c cause) = SaysOfWidth line (reason.Character column c cause)
 SaysOfHot form n line (reason.SequenceNumber number) = (number ≡ n) × (spells n (columns 4 11 line) ≡ false)
 SaysOfHot form n line reason.NameDigits = name_of (columns 12 13 line) ≡ None
 SaysOfHot form n line reason.NameLetters = SaysOfNameable form (name_of (columns 12 13 line)) line reason.NameLetters

@@ -15,13 +15,13 @@ pub record IsUnprintable (line : List ℕ) (column character : ℕ) : Type 0 whe
   pub before : list_all is_printable (take (column - 1) line) ≡ true
 
 abbrev pub SaysOfWidth : List ℕ → Reason → Type 0
-SaysOfWidth line (reason.Width width) = (length line ≡ width) × (width ≢ 136)
-SaysOfWidth line (reason.Character column character) = IsUnprintable line column character
+SaysOfWidth line (reason.Width width cause) = (length line ≡ width) × (width ≢ 136)
+SaysOfWidth line (reason.Character column character cause) = IsUnprintable line column character
 SaysOfWidth line _ = ⊥
 
 -- the first and the last column at fault
 abbrev pub columns_of : Reason → Option (ℕ × ℕ)
-columns_of (reason.Character column character) = Some (column, column)
+columns_of (reason.Character column character cause) = Some (column, column)
 columns_of (reason.Unfit f) = Some (f.first, f.last)
 columns_of (reason.Identifier c) = Some (1, 1)
 columns_of (reason.TransactionNumber n) = Some (2, 7)

@@ -54,8 +54,8 @@ has_stated records transactions line = spells records (record_count line) && spe
 
 -- what a reason says of record number n, after what was counted before it
 abbrev pub Says : ℕ → Before → List ℕ → Reason → Type 0
-Says n before line (reason.Width width) = SaysOfWidth line (reason.Width width)
-Says n before line (reason.Character column c) = SaysOfWidth line (reason.Character column c)
+Says n before line (reason.Width width cause) = SaysOfWidth line (reason.Width width cause)
+Says n before line (reason.Character column c cause) = SaysOfWidth line (reason.Character column c cause)
 Says n before line (reason.Unfit f) = IsAtFault line f × (first_unfit line (record_fields (n == 1) line) ≡ Some f)
 Says n before line (reason.Identifier c) = (identifier line ≡ c) × (has_number line ≡ false) × (c ≢ 90)
 Says n before line (reason.TransactionNumber wanted) =
@@ -74,8 +74,8 @@ Says n before line _ = Unit {0}
 
 -- the reason is one of that row of the fault table
 abbrev pub is_reason_of : FaultCode → Reason → Bool
-is_reason_of F01 (reason.Width width) = true
-is_reason_of F01 (reason.Character column c) = true
+is_reason_of F01 (reason.Width width cause) = true
+is_reason_of F01 (reason.Character column c cause) = true
 is_reason_of F02 (reason.Unfit f) = true
 is_reason_of F03 (reason.Identifier c) = true
 is_reason_of F03 (reason.TransactionNumber wanted) = true

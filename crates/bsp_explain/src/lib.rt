@@ -23,5 +23,5 @@ pub use form::Form;
 pub use hot_reasons::{hot_reason, record_name};
 pub use money::Money;
 pub use name::Name;
-pub use reason::Reason;
+pub use reason::{Cause, Reason};
 pub use ret_reasons::ret_reason;

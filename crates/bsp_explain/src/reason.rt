@@ -7,18 +7,39 @@ use crate::field::Field;
 use crate::money::Money;
 use thiserror::Error;
 
+/// Why a line may have another width, or another character, than it shows. It is for people.
+#[derive(Clone, Copy, Debug, Error)]
+pub enum Cause {
+    /// Nothing is known of it.
+    #[error("")]
+    Unknown,
+    /// The text begins with the byte order mark of UTF-8, which an editor wrote.
+    #[error(": it begins with a byte order mark, so save it as plain text")]
+    Mark,
+    /// It has a character of UTF-8 that is two bytes or more.
+    #[error(": it has a letter with an accent, or another character of two bytes or more")]
+    Wide,
+}
+
 /// What is wrong with a record. It is displayed without its columns, by the text beside it here.
 #[derive(Clone, Copy, Debug, Error)]
 pub enum Reason {
-    #[error("it has {0} characters, and not 136")]
-    Width(usize),
+    #[error("it has {width} characters, and not 136{cause}")]
+    Width {
+        /// How many it has.
+        width: usize,
+        /// Why, where it is known.
+        cause: Cause,
+    },
     /// A character is outside 0x20 to 0x7E.
-    #[error("the character {character:#04x} is outside 0x20 to 0x7e")]
+    #[error("the character {character:#04x} is outside 0x20 to 0x7e{cause}")]
     Character {
         /// Its column, counted from 1.
         column: u8,
         /// The character.
         character: u8,
+        /// Why, where it is known.
+        cause: Cause,
     },
     /// A field is not in its form.
     #[error("{0}")]

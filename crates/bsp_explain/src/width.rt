@@ -10,7 +10,7 @@ ghost use Rattle.bsp_explain.specs.RetReasons.{Says, is_reason_of};
 ghost use Rattle.bsp_explain.specs.HotReasons.{SaysOfHot};
 ghost use Rattle.bsp_ret.specs.declared.model.FaultCode.TheVariants.{F01};
 
-use crate::reason::Reason;
+use crate::reason::{Cause, Reason};
 
 /// Whether a character lies from 0x20 to 0x7E.
 fn is_printable(character: u8) -> bool
@@ -22,7 +22,7 @@ fn is_printable(character: u8) -> bool
 /// The first character outside 0x20 to 0x7E, with its column.
 fn unprintable(line: &[u8]) -> Option<(u8, u8)>
     requires { length line.now ≡ 136 }
-    ensures some { IfSome result (λ found. SaysOfWidth line.now (Reason.Character found.0 found.1) × (list_all is_printable line.now ≡ false)) }
+    ensures some { IfSome result (λ found. SaysOfWidth line.now (Reason.Character found.0 found.1 Cause.Unknown) × (list_all is_printable line.now ≡ false)) }
     ensures none { IfNone result (list_all is_printable line.now ≡ true) }
 {
     for index in 0..136u8 {
@@ -32,6 +32,23 @@ fn unprintable(line: &[u8]) -> Option<(u8, u8)>
         }
     }
     None
+}
+
+/// Whether two bytes begin a character of UTF-8.
+fn begins_wide(pair: &[u8]) -> bool {
+    pair.len() == 2 && pair[0] >= 0xc2 && (0x80..0xc0).contains(&pair[1])
+}
+
+/// Why a line may be no record, as far as its first bytes show it.
+fn cause_of(line: &[u8]) -> Cause {
+    let head = &line[..line.len().min(1024)];
+    if head.starts_with(b"\xef\xbb\xbf") {
+        Cause::Mark
+    } else if head.windows(2).any(|pair| begins_wide(pair)) {
+        Cause::Wide
+    } else {
+        Cause::Unknown
+    }
 }
 
 /// Why a line is no record of 136 characters from 0x20 to 0x7E.
@@ -46,10 +63,15 @@ pub(crate) fn width_reason(line: &[u8]) -> Option<Reason>
 {
     let width = line.len();
     if width != 136 {
-        return Some(Reason::Width(width));
+        let cause = cause_of(line);
+        return Some(Reason::Width { width, cause });
     }
     match unprintable(line) {
-        Some((column, character)) => Some(Reason::Character { column, character }),
+        Some((column, character)) => Some(Reason::Character {
+            column,
+            character,
+            cause: cause_of(line),
+        }),
         None => None,
     }
 }

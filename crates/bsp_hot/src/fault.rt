@@ -1,3 +1,5 @@
+//! Why no HOT file is written, H01 to H03.
+
 ghost use Rattle.std.specs.Prelude.{◌≡◌};
 ghost use Rattle.bsp_hot.specs.Faults.{code_text};
 

@@ -3,6 +3,7 @@ use Rattle.std.proofs.Common.{◌≡◌, ℕ, List, [], ◌∷◌, ◌++◌, Non
 use Rattle.bsp_desk.specs.BookCalls.{Meaning}
 use Rattle.bsp_connection.specs.Conversations.{IsRun}
 use Rattle.bsp_connection.specs.Exchanges.{Exchange, RequestText}
+use Rattle.bsp_desk.proofs.RequestsRead.{each_request_is_read}
 use Rattle.bsp_desk.proofs.Reach.{Reached, ran, reach_more, reach_none}
 use Rattle.bsp_desk.specs.Reading.{IsRead}
 use Rattle.bsp_desk.specs.Runs.{RanOver, RunReplied}
@@ -15,7 +16,7 @@ use Rattle.bsp_desk.specs.Asking.{Asking}
 use Rattle.bsp_desk.specs.Rows.{Rows}
 use Rattle.bsp_desk.specs.Sound.{Sound}
 use Rattle.bsp_desk.specs.Requests.{IsAsked, Request as Reading}
-use Rattle.bsp_http.specs.Laws.{AreMessagesRead, AreWrittenFor, IsMessageRead, MessagesRun}
+use Rattle.bsp_http.specs.Laws.{AreMessagesRead, AreWrittenFor, EachMessageIsRead, IsMessageRead, MessagesRun}
 use Rattle.bsp_http.specs.Messages.{IsRequestOf, at_desk}
 
 -- however the message is read, so is the request that the desk was asked for it
@@ -25,7 +26,21 @@ message_read text request reading is read = record {
   asked = is.reads reading.asked (subst (λ (a : Asking (List ℕ)). IsAsked a text.body reading.asked) (sym (is.only read.asking read.asks)) read.asked);
 }
 
+-- a message that asks for something has a reading
+pub message_is_read : EachMessageIsRead
+message_is_read text asking asks =
+    let read = each_request_is_read asking text.body in
+    (record { token = text.token; asked = read.0 }, record { token = refl; asking = asking; asks = asks; asked = read.1 })
+
 module _ {B : Type 0} (m : Meaning B Rows) where
+  -- and so has each message of a connection
+  messages_are_read : (old new : Desk B) (xs : List Exchange) → IsRun (at_desk m) old xs new → (readings : List Reading) × AreMessagesRead xs readings
+  messages_are_read old new [] h = ([], tt)
+  messages_are_read old new (x ∷ xs) h =
+      let first = message_is_read x.request (asking_text h.1.request.call) h.1.is.asks in
+      let rest = messages_are_read h.0 new xs h.2 in
+      (first.0 ∷ rest.0, (first.1, rest.1))
+
   kept_office : (old new : Desk B) (xs : List Exchange) → IsRun (at_desk m) old xs new → new.office ≡ old.office
   kept_office old new [] h = subst (λ (d : Desk B). d.office ≡ old.office) h refl
   kept_office old new (x ∷ xs) h = kept_office h.0 new xs h.2 ∙ h.1.office
@@ -61,7 +76,7 @@ module _ {B : Type 0} (m : Meaning B Rows) where
       )
 
   pub messages_run : MessagesRun m
-  messages_run old new xs h = (kept_office old new xs h, kept_trust old new xs h, runs)
+  messages_run old new xs h = (kept_office old new xs h, kept_trust old new xs h, messages_are_read old new xs h, runs)
     where
       runs : (readings : List Reading) → AreMessagesRead xs readings → m.trusts new.book → (rows : Rows) → Sound rows → m.holds old.book rows None
           → (replies : List Reply) × AreWrittenFor xs replies × RanOver m new.book old.office rows readings replies

@@ -1,3 +1,5 @@
+//! The error of a refused allocation.
+
 use std::alloc::AllocError;
 
 /// An allocation was refused, or a count or a sum does not fit its type.

@@ -1,3 +1,5 @@
+//! What a call came to.
+
 ghost use Rattle.std.specs.Prelude.{◌≡◌};
 ghost use Rattle.bsp_messages.specs.Answers.{state_text};
 

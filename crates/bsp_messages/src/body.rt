@@ -1,3 +1,5 @@
+//! The JSON value of a body.
+
 ghost use Rattle.bsp_messages.specs.Bodies.{DataAnswers, data_of};
 
 use crate::fault::BodyFault;

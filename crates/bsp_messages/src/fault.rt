@@ -1,3 +1,5 @@
+//! Why a body is refused.
+
 use thiserror::Error;
 
 /// Why a body was not read.

@@ -1,3 +1,5 @@
+//! The members of a JSON object.
+
 ghost use Rattle.std.specs.Prelude.{◌≡◌, option_map};
 ghost use Rattle.serde_json.specs.View.{view};
 ghost use Rattle.bsp_fields.specs.Tokens.{token_reading};

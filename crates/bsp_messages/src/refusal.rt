@@ -1,3 +1,5 @@
+//! Refusals of a request: their codes and statuses.
+
 ghost use Rattle.std.specs.Prelude.{◌≡◌};
 ghost use Rattle.serde_json.specs.Written.{compact_text};
 ghost use Rattle.bsp_messages.specs.Refusals.{code_object, memo_code, plan_code, stock_code, refusal_code, refusal_status};

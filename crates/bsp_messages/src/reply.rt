@@ -1,3 +1,5 @@
+//! A reply: its status and its body.
+
 ghost use Rattle.std.specs.Prelude.{◌≡◌, false, IfOk, IsOk};
 ghost use Rattle.serde_json.specs.Written.{compact_text};
 ghost use Rattle.bsp_messages.specs.Answers.{result_object};

@@ -1,3 +1,5 @@
+//! The statuses and media types of replies.
+
 ghost use Rattle.std.specs.Prelude.{◌≡◌};
 ghost use Rattle.bsp_messages.specs.Statuses.{status_number, media_text};
 

@@ -1,3 +1,5 @@
+//! Values as a body states them.
+
 ghost use Rattle.std.specs.Prelude.{◌≡◌};
 ghost use Rattle.bsp_messages.specs.Values.{agent_in};
 

@@ -9,9 +9,9 @@ use Rattle.bsp_rows.specs.Verdict.{Verdict}
 use Rattle.bsp_rows.specs.Verdict.TheVariants as verdict
 use Rattle.bsp_rows.specs.Rows.{Rows, airline_token}
 use Rattle.bsp_rows.specs.Sound.{Sound}
-use Rattle.bsp_office_spec.specs.AirlineLedger.{AirlineLedger, airline_answer, airline_ledger_of}
+use Rattle.bsp_office_spec.specs.AirlineLedger.{AirlineLedger, airline_answer, airline_ledger_of, is_known}
 use Rattle.bsp_office_spec.specs.AirlineView.{AirlineSight, agent_files, agent_shows, airline_after, airline_all, airline_ledger_answers, airline_reply_sights, airline_sight_answer, airline_sights, airline_told, airline_told_one, airline_told_reply, airline_view, is_own_airline, known_of, office_files, office_shows, taken_file, taken_in, taken_of, taken_one}
-use Rattle.bsp_office_spec.specs.AirlineView.AirlineSight.{ActedOn, OwnAsked, Renewed, Taken}
+use Rattle.bsp_office_spec.specs.AirlineView.AirlineSight.{ActedOn, Known, OwnAsked, Renewed, Taken}
 use Rattle.bsp_office_spec.specs.Answers.{Answer, is_done, verdicts_in}
 use Rattle.bsp_office_spec.specs.Answers.Answer.{Refused}
 use Rattle.bsp_office_spec.specs.Laws.{AirlineIsIsolated, AirlinesAreAlike}
@@ -75,11 +75,14 @@ quiet_file : (c : ℕ) (l : AirlineLedger) (owner : Owner) (file : FileRead) (vs
 quiet_file c l owner (Err fault) vs = refl
 quiet_file c l owner (Ok ts) vs = quiet_in c l owner ts vs
 
-quiet_known : (c : ℕ) (l : AirlineLedger) (r : Option ℕ) → airline_ledger_answers c l (known_of r) ≡ []
+quiet_known : (c : ℕ) (l : AirlineLedger) (r : Option ℕ) → airline_ledger_answers c l (known_of l r) ≡ []
 quiet_known c l None = refl
-quiet_known c l (Some b) = refl
+quiet_known c l (Some b) = by (is_known b l) where
+  by : (known : Bool) → airline_ledger_answers c l (cond known [] (Known b ∷ [])) ≡ []
+  by true = refl
+  by false = refl
 
-quiet_office : (c : ℕ) (l : AirlineLedger) (call : OfficeRequest) → airline_ledger_answers c l (office_shows c call) ≡ []
+quiet_office : (c : ℕ) (l : AirlineLedger) (call : OfficeRequest) → airline_ledger_answers c l (office_shows c l call) ≡ []
 quiet_office c l (PublishPlan (Ok text)) = refl
 quiet_office c l (PublishPlan (Err fault)) = refl
 quiet_office c l (SetBusinessDay (Some day)) = refl
@@ -106,7 +109,7 @@ quiet_office_file c l (OfficeFile file) vs = quiet_file c l bearer file vs
 quiet_office_file c l (ClosePeriod period) vs = refl
 quiet_office_file c l (AskSettlement period) vs = refl
 
-quiet_by_office : (c : ℕ) (l : AirlineLedger) (call : OfficeRequest) (vs : List Verdict) (b : Bool) → airline_ledger_answers c l (cond b (office_shows c call) (office_files c call vs)) ≡ []
+quiet_by_office : (c : ℕ) (l : AirlineLedger) (call : OfficeRequest) (vs : List Verdict) (b : Bool) → airline_ledger_answers c l (cond b (office_shows c l call) (office_files c call vs)) ≡ []
 quiet_by_office c l call vs true = quiet_office c l call
 quiet_by_office c l call vs false = quiet_office_file c l call vs
 
@@ -155,7 +158,7 @@ record IsOne (c : ℕ) (rows : Rows) (p : Exchange) : Type 0 where
   moved : airline_ledger_of c (rows_replied rows p) ≡ airline_all c (airline_ledger_of c rows) (airline_reply_sights c (airline_ledger_of c rows) p)
   sound : Sound (rows_replied rows p)
 
-replied : (office : List ℕ) (c : ℕ) (rows : Rows) (request : Request) (reply : Option Answer) → IsAnswered office rows request reply → Sound rows → Fits request.asked → IsOne c rows (request, reply)
+replied : (office : List ℕ) (c : ℕ) (rows : Rows) (request : Request) (reply : Option Answer) → IsAnswered office rows request reply → Sound rows → Fits request.asked → IsOne c rows (record { request = request; reply = reply })
 replied office c rows request None h s fits = record { told = refl; moved = refl; sound = s }
 replied office c rows request (Some answer) h s fits = record {
   told = told_asked office c rows request.token request.asked answer h;
@@ -168,7 +171,7 @@ replied office c rows request (Some answer) h s fits = record {
 pub airline_isolated : AirlineIsIsolated
 airline_isolated office c rows [] new run fits s = (refl, ap (airline_ledger_of c) run)
 airline_isolated office c rows (p ∷ ps) new run fits s =
-    let here = replied office c rows p.0 p.1 run.0 s fits.0 in
+    let here = replied office c rows p.request p.reply run.0 s fits.0 in
     let l : AirlineLedger = airline_ledger_of c rows in
     let ss : List AirlineSight = airline_reply_sights c l p in
     let next : Rows = rows_replied rows p in

@@ -1,5 +1,5 @@
 -- What each write of the rows is to one airline's ledger.
-use Rattle.std.proofs.Common.{◌≡◌, ℕ, ◌==◌, Bool, true, false, cond, List, [], ◌∷◌, ◌++◌, Option, Some, None, option_map, refl, sym, ap, subst, ◌∙◌}
+use Rattle.std.proofs.Common.{◌≡◌, ℕ, ◌==◌, Bool, true, false, cond, List, [], ◌∷◌, ◌++◌, Option, Some, None, is_some, option_map, refl, sym, ap, subst, ◌∙◌}
 use Rattle.std.specs.Ordering.{nat_cmp, eq_by_cmp}
 use Rattle.std.specs.Cmp.{nat_cmp_total}
 use Rattle.std.specs.FinMap.{FinMap, get, insert, get-insert, nat_cmp-IsAntisymmetric, same_map}
@@ -33,7 +33,7 @@ use Rattle.bsp_rows.proofs.KeptLemmas.{accepted_free}
 use Rattle.bsp_rows.proofs.KeyOrders.{item_exact, item_total, memo_exact, memo_total}
 use Rattle.bsp_rows.proofs.MapLemmas.{get_other, get_written}
 use Rattle.bsp_rows.proofs.PartLemmas.{changed_none, each_get, kept_beside, kept_changed, kept_each, kept_get, kept_insert, passing}
-use Rattle.bsp_office_spec.specs.AirlineLedger.{AirlineLedger, airline_ledger_of, issue_key, new_memo, no_token}
+use Rattle.bsp_office_spec.specs.AirlineLedger.{AirlineLedger, airline_ledger_of, is_known, issue_key, new_memo, no_token}
 use Rattle.bsp_office_spec.specs.AirlineView.{AirlineSight, airline_acted, airline_after, airline_all, airline_issued, airline_planned, taken_in, taken_item, taken_of, taken_one, with_airline_items}
 use Rattle.bsp_office_spec.specs.AirlineView.AirlineSight.{Known, Renewed, Taken}
 use Rattle.bsp_office_spec.specs.Ledger.{Ledger, agent_of, ended_in, ledger_of, new_item, own_verdict, own_verdicts, review_of}
@@ -41,7 +41,7 @@ use Rattle.bsp_office_spec.specs.Step.{AreGroups, bearer, joined, office_verdict
 use Rattle.bsp_office_spec.proofs.AirlineTax.{bears_airline, taken_as_accepted}
 use Rattle.bsp_office_spec.proofs.ChangeLemmas.{accepts, office_judged_keeps, own_judged_keeps, reported_own}
 use Rattle.bsp_office_spec.proofs.Invariant.{sound_is_kept}
-use Rattle.bsp_office_spec.proofs.Seen.{of_its_airline}
+use Rattle.bsp_office_spec.proofs.Seen.{insert_same, of_its_airline}
 use Rattle.bsp_office_spec.proofs.SeenLemmas.{judged_own, other_key, passing_none, taken_is}
 
 abbrev tables : Option (List ℕ) → FinMap item_cmp Item → FinMap memo_cmp MemoFields → FinMap nat_cmp (List ℕ) → Plan → AirlineLedger
@@ -63,6 +63,18 @@ known_added m k token = same_map nat_cmp_total nat_cmp-IsAntisymmetric _ _ (λ q
 pub known_seen : (c b : ℕ) (token : List ℕ) (rows : Rows) → airline_ledger_of c (with_agent_token b token rows) ≡ airline_after c (airline_ledger_of c rows) (Known b)
 known_seen c b token rows =
     ap (λ agents. tables (get rows.airlines c) (kept (bears_airline c) rows.items) (kept (of_its_airline c) rows.memos) agents rows.published) (known_added rows.agents b token)
+
+no_token_there : (found : Option (List ℕ)) → is_some (option_map no_token found) ≡ true → option_map no_token found ≡ Some []
+no_token_there None h = absurd (cc h)
+no_token_there (Some token) h = refl
+
+-- an agent that is known already adds nothing
+pub known_again : (c b : ℕ) (rows : Rows) → is_known b (airline_ledger_of c rows) ≡ true → airline_after c (airline_ledger_of c rows) (Known b) ≡ airline_ledger_of c rows
+known_again c b rows h =
+    let at : get (each no_token rows.agents) b ≡ option_map no_token (get rows.agents b) = each_get nat_cmp_total nat_cmp-IsAntisymmetric no_token rows.agents b in
+    let there : get (each no_token rows.agents) b ≡ Some [] = at ∙ no_token_there (get rows.agents b) (ap is_some (sym at) ∙ h) in
+    ap (λ agents. tables (get rows.airlines c) (kept (bears_airline c) rows.items) (kept (of_its_airline c) rows.memos) agents rows.published)
+    (insert_same nat_cmp_total nat_cmp-IsAntisymmetric (each no_token rows.agents) b [] there)
 
 abbrev with_token : ℕ → Rows → Option (List ℕ) → AirlineLedger
 with_token c rows token = tables token (kept (bears_airline c) rows.items) (kept (of_its_airline c) rows.memos) (each no_token rows.agents) rows.published

@@ -10,9 +10,10 @@ use Rattle.bsp_rows.specs.Range.{Range}
 use Rattle.bsp_rows.specs.Rows.{Rows, agent_token, airline_token}
 use Rattle.bsp_rows.specs.Sound.{Sound}
 use Rattle.bsp_rows.specs.declared.keys.MemoKey.{MemoKey}
-use Rattle.bsp_office_spec.specs.AirlineLedger.{airline_answer, airline_ledger_of, issue_key}
+use Rattle.bsp_rows.specs.Writes.{with_agent_token}
+use Rattle.bsp_office_spec.specs.AirlineLedger.{airline_answer, airline_ledger_of, is_known, issue_key}
 use Rattle.bsp_office_spec.specs.AirlineView.{AirlineSight, agent_files, agent_shows, airline_after, airline_all, airline_done_by, airline_issued, airline_sights, if_same, known_of, office_files, office_shows, taken_file}
-use Rattle.bsp_office_spec.specs.AirlineView.AirlineSight.{ActedOn, OwnAsked}
+use Rattle.bsp_office_spec.specs.AirlineView.AirlineSight.{ActedOn, Known, OwnAsked}
 use Rattle.bsp_office_spec.specs.Answers.{is_done, verdicts_in}
 use Rattle.bsp_office_spec.specs.Answers.Answer.{Refused}
 use Rattle.bsp_office_spec.specs.Laws.{AirlineLedgerIsOfSights}
@@ -24,7 +25,7 @@ use Rattle.bsp_office_spec.specs.Requests.Asked.{NoRoute, OtherMethod, ByOffice,
 use Rattle.bsp_office_spec.specs.Requests.OfficeRequest.{PublishPlan, SetBusinessDay, RegisterAgent, RegisterAirline, AllotRange, WithdrawRange, OfficeFile, ClosePeriod, AskSettlement}
 use Rattle.bsp_office_spec.specs.Step.{Fits, Owner, agent_done, airline_done, allotted, asked_after, asked_answer, bearer, by_airline, filed_by_agent, filed_by_office, is_token, issued_to, office_answer, office_done, registered_as, reporter, to_agent, to_airline, with_action, withdrawn}
 use Rattle.bsp_office_spec.specs.View.{is_agent}
-use Rattle.bsp_office_spec.proofs.AirlineLemmas.{action_seen, action_unseen, agent_filed, close_seen, issue_seen, issue_unseen, known_seen, office_filed, renewed_by}
+use Rattle.bsp_office_spec.proofs.AirlineLemmas.{action_seen, action_unseen, agent_filed, close_seen, issue_seen, issue_unseen, known_again, known_seen, office_filed, renewed_by}
 use Rattle.bsp_office_spec.proofs.Seen.{unfiled}
 use Rattle.bsp_office_spec.proofs.StepLemmas.{reads_back}
 
@@ -35,9 +36,13 @@ either c rows done ss false h = refl
 
 -- ---- the office
 
-known : (c : ℕ) (token : List ℕ) (rows : Rows) (r : Option ℕ) → airline_ledger_of c (registered_as r token rows) ≡ airline_all c (airline_ledger_of c rows) (known_of r)
+known_by : (c b : ℕ) (token : List ℕ) (rows : Rows) (before : Bool) → is_known b (airline_ledger_of c rows) ≡ before → airline_ledger_of c (with_agent_token b token rows) ≡ airline_all c (airline_ledger_of c rows) (cond before [] (Known b ∷ []))
+known_by c b token rows true h = known_seen c b token rows ∙ known_again c b rows h
+known_by c b token rows false h = known_seen c b token rows
+
+known : (c : ℕ) (token : List ℕ) (rows : Rows) (r : Option ℕ) → airline_ledger_of c (registered_as r token rows) ≡ airline_all c (airline_ledger_of c rows) (known_of (airline_ledger_of c rows) r)
 known c token rows None = refl
-known c token rows (Some b) = known_seen c b token rows
+known c token rows (Some b) = known_by c b token rows (is_known b (airline_ledger_of c rows)) refl
 
 allotted_unseen : (c : ℕ) (range : Range) (rows : Rows) (r : Option ℕ) → airline_ledger_of c (allotted r range rows) ≡ airline_ledger_of c rows
 allotted_unseen c range rows None = refl
@@ -47,15 +52,15 @@ withdrawn_unseen : (c : ℕ) (range : Range) (rows : Rows) (r : Option ℕ) → 
 withdrawn_unseen c range rows None = refl
 withdrawn_unseen c range rows (Some b) = refl
 
-office_seen : (c : ℕ) (rows : Rows) (call : OfficeRequest) → Sound rows → Fits (ByOffice call) → let answer = office_answer call rows in airline_ledger_of c (cond (is_done answer) (office_done call rows) (filed_by_office call (verdicts_in answer) rows)) ≡ airline_all c (airline_ledger_of c rows) (cond (is_done answer) (office_shows c call) (office_files c call (verdicts_in answer)))
-office_seen c rows (PublishPlan (Ok text)) s fits = either c rows (office_done (PublishPlan (Ok text)) rows) (office_shows c (PublishPlan (Ok text))) (is_done (office_answer (PublishPlan (Ok text)) rows)) refl
+office_seen : (c : ℕ) (rows : Rows) (call : OfficeRequest) → Sound rows → Fits (ByOffice call) → let answer = office_answer call rows in airline_ledger_of c (cond (is_done answer) (office_done call rows) (filed_by_office call (verdicts_in answer) rows)) ≡ airline_all c (airline_ledger_of c rows) (cond (is_done answer) (office_shows c (airline_ledger_of c rows) call) (office_files c call (verdicts_in answer)))
+office_seen c rows (PublishPlan (Ok text)) s fits = either c rows (office_done (PublishPlan (Ok text)) rows) (office_shows c (airline_ledger_of c rows) (PublishPlan (Ok text))) (is_done (office_answer (PublishPlan (Ok text)) rows)) refl
 office_seen c rows (PublishPlan (Err fault)) s fits = refl
 office_seen c rows (SetBusinessDay None) s fits = refl
-office_seen c rows (SetBusinessDay (Some day)) s fits = either c rows (office_done (SetBusinessDay (Some day)) rows) (office_shows c (SetBusinessDay (Some day))) (is_done (office_answer (SetBusinessDay (Some day)) rows)) refl
+office_seen c rows (SetBusinessDay (Some day)) s fits = either c rows (office_done (SetBusinessDay (Some day)) rows) (office_shows c (airline_ledger_of c rows) (SetBusinessDay (Some day))) (is_done (office_answer (SetBusinessDay (Some day)) rows)) refl
 office_seen c rows (RegisterAgent None) s fits = refl
-office_seen c rows (RegisterAgent (Some body)) s fits = either c rows (office_done (RegisterAgent (Some body)) rows) (office_shows c (RegisterAgent (Some body))) (is_done (office_answer (RegisterAgent (Some body)) rows)) (known c body.token rows body.agent.code)
+office_seen c rows (RegisterAgent (Some body)) s fits = either c rows (office_done (RegisterAgent (Some body)) rows) (office_shows c (airline_ledger_of c rows) (RegisterAgent (Some body))) (is_done (office_answer (RegisterAgent (Some body)) rows)) (known c body.token rows body.agent.code)
 office_seen c rows (RegisterAirline None) s fits = refl
-office_seen c rows (RegisterAirline (Some body)) s fits = either c rows (office_done (RegisterAirline (Some body)) rows) (office_shows c (RegisterAirline (Some body))) (is_done (office_answer (RegisterAirline (Some body)) rows)) (renewed_by c body.airline body.token rows (body.airline == c) refl)
+office_seen c rows (RegisterAirline (Some body)) s fits = either c rows (office_done (RegisterAirline (Some body)) rows) (office_shows c (airline_ledger_of c rows) (RegisterAirline (Some body))) (is_done (office_answer (RegisterAirline (Some body)) rows)) (renewed_by c body.airline body.token rows (body.airline == c) refl)
 office_seen c rows (AllotRange None) s fits = refl
 office_seen c rows (AllotRange (Some body)) s fits = either c rows (office_done (AllotRange (Some body)) rows) [] (is_done (office_answer (AllotRange (Some body)) rows)) (allotted_unseen c body.range rows body.agent.code)
 office_seen c rows (WithdrawRange None) s fits = refl
@@ -63,7 +68,7 @@ office_seen c rows (WithdrawRange (Some body)) s fits = either c rows (office_do
 office_seen c rows (OfficeFile (Err fault)) s fits = refl
 office_seen c rows (OfficeFile (Ok ts)) s fits = office_filed c ts rows s fits
 office_seen c rows (ClosePeriod None) s fits = refl
-office_seen c rows (ClosePeriod (Some period)) s fits = either c rows (office_done (ClosePeriod (Some period)) rows) (office_shows c (ClosePeriod (Some period))) (is_done (office_answer (ClosePeriod (Some period)) rows)) (close_seen c period rows)
+office_seen c rows (ClosePeriod (Some period)) s fits = either c rows (office_done (ClosePeriod (Some period)) rows) (office_shows c (airline_ledger_of c rows) (ClosePeriod (Some period))) (is_done (office_answer (ClosePeriod (Some period)) rows)) (close_seen c period rows)
 office_seen c rows (AskSettlement period) s fits = either c rows rows [] (is_done (office_answer (AskSettlement period) rows)) refl
 
 untaken : (c : ℕ) (owner : Owner) (file : FileRead) → taken_file c owner file [] ≡ []
@@ -85,7 +90,7 @@ office_forbidden c rows (OfficeFile file) = unfiled_seen c bearer file rows _ (u
 office_forbidden c rows (ClosePeriod period) = refl
 office_forbidden c rows (AskSettlement period) = refl
 
-by_office : (c : ℕ) (rows : Rows) (call : OfficeRequest) (b : Bool) → Sound rows → Fits (ByOffice call) → let answer = cond b (office_answer call rows) (Refused Forbidden) in airline_ledger_of c (cond (is_done answer) (office_done call rows) (filed_by_office call (verdicts_in answer) rows)) ≡ airline_all c (airline_ledger_of c rows) (cond (is_done answer) (office_shows c call) (office_files c call (verdicts_in answer)))
+by_office : (c : ℕ) (rows : Rows) (call : OfficeRequest) (b : Bool) → Sound rows → Fits (ByOffice call) → let answer = cond b (office_answer call rows) (Refused Forbidden) in airline_ledger_of c (cond (is_done answer) (office_done call rows) (filed_by_office call (verdicts_in answer) rows)) ≡ airline_all c (airline_ledger_of c rows) (cond (is_done answer) (office_shows c (airline_ledger_of c rows) call) (office_files c call (verdicts_in answer)))
 by_office c rows call true s fits = office_seen c rows call s fits
 by_office c rows call false s fits = office_forbidden c rows call
 

@@ -112,7 +112,7 @@ module _ (t : Transaction) (period : ℕ) where
   asked_taken office rows token asked s fits h = elim h [ ]
 
   replied_taken : (office : List ℕ) (rows : Rows) (request : Request) (reply : Option Answer) → Sound rows → Fits request.asked → IsAnswered office rows request reply →
-      Accepts (request, reply) t period → Taken (file_of request.asked) (verdicts_of (request, reply)) (rows_replied rows (request, reply))
+      Accepts (record { request = request; reply = reply }) t period → Taken (file_of request.asked) (verdicts_of (record { request = request; reply = reply })) (rows_replied rows (record { request = request; reply = reply }))
   replied_taken office rows request None s fits is h = absurd (none_accepted (file_of request.asked) h)
   replied_taken office rows request (Some answer) s fits is h =
       subst (λ (x : Answer). Taken (file_of request.asked) (verdicts_in x) (rows_after rows request x)) (sym is)
@@ -149,9 +149,9 @@ module _ (t : Transaction) (period : ℕ) where
         no_place vs (fault_holds (FileFault fault) vs (is_token (agent_token agent rows) token) refl (e ∙ ap (λ (r : Option ℕ). to_agent r token (AgentFile (Err fault)) rows) reads))
     asked_holds office rows token asked h fits file vs e = elim file [ ]
 
-    replied_holds : (office : List ℕ) (rows : Rows) (q : Exchange) → Has agent t period rows → Fits q.0.asked → IsAnswered office rows q.0 q.1 → Holds q t period
+    replied_holds : (office : List ℕ) (rows : Rows) (q : Exchange) → Has agent t period rows → Fits q.request.asked → IsAnswered office rows q.request q.reply → Holds q t period
     replied_holds office rows q h fits is vs file replied =
-        asked_holds office rows q.0.token q.0.asked h fits file vs (subst (IsAnswered office rows q.0) replied is)
+        asked_holds office rows q.request.token q.request.asked h fits file vs (subst (IsAnswered office rows q.request) replied is)
 
     -- after a run over which its agent has it
     run_holds : (office : List ℕ) (rows : Rows) (between after : List Exchange) (q : Exchange) (new : Rows) → Run office rows (between ++ q ∷ after) new → AllFit (between ++ q ∷ after) → Has agent t period rows → Holds q t period
@@ -166,10 +166,10 @@ module _ (t : Transaction) (period : ℕ) where
 module _ (office : List ℕ) (rows : Rows) (new : Rows) (sound : Sound rows) where
   -- what the reply at a place of the run has accepted
   taken_at : (before after : List Exchange) (p : Exchange) (t : Transaction) (period : ℕ) → AllFit (before ++ p ∷ after) → (parts : Parts office rows before (p ∷ after) new) → Accepts p t period →
-      Taken t period (file_of p.0.asked) (verdicts_of p) (rows_replied parts.mid p)
+      Taken t period (file_of p.request.asked) (verdicts_of p) (rows_replied parts.mid p)
   taken_at before after p t period fits parts h =
       let fit = fit_parts before (p ∷ after) fits in
-      replied_taken t period office parts.mid p.0 p.1 (run_sound office rows before parts.mid parts.first fit.0 sound) fit.1.0 parts.second.0 h
+      replied_taken t period office parts.mid p.request p.reply (run_sound office rows before parts.mid parts.first fit.0 sound) fit.1.0 parts.second.0 h
 
   later_held : (before between after : List Exchange) (p q : Exchange) (t : Transaction) (period : ℕ) → Run office rows (before ++ (p ∷ between ++ q ∷ after)) new → AllFit (before ++ (p ∷ between ++ q ∷ after)) → Accepts p t period → Holds q t period
   later_held before between after p q t period run fits h =

@@ -9,7 +9,7 @@ use Rattle.bsp_rows.specs.Rows.{Rows, agent_token}
 use Rattle.bsp_office_spec.specs.Ledger.{Ledger, ledger_of, ledger_answer}
 use Rattle.bsp_office_spec.specs.Laws.{AirlineIsAnsweredByLedger}
 use Rattle.bsp_office_spec.specs.Step.{to_airline, is_token, answer_of, to_agent, rows_after}
-use Rattle.bsp_office_spec.specs.View.{Sight, ledger_after, ledger_all, sights, answered_sights, office_sights, filed_sights, reported_in, reported_one, airline_sights, of_airline, is_agent, is_own, reply_sights, view, answer_to_sight, ledger_answers, told_one, told_reply, told, IsAnswered, rows_replied, Run}
+use Rattle.bsp_office_spec.specs.View.{Exchange, Sight, ledger_after, ledger_all, sights, answered_sights, office_sights, filed_sights, reported_in, reported_one, airline_sights, of_airline, is_agent, is_own, reply_sights, view, answer_to_sight, ledger_answers, told_one, told_reply, told, IsAnswered, rows_replied, Run}
 use Rattle.bsp_office_spec.specs.View.Sight.{Own, Reported, Registered, Allotted, Withdrew, Issued, Acted}
 use Rattle.bsp_office_spec.proofs.SeenLemmas.{all_append}
 use Rattle.bsp_office_spec.proofs.Seen.{seen}
@@ -141,7 +141,7 @@ told_asked office a rows token (ByOffice call) answer is = sym (quiet_call a (le
 told_asked office a rows token (ByAgent code call) answer is = own_told office a rows token code call answer is (is_own a (ledger_of a rows) token code) refl
 told_asked office a rows token (ByAirline code call) answer is = sym (quiet_by a (ledger_of a rows) call (airline_in code) (is_done answer))
 
-replied : (office : List ℕ) (a : ℕ) (rows : Rows) (request : Request) (reply : Option Answer) → IsAnswered office rows request reply → (told_reply a (ledger_of a rows) (request, reply) ≡ ledger_answers a (ledger_of a rows) (reply_sights a (ledger_of a rows) (request, reply))) × (ledger_of a (rows_replied rows (request, reply)) ≡ ledger_all a (ledger_of a rows) (reply_sights a (ledger_of a rows) (request, reply)))
+pub replied : (office : List ℕ) (a : ℕ) (rows : Rows) (request : Request) (reply : Option Answer) → IsAnswered office rows request reply → (told_reply a (ledger_of a rows) (record { request = request; reply = reply }) ≡ ledger_answers a (ledger_of a rows) (reply_sights a (ledger_of a rows) (record { request = request; reply = reply }))) × (ledger_of a (rows_replied rows (record { request = request; reply = reply })) ≡ ledger_all a (ledger_of a rows) (reply_sights a (ledger_of a rows) (record { request = request; reply = reply })))
 replied office a rows request None h = (refl, refl)
 replied office a rows request (Some answer) h = (
   told_asked office a rows request.token request.asked answer h,
@@ -151,10 +151,10 @@ replied office a rows request (Some answer) h = (
 -- ---- the whole run
 
 -- the answers to an agent are those of its ledger, and its part in the end is the fold of its view
-pub isolated : (office : List ℕ) (a : ℕ) (rows : Rows) (ps : List (Request × Option Answer)) (new : Rows) → Run office rows ps new → (told a (ledger_of a rows) ps ≡ ledger_answers a (ledger_of a rows) (view a (ledger_of a rows) ps)) × (ledger_of a new ≡ ledger_all a (ledger_of a rows) (view a (ledger_of a rows) ps))
+pub isolated : (office : List ℕ) (a : ℕ) (rows : Rows) (ps : List Exchange) (new : Rows) → Run office rows ps new → (told a (ledger_of a rows) ps ≡ ledger_answers a (ledger_of a rows) (view a (ledger_of a rows) ps)) × (ledger_of a new ≡ ledger_all a (ledger_of a rows) (view a (ledger_of a rows) ps))
 isolated office a rows [] new run = (refl, ap (ledger_of a) run)
 isolated office a rows (p ∷ ps) new run =
-    let here = replied office a rows p.0 p.1 run.0 in
+    let here = replied office a rows p.request p.reply run.0 in
     let l : Ledger = ledger_of a rows in
     let ss : List Sight = reply_sights a l p in
     let next : Rows = rows_replied rows p in
@@ -169,7 +169,7 @@ isolated office a rows (p ∷ ps) new run =
     )
 
 -- two runs whose parts and views of an agent are equal give it equal answers
-pub alike : (office other : List ℕ) (a : ℕ) (rows rows' : Rows) (ps qs : List (Request × Option Answer)) (new new' : Rows) → Run office rows ps new → Run other rows' qs new' → ledger_of a rows ≡ ledger_of a rows' → view a (ledger_of a rows) ps ≡ view a (ledger_of a rows') qs → told a (ledger_of a rows) ps ≡ told a (ledger_of a rows') qs
+pub alike : (office other : List ℕ) (a : ℕ) (rows rows' : Rows) (ps qs : List Exchange) (new new' : Rows) → Run office rows ps new → Run other rows' qs new' → ledger_of a rows ≡ ledger_of a rows' → view a (ledger_of a rows) ps ≡ view a (ledger_of a rows') qs → told a (ledger_of a rows) ps ≡ told a (ledger_of a rows') qs
 alike office other a rows rows' ps qs new new' run run' part seen' =
     (isolated office a rows ps new run).0
     ∙ (ap (ledger_answers a (ledger_of a rows)) seen'

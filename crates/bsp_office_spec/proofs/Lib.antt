@@ -25,4 +25,13 @@ pub mod AirlineSeen
 pub mod AirlineIsolated
 pub mod NetLemmas
 pub mod HotNets
+pub mod PrintedTexts
+pub mod Printed
+pub mod PrintedInRuns
+pub mod HotRules
 pub mod Values
+pub mod MemoEvents
+pub mod UnmarkedItems
+pub mod UnmarkedAgent
+pub mod UnmarkedInRuns
+pub mod UnmarkedAirline

@@ -42,7 +42,7 @@ module _ (rows : Rows) (s : Sound rows) where
   memo_is e among = (s.memos.each e.0 e.1 (entry_get memo_total memo_exact rows.memos e.0 e.1 among)).keyed
 
   -- a ledger's net is that of all rows for its agent, or its airline
-  agents_net : (code agent : ℕ) → ledger_net code (ledger_of agent rows) ≡ agent_net agent code (values rows.items) (values rows.memos)
+  pub agents_net : (code agent : ℕ) → ledger_net code (ledger_of agent rows) ≡ agent_net agent code (values rows.items) (values rows.memos)
   agents_net code agent =
       ap₂ (net_of_rows code)
       (kept_values item_total item_exact (λ (e : ItemKey × Item). e.0.agent == agent) (λ (i : Item). i.agent == agent) rows.items (λ e among. ap (λ (k : ItemKey). k.agent == agent) (sym (item_is e among))))
@@ -52,10 +52,10 @@ module _ (rows : Rows) (s : Sound rows) where
   airline_memos airline =
       kept_values memo_total memo_exact (λ (e : MemoKey × MemoFields). e.0.airline == airline) (λ (m : MemoFields). m.airline == airline) rows.memos (λ e among. ap (λ (k : MemoKey). k.airline == airline) (sym (memo_is e among)))
 
-  airlines_net : (code airline : ℕ) → airline_ledger_net code (airline_ledger_of airline rows) ≡ airline_net airline code (values rows.items) (values rows.memos)
+  pub airlines_net : (code airline : ℕ) → airline_ledger_net code (airline_ledger_of airline rows) ≡ airline_net airline code (values rows.items) (values rows.memos)
   airlines_net code airline = ap₂ (net_of_rows code) (airline_items airline rows) (airline_memos airline)
 
-same_map : (f g : ℕ → ℤ) → ((n : ℕ) → f n ≡ g n) → (ns : List ℕ) → map f ns ≡ map g ns
+pub same_map : (f g : ℕ → ℤ) → ((n : ℕ) → f n ≡ g n) → (ns : List ℕ) → map f ns ≡ map g ns
 same_map f g same [] = refl
 same_map f g same (n ∷ ns) = ap₂ (λ (z : ℤ) (zs : List ℤ). z ∷ zs) (same n) (same_map f g same ns)
 

@@ -90,9 +90,9 @@ runs_show office rows exchanges new run fits sound before between after p q show
     let s = run_sound office rows before first.mid first.first fit.0 sound in
     let second = run_parts office first.mid (p ∷ between) (q ∷ after) new first.second in
     let shorter = fit_parts (p ∷ between) (q ∷ after) fit.1 in
-    let made : shown ≡ asked_answer office p.0.token p.0.asked first.mid = subst (IsAnswered office first.mid p.0) at first.second.0 in
-    let again : answer ≡ asked_answer office q.0.token p.0.asked second.mid =
-    subst (IsAnswered office second.mid q.0) there second.second.0 ∙ ap (λ (x : Asked). asked_answer office q.0.token x second.mid) same in
-    subst (λ (x : Answer). Same x answer) (sym made) (subst (λ (y : Answer). Same (asked_answer office p.0.token p.0.asked first.mid) y) (sym again)
-    (asked_same office first.mid second.mid (p ∷ between) second.first shorter.0 s p.0.token q.0.token p.0.asked
-    (subst (λ (x : Answer). shows_report p.0.asked x ≡ true) made is)))
+    let made : shown ≡ asked_answer office p.request.token p.request.asked first.mid = subst (IsAnswered office first.mid p.request) at first.second.0 in
+    let again : answer ≡ asked_answer office q.request.token p.request.asked second.mid =
+    subst (IsAnswered office second.mid q.request) there second.second.0 ∙ ap (λ (x : Asked). asked_answer office q.request.token x second.mid) same in
+    subst (λ (x : Answer). Same x answer) (sym made) (subst (λ (y : Answer). Same (asked_answer office p.request.token p.request.asked first.mid) y) (sym again)
+    (asked_same office first.mid second.mid (p ∷ between) second.first shorter.0 s p.request.token q.request.token p.request.asked
+    (subst (λ (x : Answer). shows_report p.request.asked x ≡ true) made is)))

@@ -36,12 +36,15 @@ pub record AirlineLedger : Type 0 where
   pub agents : FinMap nat_cmp (List ℕ)
   pub published : Published
 
+-- a token left out
 abbrev pub no_token : List ℕ → List ℕ
 no_token token = []
 
+-- the ledger that the rows of all callers hold of an airline
 abbrev pub airline_ledger_of : ℕ → Rows → AirlineLedger
 airline_ledger_of airline rows = record { own = airline_part airline rows; agents = each no_token rows.agents; published = rows.published }
 
+-- the agent is registered
 abbrev pub is_known : ℕ → AirlineLedger → Bool
 is_known agent l = is_some (get l.agents agent)
 
@@ -51,6 +54,7 @@ is_known agent l = is_some (get l.agents agent)
 abbrev pub new_memo : ℕ → ℕ → MemoIssue → CivilDay → MemoFields
 new_memo airline agent issue day = issued_memo airline issue.document agent issue.kind issue.amount issue.reason day
 
+-- the key of an airline's memo
 abbrev pub issue_key : ℕ → ℕ → MemoKey
 issue_key airline document = record { airline = airline; document = document }
 
@@ -65,6 +69,7 @@ issue_beside airline agent issue l (Some memo) =
 issue_beside airline agent issue l None =
     if nat_le (limit_of l.published.terms) (count_to agent l) then Refused (refusal.Memo LimitReached) else Changed Done
 
+-- M08, then M04, then what is under the number
 abbrev pub issuing : ℕ → MemoIssue → AirlineLedger → Option ℕ → Answer
 issuing airline issue l None = Refused (refusal.Memo AgentNotRegistered)
 issuing airline issue l (Some agent) =
@@ -72,22 +77,26 @@ issuing airline issue l (Some agent) =
     else (if not (is_amount issue.amount) then Refused (refusal.Memo AmountOutOfRange)
     else issue_beside airline agent issue l (get l.own.memos (issue_key airline issue.document)))
 
+-- N04 where the body is malformed
 abbrev pub issue_answer : ℕ → AirlineLedger → Option MemoIssue → Answer
 issue_answer airline l None = Refused Malformed
 issue_answer airline l (Some issue) = issuing airline issue l issue.agent.code
 
 -- ---- actions
 
+-- upheld or withdrawn: N04 where the body is malformed, M01 where the airline has no such memo
 abbrev pub document_acted : ℕ → Action → AirlineLedger → Option ℕ → Answer
 document_acted airline action l None = Refused Malformed
 document_acted airline action l (Some document) = memo_answer action l.published (get l.own.memos (issue_key airline document))
 
+-- reduced: the same
 abbrev pub reduce_answer : ℕ → AirlineLedger → Option Reduction → Answer
 reduce_answer airline l None = Refused Malformed
 reduce_answer airline l (Some body) = memo_answer (Reduce body.amount) l.published (get l.own.memos (issue_key airline body.document))
 
 -- ---- a HOT file
 
+-- the items of the period that bear the airline, and its memos billed in it
 abbrev pub hot_rows : AirlineLedger → Period → HotRows
 hot_rows l q = record {
   period = q;
@@ -97,16 +106,19 @@ hot_rows l q = record {
   memos = filter (is_billed_in q.code) (values l.own.memos);
 }
 
+-- of a closed period
 abbrev pub hot_shown : ℕ → AirlineLedger → Option Period → Answer
 hot_shown airline l None = Refused NoHot
 hot_shown airline l (Some q) = Hot airline (hot_rows l q)
 
+-- H02 where the path has no period, or this one is not published and closed
 abbrev pub hot_answer : ℕ → AirlineLedger → Option ℕ → Answer
 hot_answer airline l None = Refused NoHot
 hot_answer airline l (Some code) = hot_shown airline l (closed_period l.published code)
 
 -- ---- all requests of an airline
 
+-- the answer to each request of the airline
 abbrev pub airline_answer : ℕ → AirlineLedger → AirlineRequest → Answer
 airline_answer airline l AskIssuedMemos = Memos (values l.own.memos)
 airline_answer airline l (IssueMemo body) = issue_answer airline l body

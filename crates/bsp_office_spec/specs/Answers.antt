@@ -50,6 +50,7 @@ is_done (Changed change.Done) = true
 is_done (Changed change.Held) = false
 is_done _ = false
 
+-- the verdicts on a file, none in any other answer
 abbrev pub verdicts_in : Answer → List Verdict
 verdicts_in (Verdicts verdicts) = verdicts
 verdicts_in _ = []

@@ -33,7 +33,7 @@ use Rattle.bsp_office_spec.specs.AirlineView.{airline_all, airline_ledger_answer
 use Rattle.bsp_office_spec.specs.Answers.{Answer, is_done, verdicts_in}
 use Rattle.bsp_office_spec.specs.Answers.Answer.{Verdicts, Statement, Settlement, Hot, Refused}
 use Rattle.bsp_office_spec.specs.Ledger.{Ledger, agent_of, ledger_answer, ledger_of, own_verdicts, statement_answer}
-use Rattle.bsp_office_spec.specs.Requests.{AgentRequest, AirlineRequest, Asked, FileRead, IsAsked, IsFileOf, IsInMemory, Request}
+use Rattle.bsp_office_spec.specs.Requests.{AgentRequest, AirlineRequest, Asked, FileRead, IsAsked, IsFileOf, Request}
 use Rattle.bsp_office_spec.specs.Requests.AgentRequest.{AgentFile, AskStatement}
 use Rattle.bsp_office_spec.specs.Requests.AirlineRequest.{AskHot}
 use Rattle.bsp_office_spec.specs.Requests.Asked.{ByOffice, ByAgent, ByAirline}
@@ -50,7 +50,7 @@ EachFileIsRead = (body : List ℕ) → (read : FileRead) × IsFileOf body read
 
 -- each call with the bytes of its body is read as some request
 abbrev pub EachRequestIsRead : Type 0
-EachRequestIsRead = (asking : Asking (List ℕ)) (body : List ℕ) → IsInMemory asking body → (asked : Asked) × IsAsked asking body asked
+EachRequestIsRead = (asking : Asking (List ℕ)) (body : List ℕ) → (asked : Asked) × IsAsked asking body asked
 
 -- what a call and the bytes of its body are read as: each transaction of its file is a group of the RET format
 abbrev pub ReadRequestsFit : Type 0
@@ -186,7 +186,7 @@ file_of _ = []
 
 -- the verdicts that are replied, none where the reply has none
 abbrev pub verdicts_of : Exchange → List Verdict
-verdicts_of p = by p.1 where
+verdicts_of p = by p.reply where
   by : Option Answer → List Verdict
   by None = []
   by (Some answer) = verdicts_in answer
@@ -199,11 +199,11 @@ IsFileFor t _ = ⊥
 
 -- the reply accepts the transaction in this period at some place of the file
 abbrev pub Accepts : Exchange → Transaction → ℕ → Type 0
-Accepts p t period = IsAcceptedIn t period (file_of p.0.asked) (verdicts_of p)
+Accepts p t period = IsAcceptedIn t period (file_of p.request.asked) (verdicts_of p)
 
 -- where the file is the office's or its agent's, and verdicts are the reply, it is held in this period at each place
 abbrev pub Holds : Exchange → Transaction → ℕ → Type 0
-Holds p t period = (vs : List Verdict) → IsFileFor t p.0.asked → p.1 ≡ Some (Verdicts vs) → IsHeldIn t period (file_of p.0.asked) vs
+Holds p t period = (vs : List Verdict) → IsFileFor t p.request.asked → p.reply ≡ Some (Verdicts vs) → IsHeldIn t period (file_of p.request.asked) vs
 
 -- accepted in this period at a place of a file, it is held in it at each later place
 abbrev pub IsHeldBehind : Transaction → ℕ → List Transaction → List Verdict → Type 0
@@ -221,7 +221,7 @@ pub record RepeatsHeld (rows : Rows) (exchanges : List Exchange) : Type 0 where
       exchanges ≡ before ++ (p ∷ between ++ q ∷ after) → Accepts p t period → Holds q t period
   -- and at each later place of the same file
   pub behind : (before after : List Exchange) (p : Exchange) (t : Transaction) (period : ℕ) →
-      exchanges ≡ before ++ p ∷ after → Accepts p t period → IsHeldBehind t period (file_of p.0.asked) (verdicts_of p)
+      exchanges ≡ before ++ p ∷ after → Accepts p t period → IsHeldBehind t period (file_of p.request.asked) (verdicts_of p)
 
 abbrev pub RunsHoldRepeats : Type 0
 RunsHoldRepeats = (office : List ℕ) (rows : Rows) (exchanges : List Exchange) (new : Rows) → Run office rows exchanges new → AllFit exchanges → Sound rows → RepeatsHeld rows exchanges
@@ -334,8 +334,8 @@ shows_report _ _ = false
 abbrev pub ShownReportsStay : List Exchange → Type 0
 ShownReportsStay exchanges =
     (before between after : List Exchange) (p q : Exchange) (shown answer : Answer) →
-    exchanges ≡ before ++ (p ∷ between ++ q ∷ after) → p.1 ≡ Some shown → shows_report p.0.asked shown ≡ true →
-    q.0.asked ≡ p.0.asked → q.1 ≡ Some answer → (answer ≡ shown) ⊎ (answer ≡ Refused Forbidden)
+    exchanges ≡ before ++ (p ∷ between ++ q ∷ after) → p.reply ≡ Some shown → shows_report p.request.asked shown ≡ true →
+    q.request.asked ≡ p.request.asked → q.reply ≡ Some answer → (answer ≡ shown) ⊎ (answer ≡ Refused Forbidden)
 
 abbrev pub RunsShowTheSame : Type 0
 RunsShowTheSame = (office : List ℕ) (rows : Rows) (exchanges : List Exchange) (new : Rows) → Run office rows exchanges new → AllFit exchanges → Sound rows → ShownReportsStay exchanges

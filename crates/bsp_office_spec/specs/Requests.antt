@@ -1,10 +1,11 @@
 -- Requests with their bodies read, and how they are read from a call's path and bytes.
-use Rattle.std.specs.Prelude.{◌≡◌, ℕ, ◌<◌, ◌^◌, List, length, Option, Result, Ok, Err, Some}
+use Rattle.std.specs.Prelude.{◌≡◌, ◌⊎◌, ℕ, ◌<◌, ◌^◌, List, length, Option, Result, Ok, Err, Some}
 use Rattle.std.specs.Result.{result_map_both}
 use Rattle.bsp_rows.specs.CivilDay.{CivilDay}
 use Rattle.bsp_rows.specs.PlanDocument.{PlanData, plan_data, plan_reading}
 use Rattle.bsp_rows.specs.PlanText.{PlanText}
 use Rattle.bsp_rows.specs.PlanFault.{PlanFault}
+use Rattle.bsp_rows.specs.PlanFault.TheVariants.{NoMemory}
 use Rattle.bsp_rows.specs.Lines.{lines}
 use Rattle.bsp_hot.specs.Ret.{File, Ret}
 use Rattle.bsp_hot.specs.Table.{first_fault}
@@ -41,8 +42,17 @@ abbrev pub IsFileOf : List ℕ → FileRead → Type 0
 IsFileOf body (Ok ts) = (file : File) × Ret (lines body) file × HaveContents 1 file.groups ts
 IsFileOf body (Err fault) = first_fault (lines body) ≡ Some fault
 
+-- no list of a plan has 2^63 entries, more than any memory holds
+abbrev pub IsInMemory : PlanData → Type 0
+IsInMemory said = (length said.airlines < 2 ^ 63) × (length said.rates < 2 ^ 63) × (length said.periods < 2 ^ 63) × (length said.commission_taxes < 2 ^ 63)
+
+-- the text says such a list
+abbrev pub IsBeyondMemory : List ℕ → Type 0
+IsBeyondMemory body = (said : PlanData) × (plan_reading body ≡ Ok said) × (IsInMemory said → ⊥)
+
+-- what the text says, or its first fault; of one that says more than any memory holds it is the want of it, a 503
 abbrev pub IsPlanOf : List ℕ → PlanRead → Type 0
-IsPlanOf body text = result_map_both plan_data (λ fault. fault) text ≡ plan_reading body
+IsPlanOf body text = (result_map_both plan_data (λ fault. fault) text ≡ plan_reading body) ⊎ (IsBeyondMemory body × (text ≡ Err NoMemory))
 
 -- ---- requests by caller; no JSON body where it is malformed, and path values as bytes
 
@@ -126,16 +136,3 @@ IsAsked (asking.OtherMethod methods) body asked = asked ≡ OtherMethod
 IsAsked (asking.Call (call.Office of_office)) body asked = (request : OfficeRequest) × IsOfficeRequest of_office body request × (asked ≡ ByOffice request)
 IsAsked (asking.Call (call.Agent code of_agent)) body asked = (request : AgentRequest) × IsAgentRequest of_agent body request × (asked ≡ ByAgent code request)
 IsAsked (asking.Call (call.Airline code of_airline)) body asked = (request : AirlineRequest) × IsAirlineRequest of_airline body request × (asked ≡ ByAirline code request)
-
--- ---- plan texts that memory can hold
-
--- no list of what the text says has 2^63 entries, more than any memory holds
-abbrev pub IsPlanInMemory : List ℕ → Type 0
-IsPlanInMemory body =
-    (said : PlanData) → plan_reading body ≡ Ok said → (length said.airlines < 2 ^ 63) × (length said.rates < 2 ^ 63) × (length said.periods < 2 ^ 63)
-    × (length said.commission_taxes < 2 ^ 63)
-
--- a body that is to be a plan text says no list of 2^63 entries; of another body nothing is asked
-abbrev pub IsInMemory : Asking (List ℕ) → List ℕ → Type 0
-IsInMemory (asking.Call (call.Office office.Plan)) body = IsPlanInMemory body
-IsInMemory _ body = Unit {0}

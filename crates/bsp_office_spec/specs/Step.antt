@@ -52,18 +52,22 @@ is_token (Some own) (Some given) = bytes_eq own given
 
 -- ---- the office: the plan
 
+-- done, held, or the refusal of the plan
 abbrev pub outcome_answer : Result Change PlanFault → Answer
 outcome_answer (Ok change) = Changed change
 outcome_answer (Err fault) = Refused (refusal.Plan fault)
 
+-- P01 or P02 of the text, else what the plan answers to it
 abbrev pub plan_answer : PlanRead → Rows → Answer
 plan_answer (Err fault) rows = Refused (refusal.Plan fault)
 plan_answer (Ok text) rows = outcome_answer (request_answer (Publish text) rows)
 
+-- N04 where the body is malformed, else P04, held or done
 abbrev pub day_answer : Option CivilDay → Rows → Answer
 day_answer None rows = Refused Malformed
 day_answer (Some day) rows = outcome_answer (request_answer (SetDay day) rows)
 
+-- N04 where the body is malformed, else P06, P07, held or done
 abbrev pub close_answer : Option ℕ → Rows → Answer
 close_answer None rows = Refused Malformed
 close_answer (Some period) rows = outcome_answer (request_answer (Close period) rows)
@@ -78,22 +82,27 @@ with_close period rows = after_close period (plan_left rows.published (closing r
 abbrev pub token_answer : Option (List ℕ) → List ℕ → Answer
 token_answer old token = if is_token old (Some token) then Changed Held else Changed Done
 
+-- N05 where the code's check digit is wrong
 abbrev pub registration_answer : Option ℕ → List ℕ → Rows → Answer
 registration_answer None token rows = Refused WrongAgentCode
 registration_answer (Some agent) token rows = token_answer (agent_token agent rows) token
 
+-- N04 where the body is malformed
 abbrev pub agent_registered : Option AgentRegistration → Rows → Answer
 agent_registered None rows = Refused Malformed
 agent_registered (Some body) rows = registration_answer body.agent.code body.token rows
 
+-- N04 where the body is malformed, N06 where the plan has not the airline
 abbrev pub airline_registered : Option AirlineRegistration → Rows → Answer
 airline_registered None rows = Refused Malformed
 airline_registered (Some body) rows =
     if has_airline rows.published body.airline then token_answer (airline_token body.airline rows) body.token else Refused AirlineNotInPlan
 
+-- the agent has a token
 abbrev pub is_registered : ℕ → Rows → Bool
 is_registered agent rows = is_some (agent_token agent rows)
 
+-- the range at the key ends so
 abbrev pub is_last : Option ℕ → ℕ → Bool
 is_last None last = false
 is_last (Some other) last = other == last
@@ -102,6 +111,7 @@ is_last (Some other) last = other == last
 abbrev pub has_range : ℕ → Range → Rows → Bool
 has_range agent range rows = is_last (range_at (range_key agent range) rows) range.last
 
+-- K02, held, K03 or done
 abbrev pub allotment : Option ℕ → Range → Rows → Answer
 allotment None range rows = Refused (refusal.Stock NotRegistered)
 allotment (Some agent) range rows =
@@ -109,6 +119,7 @@ allotment (Some agent) range rows =
     else (if has_range agent range rows then Changed Held
     else (if has_meeting range rows then Refused (refusal.Stock MeetsRange) else Changed Done))
 
+-- K02, K04, K05 or done
 abbrev pub withdrawal : Option ℕ → Range → Rows → Answer
 withdrawal None range rows = Refused (refusal.Stock NotRegistered)
 withdrawal (Some agent) range rows =
@@ -116,14 +127,17 @@ withdrawal (Some agent) range rows =
     else (if not (has_range agent range rows) then Refused (refusal.Stock NoSuchRange)
     else (if is_used_in agent range rows then Refused (refusal.Stock RangeUsed) else Changed Done))
 
+-- its first number is after its last
 abbrev pub is_out_of_order : Range → Bool
 is_out_of_order range = nat_lt range.last range.first
 
+-- N04 where the body is malformed, then K01
 abbrev pub allot_answer : Option StockChange → Rows → Answer
 allot_answer None rows = Refused Malformed
 allot_answer (Some body) rows =
     if is_out_of_order body.range then Refused (refusal.Stock FirstAfterLast) else allotment body.agent.code body.range rows
 
+-- N04 where the body is malformed, then K01
 abbrev pub withdraw_answer : Option StockChange → Rows → Answer
 withdraw_answer None rows = Refused Malformed
 withdraw_answer (Some body) rows =
@@ -136,13 +150,16 @@ abbrev pub office_verdict_for : Option ℕ → Rows → Transaction → Verdict
 office_verdict_for None rows t = verdict.Refused WrongAgent
 office_verdict_for (Some agent) rows t = own_verdict Office (ledger_of agent rows) t
 
+-- on a transaction of the office's file
 abbrev pub office_verdict : Rows → Transaction → Verdict
 office_verdict rows t = office_verdict_for (agent_of t.agent) rows t
 
+-- the rows with an accepted transaction of the agent
 abbrev pub joined : Option ℕ → Transaction → ℕ → Rows → Rows
 joined None t period rows = rows
 joined (Some agent) t period rows = after_accepted (new_item agent (ledger_of agent rows) t period) rows
 
+-- whose rows a transaction is judged over, none where no agent has its code
 abbrev pub Owner : Type 0
 Owner = Transaction → Option ℕ
 
@@ -150,6 +167,7 @@ Owner = Transaction → Option ℕ
 abbrev pub bearer : Owner
 bearer t = agent_of t.agent
 
+-- of an agent's file that agent
 abbrev pub reporter : Option ℕ → Owner
 reporter agent t = agent
 
@@ -170,16 +188,19 @@ rows_filed owner [] vs rows = rows
 rows_filed owner (t ∷ ts) [] rows = rows
 rows_filed owner (t ∷ ts) (v ∷ vs) rows = rows_filed owner ts vs (rows_judged owner t v rows)
 
+-- a file with a fault changes nothing
 abbrev pub after_file : Owner → FileRead → List Verdict → Rows → Rows
 after_file owner (Err fault) vs rows = rows
 after_file owner (Ok ts) vs rows = rows_filed owner ts vs rows
 
+-- the first fault of a file, or its verdicts
 abbrev pub office_file_answer : FileRead → Rows → Answer
 office_file_answer (Err fault) rows = FileFault fault
 office_file_answer (Ok ts) rows = Verdicts (office_verdicts rows ts)
 
 -- ---- the office: the settlement
 
+-- of a closed period, over the rows of all agents and airlines
 abbrev pub settlement_shown : Option Period → Rows → Answer
 settlement_shown None rows = Refused UnknownPeriod
 settlement_shown (Some q) rows = Settlement (record {
@@ -188,12 +209,14 @@ settlement_shown (Some q) rows = Settlement (record {
   postings = postings q.code (values rows.items) (values rows.memos);
 })
 
+-- S01 where the path has no period, or this one is not published and closed
 abbrev pub settlement_answer : Option ℕ → Rows → Answer
 settlement_answer None rows = Refused UnknownPeriod
 settlement_answer (Some code) rows = settlement_shown (closed_period rows.published code) rows
 
 -- ---- what is answered: the route and its method, the token, the body, the content
 
+-- the answer to each request of the office
 abbrev pub office_answer : OfficeRequest → Rows → Answer
 office_answer (PublishPlan text) rows = plan_answer text rows
 office_answer (SetBusinessDay day) rows = day_answer day rows
@@ -205,16 +228,19 @@ office_answer (OfficeFile file) rows = office_file_answer file rows
 office_answer (ClosePeriod period) rows = close_answer period rows
 office_answer (AskSettlement period) rows = settlement_answer (period_in period) rows
 
+-- N01 where the path has no agent, or the token is not the agent's own
 abbrev pub to_agent : Option ℕ → Option (List ℕ) → AgentRequest → Rows → Answer
 to_agent None token call rows = Refused Forbidden
 to_agent (Some agent) token call rows =
     if is_token (agent_token agent rows) token then ledger_answer agent (ledger_of agent rows) call else Refused Forbidden
 
+-- N01 where the path has no airline, or the token is not the airline's own
 abbrev pub to_airline : Option ℕ → Option (List ℕ) → AirlineRequest → Rows → Answer
 to_airline None token call rows = Refused Forbidden
 to_airline (Some airline) token call rows =
     if is_token (airline_token airline rows) token then airline_answer airline (airline_ledger_of airline rows) call else Refused Forbidden
 
+-- N02, N03, then the token of whom the path names: N01
 abbrev pub asked_answer : List ℕ → Option (List ℕ) → Asked → Rows → Answer
 asked_answer office token NoRoute rows = Refused refusal.NoRoute
 asked_answer office token OtherMethod rows = Refused refusal.OtherMethod
@@ -228,14 +254,17 @@ answer_of office rows request = asked_answer office request.token request.asked 
 
 -- ---- the rows after an answer
 
+-- the agent is registered, or its token replaced
 abbrev pub registered_as : Option ℕ → List ℕ → Rows → Rows
 registered_as None token rows = rows
 registered_as (Some agent) token rows = with_agent_token agent token rows
 
+-- the agent has the range
 abbrev pub allotted : Option ℕ → Range → Rows → Rows
 allotted None range rows = rows
 allotted (Some agent) range rows = with_range agent range rows
 
+-- the range is gone
 abbrev pub withdrawn : Option ℕ → Range → Rows → Rows
 withdrawn None range rows = rows
 withdrawn (Some agent) range rows = without_range agent range rows
@@ -259,26 +288,32 @@ office_done (ClosePeriod None) rows = rows
 office_done (OfficeFile file) rows = rows
 office_done (AskSettlement period) rows = rows
 
+-- what the verdicts on the office's file accept joins the rows of the agents that it bears
 abbrev pub filed_by_office : OfficeRequest → List Verdict → Rows → Rows
 filed_by_office (OfficeFile file) vs rows = after_file bearer file vs rows
 filed_by_office _ vs rows = rows
 
+-- the rows after an action on a memo
 abbrev pub with_action : Action → MemoKey → Rows → Rows
 with_action action key rows = record rows { memos = acted action rows.published key rows.memos }
 
+-- an agent's requests, once they are done
 abbrev pub agent_done : AgentRequest → Rows → Rows
 agent_done (DisputeMemo (Some body)) rows = with_action Dispute (memo_named body) rows
 agent_done (AgreeMemo (Some body)) rows = with_action Agree (memo_named body) rows
 agent_done _ rows = rows
 
+-- what the verdicts on an agent's file accept joins its rows
 abbrev pub filed_by_agent : Option ℕ → AgentRequest → List Verdict → Rows → Rows
 filed_by_agent agent (AgentFile file) vs rows = after_file (reporter agent) file vs rows
 filed_by_agent agent _ vs rows = rows
 
+-- the memo is issued to the agent on the business day
 abbrev pub issued_to : ℕ → MemoIssue → Option ℕ → Rows → Rows
 issued_to airline issue None rows = rows
 issued_to airline issue (Some agent) rows = with_memo (new_memo airline agent issue rows.published.day) rows
 
+-- an airline's requests, once they are done
 abbrev pub airline_done : ℕ → AirlineRequest → Rows → Rows
 airline_done airline (IssueMemo (Some issue)) rows = issued_to airline issue issue.agent.code rows
 airline_done airline (UpholdMemo (Some document)) rows = with_action Uphold (issue_key airline document) rows
@@ -286,6 +321,7 @@ airline_done airline (WithdrawMemo (Some document)) rows = with_action Withdraw 
 airline_done airline (ReduceMemo (Some body)) rows = with_action (Reduce body.amount) (issue_key airline body.document) rows
 airline_done airline _ rows = rows
 
+-- none without an airline's code
 abbrev pub by_airline : Option ℕ → AirlineRequest → Rows → Rows
 by_airline None call rows = rows
 by_airline (Some airline) call rows = airline_done airline call rows
@@ -298,19 +334,23 @@ asked_after (ByOffice call) answer rows = if is_done answer then office_done cal
 asked_after (ByAgent code call) answer rows = if is_done answer then agent_done call rows else filed_by_agent (agent_of code) call (verdicts_in answer) rows
 asked_after (ByAirline code call) answer rows = if is_done answer then by_airline (airline_in code) call rows else rows
 
+-- the rows after an answered request
 abbrev pub rows_after : Rows → Request → Answer → Rows
 rows_after rows request answer = asked_after request.asked answer rows
 
 -- ---- what a RET reader gives: each transaction is a group
 
+-- each transaction has the values of a group
 abbrev pub AreGroups : List Transaction → Type 0
 AreGroups [] = Unit {0}
 AreGroups (t ∷ ts) = (is_group_values t ≡ true) × AreGroups ts
 
+-- a file with a fault has no transactions
 abbrev pub HasGroups : FileRead → Type 0
 HasGroups (Err fault) = Unit {0}
 HasGroups (Ok ts) = AreGroups ts
 
+-- each transaction of the request's file is a group; other requests have no file
 abbrev pub Fits : Asked → Type 0
 Fits (ByOffice (OfficeFile file)) = HasGroups file
 Fits (ByAgent code (AgentFile file)) = HasGroups file

@@ -1,9 +1,11 @@
 -- The message that an answer is sent as: `bsp_messages` has its status, its media type and its bytes.
 use Rattle.std.specs.Prelude.{◌≡◌, ◌⊎◌, ℕ, Bool, List, Some, String, string_bytes}
 use Rattle.std.specs.Global.{Global, Vec}
+use Rattle.bsp_rows.specs.Lines.{lines}
 use Rattle.bsp_rows.specs.Terms.{Terms}
 use Rattle.bsp_hot.specs.Files.{IsTooWide, IsWritten}
 use Rattle.bsp_hot.specs.Rows.{Entry, entries}
+use Rattle.bsp_hot_check.specs.Hot.{Hot as AreHotLines}
 use Rattle.bsp_messages.specs.Answers.{media_of, status_of, text_of}
 use Rattle.bsp_messages.specs.declared.answer.Answer.{Answer as Message}
 use Rattle.bsp_messages.specs.declared.answer.Answer.TheVariants as message
@@ -26,8 +28,11 @@ IsSettlementText report text =
 abbrev pub hot_entries : ℕ → HotRows → List Entry
 hot_entries airline rows = entries airline rows.period.code rows.items rows.memos
 
+-- the text of a file whose lines are those of a HOT file, so that `check_hot` passes it
 abbrev pub IsHotText : ℕ → HotRows → List ℕ → Type 0
-IsHotText airline rows text = (terms : Terms) × (rows.terms ≡ Some terms) × IsWritten rows.form airline rows.period terms.currency (hot_entries airline rows) text
+IsHotText airline rows text =
+    (terms : Terms) × (rows.terms ≡ Some terms) × (made : IsWritten rows.form airline rows.period terms.currency (hot_entries airline rows) text)
+    × AreHotLines (lines text) made.file
 
 -- a count or a total does not fit its place
 abbrev pub HasNoHotText : ℕ → HotRows → Type 0

@@ -29,6 +29,7 @@ use Rattle.bsp_office_spec.specs.Requests.Asked.{NoRoute, OtherMethod, ByOffice,
 use Rattle.bsp_office_spec.specs.Requests.OfficeRequest.{PublishPlan, SetBusinessDay, RegisterAgent, RegisterAirline, AllotRange, WithdrawRange, OfficeFile, ClosePeriod, AskSettlement}
 use Rattle.bsp_office_spec.specs.Step.{Fits, answer_of, is_token, rows_after}
 
+-- what an agent sees
 pub data Sight : Type 0 where
   -- its own request
   Own : (call : AgentRequest) → Sight
@@ -51,12 +52,15 @@ ledger_billed (Publish text) l = l
 ledger_billed (SetDay day) l = l
 ledger_billed (Close period) l = with_own_memos (each (after_event (review_of l.published.terms) (Closed period l.published.day)) l.own.memos) l
 
+-- the plan after a request for it, and the memos that a close bills
 abbrev pub ledger_planned : PlanRequest → Ledger → Ledger
 ledger_planned request l = record { own = (ledger_billed request l).own; published = plan_left l.published (outcome l.published request) }
 
+-- the ledger with a change of its token or its ranges
 abbrev pub with_own_ranges : (AgentPart → AgentPart) → Ledger → Ledger
 with_own_ranges f l = record { own = f l.own; published = l.published }
 
+-- the ledger after a sight
 abbrev pub ledger_after : ℕ → Ledger → Sight → Ledger
 ledger_after agent l (Own call) = ledger_after_request agent call l
 ledger_after agent l (Reported t) = with_own_item (new_item agent l t (unwrap_or (target_of l.published t.issued) 0)) l
@@ -67,24 +71,29 @@ ledger_after agent l (Issued airline issue) = with_own_memos (insert l.own.memos
 ledger_after agent l (Acted action key) = ledger_acted action key l
 ledger_after agent l (Planned request) = ledger_planned request l
 
+-- the ledger after a list of sights, one after the other
 abbrev pub ledger_all : ℕ → Ledger → List Sight → Ledger
 ledger_all agent l [] = l
 ledger_all agent l (s ∷ ss) = ledger_all agent (ledger_after agent l s) ss
 
 -- ---- what an agent sees of an answered request
 
+-- the code that was read is this one
 abbrev pub is_agent : ℕ → Option ℕ → Bool
 is_agent agent None = false
 is_agent agent (Some other) = other == agent
 
+-- seen by this agent alone
 abbrev pub if_own : ℕ → Option ℕ → Sight → List Sight
 if_own agent reading s = if is_agent agent reading then s ∷ [] else []
 
+-- an accepted transaction is seen by the agent that it bears
 abbrev pub reported_one : ℕ → Transaction → Verdict → List Sight
 reported_one agent t (verdict.Held period) = []
 reported_one agent t (verdict.Accepted period) = if_own agent (agent_of t.agent) (Reported t)
 reported_one agent t (verdict.Refused refusal) = []
 
+-- of a file, in its order
 abbrev pub reported_in : ℕ → List Transaction → List Verdict → List Sight
 reported_in agent [] vs = []
 reported_in agent (t ∷ ts) [] = []
@@ -108,6 +117,7 @@ office_sights agent (ClosePeriod (Some period)) = Planned (Close period) ∷ []
 office_sights agent (ClosePeriod None) = []
 office_sights agent (AskSettlement period) = []
 
+-- a file with a fault shows nothing
 abbrev pub file_sights : ℕ → FileRead → List Verdict → List Sight
 file_sights agent (Err fault) vs = []
 file_sights agent (Ok ts) vs = reported_in agent ts vs
@@ -129,6 +139,7 @@ airline_sights agent airline (WithdrawMemo (Some document)) l = action_sights Wi
 airline_sights agent airline (ReduceMemo (Some body)) l = action_sights (Reduce body.amount) (issue_key airline body.document) l
 airline_sights agent airline _ l = []
 
+-- nothing without an airline's code
 abbrev pub of_airline : ℕ → Option ℕ → AirlineRequest → Ledger → List Sight
 of_airline agent None call l = []
 of_airline agent (Some airline) call l = airline_sights agent airline call l
@@ -137,6 +148,7 @@ of_airline agent (Some airline) call l = airline_sights agent airline call l
 abbrev pub is_own : ℕ → Ledger → Option (List ℕ) → List ℕ → Bool
 is_own agent l token code = is_agent agent (agent_of code) && is_token l.own.token token
 
+-- an agent's own request whatever is answered; of others what is done, and what the verdicts on the office's file accept
 abbrev pub answered_sights : ℕ → Ledger → Option (List ℕ) → Asked → Answer → List Sight
 answered_sights agent l token NoRoute answer = []
 answered_sights agent l token OtherMethod answer = []
@@ -144,25 +156,30 @@ answered_sights agent l token (ByOffice call) answer = if is_done answer then of
 answered_sights agent l token (ByAgent code call) answer = if is_own agent l token code then Own call ∷ [] else []
 answered_sights agent l token (ByAirline code call) answer = if is_done answer then of_airline agent (airline_in code) call l else []
 
+-- what an agent sees of an answered request
 abbrev pub sights : ℕ → Ledger → Request → Answer → List Sight
 sights agent l request answer = answered_sights agent l request.token request.asked answer
 
 -- ---- requests with their answers, none for a 503
 
-abbrev pub Exchange : Type 0
-Exchange = Request × Option Answer
+-- a request and its answer, none for a 503
+pub record Exchange : Type 0 where
+  pub request : Request
+  pub reply : Option Answer
 
+-- a 503 shows nothing
 abbrev pub reply_sights : ℕ → Ledger → Exchange → List Sight
-reply_sights agent l p = by p.1 where
+reply_sights agent l p = by p.reply where
   by : Option Answer → List Sight
   by None = []
-  by (Some answer) = sights agent l p.0 answer
+  by (Some answer) = sights agent l p.request answer
 
 -- its view
 abbrev pub view : ℕ → Ledger → List Exchange → List Sight
 view agent l [] = []
 view agent l (p ∷ ps) = reply_sights agent l p ++ view agent (ledger_all agent l (reply_sights agent l p)) ps
 
+-- only its own request has an answer
 abbrev pub answer_to_sight : ℕ → Ledger → Sight → List Answer
 answer_to_sight agent l (Own call) = ledger_answer agent l call ∷ []
 answer_to_sight agent l _ = []
@@ -172,15 +189,17 @@ abbrev pub ledger_answers : ℕ → Ledger → List Sight → List Answer
 ledger_answers agent l [] = []
 ledger_answers agent l (s ∷ ss) = answer_to_sight agent l s ++ ledger_answers agent (ledger_after agent l s) ss
 
+-- the answer, where the request is the agent's own
 abbrev pub told_one : ℕ → Ledger → Option (List ℕ) → Asked → Answer → List Answer
 told_one agent l token (ByAgent code call) answer = if is_own agent l token code then answer ∷ [] else []
 told_one agent l token _ answer = []
 
+-- a 503 is no answer
 abbrev pub told_reply : ℕ → Ledger → Exchange → List Answer
-told_reply agent l p = by p.1 where
+told_reply agent l p = by p.reply where
   by : Option Answer → List Answer
   by None = []
-  by (Some answer) = told_one agent l p.0.token p.0.asked answer
+  by (Some answer) = told_one agent l p.request.token p.request.asked answer
 
 -- the answers that it was given to them
 abbrev pub told : ℕ → Ledger → List Exchange → List Answer
@@ -189,22 +208,24 @@ told agent l (p ∷ ps) = told_reply agent l p ++ told agent (ledger_all agent l
 
 -- ---- runs of steps
 
+-- a 503 may come at any request, and an answer is that of the rows
 abbrev pub IsAnswered : List ℕ → Rows → Request → Option Answer → Type 0
 IsAnswered office rows request None = Unit {0}
 IsAnswered office rows request (Some answer) = answer ≡ answer_of office rows request
 
+-- a 503 leaves the rows
 abbrev pub rows_replied : Rows → Exchange → Rows
-rows_replied rows p = by p.1 where
+rows_replied rows p = by p.reply where
   by : Option Answer → Rows
   by None = rows
-  by (Some answer) = rows_after rows p.0 answer
+  by (Some answer) = rows_after rows p.request answer
 
 -- each is answered so on the rows that those before it left, or by a 503
 abbrev pub Run : List ℕ → Rows → List Exchange → Rows → Type 0
 Run office rows [] new = new ≡ rows
-Run office rows (p ∷ ps) new = IsAnswered office rows p.0 p.1 × Run office (rows_replied rows p) ps new
+Run office rows (p ∷ ps) new = IsAnswered office rows p.request p.reply × Run office (rows_replied rows p) ps new
 
 -- each transaction of each file is a group
 abbrev pub AllFit : List Exchange → Type 0
 AllFit [] = Unit {0}
-AllFit (p ∷ ps) = Fits p.0.asked × AllFit ps
+AllFit (p ∷ ps) = Fits p.request.asked × AllFit ps

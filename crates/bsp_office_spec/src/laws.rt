@@ -1,10 +1,12 @@
 //! Laws of requests and their answers.
 
 ghost use Rattle.bsp_office_spec.specs.Laws.{AgentIsIsolated, AgentsAreAlike, AirlineIsAnsweredByLedger, AirlineIsIsolated, AirlineLedgerIsOfSights, AirlinesAreAlike, ClosedPeriodsStay, EachFileIsRead, EachRequestIsRead, FilesAreTaken, HotFilesShowNets, LedgerIsOfSights, NetsAlwaysAddUp, NumbersHaveOneOwner, OthersAreForbidden, OwnIsAnsweredByLedger, ReadRequestsFit, RefusalsChangeNothing, RepeatsAreHeld, ReportsStay, RunIsSound, RunsAgreeWithTickets, RunsHoldRepeats, RunsShowTheSame, StepIsSound};
+ghost use Rattle.bsp_office_spec.specs.Printed.{HotFilesPrintNets, RunsPrintNets, SettlementsPrintNets, StatementsPrintNets};
 ghost use Rattle.bsp_office_spec.specs.Texts.{AnswersAreOneText};
 
 /// Each body has a reading as a RET file, its transactions or its first fault; and so each method, target and
-/// body is read as some request. Of a plan text no list may have 2^63 entries, more than any memory holds.
+/// body is read as some request. A plan text with a list of 2^63 entries, more than any memory holds, is read
+/// as out of memory.
 pub fn requests_are_read()
     ensures files { EachFileIsRead }
     ensures requests { EachRequestIsRead }
@@ -65,9 +67,17 @@ pub fn values_agree()
 /// In sound rows the nets of a period, each agent's of its own ledger and each airline's of its own,
 /// have one sum. A net is cash less commission less the tax on it, and the memos. An airline's is the
 /// net of the totals of its HOT file of a closed period, in either form.
+///
+/// These nets are what is printed. The last line of a statement is TOT with the agent's net, that of a
+/// HOT file is BFT99 with the airline's. A settlement has each of them in its lines, and their sum as both
+/// of its totals. A report that a run has sent prints the nets that the ledgers have in the end.
 pub fn nets_add_up()
     ensures sums { NetsAlwaysAddUp }
     ensures shown { HotFilesShowNets }
+    ensures statements { StatementsPrintNets }
+    ensures files { HotFilesPrintNets }
+    ensures settlements { SettlementsPrintNets }
+    ensures runs { RunsPrintNets }
 {}
 
 /// An airline's requests are answered by its ledger: its own rows, the codes of the registered

@@ -24,6 +24,7 @@ mod rules;
 mod texts;
 mod transactions;
 mod words;
+mod written;
 
 use answers::answer_page;
 use fault::Fault;

@@ -6,8 +6,8 @@ use crate::output::{Output, say};
 use crate::page::Page;
 use crate::reader::calls;
 use crate::texts::text_of;
-use bsp_ret::{RetReader, read_ret};
-use bsp_ret_writer::write_ret;
+use crate::written::{same_pieces, written};
+use bsp_ret::RetReader;
 use std::alloc::Global;
 
 /// How a text is read, for each place in it.
@@ -93,18 +93,6 @@ fn bytes(page: &Page<'_>, parts: &str, out: &mut Output) -> Result<(), Fault> {
     Ok(())
 }
 
-/// The text that is written of a RET file.
-fn written(alloc: Global, text: &[u8]) -> Result<Vec<u8>, Fault> {
-    let file = match read_ret(alloc, text) {
-        Ok(file) => file,
-        Err(fault) => return Err(Fault::from(fault)),
-    };
-    match write_ret(alloc, &file) {
-        Ok(written) => Ok(written),
-        Err(_) => Err(Fault::Memory),
-    }
-}
-
 /// Reads a text and writes it; `; ` is before the text that this has to be.
 fn write(page: &Page<'_>, texts: &str, out: &mut Output) -> Result<(), Fault> {
     let Some((own, expected)) = texts.split_once("; ") else {
@@ -132,6 +120,7 @@ pub fn answer(
         "cuts" => Some(ranges(page, Way::Cut, rest, out)),
         "fed-cuts" => Some(ranges(page, Way::CutFed, rest, out)),
         "pieces" => Some(ranges(page, Way::Pieces, rest, out)),
+        "same-pieces" => Some(same_pieces(page, rest, out)),
         "reader" => Some(calls(page, rest, out)),
         "write" => Some(write(page, rest, out)),
         _ => None,

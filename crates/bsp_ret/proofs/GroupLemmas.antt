@@ -17,6 +17,8 @@ use Rattle.bsp_ret_records.specs.declared.transactions.Transaction.{Transaction}
 use Rattle.bsp_ret.specs.Content.{IsContent, HasContent}
 use Rattle.bsp_ret_records.specs.Values.{IsSale}
 use Rattle.bsp_ret.specs.Sales.{HasSale}
+use Rattle.bsp_ret.specs.declared.fields.GroupFields.{GroupFields}
+use Rattle.bsp_ret.specs.Slices.{AreFieldsOf, HasFields}
 use Rattle.bsp_ret_records.specs.declared.transactions.PaidSale.{PaidSale}
 use Rattle.bsp_ret.specs.Table.{total_paid}
 use Rattle.bsp_records.specs.Lines.{lines, BeginsOtherwise}
@@ -148,6 +150,11 @@ pub has_content : (n : ℕ) (lines : List (List ℕ)) (g : Group) (t : Transacti
 has_content n lines g t has content =
     let Values : Group → Type 0 = λ h. IsContent h t in
     record { is = has.is; content = subst Values (sym has.group_is) content }
+
+pub has_fields : (n : ℕ) (lines : List (List ℕ)) (g : Group) (f : GroupFields) → HasRecords n lines g → AreFieldsOf g f → HasFields n lines f
+has_fields n lines g f has fields =
+    let Fields : Group → Type 0 = λ h. AreFieldsOf h f in
+    record { is = has.is; fields = subst Fields (sym has.group_is) fields }
 
 -- ---- the record 2 of a group
 

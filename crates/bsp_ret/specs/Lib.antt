@@ -10,6 +10,7 @@ pub mod Pieces
 pub mod Groups
 pub mod Content
 pub mod Sales
+pub mod Slices
 pub mod Texts
 pub use Rattle.bsp_records.specs.Columns
 pub use Rattle.bsp_records.specs.Fields

@@ -11,6 +11,7 @@ ghost use Rattle.bsp_ret.specs.Sales.{HasSale};
 ghost use Rattle.bsp_ret.specs.Groups.{records_of, sale_alone, with_records, HasRecords};
 
 use crate::building::Building;
+use crate::fields::{GroupFields, HeaderFields, TrailerFields};
 use crate::records::Records;
 use bsp_fields::Total;
 use bsp_records::first_record;
@@ -96,6 +97,7 @@ impl<'a> RetFile<'a> {
     ghost use Rattle.bsp_ret.specs.Building.{file_of};
     ghost use Rattle.bsp_ret.specs.Ret.{HasLines, flatten, file_lines};
     ghost use Rattle.bsp_ret.specs.Table.{total_paid};
+    ghost use Rattle.bsp_ret.specs.Slices.{IsHeaderOf, IsTrailerOf, HasFields};
 
     /// The file of what was read to the end.
     pub(crate) fn of(building: Building<'a>) -> RetFile<'a>
@@ -144,6 +146,31 @@ impl<'a> RetFile<'a> {
             Some(group) => Some(group.sale()),
             None => None,
         }
+    }
+
+    /// The fields of record 1, as slices of the text.
+    pub fn header(&self) -> HeaderFields<'a>
+        ensures { IsHeaderOf self.now.header result }
+    {
+        HeaderFields::of(self.header)
+    }
+
+    /// The fields of the records of a transaction, counted from 0, as slices of the text; none past
+    /// the last.
+    pub fn fields(&self, index: usize) -> Option<GroupFields<'a>>
+        ensures { MatchOption result (length self.now.groups ≤ index) (λ fields. HasFields (index + 1) (slice_index_or self.now.groups index []) fields) }
+    {
+        match self.records(index) {
+            Some(records) => Some(GroupFields::of(records)),
+            None => None,
+        }
+    }
+
+    /// The fields of record Z, as slices of the text.
+    pub fn trailer(&self) -> TrailerFields<'a>
+        ensures { IsTrailerOf self.now.trailer result }
+    {
+        TrailerFields::of(self.trailer_line())
     }
 
     /// The number of transactions.

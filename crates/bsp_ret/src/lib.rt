@@ -3,6 +3,7 @@
 #![tactic(auto)]
 
 mod building;
+mod fields;
 mod file;
 mod judge;
 mod model;
@@ -16,6 +17,10 @@ mod values;
 pub use bsp_ret_records::{
     Amounts, CardPayment, FormOfPayment, PaidSale, Profile, ReportedDocument, Sale, Tax,
     Transaction, TransactionCode,
+};
+pub use fields::{
+    AmountsFields, DocumentFields, FormFields, GroupFields, HeaderFields, SaleFields, TaxFields,
+    TrailerFields,
 };
 pub use file::RetFile;
 pub use model::{FaultCode, Progress, RetFault};

@@ -18,7 +18,7 @@ ghost use Rattle.bsp_statement.specs.Reports.{Answers, HasOneSum, IsSameSettleme
 
 use crate::columns::push_net;
 use crate::fault::StatementFault;
-use crate::figures::{Figures, MOST_POSTINGS, by_agent, by_airline, total};
+use crate::figures::{Figures, by_agent, by_airline, total};
 use crate::nets::{AgentNet, AirlineNet, Settlement};
 use crate::period::push_period;
 use bsp_calendar::{Currency, Period, Plan};
@@ -129,9 +129,6 @@ fn write_settlement(
 ) -> Result<Settlement, NoRoom>
     ensures { IfOk result (λ settlement. IsSettlement (period_text period.now.code period.now.remittance currency) postings.now settlement) }
 {
-    if postings.len() > MOST_POSTINGS {
-        return Err(NoRoom);
-    }
     let agents = agent_nets(alloc, &by_agent(alloc, postings)?)?;
     let airlines = airline_nets(alloc, &by_airline(alloc, postings)?)?;
     let total = total(postings).net;

@@ -19,7 +19,7 @@ ghost use Rattle.bsp_statement.specs.Reports.{Answers, IsStatement, of_period};
 
 use crate::columns::{push_figures, push_heading};
 use crate::fault::StatementFault;
-use crate::figures::{Figures, MOST_POSTINGS, by_airline, total};
+use crate::figures::{Figures, by_airline, total};
 use crate::period::push_period;
 use bsp_calendar::{Currency, Period, Plan};
 use bsp_fields::{AgentCode, AirlineCode, NoRoom, PeriodCode};
@@ -72,9 +72,6 @@ fn write_statement(
 ) -> Result<String, NoRoom>
     ensures { IfOk result (λ text. IsStatement taxed agent (period_text period.now.code period.now.remittance currency) postings.now (string_bytes text)) }
 {
-    if postings.len() > MOST_POSTINGS {
-        return Err(NoRoom);
-    }
     let mut text = format!(in alloc; "STATEMENT {agent} ")?;
     push_period(alloc, &mut text, period, currency)?;
     push_lines(alloc, &mut text, postings, taxed)?;

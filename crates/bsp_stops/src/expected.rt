@@ -1,11 +1,11 @@
 //! What is found after so many requests, where no machine stops.
 
-use crate::files::Bytes;
-use crate::office::{Found, Office};
+use crate::files::{Bytes, Left};
+use crate::machine::{Calls, Limits};
+use crate::office::{Ended, Found, Office};
 use crate::rows::rows_of;
 use crate::wrong::Wrong;
 use bsp_desk::{Reply, Status};
-use sqlite_disk::{Files, Memory};
 
 /// What a machine gives that does not stop.
 #[derive(Drop)]
@@ -41,19 +41,11 @@ pub fn are_same(some: &[Reply], others: &[Reply]) -> bool {
     true
 }
 
-/// The files of a machine that does not stop.
-fn whole(office: Office<'_, '_>, start: &Bytes) -> Result<Files<Memory>, Wrong> {
-    Ok(Files {
-        log: start.log(office.alloc)?,
-        db: start.main(office.alloc)?,
-    })
-}
-
 /// The rows of a store before it is opened as a book.
 fn rows_before(office: Office<'_, '_>, start: &Bytes) -> Result<String, Wrong> {
-    let mut conn = office
-        .connect(whole(office, start)?)
-        .map_err(|refused| refused.0)?;
+    let calls = Calls::endless();
+    let files = start.files(office.alloc, Limits::of_both(&calls))?;
+    let mut conn = office.connect(files).map_err(|refused| refused.0)?;
     rows_of(office.alloc, &mut conn)
 }
 
@@ -63,11 +55,15 @@ fn after(
     start: &Bytes,
     count: usize,
 ) -> Result<(Vec<Reply>, Found), Wrong> {
-    let ended = office.attempt(count, whole(office, start)?)?;
+    let calls = Calls::endless();
+    let files = start.files(office.alloc, Limits::of_both(&calls))?;
+    let ended = office.attempt(count, files)?;
     if !ended.is_opened {
         return Err(Wrong::NoDesk);
     }
-    Ok((ended.replies, office.find(ended.files)?))
+    let Ended { files, replies, .. } = ended;
+    let left = Bytes::left(office.alloc, files, Left::Written, Left::Written)?;
+    Ok((replies, office.find(&left)?))
 }
 
 impl Expected {

@@ -1,8 +1,8 @@
 //! The two files of a store, before a stop and after it.
 
-use crate::machine::FileOf;
+use crate::machine::{FileOf, Limits};
 use crate::wrong::Wrong;
-use sqlite_disk::{Crash, Disk, Files, Fuse, Memory};
+use sqlite_disk::{Crash, Disk, Files, Memory};
 use std::alloc::Global;
 use std::fmt;
 use std::fmt::Display;
@@ -25,36 +25,8 @@ impl Display for Left {
     }
 }
 
-/// A file that a stop can leave.
-pub trait Stopped: Crash {
-    /// What was written.
-    fn bytes(&self) -> &[u8];
-}
-
-impl Stopped for Memory {
-    fn bytes(&self) -> &[u8] {
-        self.bytes()
-    }
-}
-
-impl Stopped for Fuse<Memory> {
-    fn bytes(&self) -> &[u8] {
-        self.inner().bytes()
-    }
-}
-
-impl<'c> Stopped for FileOf<'c, Memory> {
-    fn bytes(&self) -> &[u8] {
-        self.inner().bytes()
-    }
-}
-
 /// A file in memory of these bytes.
-///
-/// # Errors
-///
-/// `File`, where an allocation is refused.
-pub fn file_of(alloc: Global, bytes: &[u8]) -> Result<Memory, Wrong> {
+fn file_of(alloc: Global, bytes: &[u8]) -> Result<Memory, Wrong> {
     let mut file = Memory::new(alloc);
     if !bytes.is_empty() {
         file.write_at(0, bytes)?;
@@ -63,30 +35,12 @@ pub fn file_of(alloc: Global, bytes: &[u8]) -> Result<Memory, Wrong> {
     Ok(file)
 }
 
-/// The file as the machine finds it after a stop.
-fn left_of<D: Stopped + Drop>(alloc: Global, mut file: D, left: Left) -> Result<Memory, Wrong> {
+/// The bytes of a file as the machine finds it after a stop.
+fn left_of(alloc: Global, mut file: FileOf<'_, Memory>, left: Left) -> Result<Vec<u8>, Wrong> {
     if left == Left::Synced {
         file.crash();
     }
-    file_of(alloc, file.bytes())
-}
-
-/// Both files as the machine finds them after a stop.
-///
-/// # Errors
-///
-/// As those of [`file_of`].
-pub fn files_left<D: Stopped + Drop>(
-    alloc: Global,
-    files: Files<D>,
-    log: Left,
-    main: Left,
-) -> Result<Files<Memory>, Wrong> {
-    let Files { log: first, db } = files;
-    Ok(Files {
-        log: left_of(alloc, first, log)?,
-        db: left_of(alloc, db, main)?,
-    })
+    Ok(Vec::from_slice(alloc, file.inner().bytes())?)
 }
 
 /// The bytes of the two files of a store.
@@ -105,33 +59,38 @@ impl Bytes {
         }
     }
 
-    /// Those of two files.
+    /// Those of both files as the machine finds them after a stop.
     ///
     /// # Errors
     ///
     /// `NoRoom`.
-    pub fn of(alloc: Global, files: &Files<Memory>) -> Result<Bytes, Wrong> {
+    pub fn left(
+        alloc: Global,
+        files: Files<FileOf<'_, Memory>>,
+        log: Left,
+        main: Left,
+    ) -> Result<Bytes, Wrong> {
+        let Files { log: first, db } = files;
         Ok(Bytes {
-            log: Vec::from_slice(alloc, files.log.bytes())?,
-            main: Vec::from_slice(alloc, files.db.bytes())?,
+            log: left_of(alloc, first, log)?,
+            main: left_of(alloc, db, main)?,
         })
     }
 
-    /// A log of its bytes.
+    /// Files of these bytes, of a machine that makes so many calls of each.
     ///
     /// # Errors
     ///
-    /// As those of [`file_of`].
-    pub fn log(&self, alloc: Global) -> Result<Memory, Wrong> {
-        file_of(alloc, &self.log)
-    }
-
-    /// A main file of its bytes.
-    ///
-    /// # Errors
-    ///
-    /// As those of [`file_of`].
-    pub fn main(&self, alloc: Global) -> Result<Memory, Wrong> {
-        file_of(alloc, &self.main)
+    /// `File`, where an allocation is refused.
+    pub fn files<'c>(
+        &self,
+        alloc: Global,
+        limits: Limits<'c>,
+    ) -> Result<Files<FileOf<'c, Memory>>, Wrong> {
+        let Limits { log, main, tears } = limits;
+        Ok(Files {
+            log: FileOf::new(file_of(alloc, &self.log)?, log, tears),
+            db: FileOf::new(file_of(alloc, &self.main)?, main, tears),
+        })
     }
 }

@@ -35,6 +35,11 @@ impl Calls {
         }
     }
 
+    /// A machine that does not stop.
+    pub fn endless() -> Calls {
+        Calls::new(u64::MAX)
+    }
+
     /// What becomes of the next call.
     fn next(&self) -> Passing {
         let left = self.left.get();
@@ -52,6 +57,28 @@ impl Calls {
     /// The machine is started again, and stops no more.
     fn start(&self) {
         self.left.set(u64::MAX);
+    }
+}
+
+/// After which calls of its two files a machine stops.
+#[derive(Clone, Copy)]
+pub struct Limits<'c> {
+    /// The calls of the log.
+    pub log: &'c Calls,
+    /// The calls of the main file.
+    pub main: &'c Calls,
+    /// Whether the write in which the machine stops writes its first half.
+    pub tears: bool,
+}
+
+impl<'c> Limits<'c> {
+    /// Those of a machine that counts the calls of both files together.
+    pub fn of_both(calls: &'c Calls) -> Limits<'c> {
+        Limits {
+            log: calls,
+            main: calls,
+            tears: false,
+        }
     }
 }
 

@@ -1,12 +1,14 @@
 //! An office over the files of a store: what it answers until the machine stops, and what is found afterwards.
 
+use crate::files::Bytes;
+use crate::machine::{Calls, Limits};
 use crate::rows::rows_of;
 use crate::script::Script;
 use crate::wrong::Wrong;
 use bsp_desk::{Desk, ListBook, Reply, Request};
 use bsp_store::SqlBook;
 use sqlite::{Connection, FileStore, Options};
-use sqlite_disk::{Disk, Files, Memory};
+use sqlite_disk::{Disk, Files};
 use std::alloc::Global;
 
 /// What a run came to.
@@ -123,16 +125,23 @@ impl<'o, 't> Office<'o, 't> {
     }
 
     /// What the next opening of two files finds.
-    ///
-    /// # Errors
-    ///
-    /// Why nothing is found.
-    pub fn find(self, files: Files<Memory>) -> Result<Found, Wrong> {
+    fn find_in<D: Disk + Drop>(self, files: Files<D>) -> Result<Found, Wrong> {
         let mut conn = self.connect(files).map_err(|refused| refused.0)?;
         let rows = rows_of(self.alloc, &mut conn)?;
         let mut desk = self.adopt(conn).map_err(|refused| refused.0)?;
         let looks = desk.run(&self.script.looks)?;
         Ok(Found { rows, looks })
+    }
+
+    /// What the next opening of files of these bytes finds.
+    ///
+    /// # Errors
+    ///
+    /// Why nothing is found.
+    pub fn find(self, left: &Bytes) -> Result<Found, Wrong> {
+        let calls = Calls::endless();
+        let files = left.files(self.alloc, Limits::of_both(&calls))?;
+        self.find_in(files)
     }
 
     /// The replies to so many requests over a book in memory, and then those to the looks.

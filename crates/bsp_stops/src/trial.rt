@@ -1,12 +1,11 @@
 //! Stops after each call, and what they leave.
 
 use crate::expected::{Expected, are_same, is_failure};
-use crate::files::{Bytes, Left, Stopped, files_left};
-use crate::machine::{Calls, FileOf};
+use crate::files::{Bytes, Left};
+use crate::machine::{Calls, Limits};
 use crate::office::{Ended, Found, Office};
 use crate::wrong::Wrong;
 use bsp_desk::Reply;
-use sqlite_disk::{Files, Fuse, Memory};
 use std::fmt;
 use std::fmt::Display;
 
@@ -54,6 +53,17 @@ pub struct Trial<'t, 's> {
     pub main: Left,
 }
 
+/// What a run came to.
+#[derive(Drop)]
+struct Run {
+    /// The bytes of the files, as the machine finds them after the stop.
+    left: Bytes,
+    /// Whether the book was opened.
+    is_opened: bool,
+    /// The replies to the requests, in order; none where the book was not opened.
+    replies: Vec<Reply>,
+}
+
 /// How a run ended that was as promised.
 #[derive(Clone, Copy, Debug, PartialEq, Eq)]
 enum Outcome {
@@ -81,46 +91,28 @@ fn count_of(replies: &[Reply]) -> usize {
 }
 
 impl Trial<'_, '_> {
-    /// Runs over these files, and gives them as the machine finds them after the stop.
-    fn run_over<D: Stopped + Drop>(self, files: Files<D>) -> Result<Ended<Memory>, Wrong> {
+    /// Runs until the machine stops after so many calls.
+    fn run(self, calls: u64) -> Result<Run, Wrong> {
+        let counted = Calls::new(calls);
+        let free = Calls::endless();
+        let (log, main) = match self.stop {
+            Stop::Log => (&counted, &free),
+            Stop::Main => (&free, &counted),
+            Stop::Both | Stop::Torn => (&counted, &counted),
+        };
+        let tears = self.stop == Stop::Torn;
+        let alloc = self.office.alloc;
+        let files = self.start.files(alloc, Limits { log, main, tears })?;
         let Ended {
             files,
             is_opened,
             replies,
         } = self.office.attempt(usize::MAX, files)?;
-        Ok(Ended {
-            files: files_left(self.office.alloc, files, self.log, self.main)?,
+        Ok(Run {
+            left: Bytes::left(alloc, files, self.log, self.main)?,
             is_opened,
             replies,
         })
-    }
-
-    /// Runs over files that count their calls together.
-    fn run_together(self, files: Files<Memory>, calls: u64) -> Result<Ended<Memory>, Wrong> {
-        let calls = Calls::new(calls);
-        let tears = self.stop == Stop::Torn;
-        let Files { log, db } = files;
-        self.run_over(Files {
-            log: FileOf::new(log, &calls, tears),
-            db: FileOf::new(db, &calls, tears),
-        })
-    }
-
-    /// Runs until the machine stops after so many calls.
-    fn run(self, calls: u64) -> Result<Ended<Memory>, Wrong> {
-        let log = self.start.log(self.office.alloc)?;
-        let db = self.start.main(self.office.alloc)?;
-        match self.stop {
-            Stop::Log => self.run_over(Files {
-                log: Fuse::new(log, calls),
-                db: Fuse::new(db, u64::MAX),
-            }),
-            Stop::Main => self.run_over(Files {
-                log: Fuse::new(log, u64::MAX),
-                db: Fuse::new(db, calls),
-            }),
-            Stop::Both | Stop::Torn => self.run_together(Files { log, db }, calls),
-        }
     }
 
     /// Tests the replies of a run, and answers how many requests were acknowledged.
@@ -148,13 +140,13 @@ impl Trial<'_, '_> {
 
     /// Stops after so many calls, and tests what is left.
     fn stop_after(self, calls: u64) -> Result<Outcome, Wrong> {
-        let Ended {
-            files,
+        let Run {
+            left,
             is_opened,
             replies,
         } = self.run(calls)?;
         let count = self.acknowledged(&replies)?;
-        let found = self.office.find(files)?;
+        let found = self.office.find(&left)?;
         let is_whole = is_opened && count == replies.len();
         if self.is_after(count, is_opened, &found) {
             return Ok(if is_whole {

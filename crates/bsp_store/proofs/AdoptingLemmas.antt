@@ -11,11 +11,13 @@ use Rattle.bsp_book.specs.Listed.{Holds as ListHolds}
 use Rattle.bsp_book.specs.declared.list.ListBook.{ListBook}
 use Rattle.bsp_store_open.specs.Schema.{no_schema}
 use Rattle.bsp_store_open.specs.Contents.{KeepsBook}
-use Rattle.bsp_store_open.specs.Opening.{IsOrdered, IsRead, KeepsAtRest, LeavesCommitted, LeavesEmptyBook, Reopens}
+use Rattle.bsp_store_open.specs.Formed.{IsBook}
+use Rattle.bsp_store_open.specs.Opening.{IsOrdered, IsRead, KeepsAtRest, KeepsOnly, LeavesCommitted, LeavesEmptyBook, Reopens}
 use Rattle.bsp_store_open.proofs.OpeningLemmas.{still_clean}
 use Rattle.bsp_store_save.specs.Making.{IsNewBook}
+use Rattle.bsp_store_save.proofs.MakingLemmas.{new_trees}
 use Rattle.bsp_store.specs.Meanings.{Holds}
-use Rattle.bsp_store_migration.specs.Migrating.{IsMigrated, KeepsOldBook, LeavesMigration}
+use Rattle.bsp_store_migration.specs.Migrating.{IsMigrated, KeepsOldBook, KeepsOnlyOld, LeavesMigration}
 use Rattle.bsp_store_migration.specs.Old.{old_schema}
 use Rattle.bsp_store_migration.specs.OldVersion.{OldVersion}
 use Rattle.bsp_store.specs.Adopting.{Adopts, IsFoundIn, IsMigratedIn, LeavesMigrated}
@@ -26,6 +28,8 @@ pub book_read : {S : Type 0} (g : Ghosts S) (old new : Held S) (list : ListBook)
 book_read g old new list rows read book made = record {
   works = made.2;
   listed = subst (λ l. ListHolds l rows None) (sym made.0) read.listed;
+  formed = read.formed;
+  was_formed = read.formed;
   kept = subst (λ h. KeepsAtRest g h rows) (sym made.1) read.kept;
 }
 
@@ -37,6 +41,7 @@ book_found g old new list rows read book made = record {
   holds = book_read g old new list rows read book made;
   earlier = λ clean. read.earlier (subst (λ h. HasCleanDisk (state g h)) made.1 clean);
   found = λ clean. read.found (subst (λ h. HasCleanDisk (state g h)) made.1 clean);
+  only = λ clean. read.only (subst (λ h. HasCleanDisk (state g h)) made.1 clean);
 }
 
 -- the same of tables of an earlier version, which were brought to this one
@@ -48,10 +53,13 @@ book_migrated g version old new list rows read book made = record {
   holds = record {
     works = made.2;
     listed = subst (λ l. ListHolds l rows None) (sym made.0) read.listed;
+    formed = read.formed;
+    was_formed = read.formed;
     kept = subst (λ h. KeepsAtRest g h rows) (sym made.1) read.kept;
   };
   earlier = λ clean. read.earlier (subst (λ h. HasCleanDisk (state g h)) made.1 clean);
   found = λ clean. read.found (subst (λ h. HasCleanDisk (state g h)) made.1 clean);
+  only = λ clean. read.only (subst (λ h. HasCleanDisk (state g h)) made.1 clean);
 }
 
 -- a migration that was given up
@@ -64,14 +72,14 @@ migration_given_up g version old new stop left quiet = record {
 
 -- ---- a book that is made in a store without tables
 
-module _ {S : Type 0} (g : Ghosts S) (old new : Held S) (stop : Survives (state g old) (state g new) (KeepsBook no_rows)) where
+module _ {S : Type 0} (g : Ghosts S) (old new : Held S) (stop : Survives (state g old) (state g new) (IsBook no_rows)) where
   -- the tables were made, and the store was then given up
   pub made_left : {X E : Type 0} → (HasCleanDisk (state g new) → IsNewBook (state g new).committed) → (r : Result X (E × S)) → IfErr r (λ e. LeavesCommitted g new e.1) → IfErr r (λ e. LeavesEmptyBook g old e.1)
   made_left made (Ok x) left = tt
   made_left made (Err e) left = record {
     earlier = λ clean. omega (arith, stop.clean, left.earlier clean);
     leaves = λ clean db may. elim (left.leaves clean db may) [
-      | inl is ↦ inr (subst (KeepsBook no_rows) (sym is) (made (left.earlier clean)).keeps)
+      | inl is ↦ inr (subst (IsBook no_rows) (sym is) (new_trees _ (made (left.earlier clean))))
       | inr was ↦ stop.crash (left.earlier clean) db was
     ];
   }
@@ -86,15 +94,15 @@ module _ {S : Type 0} (g : Ghosts S) (old new : Held S) (stop : Survives (state 
 -- ---- a whole opening
 
 module _ {S E : Type 0} (g : Ghosts S) (before now : Held S) (again : Reopens g before now) where
-  pub new_adopted : (r : Result (SqlBook S) E) → (state g now).now.schema ≡ no_schema → IfOk r (λ book. Holds g book no_rows None) → IfOk r (Adopts g before)
-  new_adopted (Err e) bare holds = tt
-  new_adopted (Ok book) bare holds = record { rows = no_rows; sound = no_rows_sound; holds = holds; those = inr (inl ((now, again, bare), refl)) }
+  pub new_adopted : (r : Result (SqlBook S) E) → (state g now).now.schema ≡ no_schema → IfOk r (λ book. Holds g book no_rows None) → IfOk r (λ book. HasCleanDisk (state g book.conn) → HasCleanDisk (state g now)) → IfOk r (Adopts g before)
+  new_adopted (Err e) bare holds earlier = tt
+  new_adopted (Ok book) bare holds earlier = record { rows = no_rows; sound = no_rows_sound; holds = holds; those = inr (inl ((now, again, bare), earlier, refl)) }
 
   pub kept_adopted : (r : Result (SqlBook S) E) → IfOk r (λ book. IsOrdered g now → IsFoundIn g now book) → IfOk r (Adopts g before)
   kept_adopted (Err e) found = tt
   kept_adopted (Ok book) found =
       let it = found again.ordered in
-      record { rows = it.rows; sound = it.sound; holds = it.holds; those = inl (λ clean. subst (KeepsBook it.rows) (again.trees (it.earlier clean)) (it.found clean)) }
+      record { rows = it.rows; sound = it.sound; holds = it.holds; those = inl (λ clean. let same = again.trees (it.earlier clean) in (subst (KeepsBook it.rows) same (it.found clean), subst (KeepsOnly it.rows) same (it.only clean))) }
 
 module _ {S E : Type 0} (g : Ghosts S) (before now : Held S) (again : Reopens g before now) (version : OldVersion) (has : now.schema ≡ old_schema version) where
   pub migrated_adopted : (r : Result (SqlBook S) E) → IfOk r (IsMigratedIn g version now) → IfOk r (Adopts g before)
@@ -103,7 +111,12 @@ module _ {S E : Type 0} (g : Ghosts S) (before now : Held S) (again : Reopens g 
     rows = it.rows;
     sound = it.sound;
     holds = it.holds;
-    those = inr (inr (version, (now, again, has), it.earlier, λ clean. subst (KeepsOldBook version it.rows) (again.trees (it.earlier clean)) (it.found clean)));
+    those = inr (inr (
+      version,
+      (now, again, has),
+      it.earlier,
+      λ clean. let same = again.trees (it.earlier clean) in (subst (KeepsOldBook version it.rows) same (it.found clean), subst (KeepsOnlyOld version it.rows) same (it.only clean)),
+    ));
   }
 
 -- ---- of each connection before it

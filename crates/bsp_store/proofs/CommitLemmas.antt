@@ -15,6 +15,7 @@ use Rattle.bsp_store_save.specs.Kept.{HasCommitted, HasContents}
 use Rattle.bsp_store_save.specs.Calls.{IsKept}
 use Rattle.bsp_store.specs.Meanings.{Holds, meaning}
 use Rattle.bsp_store.specs.declared.book.SqlBook.{SqlBook}
+use Rattle.bsp_store.proofs.BookLemmas.{one_of, same_book}
 use Rattle.bsp_store_save.proofs.TallyLemmas.{content_is, one_content}
 
 -- ---- what the store has, and is to have
@@ -44,13 +45,15 @@ module _ {S : Type 0} (g : Ghosts S) (old new : SqlBook S) where
   has_committed saves works commits now last holds = record {
     works = works;
     listed = commits now last holds.listed;
+    formed = holds.formed;
+    was_formed = holds.formed;
     kept = (content_now old.list.tables, now_of g old now last holds, saves (before_is g old now last holds));
   }
 
   pub leaves_now : Saves new.conn → LeavesEither (meaning g) old new
   leaves_now saves now last holds = λ clean db may.
       let kept = saves (before_is g old now last holds) in
-      inr (content_now old.list.tables, now_of g old now last holds, elim (kept.0.leaves clean db may) [ inl it ↦ it | inr it ↦ it ])
+      inr (same_book now (content_now old.list.tables) holds.formed (now_of g old now last holds) db (one_of (kept.0.leaves clean db may)))
 
   pub keeping : (r : Result (Unit {0}) BookFault) → old.failed ≡ false → Saves new.conn → OnErr r (new.failed ≡ true) → OnOk r ((new.failed ≡ old.failed) × Commits listed old.list new.list) → IsOkUnless r Failed
       → OnOk r (Commits (meaning g) old new) × Faults (meaning g) old new (FallsBack (meaning g) old new) (LeavesEither (meaning g) old new) r
@@ -71,6 +74,8 @@ module _ {S : Type 0} (g : Ghosts S) (old new : SqlBook S) where
     has_fallen_back undone works back now last holds = record {
       works = works;
       listed = back now last holds.listed;
+      formed = holds.was_formed;
+      was_formed = holds.was_formed;
       kept = (content_before old.list.tables, before_of g old now last holds, undone _ _ _ (fell (before_is g old now last holds)));
     }
 
@@ -78,8 +83,8 @@ module _ {S : Type 0} (g : Ghosts S) (old new : SqlBook S) where
     leaves_either stop now last holds = λ clean db may.
         let stands = stop _ _ (fell (before_is g old now last holds)) in
         elim (stands.leaves clean db may) [
-          | inl it ↦ inl (content_before old.list.tables, before_of g old now last holds, it)
-          | inr it ↦ inr (content_now old.list.tables, now_of g old now last holds, it)
+          | inl it ↦ inl (same_book last (content_before old.list.tables) holds.was_formed (before_of g old now last holds) db it)
+          | inr it ↦ inr (same_book now (content_now old.list.tables) holds.formed (now_of g old now last holds) db it)
         ]
 
     pub giving_up : (r : BookFault) → old.failed ≡ false → (r ≡ NoRoom → (new.failed ≡ old.failed) × ((last a b : Content) → HasCommitted form g conn last a b → IsKept g new.conn last) × FallsBack listed old.list new.list)

@@ -37,7 +37,7 @@ module _ {S : Type 0} (g : Ghosts S) where
       earlier = λ clean. again.earlier (left.earlier clean);
       leaves = λ clean db may. elim (left.leaves clean db may) [
         | inl was ↦ inl (inl (was_committed g before now again settled (left.earlier clean) db was))
-        | inr made ↦ inr (inl ((now, again, bare), made))
+        | inr made ↦ inr (inl ((now, again, bare), left.earlier clean, made))
       ];
     }
 
@@ -61,7 +61,7 @@ module _ {S : Type 0} (g : Ghosts S) where
         earlier = λ clean. again.earlier (left.earlier clean);
         leaves = λ clean db may. elim (left.leaves clean db may) [
           | inl was ↦ inl (inl (was_committed g before now again settled (left.earlier clean) db was))
-          | inr made ↦ inr (inr (version, (now, again, has), subst (λ (old : Trees). IsMigrationOf version old db) (again.trees (left.earlier clean)) made))
+          | inr made ↦ inr (inr (version, (now, again, has), left.earlier clean, subst (λ (old : Trees). IsMigrationOf version old db) (again.trees (left.earlier clean)) made))
         ];
       }
 

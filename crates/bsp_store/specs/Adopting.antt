@@ -9,10 +9,11 @@ use Rattle.bsp_rows.specs.Rows.{Rows, no_rows}
 use Rattle.bsp_rows.specs.Sound.{Sound}
 use Rattle.bsp_store_open.specs.Contents.{KeepsBook}
 use Rattle.bsp_store_open.specs.Faults.{is_refusal}
-use Rattle.bsp_store_open.specs.Opening.{IsAskedVersion, IsNoBook, Reopens}
+use Rattle.bsp_store_open.specs.Formed.{IsBook}
+use Rattle.bsp_store_open.specs.Opening.{IsAskedVersion, IsNoBook, KeepsOnly, Reopens}
 use Rattle.bsp_store_open.specs.Schema.{no_schema, our_schema}
 use Rattle.bsp_store_open.specs.declared.fault.OpenFault.{OpenFault}
-use Rattle.bsp_store_migration.specs.Migrating.{IsMigrationOf, KeepsOldBook, ShowsNoOldBook}
+use Rattle.bsp_store_migration.specs.Migrating.{IsMigrationOf, KeepsOldBook, KeepsOnlyOld, ShowsNoOldBook}
 use Rattle.bsp_store_migration.specs.Old.{old_schema}
 use Rattle.bsp_store_migration.specs.OldVersion.{OldVersion}
 use Rattle.bsp_store.specs.Meanings.{Holds}
@@ -28,6 +29,7 @@ module _ {S : Type 0} (g : Ghosts S) where
     pub holds : Holds g book rows None
     pub earlier : HasCleanDisk (state g book.conn) → HasCleanDisk (state g h)
     pub found : HasCleanDisk (state g book.conn) → KeepsBook rows (state g h).now.trees
+    pub only : HasCleanDisk (state g book.conn) → KeepsOnly rows (state g h).now.trees
 
   -- the same of tables that kept them as a book of an earlier version
   pub record IsMigratedIn (version : OldVersion) (h : Held S) (book : SqlBook S) : Type 0 where
@@ -36,6 +38,7 @@ module _ {S : Type 0} (g : Ghosts S) where
     pub holds : Holds g book rows None
     pub earlier : HasCleanDisk (state g book.conn) → HasCleanDisk (state g h)
     pub found : HasCleanDisk (state g book.conn) → KeepsOldBook version rows (state g h).now.trees
+    pub only : HasCleanDisk (state g book.conn) → KeepsOnlyOld version rows (state g h).now.trees
 
   -- a stop leaves of a store that is given up what it left before, or the whole of the book that was migrated
   pub record LeavesMigrated (version : OldVersion) (h : Held S) (left : S) : Type 0 where
@@ -52,13 +55,20 @@ module _ {S : Type 0} (g : Ghosts S) where
   abbrev pub WasOld : OldVersion → Held S → Type 0
   WasOld version h = (now : Held S) × Reopens g h now × ((state g now).now.schema ≡ old_schema version)
 
-  -- the rows are those that the store kept as a book of an earlier version, whose tables it showed
-  abbrev pub AreMigrated : Held S → Held S → Rows → Type 0
-  AreMigrated before after rows = (version : OldVersion) × (old : WasOld version before) × (HasCleanDisk (state g after) → HasCleanDisk (state g old.0)) × (HasCleanDisk (state g after) → KeepsOldBook version rows (state g before).committed.trees)
+  -- the rows are none, in a store that was bare
+  abbrev pub AreNone : Held S → Held S → Rows → Type 0
+  AreNone before after rows = (bare : WasBare before) × (HasCleanDisk (state g after) → HasCleanDisk (state g bare.0)) × (rows ≡ no_rows)
 
-  -- the rows are those that the store kept, or none, in a store that was bare
+  -- the rows are those that the store kept, and no others, as a book of an earlier version, whose tables it showed
+  abbrev pub AreMigrated : Held S → Held S → Rows → Type 0
+  AreMigrated before after rows =
+      (version : OldVersion) × (old : WasOld version before) × (HasCleanDisk (state g after) → HasCleanDisk (state g old.0))
+      × (HasCleanDisk (state g after) → KeepsOldBook version rows (state g before).committed.trees × KeepsOnlyOld version rows (state g before).committed.trees)
+
+  -- the rows are those that the store kept, and no others, as a book of this version or of an earlier one, or none, in a
+  -- store that was bare
   abbrev pub AreThoseOf : Held S → Held S → Rows → Type 0
-  AreThoseOf before after rows = (HasCleanDisk (state g after) → KeepsBook rows (state g before).committed.trees) ⊎ ((WasBare before × (rows ≡ no_rows)) ⊎ AreMigrated before after rows)
+  AreThoseOf before after rows = (HasCleanDisk (state g after) → KeepsBook rows (state g before).committed.trees × KeepsOnly rows (state g before).committed.trees) ⊎ (AreNone before after rows ⊎ AreMigrated before after rows)
 
   -- the book has sound rows, those of the store
   pub record Adopts (h : Held S) (book : SqlBook S) : Type 0 where
@@ -83,7 +93,7 @@ module _ {S : Type 0} (g : Ghosts S) where
   -- the trees have the whole of a new book: an empty one where the store, opened again, showed no table, and the migrated
   -- one where it showed those of an earlier version
   abbrev pub IsNewBookOf : Held S → Trees → Type 0
-  IsNewBookOf h db = (WasBare h × KeepsBook no_rows db) ⊎ ((version : OldVersion) × WasOld version h × IsMigrationOf version (state g h).committed.trees db)
+  IsNewBookOf h db = ((bare : WasBare h) × HasCleanDisk (state g bare.0) × IsBook no_rows db) ⊎ ((version : OldVersion) × (old : WasOld version h) × HasCleanDisk (state g old.0) × IsMigrationOf version (state g h).committed.trees db)
 
   -- a stop leaves what was committed, what it left before, or the whole of a new book
   pub record LeavesWhole (h : Held S) (left : S) : Type 0 where

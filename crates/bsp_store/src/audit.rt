@@ -1,11 +1,17 @@
 //! The audit of a book, which changes nothing in its store.
 
 ghost use Rattle.std.specs.Prelude.{◌≡◌, IfErr, IfOk, IfSome, None, true};
+ghost use Rattle.sqlite.specs.Files.{file_state, over_files};
+ghost use Rattle.sqlite.specs.Held.{Held};
+ghost use Rattle.sqlite.specs.Start.{FindsIn};
+ghost use Rattle.sqlite.specs.State.{HasCleanDisk};
+ghost use Rattle.sqlite_wal.specs.Files.{image_at};
 ghost use Rattle.bsp_rows.specs.Rows.{Rows};
 ghost use Rattle.bsp_book.specs.Listed.{Holds as ListHolds};
 ghost use Rattle.bsp_store_save.specs.Kept.{Spares};
 ghost use Rattle.bsp_store_open.specs.Faults.{is_refusal};
 ghost use Rattle.bsp_store_open.specs.Opening.{IsOrdered, LeavesCommitted};
+ghost use Rattle.bsp_store.specs.Files.{StoreFrom};
 ghost use Rattle.bsp_store.specs.Auditing.{HasNone, IsAudited, IsCounted, IsSummaryOf, ShowsNumber, WasRefused, fault_in};
 
 use crate::missing_log::MissingLog;
@@ -165,8 +171,12 @@ fn audited_alone<S: Alter + Drop>(
 ///
 /// # Errors
 ///
-/// As those of [`audit_store`], which it calls over the files. A file that is not opened is `Failed`.
-pub fn audit_at<T: Start>(rt: &HostRuntime, path: &str, start: T) -> Result<Summary, AuditFault> {
+/// As those of [`audit_store`], which it calls over the files. A file that is not opened is `Failed`. No clause ties what
+/// the files hold to the path.
+pub fn audit_at<T: Start>(rt: &HostRuntime, path: &str, start: T) -> Result<Summary, AuditFault>
+    ensures ok { IfOk result (λ summary. (conn : Held (StoreFrom T.Start)) × (left : StoreFrom T.Start) × (HasCleanDisk (file_state conn) → FindsIn (image_at T.Start) (file_state conn)) × IsAudited over_files conn left summary × LeavesCommitted over_files conn left) }
+    ensures refused { IfErr result (λ e. is_refusal (fault_in e) ≡ true → (conn : Held (StoreFrom T.Start)) × (left : StoreFrom T.Start) × (HasCleanDisk (file_state conn) → FindsIn (image_at T.Start) (file_state conn)) × WasRefused over_files (fault_in e) conn left × LeavesCommitted over_files conn left) }
+{
     let log = match MissingLog::of(rt, path) {
         Ok(log) => log,
         Err(fault) => return Err(AuditFault::Failed(fault)),

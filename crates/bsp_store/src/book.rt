@@ -3,6 +3,8 @@
 ghost use Rattle.std.specs.Prelude.{◌≡◌, ◌⊎◌, ◌↔◌, IsOkUnless, IsTrue, None, OnErr, OnOk, Some, false, true};
 ghost use Rattle.bsp_book.specs.Calls.{Commits, FallsBack};
 ghost use Rattle.bsp_book.specs.Listed.{meaning as listed};
+ghost use Rattle.bsp_rows.specs.Rows.{HasNumberKey, key_of};
+ghost use Rattle.bsp_store_open.specs.Formed.{IsFormedItem};
 ghost use Rattle.bsp_store_save.specs.Content.{Content, form};
 ghost use Rattle.bsp_store_save.specs.Kept.{HasCommitted, HasContents};
 ghost use Rattle.bsp_store_save.specs.Calls.{IsKept};
@@ -10,7 +12,11 @@ ghost use Rattle.bsp_store_save.specs.Calls.{IsKept};
 use bsp_book::{Book, BookFault, ListBook};
 use bsp_rows::{
     AgentCode, AirlineCode, Change, Day, Item, ItemKey, Items, Memo, MemoKey, Memos, PeriodCode,
-    Plan, PlanFault, PlanText, Range, Tallies, Tally, TallyKey, Token, Transaction,
+    Plan, PlanFault, PlanText, Range, RangeKey, Tallies, Tally, TallyKey, Token, Transaction,
+};
+use bsp_store_open::{
+    formed_agent, formed_airline, formed_closed, formed_day, formed_item, formed_memo,
+    formed_period, formed_plan, formed_range,
 };
 use bsp_store_save::{recover, save};
 use sqlite::{Alter, Connection, Error, ErrorCode};
@@ -38,6 +44,17 @@ fn is_room(error: &Error) -> bool
         error,
         Error::SqliteFailure(ErrorCode::OutOfMemory | ErrorCode::TooBig)
     )
+}
+
+/// What the types of an item say of it, under the key of its number.
+fn formed_under_key(item: &Item)
+    requires { HasNumberKey item.now }
+    ensures { IsFormedItem (key_of item.now, item.now) }
+{
+    let Some(key) = ItemKey::of(item) else {
+        unreachable!()
+    };
+    formed_item(key, *item);
 }
 
 impl<S: Alter> SqlBook<S> {
@@ -119,7 +136,7 @@ impl<S: Alter> Book for SqlBook<S> {
 
     ghost means = { meaning S.Store };
 
-    ghost settled = { λ book now begun holds clean db may. elim (holds.kept.2.0.leaves clean db may) [ inl a ↦ inl (holds.kept.0, holds.kept.1, a) | inr b ↦ inl (holds.kept.0, holds.kept.1, b) ] };
+    ghost settled = { λ book now begun holds clean db may. elim (holds.kept.2.0.leaves clean db may) [ inl a ↦ inl (record { formed = holds.was_formed; keeps = (holds.kept.0, holds.kept.1, a.0); sound = a.1 }) | inr b ↦ inl (record { formed = holds.was_formed; keeps = (holds.kept.0, holds.kept.1, b.0); sound = b.1 }) ] };
 
     ghost wider = { λ book a b one clean db may. elim (one clean db may) [ inl it ↦ inl it | inr it ↦ inl it ] };
 
@@ -258,6 +275,7 @@ impl<S: Alter> Book for SqlBook<S> {
         if self.failed {
             return Err(BookFault::Failed);
         }
+        formed_agent(agent, token);
         self.list.set_agent_token(agent, token)
     }
 
@@ -265,6 +283,7 @@ impl<S: Alter> Book for SqlBook<S> {
         if self.failed {
             return Err(BookFault::Failed);
         }
+        formed_airline(airline, token);
         self.list.set_airline_token(airline, token)
     }
 
@@ -272,6 +291,7 @@ impl<S: Alter> Book for SqlBook<S> {
         if self.failed {
             return Err(BookFault::Failed);
         }
+        formed_range(RangeKey::of(agent, &range), range.last);
         self.list.add_range(agent, range)
     }
 
@@ -286,6 +306,7 @@ impl<S: Alter> Book for SqlBook<S> {
         if self.failed {
             return Err(BookFault::Failed);
         }
+        formed_under_key(item);
         self.list.add_item(item)
     }
 
@@ -300,6 +321,7 @@ impl<S: Alter> Book for SqlBook<S> {
         if self.failed {
             return Err(BookFault::Failed);
         }
+        formed_memo(MemoKey::of(memo.fields()), *memo.fields());
         self.list.add_memo(memo)
     }
 
@@ -307,6 +329,7 @@ impl<S: Alter> Book for SqlBook<S> {
         if self.failed {
             return Err(BookFault::Failed);
         }
+        formed_memo(MemoKey::of(memo.fields()), *memo.fields());
         self.list.set_memo(memo)
     }
 
@@ -314,6 +337,7 @@ impl<S: Alter> Book for SqlBook<S> {
         if self.failed {
             return Err(BookFault::Failed);
         }
+        formed_period(period);
         self.list.bill(key, period)
     }
 
@@ -321,13 +345,16 @@ impl<S: Alter> Book for SqlBook<S> {
         if self.failed {
             return Err(BookFault::Failed);
         }
-        self.list.publish(text)
+        let answer = self.list.publish(text);
+        formed_plan(self.list.plan());
+        answer
     }
 
     fn set_day(&mut self, day: Day) -> Result<Result<Change, PlanFault>, BookFault> {
         if self.failed {
             return Err(BookFault::Failed);
         }
+        formed_day(day);
         self.list.set_day(day)
     }
 
@@ -335,6 +362,8 @@ impl<S: Alter> Book for SqlBook<S> {
         if self.failed {
             return Err(BookFault::Failed);
         }
-        self.list.close(code)
+        let answer = self.list.close(code);
+        formed_closed(self.list.plan());
+        answer
     }
 }

@@ -3,6 +3,7 @@
 
 mod audit;
 mod book;
+mod laws;
 mod logged;
 mod missing_log;
 mod opening;
@@ -11,4 +12,5 @@ pub use audit::{AuditFault, Summary, audit_at, audit_store};
 pub use book::SqlBook;
 pub use bsp_store_damage::Damage;
 pub use bsp_store_open::OpenFault;
+pub use laws::stops_are_found;
 pub use opening::damage_at;

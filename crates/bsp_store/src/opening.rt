@@ -17,6 +17,7 @@ ghost use Rattle.bsp_store_migration.specs.Old.{old_schema};
 ghost use Rattle.bsp_store_migration.specs.OldVersion.{OldVersion};
 ghost use Rattle.bsp_store.specs.Meanings.{Holds};
 ghost use Rattle.bsp_store.specs.Adopting.{Adopts, IfRefused, IsFoundIn, IsMigratedIn, LeavesMigrated, LeavesWhole, Refuses, ShowsNone, WasNoBook};
+ghost use Rattle.bsp_store.specs.Stops.{FindsBook};
 
 use crate::book::SqlBook;
 use crate::logged::Logged;
@@ -69,6 +70,7 @@ fn empty_book<S: Alter + Drop>(
     conn: Connection<S>,
 ) -> Result<SqlBook<S>, (OpenFault, S)>
     ensures ok { IfOk result (λ book. Holds S.Store book no_rows None) }
+    ensures earlier { IfOk result (λ book. HasCleanDisk (state S.Store book.conn) → HasCleanDisk (state S.Store conn)) }
     ensures left { IfErr result (λ e. LeavesCommitted S.Store conn e.1) }
 {
     let mut conn = again(alloc, conn)?;
@@ -86,6 +88,7 @@ fn new_book<S: Alter + Drop>(
     requires bare { (state S.Store conn).now.schema ≡ no_schema }
     requires outside { conn.in_transaction ≡ false }
     ensures ok { IfOk result (λ book. Holds S.Store book no_rows None) }
+    ensures earlier { IfOk result (λ book. HasCleanDisk (state S.Store book.conn) → HasCleanDisk (state S.Store conn)) }
     ensures left { IfErr result (λ e. LeavesEmptyBook S.Store conn e.1) }
 {
     match make_book(&mut conn) {
@@ -169,6 +172,10 @@ impl<S: Alter + Drop> SqlBook<S> {
     /// The connection is opened again over its store, which rolls back a transaction that is open on it and tests the
     /// whole store once more.
     ///
+    /// Where the connection shows what a stop left of a book with sound rows, of this version or of an earlier one, as
+    /// `stops_are_found` says, the book that is opened has these rows, and `OtherVersion` and `Damaged` are not answered
+    /// while the disk is clean.
+    ///
     /// # Errors
     ///
     /// Each comes with the store. `OtherVersion`, where `meta` has another version than that of its tables. `Damaged`, where
@@ -178,6 +185,7 @@ impl<S: Alter + Drop> SqlBook<S> {
         ensures ok { IfOk result (Adopts S.Store conn) }
         ensures refused { IfErr result (λ e. is_refusal e.0 ≡ true → WasNoBook S.Store e.0 conn e.1) }
         ensures left { IfErr result (λ e. LeavesWhole S.Store conn e.1) }
+        ensures stops { FindsBook S.Store conn result }
     {
         let conn = again_ordered(alloc, conn)?;
         opened(alloc, conn)

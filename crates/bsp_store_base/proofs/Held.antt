@@ -15,10 +15,10 @@ use Rattle.sqlite.specs.Held.{Held, state}
 use Rattle.sqlite.specs.Clock.{timed}
 use Rattle.sqlite.proofs.Callers.{runs_as, IsPlain, command_of, statement_of, never_commits}
 use Rattle.sqlite.specs.Listing.{understood}
-use Rattle.bsp_store_base.specs.Kept.{Form, Keeps, KeepsRows, HasContents, HasCommitted, IsInside, IsOutside}
+use Rattle.bsp_store_base.specs.Kept.{AreTreesOf, Form, Keeps, KeepsSound, HasContents, HasCommitted, IsInside, IsOutside}
 use Rattle.bsp_store_base.proofs.Ends.{ends_any}
 use Rattle.bsp_store_base.proofs.Ending.{refused, quiet, begins, commits, undoes, begin_commits_nothing, commits_now}
-use Rattle.sqlite.specs.Effect.{Database}
+use Rattle.sqlite.specs.Effect.{Database, IsDatabase}
 
 runs_open : (old new : State) (returning : Option Returning) (k : Command) (text : List ℕ) (params : Row) (count : ℕ) → IsTrue new.is_open → Runs old new returning k text params count → IsTrue old.is_open
 runs_open old new returning (Select q names) text params count is h = absurd h
@@ -79,6 +79,10 @@ refused_query sql params old new e (inr (c, it, shows)) = go c.returning shows
     go (Some what) (inr fails) = inr fails.3
 
 module _ {C : Type 0} (form : Form C) where
+  -- the trees of a database that keeps a content
+  pub trees_of : (c : C) (db : Database) → KeepsSound form c db → AreTreesOf form c db.trees
+  trees_of c db keeps = (keeps.0.kept, subst (λ s. IsDatabase (record { schema = s; trees = db.trees })) keeps.0.schema keeps.1)
+
   module _ {S : Type 0} (g : Ghosts S) (old new : Held S) where
     earlier : {P : Trees → Type 0} → Survives (state g old) (state g new) P → HasCleanDisk (state g new) → HasCleanDisk (state g old)
     earlier kept clean = omega (arith, kept.clean)
@@ -90,9 +94,9 @@ module _ {C : Type 0} (form : Form C) where
         (r : Result ℕ Error) (kept : Survives (state g old) (state g new) (CommitsBy sql params (state g old))) (ran : HasCleanDisk (state g new) → Executes sql params (state g old) (state g new) r)
         (now last a b : C) (stands : HasContents form g old now last a b) (inside : IsInside form g old) where
       as_known : HasCleanDisk (state g old) → command_of (understood old.schema sql) ≡ command
-      as_known clean = ap (λ s. command_of (understood s sql)) (stands.held clean (inside clean).1).schema ∙ known
+      as_known clean = ap (λ s. command_of (understood s sql)) (stands.held clean (inside clean).1).0.schema ∙ known
 
-      pub left : HasCleanDisk (state g new) → (db : Trees) → (state g new).may_leave db → KeepsRows form a db ⊎ KeepsRows form b db
+      pub left : HasCleanDisk (state g new) → (db : Trees) → (state g new).may_leave db → AreTreesOf form a db ⊎ AreTreesOf form b db
       left clean db may = elim (kept.crash clean db may) [
         | inl before ↦ stands.leaves (earlier kept clean) db before
         | inr made ↦ absurd (quiet sql params (state g old) db command (as_known (earlier kept clean)) no_commit no_release (inside (earlier kept clean)).0 made)
@@ -101,8 +105,8 @@ module _ {C : Type 0} (form : Form C) where
       pub falls : (e : Error) → r ≡ Err e → HasCommitted form g new last a b
       falls e is = record {
         kept = λ clean now_open. elim (refused sql params _ _ e (rw is at (ran clean))) [
-          | inl same ↦ subst (Keeps form last) (sym same.0.committed_is) (stands.kept (earlier kept clean) same.0.was_open)
-          | inr back ↦ subst (Keeps form last) (sym (back.undone now_open).1) (stands.kept (earlier kept clean) (back.was_open now_open))
+          | inl same ↦ subst (KeepsSound form last) (sym same.0.committed_is) (stands.kept (earlier kept clean) same.0.was_open)
+          | inr back ↦ subst (KeepsSound form last) (sym (back.undone now_open).1) (stands.kept (earlier kept clean) (back.was_open now_open))
         ];
         leaves = left;
         steady = λ clean within. elim (refused sql params _ _ e (rw is at (ran clean))) [ inl same ↦ same.0.is_open | inr back ↦ absurd (both_ways _ back.autocommit within) ];
@@ -113,8 +117,8 @@ module _ {C : Type 0} (form : Form C) where
       goes_on returning text full count w next made =
           let still = λ (clean : HasCleanDisk (state g new)). (inside (earlier kept clean)).0 in (
             record {
-              held = made;
-              kept = λ clean is. subst (Keeps form last) (sym ((w clean).shown.committed_is ∙ ap (λ b. cond b (state g old).committed (state g new).now) (still clean))) (stands.kept (earlier kept clean) (w clean).shown.was_open);
+              held = λ clean is. (made clean is, (w clean).sound);
+              kept = λ clean is. subst (KeepsSound form last) (sym ((w clean).shown.committed_is ∙ ap (λ b. cond b (state g old).committed (state g new).now) (still clean))) (stands.kept (earlier kept clean) (w clean).shown.was_open);
               leaves = left;
             },
             λ clean. ((w clean).shown.mode ∙ still clean, (w clean).shown.is_open),
@@ -132,8 +136,8 @@ module _ {C : Type 0} (form : Form C) where
       λ now last a b may stands inside.
           let was = λ (clean : HasCleanDisk (state g new)). stands.held (earlier kept clean) (inside (earlier kept clean)).1 in
           goes_on sql params command known no_commit no_release (Ok n) kept ran now last a b stands inside None _ _ n
-          (λ clean. silent (state g old) (state g new) n (runs_as sql params (state g old) (state g new) form.schema (was clean).schema command known plain n (ran clean))) (after now)
-          (λ clean is. made now n may (was clean) (ran clean)),
+          (λ clean. silent (state g old) (state g new) n (runs_as sql params (state g old) (state g new) form.schema (was clean).0.schema command known plain n (ran clean))) (after now)
+          (λ clean is. made now n may (was clean).0 (ran clean)),
       tt,
     )
 
@@ -146,8 +150,8 @@ module _ {C : Type 0} (form : Form C) where
       tt,
       λ now a b stands outside. record {
         kept = λ clean now_open. elim (refused _ _ _ _ e (ran clean)) [
-          | inl same ↦ subst (Keeps form now) (sym same.0.committed_is) (stands.kept (earlier kept clean) same.0.was_open)
-          | inr back ↦ subst (Keeps form now) (sym (back.undone now_open).1) (stands.kept (earlier kept clean) (back.was_open now_open))
+          | inl same ↦ subst (KeepsSound form now) (sym same.0.committed_is) (stands.kept (earlier kept clean) same.0.was_open)
+          | inr back ↦ subst (KeepsSound form now) (sym (back.undone now_open).1) (stands.kept (earlier kept clean) (back.was_open now_open))
         ];
         leaves = λ clean db may. elim (kept.crash clean db may) [ inl before ↦ stands.leaves (earlier kept clean) db before | inr made ↦ absurd (begin_commits_nothing _ db made) ];
         steady = λ clean within. elim (refused _ _ _ _ e (ran clean)) [ inl same ↦ same.0.is_open | inr back ↦ absurd (both_ways _ back.autocommit within) ];
@@ -157,8 +161,8 @@ module _ {C : Type 0} (form : Form C) where
       λ now a b stands.
           let shown = λ (clean : HasCleanDisk (state g new)). begins _ _ n (ran clean) in (
             record {
-              held = λ clean is. subst (Keeps form now) (sym (shown clean).now_is) (stands.held (earlier kept clean) (shown clean).was_open);
-              kept = λ clean is. subst (Keeps form now) (sym (shown clean).committed_is) (stands.kept (earlier kept clean) (shown clean).was_open);
+              held = λ clean is. subst (KeepsSound form now) (sym (shown clean).now_is) (stands.held (earlier kept clean) (shown clean).was_open);
+              kept = λ clean is. subst (KeepsSound form now) (sym (shown clean).committed_is) (stands.kept (earlier kept clean) (shown clean).was_open);
               leaves = λ clean db may. elim (kept.crash clean db may) [ inl before ↦ stands.leaves (earlier kept clean) db before | inr made ↦ absurd (begin_commits_nothing _ db made) ];
             },
             λ clean. ((shown clean).mode, (shown clean).is_open),
@@ -174,12 +178,12 @@ module _ {C : Type 0} (form : Form C) where
       tt,
       λ now last stands inside. record {
         kept = λ clean now_open. elim (refused _ _ _ _ e (ran clean)) [
-          | inl same ↦ subst (Keeps form last) (sym same.0.committed_is) (stands.kept (earlier kept clean) same.0.was_open)
-          | inr back ↦ subst (Keeps form last) (sym (back.undone now_open).1) (stands.kept (earlier kept clean) (back.was_open now_open))
+          | inl same ↦ subst (KeepsSound form last) (sym same.0.committed_is) (stands.kept (earlier kept clean) same.0.was_open)
+          | inr back ↦ subst (KeepsSound form last) (sym (back.undone now_open).1) (stands.kept (earlier kept clean) (back.was_open now_open))
         ];
         leaves = λ clean db may. elim (kept.crash clean db may) [
           | inl before ↦ elim (stands.leaves (earlier kept clean) db before) [ inl it ↦ inl it | inr it ↦ inl it ]
-          | inr made ↦ let was = inside (earlier kept clean) in inr (subst (KeepsRows form now) (sym (commits_now _ _ _ db was.0 made)) (stands.held (earlier kept clean) was.1).kept)
+          | inr made ↦ let was = inside (earlier kept clean) in inr (subst (AreTreesOf form now) (sym (commits_now _ _ _ db was.0 made)) (trees_of now _ (stands.held (earlier kept clean) was.1)))
         ];
         steady = λ clean within. elim (refused _ _ _ _ e (ran clean)) [ inl same ↦ same.0.is_open | inr back ↦ absurd (both_ways _ back.autocommit within) ];
       },
@@ -189,9 +193,9 @@ module _ {C : Type 0} (form : Form C) where
           let shown = λ (clean : HasCleanDisk (state g new)). commits _ _ n (ran clean) in
           let was = λ (clean : HasCleanDisk (state g new)). stands.held (earlier kept clean) (shown clean).was_open in (
             record {
-              held = λ clean is. subst (Keeps form now) (sym (shown clean).now_is) (was clean);
-              kept = λ clean is. subst (Keeps form now) (sym (shown clean).committed_is) (was clean);
-              leaves = λ clean db may. inl (subst (KeepsRows form now) (sym (settled db (shown clean).is_open may ∙ ap (λ (d : Database). d.trees) (shown clean).committed_is)) (was clean).kept);
+              held = λ clean is. subst (KeepsSound form now) (sym (shown clean).now_is) (was clean);
+              kept = λ clean is. subst (KeepsSound form now) (sym (shown clean).committed_is) (was clean);
+              leaves = λ clean db may. inl (subst (AreTreesOf form now) (sym (settled db (shown clean).is_open may ∙ ap (λ (d : Database). d.trees) (shown clean).committed_is)) (trees_of now _ (was clean)));
             },
             λ clean. (shown clean).mode,
           ),
@@ -204,8 +208,8 @@ module _ {C : Type 0} (form : Form C) where
     undoes_on r kept ran inside last a b fallen =
         let back = λ (clean : HasCleanDisk (state g new)). undoes _ _ r inside (ran clean) in (
           record {
-            held = λ clean is. subst (Keeps form last) (sym ((back clean).undone is).0) (fallen.kept (earlier kept clean) ((back clean).was_open is));
-            kept = λ clean is. subst (Keeps form last) (sym ((back clean).undone is).1) (fallen.kept (earlier kept clean) ((back clean).was_open is));
+            held = λ clean is. subst (KeepsSound form last) (sym ((back clean).undone is).0) (fallen.kept (earlier kept clean) ((back clean).was_open is));
+            kept = λ clean is. subst (KeepsSound form last) (sym ((back clean).undone is).1) (fallen.kept (earlier kept clean) ((back clean).was_open is));
             leaves = λ clean db may. elim (kept.crash clean db may) [
               | inl before ↦ fallen.leaves (earlier kept clean) db before
               | inr made ↦ absurd (quiet (codes "ROLLBACK") [] (state g old) db Rollback (ends_any _).1.1 (λ is. cc) (λ name is. cc) inside made)
@@ -218,7 +222,7 @@ module _ {C : Type 0} (form : Form C) where
   pub nothing_to_undo : {S : Type 0} (g : Ghosts S) (h : Held S) → h.in_transaction ≡ false → (IsTrue (state g h).is_open → (state g h).now ≡ (state g h).committed) → (last a b : C) → HasCommitted form g h last a b
       → HasContents form g h last last a b × IsOutside form g h
   nothing_to_undo g h outside settled last a b fallen =
-      (record { held = λ clean is. subst (Keeps form last) (sym (settled is)) (fallen.kept clean is); kept = fallen.kept; leaves = fallen.leaves }, λ clean. outside)
+      (record { held = λ clean is. subst (KeepsSound form last) (sym (settled is)) (fallen.kept clean is); kept = fallen.kept; leaves = fallen.leaves }, λ clean. outside)
 
   -- while the store is open a stop leaves the last commit
   pub stops_settled : {S : Type 0} (g : Ghosts S) (h : Held S) → ((db : Trees) → IsTrue (state g h).is_open → (state g h).may_leave db → db ≡ (state g h).committed.trees) → IsInside form g h
@@ -226,7 +230,7 @@ module _ {C : Type 0} (form : Form C) where
   stops_settled g h settled inside now last a b stands = record {
     held = stands.held;
     kept = stands.kept;
-    leaves = λ clean db may. inl (subst (KeepsRows form last) (sym (settled db (inside clean).1 may)) (stands.kept clean (inside clean).1).kept);
+    leaves = λ clean db may. inl (subst (AreTreesOf form last) (sym (settled db (inside clean).1 may)) (trees_of last _ (stands.kept clean (inside clean).1)));
   }
 
   pub fallen_from : {S : Type 0} (g : Ghosts S) (h : Held S) → IsInside form g h → (now last a b : C) → HasContents form g h now last a b → HasCommitted form g h last a b
@@ -248,9 +252,9 @@ module _ {C : Type 0} (form : Form C) where
 
     module _ (now last a b : C) (stands : HasContents form g old now last a b) (inside : IsInside form g old) where
       plain : HasCleanDisk (state g new) → IsPlain (understood (state g old).now.schema sql)
-      plain clean = subst (λ s. IsPlain (understood s sql)) (sym (stands.held (before_it clean) (inside (before_it clean)).1).schema) is_plain
+      plain clean = subst (λ s. IsPlain (understood s sql)) (sym (stands.held (before_it clean) (inside (before_it clean)).1).0.schema) is_plain
 
-      still : HasCleanDisk (state g new) → (db : Trees) → (state g new).may_leave db → KeepsRows form a db ⊎ KeepsRows form b db
+      still : HasCleanDisk (state g new) → (db : Trees) → (state g new).may_leave db → AreTreesOf form a db ⊎ AreTreesOf form b db
       still clean db may = elim (kept.crash clean db may) [
         | inl before ↦ stands.leaves (before_it clean) db before
         | inr made ↦ absurd (never_commits sql params (state g old) db (plain clean) made)
@@ -260,8 +264,8 @@ module _ {C : Type 0} (form : Form C) where
       looked rows shown =
           let same = λ (clean : HasCleanDisk (state g new)). unchanged_by sql params (state g old) (state g new) rows (plain clean) (shown clean) in (
             record {
-              held = λ clean is. subst (Keeps form now) (sym (same clean).0.now_is) (stands.held (before_it clean) (same clean).0.was_open);
-              kept = λ clean is. subst (Keeps form last) (sym (same clean).0.committed_is) (stands.kept (before_it clean) (same clean).0.was_open);
+              held = λ clean is. subst (KeepsSound form now) (sym (same clean).0.now_is) (stands.held (before_it clean) (same clean).0.was_open);
+              kept = λ clean is. subst (KeepsSound form last) (sym (same clean).0.committed_is) (stands.kept (before_it clean) (same clean).0.was_open);
               leaves = still;
             },
             λ clean. ((same clean).0.mode ∙ (inside (before_it clean)).0, (same clean).0.is_open),
@@ -270,8 +274,8 @@ module _ {C : Type 0} (form : Form C) where
       pub failed : (e : Error) → (HasCleanDisk (state g new) → FailsToQuery sql params (state g old) (state g new) e) → HasCommitted form g new last a b
       failed e fails = record {
         kept = λ clean now_open. elim (refused_query sql params _ _ e (fails clean)) [
-          | inl same ↦ subst (Keeps form last) (sym same.0.committed_is) (stands.kept (before_it clean) same.0.was_open)
-          | inr back ↦ subst (Keeps form last) (sym (back.undone now_open).1) (stands.kept (before_it clean) (back.was_open now_open))
+          | inl same ↦ subst (KeepsSound form last) (sym same.0.committed_is) (stands.kept (before_it clean) same.0.was_open)
+          | inr back ↦ subst (KeepsSound form last) (sym (back.undone now_open).1) (stands.kept (before_it clean) (back.was_open now_open))
         ];
         leaves = still;
         steady = λ clean within. elim (refused_query sql params _ _ e (fails clean)) [ inl same ↦ same.0.is_open | inr back ↦ absurd (both_ways _ back.autocommit within) ];

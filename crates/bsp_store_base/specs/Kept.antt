@@ -6,7 +6,7 @@ use Rattle.sqlite_trees.specs.Tree.{Trees, IsTable, rowid}
 use Rattle.sqlite_trees.specs.View.{is_int}
 use Rattle.sqlite_trees.specs.declared.store.Store.{Ghosts}
 use Rattle.sqlite_schema.specs.declared.schema.Schema.{Schema}
-use Rattle.sqlite.specs.Effect.{Database}
+use Rattle.sqlite.specs.Effect.{Database, IsDatabase}
 use Rattle.sqlite.specs.State.{HasCleanDisk}
 use Rattle.sqlite.specs.Held.{Held, state}
 
@@ -41,6 +41,14 @@ module _ {C : Type 0} (form : Form C) where
     pub schema : db.schema ≡ form.schema
     pub kept : KeepsRows c db.trees
 
+  -- and the trees list the schema and obey it
+  abbrev pub KeepsSound : C → Database → Type 0
+  KeepsSound c db = Keeps c db × IsDatabase db
+
+  -- trees that list the schema of the tables and obey it, and keep a content
+  abbrev pub AreTreesOf : C → Trees → Type 0
+  AreTreesOf c trees = KeepsRows c trees × IsDatabase (record { schema = form.schema; trees = trees })
+
   -- the second content has these rows in the table, and what the first has in each other table
   abbrev pub HasRowsNow : ℕ → C → C → List Row → Type 0
   HasRowsNow tree old new rows = AllByRecursion (λ (p : Part C). MatchBool (p.tree == tree) (IsPermutation (p.rows new) rows) (p.rows new ≡ p.rows old)) form.parts
@@ -48,15 +56,15 @@ module _ {C : Type 0} (form : Form C) where
   module _ {S : Type 0} (g : Ghosts S) (h : Held S) where
     -- the last commit left one content, and a stop leaves one of two; a transaction that is open is to be given up
     pub record HasCommitted (last a b : C) : Type 0 where
-      pub kept : HasCleanDisk (state g h) → IsTrue (state g h).is_open → Keeps last (state g h).committed
-      pub leaves : HasCleanDisk (state g h) → (db : Trees) → (state g h).may_leave db → KeepsRows a db ⊎ KeepsRows b db
+      pub kept : HasCleanDisk (state g h) → IsTrue (state g h).is_open → KeepsSound last (state g h).committed
+      pub leaves : HasCleanDisk (state g h) → (db : Trees) → (state g h).may_leave db → AreTreesOf a db ⊎ AreTreesOf b db
       pub steady : HasCleanDisk (state g h) → IsTrue (state g h).in_transaction → IsTrue (state g h).is_open
 
     -- the connection shows one content, the last commit left another, and a stop leaves one of two
     pub record HasContents (now last a b : C) : Type 0 where
-      pub held : HasCleanDisk (state g h) → IsTrue (state g h).is_open → Keeps now (state g h).now
-      pub kept : HasCleanDisk (state g h) → IsTrue (state g h).is_open → Keeps last (state g h).committed
-      pub leaves : HasCleanDisk (state g h) → (db : Trees) → (state g h).may_leave db → KeepsRows a db ⊎ KeepsRows b db
+      pub held : HasCleanDisk (state g h) → IsTrue (state g h).is_open → KeepsSound now (state g h).now
+      pub kept : HasCleanDisk (state g h) → IsTrue (state g h).is_open → KeepsSound last (state g h).committed
+      pub leaves : HasCleanDisk (state g h) → (db : Trees) → (state g h).may_leave db → AreTreesOf a db ⊎ AreTreesOf b db
 
     abbrev pub IsInside : Type 0
     IsInside = HasCleanDisk (state g h) → IsTrue (state g h).in_transaction × IsTrue (state g h).is_open

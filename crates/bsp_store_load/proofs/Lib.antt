@@ -29,6 +29,8 @@ pub mod EntryLemmas
 pub mod PlainRows
 pub mod TallyLemmas
 pub mod NothingLemmas
+pub mod Forming
+pub mod FormedContent
 pub use Rattle.bsp_rows.proofs.KeptLemmas
 pub use Rattle.bsp_store_base.proofs.AirlineLemmas
 pub use Rattle.bsp_store_base.proofs.Held

@@ -6,6 +6,7 @@ pub mod Beside
 pub mod Nothing
 pub mod Stored
 pub mod Contents
+pub mod Formed
 pub use Rattle.bsp_memory_tables.specs.ItemTables
 pub use Rattle.bsp_memory_rows.specs.Plans
 pub use Rattle.bsp_memory_rows.specs.Tables as MemoryRowsTables

@@ -10,9 +10,11 @@ ghost use Rattle.bsp_memory_rows.specs.Tables.{IsDerived, rows_of};
 ghost use Rattle.bsp_store_base.specs.declared.airlines.AirlineEntry.{AirlineEntry as Airline};
 ghost use Rattle.bsp_store_base.specs.Airlines.{airline_entries};
 ghost use Rattle.bsp_store_base.specs.Columns.{airline_row};
+ghost use Rattle.bsp_store_load.specs.Formed.{IsRegisteredAirline, OnEach};
 ghost use Rattle.bsp_store_load.specs.Gathered.{with_pair};
 ghost use Rattle.bsp_store_load.specs.Stored.{IsListedAirline};
 
+use crate::formed::formed_airline;
 use bsp_memory_rows::{NoRoom, Tables};
 use bsp_rows::{AirlineCode, Token};
 use bsp_store_base::AirlineEntry;
@@ -84,9 +86,11 @@ pub(crate) fn published_in(
 /// Gives an airline its token, if it has one.
 fn put_token(tables: &mut Tables, code: AirlineCode, token: Option<Token>) -> Result<(), NoRoom>
     ensures derived { OnOk result (IsDerived tables.old → IsDerived tables.new) }
+    ensures registered { OnOk result (OnEach IsRegisteredAirline (rows_of tables.old).airlines → OnEach IsRegisteredAirline (rows_of tables.new).airlines) }
     ensures rows { OnOk result (rows_of tables.new ≡ record (rows_of tables.old) { airlines = with_pair (option_map (λ token. (code, token)) token) (rows_of tables.old).airlines }) }
 {
     if let Some(token) = token {
+        formed_airline(code, token);
         tables.set_airline_token(code, token)?;
     }
     Ok(())
@@ -98,6 +102,7 @@ pub(crate) fn put_tokens(
     airlines: &[(AirlineCode, AirlineEntry)],
 ) -> Result<(), NoRoom>
     ensures derived { OnOk result (IsDerived tables.old → IsDerived tables.new) }
+    ensures registered { OnOk result (OnEach IsRegisteredAirline (rows_of tables.old).airlines → OnEach IsRegisteredAirline (rows_of tables.new).airlines) }
     ensures others { OnOk result (rows_of tables.new ≡ record (rows_of tables.old) { airlines = (rows_of tables.new).airlines }) }
     ensures tokens { OnOk result ((codes : List ℕ) (tokens : FinMap nat_cmp (List ℕ)) → (rows_of tables.old).airlines ≡ empty → airlines.now ≡ entries (airline_entries codes tokens) → (rows_of tables.new).airlines ≡ tokens) }
 {

@@ -1,6 +1,7 @@
 //! The tables of agents and of ranges: each row, put into memory.
 
 use crate::equal::is_row;
+use crate::formed::{formed_agent, formed_range};
 use crate::load::StoredTable;
 use bsp_memory_rows::{NoRoom, Tables};
 use bsp_rows::{AgentCode, DocNumber, RangeKey, Token};
@@ -16,11 +17,12 @@ impl StoredTable<AgentCode, Token, Tables> for Agents {
     ghost use Rattle.std.specs.FinMap.{entries, get};
     ghost use Rattle.bsp_rows.specs.Rows.{Rows};
     ghost use Rattle.bsp_rows.specs.Writes.{with_agent_token};
-    ghost use Rattle.bsp_memory_rows.specs.Tables.{IsDerived, rows_of};
+    ghost use Rattle.bsp_memory_rows.specs.Tables.{rows_of};
     ghost use Rattle.bsp_store_base.specs.Columns.{agent_row};
     ghost use Rattle.bsp_store_base.specs.Content.{agent_part};
     ghost use Rattle.bsp_store_base.specs.Forms.{IsAgentEntry};
     ghost use Rattle.bsp_store_load.specs.Adding.{agent_added};
+    ghost use Rattle.bsp_store_load.specs.Formed.{AreWhole};
 
     ghost part = { agent_part };
 
@@ -28,7 +30,7 @@ impl StoredTable<AgentCode, Token, Tables> for Agents {
 
     ghost whole = { rows_of };
 
-    ghost is_kept = { IsDerived };
+    ghost is_kept = { AreWhole };
 
     ghost row_of = { agent_row };
 
@@ -56,6 +58,7 @@ impl StoredTable<AgentCode, Token, Tables> for Agents {
         if tables.agent_token(agent).is_some() {
             return Ok(false);
         }
+        formed_agent(agent, token);
         tables.set_agent_token(agent, token)?;
         tables.commit();
         Ok(true)
@@ -71,11 +74,12 @@ impl StoredTable<RangeKey, DocNumber, Tables> for Ranges {
     ghost use Rattle.std.specs.FinMap.{entries, get};
     ghost use Rattle.bsp_rows.specs.Rows.{Rows, range_of};
     ghost use Rattle.bsp_rows.specs.Writes.{with_range};
-    ghost use Rattle.bsp_memory_rows.specs.Tables.{IsDerived, rows_of};
+    ghost use Rattle.bsp_memory_rows.specs.Tables.{rows_of};
     ghost use Rattle.bsp_store_base.specs.Columns.{stock_row};
     ghost use Rattle.bsp_store_base.specs.Content.{stock_part};
     ghost use Rattle.bsp_store_base.specs.Forms.{IsRangeEntry};
     ghost use Rattle.bsp_store_load.specs.Adding.{range_added};
+    ghost use Rattle.bsp_store_load.specs.Formed.{AreWhole};
 
     ghost part = { stock_part };
 
@@ -83,7 +87,7 @@ impl StoredTable<RangeKey, DocNumber, Tables> for Ranges {
 
     ghost whole = { rows_of };
 
-    ghost is_kept = { IsDerived };
+    ghost is_kept = { AreWhole };
 
     ghost row_of = { stock_row };
 
@@ -111,6 +115,7 @@ impl StoredTable<RangeKey, DocNumber, Tables> for Ranges {
         if tables.range_table().get(key).is_some() {
             return Ok(false);
         }
+        formed_range(key, last);
         tables.add_range(key.agent, &key.up_to(last))?;
         tables.commit();
         Ok(true)

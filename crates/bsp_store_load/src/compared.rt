@@ -7,10 +7,12 @@ ghost use Rattle.bsp_rows.specs.Published.{Published, opening};
 ghost use Rattle.bsp_rows.specs.SoundPlan.{IsSoundPlan};
 ghost use Rattle.bsp_rows.specs.Rows.{Rows, no_rows};
 ghost use Rattle.bsp_memory_rows.specs.Tables.{IsDerived, rows_of};
+ghost use Rattle.bsp_store_load.specs.Formed.{AreWhole, IsRegisteredAirline, OnEach};
 ghost use Rattle.bsp_store_load.specs.Stored.{AreRowsOfPlan, IsFormedPlan};
 
 use crate::airline_map::are_airlines;
 use crate::airlines::{airlines_in, put_tokens};
+use crate::formed::formed_plan;
 use crate::plan::{are_commission_taxes, are_meta, are_periods, are_rates, are_terms};
 use crate::plan_rows::PlanRows;
 use crate::published::put_plan;
@@ -38,6 +40,7 @@ fn are_rows_of_plan(alloc: Global, rows: &PlanRows, tables: &Tables) -> Result<b
 /// are those of no plan.
 fn put_rows(alloc: Global, tables: &mut Tables, rows: &PlanRows) -> Result<bool, NoRoom>
     ensures derived { OnOk result (IsDerived tables.old → IsDerived tables.new) }
+    ensures registered { OnOk result (OnEach IsRegisteredAirline (rows_of tables.old).airlines → OnEach IsRegisteredAirline (rows_of tables.new).airlines) }
     ensures others { OnOk result (rows_of tables.new ≡ record (rows_of tables.old) { published = (rows_of tables.new).published; airlines = (rows_of tables.new).airlines }) }
     ensures plan { IfOk result (λ done. (p : Published) (tokens : FinMap nat_cmp (List ℕ)) → IsSoundPlan p → IsFormedPlan p tokens → AreRowsOfPlan p tokens rows.now → (rows_of tables.old).published ≡ opening → (rows_of tables.old).airlines ≡ empty
         → (done ≡ true) × (rows_of tables.new ≡ record (rows_of tables.old) { published = p; airlines = tokens })) }
@@ -56,6 +59,7 @@ fn put_rows(alloc: Global, tables: &mut Tables, rows: &PlanRows) -> Result<bool,
 /// the rows of no plan.
 fn put_whole_plan(alloc: Global, tables: &mut Tables, rows: &PlanRows) -> Result<bool, NoRoom>
     ensures derived { OnOk result (IsDerived tables.old → IsDerived tables.new) }
+    ensures registered { OnOk result (OnEach IsRegisteredAirline (rows_of tables.old).airlines → OnEach IsRegisteredAirline (rows_of tables.new).airlines) }
     ensures others { OnOk result (rows_of tables.new ≡ record (rows_of tables.old) { published = (rows_of tables.new).published; airlines = (rows_of tables.new).airlines }) }
     ensures rows { IfOk result (λ done. IsTrue done → AreRowsOfPlan (rows_of tables.new).published (rows_of tables.new).airlines rows.now) }
     ensures plan { IfOk result (λ done. (p : Published) (tokens : FinMap nat_cmp (List ℕ)) → IsSoundPlan p → IsFormedPlan p tokens → AreRowsOfPlan p tokens rows.now → (rows_of tables.old).published ≡ opening → (rows_of tables.old).airlines ≡ empty
@@ -74,7 +78,7 @@ fn put_whole_plan(alloc: Global, tables: &mut Tables, rows: &PlanRows) -> Result
 ///
 /// `NoRoom` where an allocation was refused.
 pub fn plan_tables(alloc: Global, rows: &PlanRows) -> Result<Option<Tables>, NoRoom>
-    ensures derived { IfOk result (λ found. IfSome found IsDerived) }
+    ensures whole { IfOk result (λ found. IfSome found AreWhole) }
     ensures rows { IfOk result (λ found. IfSome found (λ tables. AreRowsOfPlan (rows_of tables).published (rows_of tables).airlines rows.now)) }
     ensures alone { IfOk result (λ found. IfSome found (λ tables. rows_of tables ≡ record no_rows { published = (rows_of tables).published; airlines = (rows_of tables).airlines })) }
     ensures plan { IfOk result (λ found. (p : Published) (tokens : FinMap nat_cmp (List ℕ)) → IsSoundPlan p → IsFormedPlan p tokens → AreRowsOfPlan p tokens rows.now
@@ -82,6 +86,7 @@ pub fn plan_tables(alloc: Global, rows: &PlanRows) -> Result<Option<Tables>, NoR
 {
     let mut tables = Tables::new(alloc);
     if put_whole_plan(alloc, &mut tables, rows)? {
+        formed_plan(tables.plan());
         Ok(Some(tables))
     } else {
         Ok(None)

@@ -8,6 +8,7 @@ ghost use Rattle.bsp_store_base.specs.Columns.{item_row};
 ghost use Rattle.bsp_store_load.specs.Beside.{IsKeyed, IsStoredItem, second_at};
 
 use crate::equal::is_row;
+use crate::formed::formed_item;
 use crate::load::StoredTable;
 use bsp_memory_rows::{NoRoom, Tables};
 use bsp_rows::{Item, ItemKey, ReportedDocument};
@@ -51,11 +52,12 @@ impl<'a> StoredTable<ItemKey, Item, Tables> for StoredItems<'a> {
     ghost use Rattle.std.specs.FinMap.{entries, from_entries, get};
     ghost use Rattle.bsp_rows.specs.Rows.{Rows, key_of};
     ghost use Rattle.bsp_rows.specs.Writes.{with_item};
-    ghost use Rattle.bsp_memory_rows.specs.Tables.{IsDerived, rows_of};
+    ghost use Rattle.bsp_memory_rows.specs.Tables.{rows_of};
     ghost use Rattle.bsp_store_base.specs.Columns.{item_row};
     ghost use Rattle.bsp_store_base.specs.Content.{item_part};
     ghost use Rattle.bsp_store_load.specs.Adding.{item_added};
     ghost use Rattle.bsp_store_load.specs.Beside.{IsStoredItem};
+    ghost use Rattle.bsp_store_load.specs.Formed.{AreWhole};
 
     ghost part = { item_part };
 
@@ -63,7 +65,7 @@ impl<'a> StoredTable<ItemKey, Item, Tables> for StoredItems<'a> {
 
     ghost whole = { rows_of };
 
-    ghost is_kept = { IsDerived };
+    ghost is_kept = { AreWhole };
 
     ghost row_of = { item_row };
 
@@ -91,6 +93,7 @@ impl<'a> StoredTable<ItemKey, Item, Tables> for StoredItems<'a> {
         if tables.item_table().get(key).is_some() {
             return Ok(false);
         }
+        formed_item(key, item);
         tables.add_item(&item)?;
         tables.commit();
         Ok(true)

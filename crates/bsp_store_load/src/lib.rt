@@ -14,6 +14,7 @@ mod compared;
 mod entries;
 mod equal;
 mod first;
+mod formed;
 mod item_taxes;
 mod items;
 mod listed;
@@ -38,6 +39,10 @@ pub use callers::{Agents, Ranges};
 pub use compared::plan_tables;
 pub use equal::is_row;
 pub use first::has_nothing;
+pub use formed::{
+    formed_agent, formed_airline, formed_closed, formed_day, formed_item, formed_memo,
+    formed_period, formed_plan, formed_range,
+};
 pub use item_taxes::{StoredTaxes, are_taxes};
 pub use items::StoredItems;
 pub use listed::{RowOf, are_placed_rows_of, are_rows_of};

@@ -1,6 +1,7 @@
 //! The table of memos: each row, put into memory.
 
 use crate::equal::is_row;
+use crate::formed::formed_memo;
 use crate::load::StoredTable;
 use bsp_memory_rows::{NoRoom, Tables};
 use bsp_rows::{Memo, MemoKey};
@@ -17,11 +18,12 @@ impl StoredTable<MemoKey, Memo, Tables> for StoredMemos {
     ghost use Rattle.bsp_rows.specs.Memos.{is_memo};
     ghost use Rattle.bsp_rows.specs.Rows.{Rows, memo_key};
     ghost use Rattle.bsp_rows.specs.Writes.{with_memo};
-    ghost use Rattle.bsp_memory_rows.specs.Tables.{IsDerived, rows_of};
+    ghost use Rattle.bsp_memory_rows.specs.Tables.{rows_of};
     ghost use Rattle.bsp_store_base.specs.Columns.{memo_row};
     ghost use Rattle.bsp_store_base.specs.Content.{memo_part};
     ghost use Rattle.bsp_store_base.specs.Forms.{IsMemoEntry};
     ghost use Rattle.bsp_store_load.specs.Adding.{memo_added};
+    ghost use Rattle.bsp_store_load.specs.Formed.{AreWhole};
 
     ghost part = { memo_part };
 
@@ -29,7 +31,7 @@ impl StoredTable<MemoKey, Memo, Tables> for StoredMemos {
 
     ghost whole = { rows_of };
 
-    ghost is_kept = { IsDerived };
+    ghost is_kept = { AreWhole };
 
     ghost row_of = { memo_row };
 
@@ -58,6 +60,7 @@ impl StoredTable<MemoKey, Memo, Tables> for StoredMemos {
         if tables.memo(key).is_some() {
             return Ok(false);
         }
+        formed_memo(key, *memo.fields());
         tables.put_memo(&memo)?;
         tables.commit();
         Ok(true)

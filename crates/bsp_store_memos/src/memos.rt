@@ -1,3 +1,5 @@
+//! The table of the memos.
+
 ghost use Rattle.std.specs.Prelude.{◌≡◌, is_some, None, true, ⊤, OnOk, OnErr, option_map};
 ghost use Rattle.std.specs.FinMap.{get, insert, remove};
 ghost use Rattle.sqlite_value.specs.Value.{owned};

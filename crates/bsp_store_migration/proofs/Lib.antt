@@ -4,3 +4,4 @@ pub mod EndLemmas
 pub mod FillingLemmas
 pub mod MigratingLemmas
 pub mod VersionLemmas
+pub mod OldBookLemmas

@@ -83,7 +83,7 @@ module _ {S : Type 0} (g : Ghosts S) (old new : Held S) (kept : Survives (state 
 -- ---- the number
 
 -- rows of `meta` that are those of a book of an earlier version have its number
-has_number : (version : OldVersion) (trees : Trees) (rows : Rows) (c : Content) → IsContentOf rows c → KeepsOldRows version c trees → (found : List Row) → AreMetaOf trees found → HasNumber (old_number version) found
+pub has_number : (version : OldVersion) (trees : Trees) (rows : Rows) (c : Content) → IsContentOf rows c → KeepsOldRows version c trees → (found : List Row) → AreMetaOf trees found → HasNumber (old_number version) found
 has_number version trees rows c content keeps found are =
     let m : Meta = record { day = rows.published.day; closed = length rows.published.closed } in
     let row : Row = with_number (old_number version) (meta_row m) in

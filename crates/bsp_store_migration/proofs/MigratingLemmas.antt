@@ -14,14 +14,17 @@ use Rattle.bsp_book.specs.declared.list.ListBook.{ListBook}
 use Rattle.bsp_store_load.specs.Columns.{count}
 use Rattle.bsp_store_load.specs.Content.{Content, form}
 use Rattle.bsp_store_load.specs.Contents.{IsContentOf}
-use Rattle.bsp_store_load.specs.Kept.{Keeps, KeepsRows, Spares}
+use Rattle.bsp_store_load.specs.Formed.{AreFormed, IsBook}
+use Rattle.bsp_store_load.specs.Kept.{AreTreesOf, KeepsSound, Spares}
+use Rattle.bsp_store_load.specs.Schema.{our_schema}
+use Rattle.bsp_store_load.proofs.Held.{trees_of}
 use Rattle.bsp_store_old.specs.Filled.{AreInOldOrder, HasOldNumber, IsBegun, KeepsOldRows}
 use Rattle.bsp_store_old.specs.Old.{old_number}
 use Rattle.bsp_store_old.specs.declared.version.OldVersion.{OldVersion}
 use Rattle.bsp_store_open.specs.Opening.{KeepsAtRest}
 use Rattle.bsp_store_open.specs.declared.fault.OpenFault.{OpenFault}
 use Rattle.bsp_store_open.specs.declared.fault.OpenFault.TheVariants.{Damaged}
-use Rattle.bsp_store_migration.specs.Migrating.{AreOrdered, HasBegun, HasEnded, HasNoOldBook, HasOtherNumber, IsFilledWith, IsMigrated, IsNumbered, IsOld, KeepsNoOld, KeepsOldBook, LeavesMigration, MayEnd, ReportsOld}
+use Rattle.bsp_store_migration.specs.Migrating.{AreOrdered, HasBegun, HasEnded, HasNoOldBook, HasOtherNumber, IsFilledWith, IsMigrated, IsNumbered, IsOld, KeepsNoOld, KeepsOldBook, KeepsOnlyOld, LeavesMigration, MayEnd, ReportsOld}
 
 module _ {S : Type 0} (g : Ghosts S) where
   -- what leaves to a stop no more than there was
@@ -73,23 +76,32 @@ module _ {S : Type 0} (g : Ghosts S) (version : OldVersion) (zero one two : Held
         reports = subst (λ f. ReportsOld version f (number.row ∷ number.more)) (sym none.0) (not_other version (state g zero).now.trees number);
       }
 
-  module _ (three four : Held S) (c : Content) (filled : IsFilledWith g version two three c) (filling : Spares g two three) (rows : Rows) (content : IsContentOf rows c) (sound : Sound rows) where
+  module _ (three four : Held S) (c : Content) (filled : IsFilledWith g version two three c) (filling : Spares g two three) (rows : Rows) (content : IsContentOf rows c) (sound : Sound rows) (formed : AreFormed rows) where
     kept_before : HasCleanDisk (state g three) → KeepsOldBook version rows (state g zero).now.trees
     kept_before clean = (c, content, filled.of clean, subst (λ (d : Database). KeepsOldRows version c d.trees) (same (filled.earlier clean)) (filled.kept clean))
 
+    lists_ours : HasCleanDisk (state g three) → IsDatabase (record { schema = our_schema; trees = (state g three).now.trees })
+    lists_ours clean = subst (λ s. IsDatabase (record { schema = s; trees = (state g three).now.trees })) (filled.schema clean) (filled.listed clean)
+
+    made_book : HasCleanDisk (state g three) → IsBook rows (state g three).now.trees
+    made_book clean = record { formed = formed; keeps = (c, content, filled.keeps clean); sound = lists_ours clean }
+
+    only_before : (HasCleanDisk (state g three) → KeepsOnlyOld version rows (state g two).now.trees) → HasCleanDisk (state g three) → KeepsOnlyOld version rows (state g zero).now.trees
+    only_before only clean = subst (λ (d : Database). KeepsOnlyOld version rows d.trees) (same (filled.earlier clean)) (only clean)
+
     -- a stop leaves what there was, or the whole of the new book
-    pub stopped : MayEnd g three four → LeavesMigration g version zero four
-    stopped end = record {
+    pub stopped : (HasCleanDisk (state g three) → KeepsOnlyOld version rows (state g two).now.trees) → MayEnd g three four → LeavesMigration g version zero four
+    stopped only end = record {
       earlier = λ clean. still (filling.earlier (end.earlier clean));
       leaves = λ clean db may. elim (end.leaves clean db may) [
         | inl before ↦ inl (asked.leaves (began.earlier (filling.earlier (end.earlier clean))) db (began.leaves (filling.earlier (end.earlier clean)) db (filling.leaves (end.earlier clean) db before)))
-        | inr made ↦ inr (rows, sound, kept_before (end.earlier clean), (c, content, subst (KeepsRows form c) (sym made) (filled.keeps (end.earlier clean))))
+        | inr made ↦ inr (rows, sound, kept_before (end.earlier clean), only_before only (end.earlier clean), subst (IsBook rows) (sym made) (made_book (end.earlier clean)))
       ];
     }
 
-    module _ (ended : HasEnded g three four) (settled : (db : Trees) → IsTrue (state g four).is_open → (state g four).may_leave db → db ≡ (state g four).committed.trees) where
-      keeps_now : HasCleanDisk (state g four) → Keeps form c (state g three).now
-      keeps_now clean = record { schema = filled.schema (ended.earlier clean); kept = filled.keeps (ended.earlier clean) }
+    module _ (ended : HasEnded g three four) (only : HasCleanDisk (state g three) → KeepsOnlyOld version rows (state g two).now.trees) (settled : (db : Trees) → IsTrue (state g four).is_open → (state g four).may_leave db → db ≡ (state g four).committed.trees) where
+      keeps_now : HasCleanDisk (state g four) → KeepsSound form c (state g three).now
+      keeps_now clean = (record { schema = filled.schema (ended.earlier clean); kept = filled.keeps (ended.earlier clean) }, filled.listed (ended.earlier clean))
 
       at_rest : KeepsAtRest g four rows
       at_rest = (
@@ -97,9 +109,9 @@ module _ {S : Type 0} (g : Ghosts S) (version : OldVersion) (zero one two : Held
         content,
         (
           record {
-            held = λ clean is. subst (Keeps form c) (sym (ended.shown clean).now_is) (keeps_now clean);
-            kept = λ clean is. subst (Keeps form c) (sym (ended.shown clean).committed_is) (keeps_now clean);
-            leaves = λ clean db may. inl (subst (KeepsRows form c) (sym (settled db (ended.shown clean).is_open may ∙ ap (λ (d : Database). d.trees) (ended.shown clean).committed_is)) (keeps_now clean).kept);
+            held = λ clean is. subst (KeepsSound form c) (sym (ended.shown clean).now_is) (keeps_now clean);
+            kept = λ clean is. subst (KeepsSound form c) (sym (ended.shown clean).committed_is) (keeps_now clean);
+            leaves = λ clean db may. inl (subst (AreTreesOf form c) (sym (settled db (ended.shown clean).is_open may ∙ ap (λ (d : Database). d.trees) (ended.shown clean).committed_is)) (trees_of form c (state g three).now (keeps_now clean)));
           },
           λ clean. (ended.shown clean).mode,
         ),
@@ -109,7 +121,9 @@ module _ {S : Type 0} (g : Ghosts S) (version : OldVersion) (zero one two : Held
       migrated list holds = record {
         listed = holds;
         sound = sound;
+        formed = formed;
         kept = at_rest;
         earlier = λ clean. still (filling.earlier (ended.earlier clean));
         found = λ clean. kept_before (ended.earlier clean);
+        only = λ clean. only_before only (ended.earlier clean);
       }

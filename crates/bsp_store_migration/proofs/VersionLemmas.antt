@@ -1,8 +1,9 @@
 -- The tables of a version are not those of another one, and a store without tables has those of none.
-use Rattle.std.proofs.Common.{◌≡◌, ap, drop, refl, sym}
+use Rattle.std.proofs.Common.{◌≡◌, ap, arith, drop, refl, sym}
 use Rattle.sqlite_schema.specs.declared.schema.Schema.{Schema}
 use Rattle.bsp_store_load.specs.Schema.{no_schema, our_schema}
-use Rattle.bsp_store_old.specs.Old.{old_schema}
+use Rattle.bsp_store_load.specs.Columns.{version as our_version}
+use Rattle.bsp_store_old.specs.Old.{old_number, old_schema}
 use Rattle.bsp_store_old.specs.declared.version.OldVersion.{OldVersion}
 use Rattle.bsp_store_old.specs.declared.version.OldVersion.TheVariants.{First, Second}
 
@@ -22,3 +23,15 @@ one_old First First same = refl
 one_old Second Second same = refl
 one_old First Second same = absurd (cc (ap (λ (s : Schema). drop 10 s.tables) same))
 one_old Second First same = absurd (cc (ap (λ (s : Schema). drop 10 s.tables) (sym same)))
+
+-- ---- and so of their numbers
+
+pub other_number : (version : OldVersion) → old_number version ≡ our_version → ⊥
+other_number First same = omega arith
+other_number Second same = omega arith
+
+pub one_number : (a b : OldVersion) → old_number a ≡ old_number b → a ≡ b
+one_number First First same = refl
+one_number Second Second same = refl
+one_number First Second same = absurd (omega arith)
+one_number Second First same = absurd (omega arith)

@@ -5,7 +5,7 @@ use Rattle.sqlite_value.specs.Order.{Row, column}
 use Rattle.sqlite_value.specs.declared.value.Value.TheVariants.{Int}
 use Rattle.sqlite_trees.specs.Tree.{Trees}
 use Rattle.sqlite_trees.specs.declared.store.Store.{Ghosts}
-use Rattle.sqlite.specs.Effect.{Database}
+use Rattle.sqlite.specs.Effect.{Database, IsDatabase}
 use Rattle.sqlite.specs.Held.{Held, state}
 use Rattle.sqlite.specs.State.{HasCleanDisk, IsLive, Shows}
 use Rattle.bsp_book.specs.Rows.{Rows}
@@ -17,7 +17,8 @@ use Rattle.bsp_store_load.specs.Schema.{our_schema}
 use Rattle.bsp_store_load.specs.Kept.{KeepsRows, Reads, columns_of}
 use Rattle.bsp_store_load.specs.Columns.{count, version as our_version}
 use Rattle.bsp_store_load.specs.Content.{Content, form, meta_part, width_of}
-use Rattle.bsp_store_load.specs.Contents.{IsContentOf, KeepsBook}
+use Rattle.bsp_store_load.specs.Contents.{IsContentOf}
+use Rattle.bsp_store_load.specs.Formed.{AreFormed, IsBook}
 use Rattle.bsp_store_load.specs.Forms.{IsFormed}
 use Rattle.bsp_store_old.specs.Filled.{HasOldNumber, IsOfOld, KeepsOldRows}
 use Rattle.bsp_store_old.specs.Old.{old_number, old_schema}
@@ -76,9 +77,20 @@ pub record ShowsNoOldBook (version : OldVersion) (fault : OpenFault) (trees : Tr
 abbrev pub KeepsOldBook : OldVersion → Rows → Trees → Type 0
 KeepsOldBook version rows trees = (c : Content) × IsContentOf rows c × IsOfOld version c × KeepsOldRows version c trees
 
--- the first trees keep sound rows as a book of an earlier version, and the others the same rows as a book of this one
+-- these rows are all that the trees keep so, of sound rows whose values are such as the program's types have
+abbrev pub KeepsOnlyOld : OldVersion → Rows → Trees → Type 0
+KeepsOnlyOld version rows trees = (other : Rows) → Sound other → AreFormed other → KeepsOldBook version other trees → other ≡ rows
+
+-- trees with the tables of an earlier version and nothing else, which keep these rows
+pub record IsOldBook (version : OldVersion) (rows : Rows) (trees : Trees) : Type 0 where
+  pub formed : AreFormed rows
+  pub keeps : KeepsOldBook version rows trees
+  pub sound : IsDatabase (record { schema = old_schema version; trees = trees })
+
+-- the first trees keep sound rows, and no others, as a book of an earlier version, and the second ones are those of a book
+-- of this one with the same rows
 abbrev pub IsMigrationOf : OldVersion → Trees → Trees → Type 0
-IsMigrationOf version old new = (rows : Rows) × Sound rows × KeepsOldBook version rows old × KeepsBook rows new
+IsMigrationOf version old new = (rows : Rows) × Sound rows × KeepsOldBook version rows old × KeepsOnlyOld version rows old × IsBook rows new
 
 -- the rows of each table are in the order of their rowids, which are integers
 abbrev pub AreOrdered : Database → Type 0
@@ -99,14 +111,16 @@ module _ {S : Type 0} (g : Ghosts S) where
   abbrev pub HasNoOldBook : OldVersion → OpenFault → Held S → Held S → Type 0
   HasNoOldBook version fault old new = HasCleanDisk (state g new) → ShowsNoOldBook version fault (state g old).now.trees
 
-  -- the book in memory has these rows, which are sound. The tables kept them as a book of an earlier version, and keep
-  -- them as one of this version, with no open transaction
+  -- the book in memory has these rows, which are sound. The tables kept them, and no others, as a book of an earlier
+  -- version, and keep them as one of this version, with no open transaction
   pub record IsMigrated (version : OldVersion) (old new : Held S) (list : ListBook) (rows : Rows) : Type 0 where
     pub listed : listed.holds list rows None
     pub sound : Sound rows
+    pub formed : AreFormed rows
     pub kept : KeepsAtRest g new rows
     pub earlier : HasCleanDisk (state g new) → HasCleanDisk (state g old)
     pub found : HasCleanDisk (state g new) → KeepsOldBook version rows (state g old).now.trees
+    pub only : HasCleanDisk (state g new) → KeepsOnlyOld version rows (state g old).now.trees
 
   -- a stop leaves what it left before, or the whole of the book that was migrated
   pub record LeavesMigration (version : OldVersion) (old new : Held S) : Type 0 where
@@ -146,6 +160,7 @@ module _ {S : Type 0} (g : Ghosts S) where
   pub record IsFilledWith (version : OldVersion) (old new : Held S) (c : Content) : Type 0 where
     pub earlier : HasCleanDisk (state g new) → HasCleanDisk (state g old)
     pub schema : HasCleanDisk (state g new) → (state g new).now.schema ≡ our_schema
+    pub listed : HasCleanDisk (state g new) → IsDatabase (state g new).now
     pub keeps : HasCleanDisk (state g new) → KeepsRows form c (state g new).now.trees
     pub of : HasCleanDisk (state g new) → IsOfOld version c
     pub kept : HasCleanDisk (state g new) → KeepsOldRows version c (state g old).now.trees

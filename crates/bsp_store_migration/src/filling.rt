@@ -5,6 +5,7 @@ ghost use Rattle.sqlite.specs.Held.{state};
 ghost use Rattle.sqlite.specs.State.{HasCleanDisk};
 ghost use Rattle.bsp_book.specs.Sound.{Sound};
 ghost use Rattle.bsp_store_load.specs.Contents.{content_now};
+ghost use Rattle.bsp_store_load.specs.Formed.{AreFormed};
 ghost use Rattle.bsp_store_load.specs.Kept.{Spares};
 ghost use Rattle.bsp_store_load.specs.MemoryRowsTables.{rows_of};
 ghost use Rattle.bsp_store_load.specs.Schema.{our_schema};
@@ -13,7 +14,7 @@ ghost use Rattle.bsp_store_old.specs.Filled.{HasOldNumber, IsBegun};
 ghost use Rattle.bsp_store_open.specs.Faults.{is_refusal};
 ghost use Rattle.bsp_store_open.specs.Loaded.{IsAllLoaded, KeepsNone};
 ghost use Rattle.bsp_store_open.specs.Opening.{Finds};
-ghost use Rattle.bsp_store_migration.specs.Migrating.{IsFilledWith, KeepsNoOld};
+ghost use Rattle.bsp_store_migration.specs.Migrating.{IsFilledWith, KeepsNoOld, KeepsOnlyOld};
 
 use bsp_store_load::Tables;
 use bsp_store_old::{OldVersion, fill};
@@ -35,6 +36,7 @@ fn damaged(fault: OpenFault) -> OpenFault
 fn audited_tables<S: Alter>(alloc: Global, conn: &mut Connection<S>) -> Result<Tables, OpenFault>
     ensures committed { IfOk result AreCommitted }
     ensures sound { IfOk result (λ tables. Sound (rows_of tables)) }
+    ensures formed { IfOk result (λ tables. AreFormed (rows_of tables)) }
     ensures found { IfOk result (λ tables. Finds S.Store conn.old conn.new (λ trees. IsAllLoaded trees tables)) }
     ensures refused { IfErr result (λ fault. is_refusal fault ≡ true → (fault ≡ OpenFault.Damaged) × (HasCleanDisk (state S.Store conn.new) → (state S.Store conn.old).now.schema ≡ our_schema → KeepsNone (state S.Store conn.old).now.trees)) }
     ensures spares { Spares S.Store conn.old conn.new }
@@ -62,7 +64,9 @@ pub(crate) fn filled_tables<S: Alter>(
     requires number { HasCleanDisk (state S.Store conn.old) → HasOldNumber version (state S.Store conn.old).now.trees }
     ensures committed { IfOk result AreCommitted }
     ensures sound { IfOk result (λ tables. Sound (rows_of tables)) }
+    ensures formed { IfOk result (λ tables. AreFormed (rows_of tables)) }
     ensures filled { IfOk result (λ tables. IsFilledWith S.Store version conn.old conn.new (content_now tables)) }
+    ensures only { IfOk result (λ tables. HasCleanDisk (state S.Store conn.new) → KeepsOnlyOld version (rows_of tables) (state S.Store conn.old).now.trees) }
     ensures refused { IfErr result (λ fault. is_refusal fault ≡ true → (fault ≡ OpenFault.Damaged) × (HasCleanDisk (state S.Store conn.new) → KeepsNoOld version (state S.Store conn.old).now.trees)) }
     ensures spares { Spares S.Store conn.old conn.new }
 {

@@ -10,7 +10,7 @@ use Rattle.sqlite_trees.specs.View.{IsClean, IsQuiet, is_int}
 use Rattle.sqlite_trees.specs.declared.store.Store.{Ghosts}
 use Rattle.sqlite.specs.Effect.{Database}
 use Rattle.sqlite.specs.Held.{Held, state}
-use Rattle.sqlite.specs.State.{HasCleanDisk}
+use Rattle.sqlite.specs.State.{HasCleanDisk, IsLive}
 use Rattle.bsp_book.specs.Rows.{Rows}
 use Rattle.bsp_book.specs.Sound.{Sound}
 use Rattle.bsp_store_load.specs.MemoryRowsTables.{rows_of}
@@ -19,10 +19,11 @@ use Rattle.bsp_book.specs.Listed.{Holds as ListHolds}
 use Rattle.bsp_book.specs.declared.list.ListBook.{ListBook}
 use Rattle.bsp_store_schema.specs.Order.{AreInOrder, IsInOrder}
 use Rattle.bsp_store_load.specs.Schema.{our_schema}
-use Rattle.bsp_store_load.specs.Kept.{Keeps, KeepsRows, KeepsTable, Part, Reads, Spares, columns_of}
+use Rattle.bsp_store_load.specs.Kept.{AreTreesOf, Keeps, KeepsRows, KeepsTable, Part, Reads, Spares, columns_of}
 use Rattle.bsp_store_load.specs.Columns.{Meta, count, meta_row, meta_rows, version}
 use Rattle.bsp_store_load.specs.Content.{Content, form, meta_part, width_of}
 use Rattle.bsp_store_load.specs.Contents.{IsContentOf, KeepsBook, content_now}
+use Rattle.bsp_store_load.specs.Formed.{AreFormed}
 use Rattle.bsp_store_load.specs.Forms.{IsFormed}
 use Rattle.bsp_store_load.specs.Loading.{HasRows}
 use Rattle.bsp_store_load.specs.Shows.{AreAllOf}
@@ -32,6 +33,8 @@ use Rattle.bsp_store_open.specs.declared.fault.OpenFault.{OpenFault}
 use Rattle.bsp_store_open.specs.declared.fault.OpenFault.TheVariants.{NoRoom}
 use Rattle.bsp_store_open.specs.Loaded.{IsAllLoaded}
 use Rattle.bsp_store_open.specs.Opening.{Finds, HasNoBook, IsNoBook, IsOfOther, IsOfVersion, IsOrdered, IsRead, KeepsAtRest, LeavesCommitted, Misses, Reopens, Reports, SparesStore}
+use Rattle.bsp_store_load.proofs.FormedContent.{formed_content}
+use Rattle.bsp_store_load.proofs.Held.{trees_of}
 use Rattle.bsp_store_load.proofs.TallyLemmas.{content_is}
 
 -- ---- one query after another
@@ -156,18 +159,18 @@ module _ {S : Type 0} (g : Ghosts S) (old new : Held S) (order : IsOrdered g old
   keeps_new clean = subst (Keeps form c) (sym (finds.read.same clean)) (record { schema = finds.ours; kept = keeps_old clean })
 
   -- no transaction is open, so the tables that are seen are committed, and a stop leaves them
-  pub at_rest : new.in_transaction ≡ false → (IsTrue (state g new).is_open → (state g new).now ≡ (state g new).committed)
+  pub at_rest : IsLive (state g new) → new.in_transaction ≡ false → (IsTrue (state g new).is_open → (state g new).now ≡ (state g new).committed)
       → ((db : Trees) → IsTrue (state g new).is_open → (state g new).may_leave db → db ≡ (state g new).committed.trees) → KeepsAtRest g new rows
-  at_rest outside settled leaves = (
+  at_rest live outside settled leaves = (
     c,
     content,
     (
       record {
-        held = λ clean is. keeps_new clean;
-        kept = λ clean is. subst (Keeps form c) (settled is) (keeps_new clean);
+        held = λ clean is. (keeps_new clean, (live is).0);
+        kept = λ clean is. (subst (Keeps form c) (settled is) (keeps_new clean), (live is).1);
         leaves = λ clean db may.
             let is = finds.read.is_open clean in
-            inl (subst (KeepsRows form c) (ap (λ (d : Database). d.trees) (settled is) ∙ sym (leaves db is may)) (keeps_new clean).kept);
+            inl (subst (AreTreesOf form c) (sym (leaves db is may)) (trees_of form c (state g new).committed (subst (Keeps form c) (settled is) (keeps_new clean), (live is).1)));
       },
       λ clean. outside,
     ),
@@ -175,18 +178,20 @@ module _ {S : Type 0} (g : Ghosts S) (old new : Held S) (order : IsOrdered g old
 
 -- the tables have the rows of tables in memory, which become a book
 module _ {S : Type 0} (g : Ghosts S) (old new : Held S) (order : IsOrdered g old) (tables : Tables) (kept : AreCommitted tables) (finds : Finds g old new (λ trees. IsAllLoaded trees tables)) where
-  pub tables_read : (list : ListBook) (rows : Rows) → list.tables ≡ tables → ListHolds list (rows_of tables) None → rows_of tables ≡ rows → Sound rows → new.in_transaction ≡ false
+  pub tables_read : (list : ListBook) (rows : Rows) → list.tables ≡ tables → ListHolds list (rows_of tables) None → rows_of tables ≡ rows → Sound rows → AreFormed (rows_of tables) → IsLive (state g new) → new.in_transaction ≡ false
       → (IsTrue (state g new).is_open → (state g new).now ≡ (state g new).committed) → ((db : Trees) → IsTrue (state g new).is_open → (state g new).may_leave db → db ≡ (state g new).committed.trees)
       → IsRead g old new list rows
-  tables_read list rows same holds is sound outside settled leaves =
+  tables_read list rows same holds is sound formed live outside settled leaves =
       let content : IsContentOf rows (content_now tables) = subst (λ r. IsContentOf r (content_now tables)) is (content_is (rows_of tables) _ kept.derived.totals) in
       let has = weaker g old new _ _ (λ trees loaded. loaded.rows) finds in
       record {
         listed = subst (λ r. ListHolds list r None) is holds;
         sound = sound;
-        kept = at_rest g old new order (content_now tables) has rows content outside settled leaves;
+        formed = subst AreFormed is formed;
+        kept = at_rest g old new order (content_now tables) has rows content live outside settled leaves;
         earlier = has.read.earlier;
         found = found_of g old new order (content_now tables) has rows content;
+        only = λ clean other its formed_too kept_too. sym ((finds.found clean).only other kept_too.0 its kept_too.1 (formed_content other kept_too.0 formed_too kept_too.1) kept_too.2) ∙ is;
       }
 
 -- ---- an opening that is refused

@@ -20,6 +20,7 @@ use Rattle.bsp_store_load.specs.Kept.{IsOutside, KeepsRows, Reads, HasContents, 
 use Rattle.bsp_store_load.specs.Columns.{count, version}
 use Rattle.bsp_store_load.specs.Content.{Content, airline_part, commission_tax_part, form, meta_part, period_part, rate_part, terms_part, width_of}
 use Rattle.bsp_store_load.specs.Contents.{IsContentOf, KeepsBook}
+use Rattle.bsp_store_load.specs.Formed.{AreFormed, IsBook}
 use Rattle.bsp_store_load.specs.Forms.{IsFormed}
 use Rattle.bsp_store_load.specs.Shows.{AreAllOf}
 use Rattle.bsp_store_load.specs.declared.plan_rows.PlanRows.{PlanRows}
@@ -81,6 +82,10 @@ pub record ShowsNoBook (fault : OpenFault) (trees : Trees) : Type 0 where
 abbrev pub IsNoBook : OpenFault → Database → Type 0
 IsNoBook fault db = db.schema ≡ our_schema → ShowsNoBook fault db.trees
 
+-- these rows are all that the trees keep, of sound rows whose values are such as the program's types have
+abbrev pub KeepsOnly : Rows → Trees → Type 0
+KeepsOnly rows trees = (other : Rows) → Sound other → AreFormed other → KeepsBook other trees → other ≡ rows
+
 -- ---- an opening, step by step
 
 module _ {S : Type 0} (g : Ghosts S) where
@@ -110,9 +115,11 @@ module _ {S : Type 0} (g : Ghosts S) where
   pub record IsRead (old new : Held S) (list : ListBook) (rows : Rows) : Type 0 where
     pub listed : listed.holds list rows None
     pub sound : Sound rows
+    pub formed : AreFormed rows
     pub kept : KeepsAtRest new rows
     pub earlier : HasCleanDisk (state g new) → HasCleanDisk (state g old)
     pub found : HasCleanDisk (state g new) → KeepsBook rows (state g old).now.trees
+    pub only : HasCleanDisk (state g new) → KeepsOnly rows (state g old).now.trees
 
   -- tables that are not a book's were asked for their version, and the fault is what follows from the answer
   pub record IsAskedVersion (fault : OpenFault) (old new : Held S) : Type 0 where
@@ -144,4 +151,4 @@ module _ {S : Type 0} (g : Ghosts S) where
   -- a stop leaves what it left before, or the whole of an empty book
   pub record LeavesEmptyBook (h : Held S) (left : S) : Type 0 where
     pub earlier : IsClean (g.view left) → HasCleanDisk (state g h)
-    pub leaves : IsClean (g.view left) → (db : Trees) → g.recovers left db → g.recovers h.store db ⊎ KeepsBook no_rows db
+    pub leaves : IsClean (g.view left) → (db : Trees) → g.recovers left db → g.recovers h.store db ⊎ IsBook no_rows db

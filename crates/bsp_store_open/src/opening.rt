@@ -2,6 +2,7 @@
 
 ghost use Rattle.std.specs.Prelude.{◌≡◌, ◌⊎◌, true, false, IfErr, IfOk, None, OnOk, IsTrue};
 ghost use Rattle.sqlite.specs.Held.{state};
+ghost use Rattle.sqlite.specs.State.{IsLive};
 ghost use Rattle.bsp_book.specs.Rows.{no_rows};
 ghost use Rattle.bsp_book.specs.Sound.{Sound};
 ghost use Rattle.bsp_store_load.specs.MemoryRowsTables.{rows_of};
@@ -21,8 +22,10 @@ use std::alloc::Global;
 fn expect_rest<S: Alter>(conn: &Connection<S>) -> Result<(), OpenFault>
     ensures outside { OnOk result (conn.now.in_transaction ≡ false) }
     ensures settled { OnOk result (IsTrue (state S.Store conn.now).is_open → (state S.Store conn.now).now ≡ (state S.Store conn.now).committed) }
+    ensures live { IsLive (state S.Store conn.now) }
     ensures refused { IfErr result (λ fault. is_refusal fault ≡ false) }
 {
+    let _schema = conn.schema();
     if conn.is_autocommit() {
         Ok(())
     } else {

@@ -4,9 +4,10 @@ ghost use Rattle.std.specs.Prelude.{◌≡◌, true, None, IfErr, IfOk, OnOk};
 ghost use Rattle.std.specs.FinMap.{from_entries};
 ghost use Rattle.bsp_store_load.specs.Content.{tally_part, tally_tax_part};
 ghost use Rattle.bsp_store_load.specs.Contents.{content_now};
+ghost use Rattle.bsp_store_load.specs.Formed.{AreFormed, AreWhole};
 ghost use Rattle.bsp_store_load.specs.Kept.{Spares};
 ghost use Rattle.bsp_store_load.specs.Loading.{HasRows, IsLoaded, LeavesRow};
-ghost use Rattle.bsp_store_load.specs.MemoryRowsTables.{IsDerived, rows_of};
+ghost use Rattle.bsp_store_load.specs.MemoryRowsTables.{rows_of};
 ghost use Rattle.bsp_store_load.specs.Schema.{our_schema};
 ghost use Rattle.bsp_store_load.specs.Stored.{AreCommitted};
 ghost use Rattle.bsp_store_open.specs.Faults.{is_refusal};
@@ -26,7 +27,7 @@ use std::collections::BTreeMap;
 
 /// Tables with the plan of a store and the tokens of its airlines, and nothing else.
 fn planned_tables<S: Alter>(alloc: Global, conn: &mut Connection<S>) -> Result<Tables, OpenFault>
-    ensures derived { IfOk result IsDerived }
+    ensures whole { IfOk result AreWhole }
     ensures found { IfOk result (λ tables. Finds S.Store conn.old conn.new (λ trees. IsPlanned trees (rows_of tables))) }
     ensures refused { IfErr result (λ fault. is_refusal fault ≡ true → HasNoBook S.Store fault conn.old conn.new) }
     ensures spares { Spares S.Store conn.old conn.new }
@@ -78,7 +79,7 @@ fn load<S: Alter, K, V, M, T: StoredTable<K, V, M>>(
 
 /// Puts the rows of agents and of ranges into memory.
 fn load_callers<S: Alter>(conn: &mut Connection<S>, tables: &mut Tables) -> Result<(), OpenFault>
-    ensures derived { OnOk result (IsDerived tables.old → IsDerived tables.new) }
+    ensures whole { OnOk result (AreWhole tables.old → AreWhole tables.new) }
     ensures found { OnOk result (Finds S.Store conn.old conn.new (λ trees. HasNoCallers (rows_of tables.old) → AreCallersLoaded trees (rows_of tables.old) (rows_of tables.new))) }
     ensures missed { IfErr result (λ fault. is_refusal fault ≡ true → Misses S.Store conn.old conn.new (λ trees. HasNoCallers (rows_of tables.old) → NoFormed trees)) }
     ensures fault { IfErr result (λ fault. is_refusal fault ≡ true → fault ≡ OpenFault.Damaged) }
@@ -145,7 +146,7 @@ fn load_with<S: Alter>(
     taxes: &BTreeMap<ItemKey, ItemTax>,
     seconds: &BTreeMap<TicketKey, ReportedDocument>,
 ) -> Result<(), OpenFault>
-    ensures derived { OnOk result (IsDerived tables.old → IsDerived tables.new) }
+    ensures whole { OnOk result (AreWhole tables.old → AreWhole tables.new) }
     ensures found { OnOk result (Finds S.Store conn.old conn.new (λ trees. AreTaxesRead trees (from_entries taxes.now.entries) → AreSecondsRead trees (from_entries seconds.now.entries) → HasNoSales (rows_of tables.old) → AreItemsLoaded trees (rows_of tables.old) (rows_of tables.new))) }
     ensures missed { IfErr result (λ fault. is_refusal fault ≡ true → Misses S.Store conn.old conn.new (λ trees. AreTaxesRead trees (from_entries taxes.now.entries) → AreSecondsRead trees (from_entries seconds.now.entries) → HasNoSales (rows_of tables.old) → NoRight trees)) }
     ensures fault { IfErr result (λ fault. is_refusal fault ≡ true → fault ≡ OpenFault.Damaged) }
@@ -161,7 +162,7 @@ fn load_items<S: Alter>(
     conn: &mut Connection<S>,
     tables: &mut Tables,
 ) -> Result<(), OpenFault>
-    ensures derived { OnOk result (IsDerived tables.old → IsDerived tables.new) }
+    ensures whole { OnOk result (AreWhole tables.old → AreWhole tables.new) }
     ensures found { OnOk result (Finds S.Store conn.old conn.new (λ trees. HasNoSales (rows_of tables.old) → AreItemsLoaded trees (rows_of tables.old) (rows_of tables.new))) }
     ensures missed { IfErr result (λ fault. is_refusal fault ≡ true → Misses S.Store conn.old conn.new (λ trees. HasNoSales (rows_of tables.old) → NoRight trees)) }
     ensures fault { IfErr result (λ fault. is_refusal fault ≡ true → fault ≡ OpenFault.Damaged) }
@@ -178,7 +179,7 @@ fn load_sales<S: Alter>(
     conn: &mut Connection<S>,
     tables: &mut Tables,
 ) -> Result<(), OpenFault>
-    ensures derived { OnOk result (IsDerived tables.old → IsDerived tables.new) }
+    ensures whole { OnOk result (AreWhole tables.old → AreWhole tables.new) }
     ensures found { OnOk result (Finds S.Store conn.old conn.new (λ trees. HasNoSales (rows_of tables.old) → AreSalesLoaded trees (rows_of tables.old) (rows_of tables.new))) }
     ensures missed { IfErr result (λ fault. is_refusal fault ≡ true → Misses S.Store conn.old conn.new (λ trees. HasNoSales (rows_of tables.old) → NoRight trees)) }
     ensures fault { IfErr result (λ fault. is_refusal fault ≡ true → fault ≡ OpenFault.Damaged) }
@@ -233,9 +234,9 @@ fn load_rest<S: Alter>(
     conn: &mut Connection<S>,
     tables: &mut Tables,
 ) -> Result<(), OpenFault>
-    ensures derived { OnOk result (IsDerived tables.old → IsDerived tables.new) }
+    ensures whole { OnOk result (AreWhole tables.old → AreWhole tables.new) }
     ensures found { OnOk result (Finds S.Store conn.old conn.new (λ trees. IsPlanned trees (rows_of tables.old) → IsAllLoaded trees tables.new)) }
-    ensures missed { IfErr result (λ fault. is_refusal fault ≡ true → IsDerived tables.old → Misses S.Store conn.old conn.new (λ trees. IsPlanned trees (rows_of tables.old) → KeepsNone trees)) }
+    ensures missed { IfErr result (λ fault. is_refusal fault ≡ true → AreWhole tables.old → Misses S.Store conn.old conn.new (λ trees. IsPlanned trees (rows_of tables.old) → KeepsNone trees)) }
     ensures fault { IfErr result (λ fault. is_refusal fault ≡ true → fault ≡ OpenFault.Damaged) }
     ensures spares { Spares S.Store conn.old conn.new }
 {
@@ -251,6 +252,7 @@ fn load_rest<S: Alter>(
 /// As those of [`kept_list`](crate::kept_list).
 pub fn kept_tables<S: Alter>(alloc: Global, conn: &mut Connection<S>) -> Result<Tables, OpenFault>
     ensures committed { IfOk result AreCommitted }
+    ensures formed { IfOk result (λ tables. AreFormed (rows_of tables)) }
     ensures found { IfOk result (λ tables. Finds S.Store conn.old conn.new (λ trees. IsAllLoaded trees tables)) }
     ensures refused { IfErr result (λ fault. is_refusal fault ≡ true → HasNoBook S.Store fault conn.old conn.new) }
     ensures spares { Spares S.Store conn.old conn.new }

@@ -10,10 +10,11 @@ use Rattle.sqlite_schema.specs.declared.command.Source.TheVariants.{Values}
 use Rattle.sqlite_schema.specs.declared.command.Command.TheVariants.{Insert, Select, Update}
 use Rattle.sqlite_schema.specs.declared.schema.Column.{Column}
 use Rattle.sqlite_tied.specs.Compute.{everything}
+use Rattle.sqlite.specs.Effect.{IsDatabase}
 use Rattle.sqlite.specs.Listing.{understood, reads_listing}
 use Rattle.sqlite.specs.State.{State, Executes}
 use Rattle.sqlite.specs.Held.{Held, state}
-use Rattle.sqlite.proofs.Callers.{IsPlain, command_of}
+use Rattle.sqlite.proofs.Callers.{IsPlain, command_of, runs_as}
 use Rattle.bsp_store_base.specs.Kept.{Keeps, KeepsTable}
 use Rattle.bsp_store_base.specs.Simple.{simple}
 use Rattle.bsp_store_base.proofs.Writing.{inserts, updates}
@@ -77,6 +78,10 @@ adds old new entry count now none keeps h =
     (ap₂ ◌∷◌ cast_null (cast_same meta_columns row (cast_int _, (cast_int _, (cast_int _, (cast_int _, tt)))))) (λ id. refl) old new keeps.schema count h _ keeps.kept.0 in
     let alone = subst (λ o. IsPermutation (row ∷ []) (row ∷ meta_rows o)) (sym none) (IsPermutation-refl _) in
     wrote form old.now new.now meta_table.tree now (with entry now) _ it.same it.kept it.others (alone, (refl, (refl, (refl, (refl, (refl, (refl, (refl, (refl, (refl, (refl, (refl, (refl, (refl, tt)))))))))))))) keeps
+
+-- and the trees list the schema and obey it
+pub adds_sound : (old new : State) (entry : Meta) (count : ℕ) → old.now.schema ≡ our_schema → Executes add_text (meta_row entry) old new (Ok count) → IsDatabase new.now
+adds_sound old new entry count ours h = (runs_as add_text (meta_row entry) old new our_schema ours _ add_is.0 add_is.1 count h).sound
 
 -- ---- the calls
 

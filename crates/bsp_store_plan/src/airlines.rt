@@ -1,3 +1,5 @@
+//! The table of the airlines: their places in the plan and their tokens.
+
 ghost use Rattle.std.specs.Prelude.{◌≡◌, is_some, None, true, ⊤, OnOk, OnErr, pos, option_map};
 ghost use Rattle.std.specs.FinMap.{get, insert, remove};
 ghost use Rattle.std.specs.Option.{ForSome};

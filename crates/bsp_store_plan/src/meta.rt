@@ -1,3 +1,5 @@
+//! The table `meta`: the version of the tables and the business day.
+
 ghost use Rattle.std.specs.Prelude.{◌≡◌, is_some, true, ◌<◌, ◌^◌, None, Some, OnOk, OnErr};
 ghost use Rattle.sqlite.specs.Held.{state};
 ghost use Rattle.sqlite.specs.State.{HasCleanDisk, Survives};
@@ -5,7 +7,7 @@ ghost use Rattle.sqlite.specs.Values.{bound};
 ghost use Rattle.bsp_store_base.specs.Calls.{Changes, GivesUp};
 ghost use Rattle.bsp_store_base.specs.Columns.{meta_row};
 ghost use Rattle.bsp_store_base.specs.Content.{Content, form, meta_part};
-ghost use Rattle.bsp_store_base.specs.Kept.{Keeps};
+ghost use Rattle.bsp_store_base.specs.Kept.{Keeps, KeepsSound};
 ghost use Rattle.bsp_store_base.specs.Shows.{ShowsAll};
 ghost use Rattle.bsp_store_plan.specs.Values.{meta_values};
 
@@ -67,7 +69,7 @@ fn add_meta<S: Alter>(conn: &mut Connection<S>, day: Day, closed: usize) -> Resu
 /// That of the statement which failed.
 pub fn add_first_meta<S: Alter>(tx: &mut Transaction<'_, S>, day: Day) -> Result<(), Error>
     ensures same_reference { tx.new.conn.ghost_name ≡ tx.old.conn.ghost_name }
-    ensures added { OnOk result (HasCleanDisk (state S.Store tx.new.conn.now) → (now : Content) → now.meta ≡ None → Keeps form now (state S.Store tx.old.conn.now).now → Keeps form (record now { meta = Some (record { day = day; closed = 0 }) }) (state S.Store tx.new.conn.now).now) }
+    ensures added { OnOk result (HasCleanDisk (state S.Store tx.new.conn.now) → (now : Content) → now.meta ≡ None → Keeps form now (state S.Store tx.old.conn.now).now → KeepsSound form (record now { meta = Some (record { day = day; closed = 0 }) }) (state S.Store tx.new.conn.now).now) }
     ensures survives { Survives (state S.Store tx.old.conn.now) (state S.Store tx.new.conn.now) (λ _. ⊥) }
 {
     let row = MetaRow::of(day, 0);

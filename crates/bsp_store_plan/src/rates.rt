@@ -1,3 +1,5 @@
+//! The table of the commission rates.
+
 ghost use Rattle.std.specs.Prelude.{◌≡◌, ◌<◌, ◌^◌, ◌+◌, ◌++◌, ◌∷◌, [], length, OnOk, OnErr, take};
 ghost use Rattle.sqlite.specs.Values.{bound};
 ghost use Rattle.bsp_store_base.specs.Calls.{Changes, GivesUp, GivesUpIf};

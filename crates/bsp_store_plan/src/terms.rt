@@ -1,3 +1,5 @@
+//! The table of the terms, which has one row.
+
 ghost use Rattle.std.specs.Prelude.{◌≡◌, ◌<◌, ◌^◌, None, Some, OnOk, OnErr, ⊤};
 ghost use Rattle.sqlite.specs.Values.{bound};
 ghost use Rattle.bsp_store_base.specs.Calls.{Changes, GivesUp};

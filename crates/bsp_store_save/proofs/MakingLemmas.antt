@@ -5,7 +5,7 @@ use Rattle.std.specs.FinMap.{empty, entries, from_entries}
 use Rattle.std.specs.Ordering.{nat_cmp}
 use Rattle.std.proofs.lemmas.List.Sorted.{IsPermutation-refl}
 use Rattle.sqlite_value.specs.Order.{Row}
-use Rattle.sqlite.specs.Effect.{Database}
+use Rattle.sqlite.specs.Effect.{Database, IsDatabase}
 use Rattle.bsp_maps.proofs.OrderLemmas.{no_entries}
 use Rattle.bsp_rows.specs.CivilDay.{CivilDay}
 use Rattle.bsp_rows.specs.Published.{opening}
@@ -25,7 +25,9 @@ use Rattle.bsp_store_base.proofs.SecondLemmas.{entries-seconds_of}
 use Rattle.bsp_store_load.specs.Columns.{agent_row, airline_row, item_row, item_tax_row, memo_row, second_row, stock_row, tally_row, tally_tax_row}
 use Rattle.bsp_store_load.specs.Content.{Content, content_with, form}
 use Rattle.bsp_store_load.specs.Contents.{used_tallies}
-use Rattle.bsp_store_load.specs.Kept.{Keeps, KeepsTable}
+use Rattle.bsp_store_load.specs.Formed.{IsBook}
+use Rattle.bsp_store_load.specs.Kept.{Keeps, KeepsSound, KeepsTable}
+use Rattle.bsp_store_load.proofs.FormedContent.{no_rows_formed}
 use Rattle.bsp_store_load.proofs.TallyLemmas.{content_is}
 use Rattle.bsp_store_save.specs.Making.{IsNewBook}
 
@@ -60,8 +62,12 @@ bare_keeps db has =
 
 -- after the row of `meta`
 pub new_book : (before after : Database) (day : CivilDay) → day ≡ opening.day → HasNoRows our_schema before
-    → ((now : Content) → now.meta ≡ None → Keeps form now before → Keeps form (record now { meta = Some (record { day = day; closed = 0 }) }) after) → IsNewBook after
+    → ((now : Content) → now.meta ≡ None → Keeps form now before → KeepsSound form (record now { meta = Some (record { day = day; closed = 0 }) }) after) → IsNewBook after
 new_book before after day is has adds =
     let added = adds no_content refl (bare_keeps before has) in
-    let keeps : Keeps form new_content after = subst (λ d. Keeps form (record no_content { meta = Some (record { day = d; closed = 0 }) }) after) is added in
-    record { schema = keeps.schema; keeps = (new_content, content_is no_rows empty no_totals, keeps.kept) }
+    let keeps : KeepsSound form new_content after = subst (λ d. KeepsSound form (record no_content { meta = Some (record { day = d; closed = 0 }) }) after) is added in
+    record { schema = keeps.0.schema; keeps = (new_content, content_is no_rows empty no_totals, keeps.0.kept); sound = keeps.1 }
+
+-- its trees are a book's
+pub new_trees : (db : Database) → IsNewBook db → IsBook no_rows db.trees
+new_trees db new = record { formed = no_rows_formed; keeps = new.keeps; sound = subst (λ s. IsDatabase (record { schema = s; trees = db.trees })) new.schema new.sound }

@@ -11,6 +11,7 @@ use Rattle.bsp_store_load.specs.Columns.{Meta}
 use Rattle.bsp_store_load.specs.Content.{Content, form}
 use Rattle.bsp_store_load.specs.Kept.{IsInside, HasContents}
 use Rattle.bsp_store_save.specs.Saving.{HasPlan, meta_of, meta_with, with_plan}
+use Rattle.bsp_store_save.proofs.StepLemmas.{as_it_is}
 
 -- what a plan's rows are
 module _ (p : Published) (now : Content) (has : HasPlan p now) where
@@ -46,6 +47,12 @@ module _ (p : Published) (day : CivilDay) (closed : ℕ) (within : closed ≤ le
       λ i. record now { meta = Some (meta_of p); terms = terms i; rates = rates i; periods = periods i; commission_taxes = taxes i }
 
 module _ {S : Type 0} (g : Ghosts S) (first second : Held S) where
+  -- a row of `meta` that is as it is to be
+  pub meta_kept : (p : Published) (was : Meta) → was ≡ meta_of p → Changes g first first (λ c. c.meta ≡ Some was) (λ c. record c { meta = Some (meta_of p) })
+  meta_kept p was same =
+      as_it_is g first (λ c. c.meta ≡ Some was) (λ c. record c { meta = Some (meta_of p) })
+      (λ c met. let there : Some (meta_of p) ≡ c.meta = sym (met ∙ ap Some same) in λ i. record c { meta = there i })
+
   pub meta_saved : (p : Published) (was : Meta) (day : CivilDay) (closed : ℕ) → day ≡ p.day → closed ≡ length p.closed → Changes g first second (λ now. is_some now.meta ≡ true) (λ now. record now { meta = Some (meta_with day closed) })
       → Changes g first second (λ c. c.meta ≡ Some was) (λ c. record c { meta = Some (meta_of p) })
   meta_saved p was day closed d n made now last a b met stands inside =

@@ -5,6 +5,7 @@ pub mod Making
 pub use Rattle.bsp_store_load.specs.Calls
 pub use Rattle.bsp_store_load.specs.Content
 pub use Rattle.bsp_store_load.specs.Contents
+pub use Rattle.bsp_store_load.specs.Formed
 pub use Rattle.bsp_store_load.specs.Kept
 pub use Rattle.bsp_store_load.specs.MemoryRowsTables
 pub use Rattle.bsp_store_load.specs.Tables

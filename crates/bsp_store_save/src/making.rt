@@ -5,7 +5,7 @@ ghost use Rattle.sqlite.specs.Held.{state};
 ghost use Rattle.sqlite.specs.State.{HasCleanDisk, Survives};
 ghost use Rattle.bsp_rows.specs.Rows.{no_rows};
 ghost use Rattle.bsp_store_schema.specs.Schema.{no_schema};
-ghost use Rattle.bsp_store_load.specs.Contents.{KeepsBook};
+ghost use Rattle.bsp_store_load.specs.Formed.{IsBook};
 ghost use Rattle.bsp_store_save.specs.Making.{IsNewBook};
 
 use bsp_rows::Day;
@@ -34,7 +34,7 @@ pub fn make_book<S: Alter>(conn: &mut Connection<S>) -> Result<(), Error>
     requires bare { (state S.Store conn.old).now.schema ≡ no_schema }
     requires outside { conn.old.in_transaction ≡ false }
     ensures made { OnOk result (HasCleanDisk (state S.Store conn.new) → IsNewBook (state S.Store conn.new).committed) }
-    ensures stop { Survives (state S.Store conn.old) (state S.Store conn.new) (KeepsBook no_rows) }
+    ensures stop { Survives (state S.Store conn.old) (state S.Store conn.new) (IsBook no_rows) }
     ensures outside { conn.new.in_transaction ≡ false }
 {
     let mut tx = conn.transaction();

@@ -1,10 +1,8 @@
-use Rattle.std.proofs.Common.{refl}
-use Rattle.bsp_routes.specs.Calls.{asking_text}
-use Rattle.bsp_desk_base.proofs.ContentsRead.{each_content_is_read}
-use Rattle.bsp_desk.specs.Reading.{token_text}
+use Rattle.bsp_desk.proofs.ListsRead.{each_is_read, lists_are_read}
 use Rattle.bsp_desk.proofs.laws.requests_are_read.Goals as goal
 
-pub returns : goal.returns
-returns c request whole small =
-    let asked = each_content_is_read (asking_text request.call) request.content whole small in
-    (record { token = token_text request.token; asked = asked.0 }, record { token = refl; asked = asked.1 })
+pub returns-clause-each : goal.returns-clause-each
+returns-clause-each c = each_is_read
+
+pub returns-clause-lists : goal.returns-clause-lists
+returns-clause-lists c = lists_are_read

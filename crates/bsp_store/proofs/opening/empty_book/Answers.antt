@@ -1,3 +1,6 @@
+use Rattle.std.proofs.Common.{subst}
+use Rattle.sqlite.specs.Held.{state}
+use Rattle.sqlite.specs.State.{HasCleanDisk}
 use Rattle.bsp_rows.specs.Rows.{no_rows}
 use Rattle.bsp_store_open.specs.Opening.{LeavesCommitted}
 use Rattle.bsp_store_open.proofs.OpeningLemmas.{given_up, left_committed, passed_on}
@@ -16,3 +19,8 @@ returns-in-Err-clause-left g c =
     let store = c.into_store in
     left_committed g.S.Store c.args.conn was c.in_ok-conn.ensures.ok store.result (λ db is may. g.met.S.Store.settled was.store db is may)
     (given_up g.S.Store was c.empty_list.new.conn store.result c.in-Err.ensures.spares store.ensures.quiet)
+
+pub returns-in-Ok-clause-earlier : goal.returns-in-Ok-clause-earlier
+returns-in-Ok-clause-earlier g c = λ clean.
+    let again = c.in_ok-conn.ensures.ok in
+    again.earlier ((c.in-Ok.ensures.read again.ordered).earlier (subst (λ h. HasCleanDisk (state g.S.Store h)) c.of.ensures.parts.1 clean))

@@ -15,7 +15,7 @@ migrated_book-requires g c = record { schema = sym c.schema.ensures.value ∙ c.
 pub returns-then-is_bare-clause-ok : goal.returns-then-is_bare-clause-ok
 returns-then-is_bare-clause-ok g c =
     let bare : IsTrue c.is_bare.result = search rules in
-    each_ok (λ h. Reopens g.S.Store h c.args.conn) c.new_book.result (Adopts g.S.Store) (λ before again. new_adopted g.S.Store before c.args.conn again c.new_book.result (c.is_bare.ensures.0 bare) c.new_book.ensures.ok)
+    each_ok (λ h. Reopens g.S.Store h c.args.conn) c.new_book.result (Adopts g.S.Store) (λ before again. new_adopted g.S.Store before c.args.conn again c.new_book.result (c.is_bare.ensures.0 bare) c.new_book.ensures.ok c.new_book.ensures.earlier)
 
 pub returns-in-Some-clause-ok : goal.returns-in-Some-clause-ok
 returns-in-Some-clause-ok g c =

@@ -17,6 +17,7 @@ loop-airline-preserved c =
     let so_far = take c.loop-airline.airline-index c.args.airlines.now in
     record {
       derived = λ is. c.in_ok-put_token.ensures.derived (c.loop-airline.invariant.derived is);
+      registered = λ each. c.in_ok-put_token.ensures.registered (c.loop-airline.invariant.registered each);
       rows = c.in_ok-put_token.ensures.rows
           ∙ ap (λ (r : Rows). record r { airlines = with_pair (code_token e) r.airlines }) c.loop-airline.invariant.rows
           ∙ ap (λ m. record first { airlines = m }) (sym (gathered_last code_token so_far e first.airlines))

@@ -1,5 +1,7 @@
-use Rattle.std.proofs.Common.{◌∙◌}
+use Rattle.std.proofs.Common.{◌∙◌, sym, ap, subst}
+use Rattle.bsp_rows.specs.Rows.{Rows}
 use Rattle.bsp_memory_rows.specs.Tables.{rows_of}
+use Rattle.bsp_store_load.specs.Formed.{IsRegisteredAirline, OnEach}
 use Rattle.bsp_store_load.proofs.AirlineReads.{airlines_are, airlines_found}
 use Rattle.bsp_store_load.proofs.CloseLemmas.{both_alone, plan_and_none, tokens_put}
 use Rattle.bsp_store_load.proofs.compared.put_rows.Goals as goal
@@ -26,3 +28,9 @@ returns-clause-plan c = λ p tokens s formed are start none.
     let it = c.in_ok-put_plan.ensures.plan p tokens s formed are (c.deref-2.ensures.value ∙ listed) start in
     tokens_put p tokens (rows_of c.args.tables.now) (rows_of c.put_plan.new.tables) (rows_of c.put_tokens.new.tables) it.1 c.in_ok-put_tokens.ensures.others none
     (λ no. c.in_ok-put_tokens.ensures.tokens p.airlines tokens no (c.deref-3.ensures.value ∙ listed))
+
+pub returns-then-not-branch-clause-registered : goal.returns-then-not-branch-clause-registered
+returns-then-not-branch-clause-registered c = λ each. subst (OnEach IsRegisteredAirline) (sym (ap (λ (r : Rows). r.airlines) c.in_ok-put_plan.ensures.others)) each
+
+pub returns-clause-registered : goal.returns-clause-registered
+returns-clause-registered c = λ each. c.in_ok-put_tokens.ensures.registered (subst (OnEach IsRegisteredAirline) (sym (ap (λ (r : Rows). r.airlines) c.in_ok-put_plan.ensures.others)) each)

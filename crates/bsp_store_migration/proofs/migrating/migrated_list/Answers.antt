@@ -53,18 +53,18 @@ pub returns-in_err-commit-clause-stop : goal.returns-in_err-commit-clause-stop
 returns-in_err-commit-clause-stop g c =
     let tables = c.in_ok-tables.tables in
     stopped g.S.Store c.args.version c.args.conn.now c.expect_numbered.new.conn c.begin.new.conn c.requires c.in_ok-expect_numbered.ensures.numbered c.in_ok-expect_numbered.ensures.spares c.in_ok-begin.ensures.begun c.in_ok-begin.ensures.spares
-    c.filled_tables.new.conn c.commit.new.conn (content_now tables) c.in_ok-tables.ensures.filled c.in_ok-tables.ensures.spares (rows_of tables) (content_is (rows_of tables) _ c.in_ok-tables.ensures.committed.derived.totals) c.in_ok-tables.ensures.sound c.in_err-commit.ensures.stop
+    c.filled_tables.new.conn c.commit.new.conn (content_now tables) c.in_ok-tables.ensures.filled c.in_ok-tables.ensures.spares (rows_of tables) (content_is (rows_of tables) _ c.in_ok-tables.ensures.committed.derived.totals) c.in_ok-tables.ensures.sound c.in_ok-tables.ensures.formed c.in_ok-tables.ensures.only c.in_err-commit.ensures.stop
 
 pub returns-clause-stop : goal.returns-clause-stop
 returns-clause-stop g c =
     let tables = c.in_ok-tables.tables in
     stopped g.S.Store c.args.version c.args.conn.now c.expect_numbered.new.conn c.begin.new.conn c.requires c.in_ok-expect_numbered.ensures.numbered c.in_ok-expect_numbered.ensures.spares c.in_ok-begin.ensures.begun c.in_ok-begin.ensures.spares
-    c.filled_tables.new.conn c.commit.new.conn (content_now tables) c.in_ok-tables.ensures.filled c.in_ok-tables.ensures.spares (rows_of tables) (content_is (rows_of tables) _ c.in_ok-tables.ensures.committed.derived.totals) c.in_ok-tables.ensures.sound c.in_ok-commit.ensures.stop
+    c.filled_tables.new.conn c.commit.new.conn (content_now tables) c.in_ok-tables.ensures.filled c.in_ok-tables.ensures.spares (rows_of tables) (content_is (rows_of tables) _ c.in_ok-tables.ensures.committed.derived.totals) c.in_ok-tables.ensures.sound c.in_ok-tables.ensures.formed c.in_ok-tables.ensures.only c.in_ok-commit.ensures.stop
 
 pub returns-clause-read : goal.returns-clause-read
 returns-clause-read g c =
     let tables = c.in_ok-tables.tables in
     let it = λ (list : _). migrated g.S.Store c.args.version c.args.conn.now c.expect_numbered.new.conn c.begin.new.conn c.requires c.in_ok-expect_numbered.ensures.numbered c.in_ok-expect_numbered.ensures.spares c.in_ok-begin.ensures.begun c.in_ok-begin.ensures.spares
-    c.filled_tables.new.conn c.commit.new.conn (content_now tables) c.in_ok-tables.ensures.filled c.in_ok-tables.ensures.spares (rows_of tables) (content_is (rows_of tables) _ c.in_ok-tables.ensures.committed.derived.totals) c.in_ok-tables.ensures.sound c.in_ok-commit.ensures.ended
+    c.filled_tables.new.conn c.commit.new.conn (content_now tables) c.in_ok-tables.ensures.filled c.in_ok-tables.ensures.spares (rows_of tables) (content_is (rows_of tables) _ c.in_ok-tables.ensures.committed.derived.totals) c.in_ok-tables.ensures.sound c.in_ok-tables.ensures.formed c.in_ok-commit.ensures.ended c.in_ok-tables.ensures.only
     (λ db is may. g.met.S.Store.settled c.commit.new.conn.store db is may) list in
     subst (λ (t : Tables). IsMigrated g.S.Store c.args.version c.args.conn.now c.commit.new.conn c.over.result (rows_of t)) (sym c.over.ensures.tables) (it c.over.result c.over.ensures.holds)

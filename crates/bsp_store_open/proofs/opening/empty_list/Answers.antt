@@ -18,5 +18,5 @@ over-requires g c =
 pub returns-clause-read : goal.returns-clause-read
 returns-clause-read g c = λ order.
     tables_read g.S.Store c.args.conn.now c.kept_tables.new.conn order c.in_ok-tables.tables c.in_ok-tables.ensures.committed c.in_ok-tables.ensures.found c.over.result no_rows
-    c.over.ensures.tables c.over.ensures.holds c.in_ok-expect_none.ensures no_rows_sound c.in_ok-expect_rest.ensures.outside c.in_ok-expect_rest.ensures.settled
+    c.over.ensures.tables c.over.ensures.holds c.in_ok-expect_none.ensures no_rows_sound c.in_ok-tables.ensures.formed c.in_ok-expect_rest.ensures.live c.in_ok-expect_rest.ensures.outside c.in_ok-expect_rest.ensures.settled
     (λ db is may. g.met.S.Store.settled c.kept_tables.new.conn.store db is may)

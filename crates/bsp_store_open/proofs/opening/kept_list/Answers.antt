@@ -11,7 +11,7 @@ pub returns-clause-read : goal.returns-clause-read
 returns-clause-read g c = λ order.
     let same = ap rows_of (sym c.over.ensures.tables) in
     tables_read g.S.Store c.args.conn.now c.kept_tables.new.conn order c.in_ok-tables.tables c.in_ok-tables.ensures.committed c.in_ok-tables.ensures.found c.over.result (rows_of c.over.result.tables)
-    c.over.ensures.tables c.over.ensures.holds same (subst Sound same c.in_ok-expect_sound.ensures.sound) c.in_ok-expect_rest.ensures.outside c.in_ok-expect_rest.ensures.settled
+    c.over.ensures.tables c.over.ensures.holds same (subst Sound same c.in_ok-expect_sound.ensures.sound) c.in_ok-tables.ensures.formed c.in_ok-expect_rest.ensures.live c.in_ok-expect_rest.ensures.outside c.in_ok-expect_rest.ensures.settled
     (λ db is may. g.met.S.Store.settled c.kept_tables.new.conn.store db is may)
 
 pub returns-in_err-tables-clause-refused : goal.returns-in_err-tables-clause-refused

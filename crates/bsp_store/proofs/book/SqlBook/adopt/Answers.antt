@@ -4,6 +4,7 @@ use Rattle.bsp_store_open.specs.Opening.{Reopens}
 use Rattle.bsp_store_open.proofs.OpeningLemmas.{passed_on}
 use Rattle.bsp_store.specs.Adopting.{Adopts, LeavesWhole, WasNoBook}
 use Rattle.bsp_store.proofs.AdoptingLemmas.{one_err, one_ok}
+use Rattle.bsp_store.proofs.StopLemmas.{finds_book, finds_unrefused}
 use Rattle.bsp_store.proofs.WholeLemmas.{whole_left}
 use Rattle.bsp_store.proofs.book.SqlBook.adopt.Goals as goal
 
@@ -22,3 +23,13 @@ returns-clause-refused g c =
 
 pub returns-clause-left : goal.returns-clause-left
 returns-clause-left g c = one_err (λ h. Reopens g.S.Store h c.in_ok-conn.conn) c.opened.result (λ before e. LeavesWhole g.S.Store before e.1) c.opened.ensures.left c.args.conn c.in_ok-conn.ensures.ok
+
+pub returns-in_err-conn-clause-stops : goal.returns-in_err-conn-clause-stops
+returns-in_err-conn-clause-stops g c = finds_unrefused g.S.Store c.args.conn _ _ c.from_residual.ensures.1 c.in_err-conn.ensures.refused
+
+pub returns-clause-stops : goal.returns-clause-stops
+returns-clause-stops g c =
+    let was = c.in_ok-conn.ensures.ok in
+    finds_book g.S.Store c.args.conn c.opened.result
+    (one_ok (λ h. Reopens g.S.Store h c.in_ok-conn.conn) c.opened.result (Adopts g.S.Store) c.opened.ensures.ok c.args.conn was)
+    (one_err (λ h. Reopens g.S.Store h c.in_ok-conn.conn) c.opened.result (λ before e. is_refusal e.0 ≡ true → WasNoBook g.S.Store e.0 before e.1) c.opened.ensures.refused c.args.conn was)

@@ -1,12 +1,15 @@
-use Rattle.std.proofs.Common.{rules, ◌≡◌, refl, sym, ap, ◌∙◌}
+use Rattle.std.proofs.Common.{rules, ◌≡◌, refl, sym, ap, subst, ◌∙◌}
 use Rattle.std.specs.FinMap.{get}
 use Rattle.sqlite.specs.Values.{bound}
 use Rattle.bsp_rows.specs.Writes.{with_agent_token}
 use Rattle.bsp_memory_rows.specs.Tables.{rows_of}
 use Rattle.bsp_store_base.specs.Columns.{agent_row}
+use Rattle.bsp_store_base.specs.Forms.{IsAgentEntry}
 use Rattle.bsp_store_callers.specs.Reading.{agent_in}
 use Rattle.bsp_store_callers.proofs.Back.{agent_back}
 use Rattle.bsp_store_load.specs.Entries.{has_real}
+use Rattle.bsp_store_load.specs.Formed.{AreFormed}
+use Rattle.bsp_store_load.proofs.FormedContent.{agent_formed}
 use Rattle.bsp_store_load.proofs.RowReads.{none_found, not_none, own_is, own_row}
 use Rattle.bsp_store_load.proofs.callers.AgentsStoredTableAgentCodeTokenTables.put.Goals as goal
 
@@ -35,3 +38,12 @@ returns-clause-entry c = λ e fits lacks is.
     let same = own_is agent_row c.args.row.now c.read_agent.result e some (c.in-Some.agent, c.in-Some.token) c.in-Some.is in
     let put : rows_of c.set_agent_token.new.self ≡ with_agent_token c.in-Some.agent c.in-Some.token (rows_of c.args.tables.now) = search rules in
     (refl, c.commit.ensures.rows ∙ put ∙ ap (λ p. with_agent_token p.0 p.1 (rows_of c.args.tables.now)) same)
+
+pub returns-clause-derived : goal.returns-clause-derived
+returns-clause-derived c = λ whole.
+    let put : rows_of c.set_agent_token.new.self ≡ with_agent_token c.in-Some.agent c.in-Some.token (rows_of c.args.tables.now) = search rules in
+    let own : IsAgentEntry (c.in-Some.agent, c.in-Some.token) = search rules in
+    record {
+      derived = c.commit.ensures.derived (c.in_ok-set_agent_token.ensures.derived whole.derived);
+      formed = subst AreFormed (sym (c.commit.ensures.rows ∙ put)) (agent_formed (rows_of c.args.tables.now) whole.formed c.in-Some.agent c.in-Some.token own);
+    }

@@ -1,4 +1,4 @@
-use Rattle.std.proofs.Common.{◌≡◌, ℕ, refl, sym, ap, ◌∙◌}
+use Rattle.std.proofs.Common.{◌≡◌, ℕ, refl, sym, ap, subst, ◌∙◌}
 use Rattle.std.specs.FinMap.{get}
 use Rattle.bsp_rows.specs.Rows.{range_of}
 use Rattle.bsp_rows.specs.Writes.{with_range}
@@ -8,6 +8,8 @@ use Rattle.bsp_memory_tables.specs.RangeTables.{range_rows}
 use Rattle.bsp_store_base.specs.Columns.{stock_row}
 use Rattle.bsp_store_load.specs.Entries.{has_real}
 use Rattle.bsp_store_load.proofs.RangeReads.{range_is}
+use Rattle.bsp_store_load.specs.Formed.{AreFormed}
+use Rattle.bsp_store_load.proofs.FormedContent.{range_formed}
 use Rattle.bsp_store_load.proofs.RowReads.{found_none, none_found, not_none, own_is, own_row}
 use Rattle.bsp_store_load.proofs.callers.RangesStoredTableRangeKeyDocNumberTables.put.Goals as goal
 
@@ -40,3 +42,12 @@ returns-clause-entry c = λ e fits lacks is.
     let some = range_is c.args.row.now c.read_range.result e c.read_range.ensures fits is in
     let same = own_is stock_row c.args.row.now c.read_range.result e some (c.in-Some.key, c.in-Some.last) c.in-Some.is in
     (refl, c.commit.ensures.rows ∙ c.in_ok-add_range.ensures.ok ∙ ap (λ r. with_range c.in-Some.key.agent r (rows_of c.args.tables.now)) c.up_to.ensures ∙ ap (λ (p : RangeKey × ℕ). with_range p.0.agent (range_of p) (rows_of c.args.tables.now)) same)
+
+pub returns-clause-derived : goal.returns-clause-derived
+returns-clause-derived c = λ whole.
+    let key = c.in-Some.key in
+    record {
+      derived = c.commit.ensures.derived (c.in_ok-add_range.ensures.derived whole.derived);
+      formed = subst AreFormed (sym (c.commit.ensures.rows ∙ c.in_ok-add_range.ensures.ok ∙ ap (λ r. with_range key.agent r (rows_of c.args.tables.now)) c.up_to.ensures))
+          (range_formed (rows_of c.args.tables.now) whole.formed key.agent (range_of (key, c.in-Some.last)) c.formed_range.ensures);
+    }

@@ -10,6 +10,8 @@ use Rattle.bsp_store_base.specs.Columns.{item_row}
 use Rattle.bsp_store_load.specs.Beside.{IsKeyed}
 use Rattle.bsp_store_load.specs.Entries.{has_real}
 use Rattle.bsp_store_load.proofs.PlainRows.{plain_item}
+use Rattle.bsp_store_load.specs.Formed.{AreFormed, IsFormedItem}
+use Rattle.bsp_store_load.proofs.FormedContent.{item_formed}
 use Rattle.bsp_store_load.proofs.RowReads.{found_none, none_found, not_none, own_is, own_row}
 use Rattle.bsp_store_load.proofs.items.StoredItemsStoredTableItemKeyItemTables.put.Goals as goal
 
@@ -43,3 +45,12 @@ pub returns-clause-entry : goal.returns-clause-entry
 returns-clause-entry c = λ e fits lacks is.
     let same = own_is item_row c.args.row.now c.read.result e (c.read.ensures.entry e fits is) (c.in-Some.key, c.in-Some.item) c.in-Some.is in
     (refl, c.commit.ensures.rows ∙ c.in_ok-add_item.ensures.ok ∙ ap (λ (p : ItemKey × Item). with_item p.1 (rows_of c.args.tables.now)) same)
+
+pub returns-clause-derived : goal.returns-clause-derived
+returns-clause-derived c = λ whole.
+    let own = subst (λ o. IfSome o IsKeyed) c.in-Some.is c.read.ensures.keyed in
+    record {
+      derived = c.commit.ensures.derived (c.in_ok-add_item.ensures.derived whole.derived);
+      formed = subst AreFormed (sym (c.commit.ensures.rows ∙ c.in_ok-add_item.ensures.ok))
+          (item_formed (rows_of c.args.tables.now) whole.formed c.in-Some.item (subst (λ (k : ItemKey). IsFormedItem (k, c.in-Some.item)) (sym own.keyed) c.formed_item.ensures));
+    }

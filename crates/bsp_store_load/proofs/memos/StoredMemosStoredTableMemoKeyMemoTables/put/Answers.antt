@@ -1,13 +1,16 @@
-use Rattle.std.proofs.Common.{rules, ◌≡◌, refl, sym, ap, ◌∙◌}
+use Rattle.std.proofs.Common.{rules, ◌≡◌, refl, sym, ap, subst, ◌∙◌}
 use Rattle.std.specs.FinMap.{get}
 use Rattle.sqlite.specs.Values.{bound}
 use Rattle.bsp_rows.specs.Rows.{memo_key}
 use Rattle.bsp_rows.specs.Writes.{with_memo}
+use Rattle.bsp_rows.specs.declared.keys.MemoKey.{MemoKey}
 use Rattle.bsp_memory_rows.specs.Tables.{rows_of}
 use Rattle.bsp_store_base.specs.Columns.{memo_row}
 use Rattle.bsp_store_load.specs.Entries.{has_real}
 use Rattle.bsp_store_load.proofs.MemoReads.{memo_none, memo_same}
 use Rattle.bsp_store_load.proofs.PlainRows.{plain_memo}
+use Rattle.bsp_store_load.specs.Formed.{AreFormed, IsFormedMemo}
+use Rattle.bsp_store_load.proofs.FormedContent.{memo_formed}
 use Rattle.bsp_store_load.proofs.RowReads.{found_none, none_found}
 use Rattle.bsp_store_load.proofs.memos.StoredMemosStoredTableMemoKeyMemoTables.put.Goals as goal
 
@@ -42,3 +45,14 @@ returns-clause-entry c = λ e fits lacks is.
     let same = memo_same c.args.row.now c.read_memo.result e c.read_memo.ensures fits is c.in-Some.field-0-0 c.in-Some.memo c.in-Some.is in
     let put : rows_of c.put_memo.new.self ≡ with_memo c.in-Some.memo (rows_of c.args.tables.now) = search rules in
     (refl, c.commit.ensures.rows ∙ put ∙ ap (λ m. with_memo m (rows_of c.args.tables.now)) same)
+
+pub returns-clause-derived : goal.returns-clause-derived
+returns-clause-derived c = λ whole.
+    let key : c.of-key.result ≡ memo_key c.in-Some.memo = search rules in
+    let own : IsFormedMemo (c.of-key.result, c.in-Some.memo) = search rules in
+    let put : rows_of c.put_memo.new.self ≡ with_memo c.in-Some.memo (rows_of c.args.tables.now) = search rules in
+    record {
+      derived = c.commit.ensures.derived (c.in_ok-put_memo.ensures.derived whole.derived);
+      formed = subst AreFormed (sym (c.commit.ensures.rows ∙ put))
+          (memo_formed (rows_of c.args.tables.now) whole.formed c.in-Some.memo (subst (λ (k : MemoKey). IsFormedMemo (k, c.in-Some.memo)) key own));
+    }

@@ -1,0 +1,87 @@
+#!/usr/bin/env python3
+"""Compares the README.md of each crate with its sources: what the crate is, its files, what it is built on, and who uses it,
+by the //! lines of its files, or the first /// where there are none, and by crates.txt. With --write it writes them.
+
+usage: .ci/readmes.py [--write]
+"""
+import pathlib
+import re
+import sys
+
+TOP = pathlib.Path(__file__).resolve().parents[1]
+
+
+def crate_lines():
+    """The crates of this repository, each with what it is built on."""
+    found = {}
+    for line in (TOP / "crates.txt").read_text().splitlines():
+        name, colon, below = line.partition("#")[0].partition(":")
+        if colon:
+            found[name.split()[0]] = below.split()
+    return found
+
+
+def said(path):
+    """The //! text at the top of a file, in paragraphs."""
+    lines = []
+    for line in path.read_text().splitlines():
+        if not line.startswith("//!"):
+            break
+        lines.append(line[4:])
+    # a link to an item of the code is its name alone
+    text = re.sub(r"\[(`[^`]*`)\](\([^)]*\))?", r"\1", "\n".join(lines))
+    return [" ".join(it.split()) for it in text.split("\n\n") if it.strip()]
+
+
+def purpose(path):
+    """What a file has: its //! text, or else the first sentence on one of its items."""
+    if found := said(path):
+        return found[0]
+    item = re.search(r"(?m)^ *///.*(\n *///.*)*", path.read_text())
+    text = " ".join(it.strip()[3:].strip() for it in item[0].splitlines()) if item else ""
+    return re.sub(r"\[(`[^`]*`)\](\([^)]*\))?", r"\1", text.split(". ")[0].rstrip(".") + ".") if text else "?"
+
+
+def named(names):
+    return ", ".join(f"[{it}](../{it}/README.md)" for it in names)
+
+
+def readme(name, crates):
+    """The text of a crate's README.md."""
+    folder = TOP / "crates" / name
+    root = next(it for it in (folder / "src" / "lib.rt", folder / "src" / "main.rt") if it.exists())
+    lines = [f"# {name}", ""]
+    for paragraph in said(root):
+        lines += [paragraph, ""]
+    files = [it for it in sorted((folder / "src").glob("*.rt")) if it != root]
+    if files:
+        lines += ["| File of `src` | What it has |", "|---|---|"]
+        lines += [f"| `{it.name}` | {purpose(it)} |" for it in files] + [""]
+    own = [it for it in crates[name] if it in crates]
+    kit = [f"`{it}`" for it in crates[name] if it not in crates]
+    above = sorted(it for it, below in crates.items() if name in below)
+    lines.append(f"Built on: {named(own) or 'no crate of this repository'}{'; of the kit ' + ', '.join(kit) if kit else ''}.")
+    if above:
+        lines.append(f"Used by: {named(above)}.")
+    lines.append("What is proved: [PROVED](../../docs/PROVED.md). Its place: [ARCHITECTURE](../../docs/ARCHITECTURE.md).")
+    return "\n".join(lines) + "\n"
+
+
+def main():
+    crates, wrong = crate_lines(), []
+    for name in crates:
+        path, wanted = TOP / "crates" / name / "README.md", readme(name, crates)
+        if "--write" in sys.argv[1:]:
+            path.write_text(wanted)
+        elif not path.exists() or path.read_text() != wanted:
+            wrong.append(name)
+            print(f"{path.relative_to(TOP)} is not what .ci/readmes.py --write writes")
+        if "| ? |" in wanted:
+            wrong.append(name)
+            print(f"{name}: a file of src has neither //! nor ///")
+    if not wrong:
+        print(f"the README of each of {len(crates)} crates is as its sources are")
+    sys.exit(min(len(wrong), 255))
+
+
+main()
