@@ -1,0 +1,5 @@
+-- What the contracts of the trials cite.
+pub mod Asked
+pub mod Judged
+pub mod PlanLines
+pub mod Plans
