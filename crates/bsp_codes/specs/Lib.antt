@@ -1,3 +1,0 @@
--- What the contracts of the codes cite.
-pub mod Codes
-pub mod Texts

@@ -1,5 +1,0 @@
--- Lemmas of this crate.
-pub mod AskLemmas
-pub mod JudgeLemmas
-pub mod Pieces
-pub mod PlanLemmas

@@ -1,5 +1,0 @@
--- What the contracts of the trials cite.
-pub mod Asked
-pub mod Judged
-pub mod PlanLines
-pub mod Plans
