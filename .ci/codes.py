@@ -1,9 +1,14 @@
 #!/usr/bin/env python3
-"""Compares the codes that the sources write with the rows of docs/CODES.md.
+"""Compares docs/CODES.md with the table of crates/bsp_codes, and that with the codes that the sources write.
 
-A code is a letter and two digits in a text of crates/*/src, tests and comments apart, as `E05` or `{"code":"N02"}`. A
-row of docs/CODES.md begins with its code. Each code of the sources has one row there, and there is no other row. The
-script names what differs, and ends with status 1 if anything does."""
+The table has an entry for each code: the status of a reply, what it means, what to do and, of some, its causes. A row of
+docs/CODES.md is made of each, and a section `### E07 by its causes` of causes. A code that another source writes is a
+letter and two digits in a text of crates/*/src, tests and comments apart, as `E05` or `{"code":"N02"}`. Each has one
+entry, and there is no other. The script names what differs, and ends with status 1 if anything does.
+
+usage: .ci/codes.py            compares
+       .ci/codes.py --write    makes the rows and the causes of docs/CODES.md of the table"""
+import json
 import re
 import sys
 
@@ -12,14 +17,61 @@ from office import TOP
 COMMENT = re.compile(r"^\s*//.*$|\s//\s.*$", re.M)
 TEXT = re.compile(r'"(?:[^"\\]|\\.)*"')
 CODE = re.compile(r"(?<!\w)[A-Z]\d\d(?!\w)")
-ROW = re.compile(r"^\| `?([A-Z]\d\d)`? \|", re.M)
+ROW = re.compile(r"^\| `?([A-Z]\d\d)`? \|.*$", re.M)
+CAUSES = re.compile(r"^### ([A-Z]\d\d) by its causes\n\n((?:- .*\n)*)", re.M)
+PAGE = TOP / "docs/CODES.md"
+# an entry of the table, a list of causes, and the letter of the entries behind it
+ENTRY = re.compile(r"^ {8}(\d+) => (?:row\(|Entry \{)(.*?)^ {8}[)}],", re.M | re.S)
+LIST = re.compile(r"^static ([A-Z]\d\d): \[&str; \d+\] = \[(.*?)^\];", re.M | re.S)
+LETTER = re.compile(r"^/// The code `([A-Z])` and a number\.", re.M)
+
+
+def texts(part):
+    """The texts of a part of a source."""
+    return [json.loads(it) for it in TEXT.findall(part)]
+
+
+def table():
+    """The table: of each code the status, the meaning, the remedy, and the causes."""
+    found, causes = {}, {}
+    for path in sorted((TOP / "crates/bsp_codes/src").glob("*.rt")):
+        source = path.read_text(encoding="utf-8")
+        causes.update({code: texts(listed) for code, listed in LIST.findall(source)})
+        for letter, part in zip(LETTER.findall(source), LETTER.split(source)[2::2]):
+            found.update({f"{letter}{int(number):02}": texts(entry) for number, entry in ENTRY.findall(part)})
+    return {code: (*entry, causes.get(code, [])) for code, entry in found.items()}
+
+
+def as_page(code, text, causes):
+    """A text of the table as the page has it: with links to pages and to the causes."""
+    if causes:
+        text = text.replace("its causes", f"[{code} by its causes](#{code.lower()}-by-its-causes)")
+    return re.sub(r"\bdocs/([A-Z]+\.md)", r"[\1](\1)", text)
+
+
+def made(page, entries):
+    """The page with its rows and its causes made of the table."""
+    def row(match):
+        code = match[1]
+        if code not in entries:
+            return match[0]
+        status, meaning, remedy, causes = entries[code]
+        cells = [code, status] if match[0].count(" | ") == 3 else [code]
+        cells += [as_page(code, meaning, causes), as_page(code, remedy, causes)]
+        return f"| {' | '.join(cells)} |".replace("|  |", "| |")
+
+    def section(match):
+        listed = entries.get(match[1], ("", "", "", []))[3]
+        return f"### {match[1]} by its causes\n\n" + "".join(f"- {it}.\n" for it in listed)
+
+    return CAUSES.sub(section, ROW.sub(row, page))
 
 
 def written():
-    """The codes in the texts of the sources, each with the first file that has it."""
+    """The codes in the texts of the other sources, each with the first file that has it."""
     found = {}
     for path in sorted(TOP.glob("crates/*/src/**/*.rt")):
-        if "tests" in path.parts or path.stem == "tests":
+        if "tests" in path.parts or path.stem == "tests" or "bsp_codes" in path.parts:
             continue
         text = COMMENT.sub("", path.read_text(encoding="utf-8"))
         for code in CODE.findall(" ".join(TEXT.findall(text))):
@@ -28,12 +80,23 @@ def written():
 
 
 def main():
-    known = written()
-    rows = ROW.findall((TOP / "docs/CODES.md").read_text(encoding="utf-8"))
-    faults = [f"docs/CODES.md has no row of {code}, which {known[code]} writes" for code in sorted(known) if code not in rows]
-    faults += [f"docs/CODES.md has a row of {code}, which no source writes" for code in sorted(set(rows)) if code not in known]
+    known, entries = written(), table()
+    page = PAGE.read_text(encoding="utf-8")
+    if "--write" in sys.argv[1:]:
+        page = made(page, entries)
+        PAGE.write_text(page, encoding="utf-8")
+    rows, sections = ROW.findall(page), [it[0] for it in CAUSES.findall(page)]
+    faults = [f"the table has no {code}, which {known[code]} writes" for code in sorted(known) if code not in entries]
+    faults += [f"the table has {code}, which no source writes" for code in sorted(entries) if code not in known]
+    faults += [f"docs/CODES.md has no row of {code}" for code in sorted(entries) if code not in rows]
+    faults += [f"docs/CODES.md has a row of {code}, which is not in the table" for code in sorted(set(rows)) if code not in entries]
     faults += [f"docs/CODES.md has {code} in more than one row" for code in sorted(set(rows)) if rows.count(code) > 1]
-    print("\n".join(faults + [f"codes: {len(known)} in the sources, {len(rows)} rows"]))
+    faults += [f"docs/CODES.md has no section of the causes of {code}" for code in sorted(entries) if entries[code][3] and code not in sections]
+    for has, wants in zip(page.splitlines(), made(page, entries).splitlines()):
+        if has != wants:
+            faults.append(f"docs/CODES.md differs from the table:\n  has   {has}\n  wants {wants}")
+            break
+    print("\n".join(faults + [f"codes: {len(known)} in the sources, {len(entries)} in the table, {len(rows)} rows"]))
     return 1 if faults else 0
 
 

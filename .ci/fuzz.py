@@ -1,8 +1,8 @@
 #!/usr/bin/env python3
 """Gives the built program random and mutated bytes: RET and HOT files, plan texts, JSON bodies and HTTP messages.
 
-`check` and `hotcheck` end with status 0 or 1 and a report in its form, within a limit of time and of memory. Two offices,
-one with its book in memory and one with it in a file, are sent the same requests and the same bytes of connections. Their
+`check` and `hotcheck` end with status 0 or 1 and a report in its form. Two offices, one with its book in memory and one with
+it in a file, are sent the same requests and the same bytes of connections. All have limits of time and of memory. Their
 replies are equal, each has a status of docs/ROUTES.md, and none is 503. What is refused, held or shown leaves the same to
 be shown. A change that was done is held when it is sent again, and so is a transaction that was accepted. In the end the
 office with the file is killed; started again, it shows what the other one shows.
@@ -11,6 +11,7 @@ The line at the end has the numbers of what was tried. A difference is printed w
 the same again, as long as the time lasts.
 
 usage: .ci/fuzz.py PROGRAM [SECONDS [SEED]]     (by default 10 seconds, and the seed 1)
+       .ci/fuzz [SECONDS [SEED]]                (the program that is built)
 """
 import collections
 import http.client
@@ -327,12 +328,12 @@ class Pair:
     """Two offices, of which the second has its book in a file."""
 
     def __init__(self):
-        self.offices = [office.Office(PROGRAM, None, "--token", OFFICE), self.with_file()]
+        self.offices = [office.Office(PROGRAM, None, "--token", OFFICE, memory=MEMORY), self.with_file()]
         self.seen = None
 
     @staticmethod
     def with_file():
-        return office.Office(PROGRAM, None, "--token", OFFICE, "--db", "office.db")
+        return office.Office(PROGRAM, None, "--token", OFFICE, "--db", "office.db", memory=MEMORY)
 
     def ask(self, method, path, token=None, body=None):
         """The reply of both."""

@@ -366,6 +366,14 @@ TAXES = {
 }
 
 
+# tables that are those of no version
+SCHEMAS = {
+    "no table of memos": "DROP TABLE memo",
+    "a table more": "CREATE TABLE spare (id INTEGER)",
+    "an index": "CREATE INDEX spare ON item (airline)",
+}
+
+
 def base(version):
     """The text of the book of example 49 of a version; one of version 3 is that of version 2 with its last table."""
     text = text_of(min(version, 2)) + EXCHANGED + (tax_of(1300000003) if version > 1 else "")
@@ -394,8 +402,9 @@ def damaged(version):
         else:
             audited(name, "damaged.db", 1, f"B04 version {version}\n")
         refusal(name, "damaged.db", "B02")
-    made("damaged.db", base(version), "DROP TABLE memo")
-    refusal(f"version {version}, no table of memos", "damaged.db", "B02" if version == 3 else "B04")
+    for what, script in SCHEMAS.items():
+        made("damaged.db", base(version), script)
+        refusal(f"version {version}, {what}", "damaged.db", "B02" if version == 3 else "B04")
     for what, script in TAXES.items() if version > 1 else ():
         made("damaged.db", base(version), script)
         refusal(f"version {version}, {what}", "damaged.db", "B02")

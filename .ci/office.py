@@ -9,6 +9,7 @@
 import http.client
 import os
 import pathlib
+import resource
 import select
 import signal
 import socket
@@ -79,14 +80,16 @@ def finish(line):
 
 
 class Office:
-    """The program as it serves on a free port of loopback. Further words come last; with no token file they have the token."""
+    """The program as it serves on a free port of loopback. Further words come last; with no token file they have the token.
+    It has no more memory than so many bytes of addresses, if they are given."""
 
-    def __init__(self, path, token_file, *words, seconds=60):
+    def __init__(self, path, token_file, *words, seconds=60, memory=None):
+        limit = (lambda: resource.setrlimit(resource.RLIMIT_AS, (memory, memory))) if memory else None
         self.port, self.seconds = free_port(), seconds
         self.peer = http.client.HTTPConnection("127.0.0.1", self.port, timeout=seconds)
         words = ["serve", "--port", self.port, *(["--token-file", token_file] if token_file else []), *words]
         self.words = [str(word) for word in words]
-        self.process = subprocess.Popen([path, *self.words], stderr=subprocess.PIPE, text=True)
+        self.process = subprocess.Popen([path, *self.words], stderr=subprocess.PIPE, text=True, preexec_fn=limit)
         select.select([self.process.stderr], [], [], seconds)
         # what it says of the book that it opened, before it listens
         self.opened = self.process.stderr.readline() if "--db" in words else ""

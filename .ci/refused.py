@@ -10,11 +10,12 @@
   the opening before them; the file is then opened again.
 - the same over books of earlier versions, of samples/books/, for the first hundred allocations and one in forty behind them;
   the file is then opened again, and shows what ample memory shows.
-- its command `audit` on such a file, for the first hundred allocations and one in forty behind them: it reports as with ample
-  memory, or prints nothing, with status 3 and the line that memory was short.
+- its command `audit` on such a file and on a damaged one, and an opening of the damaged one, for the first hundred
+  allocations and one in forty behind them: it reports as with ample memory, or prints nothing, with status 3 and the line
+  that memory was short. Of the damaged one it may say no more than that it is damaged.
 Exits with the number of cases that differ.
 
-usage: .ci/refused.py [PROGRAM]   (with no PROGRAM it takes the one that is built)
+usage: .ci/refused.py [PROGRAM [PART..]]   (with no PROGRAM it takes the one that is built; with no PART all of them)
 """
 import concurrent.futures
 import contextlib
@@ -43,8 +44,11 @@ SHORT = re.compile(rb"bsp_office: .*out of memory\n")
 NOTES = re.compile(rb"(bsp_office: (\S+\.db: (new book|day .*)|[A-Z]+ /\S* 503 B01 14)\n)*")
 # how a call names the lack of memory
 LACKS = re.compile(rb"F10|NoRoom|out of memory|standard input or output failed")
+JUDGE = "judge --plan plan.toml --day 2024-01-05 --agent 12345675 --stock 1300000000-1300000099"
 WORDS = ["check v1.ret", "check kinds.ret", "check two.ret", "check sum.ret", "hotcheck v3.hot", "hotcheck taxed.hot", "hotcheck short.hot", "--help", "--version",
-         "check --help", "", "check", "report v1.ret", "check --unknown", "hotcheck v3.hot v3.hot", "check --quiet sum.ret"]
+         "check --help", "", "check", "report v1.ret", "check --unknown", "hotcheck v3.hot v3.hot", "check --quiet sum.ret",
+         "explain", "explain E07", "explain E99", "plan plan.toml", "plan taxed.toml --after plan.toml", "plan v1.ret",
+         f"{JUDGE} v1.ret", f"{JUDGE} --file v1.ret kinds.ret", f"{JUDGE} sum.ret"]
 CONVERSATIONS = ["05-sale", "11b-cancelled-in-one-file", "14-memos", "16-reports", "19-stock", "23b-malformed-bodies",
                  "38-reduced-memo", "50-commission-tax", "53b-exchange-of-two-cancelled", "callers-refused", "memo-actions"]
 # those of which the same is tried over a book in a file: the rows of the first are in all tables but that of memos
@@ -89,6 +93,17 @@ def each_refused(what, words_of, text, judge, numbers=None):
                     expect(f"{what}, allocation {number} refused", ample[:3], found[:3])
 
 
+def last_refused(words, text):
+    """How many allocations a run of these words has; they may be a function of the number of the one that is refused."""
+    words_of = words if callable(words) else lambda _: words
+    least, most = 0, 1 << 20
+    while most - least > 1:
+        number = (least + most) // 2
+        least, most = (number, most) if run(words_of(number), text, number).is_refused else (least, number)
+        removed(number)
+    return least
+
+
 def is_same(ample, found):
     return found[:3] == ample[:3]
 
@@ -126,7 +141,7 @@ def words():
     hot, kinds = sample("no-documents.hot"), (TOP / "examples" / "files" / "kinds.ret").read_bytes()
     files = {"v1.ret": sample("sale.ret"), "kinds.ret": kinds, "v3.hot": hot, "short.hot": b"".join(hot.splitlines(True)[:3]),
              "sum.ret": kinds.replace(b"7551A", b"7552A"), "two.ret": sample("exchange-of-two.ret"),
-             "taxed.hot": sample("commission-tax.hot")}
+             "taxed.hot": sample("commission-tax.hot"), "plan.toml": sample("plan.toml"), "taxed.toml": sample("commission-tax.toml")}
     for name, text in files.items():
         pathlib.Path(name).write_bytes(text)
     for line in WORDS:
@@ -224,18 +239,8 @@ def is_kept(asked):
     return judge
 
 
-def of_opening():
-    """How many allocations an opening of a new book has."""
-    least, most = 0, 1 << 20
-    while most - least > 1:
-        number = (least + most) // 2
-        least, most = (number, most) if run(over_new(number), b"", number).is_refused else (least, number)
-        removed(number)
-    return least
-
-
 def over_files():
-    opened = of_opening()
+    opened = last_refused(over_new, b"")
     for name in KEPT:
         _, entries = examples.conversations(TOP / "examples" / f"{name}.hurl")[0]
         asked = [message(it) for it in entries if it.method == "GET"]
@@ -279,37 +284,74 @@ def migrations():
         yield f"a book of version {version}", each_refused(f"a book of version {version}", migrated(version), text, is_migrated(text), numbers)
 
 
-# ---- audits
+# ---- audits, and openings of a damaged book
 
 
-def audited(number):
-    """The words of an audit of a copy of the book."""
-    removed(number)
-    shutil.copy("book.db", f"{number}.db")
-    return [PROGRAM, "audit", f"{number}.db"]
+def audited(book):
+    """The words of an audit of a copy of that book."""
+    def words(number):
+        removed(number)
+        shutil.copy(f"{book}.db", f"{number}.db")
+        return [PROGRAM, "audit", f"{number}.db"]
+    return words
 
 
-def is_audited(ample, found, number):
-    """The report on the copy, which is as it was and has no log, or the line that memory was short."""
-    is_kept = pathlib.Path(f"{number}.db").read_bytes() == pathlib.Path("book.db").read_bytes()
-    left = [str(it) for it in pathlib.Path().glob(f"{number}.db*")]
+def is_as_it_was(book, number):
+    """Whether the copy is as it was; it is taken away."""
+    is_kept = pathlib.Path(f"{number}.db").read_bytes() == pathlib.Path(f"{book}.db").read_bytes()
     pathlib.Path(f"{number}.db").unlink()
-    return is_same_or_failed(ample, found, number) and is_kept and left == [f"{number}.db"]
+    return is_kept
+
+
+def is_audited(book):
+    """The report on the copy, perhaps without what damages it, or the line that memory was short; the copy is as it was
+    and has no log."""
+    def judge(ample, found, number):
+        bare = ample._replace(out=re.sub(rb"B02\n.*\n", b"B02\nno book, or a damaged one\n", ample.out))
+        is_right = is_same_or_failed(ample, found, number) or is_same(bare, found)
+        is_right = is_as_it_was(book, number) and is_right
+        return is_right and not list(pathlib.Path().glob(f"{number}.db*"))
+    return judge
+
+
+def opened(number):
+    """The words of an office over a copy of the damaged book."""
+    audited("damaged")(number)
+    return over(number)
+
+
+def is_not_opened(ample, found, number):
+    """What damages the copy, or that it is damaged alone, or the line that memory was short; the copy is as it was."""
+    found = found._replace(err=found.err.replace(b"%d.db" % number, b"0.db"))
+    bare = ample._replace(err=re.sub(rb"(B02 no book, or a damaged one): .*", rb"\1", ample.err))
+    is_right = is_same_or_failed(ample, found, number) or is_same(bare, found)
+    is_right = is_as_it_was("damaged", number) and is_right
+    removed(number)
+    return is_right
 
 
 def audits():
-    subprocess.run([PROGRAM, "run", "--token", TOKEN, "--db", "book.db"], input=twice(KEPT[0]), capture_output=True, check=True)
-    subprocess.run([PROGRAM, "run", "--token", TOKEN, "--db", "book.db"], input=b"", capture_output=True, check=True)
+    for text in twice(KEPT[0]), b"":
+        subprocess.run([PROGRAM, "run", "--token", TOKEN, "--db", "book.db"], input=text, capture_output=True, check=True)
+    shutil.copy("book.db", "damaged.db")
+    with contextlib.closing(sqlite3.connect("damaged.db", isolation_level=None)) as it:
+        it.execute("UPDATE tally SET living = living + 1")
+    for book in "book", "damaged":
+        numbers = itertools.chain(range(1, 100), itertools.count(101, 40))
+        yield f"bsp_office audit, {book}", each_refused(f"audit, {book}", audited(book), b"", is_audited(book), numbers)
     numbers = itertools.chain(range(1, 100), itertools.count(101, 40))
-    yield "bsp_office audit", each_refused("bsp_office audit", audited, b"", is_audited, numbers)
+    yield "bsp_office run --db, damaged", each_refused("run --db, damaged", opened, b"", is_not_opened, numbers)
 
 
 def main():
     library = [os.environ.get("CC", "cc"), "-O2", "-shared", "-fPIC", "-o", "refuse.so", f"{TOP}/.ci/refuse.c"]
+    chosen = sys.argv[2:]
     with tempfile.TemporaryDirectory() as folder:
         os.chdir(folder)
         subprocess.run(library, check=True)
         for part in pages, words, conversations, over_files, migrations, audits:
+            if chosen and part.__name__ not in chosen:
+                continue
             begun, count = time.monotonic(), sum(it[1] for it in part())
             print(f"{part.__name__}: {count} allocations refused in turn, in {time.monotonic() - begun:.0f} seconds", flush=True)
         os.chdir(TOP)

@@ -3,18 +3,26 @@
 gives up at a size that memory has room for:
 - `check` a RET file of 999,999 transactions of the most records, 959 MB, which is the largest that there is, and `hotcheck` a
   HOT file of 1 GiB;
+- `judge` and `plan` a RET file and a plan text as large as a body, behind 100 earlier ones;
 - an office with its book in memory and one with it in a file: a plan text of 85,000 entries, nearly the most that a body has room for; a RET file of 4,194,304 bytes,
-  the most that a body has, and the same again; so many further files until there are ITEMS items; a close; the statement,
-  the HOT file, and the settlement of the period; and the book in the file opened and audited again;
+  the most that a body has, and the same again; one of 30,613 transactions, the most that a body has; so many further files until there are ITEMS items; a close; the statement,
+  the HOT file, and the settlement of the period; and the book in the file opened and audited again, and opened as one of
+  version 1 and of version 2;
+- the same with many of all else: 1,000 airlines, 1,000 agents, as many ranges and memos of one agent, 60,000 periods and taxes,
+  and 500 closes;
 - `run` with 65,536 requests, the most that one connection has.
 Prints how long each took. Exits with the number of cases that differ.
 
-usage: .ci/sizes.py [PROGRAM [ITEMS]]   (with no PROGRAM it takes the one that is built; 50,000 items by default)
+usage: .ci/sizes.py [PROGRAM [ITEMS [PART..]]]   (with no PROGRAM it takes the one that is built; 50,000 items by default;
+                    the parts are reports, requests, trials, many and months, by default all)
 """
+import contextlib
 import datetime
 import hashlib
 import json
 import os
+import pathlib
+import sqlite3
 import subprocess
 import sys
 import tempfile
@@ -135,7 +143,7 @@ def reported(command, pieces):
         while more := it.stdout.read(1 << 20):
             last = (last + more)[-200:]
         sender.join()
-        return it.wait(60), last.splitlines()[-1]
+        return it.wait(60), (last.splitlines() or [b""])[-1]
 
 
 def reports():
@@ -230,8 +238,20 @@ def open_market(it):
     return len(plan)
 
 
+def most_transactions(done):
+    """A RET file of as many transactions as a body may have, all cancellations: of 1,000 sales, from this one on, and of numbers
+    that were not reported. How many they are."""
+    count = MOST_BODY // RECORD - 2
+    groups = []
+    for it in range(count):
+        document = FIRST + done + it if it < 1_000 else FIRST + 5_000_000 + it
+        groups.append(line(f"2{it + 1:06}CANX{AGENT}125{document}{document % 7}240105DOE/JANE"))
+    return (HEADER + "".join(groups) + line(f"Z{count + 2:07}{count:07}{zoned(0, 15)}")).encode(), count
+
+
 def report(it):
-    """Reports ITEMS items in files, of which the first has the most bytes. How many there were, and how many live."""
+    """Reports ITEMS items in files, of which the first has the most bytes, and the second the most transactions. How many live,
+    how many are cancellations, and the number of the last sale."""
     path = f"/agents/{AGENT}/ret"
     text, sales, cancelled = largest_body()
     office.expect("the largest body", MOST_BODY, len(text))
@@ -240,32 +260,36 @@ def report(it):
     status, _, body = it.ask("POST", path, AGENT_TOKEN, text + b"\n")
     office.expect("a body of one byte more", (413, b'{"code":"T03"}'), (status, body))
     it.close()
-    reported_items, living = sales + cancelled, sales - cancelled
-    while reported_items < ITEMS:
-        count = min(10_000, ITEMS - reported_items)
-        expect_reply("a further RET file", verdicts("accepted", count), it.ask("POST", path, AGENT_TOKEN, ret_file(count, FIRST + reported_items)))
-        reported_items += count
+    canx, count = most_transactions(cancelled)
+    expect_reply("the most transactions", verdicts("accepted", count), it.ask("POST", path, AGENT_TOKEN, canx))
+    living, cancelled, last = sales - cancelled - 1_000, cancelled + count, FIRST + sales
+    while (left := ITEMS - (last - FIRST) - cancelled) > 0:
+        count = min(10_000, left)
+        expect_reply("a further RET file", verdicts("accepted", count), it.ask("POST", path, AGENT_TOKEN, ret_file(count, last)))
+        last += count
         living += count
-    return reported_items, living, cancelled
+    return living, cancelled, last - 1
 
 
 def looks(it):
     """What a book shows: statuses and bytes."""
-    found = [it.ask("GET", f"/agents/{AGENT}/{path}", AGENT_TOKEN) for path in ("stock", "periods/24011", "statements/24011", f"documents/{FIRST + ITEMS - 1}")]
+    found = [it.ask("GET", f"/agents/{AGENT}/{path}", AGENT_TOKEN) for path in ("stock", "periods/24011", "statements/24011", f"documents/{FIRST}")]
     found.append(it.ask("GET", "/airlines/125/hot/24011", AIRLINE))
     return found + [it.ask("GET", "/office/settlement/24011", TOKEN)]
 
 
-def close(it, items, living, cancelled):
+def close(it, living, cancelled, last):
     """Closes the period, and compares the nets of what is shown."""
     for what, path, body in (("the next day", "day", body_of(day="2024-01-16")), ("the close", "close", body_of(period="24011"))):
         expect_reply(what, DONE, it.ask("POST", f"/office/{path}", TOKEN, body))
     shown, net = looks(it), money(22_500 * living)
+    document = it.ask("GET", f"/agents/{AGENT}/documents/{last}", AGENT_TOKEN)
+    office.expect("the last sale", (200, True), (document[0], b"alive" in document[2]))
     office.expect("the period", f'{{"closed":true,"documents":{living},"net":"{net}","period":"24011"}}'.encode(), shown[1][2])
     office.expect("the statement's net", True, shown[2][2].rstrip().endswith(net.encode()))
     office.expect("the settlement has this net", True, net.encode() in shown[5][2])
     ended = subprocess.run([PROGRAM, "hotcheck", "-"], input=shown[4][2], capture_output=True, timeout=600)
-    records = 5 * living + 2 * cancelled + 6 + 2
+    records = 5 * living + 2 * cancelled + 8
     office.expect("hotcheck of the HOT file", (0, f"OK records {records} documents {living + cancelled} net {net}\n".encode()),
                   (ended.returncode, ended.stdout))
     return shown
@@ -275,26 +299,211 @@ def month(name, *words):
     """A month of an office. What it shows at its end."""
     with office.Office(PROGRAM, None, "--token", TOKEN, *words, seconds=600) as it:
         timed(f"{name}: a plan of 85,000 entries, twice", open_market, it)
-        items, living, cancelled = timed(f"{name}: {max(ITEMS, 10_213):,} items in files of up to {MOST_BODY:,} bytes", report, it)
-        return timed(f"{name}: a close, and what is shown", close, it, items, living, cancelled)
+        counts = timed(f"{name}: {max(ITEMS, 40_826):,} items in files of up to {MOST_BODY:,} bytes", report, it)
+        return timed(f"{name}: a close, and what is shown", close, it, *counts)
 
 
 def digests(shown):
     return [(status, media, hashlib.sha256(body).hexdigest()) for status, media, body in shown]
 
 
-def reopened():
-    with office.Office(PROGRAM, None, "--token", TOKEN, "--db", "sizes.db", seconds=600) as it:
-        return looks(it)
+def reopened(file, look):
+    with office.Office(PROGRAM, None, "--token", TOKEN, "--db", file, seconds=600) as it:
+        return look(it)
+
+
+# the tables that a book of version 3 has beside those of an earlier version
+NEWER = {1: ("commission_tax", "item_tax", "tally_tax", "second_related"), 2: ("second_related",)}
+
+
+def earlier_book(version):
+    """Makes of the book one of an earlier version, which is the same without these tables: no tax was published."""
+    with contextlib.closing(sqlite3.connect("books/sizes.db")) as it, contextlib.closing(sqlite3.connect(f"books/version-{version}.db")) as to:
+        it.backup(to)
+        for table in NEWER[version]:
+            to.execute(f"DROP TABLE {table}")
+        to.execute("UPDATE meta SET version = ?", (version,))
+        to.commit()
 
 
 def offices():
     in_memory = digests(month("in memory"))
-    in_file = digests(month("in a file", "--db", "sizes.db"))
+    in_file = digests(month("in a file", "--db", "books/sizes.db"))
     office.expect("what both show", in_memory, in_file)
-    office.expect("what is shown when the book is opened again", in_file, digests(timed("the book opened again", reopened)))
-    ended = timed("the audit", lambda: subprocess.run([PROGRAM, "audit", "sizes.db"], capture_output=True, timeout=600))
+    office.expect("what is shown when the book is opened again", in_file, digests(timed("the book opened again", reopened, "books/sizes.db", looks)))
+    for version in NEWER:
+        earlier_book(version)
+        found = timed(f"as a book of version {version}", reopened, f"books/version-{version}.db", looks)
+        office.expect(f"what is shown of version {version}", in_file, digests(found))
+    ended = timed("the audit", lambda: subprocess.run([PROGRAM, "audit", "books/sizes.db"], capture_output=True, timeout=600))
     office.expect("the audit", (0, True), (ended.returncode, ended.stdout.startswith(b"OK version 3 day 2024-01-16 agents 1 ")))
+
+
+# ---- an office with many of all else
+
+
+MANY = 1_000
+# one-day periods, and taxes of nothing; so many of the periods are closed
+DAYS, CLOSES = 30_000, 500
+# so many rates has the plan text that is tried beside these
+RATES = 40_000
+TERMS = 'currency="EUR"\nreview_days=14\ndocuments_limit=1000000\n'
+AIRLINES = ",".join(f'"{it:03}"' for it in range(MANY))
+# the ranges of the first agent begin here, those of the others there
+OWN, OTHERS = 1_000_000_000, 2_000_000_000
+
+
+def agent_code(number):
+    return f"{1_000_000 + number}{(1_000_000 + number) % 7}"
+
+
+def agent_token(number):
+    return f"agenttoken{number:06}"
+
+
+def airline_token(number):
+    return f"airlinetoken0{number:03}"
+
+
+def long_plan():
+    """A plan text of 1,000 airlines, and so many periods and taxes."""
+    periods = ",".join(f'{{code="{it:05}",first="{day(it)}",last="{day(it)}",remit="{day(it + 1)}"}}' for it in range(DAYS))
+    taxes = ",".join(f'{{from="{day(it)}",hundredths=0}}' for it in range(DAYS))
+    return f"{TERMS}airline=[{AIRLINES}]\nperiod=[{periods}]\ncommission_tax=[{taxes}]\n"
+
+
+def free_sale(number, agent, airline, document):
+    """The records of a ticket of 235.00 without commission."""
+    name = line(f"2{number:06}TKTT{agent}{airline:03}{document}{document % 7}000102DOE/JANE")
+    amounts = line(f"5{number:06}{zoned(20_000, 11)}{'RA' + zoned(3_500, 11):78}00000{zoned(0, 11)}")
+    return name + amounts + line(f"8{number:06}CA{zoned(23_500, 11)}")
+
+
+def file_of(sales):
+    """A RET file of these tickets: their agents, airlines and documents."""
+    groups = "".join(free_sale(number, *it) for number, it in enumerate(sales, 1))
+    return (HEADER + groups + trailer(3 * len(sales) + 2, len(sales))).encode()
+
+
+def callers():
+    """The requests that register all callers, and give the first agent as many ranges as there are agents, and the others one each."""
+    yield "day", {"day": "2000-01-02"}
+    for it in range(MANY):
+        first = OTHERS + 1_000 * it
+        yield "agents", {"agent": agent_code(it), "token": agent_token(it)}
+        yield "airlines", {"airline": f"{it:03}", "token": airline_token(it)}
+        yield "stock/allot", {"agent": agent_code(0), "first": f"{OWN + 10 * it}", "last": f"{OWN + 10 * it + 9}"}
+        yield "stock/allot", {"agent": agent_code(it), "first": f"{first}", "last": f"{first + 999}"}
+    yield "stock/withdraw", {"agent": agent_code(0), "first": f"{OTHERS}", "last": f"{OTHERS + 999}"}
+
+
+def open_long_market(it):
+    expect_reply("the long plan", DONE, it.ask("POST", "/office/plan", TOKEN, long_plan()))
+    for path, fields in callers():
+        expect_reply(f"{path} {fields}", DONE, it.ask("POST", f"/office/{path}", TOKEN, body_of(**fields)))
+
+
+def verdicts_in(reply):
+    """The verdicts of a reply, each with how many there are."""
+    return {word: reply[2].count(b'"verdict":"%s"' % word.encode()) for word in ("accepted", "held", "E")}
+
+
+def sell(it):
+    """The first agent sells a ticket of each airline; the office reports as many tickets of airline 125 of all agents as a body
+    has room for. The airline issues memos to the first agent, which disputes one, and cancels all its tickets but one."""
+    own = file_of([(agent_code(0), at, OWN + 10 * at) for at in range(MANY)])
+    all_agents = file_of([(agent_code(1 + at % (MANY - 1)), 125, OTHERS + 1_000 * (1 + at % (MANY - 1)) + at // (MANY - 1)) for at in range(10_000)])
+    for what, path, token, text, count in (
+            ("a ticket of each airline", f"agents/{agent_code(0)}", agent_token(0), own, MANY), ("tickets of all agents", "office", TOKEN, all_agents, 10_000)):
+        for verdict in "accepted", "held":
+            found = it.ask("POST", f"/{path}/ret", token, text)
+            office.expect(f"{what}: {verdict}", (200, {"accepted": 0, "held": 0, "E": 0, verdict: count}), (found[0], verdicts_in(found)))
+    for at in range(MANY):
+        memo = body_of(agent=agent_code(0), amount=100, document=f"{at:010}", kind="ADMA", reason="fare")
+        expect_reply(f"memo {at}", DONE, it.ask("POST", "/airlines/125/memos", airline_token(125), memo))
+    named = body_of(airline="125", document=f"{MANY - 1:010}")
+    expect_reply("a dispute", DONE, it.ask("POST", f"/agents/{agent_code(0)}/memos/dispute", agent_token(0), named))
+
+
+def close_many(it):
+    """Closes so many periods."""
+    expect_reply("a later day", DONE, it.ask("POST", "/office/day", TOKEN, body_of(day=day(CLOSES))))
+    for at in range(CLOSES):
+        expect_reply(f"close {at}", DONE, it.ask("POST", "/office/close", TOKEN, body_of(period=f"{at:05}")))
+
+
+def look_at_many(it):
+    """What a book with many of all shows."""
+    found = [it.ask("GET", f"/agents/{agent_code(0)}/{path}", agent_token(0)) for path in ("stock", "memos", "periods/00000", "statements/00000")]
+    found += [it.ask("GET", f"/airlines/125/{path}", airline_token(125)) for path in ("memos", "hot/00000")]
+    return found + [it.ask("GET", f"/office/settlement/{period}", TOKEN) for period in ("00000", f"{CLOSES - 1:05}")]
+
+
+def expect_many(shown):
+    """Compares what is shown of many: ranges, memos, lines and nets."""
+    stock, memos, _, statement, of_airline, hot, settlement, _ = (it[2] for it in shown)
+    office.expect("all is shown", [200] * 8, [it[0] for it in shown])
+    office.expect("the ranges", MANY, stock.count(b'"first"'))
+    office.expect("the memos", (MANY, MANY), (memos.count(b'"kind"'), of_airline.count(b'"kind"')))
+    net = 23_500 * MANY + 100 * (MANY - 1)
+    office.expect("the statement", (MANY + 3, money(net).encode()), (statement.count(b"\n"), statement.split()[-1]))
+    total = net + 23_500 * 10_000
+    office.expect("the settlement", (2 * MANY + 3, money(total).encode()), (settlement.count(b"\n"), settlement.split()[-1]))
+    ended = subprocess.run([PROGRAM, "hotcheck", "-"], input=hot, capture_output=True, timeout=600)
+    documents, of_125 = 10_001 + MANY - 1, 23_500 * 10_001 + 100 * (MANY - 1)
+    office.expect("hotcheck of its HOT file", (0, True, True), (
+        ended.returncode, f" documents {documents} ".encode() in ended.stdout, ended.stdout.endswith(f" net {money(of_125)}\n".encode())))
+
+
+def many(name, *words):
+    """An office with many of all. What it shows at its end."""
+    with office.Office(PROGRAM, None, "--token", TOKEN, *words, seconds=600) as it:
+        timed(f"{name}: a plan of {2 * DAYS:,} periods and taxes, {MANY:,} agents and airlines, {2 * MANY - 1:,} ranges", open_long_market, it)
+        timed(f"{name}: tickets of all agents and of all airlines, {MANY:,} memos", sell, it)
+        timed(f"{name}: {CLOSES} closes", close_many, it)
+        shown = look_at_many(it)
+        expect_many(shown)
+        return digests(shown)
+
+
+def offices_of_many():
+    in_memory = many("many in memory")
+    in_file = many("many in a file", "--db", "books/many.db")
+    office.expect("what both show of many", in_memory, in_file)
+    office.expect("what is shown of many when the book is opened again", in_file, digests(timed("many opened again", reopened, "books/many.db", look_at_many)))
+
+
+# ---- commands over no book
+
+
+def lines_of(what, wanted, words, text):
+    """The status, the number of lines and the first and the last line of a command on this text."""
+    ended = timed(what, lambda: subprocess.run([PROGRAM, *words, "-"], input=text, capture_output=True, timeout=600))
+    lines = ended.stdout.splitlines()
+    office.expect(what, wanted, (ended.returncode, len(lines), lines[:1], lines[-1:]))
+
+
+def trials():
+    """`plan` with a text of these entries behind 100 texts, of which the first publishes all airlines and 40,000 rates; and `judge`
+    with a RET file of 10,000 sales behind 100 files, of which one is as large."""
+    rates = ",".join(f'{{airline="{it % MANY:03}",from="{day(it // MANY)}",hundredths=1}}' for it in range(RATES))
+    text, before = long_plan() + f"rate=[{rates}]\n", []
+    for at in range(100):
+        lists = f'airline=[{AIRLINES}]\nrate=[{rates}]\n' if at == 0 else f'airline=["{at:03}"]\n'
+        pathlib.Path(f"plan-{at}").write_text(f"{TERMS}{lists}", encoding="utf-8")
+        before += ["--after", f"plan-{at}"]
+    last = f"commission_tax from {day(DAYS - 1)} hundredths 0".encode()
+    wanted = 0, 2 * DAYS + 2, [b"done"], [last]
+    lines_of(f"plan with {2 * DAYS + RATES + MANY:,} entries", wanted, ["plan", *before], text.encode())
+    files = []
+    for at in range(100):
+        file = ret_file(10_000 if at == 0 else 1, FIRST + 10_000 + (9_999 + at if at else 0))
+        pathlib.Path(f"file-{at}").write_bytes(file)
+        files += ["--file", f"file-{at}"]
+    pathlib.Path("plan").write_text(PLAN % '"125"', encoding="utf-8")
+    setting = ["--plan", "plan", "--day", "2024-01-05", "--agent", AGENT, "--stock", f"{FIRST}-{FIRST + 99_999}"]
+    wanted = 0, 10_001, [b"000001 accepted 24011"], [f"net {money(22_500 * 10_000)}".encode()]
+    lines_of("judge with 10,000 sales", wanted, ["judge", *setting, *files], ret_file(10_000, FIRST))
 
 
 # ---- a connection
@@ -310,12 +519,17 @@ def requests():
     office.expect("run with many requests", (0, True), (ended.returncode, ended.stdout == one * (count - 1) + last))
 
 
+PARTS = {"reports": reports, "requests": requests, "trials": trials, "many": offices_of_many, "months": offices}
+
+
 def main():
-    with tempfile.TemporaryDirectory(prefix="sizes-") as folder:
+    # the books are in memory where the system has a file system there, since a disk takes most of the time of a commit
+    memory = "/dev/shm" if os.path.isdir("/dev/shm") else None
+    with tempfile.TemporaryDirectory(prefix="sizes-") as folder, tempfile.TemporaryDirectory(prefix="sizes-", dir=memory) as books:
         os.chdir(folder)
-        reports()
-        requests()
-        offices()
+        os.symlink(books, "books")
+        for part in sys.argv[3:] or PARTS:
+            PARTS[part]()
         os.chdir(office.TOP)
     office.finish("sizes: all is answered")
 

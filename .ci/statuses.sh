@@ -177,6 +177,9 @@ mistakes check v1.ret <<'END'
 1s/240105/240230/|F05 record 1|record 1, columns 6-11: the date is not a day YYMMDD of the years 2000 to 2099
 2s/^2/7/|F03 record 2|record 2, column 1: no record after the header begins with `7`
 2s/DOE/D\tE/|F01 record 2|record 2, column 41: the character 0x09 is outside 0x20 to 0x7e
+2s/DOE/D\xc3\xa9/|F01 record 2|record 2, column 41: the character 0xc3 is outside 0x20 to 0x7e: it has a letter with an accent, or another character of two bytes or more
+2s/DOE/D\xc3\xa9E/|F01 record 2|record 2: it has 137 characters, and not 136: it has a letter with an accent, or another character of two bytes or more
+1s/^/\xef\xbb\xbf/|F01 record 1|record 1: it has 139 characters, and not 136: it begins with a byte order mark, so save it as plain text
 3s/^5000001/5000002/|F03 record 3|record 3, columns 2-7: the transaction number is not 000001
 3s/{ \{13\}/{RA0000000010{/|F05 record 3|record 3, columns 32-33: tax place 2 has a code that is not above the one before it
 4s/^8000001CA/8000001EX/|F03 record 4|record 4, columns 1-9: a record `8`, or this form of payment, is not allowed here
@@ -264,16 +267,22 @@ expect 2 '' "error: unexpected argument '--quiet' found" audit --quiet new.db
 expect 2 '' "error: unexpected argument 'v1.ret' found" audit new.db v1.ret
 
 token=officetoken00001
-given="error: exactly one of --token T and --token-file FILE gives the office's token, \
-T has 16 to 64 letters and digits, and no FILE is -"
+source="error: --token T or --token-file FILE gives the office's token:"
+minus='error: the file of a book or of a token is not called -'
 expect 2 '' "error: the argument '--token <T>' cannot be used multiple times" run --token $token --token $token
 expect 2 '' "error: unexpected argument '--port' found" run --token $token --port 80
-expect 2 '' "$given" run
-expect 2 '' "$given" run --token short
-expect 2 '' "$given" run --token $token --token-file token
-expect 2 '' "$given" run --token-file -
-expect 2 '' "$given" run --token $token --db -
-expect 2 '' "$given" audit -
+expect 2 '' "$source neither is there" run
+expect 2 '' 'error: the token has 16 to 64 letters and digits' run --token short
+expect 2 '' "$source both are there" run --token $token --token-file token
+expect 2 '' "$minus" run --token-file -
+expect 2 '' "$minus" run --token $token --db -
+expect 2 '' "$minus" audit -
+expect 3 '' '.: it is a directory' run --token-file .
+expect 2 '' "$required" judge v1.ret
+expect 2 '' "$required" plan
+expect 2 '' 'E13 is no code: explain alone lists all' explain E13
+expect 3 '' "missing: $none" plan missing
+expect 3 '' '.: a read failed' plan .
 expect 2 '' "$required" serve --token $token
 
 # no_number WORD VALUE WHY WORD..: a value of `serve` that is no number of its range
@@ -308,6 +317,10 @@ same_error 3 $? "$unwritten" 'hotcheck, standard output full'
 same_error 3 $? "$unwritten" 'audit, standard output full'
 "$program" audit empty >&- 2>err
 same_error 3 $? "$unwritten" 'audit, standard output closed'
+"$program" explain E07 >/dev/full 2>err
+same_error 3 $? "$unwritten" 'explain, standard output full'
+"$program" plan "$top/samples/plan.toml" >&- 2>err
+same_error 3 $? "$unwritten" 'plan, standard output closed'
 "$program" check - <&- 2>err
 same_error 3 $? 'standard input: a read failed' 'standard input closed'
 "$program" check - <. 2>err
@@ -316,7 +329,7 @@ same_error 3 $? 'standard input: a read failed' 'standard input a directory'
 same_error 3 $? 'standard input: out of memory' 'an input for which there is no memory'
 "$program" check empty >out 2>/dev/full
 same 1 $? 'check, standard error full'
-for words in --help 'check --help' 'hotcheck --help' 'audit --help' 'run --help' 'serve --help'; do
+for words in --help 'check --help' 'judge --help' 'plan --help' 'explain --help' 'hotcheck --help' 'audit --help' 'run --help' 'serve --help'; do
   # shellcheck disable=SC2086
   "$program" $words >out 2>err && grep -q '^Usage: bsp_office' out && [ ! -s err ]
   same 0 $? "$words"

@@ -115,8 +115,8 @@ FILES = {
 # were complete before it. There are 17 reads: read 16 finds the end of the input.
 FAILED_READS = [(it, 3, 0) for it in range(8)] + [(it, 3, 1) for it in range(8, 16)] + [(16, 3, 2), (17, 0, 2)]
 
-# the replies to them are written one byte a write: which write fails, from 0 on
-FAILED_WRITES = range(len(ACCEPTED + HELD))
+# the replies to them are written one byte a write: which write fails, from 0 on, until none does
+FAILED_WRITES = range(len(ACCEPTED + HELD) + 1)
 
 
 # ---- parts
@@ -141,8 +141,11 @@ def run(sent, steps, *words):
     return ended.returncode, ended.stdout, ended.stderr.decode(), *office.logged(log)
 
 
-def compare(cases, function=run):
-    """Runs the cases, four at once. Each has a name, what is wanted, and the words of the function."""
+def compare(part, function=run):
+    """Runs the cases of a part, four at once, and says how many there were. Each has a name, what is wanted, and the words of the
+    function."""
+    cases = list(part())
+    print(f"wire, {part.__name__}: {len(cases):,} cases", flush=True)
     with concurrent.futures.ThreadPoolExecutor(4) as pool:
         runs = [(what, wanted, pool.submit(function, *words)) for what, wanted, *words in cases]
         for what, wanted, found in runs:
@@ -214,6 +217,13 @@ def strangers():
     yield "a stranger over a book in a file", [wanted], "stranger", (STRANGER, "read 0")
 
 
+def byte_by_byte():
+    """Reads that give one byte, over the book in a file."""
+    calls = len(REPORT * 2) + 1
+    wanted = 0, ACCEPTED + HELD, opened("bytes", "0 items"), calls
+    yield "reads of one byte over a book in a file", [wanted], "bytes", (REPORT * 2, "read 0 1*")
+
+
 def failed_reads():
     """The reports that were complete before a read that fails are answered and stay, and no other."""
     for number, status, complete in FAILED_READS:
@@ -225,10 +235,11 @@ def failed_reads():
 
 
 def failed_writes():
-    """Before a write that fails a first part of the replies is written, and nothing behind it. The sale stays."""
+    """Before a write that fails a first part of the replies is written, and nothing behind it. The sale stays. The last fails
+    none, and each write takes one byte."""
     for number in FAILED_WRITES:
-        name = f"write {number}"
-        failed = 3, (ACCEPTED + HELD)[:number], opened(name, "0 items"), number + 1
+        name, fails = f"write {number}", number < len(ACCEPTED + HELD)
+        failed = 3 if fails else 0, (ACCEPTED + HELD)[:number], opened(name, "0 items"), number + fails
         again = 0, HELD * 2, opened(name, "1 item"), 2
         runs = (REPORT * 2, "write 1 " + "1 " * number + "fails"), (REPORT * 2, "read 0")
         yield f"{name} fails", [failed, again], name, *runs
@@ -245,9 +256,11 @@ def in_memory():
         # the read behind the last finds the end of the input
         status, calls = (3, number + 2) if number <= reads else (0, reads + 2)
         yield f"in memory, read {number + 1} fails", [(status, written, "", calls)], [(begun + REPORT * 2, steps)]
-    for number in range(len(replies + ACCEPTED + HELD)):
-        sent, steps = begun + REPORT * 2, "write 1 " + "1 " * number + "fails"
-        yield f"in memory, write {number} fails", [(3, (replies + ACCEPTED + HELD)[:number], "", number + 1)], [(sent, steps)]
+    written = replies + ACCEPTED + HELD
+    for number in range(len(written) + 1):
+        sent, steps, fails = begun + REPORT * 2, "write 1 " + "1 " * number + "fails", number < len(written)
+        wanted = 3 if fails else 0, written[:number], "", number + fails
+        yield f"in memory, write {number} fails", [wanted], [(sent, steps)]
 
 
 def over_memory(runs):
@@ -260,13 +273,13 @@ def main():
         os.chdir(folder)
         office.build_steps()
         for part in refusals, talks, pieces, cuts:
-            compare(part())
+            compare(part)
         sent, written = joined(SET_UP)
         wanted = 0, written, "bsp_office: set-up.db: new book\n", 2, len(sent)
         if office.expect("the set-up", wanted, run(sent, "read 0", "--db", "set-up.db")):
-            for part in strangers, failed_reads, failed_writes:
-                compare(part(), over_book)
-        compare(in_memory(), over_memory)
+            for part in strangers, byte_by_byte, failed_reads, failed_writes:
+                compare(part, over_book)
+        compare(in_memory, over_memory)
         os.chdir(office.TOP)
     office.finish(f"bsp_office: {next(numbers):,} connections, whose bytes are as docs/HTTP.md says: heads, pieces, cuts, and each read and write failing")
 

@@ -1,6 +1,6 @@
 -- The published plan: its entries, each once and in the order of their first publication, the business day and the
 -- periods that are closed; and what it answers.
-use Rattle.std.specs.Prelude.{◌≡◌, ℕ, ◌==◌, ◌&&◌, ◌⊎◌, not, Bool, true, false, IsTrue, List, [], ◌∷◌, if◌then◌else◌, Option, MatchOption, Some, None, option_map}
+use Rattle.std.specs.Prelude.{◌≡◌, ℕ, ◌==◌, ◌&&◌, ◌⊎◌, not, Bool, true, false, IsTrue, List, [], ◌∷◌, if◌then◌else◌, Option, MatchOption, Some, None, option_map, unwrap_or}
 use Rattle.std.specs.List.{list_any, filter, find, Contains}
 use Rattle.bsp_fields.specs.CivilDay.{CivilDay}
 use Rattle.bsp_calendar.specs.DayOrder.{is_up_to, is_before}
@@ -63,6 +63,10 @@ takes p issued q = not (is_closed p q.code) && (is_up_to issued q.last && is_up_
 -- the earliest of them
 abbrev pub target_of : Published → CivilDay → Option ℕ
 target_of p issued = option_map (λ q. q.code) (find (takes p issued) p.periods)
+
+-- and 0 where there is none, as before terms are published; an accepted item always has one
+abbrev pub target_or_zero : Published → CivilDay → ℕ
+target_or_zero p issued = unwrap_or (target_of p issued) 0
 
 -- the code of a published period that is not closed, whose last day is not before the date of issue, and whose first
 -- day is not after the business day

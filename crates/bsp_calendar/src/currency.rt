@@ -1,3 +1,5 @@
+//! The code of a currency.
+
 ghost use Rattle.std.specs.Prelude.{◌≡◌};
 ghost use Rattle.bsp_calendar.specs.Letters.{currency_reading};
 

@@ -1,3 +1,5 @@
+//! The entries of a plan text: terms, rates, taxes on commission and periods.
+
 use crate::currency::Currency;
 use bsp_fields::{AirlineCode, Day, PeriodCode};
 

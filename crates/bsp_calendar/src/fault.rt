@@ -1,3 +1,5 @@
+//! Why a plan is refused: P01 to P08.
+
 ghost use Rattle.std.specs.Prelude.{◌≡◌};
 ghost use Rattle.bsp_calendar.specs.Faults.{code_text};
 

@@ -1,3 +1,5 @@
+//! The published plan, the business day and the closed periods.
+
 ghost use Rattle.std.specs.Prelude.{◌≡◌, ◌≤◌, ◌&&◌, ◌⊎◌, false, Ok, Err, MatchResult, drop, length};
 ghost use Rattle.bsp_calendar.specs.DayOrder.{same_day};
 ghost use Rattle.bsp_calendar.specs.Published.{is_closed, opening};

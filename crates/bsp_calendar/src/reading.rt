@@ -1,3 +1,5 @@
+//! Reads a plan text (TOML) into its entries.
+
 ghost use Rattle.std.specs.Prelude.{◌≡◌};
 ghost use Rattle.std.specs.Option.{ok_or};
 ghost use Rattle.toml.specs.View.{table_view};

@@ -1,3 +1,5 @@
+//! Serves the calls of an agent.
+
 ghost use Rattle.std.specs.Prelude.{◌≡◌, false};
 ghost use Rattle.bsp_desk.specs.Calls.{agent_text};
 ghost use Rattle.bsp_desk_base.specs.Contents.{IsAgentCall};

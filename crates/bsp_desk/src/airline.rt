@@ -1,3 +1,5 @@
+//! Serves the calls of an airline.
+
 ghost use Rattle.std.specs.Prelude.{◌≡◌, false};
 ghost use Rattle.bsp_desk.specs.Calls.{airline_text};
 ghost use Rattle.bsp_desk_base.specs.Contents.{bytes_in};

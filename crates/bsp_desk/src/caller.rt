@@ -1,3 +1,5 @@
+//! Finds a caller by its code and its token.
+
 ghost use Rattle.std.specs.Prelude.{◌≡◌, ℕ, false, IfOk, OnOk};
 ghost use Rattle.bsp_book.specs.Calls.{LooksUp};
 ghost use Rattle.bsp_desk.specs.Callers.{known_agent, known_airline};

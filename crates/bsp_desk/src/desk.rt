@@ -1,3 +1,5 @@
+//! The desk: an office over a book, which answers requests.
+
 ghost use Rattle.std.specs.Prelude.{◌≡◌, ◌↔◌, List, None, IfOk, IsOk, MatchResult, OnErr, false, length, ℕ};
 ghost use Rattle.bsp_desk.specs.Callers.{calling};
 ghost use Rattle.bsp_desk.specs.Reading.{AreRead};

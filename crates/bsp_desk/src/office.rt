@@ -1,3 +1,5 @@
+//! Serves the calls of the office.
+
 ghost use Rattle.std.specs.Prelude.{◌≡◌, false};
 ghost use Rattle.bsp_desk.specs.Calls.{office_text};
 ghost use Rattle.bsp_desk_base.specs.Contents.{IsOfficeCall};

@@ -1,3 +1,5 @@
+//! A request with its token.
+
 use bsp_desk_base::Content;
 use bsp_routes::Asking;
 

@@ -1,3 +1,5 @@
+//! Serves a call after its caller is found.
+
 ghost use Rattle.std.specs.Prelude.{◌≡◌, false, []};
 ghost use Rattle.bsp_desk.specs.Callers.{calling};
 ghost use Rattle.bsp_desk.specs.Calls.{agent_text, airline_text, office_text};

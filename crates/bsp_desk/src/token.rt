@@ -1,3 +1,5 @@
+//! Compares a token with a caller's own.
+
 ghost use Rattle.std.specs.Prelude.{◌≡◌, Some};
 ghost use Rattle.bsp_desk.specs.Reading.{token_text};
 ghost use Rattle.bsp_desk_base.specs.Step.{is_token};

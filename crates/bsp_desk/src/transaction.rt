@@ -1,3 +1,5 @@
+//! Answers a call in one transaction of the book.
+
 ghost use Rattle.std.specs.Prelude.{◌≡◌, false, IfOk};
 ghost use Rattle.bsp_desk.specs.Callers.{calling};
 ghost use Rattle.bsp_desk.specs.Replies.{is_unavailable};

@@ -1,3 +1,5 @@
+//! What the body of a request holds.
+
 ghost use Rattle.std.specs.Prelude.{◌≡◌};
 ghost use Rattle.bsp_desk_base.specs.Contents.{EachContentIsRead, bytes_in};
 

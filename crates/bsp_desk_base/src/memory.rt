@@ -1,3 +1,5 @@
+//! Gives up an open transaction when memory is refused.
+
 ghost use Rattle.std.specs.Prelude.{IfOk};
 ghost use Rattle.bsp_book.specs.Calls.{FallsBack, Faults, LeavesLast};
 

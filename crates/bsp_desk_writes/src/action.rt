@@ -1,3 +1,5 @@
+//! The actions on a memo.
+
 ghost use Rattle.std.specs.Prelude.{◌≡◌};
 ghost use Rattle.bsp_memos.specs.Steps.{MemoStep};
 ghost use Rattle.bsp_desk_base.specs.Ledger.{review_of};

@@ -1,3 +1,5 @@
+//! Reads the bodies of requests about memos.
+
 ghost use Rattle.std.specs.Prelude.{◌≡◌, IfOk, OnOk, false};
 ghost use Rattle.bsp_book.specs.Calls.{FallsBack, Faults, Keeps, LeavesLast};
 ghost use Rattle.bsp_desk_writes.specs.Answered.{IsMalformed};

@@ -1,3 +1,5 @@
+//! An amount of eleven digits, as a field of a record and as a number.
+
 ghost use Rattle.std.specs.Prelude.{◌≡◌, ◌≤◌, ◌↔◌, ℤ, unsigned_abs, List, ℕ};
 ghost use Rattle.bsp_fields.specs.Zoned.{IsSpelling, zoned_reading, spelling, within};
 

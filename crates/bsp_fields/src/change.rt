@@ -1,3 +1,5 @@
+//! Whether a request changed anything or repeated an earlier one.
+
 ghost use Rattle.std.specs.Prelude.{◌≡◌};
 ghost use Rattle.bsp_fields.specs.Changes.{change_of};
 

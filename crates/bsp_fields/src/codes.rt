@@ -1,3 +1,5 @@
+//! The codes of agents, airlines and periods.
+
 ghost use Rattle.std.specs.Prelude.{◌≡◌, ℕ, ◌%◌, ◌/◌, ◌^◌, ◌<◌, IfOk, Some};
 ghost use Rattle.std.specs.Fmt.{padded};
 ghost use Rattle.bsp_fields.specs.Decimal.{fixed_digits};

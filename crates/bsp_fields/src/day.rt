@@ -1,3 +1,5 @@
+//! A day from 2000-01-01 to 2099-12-31, as `YYMMDD` and as `YYYY-MM-DD`.
+
 ghost use Rattle.std.specs.Prelude.{IsTrue, ◌≡◌, ◌≤◌, ◌+◌, ◌+ℤ◌, ◌≤ℤ◌, ◌<◌, ◌^◌, pos, length, IfOk, MatchResult, Some};
 ghost use Rattle.std.specs.Fmt.{padded};
 ghost use Rattle.bsp_fields.specs.CivilDay.{CivilDay, is_day};

@@ -1,3 +1,5 @@
+//! Numbers of decimal digits.
+
 ghost use Rattle.std.specs.Prelude.{◌≡◌, ◌^◌, ◌<◌, ◌≤◌, length, IfOk};
 ghost use Rattle.std.specs.Fmt.{WritesOnOk, WritesStyledOnOk, formatter_spec, padded};
 ghost use Rattle.std.specs.Str.{IsAscii};

@@ -1,3 +1,5 @@
+//! Why characters are not a field.
+
 use thiserror::Error;
 
 /// Why characters are no field, in the order in which a reader looks: where several faults are

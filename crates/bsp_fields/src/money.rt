@@ -1,3 +1,5 @@
+//! Amounts as text: units, a point and two digits.
+
 ghost use Rattle.std.specs.Prelude.{◌≡◌, ◌++◌, IfOk, OnOk, string_bytes};
 ghost use Rattle.bsp_fields.specs.Money.{money_text};
 

@@ -1,3 +1,5 @@
+//! The sign of an amount in its last character (zoned decimal).
+
 ghost use Rattle.std.specs.Prelude.{◌≡◌, ◌^◌, ◌<◌, ◌≤◌, ◌↔◌, unsigned_abs, IfOk, List, ℕ};
 ghost use Rattle.bsp_fields.specs.Zoned.{IsSpelling, zoned_reading, spelling, ending, ending_reading, with_sign};
 

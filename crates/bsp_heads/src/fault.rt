@@ -1,3 +1,5 @@
+//! Why the head of a message is refused.
+
 /// Why a head is refused. After each of them the connection closes.
 ///
 /// The first that applies is answered. The order is: too large, malformed (no head, or not one

@@ -1,3 +1,5 @@
+//! What the head of a message states.
+
 use httparse::spans::Span;
 
 /// What a head asks for.

@@ -1,3 +1,5 @@
+//! Rows looked up by a place that each row has.
+
 ghost use Rattle.std.specs.Prelude.{◌≡◌, IfOk, OnOk};
 ghost use Rattle.std.specs.FinMap.{empty};
 ghost use Rattle.std.specs.FinMap.{keys as in_map};

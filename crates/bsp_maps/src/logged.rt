@@ -1,3 +1,5 @@
+//! A map with a log of writes, which can be rolled back.
+
 ghost use Rattle.std.specs.Prelude.{◌≡◌, IfOk, OnOk};
 ghost use Rattle.std.specs.FinMap.{IsAntisymmetric, empty, insert, get};
 ghost use Rattle.bsp_maps.specs.Undo.{content, before, restored};

@@ -1,3 +1,5 @@
+//! How many rows have each place.
+
 ghost use Rattle.std.specs.Prelude.{◌≡◌, OnOk, Some};
 ghost use Rattle.std.specs.FinMap.{IsAntisymmetric, empty};
 ghost use Rattle.bsp_maps.specs.Counts.{HasCounted, IsRecounted, count_at, counted, counted_before, with_one, without_one};

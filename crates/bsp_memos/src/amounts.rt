@@ -1,3 +1,5 @@
+//! The amounts of a memo.
+
 ghost use Rattle.std.specs.Prelude.{◌≡◌, ◌&&◌, not, pos, int_le, int_lt, [], ◌∷◌};
 ghost use Rattle.bsp_fields.specs.FirstFault.{first_fault_or};
 ghost use Rattle.bsp_memos.specs.Memos.{is_amount};

@@ -1,3 +1,5 @@
+//! Why an issue of a memo or an action is refused: M01 to M08.
+
 ghost use Rattle.std.specs.Prelude.{◌≡◌};
 ghost use Rattle.bsp_memos.specs.Texts.{fault_text};
 

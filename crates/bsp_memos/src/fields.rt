@@ -1,3 +1,5 @@
+//! The fields of a memo, as a store keeps them.
+
 use crate::kind::MemoKind;
 use crate::reason::Reason;
 use crate::state::MemoState;

@@ -1,3 +1,5 @@
+//! The kinds of memos: ADMA and ACMA.
+
 ghost use Rattle.std.specs.Prelude.{◌≡◌, Some};
 ghost use Rattle.bsp_memos.specs.Texts.{kind_text, kind_reading};
 

@@ -1,3 +1,5 @@
+//! The law that a memo is billed at most once.
+
 ghost use Rattle.bsp_memos.specs.Kept.{IsIssueSound, IsFitKept, IsBilledUnchanged, IsRightAtClose, IsRightLater, IsRightSinceIssue};
 ghost use Rattle.bsp_memos.specs.Lives.{IsIssueKept, IsBilledOnce, IsNotBilledInDispute, IsNotBilledWithdrawn, IsCreditBilledFirst};
 

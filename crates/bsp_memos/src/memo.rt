@@ -1,3 +1,5 @@
+//! A memo and what is done about it.
+
 use crate::amounts::issued_amount;
 use crate::fault::MemoFault;
 use crate::fields::MemoFields;

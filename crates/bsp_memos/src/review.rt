@@ -1,3 +1,5 @@
+//! The days in which a memo is reviewed.
+
 ghost use Rattle.std.specs.Prelude.{◌≡◌, ◌||◌, is_some, [], ◌∷◌};
 ghost use Rattle.bsp_fields.specs.FirstFault.{first_fault_or};
 ghost use Rattle.bsp_memos.specs.States.{is_credit};

@@ -1,3 +1,5 @@
+//! The states of a memo.
+
 ghost use Rattle.std.specs.Prelude.{◌≡◌, ◌||◌, not, Some};
 ghost use Rattle.bsp_memos.specs.Texts.{state_text, state_reading};
 ghost use Rattle.bsp_memos.specs.States.{is_disputed, is_withdrawn};

@@ -28,7 +28,7 @@ fn push_escaped(line: &mut String, bytes: &[u8]) -> Result<(), AllocError> {
 }
 
 /// The code that a refusal's body begins with, as in `{"code":"N02"}`; else `-`.
-fn code_in(body: &[u8]) -> &str {
+pub(crate) fn code_in(body: &[u8]) -> &str {
     match body.strip_prefix(b"{\"code\":\"") {
         Some(rest) if rest.len() >= 3 => str::from_utf8(&rest[..3]).unwrap_or("-"),
         _ => "-",

@@ -1,20 +1,25 @@
 //! The program of the office: it reads its command line and runs the work that the words ask for.
 //! `check` and `hotcheck` report on a RET file and on a HOT file. Of a fault both say on standard error which field,
-//! count or sum it is. `audit` reports on the book in a file. `run` and `serve` are the office over HTTP, on standard
+//! count or sum it is. `judge` prints the verdicts that an office would give, `plan` tries a plan text, and `explain`
+//! explains a code. `audit` reports on the book in a file. `run` and `serve` are the office over HTTP, on standard
 //! input and output or on a port.
 #![tactic(auto)]
 
 mod audit;
 mod book_file;
+mod explaining;
 mod input;
+mod judging;
 mod kept;
 mod listening;
 mod log;
+mod plans;
 mod remarks;
 mod run;
 mod serving;
 mod socket;
 mod token_file;
+mod whole_files;
 
 pub use kept::Failing;
 pub use listening::{ListenFault, serve_on};

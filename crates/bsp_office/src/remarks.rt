@@ -34,12 +34,34 @@ pub(crate) fn say_unwritten(rt: &HostRuntime) {
     say(rt, "standard output", &cause(Fault::Write));
 }
 
+/// Says why a FILE is not read whole.
+pub(crate) fn say_fault(rt: &HostRuntime, file: &str, fault: Fault) {
+    say(rt, named(file), &cause(fault));
+}
+
+/// Says that memory is short.
+pub(crate) fn say_no_memory(rt: &HostRuntime) {
+    let _ = rt.eprintln("bsp_office: out of memory");
+}
+
+/// Says what is wrong with a FILE, or with an option.
+pub(crate) fn say_reason(rt: &HostRuntime, place: &str, reason: &str) {
+    say(rt, named(place), &reason);
+}
+
+/// Says some lines.
+pub(crate) fn say_lines(rt: &HostRuntime, lines: &[u8]) {
+    if let Ok(text) = str::from_utf8(lines) {
+        let _ = eprint!(rt; "{text}");
+    }
+}
+
 /// Says which fault a FILE has, or why no whole report on it was written.
 pub(crate) fn say_answer(rt: &HostRuntime, file: &str, answer: &Result<Verdict, Fault>) {
     match answer {
         Ok(Verdict::Passed) => {}
         Ok(Verdict::Refused(explanation)) => say(rt, named(file), explanation),
         Err(Fault::Write) => say_unwritten(rt),
-        Err(fault) => say(rt, named(file), &cause(*fault)),
+        Err(fault) => say_fault(rt, file, *fault),
     }
 }

@@ -1,12 +1,16 @@
 //! Runs the work that the command line asks for.
 
 use crate::audit::run_audit;
+use crate::explaining::run_explain;
 use crate::input::Input;
+use crate::judging::run_judge;
+use crate::plans::run_plan;
 use crate::remarks::{say_answer, say_unopened};
 use crate::serving::{Port, run_office, serve_office};
+use crate::whole_files::short_of_memory;
 use bsp_check::{DONE, FAILED, Fault, Verdict, WRONG_WORDS, check, exit_status, hotcheck};
 use bsp_connection::Noted;
-use bsp_words::{WordsFault, Work, words};
+use bsp_words::{Misfit, WordsFault, Work, words};
 use clap::error::ErrorKind;
 use std::convert::AsStr;
 use std::{env, io};
@@ -57,6 +61,9 @@ fn run_work(rt: &HostRuntime, work: &Work<'_>) -> u8 {
     match work {
         Work::Check { file, quiet } => run_check(rt, file, *quiet),
         Work::Hotcheck { file, quiet } => run_hotcheck(rt, file, *quiet),
+        Work::Judge { setting, file } => run_judge(rt, setting, file),
+        Work::Plan { file, published } => run_plan(rt, file, published),
+        Work::Explain { code } => run_explain(rt, *code),
         Work::Audit { file } => run_audit(rt, file),
         Work::Run { token, book } => run_office(rt, token, book),
         Work::Serve {
@@ -79,19 +86,31 @@ fn run_work(rt: &HostRuntime, work: &Work<'_>) -> u8 {
 }
 
 /// What is wrong with a value that `clap` takes.
-const WRONG_VALUE: &str =
-    "error: exactly one of --token T and --token-file FILE gives the office's token, \
-    T has 16 to 64 letters and digits, and no FILE is -";
+fn misfit_text(misfit: Misfit) -> &'static str {
+    match misfit {
+        Misfit::NoToken =>
+            "--token T or --token-file FILE gives the office's token: neither is there",
+        Misfit::TwoTokens =>
+            "--token T or --token-file FILE gives the office's token: both are there",
+        Misfit::Token => "the token has 16 to 64 letters and digits",
+        Misfit::Minus => "the file of a book or of a token is not called -",
+        Misfit::Day => "DAY is a day of the calendar, as 2024-01-05",
+        Misfit::Agent => "A is eight digits, of which the last is the first seven modulo 7",
+        Misfit::Stock => "FIRST-LAST is two numbers of ten digits, as 1300000000-1300000099",
+    }
+}
 
 /// Prints what `clap` says of the words: help and the version on standard output, else on standard error.
 /// Wrong words are so too where their text cannot be printed.
 fn refuse(rt: &HostRuntime, fault: &WordsFault) -> u8 {
     let error = match fault {
         WordsFault::Refused(error) => error,
-        WordsFault::OutOfForm => {
-            let _ = rt.eprintln(WRONG_VALUE);
+        WordsFault::OutOfForm(misfit) => {
+            let text = misfit_text(*misfit);
+            let _ = eprintln!(rt; "error: {text}");
             return WRONG_WORDS;
         }
+        WordsFault::NoRoom => return short_of_memory(rt),
     };
     if error.kind() == ErrorKind::OutOfMemory {
         let _ = rt.eprintln("bsp_office: out of memory");

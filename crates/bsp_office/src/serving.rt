@@ -7,7 +7,7 @@ use crate::book_file::{make_private, say_unopened};
 use crate::kept::{Failing, say_opened};
 use crate::listening::serve_on;
 use crate::log::Log;
-use crate::token_file::read_token;
+use crate::token_file::{is_directory, read_token};
 use bsp_check::{DONE, FAILED, REFUSED, WRONG_WORDS};
 use bsp_connection::Noted;
 use bsp_desk::{Book, Desk, ListBook};
@@ -67,6 +67,10 @@ fn token_in(rt: &HostRuntime, file: &str) -> Result<Token, u8> {
                 "bsp_office: {file}: its first line is not 16 to 64 letters and digits"
             );
             Err(WRONG_WORDS)
+        }
+        Err(_) if is_directory(rt, file) => {
+            let _ = eprintln!(rt; "bsp_office: {file}: it is a directory");
+            Err(FAILED)
         }
         Err(error) => {
             let _ = eprintln!(rt; "bsp_office: {file}: {error}");

@@ -3,7 +3,7 @@
 use bsp_check::{Fault, read_whole};
 use bsp_connection::Noted;
 use bsp_fields::Token;
-use std::fs::File;
+use std::fs::{self, File};
 use std::io;
 
 /// The most bytes that such a file may have.
@@ -13,6 +13,14 @@ const MOST: usize = 4096;
 fn first_line(text: &[u8]) -> &[u8] {
     let line = text.split(|byte| *byte == b'\n').next().unwrap_or(text);
     line.strip_suffix(b"\r").unwrap_or(line)
+}
+
+/// Whether the file is a directory, which cannot be read.
+pub(crate) fn is_directory(rt: &HostRuntime, file: &str) -> bool {
+    match fs::metadata(rt, file) {
+        Ok(found) => found.is_dir(),
+        Err(_) => false,
+    }
 }
 
 /// The token that is the first line of a file of at most 4,096 bytes, or none where the line is no token or the file

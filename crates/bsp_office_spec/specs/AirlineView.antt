@@ -1,9 +1,9 @@
 -- What one airline sees of each answered request, and what it makes of the airline's ledger.
-use Rattle.std.specs.Prelude.{ℕ, ◌==◌, ◌&&◌, Bool, List, [], ◌∷◌, ◌++◌, Option, Some, None, unwrap_or, Ok, Err, if◌then◌else◌}
+use Rattle.std.specs.Prelude.{ℕ, ◌==◌, ◌&&◌, Bool, List, [], ◌∷◌, ◌++◌, Option, Some, None, Ok, Err, if◌then◌else◌}
 use Rattle.std.specs.FinMap.{insert}
 use Rattle.bsp_rows.specs.History.{Request as PlanRequest, outcome}
 use Rattle.bsp_rows.specs.History.Request.{Publish, SetDay, Close}
-use Rattle.bsp_rows.specs.Published.{target_of}
+use Rattle.bsp_rows.specs.Published.{target_or_zero}
 use Rattle.bsp_rows.specs.Transaction.{Transaction}
 use Rattle.bsp_rows.specs.Verdict.{Verdict}
 use Rattle.bsp_rows.specs.Verdict.TheVariants as verdict
@@ -92,7 +92,7 @@ airline_planned request l = record (with_airline_memos (airline_billed request l
 -- the ledger after a sight: its own request changes it where it is done
 abbrev pub airline_after : ℕ → AirlineLedger → AirlineSight → AirlineLedger
 airline_after airline l (OwnAsked call) = if is_done (airline_answer airline l call) then airline_done_by airline call l else l
-airline_after airline l (Taken agent t) = with_airline_items (taken_item agent l t (unwrap_or (target_of l.published t.issued) 0)) l
+airline_after airline l (Taken agent t) = with_airline_items (taken_item agent l t (target_or_zero l.published t.issued)) l
 airline_after airline l (Renewed token) = record l { own = record { token = Some token; items = l.own.items; memos = l.own.memos } }
 airline_after airline l (Known agent) = record l { agents = insert l.agents agent [] }
 airline_after airline l (ActedOn action key) = airline_acted action key l

@@ -1,9 +1,9 @@
 -- What one agent sees of each answered request, and what it makes of the agent's ledger.
-use Rattle.std.specs.Prelude.{◌≡◌, ℕ, ◌==◌, ◌&&◌, Bool, false, List, [], ◌∷◌, ◌++◌, Option, Some, None, is_some, unwrap_or, Ok, Err, if◌then◌else◌}
+use Rattle.std.specs.Prelude.{◌≡◌, ℕ, ◌==◌, ◌&&◌, Bool, false, List, [], ◌∷◌, ◌++◌, Option, Some, None, is_some, Ok, Err, if◌then◌else◌}
 use Rattle.std.specs.FinMap.{get, insert, remove}
 use Rattle.bsp_rows.specs.History.{Request as PlanRequest}
 use Rattle.bsp_rows.specs.History.Request.{Publish, SetDay, Close}
-use Rattle.bsp_rows.specs.Published.{target_of}
+use Rattle.bsp_rows.specs.Published.{target_or_zero}
 use Rattle.bsp_rows.specs.Transaction.{Transaction}
 use Rattle.bsp_rows.specs.Range.{Range}
 use Rattle.bsp_rows.specs.Verdict.{Verdict}
@@ -63,7 +63,7 @@ with_own_ranges f l = record { own = f l.own; published = l.published }
 -- the ledger after a sight
 abbrev pub ledger_after : ℕ → Ledger → Sight → Ledger
 ledger_after agent l (Own call) = ledger_after_request agent call l
-ledger_after agent l (Reported t) = with_own_item (new_item agent l t (unwrap_or (target_of l.published t.issued) 0)) l
+ledger_after agent l (Reported t) = with_own_item (new_item agent l t (target_or_zero l.published t.issued)) l
 ledger_after agent l (Registered token) = with_own_ranges (λ own. record own { token = Some token }) l
 ledger_after agent l (Allotted range) = with_own_ranges (λ own. record own { ranges = insert own.ranges (range_key agent range) range.last }) l
 ledger_after agent l (Withdrew range) = with_own_ranges (λ own. record own { ranges = remove own.ranges (range_key agent range) }) l

@@ -18,8 +18,14 @@ taxes_from line index = slice_range line (18 + 13 * index) 96
 abbrev pub tax_code : List ℕ → ℕ
 tax_code place = 256 * slice_index place 0 + slice_index place 1
 
+abbrev pub code_part : List ℕ → List ℕ
+code_part place = columns 1 2 place
+
+abbrev pub amount_part : List ℕ → List ℕ
+amount_part place = columns 3 13 place
+
 abbrev pub tax_fits : List ℕ → Bool
-tax_fits place = list_all is_letter_or_digit (columns 1 2 place) && is_amount (columns 3 13 place)
+tax_fits place = list_all is_letter_or_digit (code_part place) && is_amount (amount_part place)
 
 -- used places come first, with codes that rise; unused places are spaces
 abbrev pub taxes_fit : ℕ → List (List ℕ) → Bool

@@ -1,8 +1,7 @@
 -- Fields as slices of their records, by the columns of the records.
 use Rattle.std.specs.Prelude.{◌≡◌, ℕ, List, [], ◌∷◌}
-use Rattle.bsp_records.specs.Columns.{columns}
-use Rattle.bsp_records.specs.Taxes.{tax_places}
-use Rattle.bsp_ret_records.specs.Records.{transaction_number, agent, document, issued, passenger, related_document, fare, rate, commission, payment_amount, vendor, record_count, transaction_count, total}
+use Rattle.bsp_records.specs.Taxes.{tax_places, code_part, amount_part}
+use Rattle.bsp_ret_records.specs.Records.{system_id, file_date, file_time, country, file_number, airline_part, number_part, check_digit_part, transaction_number, transaction_code, agent, document, issued, passenger, related_document, fare, rate, commission, payment_amount, vendor, record_count, transaction_count, total}
 use Rattle.bsp_ret.specs.declared.fields.HeaderFields.{HeaderFields}
 use Rattle.bsp_ret.specs.declared.fields.DocumentFields.{DocumentFields}
 use Rattle.bsp_ret.specs.declared.fields.SaleFields.{SaleFields}
@@ -15,21 +14,21 @@ use Rattle.bsp_ret.specs.Ret.{Group, IsGroup}
 use Rattle.bsp_ret.specs.Content.{InBoth}
 
 pub record IsHeaderOf (line : List ℕ) (f : HeaderFields) : Type 0 where
-  pub system_id : f.system_id.now ≡ columns 2 5 line
-  pub date : f.date.now ≡ columns 6 11 line
-  pub time : f.time.now ≡ columns 12 15 line
-  pub country : f.country.now ≡ columns 16 17 line
-  pub file_number : f.file_number.now ≡ columns 18 23 line
+  pub system_id : f.system_id.now ≡ system_id line
+  pub date : f.date.now ≡ file_date line
+  pub time : f.time.now ≡ file_time line
+  pub country : f.country.now ≡ country line
+  pub file_number : f.file_number.now ≡ file_number line
 
 -- a document in fourteen characters
 pub record IsDocumentOf (text : List ℕ) (f : DocumentFields) : Type 0 where
-  pub airline : f.airline.now ≡ columns 1 3 text
-  pub number : f.number.now ≡ columns 4 13 text
-  pub check_digit : f.check_digit.now ≡ columns 14 14 text
+  pub airline : f.airline.now ≡ airline_part text
+  pub number : f.number.now ≡ number_part text
+  pub check_digit : f.check_digit.now ≡ check_digit_part text
 
 pub record IsSaleOf (line : List ℕ) (f : SaleFields) : Type 0 where
   pub number : f.number.now ≡ transaction_number line
-  pub code : f.code.now ≡ columns 8 11 line
+  pub code : f.code.now ≡ transaction_code line
   pub agent : f.agent.now ≡ agent line
   pub document : IsDocumentOf (document line) f.document
   pub issued : f.issued.now ≡ issued line
@@ -40,8 +39,8 @@ IsRelatedOf line f = IsDocumentOf (related_document line) f
 
 -- a tax place of thirteen characters
 pub record IsTaxOf (place : List ℕ) (f : TaxFields) : Type 0 where
-  pub code : f.code.now ≡ columns 1 2 place
-  pub amount : f.amount.now ≡ columns 3 13 place
+  pub code : f.code.now ≡ code_part place
+  pub amount : f.amount.now ≡ amount_part place
 
 abbrev pub AreTaxesOf : List (List ℕ) → List TaxFields → Type 0
 AreTaxesOf [] [] = Unit {0}

@@ -36,15 +36,45 @@ is_header line = (identifier line == 49) && is_some (profile_of line)
 unfoldable pub is_production : List ℕ → Bool
 is_production line = bytes_eq (columns 24 27 line) (codes "PROD")
 
+abbrev pub system_id : List ℕ → List ℕ
+system_id line = columns 2 5 line
+
+abbrev pub file_date : List ℕ → List ℕ
+file_date line = columns 6 11 line
+
+-- hours and minutes
+abbrev pub file_time : List ℕ → List ℕ
+file_time line = columns 12 15 line
+
+abbrev pub country : List ℕ → List ℕ
+country line = columns 16 17 line
+
+abbrev pub file_number : List ℕ → List ℕ
+file_number line = columns 18 23 line
+
 -- system id, date, hours, minutes, country, file number
 unfoldable pub header_fits : List ℕ → Bool
 header_fits line =
-    list_all is_letter_or_digit (columns 2 5 line) && is_record_day (columns 6 11 line)
+    list_all is_letter_or_digit (system_id line) && is_record_day (file_date line)
     && spells_at_most 23 (columns 12 13 line) && spells_at_most 59 (columns 14 15 line)
-    && list_all is_letter (columns 16 17 line) && all_ascii_digits (columns 18 23 line)
+    && list_all is_letter (country line) && all_ascii_digits (file_number line)
     && list_all is_space (columns 31 136 line)
 
+-- ---- a document in fourteen characters
+
+abbrev pub airline_part : List ℕ → List ℕ
+airline_part text = columns 1 3 text
+
+abbrev pub number_part : List ℕ → List ℕ
+number_part text = columns 4 13 text
+
+abbrev pub check_digit_part : List ℕ → List ℕ
+check_digit_part text = columns 14 14 text
+
 -- ---- record 2, basic sale data
+
+abbrev pub transaction_code : List ℕ → List ℕ
+transaction_code line = columns 8 11 line
 
 -- the agent's eight digits and the document's fourteen
 abbrev pub agent_and_document : List ℕ → List ℕ
@@ -64,9 +94,9 @@ passenger line = columns 40 88 line
 
 unfoldable pub code_of : List ℕ → Option TransactionCode
 code_of line =
-    if bytes_eq (columns 8 11 line) (codes "TKTT") then Some Tktt
-    else (if bytes_eq (columns 8 11 line) (codes "RFND") then Some Rfnd
-    else (if bytes_eq (columns 8 11 line) (codes "CANX") then Some Canx else None))
+    if bytes_eq (transaction_code line) (codes "TKTT") then Some Tktt
+    else (if bytes_eq (transaction_code line) (codes "RFND") then Some Rfnd
+    else (if bytes_eq (transaction_code line) (codes "CANX") then Some Canx else None))
 
 unfoldable pub sale_fits : List ℕ → Bool
 sale_fits line =

@@ -5,14 +5,14 @@ use Rattle.bsp_fields.specs.Decimal.{number_of}
 use Rattle.bsp_fields.specs.Zoned.{zoned_reading}
 use Rattle.bsp_fields.specs.Codes.{code_reading}
 use Rattle.bsp_fields.specs.Days.{record_reading}
-use Rattle.bsp_records.specs.Columns.{columns, is_space}
-use Rattle.bsp_records.specs.Taxes.{tax_places}
+use Rattle.bsp_records.specs.Columns.{is_space}
+use Rattle.bsp_records.specs.Taxes.{tax_places, code_part, amount_part}
 use Rattle.bsp_ret_records.specs.declared.transactions.ReportedDocument.{ReportedDocument}
 use Rattle.bsp_ret_records.specs.declared.transactions.Sale.{Sale}
 use Rattle.bsp_ret_records.specs.declared.transactions.Tax.{Tax}
 use Rattle.bsp_ret_records.specs.declared.transactions.Amounts.{Amounts}
 use Rattle.bsp_ret_records.specs.declared.transactions.CardPayment.{CardPayment}
-use Rattle.bsp_ret_records.specs.Records.{agent, document, issued, code_of, related_document, fare, rate, commission, payment_amount, vendor}
+use Rattle.bsp_ret_records.specs.Records.{airline_part, number_part, check_digit_part, agent, document, issued, code_of, related_document, fare, rate, commission, payment_amount, vendor}
 
 -- no value, or one that passes the test
 abbrev pub none_or : {A : Type 0} → (A → Bool) → Option A → Bool
@@ -21,9 +21,9 @@ none_or test (Some x) = test x
 
 -- a document in fourteen characters: its airline, its number and its check digit
 pub record IsDocument (text : List ℕ) (d : ReportedDocument) : Type 0 where
-  pub airline : code_reading 3 (columns 1 3 text) ≡ Ok d.airline
-  pub number : d.number ≡ columns 4 13 text
-  pub check_digit : number_of (columns 14 14 text) ≡ d.check_digit
+  pub airline : code_reading 3 (airline_part text) ≡ Ok d.airline
+  pub number : d.number ≡ number_part text
+  pub check_digit : number_of (check_digit_part text) ≡ d.check_digit
 
 -- a document comes before another: by the airline, then by the number
 abbrev pub is_before : ReportedDocument → ReportedDocument → Bool
@@ -47,7 +47,7 @@ IsRelated line d = IsDocument (related_document line) d
 -- a tax place: a code and an amount, or spaces
 abbrev pub IsTax : List ℕ → Option Tax → Type 0
 IsTax place None = list_all is_space place ≡ true
-IsTax place (Some tax) = (tax.code ≡ columns 1 2 place) × (zoned_reading 11 (columns 3 13 place) ≡ Ok tax.amount)
+IsTax place (Some tax) = (tax.code ≡ code_part place) × (zoned_reading 11 (amount_part place) ≡ Ok tax.amount)
 
 abbrev pub AreTaxes : List (List ℕ) → List (Option Tax) → Type 0
 AreTaxes [] [] = Unit {0}

@@ -1,3 +1,5 @@
+//! The result of a look-up: a call and the body that it has.
+
 use crate::call::Call;
 use crate::methods::Methods;
 

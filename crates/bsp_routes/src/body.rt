@@ -1,3 +1,5 @@
+//! Which body each call has.
+
 ghost use Rattle.std.specs.Prelude.{◌≡◌};
 ghost use Rattle.bsp_routes.specs.Calls.{body_of, method_of, method_with};
 

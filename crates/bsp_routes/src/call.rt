@@ -1,3 +1,5 @@
+//! The calls of the office, the agents and the airlines.
+
 /// What the office asks, with path values of type `V`.
 #[derive(Clone, Copy, Debug, PartialEq, Eq)]
 pub enum OfficeCall<V> {

@@ -1,3 +1,5 @@
+//! A resource that a path names, with the values of the path.
+
 ghost use Rattle.std.specs.Prelude.{◌≡◌, length};
 ghost use Rattle.bsp_routes.specs.Resources.{call_at};
 ghost use Rattle.bsp_routes.specs.Matches.{IsMatch};

@@ -1,3 +1,5 @@
+//! The methods that a path has, for an `Allow` field.
+
 ghost use Rattle.std.specs.Prelude.{◌≡◌};
 ghost use Rattle.bsp_routes.specs.Calls.{lists, allow_text};
 

@@ -1,3 +1,5 @@
+//! The pattern of each resource.
+
 ghost use Rattle.std.specs.Prelude.{◌≡◌, Ok, Err, OnOk, IfOk, [], ◌++◌};
 ghost use Rattle.bsp_routes.specs.Rows.{add, office_rows, agent_rows, airline_rows, routes};
 

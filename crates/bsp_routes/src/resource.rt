@@ -1,3 +1,5 @@
+//! The resources that paths name.
+
 ghost use Rattle.std.specs.Prelude.{◌≡◌};
 ghost use Rattle.bsp_routes.specs.Resources.{form, methods};
 ghost use Rattle.bsp_routes.specs.Routed.{bytes_before};

@@ -1,3 +1,5 @@
+//! The table of routes.
+
 ghost use Rattle.std.specs.Prelude.{◌≡◌, ℕ, List, None, IfSome};
 ghost use Rattle.bsp_routes.specs.declared.asking.Asking.{Asking};
 ghost use Rattle.bsp_routes.specs.declared.resource.Resource.{Resource};

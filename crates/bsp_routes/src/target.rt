@@ -1,3 +1,5 @@
+//! Which characters a target may have.
+
 ghost use Rattle.std.specs.Prelude.{◌≡◌, ◌≢◌, ◌≤◌, true, false, All};
 ghost use Rattle.bsp_routes.specs.Targets.{IsClean};
 

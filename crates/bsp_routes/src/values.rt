@@ -1,3 +1,5 @@
+//! The values that a path has.
+
 ghost use Rattle.bsp_routes.specs.Matches.{values_in, AreFirstTwo};
 
 use matchit::Params;

@@ -7,7 +7,7 @@ use Rattle.bsp_fields.specs.Decimal.{fixed_digits}
 use Rattle.bsp_fields.specs.FirstFault.{first_fault_or}
 use Rattle.bsp_calendar.specs.declared.entries.Terms.{Terms}
 use Rattle.bsp_calendar.specs.DayOrder.{is_before}
-use Rattle.bsp_calendar.specs.Published.{Published, has_airline, rate_on, target_of}
+use Rattle.bsp_calendar.specs.Published.{Published, has_airline, rate_on, target_of, target_or_zero}
 use Rattle.bsp_ret_records.specs.declared.codes.TransactionCode.{TransactionCode}
 use Rattle.bsp_ret_records.specs.declared.codes.TransactionCode.TheVariants.{Tktt, Rfnd, Canx}
 use Rattle.bsp_ret_records.specs.declared.transactions.ReportedDocument.{ReportedDocument}
@@ -117,4 +117,4 @@ told (Ok period) = Accepted period
 told (Err verdict) = verdict
 
 unfoldable pub verdict_on : Reporter → Transaction → Facts → Published → Verdict
-verdict_on reporter t f p = told (first_fault_or (rows reporter t f p) (unwrap_or (target_of p t.issued) 0))
+verdict_on reporter t f p = told (first_fault_or (rows reporter t f p) (target_or_zero p t.issued))

@@ -1,8 +1,8 @@
 //! The verdict on a transaction.
 
-ghost use Rattle.std.specs.Prelude.{◌≡◌, ◌∷◌, [], unwrap_or};
+ghost use Rattle.std.specs.Prelude.{◌≡◌, ◌∷◌, []};
 ghost use Rattle.bsp_fields.specs.FirstFault.{first_fault_or};
-ghost use Rattle.bsp_calendar.specs.Published.{target_of};
+ghost use Rattle.bsp_calendar.specs.Published.{target_or_zero};
 ghost use Rattle.bsp_rules.specs.Verdicts.{rows, verdict_on};
 
 use crate::amounts::has_wrong_amounts;
@@ -34,7 +34,7 @@ fn ruled(
     facts: &Facts,
     plan: &Plan,
 ) -> Result<PeriodCode, Verdict>
-    ensures { result ≡ first_fault_or (rows reporter transaction.now facts.now plan.now) (unwrap_or (target_of plan.now transaction.now.issued) 0) }
+    ensures { result ≡ first_fault_or (rows reporter transaction.now facts.now plan.now) (target_or_zero plan.now transaction.now.issued) }
 {
     let airline = transaction.document.airline;
     let issued = transaction.issued;

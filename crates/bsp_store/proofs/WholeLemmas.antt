@@ -1,5 +1,5 @@
 -- A whole opening, from what a store that was opened again was made of.
-use Rattle.std.proofs.Common.{◌≡◌, true, Result, Ok, Err, inl, inr, sym, subst, ◌∙◌}
+use Rattle.std.proofs.Common.{◌≡◌, false, true, Result, Ok, Err, inl, inr, sym, subst, ◌∙◌}
 use Rattle.std.specs.Prelude.{IfErr}
 use Rattle.sqlite_trees.specs.Tree.{Trees}
 use Rattle.sqlite_trees.specs.View.{IsClean}
@@ -13,7 +13,7 @@ use Rattle.bsp_store_open.proofs.OpeningLemmas.{IsSettled, left_committed, was_c
 use Rattle.bsp_store_migration.specs.Migrating.{IsMigrationOf, ShowsNoOldBook}
 use Rattle.bsp_store_migration.specs.Old.{old_schema}
 use Rattle.bsp_store_migration.specs.OldVersion.{OldVersion}
-use Rattle.bsp_store_migration.proofs.VersionLemmas.{bare_not_ours, old_not_bare, old_not_ours, one_old}
+use Rattle.bsp_store_migration.proofs.VersionLemmas.{old_not_bare, old_not_ours, one_old}
 use Rattle.bsp_store.specs.Adopting.{LeavesMigrated, LeavesWhole, ShowsNone, WasNoBook}
 
 module _ {S : Type 0} (g : Ghosts S) where
@@ -22,14 +22,9 @@ module _ {S : Type 0} (g : Ghosts S) where
 
   module _ (before now : Held S) (again : Reopens g before now) where
     -- a store without tables
-    pub bare_refused : {X : Type 0} (r : Result X (OpenFault × S)) → now.schema ≡ no_schema → IfErr r (λ e. LeavesEmptyBook g now e.1) → IfErr r (λ e. is_refusal e.0 ≡ true → WasNoBook g e.0 before e.1)
-    bare_refused (Ok x) bare left = tt
-    bare_refused (Err e) bare left = λ refused clean. (
-      now,
-      left.earlier clean,
-      again,
-      record { ours = λ ours. absurd (bare_not_ours (sym bare ∙ ours)); older = λ version is. absurd (old_not_bare version (sym bare ∙ is)); others = λ other some young. absurd (some bare) },
-    )
+    pub bare_refused : {X : Type 0} (r : Result X (OpenFault × S)) → IfErr r (λ e. is_refusal e.0 ≡ false) → IfErr r (λ e. is_refusal e.0 ≡ true → WasNoBook g e.0 before e.1)
+    bare_refused (Ok x) none = tt
+    bare_refused (Err e) none = λ refused. absurd (cc (sym none ∙ refused))
 
     pub bare_left : {X : Type 0} (r : Result X (OpenFault × S)) → now.schema ≡ no_schema → IsSettled g now → IfErr r (λ e. LeavesEmptyBook g now e.1) → IfErr r (λ e. LeavesWhole g before e.1)
     bare_left (Ok x) bare settled left = tt
@@ -45,9 +40,10 @@ module _ {S : Type 0} (g : Ghosts S) where
     module _ (version : OldVersion) (has : now.schema ≡ old_schema version) where
       shows_none : (fault : OpenFault) → ShowsNoOldBook version fault (state g now).now.trees → ShowsNone g fault now
       shows_none fault none = record {
+        some = λ bare. absurd (old_not_bare version (sym bare ∙ has));
         ours = λ ours. absurd (old_not_ours version (sym has ∙ ours));
         older = λ other is. subst (λ v. ShowsNoOldBook v fault (state g now).now.trees) (one_old version other (sym has ∙ is)) none;
-        others = λ other some young. absurd (young version has);
+        others = λ other young. absurd (young version has);
       }
 
       pub migrated_refused : {X : Type 0} (r : Result X (OpenFault × S)) → IfErr r (λ e. is_refusal e.0 ≡ true → IsClean (g.view e.1) → ShowsNoOldBook version e.0 (state g now).now.trees)
@@ -66,11 +62,11 @@ module _ {S : Type 0} (g : Ghosts S) where
       }
 
     -- a store with other tables
-    pub kept_refused : {X : Type 0} (r : Result X (OpenFault × S)) → ((version : OldVersion) → now.schema ≡ old_schema version → ⊥)
-        → IfErr r (λ e. is_refusal e.0 ≡ true → IsClean (g.view e.1) → ((version : OldVersion) → now.schema ≡ old_schema version → ⊥) → ShowsNone g e.0 now)
+    pub kept_refused : {X : Type 0} (r : Result X (OpenFault × S)) → (now.schema ≡ no_schema → ⊥) → ((version : OldVersion) → now.schema ≡ old_schema version → ⊥)
+        → IfErr r (λ e. is_refusal e.0 ≡ true → IsClean (g.view e.1) → (now.schema ≡ no_schema → ⊥) → ((version : OldVersion) → now.schema ≡ old_schema version → ⊥) → ShowsNone g e.0 now)
         → IfErr r (λ e. SparesStore g now e.1) → IfErr r (λ e. is_refusal e.0 ≡ true → WasNoBook g e.0 before e.1)
-    kept_refused (Ok x) young none left = tt
-    kept_refused (Err e) young none left = λ refused clean. (now, left.earlier clean, again, none refused clean young)
+    kept_refused (Ok x) some young none left = tt
+    kept_refused (Err e) some young none left = λ refused clean. (now, left.earlier clean, again, none refused clean some young)
 
     pub kept_left : {X : Type 0} (r : Result X (OpenFault × S)) → IsSettled g now → IfErr r (λ e. SparesStore g now e.1) → IfErr r (λ e. LeavesWhole g before e.1)
     kept_left (Ok x) settled left = tt

@@ -79,12 +79,13 @@ module _ {S : Type 0} (g : Ghosts S) where
 
   -- ---- an opening that is refused
 
-  -- a connection shows no book, for what the fault says: its tables keep none, as tables of this version or of an earlier
-  -- one, or they are not a book's, and that is what they are asked for their version
+  -- a connection shows tables and no book, for what the fault says: its tables keep none, as tables of this version or of an
+  -- earlier one, or they are not a book's, and that is what they are asked for their version
   pub record ShowsNone (fault : OpenFault) (h : Held S) : Type 0 where
+    pub some : h.schema ≡ no_schema → ⊥
     pub ours : IsNoBook fault (state g h).now
     pub older : (version : OldVersion) → h.schema ≡ old_schema version → ShowsNoOldBook version fault (state g h).now.trees
-    pub others : (h.schema ≡ our_schema → ⊥) → (h.schema ≡ no_schema → ⊥) → ((version : OldVersion) → h.schema ≡ old_schema version → ⊥) → (later : Held S) × HasCleanDisk (state g later) × IsAskedVersion g fault h later
+    pub others : (h.schema ≡ our_schema → ⊥) → ((version : OldVersion) → h.schema ≡ old_schema version → ⊥) → (later : Held S) × HasCleanDisk (state g later) × IsAskedVersion g fault h later
 
   -- opened again, the store showed no book, for what the fault says
   abbrev pub WasNoBook : OpenFault → Held S → S → Type 0

@@ -35,7 +35,7 @@ fn kept_book<S: Alter + Drop>(
     mut conn: Connection<S>,
 ) -> Result<SqlBook<S>, (OpenFault, S)>
     ensures found { IfOk result (λ book. IsOrdered S.Store conn → IsFoundIn S.Store conn book) }
-    ensures refused { IfErr result (λ e. is_refusal e.0 ≡ true → IsClean (S.Store.view e.1) → ((version : OldVersion) → conn.schema ≡ old_schema version → ⊥) → ShowsNone S.Store e.0 conn) }
+    ensures refused { IfErr result (λ e. is_refusal e.0 ≡ true → IsClean (S.Store.view e.1) → (conn.schema ≡ no_schema → ⊥) → ((version : OldVersion) → conn.schema ≡ old_schema version → ⊥) → ShowsNone S.Store e.0 conn) }
     ensures left { IfErr result (λ e. SparesStore S.Store conn e.1) }
 {
     if !is_ours(conn.schema()) {
@@ -64,19 +64,32 @@ fn migrated_book<S: Alter + Drop>(
     }
 }
 
-/// Opens the empty book that a store keeps.
+/// The fault of a book that was just made. Where its tables are not found in it again, the store has failed.
+fn fault_of_new(fault: OpenFault) -> OpenFault
+    ensures { is_refusal result ≡ false }
+{
+    match fault {
+        OpenFault::OtherVersion | OpenFault::Damaged => {
+            OpenFault::Failed(Error::SqliteFailure(ErrorCode::DatabaseCorrupt))
+        }
+        fault => fault,
+    }
+}
+
+/// Opens the empty book that was just made in a store.
 fn empty_book<S: Alter + Drop>(
     alloc: Global,
     conn: Connection<S>,
 ) -> Result<SqlBook<S>, (OpenFault, S)>
     ensures ok { IfOk result (λ book. Holds S.Store book no_rows None) }
     ensures earlier { IfOk result (λ book. HasCleanDisk (state S.Store book.conn) → HasCleanDisk (state S.Store conn)) }
+    ensures refused { IfErr result (λ e. is_refusal e.0 ≡ false) }
     ensures left { IfErr result (λ e. LeavesCommitted S.Store conn e.1) }
 {
     let mut conn = again(alloc, conn)?;
     match empty_list(alloc, &mut conn) {
         Ok(list) => Ok(SqlBook::of(alloc, list, conn)),
-        Err(fault) => Err((fault, conn.into_store())),
+        Err(fault) => Err((fault_of_new(fault), conn.into_store())),
     }
 }
 
@@ -89,6 +102,7 @@ fn new_book<S: Alter + Drop>(
     requires outside { conn.in_transaction ≡ false }
     ensures ok { IfOk result (λ book. Holds S.Store book no_rows None) }
     ensures earlier { IfOk result (λ book. HasCleanDisk (state S.Store book.conn) → HasCleanDisk (state S.Store conn)) }
+    ensures refused { IfErr result (λ e. is_refusal e.0 ≡ false) }
     ensures left { IfErr result (λ e. LeavesEmptyBook S.Store conn e.1) }
 {
     match make_book(&mut conn) {
@@ -179,7 +193,8 @@ impl<S: Alter + Drop> SqlBook<S> {
     /// # Errors
     ///
     /// Each comes with the store. `OtherVersion`, where `meta` has another version than that of its tables. `Damaged`, where
-    /// the tables are not those of a book, a row is no row of a book, or the rows are not sound. `NoRoom`, where an allocation is
+    /// the tables are not those of a book, a row is no row of a book, or the rows are not sound. Neither is answered of a
+    /// store without any table. `NoRoom`, where an allocation is
     /// refused. `Failed` with the error of the store, where it fails for another cause.
     pub fn adopt(alloc: Global, conn: Connection<S>) -> Result<SqlBook<S>, (OpenFault, S)>
         ensures ok { IfOk result (Adopts S.Store conn) }
@@ -197,9 +212,10 @@ impl SqlBook<MemStore> {
     ///
     /// # Errors
     ///
-    /// `NoRoom`, where an allocation is refused.
+    /// `NoRoom`, where an allocation is refused, or `Failed`. Never `OtherVersion` or `Damaged`.
     pub fn open_memory(alloc: Global) -> Result<SqlBook<MemStore>, OpenFault>
-        ensures { IfOk result (λ book. Holds over_memory book no_rows None) }
+        ensures empty { IfOk result (λ book. Holds over_memory book no_rows None) }
+        ensures refused { IfErr result (λ fault. is_refusal fault ≡ false) }
     {
         let conn = Connection::open_in_memory(alloc)?;
         without_store(new_book(alloc, conn))

@@ -9,7 +9,7 @@ use Rattle.bsp_fields.specs.CivilDay.{CivilDay}
 use Rattle.bsp_fields.specs.Codes.{check_digit_of}
 use Rattle.bsp_fields.specs.Decimal.{fixed_digits}
 use Rattle.bsp_fields.specs.Zoned.{zoned_reading}
-use Rattle.bsp_ret_writer.specs.Columns.{columns}
+use Rattle.bsp_ret_writer.specs.Taxes.{code_part, amount_part}
 use Rattle.bsp_rows.specs.TransactionCode.{TransactionCode}
 use Rattle.bsp_rows.specs.TransactionCode.TheVariants.{Tktt, Rfnd, Canx}
 use Rattle.bsp_rows.specs.Amounts.{Amounts}
@@ -43,7 +43,7 @@ kind_in v = option_and_then kind_of (text_in v)
 
 -- a tax place, unused where it begins with a space
 abbrev pub tax_in : List ℕ → Option (Option Tax)
-tax_in place = if slice_index place 0 == 32 then Some None else option_map (λ amount. Some (record { code = columns 1 2 place; amount = amount })) (result_ok (zoned_reading 11 (columns 3 13 place)))
+tax_in place = if slice_index place 0 == 32 then Some None else option_map (λ amount. Some (record { code = code_part place; amount = amount })) (result_ok (zoned_reading 11 (amount_part place)))
 
 -- that many tax places
 abbrev pub taxes_in : ℕ → List ℕ → Option (List (Option Tax))

@@ -4,8 +4,6 @@
 #![tactic(auto)]
 
 mod filling;
-#[cfg(test)]
-mod tests;
 mod version;
 
 pub use filling::fill;

@@ -1,22 +1,28 @@
 -- The command line of the office, and the work that its words ask for.
-use Rattle.std.specs.Prelude.{◌≡◌, ℕ, ◌^◌, ◌&&◌, pos, nat_lt, Bool, List, [], ◌∷◌, Option, Some, None, Result, Ok, Err, true, false, codes, if◌then◌else◌, option_map, option_and_then}
+use Rattle.std.specs.Prelude.{◌≡◌, ℕ, ◌^◌, ◌&&◌, pos, nat_lt, Bool, List, [], ◌∷◌, Option, Some, None, Result, Ok, Err, true, false, codes, if◌then◌else◌, option_map, option_and_then, unwrap_or, map, take, drop, length, get_or, ◌==◌}
+use Rattle.std.specs.Borrow.{Bor}
 use Rattle.std.specs.Option.{option_map_or}
+use Rattle.std.specs.Result.{result_ok}
 use Rattle.std.specs.Str.{bytes_eq}
 use Rattle.std.specs.Str.Parse.{digits_value, without_leading_plus}
-use Rattle.clap.specs.Words.{App, HasKind, Row, Rule, Shape, Text, fault_of, first_of, new_app, new_rule, one_of, subcommand_of, with_rule, with_subcommand}
+use Rattle.clap.specs.Words.{App, HasKind, Row, all_of, Rule, Shape, Text, fault_of, first_of, new_app, new_rule, one_of, subcommand_of, with_rule, with_subcommand}
 use Rattle.clap.specs.Simple.{on_top}
 use Rattle.clap.specs.ValueTests.{is_numeral}
-use Rattle.clap.specs.declared.builder.action.ArgAction.TheVariants.{SetTrue}
+use Rattle.clap.specs.declared.builder.action.ArgAction.TheVariants.{Append, SetTrue}
 use Rattle.clap.specs.declared.builder.value_parser.ValueParser.TheVariants.{Signed}
+use Rattle.bsp_fields.specs.CivilDay.{CivilDay}
+use Rattle.bsp_fields.specs.Codes.{agent_reading, code_reading}
+use Rattle.bsp_fields.specs.Days.{text_reading}
 use Rattle.bsp_fields.specs.Tokens.{token_reading}
 use Rattle.bsp_words.specs.declared.work.BookSource.{BookSource}
 use Rattle.bsp_words.specs.declared.work.BookSource.TheVariants as kept
 use Rattle.bsp_words.specs.declared.work.TokenSource.{TokenSource}
 use Rattle.bsp_words.specs.declared.work.TokenSource.TheVariants as source
 use Rattle.bsp_words.specs.declared.work.Work.{Work}
-use Rattle.bsp_words.specs.declared.work.Work.TheVariants.{Audit, Check, Hotcheck, Run, Serve}
+use Rattle.bsp_words.specs.declared.work.Work.TheVariants.{Audit, Check, Explain, Hotcheck, Judge, Plan, Run, Serve}
+use Rattle.bsp_words.specs.declared.work.Setting.{Setting}
 use Rattle.bsp_words.specs.declared.work.WordsFault.{WordsFault}
-use Rattle.bsp_words.specs.declared.work.WordsFault.TheVariants.{Refused, OutOfForm}
+use Rattle.bsp_words.specs.declared.work.WordsFault.TheVariants.{Refused, OutOfForm, NoRoom}
 
 -- ---- the command line, as `clap` reads it
 
@@ -39,6 +45,31 @@ audit_app = with_rule (new_app (codes "audit")) (wanted_word (codes "FILE"))
 -- an option with a value behind it: --ID VALUE
 abbrev pub named_option : Text → Rule
 named_option id = record (new_rule id) { long = Some id; value_names = 1 }
+
+-- which must be there
+abbrev pub needed_option : Text → Rule
+needed_option id = record (named_option id) { required = true }
+
+-- which may come more than once
+abbrev pub repeated_option : Text → Rule
+repeated_option id = record (named_option id) { action = Some Append }
+
+-- explain CODE, and explain alone
+abbrev pub explain_app : App
+explain_app = with_rule (new_app (codes "explain")) (new_rule (codes "CODE"))
+
+-- plan FILE, and the texts published before
+abbrev pub plan_app : App
+plan_app = with_rule (with_rule (new_app (codes "plan")) (repeated_option (codes "after"))) (wanted_word (codes "FILE"))
+
+-- --plan PLAN, --day DAY, --agent A and --stock FIRST-LAST
+abbrev pub with_setting : App → App
+with_setting a =
+    with_rule (with_rule (with_rule (with_rule a (needed_option (codes "plan"))) (needed_option (codes "day"))) (needed_option (codes "agent"))) (needed_option (codes "stock"))
+
+-- judge FILE, what it is judged over, and the files reported before
+abbrev pub judge_app : App
+judge_app = with_rule (with_rule (with_setting (new_app (codes "judge"))) (repeated_option (codes "file"))) (wanted_word (codes "FILE"))
 
 -- and the value is a number from the least to the most
 abbrev pub number_option : Text → ℕ → ℕ → Rule
@@ -82,8 +113,14 @@ office =
     (with_subcommand
     (with_subcommand
     (with_subcommand
+    (with_subcommand
+    (with_subcommand
+    (with_subcommand
     (with_subcommand (on_top needs_subcommand (new_app (codes "bsp_office"))) (file_app (codes "check")).top)
     (file_app (codes "hotcheck")).top)
+    judge_app.top)
+    plan_app.top)
+    explain_app.top)
     audit_app.top)
     run_app.top)
     serve_app.top
@@ -108,8 +145,26 @@ abbrev pub book_of : BookSource → AskedBook
 book_of kept.Memory = in_memory
 book_of (kept.File file) = stored_in file.now
 
+-- what a file is judged over: the plan text, the business day, the agent, its numbers, and the files reported before
+pub record AskedSetting : Type 0 where
+  pub plan : Text
+  pub day : CivilDay
+  pub agent : ℕ
+  pub first : ℕ
+  pub last : ℕ
+  pub earlier : List Text
+
+abbrev pub texts_in : List (Bor Text) → List Text
+texts_in = map (λ text. text.now)
+
+abbrev pub setting_of : Setting → AskedSetting
+setting_of s = record { plan = s.plan.now; day = s.day; agent = s.agent; first = s.first; last = s.last; earlier = texts_in s.earlier.items }
+
 -- a command with its values, as texts and numbers
 pub data AskedWork : Type 0 where
+  judge : AskedSetting → Text → AskedWork
+  plan : Text → List Text → AskedWork
+  explain : Option Text → AskedWork
   check : Text → Bool → AskedWork
   hotcheck : Text → Bool → AskedWork
   audit : Text → AskedWork
@@ -119,6 +174,9 @@ pub data AskedWork : Type 0 where
 abbrev pub work_of : Work → AskedWork
 work_of (Check file quiet) = check file.now quiet
 work_of (Hotcheck file quiet) = hotcheck file.now quiet
+work_of (Judge setting file) = judge (setting_of setting) file.now
+work_of (Plan file published) = plan file.now (texts_in published.items)
+work_of (Explain code) = explain (option_map (λ c. c.now) code)
 work_of (Audit file) = audit file.now
 work_of (Run token book) = run (token_of token) (book_of book)
 work_of (Serve port token book connections timeout log) = serve port (token_of token) (book_of book) connections timeout log
@@ -133,6 +191,53 @@ check_work rows = option_map (λ file. check file (is_set (codes "quiet") rows))
 
 abbrev pub hotcheck_work : List Row → Option AskedWork
 hotcheck_work rows = option_map (λ file. hotcheck file (is_set (codes "quiet") rows)) (first_of (codes "FILE") rows)
+
+-- the values of an option that may come more than once
+abbrev pub values_in : Text → List Row → List Text
+values_in id rows = unwrap_or (all_of id rows) []
+
+abbrev pub plan_work : List Row → Option AskedWork
+plan_work rows = option_map (λ file. plan file (values_in (codes "after") rows)) (first_of (codes "FILE") rows)
+
+abbrev pub explain_work : List Row → Option AskedWork
+explain_work rows = Some (explain (first_of (codes "CODE") rows))
+
+abbrev pub day_in : List Row → Option CivilDay
+day_in rows = option_and_then (λ text. result_ok (text_reading text)) (first_of (codes "day") rows)
+
+abbrev pub agent_in : List Row → Option ℕ
+agent_in rows = option_and_then (λ text. result_ok (agent_reading text)) (first_of (codes "agent") rows)
+
+-- ten digits, a minus, and ten digits
+abbrev pub first_number : Text → Option ℕ
+first_number text = result_ok (code_reading 10 (take 10 text))
+
+abbrev pub last_number : Text → Option ℕ
+last_number text = result_ok (code_reading 10 (drop 11 text))
+
+abbrev pub is_range : Text → Bool
+is_range text = (length text == 21) && (get_or text 10 0 == 45)
+
+abbrev pub range_text : List Row → Option Text
+range_text rows = option_and_then (λ text. if is_range text then Some text else None) (first_of (codes "stock") rows)
+
+abbrev pub setting_in : List Row → Option AskedSetting
+setting_in rows =
+    option_and_then (λ plan.
+    option_and_then (λ day.
+    option_and_then (λ agent.
+    option_and_then (λ stock.
+    option_and_then (λ first.
+    option_map (λ last. record { plan = plan; day = day; agent = agent; first = first; last = last; earlier = values_in (codes "file") rows })
+    (last_number stock))
+    (first_number stock))
+    (range_text rows))
+    (agent_in rows))
+    (day_in rows))
+    (first_of (codes "plan") rows)
+
+abbrev pub judge_work : List Row → Option AskedWork
+judge_work rows = option_and_then (λ file. option_map (λ setting. judge setting file) (setting_in rows)) (first_of (codes "FILE") rows)
 
 -- no file of a book is called -
 abbrev pub audit_of : Text → Option AskedWork
@@ -180,6 +285,14 @@ serve_work rows =
     (number_in 32 (codes "connections") rows))
     (number_in 16 (codes "port") rows)
 
+-- the work on files that need no book
+unfoldable pub trial_in : Text → List Row → Option AskedWork
+trial_in name rows =
+    if bytes_eq name (codes "judge") then judge_work rows
+    else if bytes_eq name (codes "plan") then plan_work rows
+    else if bytes_eq name (codes "explain") then explain_work rows
+    else None
+
 unfoldable pub work_in : Text → List Row → Option AskedWork
 work_in name rows =
     if bytes_eq name (codes "check") then check_work rows
@@ -187,7 +300,7 @@ work_in name rows =
     else if bytes_eq name (codes "audit") then audit_work rows
     else if bytes_eq name (codes "run") then run_work rows
     else if bytes_eq name (codes "serve") then serve_work rows
-    else None
+    else trial_in name rows
 
 abbrev pub work_from : Option (Text × List Row) → Option AskedWork
 work_from = option_and_then (λ p. work_in p.0 p.1)
@@ -203,5 +316,6 @@ asked words = work_from (subcommand_of office words)
 abbrev pub AnswersWords : List Text → Result Work WordsFault → Type 0
 AnswersWords words (Ok work) = (fault_of office words ≡ []) × (asked words ≡ Some (work_of work))
 AnswersWords words (Err (Refused e)) = HasKind (fault_of office words) e
-AnswersWords words (Err OutOfForm) =
+AnswersWords words (Err NoRoom) = Unit {0}
+AnswersWords words (Err (OutOfForm misfit)) =
     (fault_of office words ≡ []) × ((p : Text × List Row) × (subcommand_of office words ≡ Some p) × (work_in p.0 p.1 ≡ None))

@@ -4,4 +4,4 @@
 mod command_line;
 mod work;
 
-pub use work::{BookSource, TokenSource, WordsFault, Work, words};
+pub use work::{BookSource, Misfit, Setting, TokenSource, WordsFault, Work, words};

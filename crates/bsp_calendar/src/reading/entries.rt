@@ -1,3 +1,5 @@
+//! Reads one entry of a plan text.
+
 ghost use Rattle.std.specs.Prelude.{◌≡◌};
 ghost use Rattle.toml.specs.View.{table_view};
 ghost use Rattle.bsp_calendar.specs.PlanDocument.{period_in, period_of, rate_in, rate_of};

@@ -1,3 +1,5 @@
+//! Reads the lists of a plan text.
+
 ghost use Rattle.std.specs.Option.{ok_or};
 ghost use Rattle.toml.specs.Data.{get_member};
 ghost use Rattle.toml.specs.View.{array_view, table_view};

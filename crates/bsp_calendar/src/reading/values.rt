@@ -1,3 +1,5 @@
+//! Reads the values of a plan text: codes, days, rates and amounts.
+
 ghost use Rattle.std.specs.Prelude.{◌≡◌};
 ghost use Rattle.toml.specs.View.{view};
 ghost use Rattle.bsp_calendar.specs.PlanDocument.{airline_of, code_of, currency_of, day_of};

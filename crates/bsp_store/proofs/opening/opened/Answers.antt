@@ -1,4 +1,5 @@
-use Rattle.std.proofs.Common.{◌≡◌, true, IsTrue, rules, sym, ◌∙◌}
+use Rattle.std.proofs.Common.{◌≡◌, false, true, IsTrue, rules, sym, ◌∙◌}
+use Rattle.std.proofs.lemmas.Bool.{both_ways}
 use Rattle.bsp_store_open.specs.Faults.{is_refusal}
 use Rattle.bsp_store_open.specs.Opening.{Reopens}
 use Rattle.bsp_store.specs.Adopting.{Adopts, LeavesWhole, WasNoBook}
@@ -28,9 +29,8 @@ returns-in-None-clause-ok g c =
 
 pub returns-then-is_bare-clause-refused : goal.returns-then-is_bare-clause-refused
 returns-then-is_bare-clause-refused g c =
-    let bare : IsTrue c.is_bare.result = search rules in
     each_err (λ h. Reopens g.S.Store h c.args.conn) c.new_book.result (λ before e. is_refusal e.0 ≡ true → WasNoBook g.S.Store e.0 before e.1)
-    (λ before again. bare_refused g.S.Store before c.args.conn again c.new_book.result (c.is_bare.ensures.0 bare) c.new_book.ensures.left)
+    (λ before again. bare_refused g.S.Store before c.args.conn again c.new_book.result c.new_book.ensures.refused)
 
 pub returns-in-Some-clause-refused : goal.returns-in-Some-clause-refused
 returns-in-Some-clause-refused g c =
@@ -39,8 +39,9 @@ returns-in-Some-clause-refused g c =
 
 pub returns-in-None-clause-refused : goal.returns-in-None-clause-refused
 returns-in-None-clause-refused g c =
+    let no : c.is_bare.result ≡ false = search rules in
     each_err (λ h. Reopens g.S.Store h c.args.conn) c.kept_book.result (λ before e. is_refusal e.0 ≡ true → WasNoBook g.S.Store e.0 before e.1)
-    (λ before again. kept_refused g.S.Store before c.args.conn again c.kept_book.result (λ version is. c.in-None.ensures version (c.schema.ensures.value ∙ is)) c.kept_book.ensures.refused c.kept_book.ensures.left)
+    (λ before again. kept_refused g.S.Store before c.args.conn again c.kept_book.result (λ bare. absurd (both_ways _ no (c.is_bare.ensures.1 bare))) (λ version is. c.in-None.ensures version (c.schema.ensures.value ∙ is)) c.kept_book.ensures.refused c.kept_book.ensures.left)
 
 pub returns-then-is_bare-clause-left : goal.returns-then-is_bare-clause-left
 returns-then-is_bare-clause-left g c =

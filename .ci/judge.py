@@ -1,0 +1,237 @@
+#!/usr/bin/env python3
+"""Compares the commands `judge` and `plan` with an office that serves, and tries `explain`.
+
+Each RET file of samples/ and of examples/files/ is judged over each plan of samples/, alone and behind another file. An
+office with that plan, day, agent and range is sent the same files. The verdicts are the same, and the net is what the
+periods of the agent gained. A plan text is tried over others; an office to which they are posted answers the same code.
+
+usage: .ci/judge.py [PROGRAM]   (with no PROGRAM it takes the one that is built)
+"""
+import json
+import pathlib
+import re
+import subprocess
+import tempfile
+
+import office
+from office import TOP, expect, expect_end
+
+PROGRAM = office.program()
+OFFICE, AGENT_TOKEN = "officetoken00001", "agenttoken000001"
+AGENT, DAY, FIRST, LAST = "12345675", "2024-01-16", "1300000000", "1300000099"
+SETTING = ["--day", DAY, "--agent", AGENT, "--stock", f"{FIRST}-{LAST}"]
+
+
+def asked(it, method, path, body=None, token=OFFICE):
+    """The status of a reply of an office, and its body read as JSON."""
+    status, _, text = it.ask(method, path, token, body)
+    return status, json.loads(text)
+
+
+def open_office(plan):
+    """An office with this plan, the agent and its range."""
+    it = office.Office(PROGRAM, None, "--token", OFFICE)
+    for path, body in [("plan", plan), ("day", json.dumps({"day": DAY})), ("agents", json.dumps({"agent": AGENT, "token": AGENT_TOKEN})),
+                       ("stock/allot", json.dumps({"agent": AGENT, "first": FIRST, "last": LAST}))]:
+        expect(f"the office takes {path}", 200, asked(it, "POST", f"/office/{path}", body)[0])
+    return it
+
+
+def periods_of(plan):
+    """The codes of the periods of a plan text."""
+    return re.findall(rb'^code = "(\d{5})"', plan, re.M)
+
+
+def owed(it, plan):
+    """What the agent owes over all periods, in minor units."""
+    nets = [asked(it, "GET", f"/agents/{AGENT}/periods/{code.decode()}", token=AGENT_TOKEN)[1]["net"] for code in periods_of(plan)]
+    return sum(int(net.replace(".", "")) for net in nets)
+
+
+def money(units):
+    """An amount in minor units as text."""
+    return f"{'-' if units < 0 else ''}{abs(units) // 100}.{abs(units) % 100:02}"
+
+
+def line_of(result):
+    """The line of a verdict in a reply."""
+    word = result["verdict"]
+    return f"{result['n']:06} {word}{' ' + result['period'] if 'period' in result else ''}\n"
+
+
+def office_says(plan, earlier, file):
+    """What an office says of a file behind the earlier ones: the lines and the status of `judge`."""
+    with open_office(plan) as it:
+        for text in earlier:
+            asked(it, "POST", f"/agents/{AGENT}/ret", text, AGENT_TOKEN)
+        before = owed(it, plan)
+        status, reply = asked(it, "POST", f"/agents/{AGENT}/ret", file, AGENT_TOKEN)
+        if status != 200:
+            return 1, f"{reply['code']} record {reply['record']}\n"
+        net = owed(it, plan) - before
+    lines = "".join(map(line_of, reply["results"])) + f"net {money(net)}\n"
+    return int(any(it["verdict"][0] == "E" for it in reply["results"])), lines
+
+
+def judged(words):
+    """The status and the output of `judge`, and its lines on standard error."""
+    ended = subprocess.run([PROGRAM, "judge", *words], capture_output=True, timeout=60, input=b"")
+    return (ended.returncode, ended.stdout.decode()), ended.stderr.decode()
+
+
+def try_judge():
+    """Compares `judge` with an office, of each file alone and behind a sale."""
+    files = sorted([*(TOP / "samples").glob("*.ret"), *(TOP / "examples/files").glob("*.ret")])
+    sale = TOP / "samples/sale.ret"
+    count = 0
+    for plan in (TOP / "samples/plan.toml", TOP / "samples/commission-tax.toml"):
+        for file in files:
+            for earlier in ([], [sale], [sale, file]):
+                words = ["--plan", str(plan), *SETTING, *(word for it in earlier for word in ("--file", str(it))), str(file)]
+                wanted = office_says(plan.read_bytes(), [it.read_bytes() for it in earlier], file.read_bytes())
+                said, errors = judged(words)
+                if earlier[1:] and said[1].startswith("F"):
+                    continue  # the earlier file has a fault, which is reported
+                expect(f"judge {plan.name} {[it.name for it in earlier]} {file.name}", wanted, said)
+                refusals = re.findall(r"^\d{6} E\d\d$", said[1], re.M)
+                expect(f"judge {file.name}: a line for each refusal", len(refusals) or int(said[1].startswith("F")), errors.count("\n"))
+                count += 1
+    return count
+
+
+SECOND_PERIOD = '[[period]]\ncode = "24012"\nfirst = "2024-01-16"\nlast = "2024-01-31"\nremit = "2024-02-29"\n'
+# of a refusal: the sample, the samples reported before, edits of the sample and of the plan, and the line on standard error
+REMARKS = [
+    ("sale", [], {"12513000000016": "99913000000016"}, "E01: the airline 999 is not in the plan"),
+    ("sale", [], {"TKTT12345675": "TKTT76543213"}, "E02: record 2 has the agent 76543213, and 12345675 reports"),
+    ("sale", [], {"13000000016": "13000000015"}, "E03: the check digit of 1300000001 is 6"),
+    ("exchange", ["sale"], {"13000000016": "13000000014"}, "E03: the check digit of 1300000001 is 6"),
+    ("sale", [], {"240105DOE": "240117DOE"}, "E04: it is issued 2024-01-17, after the business day 2024-01-16"),
+    ("sale", [], {"13000000016": "14000000011"}, "E05: 1400000001 is not in the range 1300000000-1300000099"),
+    ("sale", ["sale"], {"JANE": "JOHN"}, "E06: 1300000001 was accepted before, with other content"),
+    ("sale", [], {"CA0000002350{": "CA0000002340{", "00002350{": "00002340{"}, "E07: fare + taxes are 235.00, forms 234.00"),
+    ("sale", [], {" 00500": " 00600"}, "E07: the rate is 600, and the published one of 125 on 2024-01-05 is 500"),
+    ("sale", [], {"0000000100{": "0000001000{"}, "E07: the commission is 100.00, by rate and fare 10.00"),
+    ("sale", [], {"10000002000{": "10000002000}"}, "E07: the fare is -200.00, and no amount of a sale is below zero"),
+    ("refund-and-sale", [], {}, "E08: no ticket 1300000001 of 125 was reported before"),
+    ("exchange", ["sale", "refund-and-sale"], {}, "E09: 1300000001 is cancelled, or was refunded or exchanged"),
+    ("exchange", ["sale"], {"CA0000000500{": "CA0000000510{", "EX0000002350{": "EX0000002340{"},
+     "E12: EX is 234.00, fare + taxes of the tickets are 235.00"),
+    ("exchange", ["sale"], {"0000000025{": "0000000125{"}, "E12: the commission is 12.50, by rate and difference of the fares 2.50"),
+    ("refund-and-sale", ["sale"], {"2000}RA0000000350}": "2100}RA0000000250}"}, "E12: the fare is -210.00, that of the ticket 200.00"),
+    ("refund-and-sale", ["sale"], {"2000}RA0000000350}": "1900}RA0000000450}"}, "E12: the tax RA is -45.00, that of the ticket 35.00"),
+    ("refund-and-sale", ["sale"], {"00500000000010": "00400000000008"}, "E12: the rate is 400, that of the ticket 500"),
+    ("refund-and-sale", ["sale"], {"0000000100}": "0000000090}"}, "E12: the commission is -9.00, by rate and fare -10.00"),
+    ("sale", ["sale"], {"13000000016240105": "13000000020240116", SECOND_PERIOD: ""}, "E10: it is issued 2024-01-16, and the last period ends 2024-01-15"),
+    ("sale", ["sale"], {"13000000016": "13000000020", "limit = 1000": "limit = 1"}, "E11: the documents limit is reached"),
+]
+
+
+def edited(name, edits):
+    """A sample as a text, with each edit made once."""
+    text = office.sample(name).decode()
+    for old, new in edits.items():
+        text = text.replace(old, new, 1)
+    return text
+
+
+def try_remarks():
+    """Compares what is said of refusals."""
+    with tempfile.TemporaryDirectory() as folder:
+        plan = pathlib.Path(folder, "plan.toml")
+        for name, earlier, edits, wanted in REMARKS:
+            plan.write_text(edited("plan.toml", edits))
+            before = [word for it in earlier for word in ("--file", str(TOP / f"samples/{it}.ret"))]
+            ended = subprocess.run([PROGRAM, "judge", "--plan", str(plan), *SETTING, *before, "-"],
+                                   capture_output=True, timeout=60, input=edited(f"{name}.ret", edits), text=True)
+            expect(f"judge: {wanted}", (1, f"000001 {wanted}\n"), (ended.returncode, ended.stderr))
+    return len(REMARKS)
+
+
+def try_faults():
+    """Compares what is said where a file is not judged."""
+    plan = str(TOP / "samples/plan.toml")
+    sale = str(TOP / "samples/sale.ret")
+    expect_end("a range whose first is after its last", (1, b"K01\n", b"bsp_office: --stock: the office refuses it\n"),
+               [PROGRAM, "judge", "--plan", plan, "--day", DAY, "--agent", AGENT, "--stock", f"{LAST}-{FIRST}", sale])
+    for option, value, line in [("--day", "2024-02-30", b"error: DAY is a day of the calendar, as 2024-01-05\n"),
+                                ("--agent", "12345674", b"error: A is eight digits, of which the last is the first seven modulo 7\n"),
+                                ("--stock", "1300000000", b"error: FIRST-LAST is two numbers of ten digits, as 1300000000-1300000099\n")]:
+        words = ["--plan", plan, *SETTING, sale]
+        words[words.index(option) + 1] = value
+        expect_end(f"{option} {value}", (2, b"", line), [PROGRAM, "judge", *words])
+    expect_end("a plan that is not there", (3, b"", b"bsp_office: none.toml: No such file or directory (os error 2)\n"),
+               [PROGRAM, "judge", "--plan", "none.toml", *SETTING, sale])
+    for plan, given in ((sale, b""), ("-", b"currency = EUR\n")):
+        ended = subprocess.run([PROGRAM, "judge", "--plan", plan, *SETTING, sale], capture_output=True, timeout=60, input=given)
+        expect(f"a plan that is no TOML: {plan}", (1, b"P01\n", 1), (ended.returncode, ended.stdout, ended.stderr.count(b"\n")))
+
+
+PLANS = [
+    ([], "", "", None, "done"),
+    ([], "", "currency = EUR", None, "P01"),
+    ([], 'currency = "EUR"', 'currency = "eur"', "currency is wrong: it is three capital letters in quotes", "P02"),
+    ([], "review_days = 14\n", "", "review_days is missing: it is a whole number from 1 to 60, without quotes", "P02"),
+    ([], "[[rate]]", "[[rates]]", "rates is unknown", "P02"),
+    ([], 'from = "2024-01-01"', 'from = "2024-02-30"', 'rate 1: from is wrong: it is a day in quotes, as "2024-01-05"', "P02"),
+    ([], '"125", "220"', '"220"', "a rate is of 125, which is in neither the text nor the plan", "P02"),
+    ([], 'first = "2024-01-16"', 'first = "2024-01-17"', "period 24012 begins 2024-01-17, and period 24011 before it ends 2024-01-15", "P03"),
+    ([], 'remit = "2024-02-15"', 'remit = "2024-01-15"', "period 24011 ends 2024-01-15, and its remit is 2024-01-15", "P03"),
+    ([], 'from = "2024-01-01"', 'from = "2000-01-01"', "a rate of 125 begins 2000-01-01, and the business day is 2000-01-01", "P05"),
+    (["plan"], "", "", None, "held"),
+    (["plan"], "hundredths = 500", "hundredths = 600", "the rate of 125 from 2024-01-01 is 600 here and 500 before", "P08"),
+    (["plan"], "review_days = 14", "review_days = 15", "review_days differs from what is published", "P08"),
+    (["plan"], 'last = "2024-01-31"', 'last = "2024-01-30"', "period 24012 is 2024-01-16 to 2024-01-30 here and 2024-01-16 to 2024-01-31 before", "P08"),
+]
+
+
+def try_plan():
+    """Compares `plan` with an office to which the texts are posted."""
+    plan = office.sample("plan.toml").decode()
+    with tempfile.TemporaryDirectory() as folder:
+        pathlib.Path(folder, "plan").write_text(plan)
+        for published, old, new, reason, code in PLANS:
+            text = plan.replace(old, new, 1) if old else f"{new}\n{plan}" if new else plan
+            pathlib.Path(folder, "text").write_text(text)
+            words = [word for it in published for word in ("--after", it)]
+            ended = subprocess.run([PROGRAM, "plan", *words, "text"], capture_output=True, timeout=60, cwd=folder, text=True)
+            with office.Office(PROGRAM, None, "--token", OFFICE) as it:
+                for name in published:
+                    asked(it, "POST", "/office/plan", pathlib.Path(folder, name).read_text())
+                reply = asked(it, "POST", "/office/plan", text)[1]
+            expect(f"plan {code} {new!r}: as the office", code, reply.get("code", reply.get("result")))
+            expect(f"plan {code} {new!r}", (int(code[0] == "P"), code), (ended.returncode, ended.stdout.split("\n")[0]))
+            if reason:
+                expect(f"plan {code} {new!r}: why", f"bsp_office: text: {reason}\n", ended.stderr)
+    wanted = (b"done\ncurrency EUR review_days 14 documents_limit 1000\nairline 125\nairline 220\n"
+              b"rate 125 from 2024-01-01 hundredths 500\nperiod 24011 first 2024-01-01 last 2024-01-15 remit 2024-02-15\n"
+              b"period 24012 first 2024-01-16 last 2024-01-31 remit 2024-02-29\n")
+    expect_end("plan: what is published", (0, wanted, b""), [PROGRAM, "plan", str(TOP / "samples/plan.toml")])
+    expect_end("plan: what is new",
+               (0, b"done\ncurrency EUR review_days 14 documents_limit 1000\ncommission_tax from 2024-01-16 hundredths 1900\n", b""),
+               [PROGRAM, "plan", "--after", str(TOP / "samples/plan.toml"), str(TOP / "samples/commission-tax.toml")])
+    return len(PLANS)
+
+
+def try_explain():
+    """Compares `explain` with docs/CODES.md."""
+    page = (TOP / "docs/CODES.md").read_text(encoding="utf-8")
+    codes = re.findall(r"^\| ([A-Z]\d\d) \|", page, re.M)
+    listed = subprocess.run([PROGRAM, "explain"], capture_output=True, timeout=60, text=True)
+    expect("explain: the list", (0, sorted(codes)), (listed.returncode, sorted(line[:3] for line in listed.stdout.splitlines())))
+    for code in codes:
+        said = subprocess.run([PROGRAM, "explain", code], capture_output=True, timeout=60, text=True)
+        expect(f"explain {code}", (0, code, ""), (said.returncode, said.stdout[:3], said.stderr))
+    for word in ("E13", "E00", "e07", "E7", "Q01", "E007", ""):
+        expect_end(f"explain {word}", (2, b"", f"bsp_office: {word} is no code: explain alone lists all\n".encode()), [PROGRAM, "explain", word])
+    return len(codes)
+
+
+def main():
+    files, plans, codes, remarks = try_judge(), try_plan(), try_explain(), try_remarks()
+    try_faults()
+    office.finish(f"judge: {files} files, {plans} plan texts, {codes} codes and {remarks} remarks are as an office has them")
+
+
+if __name__ == "__main__":
+    main()

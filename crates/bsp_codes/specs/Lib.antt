@@ -1,0 +1,3 @@
+-- What the contracts of the codes cite.
+pub mod Codes
+pub mod Texts

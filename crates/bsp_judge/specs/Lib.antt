@@ -1,0 +1,6 @@
+-- What the contracts of the trials cite.
+pub mod Asked
+pub mod Judged
+pub mod PlanLines
+pub mod Plans
+pub mod Unjudged

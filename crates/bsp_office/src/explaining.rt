@@ -1,0 +1,28 @@
+//! The command `explain`: what a code means, or the list of all codes.
+
+use crate::whole_files::{printed, short_of_memory};
+use bsp_check::{DONE, WRONG_WORDS};
+use bsp_codes::{explanation, listing};
+
+/// Explains a code, and answers the exit status.
+fn explain_code(rt: &HostRuntime, code: &str) -> u8 {
+    match explanation(rt.alloc(), code) {
+        Ok(Some(text)) => printed(rt, &text, DONE),
+        Ok(None) => {
+            let _ = eprintln!(rt; "bsp_office: {code} is no code: explain alone lists all");
+            WRONG_WORDS
+        }
+        Err(_) => short_of_memory(rt),
+    }
+}
+
+/// Explains a code, or lists all codes, and answers the exit status.
+pub(crate) fn run_explain(rt: &HostRuntime, code: Option<&str>) -> u8 {
+    match code {
+        Some(code) => explain_code(rt, code),
+        None => match listing(rt.alloc()) {
+            Ok(text) => printed(rt, &text, DONE),
+            Err(_) => short_of_memory(rt),
+        },
+    }
+}
