@@ -4,10 +4,10 @@ gives up at a size that memory has room for:
 - `check` a RET file of 999,999 transactions of the most records, 959 MB, which is the largest that there is, and `hotcheck` a
   HOT file of 1 GiB;
 - `judge` and `plan` a RET file and a plan text as large as a body, behind 100 earlier ones;
-- an office with its book in memory and one with it in a file: a plan text of 85,000 entries, nearly the most that a body has room for; a RET file of 4,194,304 bytes,
-  the most that a body has, and the same again; one of 30,613 transactions, the most that a body has; so many further files until there are ITEMS items; a close; the statement,
-  the HOT file, and the settlement of the period; and the book in the file opened and audited again, and opened as one of
-  version 1 and of version 2;
+- an office with its book in memory and one with it in a file: a plan text of 85,000 entries, nearly the most that a body has
+  room for; a RET file of 4,194,304 bytes, the most that a body has, and the same again; one of 30,613 transactions, the most
+  that a body has; so many further files until there are ITEMS items; a close; the statement, the HOT file, and the
+  settlement of the period; and the book in the file opened and audited again, and opened as one of version 1 and of version 2;
 - the same with many of all else: 1,000 airlines, 1,000 agents, as many ranges and memos of one agent, 60,000 periods and taxes,
   and 500 closes;
 - `run` with 65,536 requests, the most that one connection has.
