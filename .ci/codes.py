@@ -20,10 +20,8 @@ CODE = re.compile(r"(?<!\w)[A-Z]\d\d(?!\w)")
 ROW = re.compile(r"^\| `?([A-Z]\d\d)`? \|.*$", re.M)
 CAUSES = re.compile(r"^### ([A-Z]\d\d) by its causes\n\n((?:- .*\n)*)", re.M)
 PAGE = TOP / "docs/CODES.md"
-# an entry of the table, a list of causes, and the letter of the entries behind it
-ENTRY = re.compile(r"^ {8}(\d+) => (?:row\(|Entry \{)(.*?)^ {8}[)}],", re.M | re.S)
-LIST = re.compile(r"^static ([A-Z]\d\d): \[&str; \d+\] = \[(.*?)^\];", re.M | re.S)
-LETTER = re.compile(r"^/// The code `([A-Z])` and a number\.", re.M)
+# a row of the table: the code, the status, the meaning, the remedy and the causes
+ENTRY = re.compile(r'\(\n\s+("[A-Z]\d\d",.*?)^ *\)[],]', re.M | re.S)
 
 
 def texts(part):
@@ -33,13 +31,12 @@ def texts(part):
 
 def table():
     """The table: of each code the status, the meaning, the remedy, and the causes."""
-    found, causes = {}, {}
+    found = {}
     for path in sorted((TOP / "crates/bsp_codes/src").glob("*.rt")):
-        source = path.read_text(encoding="utf-8")
-        causes.update({code: texts(listed) for code, listed in LIST.findall(source)})
-        for letter, part in zip(LETTER.findall(source), LETTER.split(source)[2::2]):
-            found.update({f"{letter}{int(number):02}": texts(entry) for number, entry in ENTRY.findall(part)})
-    return {code: (*entry, causes.get(code, [])) for code, entry in found.items()}
+        for entry in ENTRY.findall(path.read_text(encoding="utf-8")):
+            code, status, meaning, remedy, *causes = texts(entry)
+            found[code] = (status, meaning, remedy, causes)
+    return found
 
 
 def as_page(code, text, causes):
@@ -51,12 +48,9 @@ def as_page(code, text, causes):
 
 def made(page, entries):
     """The page with its rows and its causes made of the table."""
-    def row(match):
-        code = match[1]
-        if code not in entries:
-            return match[0]
+    def row(code, has_status):
         status, meaning, remedy, causes = entries[code]
-        cells = [code, status] if match[0].count(" | ") == 3 else [code]
+        cells = [code, status] if has_status else [code]
         cells += [as_page(code, meaning, causes), as_page(code, remedy, causes)]
         return f"| {' | '.join(cells)} |".replace("|  |", "| |")
 
@@ -64,7 +58,13 @@ def made(page, entries):
         listed = entries.get(match[1], ("", "", "", []))[3]
         return f"### {match[1]} by its causes\n\n" + "".join(f"- {it}.\n" for it in listed)
 
-    return CAUSES.sub(section, ROW.sub(row, page))
+    lines, has_status = [], False
+    for line in page.splitlines():
+        found = ROW.match(line)
+        if line.startswith("| Code |"):
+            has_status = line.startswith("| Code | Status |")
+        lines.append(row(found[1], has_status) if found and found[1] in entries else line)
+    return CAUSES.sub(section, "\n".join(lines) + "\n")
 
 
 def written():

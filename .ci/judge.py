@@ -213,7 +213,7 @@ def try_plan():
     return len(PLANS)
 
 
-# the status of the codes whose table in docs/CODES.md has none in its rows, but one for all of them
+# the status of the codes whose table in docs/CODES.md has none in its rows, but one for all that a caller sees
 STATUSES = {"F": " (status 422)"}
 
 
@@ -227,7 +227,8 @@ def explained(page, code):
     """What `explain` prints of a code, by its row and its causes in docs/CODES.md."""
     *status, meaning, remedy = (plain(it.strip()) for it in re.search(rf"^\| {code} \|(.*)\|$", page, re.M)[1].split("|"))
     causes = re.search(rf"^### {code} by its causes\n\n((?:- .*\n)*)", page, re.M)
-    status = f" (status {status[0]})" if any(status) else STATUSES.get(code[0], "")
+    seen = "" if "No caller sees it" in meaning else STATUSES.get(code[0], "")
+    status = f" (status {status[0]})" if any(status) else seen
     return f"{code}{status}\n{meaning}.\nWhat to do: {remedy}.\n{causes[1] if causes else ''}"
 
 

@@ -8,13 +8,14 @@ gives up at a size that memory has room for:
   room for; a RET file of 4,194,304 bytes, the most that a body has, and the same again; one of 30,613 transactions, the most
   that a body has; so many further files until there are ITEMS items; a close; the statement, the HOT file, and the
   settlement of the period; and the book in the file opened and audited again, and opened as one of version 1 and of version 2;
-- the same with many of all else: 1,000 airlines, 1,000 agents, as many ranges and memos of one agent, 60,000 periods and taxes,
-  and 500 closes;
-- `run` with 65,536 requests, the most that one connection has.
+- the same with many of all else: 1,000 airlines, 1,000 agents, as many ranges of one agent, 20,001 memos to it, which one close
+  bills, 60,000 periods and taxes, and 500 closes;
+- `run` with 65,536 requests, the most that one connection has;
+- `bsp_record_examples` with a RET file of 10,000 sales, read and written.
 Prints how long each took. Exits with the number of cases that differ.
 
 usage: .ci/sizes.py [PROGRAM [ITEMS [PART..]]]   (with no PROGRAM it takes the one that is built; 50,000 items by default;
-                    the parts are reports, requests, trials, many and months, by default all)
+                    the parts are reports, requests, trials, many, months and calls, by default all)
 """
 import contextlib
 import datetime
@@ -343,6 +344,8 @@ def offices():
 
 
 MANY = 1_000
+# so many memos does airline 125 issue to the first agent
+MEMOS = 20_001
 # one-day periods, and taxes of nothing; so many of the periods are closed
 DAYS, CLOSES = 30_000, 500
 # so many rates has the plan text that is tried beside these
@@ -418,10 +421,10 @@ def sell(it):
         for verdict in "accepted", "held":
             found = it.ask("POST", f"/{path}/ret", token, text)
             office.expect(f"{what}: {verdict}", (200, {"accepted": 0, "held": 0, "E": 0, verdict: count}), (found[0], verdicts_in(found)))
-    for at in range(MANY):
+    for at in range(MEMOS):
         memo = body_of(agent=agent_code(0), amount=100, document=f"{at:010}", kind="ADMA", reason="fare")
         expect_reply(f"memo {at}", DONE, it.ask("POST", "/airlines/125/memos", airline_token(125), memo))
-    named = body_of(airline="125", document=f"{MANY - 1:010}")
+    named = body_of(airline="125", document=f"{MEMOS - 1:010}")
     expect_reply("a dispute", DONE, it.ask("POST", f"/agents/{agent_code(0)}/memos/dispute", agent_token(0), named))
 
 
@@ -444,13 +447,13 @@ def expect_many(shown):
     stock, memos, _, statement, of_airline, hot, settlement, _ = (it[2] for it in shown)
     office.expect("all is shown", [200] * 8, [it[0] for it in shown])
     office.expect("the ranges", MANY, stock.count(b'"first"'))
-    office.expect("the memos", (MANY, MANY), (memos.count(b'"kind"'), of_airline.count(b'"kind"')))
-    net = 23_500 * MANY + 100 * (MANY - 1)
+    office.expect("the memos", (MEMOS, MEMOS), (memos.count(b'"kind"'), of_airline.count(b'"kind"')))
+    net = 23_500 * MANY + 100 * (MEMOS - 1)
     office.expect("the statement", (MANY + 3, money(net).encode()), (statement.count(b"\n"), statement.split()[-1]))
     total = net + 23_500 * 10_000
     office.expect("the settlement", (2 * MANY + 3, money(total).encode()), (settlement.count(b"\n"), settlement.split()[-1]))
     ended = subprocess.run([PROGRAM, "hotcheck", "-"], input=hot, capture_output=True, timeout=600)
-    documents, of_125 = 10_001 + MANY - 1, 23_500 * 10_001 + 100 * (MANY - 1)
+    documents, of_125 = 10_001 + MEMOS - 1, 23_500 * 10_001 + 100 * (MEMOS - 1)
     office.expect("hotcheck of its HOT file", (0, True, True), (
         ended.returncode, f" documents {documents} ".encode() in ended.stdout, ended.stdout.endswith(f" net {money(of_125)}\n".encode())))
 
@@ -459,7 +462,7 @@ def many(name, *words):
     """An office with many of all. What it shows at its end."""
     with office.Office(PROGRAM, None, "--token", TOKEN, *words, seconds=600) as it:
         timed(f"{name}: a plan of {2 * DAYS:,} periods and taxes, {MANY:,} agents and airlines, {2 * MANY - 1:,} ranges", open_long_market, it)
-        timed(f"{name}: tickets of all agents and of all airlines, {MANY:,} memos", sell, it)
+        timed(f"{name}: tickets of all agents and of all airlines, {MEMOS:,} memos", sell, it)
         timed(f"{name}: {CLOSES} closes", close_many, it)
         shown = look_at_many(it)
         expect_many(shown)
@@ -519,7 +522,25 @@ def requests():
     office.expect("run with many requests", (0, True), (ended.returncode, ended.stdout == one * (count - 1) + last))
 
 
-PARTS = {"reports": reports, "requests": requests, "trials": trials, "many": offices_of_many, "months": offices}
+# ---- calls that no request makes
+
+
+RECORD_CALLS = office.TOP / "crates" / "bsp_record_examples" / "out" / "bsp_record_examples"
+
+
+def file_calls():
+    """Reads a RET file of 10,000 sales, in one piece and byte by byte, and writes it again."""
+    text = ret_file(10_000, FIRST).decode()
+    records = "".join(f"  {it[0]}|{it[1:].rstrip()}\n" for it in text.splitlines())
+    cases = "ret MOST", "bytes MOST", "reader feed MOST; finish; file", "write MOST; MOST"
+    page = f"MOST:\n{records}\n" + "".join(f"{it}\n" for it in cases)
+    ended = timed("calls on a RET file", lambda: subprocess.run([RECORD_CALLS], input=page.encode(), capture_output=True, timeout=600))
+    found = f"records 30002, transactions 10000, sum {23_500 * 10_000}"
+    wanted = [f"{cases[0]} = {found}", f"{cases[1]} = {found}", f"{cases[2]} = done; done; {found}", f"{cases[3]} = the same, {len(text)} bytes"]
+    office.expect("calls on a RET file", (0, wanted), (ended.returncode, ended.stdout.decode().splitlines()[-4:]))
+
+
+PARTS = {"reports": reports, "requests": requests, "trials": trials, "many": offices_of_many, "months": offices, "calls": file_calls}
 
 
 def main():

@@ -1,2 +1,2 @@
 -- Lemmas of this crate.
-pub mod TextLemmas
+pub mod TableLemmas

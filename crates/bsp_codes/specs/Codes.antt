@@ -1,51 +1,25 @@
 -- Which texts are codes.
-use Rattle.std.specs.Prelude.{ℕ, ◌==◌, ◌&&◌, nat_le, Bool, false, List, [], ◌∷◌, length, codes, if◌then◌else◌, Result, Ok, Err}
-use Rattle.std.specs.List.{flat_map, range_with_len}
-use Rattle.bsp_fields.specs.Decimal.{digits_reading, fixed_digits}
-use Rattle.bsp_fields.specs.declared.fault.FieldFault.{FieldFault}
+use Rattle.std.specs.Prelude.{ℕ, Bool, List, ◌∷◌, ◌++◌, map}
+use Rattle.std.specs.List.{list_any, range_with_len}
+use Rattle.std.specs.Str.{bytes_eq}
+use Rattle.bsp_fields.specs.Decimal.{fixed_digits}
 
--- a number from 1 to the most
-abbrev pub is_within : ℕ → ℕ → Bool
-is_within most number = nat_le 1 number && nat_le number most
-
--- there is a code of this letter and this number
-unfoldable pub is_known : ℕ → ℕ → Bool
-is_known letter number =
-    if letter == 78 then is_within 6 number
-    else if letter == 84 then is_within 5 number
-    else if letter == 70 then is_within 10 number
-    else if letter == 69 then is_within 12 number
-    else if letter == 80 then is_within 9 number
-    else if letter == 75 then is_within 5 number
-    else if letter == 77 then is_within 8 number
-    else if letter == 68 then is_within 1 number
-    else if letter == 83 then is_within 2 number
-    else if letter == 72 then is_within 4 number
-    else if letter == 66 then is_within 4 number
-    else false
-
-abbrev pub is_known_of : ℕ → Result ℕ FieldFault → Bool
-is_known_of letter (Ok number) = is_known letter number
-is_known_of letter (Err fault) = false
-
--- a letter and two digits that are a code
-abbrev pub is_code : List ℕ → Bool
-is_code [] = false
-is_code (letter ∷ digits) = (length digits == 2) && is_known_of letter (digits_reading digits)
-
--- ---- all codes
-
+-- a letter and two digits
 abbrev pub code_text : ℕ → ℕ → List ℕ
 code_text letter number = letter ∷ fixed_digits 2 number
 
--- the code of a letter and a number, if there is one
-abbrev pub code_at : ℕ → ℕ → List (List ℕ)
-code_at letter number = if is_known letter number then code_text letter number ∷ [] else []
+-- the codes of a letter, from 01 to the most
+abbrev pub codes_of : ℕ → ℕ → List (List ℕ)
+codes_of letter most = map (code_text letter) (range_with_len 1 most)
 
--- the codes of a letter, rising
-unfoldable pub codes_of : ℕ → List (List ℕ)
-codes_of letter = flat_map (code_at letter) (range_with_len 1 99)
-
--- of a request, its head, RET files, verdicts, the plan, stock, memos, documents, reports, HOT files and the book
+-- of a request (N), its head (T), RET files, verdicts (E), the plan, stock (K), memos, documents, reports (S), HOT files and the book
 unfoldable pub all_codes : List (List ℕ)
-all_codes = flat_map codes_of (codes "NTFEPKMDSHB")
+all_codes =
+    codes_of 78 6
+    ++ (codes_of 84 5
+    ++ (codes_of 70 10
+    ++ (codes_of 69 12 ++ (codes_of 80 9 ++ (codes_of 75 5 ++ (codes_of 77 8 ++ (codes_of 68 1 ++ (codes_of 83 2 ++ (codes_of 72 4 ++ codes_of 66 4)))))))))
+
+-- the text is one of them
+abbrev pub is_code : List ℕ → Bool
+is_code text = list_any (λ code. bytes_eq code text) all_codes

@@ -1,3 +1,4 @@
 -- What the contracts of the codes cite.
 pub mod Codes
+pub mod Table
 pub mod Texts

@@ -1,36 +1,46 @@
 //! The codes of the book.
 
-ghost use Rattle.std.specs.Prelude.{◌≡◌, is_some};
-ghost use Rattle.bsp_codes.specs.Codes.{is_within};
+ghost use Rattle.std.specs.Prelude.{◌≡◌, map};
+ghost use Rattle.bsp_codes.specs.Table.{said_in, books};
 
-use crate::entry::{Entry, row};
+use crate::entry::Row;
 
-/// The code `B` and a number.
-pub(crate) fn book_code(number: u64) -> Option<Entry>
-    ensures { is_some result ≡ is_within 4 number }
+/// The codes `B`.
+const BOOKS: [Row; 4] = [
+    (
+        "B01",
+        "503",
+        "Memory was short, and nothing was changed. Or a row or a sum is too big. At a start: memory was short for the book",
+        "Send the same request again. The office gives the program more memory (docs/GUIDE.md)",
+        &[],
+    ),
+    (
+        "B02",
+        "",
+        "At a start, and of `audit`: the file is no book, or a damaged one. The program ends with status 1",
+        "The line says which row or table is at fault. Restore the last backup (docs/GUIDE.md)",
+        &[],
+    ),
+    (
+        "B03",
+        "503",
+        "The disk failed or is full. Each request is answered so until the program is started again. At a start: the file cannot be opened",
+        "The office mends the disk and starts the program again. Then send the last request again: what was done is held",
+        &[],
+    ),
+    (
+        "B04",
+        "",
+        "At a start: the file is a book of a later version. Of `audit`: of any other version than 3. The program ends with status 1, and the file stays as it is",
+        "A later book needs its own program. A start brings an earlier one to version 3 (docs/GUIDE.md, Upgrade)",
+        &[],
+    ),
+];
+
+#[tactic(auto, unfolding(crate::specs::Table::books))]
+/// The rows of the codes `B`.
+pub(crate) fn books() -> &'static [Row]
+    ensures { map said_in result.now ≡ books }
 {
-    let found = match number {
-        1 => row(
-            "503",
-            "Memory was short, and nothing was changed. Or a row or a sum is too big. At a start: memory was short for the book",
-            "Send the same request again. The office gives the program more memory (docs/GUIDE.md)",
-        ),
-        2 => row(
-            "",
-            "At a start, and of `audit`: the file is no book, or a damaged one. The program ends with status 1",
-            "The line says which row or table is at fault. Restore the last backup (docs/GUIDE.md)",
-        ),
-        3 => row(
-            "503",
-            "The disk failed or is full. Each request is answered so until the program is started again. At a start: the file cannot be opened",
-            "The office mends the disk and starts the program again. Then send the last request again: what was done is held",
-        ),
-        4 => row(
-            "",
-            "At a start: the file is a book of a later version. Of `audit`: of any other version than 3. The program ends with status 1, and the file stays as it is",
-            "A later book needs its own program. A start brings an earlier one to version 3 (docs/GUIDE.md, Upgrade)",
-        ),
-        _ => return None,
-    };
-    Some(found)
+    &BOOKS
 }

@@ -1,8 +1,23 @@
 //! What is said of a code.
 
+ghost use Rattle.std.specs.Prelude.{◌≡◌};
+ghost use Rattle.bsp_codes.specs.Table.{said_by, said_in};
+
+/// A row of the table: the code, the status, the meaning, the remedy and the causes of an [`Entry`]. A clause can name
+/// a constant that has tuples, and none that has structs with references.
+pub(crate) type Row = (
+    &'static str,
+    &'static str,
+    &'static str,
+    &'static str,
+    &'static [&'static str],
+);
+
 /// What is said of a code. In its texts `docs/X.md` names a page, and words in `` ` `` are written as they are.
 #[derive(Clone, Copy, Debug)]
 pub struct Entry {
+    /// The code.
+    pub code: &'static str,
     /// The status of a reply that has it; empty where no reply has.
     pub status: &'static str,
     /// What it means, and when it comes.
@@ -13,12 +28,18 @@ pub struct Entry {
     pub causes: &'static [&'static str],
 }
 
-/// What is said of a code whose meaning has its causes.
-pub(crate) fn row(status: &'static str, meaning: &'static str, remedy: &'static str) -> Entry {
-    Entry {
-        status,
-        meaning,
-        remedy,
-        causes: &[],
+impl Entry {
+    /// The entry of a row.
+    pub(crate) fn of(row: &Row) -> Entry
+        ensures { said_by result ≡ said_in row.now }
+    {
+        let (code, status, meaning, remedy, causes) = *row;
+        Entry {
+            code,
+            status,
+            meaning,
+            remedy,
+            causes,
+        }
     }
 }

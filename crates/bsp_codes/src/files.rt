@@ -1,94 +1,108 @@
 //! The codes of RET files.
 
-ghost use Rattle.std.specs.Prelude.{◌≡◌, is_some};
-ghost use Rattle.bsp_codes.specs.Codes.{is_within};
+ghost use Rattle.std.specs.Prelude.{◌≡◌, map};
+ghost use Rattle.bsp_codes.specs.Table.{said_in, files};
 
-use crate::entry::{Entry, row};
+use crate::entry::Row;
 
-/// When F03 comes.
-static F03: [&str; 8] = [
-    "Transaction numbers do not rise by one from 000001, or a record 3, 5 or 8 has another number than its record 2",
-    "A CANX has a further record. It is one record 2 alone",
-    "A refund has no record 3, or has two",
-    "A record 3 comes with no form EX. Then the fault is at the record behind the group",
-    "A form EX comes with no record 3, or in a refund",
-    "A sale has no record 5 or no record 8, or more than three records 8",
-    "The forms are not in the order CA, CC, EX, or one comes twice",
-    "A second record 3 is in a file of profile 001",
+/// The codes `F`.
+const FILES: [Row; 10] = [
+    (
+        "F01",
+        "422",
+        "The line does not have 136 characters, or has one that is not from space to `~`: a tab, a letter with an accent, or a mark at the beginning of the file",
+        "Fill each line with spaces to 136 characters, and save as plain text. Send with `--data-binary`: `curl -d` joins all lines",
+        &[],
+    ),
+    (
+        "F02",
+        "422",
+        "Record 1 is no header: column 1 is not `1`, or columns 28 to 30 are neither `001` nor `002`",
+        "Begin with the header. Take 002 where a ticket is paid with two tickets, else 001 or 002",
+        &[],
+    ),
+    (
+        "F03",
+        "422",
+        "This record may not come here. Its first character, its transaction number or its order is wrong",
+        "See its causes",
+        &[
+            "Transaction numbers do not rise by one from 000001, or a record 3, 5 or 8 has another number than its record 2",
+            "A CANX has a further record. It is one record 2 alone",
+            "A refund has no record 3, or has two",
+            "A record 3 comes with no form EX. Then the fault is at the record behind the group",
+            "A form EX comes with no record 3, or in a refund",
+            "A sale has no record 5 or no record 8, or more than three records 8",
+            "The forms are not in the order CA, CC, EX, or one comes twice",
+            "A second record 3 is in a file of profile 001",
+        ],
+    ),
+    (
+        "F04",
+        "422",
+        "Columns 24 to 27 of the header are not `PROD`",
+        "Write `PROD` there",
+        &[],
+    ),
+    (
+        "F05",
+        "422",
+        "A field of the record is not in its form",
+        "Read what `check` says of the columns, or see its causes",
+        &[
+            "A number has a letter, a point or a space. Zeros in front are written",
+            "An amount is not ten digits and a last character with digit and sign: 200.00 is `0000002000{`",
+            "A day is not in the calendar, as `240230`, or a time is not from `0000` to `2359`",
+            "The code in record 2 is none of `TKTT`, `RFND` and `CANX`",
+            "The form in record 8 is none of `CA`, `CC` and `EX`",
+            "A CC has no card vendor in columns 21 and 22, or a CA or an EX has one",
+            "A tax code, a card vendor, a country or a name of a system has a small letter or a space",
+            "Tax codes do not rise from place to place, one comes twice, or an unused place is before a used one",
+            "The rate in record 5 is above `10000`, which is 100.00 percent",
+            "A column that no field uses is not a space, or the second record 3 does not come after the first by airline and document",
+        ],
+    ),
+    (
+        "F06",
+        "422",
+        "The trailer's count of records or of transactions is wrong",
+        "Count all lines, header and trailer included, and all records 2",
+        &[],
+    ),
+    (
+        "F07",
+        "422",
+        "The trailer's sum is not that of all amounts in records 8",
+        "Add them up, those of refunds below zero and EX included",
+        &[],
+    ),
+    (
+        "F08",
+        "422",
+        "The file ends before a trailer. The record is one more than there are",
+        "Write the trailer, and send the whole file. An empty body is F08 at record 1",
+        &[],
+    ),
+    (
+        "F09",
+        "422",
+        "A line follows the trailer, also an empty one",
+        "Remove it. One file has one header and one trailer",
+        &[],
+    ),
+    (
+        "F10",
+        "",
+        "Memory was short for the file. No caller sees it: over HTTP it is B01, and `check` says `out of memory`",
+        "As for B01",
+        &[],
+    ),
 ];
 
-/// When F05 comes.
-static F05: [&str; 10] = [
-    "A number has a letter, a point or a space. Zeros in front are written",
-    "An amount is not ten digits and a last character with digit and sign: 200.00 is `0000002000{`",
-    "A day is not in the calendar, as `240230`, or a time is not from `0000` to `2359`",
-    "The code in record 2 is none of `TKTT`, `RFND` and `CANX`",
-    "The form in record 8 is none of `CA`, `CC` and `EX`",
-    "A CC has no card vendor in columns 21 and 22, or a CA or an EX has one",
-    "A tax code, a card vendor, a country or a name of a system has a small letter or a space",
-    "Tax codes do not rise from place to place, one comes twice, or an unused place is before a used one",
-    "The rate in record 5 is above `10000`, which is 100.00 percent",
-    "A column that no field uses is not a space, or the second record 3 does not come after the first by airline and document",
-];
-
-/// The code `F` and a number.
-pub(crate) fn file_code(number: u64) -> Option<Entry>
-    ensures { is_some result ≡ is_within 10 number }
+#[tactic(auto, unfolding(crate::specs::Table::files))]
+/// The rows of the codes `F`.
+pub(crate) fn files() -> &'static [Row]
+    ensures { map said_in result.now ≡ files }
 {
-    let found = match number {
-        1 => row(
-            "422",
-            "The line does not have 136 characters, or has one that is not from space to `~`: a tab, a letter with an accent, or a mark at the beginning of the file",
-            "Fill each line with spaces to 136 characters, and save as plain text. Send with `--data-binary`: `curl -d` joins all lines",
-        ),
-        2 => row(
-            "422",
-            "Record 1 is no header: column 1 is not `1`, or columns 28 to 30 are neither `001` nor `002`",
-            "Begin with the header. Take 002 where a ticket is paid with two tickets, else 001 or 002",
-        ),
-        3 => Entry {
-            status: "422",
-            meaning: "This record may not come here. Its first character, its transaction number or its order is wrong",
-            remedy: "See its causes",
-            causes: &F03,
-        },
-        4 => row(
-            "422",
-            "Columns 24 to 27 of the header are not `PROD`",
-            "Write `PROD` there",
-        ),
-        5 => Entry {
-            status: "422",
-            meaning: "A field of the record is not in its form",
-            remedy: "Read what `check` says of the columns, or see its causes",
-            causes: &F05,
-        },
-        6 => row(
-            "422",
-            "The trailer's count of records or of transactions is wrong",
-            "Count all lines, header and trailer included, and all records 2",
-        ),
-        7 => row(
-            "422",
-            "The trailer's sum is not that of all amounts in records 8",
-            "Add them up, those of refunds below zero and EX included",
-        ),
-        8 => row(
-            "422",
-            "The file ends before a trailer. The record is one more than there are",
-            "Write the trailer, and send the whole file. An empty body is F08 at record 1",
-        ),
-        9 => row(
-            "422",
-            "A line follows the trailer, also an empty one",
-            "Remove it. One file has one header and one trailer",
-        ),
-        10 => row(
-            "422",
-            "Memory was short for the file. No caller sees it: over HTTP it is B01, and `check` says `out of memory`",
-            "As for B01",
-        ),
-        _ => return None,
-    };
-    Some(found)
+    &FILES
 }

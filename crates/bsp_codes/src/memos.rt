@@ -1,56 +1,74 @@
 //! The codes of memos.
 
-ghost use Rattle.std.specs.Prelude.{◌≡◌, is_some};
-ghost use Rattle.bsp_codes.specs.Codes.{is_within};
+ghost use Rattle.std.specs.Prelude.{◌≡◌, map};
+ghost use Rattle.bsp_codes.specs.Table.{said_in, memos};
 
-use crate::entry::{Entry, row};
+use crate::entry::Row;
 
-/// The code `M` and a number.
-pub(crate) fn memo_code(number: u64) -> Option<Entry>
-    ensures { is_some result ≡ is_within 8 number }
+/// The codes `M`.
+const MEMOS: [Row; 8] = [
+    (
+        "M01",
+        "404",
+        "You have no memo of this airline and number. An agent sees those that were issued to it, an airline its own",
+        "Read `../memos`, and take airline and number from it",
+        &[],
+    ),
+    (
+        "M02",
+        "409",
+        "The review is over, or the memo is billed: it can be neither disputed nor agreed to",
+        "Ask the airline for a credit memo (ACMA)",
+        &[],
+    ),
+    (
+        "M03",
+        "409",
+        "The state of the memo does not allow this. An airline upholds and reduces a disputed memo alone. A billed memo cannot be withdrawn",
+        "Read the state in `../memos`. docs/MEMOS.md has a drawing of what follows what",
+        &[],
+    ),
+    (
+        "M04",
+        "409",
+        "The amount is not from 1 to 99,999,999,999 minor units. Of a reduction: it is not below the amount of the memo",
+        "Send the amount that is left, below the old one. To take all of it back withdraw the memo",
+        &[],
+    ),
+    (
+        "M05",
+        "409",
+        "The airline used this number for a memo with other content",
+        "Take another number",
+        &[],
+    ),
+    (
+        "M06",
+        "409",
+        "It is a credit memo: nobody disputes, agrees to, upholds, reduces or withdraws one",
+        "To take back a credit memo issue a debit memo",
+        &[],
+    ),
+    (
+        "M07",
+        "409",
+        "The airline has as many memos to this agent as the documents limit",
+        "The office cannot change the limit (docs/OFFICE.md)",
+        &[],
+    ),
+    (
+        "M08",
+        "409",
+        "The agent is not registered, or its code has a wrong check digit",
+        "Correct the agent's code. Else ask the office",
+        &[],
+    ),
+];
+
+#[tactic(auto, unfolding(crate::specs::Table::memos))]
+/// The rows of the codes `M`.
+pub(crate) fn memos() -> &'static [Row]
+    ensures { map said_in result.now ≡ memos }
 {
-    let found = match number {
-        1 => row(
-            "404",
-            "You have no memo of this airline and number. An agent sees those that were issued to it, an airline its own",
-            "Read `../memos`, and take airline and number from it",
-        ),
-        2 => row(
-            "409",
-            "The review is over, or the memo is billed: it can be neither disputed nor agreed to",
-            "Ask the airline for a credit memo (ACMA)",
-        ),
-        3 => row(
-            "409",
-            "The state of the memo does not allow this. An airline upholds and reduces a disputed memo alone. A billed memo cannot be withdrawn",
-            "Read the state in `../memos`. docs/MEMOS.md has a drawing of what follows what",
-        ),
-        4 => row(
-            "409",
-            "The amount is not from 1 to 99,999,999,999 minor units. Of a reduction: it is not below the amount of the memo",
-            "Send the amount that is left, below the old one. To take all of it back withdraw the memo",
-        ),
-        5 => row(
-            "409",
-            "The airline used this number for a memo with other content",
-            "Take another number",
-        ),
-        6 => row(
-            "409",
-            "It is a credit memo: nobody disputes, agrees to, upholds, reduces or withdraws one",
-            "To take back a credit memo issue a debit memo",
-        ),
-        7 => row(
-            "409",
-            "The airline has as many memos to this agent as the documents limit",
-            "The office cannot change the limit (docs/OFFICE.md)",
-        ),
-        8 => row(
-            "409",
-            "The agent is not registered, or its code has a wrong check digit",
-            "Correct the agent's code. Else ask the office",
-        ),
-        _ => return None,
-    };
-    Some(found)
+    &MEMOS
 }

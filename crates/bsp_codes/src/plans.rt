@@ -1,76 +1,92 @@
 //! The codes of the plan, the business day and closes.
 
-ghost use Rattle.std.specs.Prelude.{◌≡◌, is_some};
-ghost use Rattle.bsp_codes.specs.Codes.{is_within};
+ghost use Rattle.std.specs.Prelude.{◌≡◌, map};
+ghost use Rattle.bsp_codes.specs.Table.{said_in, plans};
 
-use crate::entry::{Entry, row};
+use crate::entry::Row;
 
-/// When P02 comes.
-static P02: [&str; 10] = [
-    "`currency` is always there: three capital letters in quotes, as `\"EUR\"`",
-    "`review_days` is always there: a whole number from 1 to 60, without a point and without quotes",
-    "`documents_limit` is always there: a whole number from 1 to 1,000,000, without quotes",
-    "`airline` is a list of texts of three digits: `[\"125\", \"220\"]`, not `[125]`",
-    "`rate` has tables of `airline`, `from` and `hundredths`, each below `[[rate]]`. The airline is in this text or in the plan",
-    "`period` has tables of `code`, `first`, `last` and `remit`, each below `[[period]]`. The code is five digits in quotes",
-    "`commission_tax` has tables of `from` and `hundredths`, each below `[[commission_tax]]`",
-    "Days are in quotes, `\"2024-01-05\"`: days of the calendar from 2000 to 2099",
-    "`hundredths` is a whole number from 0 to 10,000, without quotes: 500 is 5.00 percent",
-    "No other key is allowed, nor one of these in other letters",
+/// The codes `P`.
+const PLANS: [Row; 9] = [
+    (
+        "P01",
+        "400",
+        "The bytes are no TOML text. A bracket or a quote is missing, a number has a comma, a key comes twice, a number does not fit 64 bits, or the bytes are no UTF-8",
+        "Check the text with any TOML reader. A list of tables has `[[rate]]`, `[[period]]` or `[[commission_tax]]` above each table. Send with `--data-binary`: `curl -d` joins all lines",
+        &[],
+    ),
+    (
+        "P02",
+        "400",
+        "A key is missing, is unknown, or has a wrong value. Or a rate names an airline that is in neither the plan nor the text",
+        "See its causes",
+        &[
+            "`currency` is always there: three capital letters in quotes, as `\"EUR\"`",
+            "`review_days` is always there: a whole number from 1 to 60, without a point and without quotes",
+            "`documents_limit` is always there: a whole number from 1 to 1,000,000, without quotes",
+            "`airline` is a list of texts of three digits: `[\"125\", \"220\"]`, not `[125]`",
+            "`rate` has tables of `airline`, `from` and `hundredths`, each below `[[rate]]`. The airline is in this text or in the plan",
+            "`period` has tables of `code`, `first`, `last` and `remit`, each below `[[period]]`. The code is five digits in quotes",
+            "`commission_tax` has tables of `from` and `hundredths`, each below `[[commission_tax]]`",
+            "Days are in quotes, `\"2024-01-05\"`: days of the calendar from 2000 to 2099",
+            "`hundredths` is a whole number from 0 to 10,000, without quotes: 500 is 5.00 percent",
+            "No other key is allowed, nor one of these in other letters",
+        ],
+    ),
+    (
+        "P03",
+        "409",
+        "The periods do not follow one another. A first day is not the day after the period before it, or is after the last day. Or the last day is not before the remittance day",
+        "Correct the days. The first period may begin on any day, each later one on the day after the one before",
+        &[],
+    ),
+    (
+        "P04",
+        "409",
+        "The business day would go back",
+        "The day goes only forwards. What was set cannot be taken back",
+        &[],
+    ),
+    (
+        "P05",
+        "409",
+        "A new rate or tax begins on the business day or before. Before a day is set, it is 2000-01-01",
+        "Let it begin on a later day",
+        &[],
+    ),
+    (
+        "P06",
+        "409",
+        "The period to be closed is unknown, or an earlier one is open",
+        "Close the earliest open period first",
+        &[],
+    ),
+    (
+        "P07",
+        "409",
+        "The period to be closed is not over",
+        "Set the business day to a day after its last day, when that day has come",
+        &[],
+    ),
+    (
+        "P08",
+        "409",
+        "The text differs from what is published: in the currency, the review days, the limit, or an entry with the same key. Or two entries of the text have one key and differ",
+        "Write what is published as it is, and add new entries. A changed rate or tax is a new one from a later day",
+        &[],
+    ),
+    (
+        "P09",
+        "",
+        "Memory was short for a plan. No caller sees it: over HTTP it is B01",
+        "As for B01",
+        &[],
+    ),
 ];
 
-/// The code `P` and a number.
-pub(crate) fn plan_code(number: u64) -> Option<Entry>
-    ensures { is_some result ≡ is_within 9 number }
+#[tactic(auto, unfolding(crate::specs::Table::plans))]
+/// The rows of the codes `P`.
+pub(crate) fn plans() -> &'static [Row]
+    ensures { map said_in result.now ≡ plans }
 {
-    let found = match number {
-        1 => row(
-            "400",
-            "The bytes are no TOML text. A bracket or a quote is missing, a number has a comma, a key comes twice, a number does not fit 64 bits, or the bytes are no UTF-8",
-            "Check the text with any TOML reader. A list of tables has `[[rate]]`, `[[period]]` or `[[commission_tax]]` above each table. Send with `--data-binary`: `curl -d` joins all lines",
-        ),
-        2 => Entry {
-            status: "400",
-            meaning: "A key is missing, is unknown, or has a wrong value. Or a rate names an airline that is in neither the plan nor the text",
-            remedy: "See its causes",
-            causes: &P02,
-        },
-        3 => row(
-            "409",
-            "The periods do not follow one another. A first day is not the day after the period before it, or is after the last day. Or the last day is not before the remittance day",
-            "Correct the days. The first period may begin on any day, each later one on the day after the one before",
-        ),
-        4 => row(
-            "409",
-            "The business day would go back",
-            "The day goes only forwards. What was set cannot be taken back",
-        ),
-        5 => row(
-            "409",
-            "A new rate or tax begins on the business day or before. Before a day is set, it is 2000-01-01",
-            "Let it begin on a later day",
-        ),
-        6 => row(
-            "409",
-            "The period to be closed is unknown, or an earlier one is open",
-            "Close the earliest open period first",
-        ),
-        7 => row(
-            "409",
-            "The period to be closed is not over",
-            "Set the business day to a day after its last day, when that day has come",
-        ),
-        8 => row(
-            "409",
-            "The text differs from what is published: in the currency, the review days, the limit, or an entry with the same key. Or two entries of the text have one key and differ",
-            "Write what is published as it is, and add new entries. A changed rate or tax is a new one from a later day",
-        ),
-        9 => row(
-            "",
-            "Memory was short for a plan. No caller sees it: over HTTP it is B01",
-            "As for B01",
-        ),
-        _ => return None,
-    };
-    Some(found)
+    &PLANS
 }

@@ -1,71 +1,89 @@
 //! The codes of what is asked for.
 
-ghost use Rattle.std.specs.Prelude.{◌≡◌, is_some};
-ghost use Rattle.bsp_codes.specs.Codes.{is_within};
+ghost use Rattle.std.specs.Prelude.{◌≡◌, map};
+ghost use Rattle.bsp_codes.specs.Table.{said_in, documents, hot_files, periods};
 
-use crate::entry::{Entry, row};
+use crate::entry::Row;
 
-/// The code `D` and a number.
-pub(crate) fn document_code(number: u64) -> Option<Entry>
-    ensures { is_some result ≡ is_within 1 number }
+/// The codes `D`.
+const DOCUMENTS: [Row; 1] = [(
+    "D01",
+    "404",
+    "You have no accepted transaction of this number",
+    "Give ten digits, without the check digit. A refused transaction leaves nothing",
+    &[],
+)];
+
+#[tactic(auto, unfolding(crate::specs::Table::documents))]
+/// The rows of the codes `D`.
+pub(crate) fn documents() -> &'static [Row]
+    ensures { map said_in result.now ≡ documents }
 {
-    let found = match number {
-        1 => row(
-            "404",
-            "You have no accepted transaction of this number",
-            "Give ten digits, without the check digit. A refused transaction leaves nothing",
-        ),
-        _ => return None,
-    };
-    Some(found)
+    &DOCUMENTS
 }
 
-/// The code `S` and a number.
-pub(crate) fn period_code(number: u64) -> Option<Entry>
-    ensures { is_some result ≡ is_within 2 number }
+/// The codes `S`.
+const PERIODS: [Row; 2] = [
+    (
+        "S01",
+        "409",
+        "The period is not in the plan. Of a statement or a settlement: it is not closed",
+        "Correct the five digits, or ask again after the close",
+        &[],
+    ),
+    (
+        "S02",
+        "",
+        "Memory was short for a report. No caller sees it: over HTTP it is B01",
+        "As for B01",
+        &[],
+    ),
+];
+
+#[tactic(auto, unfolding(crate::specs::Table::periods))]
+/// The rows of the codes `S`.
+pub(crate) fn periods() -> &'static [Row]
+    ensures { map said_in result.now ≡ periods }
 {
-    let found = match number {
-        1 => row(
-            "409",
-            "The period is not in the plan. Of a statement or a settlement: it is not closed",
-            "Correct the five digits, or ask again after the close",
-        ),
-        2 => row(
-            "",
-            "Memory was short for a report. No caller sees it: over HTTP it is B01",
-            "As for B01",
-        ),
-        _ => return None,
-    };
-    Some(found)
+    &PERIODS
 }
 
-/// The code `H` and a number.
-pub(crate) fn hot_code(number: u64) -> Option<Entry>
-    ensures { is_some result ≡ is_within 4 number }
+/// The codes `H`.
+const HOT_FILES: [Row; 4] = [
+    (
+        "H01",
+        "409",
+        "A count or a total does not fit its place in the HOT file",
+        "Ask the office for the settlement, which has such sums whole",
+        &[],
+    ),
+    (
+        "H02",
+        "409",
+        "The period of the HOT file is not in the plan, or is not closed",
+        "Correct the five digits, or ask again after the close",
+        &[],
+    ),
+    (
+        "H03",
+        "",
+        "Memory was short for a HOT file. No caller sees it: over HTTP it is B01",
+        "As for B01",
+        &[],
+    ),
+    (
+        "H04",
+        "",
+        "`hotcheck` alone: the record that is named does not continue a HOT file, or the file ends there",
+        "Read the line on standard error. Fetch the file again, and keep its bytes: `curl .. >FILE`",
+        &[],
+    ),
+];
+
+#[tactic(auto, unfolding(crate::specs::Table::hot_files))]
+/// The rows of the codes `H`.
+pub(crate) fn hot_files() -> &'static [Row]
+    ensures { map said_in result.now ≡ hot_files }
 {
-    let found = match number {
-        1 => row(
-            "409",
-            "A count or a total does not fit its place in the HOT file",
-            "Ask the office for the settlement, which has such sums whole",
-        ),
-        2 => row(
-            "409",
-            "The period of the HOT file is not in the plan, or is not closed",
-            "Correct the five digits, or ask again after the close",
-        ),
-        3 => row(
-            "",
-            "Memory was short for a HOT file. No caller sees it: over HTTP it is B01",
-            "As for B01",
-        ),
-        4 => row(
-            "",
-            "`hotcheck` alone: the record that is named does not continue a HOT file, or the file ends there",
-            "Read the line on standard error. Fetch the file again, and keep its bytes: `curl .. >FILE`",
-        ),
-        _ => return None,
-    };
-    Some(found)
+    &HOT_FILES
 }

@@ -1,52 +1,67 @@
 //! The table of all codes, by their letters.
 
-ghost use Rattle.std.specs.Prelude.{◌≡◌, is_some};
-ghost use Rattle.bsp_codes.specs.Codes.{is_code, is_known};
+ghost use Rattle.std.specs.Prelude.{◌≡◌, is_some, map, option_map};
+ghost use Rattle.std.specs.List.{find, flat_map};
+ghost use Rattle.std.specs.Option.{option_copied};
+ghost use Rattle.std.specs.Str.{bytes_eq};
+ghost use Rattle.bsp_codes.specs.Codes.{is_code};
+ghost use Rattle.bsp_codes.specs.Table.{entry_named, said_by, said_in, table};
 
-use crate::books::book_code;
-use crate::entry::Entry;
-use crate::files::file_code;
-use crate::memos::memo_code;
-use crate::plans::plan_code;
-use crate::reports::{document_code, hot_code, period_code};
-use crate::requests::{head_code, request_code};
-use crate::stocks::stock_code;
-use crate::verdicts::verdict_code;
-use bsp_fields::read_digits;
+use crate::books::books;
+use crate::entry::{Entry, Row};
+use crate::files::files;
+use crate::memos::memos;
+use crate::plans::plans;
+use crate::reports::{documents, hot_files, periods};
+use crate::requests::{heads, requests};
+use crate::stocks::stocks;
+use crate::verdicts::verdicts;
 
-#[tactic(auto, unfolding(crate::specs::Codes::is_known))]
-/// What is said of the code with a letter and a number.
-pub(crate) fn entry_at(letter: u8, number: u64) -> Option<Entry>
-    ensures { is_some result ≡ is_known letter number }
+#[tactic(auto, unfolding(crate::specs::Table::table))]
+/// The table, a part for each letter.
+pub(crate) fn parts() -> [&'static [Row]; 11]
+    ensures { flat_map (λ part. map said_in part.now) result ≡ table }
 {
-    match letter {
-        b'N' => request_code(number),
-        b'T' => head_code(number),
-        b'F' => file_code(number),
-        b'E' => verdict_code(number),
-        b'P' => plan_code(number),
-        b'K' => stock_code(number),
-        b'M' => memo_code(number),
-        b'D' => document_code(number),
-        b'S' => period_code(number),
-        b'H' => hot_code(number),
-        b'B' => book_code(number),
-        _ => None,
-    }
+    [
+        requests(),
+        heads(),
+        files(),
+        verdicts(),
+        plans(),
+        stocks(),
+        memos(),
+        documents(),
+        periods(),
+        hot_files(),
+        books(),
+    ]
+}
+
+/// The first row of a code.
+fn row_in(parts: &[&'static [Row]], code: &str) -> Option<&'static Row>
+    ensures { option_copied result ≡ find (λ row. bytes_eq row.0.now code.now) (flat_map (λ part. part.now) parts.now) }
+{
+    parts
+        .iter()
+        .flat_map(|part| part.iter())
+        .find(|row| row.0 == code)
+}
+
+/// The row of a code.
+fn row_of(code: &str) -> Option<&'static Row>
+    ensures entry { option_map (λ row. said_in row.now) result ≡ entry_named code.now }
+    ensures known { is_some result ≡ is_code code.now }
+{
+    row_in(&parts(), code)
 }
 
 /// What is said of a code, and none of a text that is no code.
 pub fn entry_of(code: &str) -> Option<Entry>
-    ensures { is_some result ≡ is_code code.now }
+    ensures entry { option_map said_by result ≡ entry_named code.now }
+    ensures known { is_some result ≡ is_code code.now }
 {
-    let Some((letter, digits)) = code.as_bytes().split_first() else {
-        return None;
-    };
-    if digits.len() != 2 {
-        return None;
-    }
-    match read_digits(digits) {
-        Ok(number) => entry_at(*letter, number),
-        Err(_) => None,
+    match row_of(code) {
+        Some(row) => Some(Entry::of(row)),
+        None => None,
     }
 }

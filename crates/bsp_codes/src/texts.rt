@@ -1,13 +1,13 @@
 //! The texts of `explain`.
 
-ghost use Rattle.std.specs.Prelude.{◌≡◌, ◌++◌, IfOk, MatchOption, OnOk, [], codes, false, true};
-ghost use Rattle.std.specs.List.{FoldsTo, flat_map};
-ghost use Rattle.bsp_codes.specs.Codes.{all_codes, code_at, code_text, codes_of, is_code};
-ghost use Rattle.bsp_codes.specs.Texts.{AddsLine, cause_text, entry_text, status_text};
+ghost use Rattle.std.specs.Prelude.{◌≡◌, ◌++◌, IfOk, OnOk, is_some, map, option_map};
+ghost use Rattle.std.specs.List.{flat_map};
+ghost use Rattle.bsp_codes.specs.Codes.{all_codes, is_code};
+ghost use Rattle.bsp_codes.specs.Table.{entry_named, said_by, said_in, table};
+ghost use Rattle.bsp_codes.specs.Texts.{cause_text, said_line, said_text, status_text};
 
-use crate::entry::Entry;
-use crate::table::{entry_at, entry_of};
-use bsp_fields::write_digits;
+use crate::entry::{Entry, Row};
+use crate::table::{entry_of, parts};
 use std::alloc::{AllocError, Global};
 
 /// Appends three texts, one after another.
@@ -33,7 +33,7 @@ fn push_status(text: &mut Vec<u8>, status: &str) -> Result<(), AllocError>
 
 /// Appends the causes of a code, a line for each.
 fn push_causes(text: &mut Vec<u8>, causes: &[&str]) -> Result<(), AllocError>
-    ensures { OnOk result (text.new.items ≡ text.old.items ++ flat_map cause_text causes.now) }
+    ensures { OnOk result (text.new.items ≡ text.old.items ++ flat_map (λ cause. cause_text cause.now) causes.now) }
 {
     for cause in causes {
         push_parts(text, "- ", cause, ".\n")?;
@@ -41,14 +41,16 @@ fn push_causes(text: &mut Vec<u8>, causes: &[&str]) -> Result<(), AllocError>
     Ok(())
 }
 
+#[tactic(auto, unfolding(crate::specs::Texts::said_text))]
 /// Appends what is said of a code.
 fn push_entry(text: &mut Vec<u8>, entry: &Entry) -> Result<(), AllocError>
-    ensures { OnOk result (text.new.items ≡ text.old.items ++ entry_text entry.now) }
+    ensures { OnOk result (text.new.items ≡ text.old.items ++ said_text (said_by entry.now)) }
 {
     push_status(text, entry.status)?;
     push_parts(text, "", entry.meaning, ".\n")?;
     push_parts(text, "What to do: ", entry.remedy, ".\n")?;
-    push_causes(text, entry.causes)
+    push_causes(text, entry.causes)?;
+    Ok(())
 }
 
 /// What a code means, when it comes and what to do: some lines, of which the first begins with the code. None of a text
@@ -58,8 +60,8 @@ fn push_entry(text: &mut Vec<u8>, entry: &Entry) -> Result<(), AllocError>
 ///
 /// An allocation was refused.
 pub fn explanation(alloc: Global, code: &str) -> Result<Option<Vec<u8>>, AllocError>
-    ensures { IfOk result (λ found. MatchOption found (is_code code.now ≡ false)
-        (λ text. (is_code code.now ≡ true) × ((entry : Entry) × (text.items ≡ code.now ++ entry_text entry)))) }
+    ensures text { IfOk result (λ found. option_map (λ text. text.items) found ≡ option_map (λ s. code.now ++ said_text s) (entry_named code.now)) }
+    ensures known { IfOk result (λ found. is_some found ≡ is_code code.now) }
 {
     let Some(entry) = entry_of(code) else {
         return Ok(None);
@@ -69,47 +71,30 @@ pub fn explanation(alloc: Global, code: &str) -> Result<Option<Vec<u8>>, AllocEr
     Ok(Some(text))
 }
 
-/// Appends the line of a code in the list.
-fn push_line(text: &mut Vec<u8>, letter: u8, number: u64, meaning: &str) -> Result<(), AllocError>
-    ensures { OnOk result (AddsLine text.old.items (code_text letter number) text.new.items) }
+/// Appends a line for each of some rows.
+fn push_rows(text: &mut Vec<u8>, rows: &[Row]) -> Result<(), AllocError>
+    ensures { OnOk result (text.new.items ≡ text.old.items ++ flat_map (λ row. said_line (said_in row)) rows.now) }
 {
-    let digits: [u8; 2] = write_digits(number);
-    text.push(letter)?;
-    text.extend_from_slice(&digits)?;
-    push_parts(text, " ", meaning, "\n")
-}
-
-/// Appends the line of the code with a letter and a number, if there is one.
-fn push_code(text: &mut Vec<u8>, letter: u8, number: u64) -> Result<(), AllocError>
-    ensures { OnOk result (FoldsTo AddsLine text.old.items (code_at letter number) text.new.items) }
-{
-    let Some(entry) = entry_at(letter, number) else {
-        return Ok(());
-    };
-    push_line(text, letter, number, entry.meaning)
-}
-
-/// Appends a line for each code of a letter.
-fn push_letter(text: &mut Vec<u8>, letter: u8) -> Result<(), AllocError>
-    ensures { OnOk result (FoldsTo AddsLine text.old.items (codes_of letter) text.new.items) }
-{
-    for number in 1..100 {
-        push_code(text, letter, number)?;
+    for (code, _, meaning, _, _) in rows {
+        push_parts(text, code, " ", meaning)?;
+        text.push(b'\n')?;
     }
     Ok(())
 }
 
+#[tactic(auto, using(crate::proofs::TableLemmas::codes_are))]
 /// The list of all codes: a line for each, which begins with it, in the order of `docs/CODES.md`.
 ///
 /// # Errors
 ///
 /// An allocation was refused.
 pub fn listing(alloc: Global) -> Result<Vec<u8>, AllocError>
-    ensures { IfOk result (λ text. FoldsTo AddsLine [] all_codes text.items) }
+    ensures lines { IfOk result (λ text. text.items ≡ flat_map said_line table) }
+    ensures codes { map (λ s. s.code) table ≡ all_codes }
 {
     let mut text = Vec::new(alloc);
-    for letter in b"NTFEPKMDSHB" {
-        push_letter(&mut text, *letter)?;
+    for rows in parts() {
+        push_rows(&mut text, rows)?;
     }
     Ok(text)
 }

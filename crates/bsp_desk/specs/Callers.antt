@@ -15,9 +15,11 @@ abbrev pub if_own : (ℕ → Rows → Option (List ℕ)) → Option (List ℕ) �
 if_own token_of given None rows = None
 if_own token_of given (Some caller) rows = if is_token (token_of caller rows) given then Some caller else None
 
+-- the agent of this code, if the token is its own
 abbrev pub known_agent : Option (List ℕ) → List ℕ → Rows → Option ℕ
 known_agent given code rows = if_own agent_token given (agent_of code) rows
 
+-- the airline of this code, if the token is its own
 abbrev pub known_airline : Option (List ℕ) → List ℕ → Rows → Option ℕ
 known_airline given code rows = if_own airline_token given (airline_in code) rows
 

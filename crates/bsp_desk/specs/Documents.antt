@@ -7,5 +7,6 @@ use Rattle.bsp_rules.specs.declared.rows.Item.{Item}
 abbrev pub is_sale_of : List ℕ → Item → Bool
 is_sale_of number i = has_number number i && not (is_canx i)
 
+-- its CANX
 abbrev pub is_canx_of : List ℕ → Item → Bool
 is_canx_of number i = has_number number i && is_canx i

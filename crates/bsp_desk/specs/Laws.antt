@@ -25,6 +25,7 @@ agent_replies agent l (e ∷ es) (reply ∷ replies) =
     map (λ answer. read_of reply) (told_reply agent l e) ++ agent_replies agent (ledger_all agent l (reply_sights agent l e)) es replies
 agent_replies agent l _ _ = []
 
+-- the replies to an airline's own requests, a 503 apart
 abbrev pub airline_replies : ℕ → AirlineLedger → List Exchange → List Reply → List ReplyRead
 airline_replies airline l (e ∷ es) (reply ∷ replies) =
     map (λ answer. read_of reply) (airline_told_reply airline l e) ++ airline_replies airline (airline_all airline l (airline_reply_sights airline l e)) es replies
@@ -35,6 +36,7 @@ module _ {office : List ℕ} {rows : Rows} {readings : List Reading} {replies : 
   abbrev pub agent_sees : ℕ → List Sight
   agent_sees agent = view agent (ledger_of agent rows) run.exchanges
 
+  -- the replies that an agent reads in the run
   abbrev pub agent_reads : ℕ → List ReplyRead
   agent_reads agent = agent_replies agent (ledger_of agent rows) run.exchanges replies
 
@@ -42,6 +44,7 @@ module _ {office : List ℕ} {rows : Rows} {readings : List Reading} {replies : 
   abbrev pub airline_sees : ℕ → List AirlineSight
   airline_sees airline = airline_view airline (airline_ledger_of airline rows) run.exchanges
 
+  -- the replies that an airline reads in the run
   abbrev pub airline_reads : ℕ → List ReplyRead
   airline_reads airline = airline_replies airline (airline_ledger_of airline rows) run.exchanges replies
 
@@ -57,6 +60,7 @@ module _ {office other : List ℕ} {rows rows' : Rows} {readings readings' : Lis
   AirlineReadsAlike run run' airline =
       airline_ledger_of airline rows ≡ airline_ledger_of airline rows' → airline_sees run airline ≡ airline_sees run' airline → airline_reads run airline ≡ airline_reads run' airline
 
+-- each agent and each airline reads alike in two such runs
 abbrev pub CallersReadAlike : Type 0
 CallersReadAlike =
     (office other : List ℕ) (rows rows' : Rows) (readings readings' : List Reading) (replies replies' : List Reply)

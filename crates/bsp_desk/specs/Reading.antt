@@ -6,10 +6,12 @@ use Rattle.bsp_desk_base.specs.Contents.{IsAskedWith, IsWhole}
 use Rattle.bsp_desk_base.specs.Requests.{Request as Reading}
 use Rattle.bsp_desk.specs.declared.request.Request.{Request}
 
+-- the bytes of the token that a request bears, if it bears one
 abbrev pub token_text : Option (Bor (List ℕ)) → Option (List ℕ)
 token_text None = None
 token_text (Some token) = Some token.now
 
+-- a request is read as this: its token, what it asks, and its content
 pub record IsRead (request : Request) (reading : Reading) : Type 0 where
   pub token : reading.token ≡ token_text request.token
   pub asked : IsAskedWith (asking_text request.call) request.content reading.asked
@@ -29,5 +31,6 @@ abbrev pub AreWhole : List Request → Type 0
 AreWhole [] = Unit {0}
 AreWhole (request ∷ requests) = IsWhole request.content × AreWhole requests
 
+-- each list of requests whose contents are whole is read as some list
 abbrev pub ListsAreRead : Type 0
 ListsAreRead = (requests : List Request) → AreWhole requests → (readings : List Reading) × AreRead requests readings

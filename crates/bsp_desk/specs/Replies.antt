@@ -25,6 +25,7 @@ pub record ReplyRead : Type 0 where
   pub media : Media
   pub bytes : List ℕ
 
+-- a reply as its caller reads it
 abbrev pub read_of : Reply → ReplyRead
 read_of reply = record { status = reply.status; media = reply.media; bytes = body_bytes reply.body }
 

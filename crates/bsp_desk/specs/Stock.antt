@@ -11,6 +11,7 @@ use Rattle.bsp_rules.specs.declared.rows.Item.{Item}
 use Rattle.bsp_rules.specs.declared.rows.Range.{Range}
 use Rattle.bsp_desk_base.specs.Ledger.{same_number}
 
+-- the document number of an item
 abbrev pub item_number : Item → ℕ
 item_number i = number_of i.transaction.document.number
 

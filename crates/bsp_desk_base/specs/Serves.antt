@@ -43,8 +43,10 @@ module _ {B : Type 0} (m : Meaning B Rows) (old new : B) where
   abbrev pub ServesOffice : Result Message BookFault → OfficeRequest → Type 0
   ServesOffice result request = Serves result (office_answer request) (office_after request)
 
+  -- and that of an agent, over its own ledger
   abbrev pub ServesAgent : Result Message BookFault → ℕ → AgentRequest → Type 0
   ServesAgent result agent request = Serves result (λ rows. ledger_answer agent (ledger_of agent rows) request) (agent_after agent request)
 
+  -- and that of an airline, over its own ledger
   abbrev pub ServesAirline : Result Message BookFault → ℕ → AirlineRequest → Type 0
   ServesAirline result airline request = Serves result (λ rows. airline_answer airline (airline_ledger_of airline rows) request) (airline_after airline request)

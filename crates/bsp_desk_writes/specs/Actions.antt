@@ -19,6 +19,7 @@ use Rattle.bsp_desk_base.specs.Texts.{Says}
 use Rattle.bsp_desk_writes.specs.declared.action.Action.{Action as Taken}
 use Rattle.bsp_desk_writes.specs.declared.action.Action.TheVariants as taken
 
+-- the action on a memo that a call takes
 abbrev pub meaning_of : Taken → Action
 meaning_of taken.Dispute = Dispute
 meaning_of taken.Agree = Agree
@@ -28,9 +29,11 @@ meaning_of (taken.Reduce amount) = Reduce amount
 
 -- ---- the memo that a caller has at a key
 
+-- the memo of a key to this agent, if there is one
 abbrev pub memo_to : ℕ → MemoKey → Rows → Option MemoFields
 memo_to agent key rows = get (agent_part agent rows).memos key
 
+-- the memo of a key of this airline, if there is one
 abbrev pub memo_by : ℕ → MemoKey → Rows → Option MemoFields
 memo_by airline key rows = get (airline_part airline rows).memos key
 

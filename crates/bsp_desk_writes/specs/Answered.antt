@@ -15,5 +15,6 @@ pub record IsMalformed (fault : BodyFault) (m : Message) : Type 0 where
   pub cause : fault ≡ body.Malformed
   pub said : m ≡ message.Refused Malformed
 
+-- the answer to a question for memos: all that it asks for
 abbrev pub listed : Question → Rows → Answer
 listed which rows = Memos (memos_of which rows)

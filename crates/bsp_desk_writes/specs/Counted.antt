@@ -5,6 +5,7 @@ use Rattle.bsp_rows.specs.Transaction.{Transaction}
 use Rattle.bsp_rows.specs.Rows.{Rows}
 use Rattle.bsp_rows.specs.Tallies.{tally_of}
 
+-- those that the agent has in this period for the transaction's airline; none without a period
 abbrev pub count_in_period : ℕ → Transaction → Option ℕ → Rows → ℕ
 count_in_period agent t None rows = 0
 count_in_period agent t (Some period) rows = (tally_of (record { agent = agent; airline = t.document.airline; period = period }) rows).accepted

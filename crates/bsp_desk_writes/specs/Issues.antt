@@ -28,6 +28,7 @@ beside new rows (Some memo) = if is_same_issue new memo then Changed Held else R
 beside new rows None =
     if nat_le (limit_of rows.published.terms) (issued_count new.agent new.airline rows) then Refused (refusal.Memo LimitReached) else Changed Done
 
+-- the answer to a new memo over the rows
 abbrev pub placing : MemoFields → Rows → Answer
 placing new rows = beside new rows (memo_at (memo_key new) rows)
 
@@ -35,11 +36,13 @@ placing new rows = beside new rows (memo_at (memo_key new) rows)
 abbrev pub placed_left : MemoFields → Answer → Rows → Rows
 placed_left new answer rows = if is_done answer then with_memo new rows else rows
 
+-- the rows after a new memo
 abbrev pub placed : MemoFields → Rows → Rows
 placed new rows = placed_left new (placing new rows) rows
 
 -- ---- an issue
 
+-- the rows after this answer to an issue of an airline
 abbrev pub issued_left : ℕ → MemoIssue → Option ℕ → Answer → Rows → Rows
 issued_left airline issue agent answer rows = if is_done answer then issued_to airline issue agent rows else rows
 

@@ -23,10 +23,12 @@ abbrev pub owner_of : Reporter → Owner
 owner_of Office = bearer
 owner_of (Agent agent) = reporter (Some agent)
 
+-- the verdict on a transaction: over the whole rows for the office, over its own ledger for an agent
 abbrev pub verdict_of : Reporter → Rows → Transaction → Verdict
 verdict_of Office rows t = office_verdict rows t
 verdict_of (Agent agent) rows t = own_verdict (Agent agent) (ledger_of agent rows) t
 
+-- the verdicts on transactions in their order, each over the rows after those before it
 abbrev pub verdicts_of : Reporter → Rows → List Transaction → List Verdict
 verdicts_of Office rows ts = office_verdicts rows ts
 verdicts_of (Agent agent) rows ts = own_verdicts agent (ledger_of agent rows) ts

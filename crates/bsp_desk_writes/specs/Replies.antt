@@ -13,5 +13,6 @@ pub record IsMalformed {B : Type 0} (old new : B) (fault : BodyFault) (answer : 
   pub answered : answer ≡ Refused Malformed
   pub kept : new ≡ old
 
+-- whether two ranges have the same bounds
 abbrev pub is_same_range : Range → Range → Bool
 is_same_range range other = (other.first == range.first) && (other.last == range.last)

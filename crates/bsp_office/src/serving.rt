@@ -182,18 +182,28 @@ fn serve_book<B: Book + Failing + Drop>(
     }
 }
 
-/// Serves at a place, over a book in a store.
-fn serve_stored<S: Alter + Drop>(
+/// Serves at a place, over the book of a file that was opened, if it was. Else it says so on standard error, and answers
+/// the exit status.
+fn serve_opened<S: Alter + Drop>(
     rt: &HostRuntime,
     place: &Place,
     token: Token,
-    book: SqlBook<S>,
+    file: &str,
+    opened: Result<SqlBook<S>, OpenFault>,
 ) -> Result<(), u8> {
-    serve_book(rt, place, token, book)
+    match opened {
+        Ok(book) => {
+            say_opened(rt, file, book.list());
+            serve_book(rt, place, token, book)
+        }
+        Err(fault) => {
+            say_unopened(rt, file, &fault);
+            Err(opening_status(&fault))
+        }
+    }
 }
 
-/// Serves at a place, over the book that a file keeps. Where it is not opened it says so on standard error, and answers
-/// the exit status.
+/// Serves at a place, over the book that a file keeps.
 fn serve_file<T: Start>(
     rt: &HostRuntime,
     place: &Place,
@@ -202,16 +212,8 @@ fn serve_file<T: Start>(
     start: T,
 ) -> Result<(), u8> {
     make_private(rt, file);
-    match SqlBook::open_path(rt, file, start) {
-        Ok(book) => {
-            say_opened(rt, file, book.list());
-            serve_stored(rt, place, token, book)
-        }
-        Err(fault) => {
-            say_unopened(rt, file, &fault);
-            Err(opening_status(&fault))
-        }
-    }
+    let opened = SqlBook::open_path(rt, file, start);
+    serve_opened(rt, place, token, file, opened)
 }
 
 /// A book in a file is opened with `Wary`: a commit does not rest on what a torn write leaves.

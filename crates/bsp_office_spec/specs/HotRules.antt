@@ -22,11 +22,13 @@ use Rattle.bsp_office_spec.specs.Texts.{Says}
 
 -- ---- what the types of an item and of a memo say of their values
 
+-- an item with a code of eight digits, a transaction whose values are those of fields, and a tax that is an amount
 pub record IsTypedItem (i : Item) : Type 0 where
   pub agent : i.agent < 10 ^ 8
   pub stored : IsStored i.transaction
   pub tax : IsStoredAmount i.tax
 
+-- a memo with codes of their digits, a reason of its characters and a day of the calendar
 pub record IsTypedMemo (m : MemoFields) : Type 0 where
   pub agent : m.agent < 10 ^ 8
   pub document : m.document < 10 ^ 10

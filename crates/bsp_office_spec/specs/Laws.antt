@@ -89,6 +89,7 @@ LedgerIsOfSights =
 
 -- ---- an airline: one request
 
+-- an airline's request with its token is answered by its ledger; one with another token is 403
 abbrev pub AirlineIsAnsweredByLedger : Type 0
 AirlineIsAnsweredByLedger =
     (office : List ℕ) (airline : ℕ) (rows : Rows) (token : Option (List ℕ)) (code : List ℕ) (call : AirlineRequest) → airline_in code ≡ Some airline →
@@ -105,6 +106,7 @@ AirlineLedgerIsOfSights =
 
 -- ---- whole runs
 
+-- a run keeps sound rows sound
 abbrev pub RunIsSound : Type 0
 RunIsSound = (office : List ℕ) (rows : Rows) (exchanges : List Exchange) (new : Rows) → Run office rows exchanges new → AllFit exchanges → Sound rows → Sound new
 
@@ -223,6 +225,7 @@ pub record RepeatsHeld (rows : Rows) (exchanges : List Exchange) : Type 0 where
   pub behind : (before after : List Exchange) (p : Exchange) (t : Transaction) (period : ℕ) →
       exchanges ≡ before ++ p ∷ after → Accepts p t period → IsHeldBehind t period (file_of p.request.asked) (verdicts_of p)
 
+-- a run from sound rows holds what was accepted before it, or by it
 abbrev pub RunsHoldRepeats : Type 0
 RunsHoldRepeats = (office : List ℕ) (rows : Rows) (exchanges : List Exchange) (new : Rows) → Run office rows exchanges new → AllFit exchanges → Sound rows → RepeatsHeld rows exchanges
 
@@ -259,6 +262,7 @@ WasThere rows k i = (j : Item) × (item_at k rows ≡ Some j) × (j.transaction 
 abbrev pub NewAgreeWithTickets : Rows → Rows → Type 0
 NewAgreeWithTickets rows new = (k : ItemKey) (i : Item) → item_at k new ≡ Some i → WasThere rows k i ⊎ AgreesWithTickets new k.agent i.transaction
 
+-- so it is of each run from sound rows
 abbrev pub RunsAgreeWithTickets : Type 0
 RunsAgreeWithTickets = (office : List ℕ) (rows : Rows) (exchanges : List Exchange) (new : Rows) → Run office rows exchanges new → AllFit exchanges → Sound rows → NewAgreeWithTickets rows new
 
@@ -268,6 +272,7 @@ RunsAgreeWithTickets = (office : List ℕ) (rows : Rows) (exchanges : List Excha
 abbrev pub ledger_net : ℕ → Ledger → ℤ
 ledger_net code l = net_of_rows code (values l.own.items) (values l.own.memos)
 
+-- the same of an airline's ledger
 abbrev pub airline_ledger_net : ℕ → AirlineLedger → ℤ
 airline_ledger_net code l = net_of_rows code (values l.own.items) (values l.own.memos)
 
@@ -278,6 +283,7 @@ NetsAddUp code rows =
     HaveAgents code (values rows.items) (values rows.memos) agents → HaveAirlines code (values rows.items) (values rows.memos) airlines →
     sum_of (map (λ a. ledger_net code (ledger_of a rows)) agents) ≡ sum_of (map (λ c. airline_ledger_net code (airline_ledger_of c rows)) airlines)
 
+-- in sound rows they do so, for each period
 abbrev pub NetsAlwaysAddUp : Type 0
 NetsAlwaysAddUp = (rows : Rows) (code : ℕ) → Sound rows → NetsAddUp code rows
 
@@ -290,10 +296,11 @@ HotFilesShowNets =
 
 -- ---- closed periods
 
--- the items of a period, and the memos billed in it
+-- the items of a period
 abbrev pub items_in : ℕ → Rows → FinMap item_cmp Item
 items_in code rows = kept (λ e. e.1.period == code) rows.items
 
+-- the memos billed in a period
 abbrev pub memos_in : ℕ → Rows → FinMap memo_cmp MemoFields
 memos_in code rows = kept (λ e. is_billed_in code e.1) rows.memos
 
@@ -337,5 +344,6 @@ ShownReportsStay exchanges =
     exchanges ≡ before ++ (p ∷ between ++ q ∷ after) → p.reply ≡ Some shown → shows_report p.request.asked shown ≡ true →
     q.request.asked ≡ p.request.asked → q.reply ≡ Some answer → (answer ≡ shown) ⊎ (answer ≡ Refused Forbidden)
 
+-- so it is in each run from sound rows
 abbrev pub RunsShowTheSame : Type 0
 RunsShowTheSame = (office : List ℕ) (rows : Rows) (exchanges : List Exchange) (new : Rows) → Run office rows exchanges new → AllFit exchanges → Sound rows → ShownReportsStay exchanges

@@ -60,10 +60,11 @@ pub record PrintsFileTotals (form : FileForm) (airline : ℕ) (net : ℤ) (text 
 abbrev pub posted : ℕ → Rows → List Posting
 posted code rows = postings code (values rows.items) (values rows.memos)
 
--- an agent and an airline with the net of its ledger
+-- an agent with the net of its ledger
 abbrev pub agent_net_in : ℕ → Rows → ℕ → AgentNet
 agent_net_in code rows agent = record { agent = agent; net = ledger_net code (ledger_of agent rows) }
 
+-- an airline with the net of its ledger
 abbrev pub airline_net_in : ℕ → Rows → ℕ → AirlineNet
 airline_net_in code rows airline = record { airline = airline; net = airline_ledger_net code (airline_ledger_of airline rows) }
 
@@ -82,6 +83,7 @@ pub record PrintsNets (code : ℕ) (rows : Rows) (text : List ℕ) : Type 0 wher
 
 -- ---- the reports on a closed period
 
+-- what is sent of a statement ends in TOT with the net of the agent's ledger
 abbrev pub StatementsPrintNets : Type 0
 StatementsPrintNets =
     (rows : Rows) (agent code : ℕ) (q : Period) (m : Message) → Sound rows → closed_period rows.published code ≡ Some q →
@@ -95,6 +97,7 @@ HotFilesPrintNets =
     let l = airline_ledger_of airline rows in
     Says (hot_answer airline l (Some code)) m → status_of m ≡ status.Ok → PrintsFileTotals (form_of rows.published q) airline (airline_ledger_net code l) (text_of m)
 
+-- what is sent of a settlement has the nets of the ledgers, and their sum as both totals
 abbrev pub SettlementsPrintNets : Type 0
 SettlementsPrintNets =
     (rows : Rows) (code : ℕ) (q : Period) (m : Message) → Sound rows → closed_period rows.published code ≡ Some q →
@@ -116,5 +119,6 @@ ReportsPrintNets exchanges new =
     (before after : List Exchange) (p : Exchange) (answer : Answer) (m : Message) →
     exchanges ≡ before ++ p ∷ after → p.reply ≡ Some answer → shows_report p.request.asked answer ≡ true → Says answer m → IsPrinted new answer m
 
+-- so it is of each report that a run from sound rows sends
 abbrev pub RunsPrintNets : Type 0
 RunsPrintNets = (office : List ℕ) (rows : Rows) (exchanges : List Exchange) (new : Rows) → Run office rows exchanges new → AllFit exchanges → Sound rows → ReportsPrintNets exchanges new

@@ -35,9 +35,11 @@ use Rattle.bsp_messages.specs.declared.office_bodies.StockChange.{StockChange}
 abbrev pub FileRead : Type 0
 FileRead = Result (List Transaction) RetFault
 
+-- what a plan text says, or its first fault
 abbrev pub PlanRead : Type 0
 PlanRead = Result PlanText PlanFault
 
+-- the body is a RET file of these transactions, or has this first fault
 abbrev pub IsFileOf : List ℕ → FileRead → Type 0
 IsFileOf body (Ok ts) = (file : File) × Ret (lines body) file × HaveContents 1 file.groups ts
 IsFileOf body (Err fault) = first_fault (lines body) ≡ Some fault
@@ -56,6 +58,7 @@ IsPlanOf body text = (result_map_both plan_data (λ fault. fault) text ≡ plan_
 
 -- ---- requests by caller; no JSON body where it is malformed, and path values as bytes
 
+-- what the office asks
 pub data OfficeRequest : Type 0 where
   PublishPlan : (text : PlanRead) → OfficeRequest
   SetBusinessDay : (day : Option CivilDay) → OfficeRequest
@@ -67,6 +70,7 @@ pub data OfficeRequest : Type 0 where
   ClosePeriod : (period : Option ℕ) → OfficeRequest
   AskSettlement : (period : List ℕ) → OfficeRequest
 
+-- what an agent asks
 pub data AgentRequest : Type 0 where
   AgentFile : (file : FileRead) → AgentRequest
   AskDocument : (number : List ℕ) → AgentRequest
@@ -77,6 +81,7 @@ pub data AgentRequest : Type 0 where
   AgreeMemo : (body : Option NamedMemo) → AgentRequest
   AskStatement : (period : List ℕ) → AgentRequest
 
+-- what an airline asks
 pub data AirlineRequest : Type 0 where
   AskIssuedMemos : AirlineRequest
   IssueMemo : (body : Option MemoIssue) → AirlineRequest
@@ -93,6 +98,7 @@ pub data Asked : Type 0 where
   ByAgent : (code : List ℕ) → (call : AgentRequest) → Asked
   ByAirline : (code : List ℕ) → (call : AirlineRequest) → Asked
 
+-- a request: its token, and what it asks
 pub record Request : Type 0 where
   -- none where the message has none or several
   pub token : Option (List ℕ)
@@ -100,6 +106,7 @@ pub record Request : Type 0 where
 
 -- ---- how a call with the bytes of its body is read
 
+-- a call of the office with this body is this request
 abbrev pub IsOfficeRequest : OfficeCall (List ℕ) → List ℕ → OfficeRequest → Type 0
 IsOfficeRequest office.Plan body asked = (text : PlanRead) × IsPlanOf body text × (asked ≡ PublishPlan text)
 IsOfficeRequest office.Day body asked = asked ≡ SetBusinessDay (body_of day_form body)
@@ -111,6 +118,7 @@ IsOfficeRequest office.Ret body asked = (file : FileRead) × IsFileOf body file 
 IsOfficeRequest office.Close body asked = asked ≡ ClosePeriod (body_of period_form body)
 IsOfficeRequest (office.Settlement period) body asked = asked ≡ AskSettlement period
 
+-- a call of an agent with this body is this request
 abbrev pub IsAgentRequest : AgentCall (List ℕ) → List ℕ → AgentRequest → Type 0
 IsAgentRequest agent.Ret body asked = (file : FileRead) × IsFileOf body file × (asked ≡ AgentFile file)
 IsAgentRequest (agent.Document number) body asked = asked ≡ AskDocument number
@@ -121,6 +129,7 @@ IsAgentRequest agent.Dispute body asked = asked ≡ DisputeMemo (body_of named_m
 IsAgentRequest agent.Agree body asked = asked ≡ AgreeMemo (body_of named_memo_form body)
 IsAgentRequest (agent.Statement period) body asked = asked ≡ AskStatement period
 
+-- a call of an airline with this body is this request
 abbrev pub IsAirlineRequest : AirlineCall (List ℕ) → List ℕ → AirlineRequest → Type 0
 IsAirlineRequest airline.Memos body asked = asked ≡ AskIssuedMemos
 IsAirlineRequest airline.Issue body asked = asked ≡ IssueMemo (body_of issue_form body)

@@ -17,14 +17,17 @@ use Rattle.bsp_office_spec.specs.Answers.Answer.{Changed, Verdicts, Document, In
 
 -- ---- the texts that are made of rows
 
+-- the text of an agent's statement, with the published currency
 abbrev pub IsStatementText : ℕ → Bool → Report → List ℕ → Type 0
 IsStatementText agent taxed report text =
     (terms : Terms) × (report.terms ≡ Some terms) × IsStatement taxed agent (of_period report.period terms) report.postings text
 
+-- the text of a settlement, with the published currency
 abbrev pub IsSettlementText : Report → List ℕ → Type 0
 IsSettlementText report text =
     (terms : Terms) × (report.terms ≡ Some terms) × (made : SettlementMade) × IsSettlement (of_period report.period terms) report.postings made × (string_bytes made.text ≡ text)
 
+-- what a HOT file reports of these rows
 abbrev pub hot_entries : ℕ → HotRows → List Entry
 hot_entries airline rows = entries airline rows.period.code rows.items rows.memos
 
@@ -44,6 +47,7 @@ HasNoHotText airline rows = (terms : Terms) × (rows.terms ≡ Some terms) × Is
 abbrev pub IsListed : {A : Type 0} → (Vec A → Message) → List A → Message → Type 0
 IsListed {A = A} message_of values m = (v : Vec A) × (v.items ≡ values) × (m ≡ message_of v)
 
+-- the message that an answer is sent as
 abbrev pub Says : Answer → Message → Type 0
 Says (Changed change) m = m ≡ message.Changed change
 Says (Verdicts verdicts) m = IsListed message.Verdicts verdicts m
@@ -61,6 +65,7 @@ Says (Refused refusal) m = m ≡ message.Refused refusal
 
 -- ---- two messages that are sent alike
 
+-- one status, one media type and the same bytes
 pub record IsSentAs (m other : Message) : Type 0 where
   pub status : status_of other ≡ status_of m
   pub media : media_of other ≡ media_of m

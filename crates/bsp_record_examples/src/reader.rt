@@ -1,12 +1,12 @@
 //! The calls of a reader of a RET file that comes in pieces, one after another.
 
 use crate::fault::Fault;
-use crate::outcome::{Counts, write_outcome};
-use crate::output::Output;
+use crate::outcome::{Counts, Outcome, write_outcome};
+use crate::output::{Output, say};
 use crate::page::Page;
 use crate::texts::text_of;
 use crate::words::first_word;
-use bsp_ret::{RetFault, RetReader};
+use bsp_ret::{FaultCode, RetFault, RetReader};
 
 /// A call of a reader.
 #[derive(Clone, Copy)]
@@ -40,12 +40,50 @@ fn write_done(out: &mut Output, done: Result<(), RetFault>) {
     }
 }
 
+/// Writes that memory was short for a call, which is made again; whether it was.
+fn is_made_again<T>(out: &mut Output, made: &Result<T, RetFault>) -> bool {
+    match made {
+        Err(fault) if fault.code == FaultCode::F10 => {
+            say!(out, "{}, again ", *fault);
+            true
+        }
+        _ => false,
+    }
+}
+
+/// Feeds a piece.
+fn feed(reader: &mut RetReader, piece: &[u8], out: &mut Output) {
+    let mut fed = reader.feed(piece);
+    if is_made_again(out, &fed) {
+        fed = reader.feed(piece);
+    }
+    write_done(out, fed);
+}
+
+/// Ends the text.
+fn finish(reader: &mut RetReader, out: &mut Output) {
+    let mut finished = reader.finish();
+    if is_made_again(out, &finished) {
+        finished = reader.finish();
+    }
+    write_done(out, finished);
+}
+
+/// The counts of the file that a reader gives.
+fn counts_of(reader: &RetReader) -> Outcome {
+    match reader.file() {
+        Ok(file) => Ok(Counts::of(&file)),
+        Err(fault) => Err(fault),
+    }
+}
+
 /// Asks for the file.
 fn write_file(reader: &RetReader, out: &mut Output) {
-    match reader.file() {
-        Ok(file) => write_outcome(out, Ok(Counts::of(&file))),
-        Err(fault) => write_outcome(out, Err(fault)),
+    let mut outcome = counts_of(reader);
+    if is_made_again(out, &outcome) {
+        outcome = counts_of(reader);
     }
+    write_outcome(out, outcome);
 }
 
 /// Makes a call, and writes what it gave.
@@ -58,9 +96,9 @@ fn take(
     match step {
         Step::Feed(parts) => {
             let piece = text_of(page, parts)?;
-            write_done(out, reader.feed(&piece));
+            feed(reader, &piece, out);
         }
-        Step::Finish => write_done(out, reader.finish()),
+        Step::Finish => finish(reader, out),
         Step::File => write_file(reader, out),
     }
     Ok(())

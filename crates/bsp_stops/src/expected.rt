@@ -3,7 +3,7 @@
 use crate::files::{Bytes, Left};
 use crate::machine::{Calls, Limits};
 use crate::office::{Ended, Found, Office};
-use crate::rows::rows_of;
+use crate::rows::rows_in;
 use crate::wrong::Wrong;
 use bsp_desk::{Reply, Status};
 
@@ -45,8 +45,10 @@ pub fn are_same(some: &[Reply], others: &[Reply]) -> bool {
 fn rows_before(office: Office<'_, '_>, start: &Bytes) -> Result<String, Wrong> {
     let calls = Calls::endless();
     let files = start.files(office.alloc, Limits::of_both(&calls))?;
-    let mut conn = office.connect(files).map_err(|refused| refused.0)?;
-    rows_of(office.alloc, &mut conn)
+    match office.connect(files) {
+        Ok(conn) => rows_in(office.alloc, conn),
+        Err((wrong, _)) => Err(wrong),
+    }
 }
 
 /// The replies to so many requests, and what is found after them.
@@ -57,11 +59,10 @@ fn after(
 ) -> Result<(Vec<Reply>, Found), Wrong> {
     let calls = Calls::endless();
     let files = start.files(office.alloc, Limits::of_both(&calls))?;
-    let ended = office.attempt(count, files)?;
-    if !ended.is_opened {
+    let Ended { files, replies } = office.attempt(count, files)?;
+    let Some(replies) = replies else {
         return Err(Wrong::NoDesk);
-    }
-    let Ended { files, replies, .. } = ended;
+    };
     let left = Bytes::left(office.alloc, files, Left::Written, Left::Written)?;
     Ok((replies, office.find(&left)?))
 }

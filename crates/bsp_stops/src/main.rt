@@ -110,15 +110,16 @@ fn prepared(office: Office<'_, '_>, old: Option<&str>) -> Result<(Bytes, Expecte
     Ok((start, expected))
 }
 
-/// Tries all stops of a kind with these requests, and answers the exit status.
-fn run_text(rt: &HostRuntime, stop: Stop, text: &str, old: Option<&str>) -> Result<u8, Wrong> {
-    let Ok(routes) = Routes::new(rt.alloc()) else {
-        return Err(Wrong::NoRoom);
-    };
-    let script = Script::read(rt.alloc(), &routes, text)?;
+/// Tries all stops of a kind with the requests of a script, and answers the exit status.
+fn run_script(
+    rt: &HostRuntime,
+    stop: Stop,
+    script: &Script<'_>,
+    old: Option<&str>,
+) -> Result<u8, Wrong> {
     let office = Office {
         alloc: rt.alloc(),
-        script: &script,
+        script,
     };
     let (start, expected) = prepared(office, old)?;
     if try_all(rt, office, &start, &expected, stop)? {
@@ -126,6 +127,15 @@ fn run_text(rt: &HostRuntime, stop: Stop, text: &str, old: Option<&str>) -> Resu
     } else {
         Ok(1)
     }
+}
+
+/// Tries all stops of a kind with these requests, and answers the exit status.
+fn run_text(rt: &HostRuntime, stop: Stop, text: &str, old: Option<&str>) -> Result<u8, Wrong> {
+    let Ok(routes) = Routes::new(rt.alloc()) else {
+        return Err(Wrong::NoRoom);
+    };
+    let script = Script::read(rt.alloc(), &routes, text)?;
+    run_script(rt, stop, &script, old)
 }
 
 /// The file of a name, if there is one.

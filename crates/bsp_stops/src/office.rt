@@ -5,9 +5,9 @@ use crate::machine::{Calls, Limits};
 use crate::rows::rows_of;
 use crate::script::Script;
 use crate::wrong::Wrong;
-use bsp_desk::{Desk, ListBook, Reply, Request};
+use bsp_desk::{Book, Desk, ListBook, Reply, Request};
 use bsp_store::SqlBook;
-use sqlite::{Connection, FileStore, Options};
+use sqlite::{Alter, Connection, FileStore, Options};
 use sqlite_disk::{Disk, Files};
 use std::alloc::Global;
 
@@ -16,10 +16,8 @@ use std::alloc::Global;
 pub struct Ended<D: Disk + Drop> {
     /// The files of the store.
     pub files: Files<D>,
-    /// Whether the book was opened.
-    pub is_opened: bool,
     /// The replies to the requests, in order; none where the book was not opened.
-    pub replies: Vec<Reply>,
+    pub replies: Option<Vec<Reply>>,
 }
 
 /// What the next opening finds.
@@ -38,11 +36,6 @@ pub struct Office<'o, 't> {
     pub alloc: Global,
     /// What is asked.
     pub script: &'o Script<'t>,
-}
-
-/// The files of a store, as its desk leaves them: with no call of theirs.
-fn files_of<D: Disk + Drop>(desk: Desk<SqlBook<FileStore<D>>>) -> Files<D> {
-    desk.close().release().into_store().close()
 }
 
 impl<'o, 't> Office<'o, 't> {
@@ -76,28 +69,34 @@ impl<'o, 't> Office<'o, 't> {
         }
     }
 
-    /// Opens the desk over the book that a store has.
-    fn adopt<D: Disk + Drop>(
+    /// Asks requests of a desk over a book, and gives the replies and the book.
+    fn ask<B: Book + Drop>(
         self,
-        conn: Connection<FileStore<D>>,
-    ) -> Result<Desk<SqlBook<FileStore<D>>>, (Wrong, Files<D>)> {
-        let book = match SqlBook::adopt(self.alloc, conn) {
-            Ok(book) => book,
-            Err((fault, store)) => return Err((Wrong::NoBook(fault), store.close())),
+        book: B,
+        requests: &[Request<'_>],
+    ) -> Result<(Vec<Reply>, B), Wrong> {
+        let Ok(mut desk) = Desk::open(self.alloc, book, self.script.office) else {
+            return Err(Wrong::NoDesk);
         };
-        match Desk::open(self.alloc, book, self.script.office) {
-            Ok(desk) => Ok(desk),
-            Err((_, book)) => Err((Wrong::NoDesk, book.release().into_store().close())),
-        }
+        let replies = desk.run(requests)?;
+        Ok((replies, desk.close()))
     }
 
-    /// Opens the desk over the book that two files have.
-    fn open<D: Disk + Drop>(
+    /// Asks so many requests of the book that a store keeps, and gives the store and the replies: no replies where the
+    /// store failed before its book was opened.
+    fn ask_stored<S: Alter + Drop>(
         self,
-        files: Files<D>,
-    ) -> Result<Desk<SqlBook<FileStore<D>>>, (Wrong, Files<D>)> {
-        let conn = self.connect(files)?;
-        self.adopt(conn)
+        count: usize,
+        conn: Connection<S>,
+    ) -> Result<(S, Option<Vec<Reply>>), Wrong> {
+        match SqlBook::adopt(self.alloc, conn) {
+            Ok(book) => {
+                let (replies, book) = self.ask(book, self.first_requests(count))?;
+                Ok((book.release().into_store(), Some(replies)))
+            }
+            Err((fault, store)) if Wrong::NoBook(fault).is_failure() => Ok((store, None)),
+            Err((fault, _)) => Err(Wrong::NoBook(fault)),
+        }
     }
 
     /// Opens the book of two files, and asks so many requests. The machine may stop meanwhile.
@@ -106,30 +105,30 @@ impl<'o, 't> Office<'o, 't> {
     ///
     /// What is wrong, other than that the store fails.
     pub fn attempt<D: Disk + Drop>(self, count: usize, files: Files<D>) -> Result<Ended<D>, Wrong> {
-        match self.open(files) {
-            Ok(mut desk) => {
-                let replies = desk.run(self.first_requests(count))?;
+        match self.connect(files) {
+            Ok(conn) => {
+                let (store, replies) = self.ask_stored(count, conn)?;
                 Ok(Ended {
-                    files: files_of(desk),
-                    is_opened: true,
+                    files: store.close(),
                     replies,
                 })
             }
             Err((wrong, files)) if wrong.is_failure() => Ok(Ended {
                 files,
-                is_opened: false,
-                replies: Vec::new(self.alloc),
+                replies: None,
             }),
             Err((wrong, _)) => Err(wrong),
         }
     }
 
-    /// What the next opening of two files finds.
-    fn find_in<D: Disk + Drop>(self, files: Files<D>) -> Result<Found, Wrong> {
-        let mut conn = self.connect(files).map_err(|refused| refused.0)?;
+    /// What the next opening of a store finds.
+    fn find_stored<S: Alter + Drop>(self, mut conn: Connection<S>) -> Result<Found, Wrong> {
         let rows = rows_of(self.alloc, &mut conn)?;
-        let mut desk = self.adopt(conn).map_err(|refused| refused.0)?;
-        let looks = desk.run(&self.script.looks)?;
+        let book = match SqlBook::adopt(self.alloc, conn) {
+            Ok(book) => book,
+            Err((fault, _)) => return Err(Wrong::NoBook(fault)),
+        };
+        let (looks, _) = self.ask(book, &self.script.looks)?;
         Ok(Found { rows, looks })
     }
 
@@ -141,7 +140,21 @@ impl<'o, 't> Office<'o, 't> {
     pub fn find(self, left: &Bytes) -> Result<Found, Wrong> {
         let calls = Calls::endless();
         let files = left.files(self.alloc, Limits::of_both(&calls))?;
-        self.find_in(files)
+        match self.connect(files) {
+            Ok(conn) => self.find_stored(conn),
+            Err((wrong, _)) => Err(wrong),
+        }
+    }
+
+    /// The replies to so many requests over a book, and then those to the looks.
+    fn ask_and_look<B: Book + Drop>(
+        self,
+        count: usize,
+        book: B,
+    ) -> Result<(Vec<Reply>, Vec<Reply>), Wrong> {
+        let (replies, book) = self.ask(book, self.first_requests(count))?;
+        let (looks, _) = self.ask(book, &self.script.looks)?;
+        Ok((replies, looks))
     }
 
     /// The replies to so many requests over a book in memory, and then those to the looks.
@@ -150,12 +163,6 @@ impl<'o, 't> Office<'o, 't> {
     ///
     /// `NoRoom`.
     pub fn over_memory(self, count: usize) -> Result<(Vec<Reply>, Vec<Reply>), Wrong> {
-        let book = ListBook::new(self.alloc);
-        let Ok(mut desk) = Desk::open(self.alloc, book, self.script.office) else {
-            return Err(Wrong::NoDesk);
-        };
-        let replies = desk.run(self.first_requests(count))?;
-        let looks = desk.run(&self.script.looks)?;
-        Ok((replies, looks))
+        self.ask_and_look(count, ListBook::new(self.alloc))
     }
 }

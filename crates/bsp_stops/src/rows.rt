@@ -46,3 +46,12 @@ pub fn rows_of<S: Alter>(alloc: Global, conn: &mut Connection<S>) -> Result<Stri
     }
     Ok(text)
 }
+
+/// The rows of all tables of a store that is closed then.
+///
+/// # Errors
+///
+/// `Store`, where the store fails, and `NoRoom`.
+pub fn rows_in<S: Alter + Drop>(alloc: Global, mut conn: Connection<S>) -> Result<String, Wrong> {
+    rows_of(alloc, &mut conn)
+}

@@ -58,10 +58,8 @@ pub struct Trial<'t, 's> {
 struct Run {
     /// The bytes of the files, as the machine finds them after the stop.
     left: Bytes,
-    /// Whether the book was opened.
-    is_opened: bool,
     /// The replies to the requests, in order; none where the book was not opened.
-    replies: Vec<Reply>,
+    replies: Option<Vec<Reply>>,
 }
 
 /// How a run ended that was as promised.
@@ -103,14 +101,9 @@ impl Trial<'_, '_> {
         let tears = self.stop == Stop::Torn;
         let alloc = self.office.alloc;
         let files = self.start.files(alloc, Limits { log, main, tears })?;
-        let Ended {
-            files,
-            is_opened,
-            replies,
-        } = self.office.attempt(usize::MAX, files)?;
+        let Ended { files, replies } = self.office.attempt(usize::MAX, files)?;
         Ok(Run {
             left: Bytes::left(alloc, files, self.log, self.main)?,
-            is_opened,
             replies,
         })
     }
@@ -138,15 +131,10 @@ impl Trial<'_, '_> {
         (found.rows == wanted.rows || is_old) && are_same(&found.looks, &wanted.looks)
     }
 
-    /// Stops after so many calls, and tests what is left.
-    fn stop_after(self, calls: u64) -> Result<Outcome, Wrong> {
-        let Run {
-            left,
-            is_opened,
-            replies,
-        } = self.run(calls)?;
-        let count = self.acknowledged(&replies)?;
-        let found = self.office.find(&left)?;
+    /// Tests what a run left.
+    fn outcome(self, left: &Bytes, is_opened: bool, replies: &[Reply]) -> Result<Outcome, Wrong> {
+        let count = self.acknowledged(replies)?;
+        let found = self.office.find(left)?;
         let is_whole = is_opened && count == replies.len();
         if self.is_after(count, is_opened, &found) {
             return Ok(if is_whole {
@@ -159,6 +147,15 @@ impl Trial<'_, '_> {
             return Ok(Outcome::After);
         }
         Err(Wrong::Rows)
+    }
+
+    /// Stops after so many calls, and tests what is left.
+    fn stop_after(self, calls: u64) -> Result<Outcome, Wrong> {
+        let Run { left, replies } = self.run(calls)?;
+        match &replies {
+            Some(replies) => self.outcome(&left, true, replies),
+            None => self.outcome(&left, false, &[]),
+        }
     }
 
     /// Stops after no call, after one, and so on, until a run ends without a stop.

@@ -1,6 +1,6 @@
 -- From the rows that an audit counts to what the store keeps.
 use Rattle.std.proofs.Common.{◌≡◌, ℕ, [], length, None, Result, Ok, Err, IfOk, inl, inr, sym, ap, subst, ◌∙◌, arith}
-use Rattle.std.specs.Prelude.{IfErr, true}
+use Rattle.std.specs.Prelude.{IfErr, IsErrAnd, IsOkAnd, MatchResult, false, true}
 use Rattle.std.specs.declared.cmp.Ordering.{Ordering}
 use Rattle.std.specs.BTreeMap.{BTreeMap, IsOrdered as AreKeysOrdered}
 use Rattle.std.specs.Cmp.{IsTotalOrder}
@@ -76,3 +76,36 @@ module _ {S : Type 0} (g : Ghosts S) where
       → IfErr r (λ e. is_refusal (fault_in e) ≡ true → (x : S) × WasRefused g (fault_in e) h x × LeavesCommitted g h x)
   left_behind h left leaves (Ok s) none = tt
   left_behind h left leaves (Err e) none = λ is. (left, none is, leaves)
+
+-- a connection that was opened, and its audit
+module _ {S L : Type 0} (g : Ghosts S) (Found : Held S → Type 0) where
+  pub audited_ok : (opened : Result (Held S) (OpenFault × L)) (r : Result Summary AuditFault) → IfOk opened Found
+      → MatchResult opened (λ conn. IfOk r (λ s. (left : S) × IsAudited g conn left s × LeavesCommitted g conn left)) (λ e. IsErrAnd r (λ f. fault_in f ≡ e.0))
+      → IfOk r (λ s. (conn : Held S) × (left : S) × Found conn × IsAudited g conn left s × LeavesCommitted g conn left)
+  audited_ok (Ok conn) (Ok s) found it = (conn, it.0, found, it.1, it.2)
+  audited_ok (Ok conn) (Err f) found it = tt
+  audited_ok (Err e) (Ok s) found is = absurd is
+  audited_ok (Err e) (Err f) found is = tt
+
+  pub audited_err : (opened : Result (Held S) (OpenFault × L)) (r : Result Summary AuditFault) → IfOk opened Found → IfErr opened (λ e. is_refusal e.0 ≡ false)
+      → MatchResult opened (λ conn. IfOk r (λ s. (left : S) × IsAudited g conn left s × LeavesCommitted g conn left)) (λ e. IsErrAnd r (λ f. fault_in f ≡ e.0))
+      → IfOk opened (λ conn. IfErr r (λ f. is_refusal (fault_in f) ≡ true → (left : S) × WasRefused g (fault_in f) conn left × LeavesCommitted g conn left))
+      → IfErr r (λ f. is_refusal (fault_in f) ≡ true → (conn : Held S) × (left : S) × Found conn × WasRefused g (fault_in f) conn left × LeavesCommitted g conn left)
+  audited_err (Ok conn) (Ok s) found fine it none = tt
+  audited_err (Ok conn) (Err f) found fine it none = λ is. let left = none is in (conn, left.0, found, left.1, left.2)
+  audited_err (Err e) (Ok s) found fine it none = tt
+  audited_err (Err e) (Err f) found fine is none = λ refused. let other = ap is_refusal is in absurd (cc (refused, other, fine))
+
+-- the numbers of a book that was read
+module _ {B : Type 0} (Has : B → Summary → Type 0) where
+  pub numbered_ok : (read : Result B OpenFault) (r : Result Summary OpenFault) → MatchResult read (λ book. IsOkAnd r (Has book)) (λ fault. r ≡ Err fault) → (P : B → Type 0) → IfOk read P
+      → (Q : Summary → Type 0) → ((book : B) (s : Summary) → P book → Has book s → Q s) → IfOk r Q
+  numbered_ok (Ok book) (Ok s) has P it Q so = so book s it has
+  numbered_ok (Ok book) (Err f) has P it Q so = tt
+  numbered_ok (Err e) (Ok s) has P it Q so = absurd (cc has)
+  numbered_ok (Err e) (Err f) has P it Q so = tt
+
+  pub numbered_err : (read : Result B OpenFault) (r : Result Summary OpenFault) → MatchResult read (λ book. IsOkAnd r (Has book)) (λ fault. r ≡ Err fault) → (Q : OpenFault → Type 0) → IfErr read Q → IfErr r Q
+  numbered_err (Ok book) (Ok s) has Q it = tt
+  numbered_err (Ok book) (Err f) has Q it = absurd has
+  numbered_err (Err e) r has Q it = subst (λ q. IfErr q Q) (sym has) it

@@ -1,6 +1,6 @@
 //! The audit of a book, which changes nothing in its store.
 
-ghost use Rattle.std.specs.Prelude.{◌≡◌, IfErr, IfOk, IfSome, None, true};
+ghost use Rattle.std.specs.Prelude.{◌≡◌, Err, IfErr, IfOk, IfSome, IsErrAnd, IsOkAnd, MatchResult, None, true};
 ghost use Rattle.sqlite.specs.Files.{file_state, over_files};
 ghost use Rattle.sqlite.specs.Held.{Held};
 ghost use Rattle.sqlite.specs.Start.{FindsIn};
@@ -15,6 +15,7 @@ ghost use Rattle.bsp_store.specs.Files.{StoreFrom};
 ghost use Rattle.bsp_store.specs.Auditing.{HasNone, IsAudited, IsCounted, IsSummaryOf, ShowsNumber, WasRefused, fault_in};
 
 use crate::missing_log::MissingLog;
+use crate::opening::files_at;
 use bsp_book::ListBook;
 use bsp_rows::Day;
 use bsp_store_damage::{Damage, find_damage};
@@ -74,6 +75,39 @@ fn summary_of(list: &ListBook) -> Summary
     }
 }
 
+/// A book in memory, with the numbers of its rows.
+trait Numbered {
+    ghost use Rattle.bsp_store.specs.declared.audit.Summary.{Summary as Numbers};
+
+    ghost has: { Self → Numbers → Type 0 };
+
+    fn summary(&self) -> Summary
+        ensures { has self.now result };
+}
+
+impl Numbered for ListBook {
+    ghost use Rattle.std.specs.Prelude.{None};
+    ghost use Rattle.bsp_rows.specs.Rows.{Rows};
+    ghost use Rattle.bsp_book.specs.Listed.{Holds as ListHolds};
+    ghost use Rattle.bsp_store.specs.Auditing.{IsSummaryOf};
+
+    ghost has = { λ list numbers. (rows : Rows) → ListHolds list rows None → IsSummaryOf rows numbers };
+
+    fn summary(&self) -> Summary {
+        summary_of(self)
+    }
+}
+
+/// The numbers of a book that was read, if it was.
+fn summary_in<B: Numbered + Drop>(read: Result<B, OpenFault>) -> Result<Summary, OpenFault>
+    ensures { MatchResult read (λ book. IsOkAnd result (B.has book)) (λ fault. result ≡ Err fault) }
+{
+    match read {
+        Ok(book) => Ok(book.summary()),
+        Err(fault) => Err(fault),
+    }
+}
+
 /// Reads all rows of a store, tests that they are a sound book's, and counts them.
 fn counted<S: Alter>(alloc: Global, conn: &mut Connection<S>) -> Result<Summary, OpenFault>
     ensures ok { IfOk result (λ summary. IsOrdered S.Store conn.old → IsCounted S.Store conn.old conn.new summary) }
@@ -83,8 +117,8 @@ fn counted<S: Alter>(alloc: Global, conn: &mut Connection<S>) -> Result<Summary,
     if !is_ours(conn.schema()) {
         return Err(refusal(conn));
     }
-    let list = kept_list(alloc, conn)?;
-    Ok(summary_of(&list))
+    let read = kept_list(alloc, conn);
+    summary_in(read)
 }
 
 /// The version in the first row of `meta`.
@@ -166,6 +200,27 @@ fn audited_alone<S: Alter + Drop>(
     found
 }
 
+/// Audits the book of a connection that was just opened, if it was. What is left of the files is dropped after the log
+/// that their opening made is taken away.
+fn audited_opened<S: Alter + Drop, L: Drop>(
+    rt: &HostRuntime,
+    opened: Result<Connection<S>, (OpenFault, Option<L>)>,
+    log: &MissingLog,
+) -> Result<Summary, AuditFault>
+    ensures ok { MatchResult opened (λ conn. IfOk result (λ summary. (left : S) × IsAudited S.Store conn left summary × LeavesCommitted S.Store conn left)) (λ e. IsErrAnd result (λ fault. fault_in fault ≡ e.0)) }
+    ensures refused { IfOk opened (λ conn. IfErr result (λ e. is_refusal (fault_in e) ≡ true → (left : S) × WasRefused S.Store (fault_in e) conn left × LeavesCommitted S.Store conn left)) }
+{
+    match opened {
+        Ok(conn) => audited_alone(rt, conn, log),
+        Err((fault, left)) => {
+            if left.is_some() {
+                log.remove(rt);
+            }
+            Err(AuditFault::Failed(fault))
+        }
+    }
+}
+
 /// Audits the book in the file at a path, with its log beside it. It changes nothing in them, and leaves no log where there
 /// was none. A file that is not there is not made; an empty one is made a database without tables.
 ///
@@ -181,13 +236,6 @@ pub fn audit_at<T: Start>(rt: &HostRuntime, path: &str, start: T) -> Result<Summ
         Ok(log) => log,
         Err(fault) => return Err(AuditFault::Failed(fault)),
     };
-    match Connection::open_from(rt, path, false, start) {
-        Ok(conn) => audited_alone(rt, conn, &log),
-        Err((error, left)) => {
-            if left.is_some() {
-                log.remove(rt);
-            }
-            Err(AuditFault::Failed(OpenFault::from(error)))
-        }
-    }
+    let opened = files_at(rt, path, start);
+    audited_opened(rt, opened, &log)
 }

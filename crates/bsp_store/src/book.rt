@@ -46,6 +46,13 @@ fn is_room(error: &Error) -> bool
     )
 }
 
+/// The second of two values. The first is dropped.
+fn second_of<A: Drop, B>(_first: A, second: B) -> B
+    ensures { result ≡ second }
+{
+    second
+}
+
 /// What the types of an item say of it, under the key of its number.
 fn formed_under_key(item: &Item)
     requires { HasNumberKey item.now }
@@ -90,7 +97,8 @@ impl<S: Alter> SqlBook<S> {
     pub fn release(self) -> Connection<S>
         ensures { result ≡ self.conn }
     {
-        self.conn
+        let SqlBook { list, conn, .. } = self;
+        second_of(list, conn)
     }
 
     /// Gives up the open transaction after an error of the store. Where the cause was room and the store can still be

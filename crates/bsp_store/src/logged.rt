@@ -1,9 +1,10 @@
 //! A store with a log beside its main file.
 
-use sqlite::{Alter, FileFrom, FileStore, Start};
+use sqlite::{FileFrom, FileStore, Start};
+use sqlite_trees::store::Store;
 
 /// A store whose log can be copied into its main file.
-pub(crate) trait Logged: Alter {
+pub(crate) trait Logged: Store {
     ghost use Rattle.std.specs.Prelude.{◌≡◌, IsTrue};
     ghost use Rattle.sqlite_trees.specs.View.{IsQuiet};
 

@@ -25,7 +25,7 @@ use bsp_store_damage::{Damage, find_damage};
 use bsp_store_migration::{OldVersion, again_ordered, migrated_list, old_version, open_ordered};
 use bsp_store_open::{OpenFault, again, empty_list, is_bare, is_ours, kept_list, refusal};
 use bsp_store_save::make_book;
-use sqlite::{Alter, Connection, Error, ErrorCode, FileFrom, FileStore, MemStore, Start};
+use sqlite::{Alter, Connection, Error, ErrorCode, FileFrom, FileStore, Leftover, MemStore, Start};
 use sqlite_trees::store::Store;
 use std::alloc::Global;
 
@@ -130,7 +130,7 @@ fn opened<S: Alter + Drop>(alloc: Global, conn: Connection<S>) -> Result<SqlBook
 }
 
 /// Opens a connection again over its own store, after the log is copied into the main file.
-fn settled<S: Logged + Drop>(
+fn settled<S: Alter + Logged + Drop>(
     alloc: Global,
     conn: Connection<S>,
 ) -> Result<Connection<S>, (OpenFault, S)>
@@ -166,7 +166,7 @@ fn without_store<S: Alter + Drop>(
 }
 
 /// Opens the book that a store keeps, after its log is copied into its main file.
-fn settled_book<S: Logged + Drop>(
+fn settled_book<S: Alter + Logged + Drop>(
     alloc: Global,
     conn: Connection<S>,
 ) -> Result<SqlBook<S>, (OpenFault, S)>
@@ -176,6 +176,35 @@ fn settled_book<S: Logged + Drop>(
 {
     let conn = settled(alloc, conn)?;
     opened(alloc, conn)
+}
+
+/// Opens the book of a connection that was just opened, if it was. What is left of a store is dropped.
+fn opened_book<S: Alter + Logged + Drop, L: Drop>(
+    alloc: Global,
+    opened: Result<Connection<S>, (OpenFault, L)>,
+) -> Result<SqlBook<S>, OpenFault>
+    ensures ok { MatchResult opened (λ conn. IfOk result (Adopts S.Store conn)) (λ e. result ≡ Err e.0) }
+    ensures refused { IfOk opened (λ conn. IfErr result (λ fault. is_refusal fault ≡ true → (left : S) × Refuses S.Store fault conn left)) }
+{
+    match opened {
+        Ok(conn) => without_store(settled_book(alloc, conn)),
+        Err((fault, _)) => Err(fault),
+    }
+}
+
+/// Opens the file at a path, with its log beside it. What is left of the files comes with a fault.
+pub(crate) fn files_at<T: Start>(
+    rt: &HostRuntime,
+    path: &str,
+    start: T,
+) -> Result<Connection<FileStore<FileFrom<T>>>, (OpenFault, Option<Leftover<FileFrom<T>>>)>
+    ensures found { IfOk result (λ conn. HasCleanDisk (file_state conn) → FindsIn (image_at T.Start) (file_state conn)) }
+    ensures refused { IfErr result (λ e. is_refusal e.0 ≡ false) }
+{
+    match Connection::open_from(rt, path, false, start) {
+        Ok(conn) => Ok(conn),
+        Err((error, left)) => Err((OpenFault::from(error), left)),
+    }
 }
 
 impl<S: Alter + Drop> SqlBook<S> {
@@ -238,17 +267,20 @@ impl<T: Start> SqlBook<FileStore<FileFrom<T>>> {
         ensures ok { IfOk result (λ book. (conn : _) × (HasCleanDisk (file_state conn) → FindsIn (image_at T.Start) (file_state conn)) × Adopts over_files conn book) }
         ensures refused { IfRefused result (λ fault conn left. (HasCleanDisk (file_state conn) → FindsIn (image_at T.Start) (file_state conn)) × Refuses over_files fault conn left) }
     {
-        let conn = match Connection::open_from(rt, path, false, start) {
-            Ok(conn) => conn,
-            Err((error, _)) => return Err(OpenFault::from(error)),
-        };
-        without_store(settled_book(rt.alloc(), conn))
+        let opened = files_at(rt, path, start);
+        opened_book(rt.alloc(), opened)
     }
 }
 
-/// What damages the book of a connection, which is then given up.
-fn damage_of<S: Alter + Drop>(alloc: Global, mut conn: Connection<S>) -> Result<Damage, OpenFault> {
-    find_damage(alloc, &mut conn)
+/// What damages the book of a connection that was just opened, which is then given up.
+fn damage_of<S: Alter + Drop, L: Drop>(
+    alloc: Global,
+    opened: Result<Connection<S>, (OpenFault, L)>,
+) -> Result<Damage, OpenFault> {
+    match opened {
+        Ok(mut conn) => find_damage(alloc, &mut conn),
+        Err((fault, _)) => Err(fault),
+    }
 }
 
 /// What damages the book in the file at a path, where its opening is refused as damaged. It opens the file once more, and
@@ -258,8 +290,6 @@ fn damage_of<S: Alter + Drop>(alloc: Global, mut conn: Connection<S>) -> Result<
 ///
 /// Those of an opening.
 pub fn damage_at<T: Start>(rt: &HostRuntime, path: &str, start: T) -> Result<Damage, OpenFault> {
-    match Connection::open_from(rt, path, false, start) {
-        Ok(conn) => damage_of(rt.alloc(), conn),
-        Err((error, _)) => Err(OpenFault::from(error)),
-    }
+    let opened = files_at(rt, path, start);
+    damage_of(rt.alloc(), opened)
 }

@@ -6,6 +6,7 @@ pub mod AirlineMap
 pub mod Remaining
 pub mod PutLemmas
 pub mod CloseLemmas
+pub mod GivenLemmas
 pub mod TableLemmas
 pub mod PlanReads
 pub mod Publishing

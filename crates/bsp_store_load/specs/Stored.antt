@@ -1,5 +1,5 @@
 -- The rows of the plan's tables, and what tables in memory are as a commit leaves them.
-use Rattle.std.specs.Prelude.{◌≡◌, ◌<◌, ◌^◌, ℕ, List, length, map, IfSome, IsOk, IsTrue, Some}
+use Rattle.std.specs.Prelude.{◌≡◌, ◌<◌, ◌^◌, ℕ, Bool, true, false, List, length, map, IfSome, IsOk, IsTrue, None, Option, Some, Result, Ok, Err}
 use Rattle.std.specs.FinMap.{FinMap, entries}
 use Rattle.std.specs.List.{AllByRecursion}
 use Rattle.std.specs.Ordering.{nat_cmp}
@@ -22,6 +22,12 @@ pub record AreCommitted (tables : Tables) : Type 0 where
   pub committed : committed_rows tables ≡ rows_of tables
   pub derived : IsDerived tables
   pub was_derived : WasDerived tables
+
+-- a value that was made, where it was made whole
+abbrev pub given_whole : {T E : Type 0} → Result Bool E → T → Result (Option T) E
+given_whole (Ok true) x = Ok (Some x)
+given_whole (Ok false) x = Ok None
+given_whole (Err e) x = Err e
 
 -- ---- the plan
 

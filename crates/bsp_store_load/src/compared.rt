@@ -8,7 +8,7 @@ ghost use Rattle.bsp_rows.specs.SoundPlan.{IsSoundPlan};
 ghost use Rattle.bsp_rows.specs.Rows.{Rows, no_rows};
 ghost use Rattle.bsp_memory_rows.specs.Tables.{IsDerived, rows_of};
 ghost use Rattle.bsp_store_load.specs.Formed.{AreWhole, IsRegisteredAirline, OnEach};
-ghost use Rattle.bsp_store_load.specs.Stored.{AreRowsOfPlan, IsFormedPlan};
+ghost use Rattle.bsp_store_load.specs.Stored.{AreRowsOfPlan, IsFormedPlan, given_whole};
 
 use crate::airline_map::are_airlines;
 use crate::airlines::{airlines_in, put_tokens};
@@ -71,6 +71,17 @@ fn put_whole_plan(alloc: Global, tables: &mut Tables, rows: &PlanRows) -> Result
     Ok(are_rows_of_plan(alloc, rows, tables)?)
 }
 
+/// A value that was made, where it was made whole.
+fn if_whole<T: Drop>(done: Result<bool, NoRoom>, value: T) -> Result<Option<T>, NoRoom>
+    ensures { result ≡ given_whole done value }
+{
+    match done {
+        Ok(true) => Ok(Some(value)),
+        Ok(false) => Ok(None),
+        Err(fault) => Err(fault),
+    }
+}
+
 /// Tables in memory with the plan and the tokens of airlines whose rows these are, and nothing else; none where they are
 /// the rows of no plan.
 ///
@@ -85,10 +96,7 @@ pub fn plan_tables(alloc: Global, rows: &PlanRows) -> Result<Option<Tables>, NoR
         → IsSomeAnd found (λ tables. rows_of tables ≡ record no_rows { published = p; airlines = tokens })) }
 {
     let mut tables = Tables::new(alloc);
-    if put_whole_plan(alloc, &mut tables, rows)? {
-        formed_plan(tables.plan());
-        Ok(Some(tables))
-    } else {
-        Ok(None)
-    }
+    let done = put_whole_plan(alloc, &mut tables, rows);
+    formed_plan(tables.plan());
+    if_whole(done, tables)
 }

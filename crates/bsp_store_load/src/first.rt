@@ -1,11 +1,20 @@
 //! Whether tables in memory are those of a new book.
 
 ghost use Rattle.std.specs.Prelude.{◌≡◌, ◌↔◌, [], None, IsTrue};
+ghost use Rattle.bsp_rows.specs.Published.{opening};
 ghost use Rattle.bsp_store_load.specs.Nothing.{HasNoCallers, HasNoSales, HasNothing};
 
 use bsp_memory_rows::Tables;
 use bsp_rows::{Day, Plan};
 use std::alloc::Global;
+
+/// The business day before anything is published.
+fn first_day(alloc: Global) -> Day
+    ensures { result ≡ opening.day }
+{
+    let plan = Plan::empty(alloc);
+    plan.day()
+}
 
 /// Whether nothing is published, no period is closed, and this is the business day.
 fn is_first_plan(plan: &Plan, day: Day) -> bool
@@ -40,8 +49,5 @@ fn has_no_sales(tables: &Tables) -> bool
 pub fn has_nothing(alloc: Global, tables: &Tables) -> bool
     ensures { IsTrue result ↔ HasNothing tables.now }
 {
-    let first = Tables::new(alloc);
-    is_first_plan(tables.plan(), first.plan().day())
-        && has_no_callers(tables)
-        && has_no_sales(tables)
+    is_first_plan(tables.plan(), first_day(alloc)) && has_no_callers(tables) && has_no_sales(tables)
 }

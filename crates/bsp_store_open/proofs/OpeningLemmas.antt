@@ -1,6 +1,6 @@
 -- From the rows that an opening read to what the tables keep.
 use Rattle.std.proofs.Common.{◌≡◌, ℕ, List, [], ◌∷◌, length, map, None, false, Result, Ok, Err, IfOk, OnOk, IsTrue, IsPermutation, inl, refl, sym, ap, subst, ◌∙◌, arith}
-use Rattle.std.specs.Prelude.{IfErr, IsErrAnd, true}
+use Rattle.std.specs.Prelude.{IfErr, IsErrAnd, IsOkAnd, MatchResult, true}
 use Rattle.std.specs.List.{AllByRecursion}
 use Rattle.std.proofs.lemmas.List.Sorted.{IsPermutation-sym}
 use Rattle.sqlite_value.specs.Order.{Row, column}
@@ -32,7 +32,7 @@ use Rattle.bsp_store_open.specs.Faults.{is_refusal}
 use Rattle.bsp_store_open.specs.declared.fault.OpenFault.{OpenFault}
 use Rattle.bsp_store_open.specs.declared.fault.OpenFault.TheVariants.{NoRoom}
 use Rattle.bsp_store_open.specs.Loaded.{IsAllLoaded}
-use Rattle.bsp_store_open.specs.Opening.{Finds, HasNoBook, IsNoBook, IsOfOther, IsOfVersion, IsOrdered, IsRead, KeepsAtRest, LeavesCommitted, Misses, Reopens, Reports, SparesStore}
+use Rattle.bsp_store_open.specs.Opening.{Finds, HasNoBook, IsAtRest, IsNoBook, IsOfOther, IsOfVersion, IsOrdered, IsRead, KeepsAtRest, LeavesCommitted, Misses, Reopens, Reports, SparesStore}
 use Rattle.bsp_store_load.proofs.FormedContent.{formed_content}
 use Rattle.bsp_store_load.proofs.Held.{trees_of}
 use Rattle.bsp_store_load.proofs.TallyLemmas.{content_is}
@@ -56,6 +56,36 @@ if_err P Q (Err e) it so = so e it
 pub if_read : {X E : Type 0} (P Q : X → Type 0) (r : Result X E) → IfOk r P → ((x : X) → P x → Q x) → IfOk r Q
 if_read P Q (Ok x) it so = so x it
 if_read P Q (Err e) it so = tt
+
+pub on_both : {X E : Type 0} (P Q : Type 0) (r : Result X E) → OnOk r P → OnOk r Q → OnOk r (P × Q)
+on_both P Q (Ok x) p q = (p, q)
+on_both P Q (Err e) p q = tt
+
+pub if_both : {X E : Type 0} (P Q : E → Type 0) (r : Result X E) → IfErr r P → IfErr r Q → IfErr r (λ e. P e × Q e)
+if_both P Q (Ok x) p q = tt
+if_both P Q (Err e) p q = (p, q)
+
+-- a value that is given unless a test found a fault
+module _ {U V E : Type 0} (x : V) where
+  pub given_ok : (test : Result U E) (r : Result V E) → MatchResult test (λ u. r ≡ Ok x) (λ e. r ≡ Err e) → (P : V → Type 0) → OnOk test (P x) → IfOk r P
+  given_ok (Ok u) r is P it = subst (λ q. IfOk q P) (sym is) it
+  given_ok (Err e) r is P it = subst (λ q. IfOk q P) (sym is) tt
+
+  pub given_err : (test : Result U E) (r : Result V E) → MatchResult test (λ u. r ≡ Ok x) (λ e. r ≡ Err e) → (Q : E → Type 0) → IfErr test Q → IfErr r Q
+  given_err (Ok u) r is Q it = subst (λ q. IfErr q Q) (sym is) tt
+  given_err (Err e) r is Q it = subst (λ q. IfErr q Q) (sym is) it
+
+-- one that is made of it there
+module _ {U V E : Type 0} (A : V → Type 0) where
+  pub made_ok : (test : Result U E) (r : Result V E) → MatchResult test (λ u. IsOkAnd r A) (λ e. r ≡ Err e) → (F : Type 0) → OnOk test F → (P : V → Type 0) → ((x : V) → A x → F → P x) → IfOk r P
+  made_ok (Ok u) (Ok x) is F it P so = so x is it
+  made_ok (Ok u) (Err e) is F it P so = tt
+  made_ok (Err e) r is F it P so = subst (λ q. IfOk q P) (sym is) tt
+
+  pub made_err : (test : Result U E) (r : Result V E) → MatchResult test (λ u. IsOkAnd r A) (λ e. r ≡ Err e) → (Q : E → Type 0) → IfErr test Q → IfErr r Q
+  made_err (Ok u) (Ok x) is Q it = tt
+  made_err (Ok u) (Err e) is Q it = absurd is
+  made_err (Err e) r is Q it = subst (λ q. IfErr q Q) (sym is) it
 
 module _ {S : Type 0} (g : Ghosts S) where
   pub asked : (old new : Held S) (part : Part Content) (rows : List Row) → old.schema ≡ our_schema → Reads g old new
@@ -178,17 +208,16 @@ module _ {S : Type 0} (g : Ghosts S) (old new : Held S) (order : IsOrdered g old
 
 -- the tables have the rows of tables in memory, which become a book
 module _ {S : Type 0} (g : Ghosts S) (old new : Held S) (order : IsOrdered g old) (tables : Tables) (kept : AreCommitted tables) (finds : Finds g old new (λ trees. IsAllLoaded trees tables)) where
-  pub tables_read : (list : ListBook) (rows : Rows) → list.tables ≡ tables → ListHolds list (rows_of tables) None → rows_of tables ≡ rows → Sound rows → AreFormed (rows_of tables) → IsLive (state g new) → new.in_transaction ≡ false
-      → (IsTrue (state g new).is_open → (state g new).now ≡ (state g new).committed) → ((db : Trees) → IsTrue (state g new).is_open → (state g new).may_leave db → db ≡ (state g new).committed.trees)
+  pub tables_read : (list : ListBook) (rows : Rows) → list.tables ≡ tables → ListHolds list (rows_of tables) None → rows_of tables ≡ rows → Sound rows → AreFormed (rows_of tables) → IsAtRest g new → ((db : Trees) → IsTrue (state g new).is_open → (state g new).may_leave db → db ≡ (state g new).committed.trees)
       → IsRead g old new list rows
-  tables_read list rows same holds is sound formed live outside settled leaves =
+  tables_read list rows same holds is sound formed rest leaves =
       let content : IsContentOf rows (content_now tables) = subst (λ r. IsContentOf r (content_now tables)) is (content_is (rows_of tables) _ kept.derived.totals) in
       let has = weaker g old new _ _ (λ trees loaded. loaded.rows) finds in
       record {
         listed = subst (λ r. ListHolds list r None) is holds;
         sound = sound;
         formed = subst AreFormed is formed;
-        kept = at_rest g old new order (content_now tables) has rows content live outside settled leaves;
+        kept = at_rest g old new order (content_now tables) has rows content rest.live rest.outside rest.settled leaves;
         earlier = has.read.earlier;
         found = found_of g old new order (content_now tables) has rows content;
         only = λ clean other its formed_too kept_too. sym ((finds.found clean).only other kept_too.0 its kept_too.1 (formed_content other kept_too.0 formed_too kept_too.1) kept_too.2) ∙ is;

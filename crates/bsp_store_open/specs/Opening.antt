@@ -1,5 +1,5 @@
 -- What an opening finds in a store, and what it leaves.
-use Rattle.std.specs.Prelude.{◌≡◌, ◌⊎◌, ⊤, ℕ, ℤ, pos, true, List, [], ◌∷◌, codes, map, IfErr, IfOk, IsPermutation, MatchResult, None, Result, Vec}
+use Rattle.std.specs.Prelude.{◌≡◌, ◌⊎◌, ⊤, ℕ, ℤ, pos, false, true, IsTrue, List, [], ◌∷◌, codes, map, IfErr, IfOk, IsPermutation, MatchResult, None, Result, Vec}
 use Rattle.std.specs.Global.{Global}
 use Rattle.sqlite_value.specs.Order.{Row, column}
 use Rattle.sqlite_value.specs.declared.value.Value.TheVariants.{Int}
@@ -106,6 +106,12 @@ module _ {S : Type 0} (g : Ghosts S) where
   -- what was read shows that there is no book of this version
   abbrev pub HasNoBook : OpenFault → Held S → Held S → Type 0
   HasNoBook fault old new = HasCleanDisk (state g new) → IsNoBook fault (state g old).now
+
+  -- no transaction of the connection is open, and what it shows is committed
+  pub record IsAtRest (h : Held S) : Type 0 where
+    pub outside : h.in_transaction ≡ false
+    pub settled : IsTrue (state g h).is_open → (state g h).now ≡ (state g h).committed
+    pub live : IsLive (state g h)
 
   -- no transaction of the connection is open, and its tables have these rows
   abbrev pub KeepsAtRest : Held S → Rows → Type 0

@@ -8,6 +8,7 @@
 #![tactic(auto)]
 
 mod fault;
+mod given;
 mod opening;
 mod reading;
 mod tables;

@@ -1,14 +1,13 @@
 //! A store read as a book in memory, and a connection opened again.
 
-ghost use Rattle.std.specs.Prelude.{◌≡◌, ◌⊎◌, true, false, IfErr, IfOk, None, OnOk, IsTrue};
-ghost use Rattle.sqlite.specs.Held.{state};
-ghost use Rattle.sqlite.specs.State.{IsLive};
+ghost use Rattle.std.specs.Prelude.{◌≡◌, ◌⊎◌, true, false, Err, IfErr, IfOk, IsOkAnd, MatchResult, None, OnOk};
+ghost use Rattle.bsp_book.specs.Listed.{AreCommitted as AreListed, meaning as listed};
 ghost use Rattle.bsp_book.specs.Rows.{no_rows};
 ghost use Rattle.bsp_book.specs.Sound.{Sound};
 ghost use Rattle.bsp_store_load.specs.MemoryRowsTables.{rows_of};
 ghost use Rattle.bsp_store_load.specs.Kept.{Spares};
 ghost use Rattle.bsp_store_open.specs.Faults.{is_refusal};
-ghost use Rattle.bsp_store_open.specs.Opening.{HasNoBook, IsOrdered, IsRead, LeavesCommitted, Reopens};
+ghost use Rattle.bsp_store_open.specs.Opening.{HasNoBook, IsAtRest, IsOrdered, IsRead, LeavesCommitted, Reopens};
 
 use crate::fault::OpenFault;
 use crate::tables::kept_tables;
@@ -20,9 +19,7 @@ use std::alloc::Global;
 
 /// Refuses a connection on which a transaction is open.
 fn expect_rest<S: Alter>(conn: &Connection<S>) -> Result<(), OpenFault>
-    ensures outside { OnOk result (conn.now.in_transaction ≡ false) }
-    ensures settled { OnOk result (IsTrue (state S.Store conn.now).is_open → (state S.Store conn.now).now ≡ (state S.Store conn.now).committed) }
-    ensures live { IsLive (state S.Store conn.now) }
+    ensures rest { OnOk result (IsAtRest S.Store conn.now) }
     ensures refused { IfErr result (λ fault. is_refusal fault ≡ false) }
 {
     let _schema = conn.schema();
@@ -48,6 +45,35 @@ pub fn expect_sound(alloc: Global, tables: &Tables) -> Result<(), OpenFault>
     Ok(())
 }
 
+/// Refuses a connection on which a transaction is open, and tables in memory whose rows are not sound.
+fn expect_kept<S: Alter>(
+    alloc: Global,
+    conn: &Connection<S>,
+    tables: &Tables,
+) -> Result<(), OpenFault>
+    ensures rest { OnOk result (IsAtRest S.Store conn.now) }
+    ensures sound { OnOk result (Sound (rows_of tables.now)) }
+    ensures refused { IfErr result (λ fault. is_refusal fault ≡ true → (fault ≡ OpenFault.Damaged) × ¬ Sound (rows_of tables.now)) }
+{
+    expect_rest(conn)?;
+    expect_sound(alloc, tables)
+}
+
+/// A book in memory over tables, unless a fault was found.
+fn list_over(
+    alloc: Global,
+    tested: Result<(), OpenFault>,
+    tables: Tables,
+) -> Result<ListBook, OpenFault>
+    requires { OnOk tested (AreListed tables) }
+    ensures { MatchResult tested (λ _. IsOkAnd result (λ list. (list.tables ≡ tables) × listed.holds list (rows_of tables) None)) (λ fault. result ≡ Err fault) }
+{
+    match tested {
+        Ok(()) => Ok(ListBook::over(alloc, tables)),
+        Err(fault) => Err(fault),
+    }
+}
+
 /// The book in memory that the tables of a store keep.
 ///
 /// # Errors
@@ -60,10 +86,13 @@ pub fn kept_list<S: Alter>(alloc: Global, conn: &mut Connection<S>) -> Result<Li
     ensures refused { IfErr result (λ fault. is_refusal fault ≡ true → HasNoBook S.Store fault conn.old conn.new) }
     ensures spares { Spares S.Store conn.old conn.new }
 {
-    let tables = kept_tables(alloc, conn)?;
-    expect_rest(conn)?;
-    expect_sound(alloc, &tables)?;
-    Ok(ListBook::over(alloc, tables))
+    match kept_tables(alloc, conn) {
+        Ok(tables) => {
+            let tested = expect_kept(alloc, conn, &tables);
+            list_over(alloc, tested, tables)
+        }
+        Err(fault) => Err(fault),
+    }
 }
 
 /// Refuses tables in memory that have a row, or a plan.
@@ -76,6 +105,19 @@ fn expect_none(alloc: Global, tables: &Tables) -> Result<(), OpenFault>
     Ok(())
 }
 
+/// Refuses a connection on which a transaction is open, and tables in memory that have a row, or a plan.
+fn expect_empty<S: Alter>(
+    alloc: Global,
+    conn: &Connection<S>,
+    tables: &Tables,
+) -> Result<(), OpenFault>
+    ensures rest { OnOk result (IsAtRest S.Store conn.now) }
+    ensures none { OnOk result (rows_of tables.now ≡ no_rows) }
+{
+    expect_rest(conn)?;
+    expect_none(alloc, tables)
+}
+
 /// An empty book in memory, which the tables of a store keep.
 ///
 /// # Errors
@@ -85,10 +127,13 @@ pub fn empty_list<S: Alter>(alloc: Global, conn: &mut Connection<S>) -> Result<L
     ensures read { IfOk result (λ list. IsOrdered S.Store conn.old → IsRead S.Store conn.old conn.new list no_rows) }
     ensures spares { Spares S.Store conn.old conn.new }
 {
-    let tables = kept_tables(alloc, conn)?;
-    expect_rest(conn)?;
-    expect_none(alloc, &tables)?;
-    Ok(ListBook::over(alloc, tables))
+    match kept_tables(alloc, conn) {
+        Ok(tables) => {
+            let tested = expect_empty(alloc, conn, &tables);
+            list_over(alloc, tested, tables)
+        }
+        Err(fault) => Err(fault),
+    }
 }
 
 /// Opens a connection again over its own store.

@@ -15,6 +15,7 @@ ghost use Rattle.bsp_store_open.specs.Loaded.{AreBeside, AreCallersLoaded, AreIt
 ghost use Rattle.bsp_store_open.specs.Opening.{Finds, HasNoBook, Misses};
 
 use crate::fault::OpenFault;
+use crate::given::unless_fault;
 use crate::reading::{expect_tables, plan_rows, tallies, tally_taxes};
 use bsp_store_load::{
     Agents, ItemKey, ItemTax, Ranges, ReportedDocument, StoredItems, StoredMemos, StoredSeconds,
@@ -245,6 +246,24 @@ fn load_rest<S: Alter>(
     expect_sums(conn, tables)
 }
 
+/// Puts all rows but the plan's into memory, refuses other tallies than they add up to, and keeps nothing to undo.
+fn load_all<S: Alter>(
+    alloc: Global,
+    conn: &mut Connection<S>,
+    tables: &mut Tables,
+) -> Result<(), OpenFault>
+    ensures committed { OnOk result (AreWhole tables.old → AreCommitted tables.new) }
+    ensures formed { OnOk result (AreWhole tables.old → AreFormed (rows_of tables.new)) }
+    ensures found { OnOk result (AreWhole tables.old → Finds S.Store conn.old conn.new (λ trees. IsPlanned trees (rows_of tables.old) → IsAllLoaded trees tables.new)) }
+    ensures missed { IfErr result (λ fault. is_refusal fault ≡ true → AreWhole tables.old → Misses S.Store conn.old conn.new (λ trees. IsPlanned trees (rows_of tables.old) → KeepsNone trees)) }
+    ensures fault { IfErr result (λ fault. is_refusal fault ≡ true → fault ≡ OpenFault.Damaged) }
+    ensures spares { Spares S.Store conn.old conn.new }
+{
+    load_rest(alloc, conn, tables)?;
+    tables.commit();
+    Ok(())
+}
+
 /// The tables in memory that the tables of a store keep. A transaction may be open, and their rows need not be sound.
 ///
 /// # Errors
@@ -257,8 +276,11 @@ pub fn kept_tables<S: Alter>(alloc: Global, conn: &mut Connection<S>) -> Result<
     ensures refused { IfErr result (λ fault. is_refusal fault ≡ true → HasNoBook S.Store fault conn.old conn.new) }
     ensures spares { Spares S.Store conn.old conn.new }
 {
-    let mut tables = planned_tables(alloc, conn)?;
-    load_rest(alloc, conn, &mut tables)?;
-    tables.commit();
-    Ok(tables)
+    match planned_tables(alloc, conn) {
+        Ok(mut tables) => {
+            let loaded = load_all(alloc, conn, &mut tables);
+            unless_fault(loaded, tables)
+        }
+        Err(fault) => Err(fault),
+    }
 }

@@ -1,14 +1,15 @@
-use Rattle.std.proofs.Common.{[]}
-use Rattle.std.specs.Prelude.{codes}
-use Rattle.bsp_codes.specs.Codes.{all_codes, codes_of}
-use Rattle.bsp_codes.specs.Texts.{AddsLine}
-use Rattle.bsp_codes.proofs.TextLemmas.{taken_all, taken_more}
+use Rattle.std.proofs.Common.{length, ◌≤◌, ap, ◌∙◌, arith}
+use Rattle.std.specs.List.{flat_map}
+use Rattle.std.proofs.lemmas.List.{take_all}
+use Rattle.bsp_codes.specs.Table.{said_in}
+use Rattle.bsp_codes.specs.Texts.{said_line}
+use Rattle.bsp_codes.proofs.TableLemmas.{lines_of_parts}
 use Rattle.bsp_codes.proofs.texts.listing.Goals as goal
 
-pub loop-letter-preserved : goal.loop-letter-preserved
-loop-letter-preserved c =
-    taken_more AddsLine codes_of [] (codes "NTFEPKMDSHB") c.loop-letter.letter-index 0 c.loop-letter.text.items c.push_letter.new.text.items c.loop-letter-test.true c.loop-letter.invariant c.in_ok-push_letter.ensures
-
-pub returns : goal.returns
-unfolding all_codes
-returns c = taken_all AddsLine codes_of [] (codes "NTFEPKMDSHB") c.loop-letter.letter-index c.loop-letter.text.items c.loop-letter-test.false c.loop-letter.invariant
+pub returns-clause-lines : goal.returns-clause-lines
+returns-clause-lines c =
+    let past : length c.parts-rows-items.result ≤ c.loop-rows.rows-index = omega arith in
+    c.loop-rows.invariant.lines
+    ∙ ap (flat_map (λ rows. flat_map (λ row. said_line (said_in row)) rows.now)) (take_all c.loop-rows.rows-index c.parts-rows-items.result past)
+    ∙ lines_of_parts said_line said_in (λ rows. rows.now) c.parts-rows-items.result
+    ∙ ap (flat_map said_line) c.loop-rows.invariant.make

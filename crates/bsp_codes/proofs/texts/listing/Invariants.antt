@@ -1,9 +1,11 @@
-use Rattle.std.proofs.Common.{[], take}
-use Rattle.std.specs.Prelude.{codes}
-use Rattle.std.specs.List.{FoldsTo, flat_map}
-use Rattle.bsp_codes.specs.Codes.{codes_of}
-use Rattle.bsp_codes.specs.Texts.{AddsLine}
+use Rattle.std.proofs.Common.{◌≡◌, map, take}
+use Rattle.std.specs.List.{flat_map}
+use Rattle.bsp_codes.specs.Table.{said_in, table}
+use Rattle.bsp_codes.specs.Texts.{said_line}
 use Rattle.bsp_codes.proofs.texts.listing.Given as goal
 
-abbrev pub invariant-loop-letter : goal.invariant-loop-letter
-invariant-loop-letter l = FoldsTo AddsLine [] (flat_map codes_of (take l.letter-index (codes "NTFEPKMDSHB"))) l.text.items
+abbrev pub invariant-loop-rows : goal.invariant-loop-rows
+invariant-loop-rows l = record {
+  lines : l.text.items ≡ flat_map (λ rows. flat_map (λ row. said_line (said_in row)) rows.now) (take l.rows-index l.rows-items);
+  make : flat_map (λ rows. map said_in rows.now) l.rows-items ≡ table;
+}

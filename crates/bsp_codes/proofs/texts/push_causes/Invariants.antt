@@ -4,4 +4,4 @@ use Rattle.bsp_codes.specs.Texts.{cause_text}
 use Rattle.bsp_codes.proofs.texts.push_causes.Given as goal
 
 abbrev pub invariant-loop-cause : goal.invariant-loop-cause
-invariant-loop-cause l = l.text.items ≡ l.initial.text.items ++ flat_map cause_text (take l.cause-index l.causes)
+invariant-loop-cause l = l.text.items ≡ l.initial.text.items ++ flat_map (λ cause. cause_text cause.now) (take l.cause-index l.causes)

@@ -1,9 +1,16 @@
-use Rattle.bsp_store_open.proofs.OpeningLemmas.{if_err, if_read}
+use Rattle.sqlite.specs.Files.{file_state, over_files}
+use Rattle.sqlite.specs.Held.{Held}
+use Rattle.sqlite.specs.Start.{FindsIn}
+use Rattle.sqlite.specs.State.{HasCleanDisk}
+use Rattle.sqlite_wal.specs.Files.{image_at}
+use Rattle.bsp_store.specs.Files.{StoreFrom}
+use Rattle.bsp_store.proofs.AuditingLemmas.{audited_err, audited_ok}
 use Rattle.bsp_store.proofs.audit.audit_at.Goals as goal
 
-pub returns-in-Ok-open_from-clause-ok : goal.returns-in-Ok-open_from-clause-ok
-returns-in-Ok-open_from-clause-ok g c = if_read _ _ c.audited_alone.result c.audited_alone.ensures.ok (λ summary it. (c.in-Ok-open_from.conn, it.0, c.in-Ok-open_from.ensures.found, it.1, it.2))
+pub returns-clause-ok : goal.returns-clause-ok
+returns-clause-ok g c =
+    audited_ok over_files (λ (conn : Held (StoreFrom g.T.Start)). HasCleanDisk (file_state conn) → FindsIn (image_at g.T.Start) (file_state conn)) c.files_at-opened.result c.audited_opened.result c.files_at-opened.ensures.found c.audited_opened.ensures.ok
 
-pub returns-in-Ok-open_from-clause-refused : goal.returns-in-Ok-open_from-clause-refused
-returns-in-Ok-open_from-clause-refused g c =
-    if_err _ _ c.audited_alone.result c.audited_alone.ensures.refused (λ e none refused. let it = none refused in (c.in-Ok-open_from.conn, it.0, c.in-Ok-open_from.ensures.found, it.1, it.2))
+pub returns-clause-refused : goal.returns-clause-refused
+returns-clause-refused g c =
+    audited_err over_files (λ (conn : Held (StoreFrom g.T.Start)). HasCleanDisk (file_state conn) → FindsIn (image_at g.T.Start) (file_state conn)) c.files_at-opened.result c.audited_opened.result c.files_at-opened.ensures.found c.files_at-opened.ensures.refused c.audited_opened.ensures.ok c.audited_opened.ensures.refused

@@ -1,13 +1,32 @@
-use Rattle.std.proofs.Common.{◌≡◌, IsTrue, false, true, sym, ◌∙◌, rules}
+use Rattle.std.proofs.Common.{◌≡◌, IsTrue, None, false, true, sym, ◌∙◌, rules}
 use Rattle.std.proofs.lemmas.Bool.{both_ways}
+use Rattle.bsp_book.specs.Listed.{Holds as ListHolds}
+use Rattle.bsp_book.specs.declared.list.ListBook.{ListBook}
+use Rattle.bsp_rows.specs.Rows.{Rows}
+use Rattle.bsp_store_save.specs.MemoryRowsTables.{rows_of}
 use Rattle.bsp_store_open.specs.Faults.{is_refusal}
-use Rattle.bsp_store_open.proofs.OpeningLemmas.{passed_on}
-use Rattle.bsp_store.specs.Auditing.{HasNone}
-use Rattle.bsp_store.proofs.AuditingLemmas.{counted_rows}
+use Rattle.bsp_store_open.specs.Opening.{IsOrdered, IsRead}
+use Rattle.bsp_store_open.proofs.OpeningLemmas.{if_err}
+use Rattle.bsp_store.specs.Auditing.{HasNone, IsCounted, IsSummaryOf}
+use Rattle.bsp_store.specs.declared.audit.Summary.{Summary}
+use Rattle.bsp_store.proofs.AuditingLemmas.{counted_rows, numbered_err, numbered_ok}
 use Rattle.bsp_store.proofs.audit.counted.Goals as goal
 
+abbrev Has : ListBook → Summary → Type 0
+Has list s = (rows : Rows) → ListHolds list rows None → IsSummaryOf rows s
+
 pub returns-clause-ok : goal.returns-clause-ok
-returns-clause-ok g c = λ order. counted_rows g.S.Store c.args.conn.now c.kept_list.new.conn c.in_ok-list.list _ c.summary_of.result (c.in_ok-list.ensures.read order) c.summary_of.ensures
+returns-clause-ok g c =
+    let now = c.kept_list-read.new.conn in
+    numbered_ok Has c.kept_list-read.result c.summary_in.result c.summary_in.ensures (λ (list : ListBook). IsOrdered g.S.Store c.args.conn.now → IsRead g.S.Store c.args.conn.now now list (rows_of list.tables)) c.kept_list-read.ensures.read
+    (λ s. IsOrdered g.S.Store c.args.conn.now → IsCounted g.S.Store c.args.conn.now now s) (λ list s read counts order. counted_rows g.S.Store c.args.conn.now now list _ s (read order) counts)
+
+pub returns-clause-refused : goal.returns-clause-refused
+returns-clause-refused g c =
+    let yes : IsTrue c.is_ours.result = search rules in
+    let now = c.kept_list-read.new.conn in
+    numbered_err Has c.kept_list-read.result c.summary_in.result c.summary_in.ensures (λ fault. is_refusal fault ≡ true → HasNone g.S.Store fault c.args.conn.now now)
+    (if_err _ _ c.kept_list-read.result c.kept_list-read.ensures.refused (λ fault none refused. record { ours = none refused; others = λ clean other. absurd (other (sym c.schema.ensures.value ∙ c.is_ours.ensures.0 yes)) }))
 
 pub returns-then-not-is_ours-clause-refused : goal.returns-then-not-is_ours-clause-refused
 returns-then-not-is_ours-clause-refused g c = λ refused.
@@ -16,9 +35,3 @@ returns-then-not-is_ours-clause-refused g c = λ refused.
       ours = λ clean ours. absurd (both_ways _ no (c.is_ours.ensures.1 (c.schema.ensures.value ∙ ours)));
       others = λ clean other. (c.refusal.new.conn, clean, c.refusal.ensures.asked);
     }
-
-pub returns-in_err-list-clause-refused : goal.returns-in_err-list-clause-refused
-returns-in_err-list-clause-refused g c =
-    let yes : IsTrue c.is_ours.result = search rules in
-    passed_on (λ fault. is_refusal fault ≡ true → HasNone g.S.Store fault c.args.conn.now c.kept_list.new.conn) _ _ c.from_residual.ensures.1
-    (λ refused. record { ours = c.in_err-list.ensures.refused refused; others = λ clean other. absurd (other (sym c.schema.ensures.value ∙ c.is_ours.ensures.0 yes)) })

@@ -1,36 +1,40 @@
-use Rattle.std.proofs.Common.{◌≡◌, true, sym, subst, ◌∙◌}
+use Rattle.std.proofs.Common.{◌≡◌, true}
 use Rattle.bsp_store_load.specs.Formed.{AreFormed}
 use Rattle.bsp_store_load.specs.MemoryRowsTables.{rows_of}
+use Rattle.bsp_store_load.specs.Stored.{AreCommitted}
+use Rattle.bsp_store_load.specs.Tables.{Tables}
 use Rattle.bsp_store_open.specs.Faults.{is_refusal}
+use Rattle.bsp_store_open.specs.declared.fault.OpenFault.{OpenFault}
+use Rattle.bsp_store_open.specs.declared.fault.OpenFault.TheVariants.{Damaged}
 use Rattle.sqlite_trees.specs.Tree.{Trees}
-use Rattle.bsp_store_open.specs.Loaded.{IsPlanned, KeepsNone}
-use Rattle.bsp_store_open.specs.Opening.{HasNoBook, Misses}
-use Rattle.bsp_store_open.proofs.LoadedLemmas.{shows_none, still_loaded}
-use Rattle.bsp_store_open.proofs.OpeningLemmas.{both, missed_after, passed_on, weaker}
+use Rattle.bsp_store_open.specs.Loaded.{IsAllLoaded, IsPlanned, KeepsNone}
+use Rattle.bsp_store_open.specs.Opening.{Finds, HasNoBook, Misses}
+use Rattle.bsp_store_open.proofs.LoadedLemmas.{shows_none}
+use Rattle.bsp_store_open.proofs.OpeningLemmas.{both, given_err, given_ok, if_both, if_err, missed_after, on_ok, weaker}
 use Rattle.bsp_store_open.proofs.tables.kept_tables.Goals as goal
 
-pub returns-in_err-tables-clause-refused : goal.returns-in_err-tables-clause-refused
-returns-in_err-tables-clause-refused g c = passed_on (λ fault. is_refusal fault ≡ true → HasNoBook g.S.Store fault c.args.conn.now c.planned_tables.new.conn) _ _ c.from_residual.ensures.1 c.in_err-tables.ensures.refused
+pub returns-in-Ok-clause-committed : goal.returns-in-Ok-clause-committed
+returns-in-Ok-clause-committed g c =
+    given_ok c.load_all-loaded.new.tables c.load_all-loaded.result c.unless_fault.result c.unless_fault.ensures AreCommitted (on_ok _ _ c.load_all-loaded.result c.load_all-loaded.ensures.committed (λ so. so c.in-Ok.ensures.whole))
 
-pub returns-in_err-load_rest-clause-refused : goal.returns-in_err-load_rest-clause-refused
-returns-in_err-load_rest-clause-refused g c =
-    passed_on (λ fault. is_refusal fault ≡ true → HasNoBook g.S.Store fault c.args.conn.now c.load_rest.new.conn) _ _ c.from_residual-in_err-load_rest.ensures.1
-    (λ refused clean ours.
-    let planned : Trees → Type 0 = λ trees. IsPlanned trees (rows_of c.in_ok-tables.tables) in
-    let missed : Misses g.S.Store c.planned_tables.new.conn c.load_rest.new.conn (λ trees. planned trees → KeepsNone trees) = c.in_err-load_rest.ensures.missed refused c.in_ok-tables.ensures.whole in
-    let found = missed_after g.S.Store c.args.conn.now c.planned_tables.new.conn c.load_rest.new.conn planned (λ trees. planned trees → KeepsNone trees) c.in_ok-tables.ensures.found c.in_err-load_rest.ensures.spares missed clean ours in
-    shows_none _ (rows_of c.in_ok-tables.tables) found.0 _ (c.in_err-load_rest.ensures.fault refused) (found.1 found.0))
+pub returns-in-Ok-clause-formed : goal.returns-in-Ok-clause-formed
+returns-in-Ok-clause-formed g c =
+    given_ok c.load_all-loaded.new.tables c.load_all-loaded.result c.unless_fault.result c.unless_fault.ensures (λ (tables : Tables). AreFormed (rows_of tables)) (on_ok _ _ c.load_all-loaded.result c.load_all-loaded.ensures.formed (λ so. so c.in-Ok.ensures.whole))
 
-pub returns-clause-found : goal.returns-clause-found
-returns-clause-found g c =
-    let derived = (c.in_ok-load_rest.ensures.whole c.in_ok-tables.ensures.whole).derived in
-    weaker g.S.Store _ _ _ _ (λ trees found. still_loaded trees c.load_rest.new.tables c.commit.new.self derived (c.commit.ensures.derived derived) c.commit.ensures.rows (found.1 found.0))
-    (both g.S.Store _ _ _ _ _ c.in_ok-tables.ensures.found c.in_ok-load_rest.ensures.found)
+pub returns-in-Ok-clause-found : goal.returns-in-Ok-clause-found
+returns-in-Ok-clause-found g c =
+    given_ok c.load_all-loaded.new.tables c.load_all-loaded.result c.unless_fault.result c.unless_fault.ensures (λ (tables : Tables). Finds g.S.Store c.args.conn.now c.load_all-loaded.new.conn (λ trees. IsAllLoaded trees tables))
+    (on_ok _ _ c.load_all-loaded.result c.load_all-loaded.ensures.found (λ so. weaker g.S.Store _ _ _ _ (λ trees found. found.1 found.0) (both g.S.Store _ _ _ _ _ c.in-Ok.ensures.found (so c.in-Ok.ensures.whole))))
 
-pub returns-clause-committed : goal.returns-clause-committed
-returns-clause-committed g c =
-    let derived = (c.in_ok-load_rest.ensures.whole c.in_ok-tables.ensures.whole).derived in
-    record { committed = c.commit.ensures.committed ∙ sym c.commit.ensures.rows; derived = c.commit.ensures.derived derived; was_derived = c.commit.ensures.was_derived derived }
-
-pub returns-clause-formed : goal.returns-clause-formed
-returns-clause-formed g c = subst AreFormed (sym c.commit.ensures.rows) (c.in_ok-load_rest.ensures.whole c.in_ok-tables.ensures.whole).formed
+pub returns-in-Ok-clause-refused : goal.returns-in-Ok-clause-refused
+returns-in-Ok-clause-refused g c =
+    let planned : Trees → Type 0 = λ trees. IsPlanned trees (rows_of c.in-Ok.tables) in
+    let start = c.planned_tables.new.conn in
+    let later = c.load_all-loaded.new.conn in
+    given_err c.load_all-loaded.new.tables c.load_all-loaded.result c.unless_fault.result c.unless_fault.ensures (λ fault. is_refusal fault ≡ true → HasNoBook g.S.Store fault c.args.conn.now later)
+    (if_err (λ fault. (is_refusal fault ≡ true → fault ≡ Damaged) × (is_refusal fault ≡ true → Misses g.S.Store start later (λ trees. planned trees → KeepsNone trees))) (λ fault. is_refusal fault ≡ true → HasNoBook g.S.Store fault c.args.conn.now later) c.load_all-loaded.result
+    (if_both (λ fault. is_refusal fault ≡ true → fault ≡ Damaged) (λ fault. is_refusal fault ≡ true → Misses g.S.Store start later (λ trees. planned trees → KeepsNone trees)) c.load_all-loaded.result c.load_all-loaded.ensures.fault
+    (if_err _ _ c.load_all-loaded.result c.load_all-loaded.ensures.missed (λ fault missed refused. missed refused c.in-Ok.ensures.whole)))
+    (λ fault it refused clean ours.
+    let found = missed_after g.S.Store c.args.conn.now start later planned (λ trees. planned trees → KeepsNone trees) c.in-Ok.ensures.found c.load_all-loaded.ensures.spares (it.1 refused) clean ours in
+    shows_none _ (rows_of c.in-Ok.tables) found.0 _ (it.0 refused) (found.1 found.0)))

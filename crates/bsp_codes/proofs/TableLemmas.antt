@@ -1,0 +1,67 @@
+-- Lemmas on the table of all codes.
+use Rattle.std.proofs.Common.{◌≡◌, ℕ, Bool, true, false, List, [], ◌∷◌, ◌++◌, Option, Some, None, option_map, is_some, map, cond, ◌||◌, ap, ◌∙◌, sym, refl}
+use Rattle.std.specs.Borrow.{Bor}
+use Rattle.std.specs.List.{find, flat_map, list_any}
+use Rattle.std.specs.Option.{option_copied}
+use Rattle.std.specs.Str.{bytes_eq}
+use Rattle.std.proofs.lemmas.List.{map-append}
+use Rattle.std.proofs.lemmas.List.Concat.{flat_map-append}
+use Rattle.std.proofs.lemmas.List.Folds.{flat_map-map}
+use Rattle.bsp_codes.specs.Codes.{all_codes, is_code}
+use Rattle.bsp_codes.specs.Table.{Said, entry_named, table, requests, heads, files, verdicts, plans, stocks, memos, documents, periods, hot_files, books}
+
+-- the codes of the table
+pub codes_are : map (λ (s : Said). s.code) table ≡ all_codes
+unfolding table requests heads files verdicts plans stocks memos documents periods hot_files books all_codes
+codes_are = refl
+
+find_map : {A B : Type 0} (p : B → Bool) (f : A → B) (xs : List A) → option_map f (find (λ x. p (f x)) xs) ≡ find p (map f xs)
+find_map p f [] = refl
+find_map p f (x ∷ xs) =
+    elim (p (f x)) as (λ b. option_map f (cond b (Some x) (find (λ y. p (f y)) xs)) ≡ cond b (Some (f x)) (find p (map f xs))) [ true ↦ refl | false ↦ find_map p f xs ]
+
+map_parts : {A B C : Type 0} (f : B → C) (g : A → List B) (xs : List A) → map f (flat_map g xs) ≡ flat_map (λ x. map f (g x)) xs
+map_parts f g [] = refl
+map_parts f g (x ∷ xs) = map-append f (g x) (flat_map g xs) ∙ ap (λ rest. map f (g x) ++ rest) (map_parts f g xs)
+
+found_any : {A : Type 0} (p : A → Bool) (xs : List A) → is_some (find p xs) ≡ list_any p xs
+found_any p [] = refl
+found_any p (x ∷ xs) = elim (p x) as (λ b. is_some (cond b (Some x) (find p xs)) ≡ (b || list_any p xs)) [ true ↦ refl | false ↦ found_any p xs ]
+
+any_map : {A B : Type 0} (p : B → Bool) (f : A → B) (xs : List A) → list_any (λ x. p (f x)) xs ≡ list_any p (map f xs)
+any_map p f [] = refl
+any_map p f (x ∷ xs) = ap (λ b. p (f x) || b) (any_map p f xs)
+
+-- a text has an entry if it is a code
+pub known : {A : Type 0} (said : A → Said) (r : Option A) (code : List ℕ) → option_map said r ≡ entry_named code → is_some r ≡ is_code code
+known {A} said r code is =
+    of_map r
+    ∙ ap is_some is
+    ∙ found_any (λ (s : Said). bytes_eq s.code code) table
+    ∙ any_map (λ (c : List ℕ). bytes_eq c code) (λ (s : Said). s.code) table
+    ∙ ap (list_any (λ (c : List ℕ). bytes_eq c code)) codes_are
+  where
+    of_map : (x : Option A) → is_some x ≡ is_some (option_map said x)
+    of_map None = refl
+    of_map (Some a) = refl
+
+-- what is found in rows that make the table
+pub found_in : {A P : Type 0} (said : A → Said) (part : P → List A) (parts : List P) (code : List ℕ) (r : Option (Bor A)) → option_copied r ≡ find (λ row. bytes_eq (said row).code code) (flat_map part parts)
+    → flat_map (λ p. map said (part p)) parts ≡ table → option_map (λ row. said row.now) r ≡ entry_named code
+found_in {A} said part parts code r found make =
+    read r
+    ∙ ap (option_map said) found
+    ∙ find_map (λ (s : Said). bytes_eq s.code code) said (flat_map part parts)
+    ∙ ap (find (λ (s : Said). bytes_eq s.code code)) (map_parts said part parts ∙ make)
+  where
+    read : (x : Option (Bor A)) → option_map (λ row. said row.now) x ≡ option_map said (option_copied x)
+    read None = refl
+    read (Some row) = refl
+
+-- lines of rows that make a list
+pub lines_of_parts : {A P S : Type 0} (line : S → List ℕ) (said : A → S) (part : P → List A) (parts : List P) → flat_map (λ p. flat_map (λ row. line (said row)) (part p)) parts ≡ flat_map line (flat_map (λ p. map said (part p)) parts)
+lines_of_parts line said part [] = refl
+lines_of_parts line said part (p ∷ ps) =
+    ap (λ (rest : List ℕ). flat_map (λ row. line (said row)) (part p) ++ rest) (lines_of_parts line said part ps)
+    ∙ ap (λ (first : List ℕ). first ++ flat_map line (flat_map (λ q. map said (part q)) ps)) (sym (flat_map-map line said (part p)))
+    ∙ sym (flat_map-append line (map said (part p)) (flat_map (λ q. map said (part q)) ps))

@@ -1,0 +1,26 @@
+use Rattle.std.proofs.Common.{◌≡◌, true, sym, subst, ◌∙◌}
+use Rattle.bsp_store_load.specs.Formed.{AreFormed, AreWhole}
+use Rattle.bsp_store_load.specs.MemoryRowsTables.{rows_of}
+use Rattle.bsp_store_open.specs.Faults.{is_refusal}
+use Rattle.bsp_store_open.specs.Loaded.{IsPlanned, KeepsNone}
+use Rattle.bsp_store_open.specs.Opening.{Misses}
+use Rattle.bsp_store_open.proofs.LoadedLemmas.{still_loaded}
+use Rattle.bsp_store_open.proofs.OpeningLemmas.{passed_on, weaker}
+use Rattle.bsp_store_open.proofs.tables.load_all.Goals as goal
+
+pub returns-in_err-load_rest-clause-missed : goal.returns-in_err-load_rest-clause-missed
+returns-in_err-load_rest-clause-missed g c =
+    passed_on (λ fault. is_refusal fault ≡ true → AreWhole c.args.tables.now → Misses g.S.Store c.args.conn.now c.load_rest.new.conn (λ trees. IsPlanned trees (rows_of c.args.tables.now) → KeepsNone trees)) _ _ c.from_residual.ensures.1 c.in_err-load_rest.ensures.missed
+
+pub returns-clause-found : goal.returns-clause-found
+returns-clause-found g c = λ whole.
+    let derived = (c.in_ok-load_rest.ensures.whole whole).derived in
+    weaker g.S.Store _ _ _ _ (λ trees found planned. still_loaded trees c.load_rest.new.tables c.commit.new.self derived (c.commit.ensures.derived derived) c.commit.ensures.rows (found planned)) c.in_ok-load_rest.ensures.found
+
+pub returns-clause-committed : goal.returns-clause-committed
+returns-clause-committed g c = λ whole.
+    let derived = (c.in_ok-load_rest.ensures.whole whole).derived in
+    record { committed = c.commit.ensures.committed ∙ sym c.commit.ensures.rows; derived = c.commit.ensures.derived derived; was_derived = c.commit.ensures.was_derived derived }
+
+pub returns-clause-formed : goal.returns-clause-formed
+returns-clause-formed g c = λ whole. subst AreFormed (sym c.commit.ensures.rows) (c.in_ok-load_rest.ensures.whole whole).formed
