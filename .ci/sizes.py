@@ -11,7 +11,8 @@ gives up at a size that memory has room for:
 - the same with many of all else: 1,000 airlines, 1,000 agents, as many ranges of one agent, 20,001 memos to it, which one close
   bills, 60,000 periods and taxes, and 500 closes;
 - `run` with 65,536 requests, the most that one connection has;
-- `bsp_record_examples` with a RET file of 10,000 sales, read and written.
+- `bsp_record_examples` with a RET file of 10,000 sales, read and written, and `bsp_book_examples` with the calls that no request
+  makes, over the rows of 30,000 sales: reports over rows, and a run of 100,000 requests at a desk.
 Prints how long each took. Exits with the number of cases that differ.
 
 usage: .ci/sizes.py [PROGRAM [ITEMS [PART..]]]   (with no PROGRAM it takes the one that is built; 50,000 items by default;
@@ -525,7 +526,42 @@ def requests():
 # ---- calls that no request makes
 
 
+CALLS = office.TOP / "crates" / "bsp_book_examples" / "out" / "bsp_book_examples"
 RECORD_CALLS = office.TOP / "crates" / "bsp_record_examples" / "out" / "bsp_record_examples"
+
+
+def page():
+    """Cases of bsp_book_examples: a month of 30,000 sales, each call over its rows, and a run of 100,000 requests."""
+    yield from ("open", "routes", f"ask-file POST /office/plan {TOKEN} month.toml")
+    for path, body in (
+            ("day", body_of(day="2024-01-05")), ("agents", body_of(agent=AGENT, token=AGENT_TOKEN)), ("airlines", body_of(airline="125", token=AIRLINE)),
+            ("stock/allot", body_of(agent=AGENT, first=f"{FIRST}", last=f"{FIRST + 99_999}"))):
+        yield f"ask POST /office/{path} {TOKEN} {body}"
+    yield from (f"ask-file POST /agents/{AGENT}/ret {AGENT_TOKEN} month-{at}.ret" for at in range(3))
+    for path, body in (("day", body_of(day="2024-01-16")), ("close", body_of(period="24011"))):
+        yield f"ask POST /office/{path} {TOKEN} {body}"
+    yield from (f"{word}{' ' + rest if rest else ''}" for word, rest in (
+        ("statement", f"{AGENT} 24011"), ("statement-of", f"{AGENT} 24011"), ("settlement", "24011"), ("settlement-of", "24011"),
+        ("hot", "125 24011"), ("hot-of", "125 24011"), ("items", AGENT), ("items", "125 24011"), ("agents", ""),
+        ("run-many", f"100000 GET /agents/{AGENT}/periods/24011 {AGENT_TOKEN}"), ("sound", "")))
+
+
+def answers_in(cases, out):
+    """What each case gave, by its first two words."""
+    at, found = 0, {}
+    for case, after in zip(cases, [*cases[1:], None]):
+        begun = out.index(f"{case} = ", at) + len(case) + 3
+        at = out.index(f"\n{after} = ", begun) + 1 if after else len(out)
+        found[" ".join(case.split()[:2])] = out[begun:at].rstrip("\n")
+    return found
+
+
+def over_rows(kind):
+    """What the cases give over a book of a kind."""
+    cases = list(page())
+    ended = timed(f"calls over rows, {kind}", lambda: subprocess.run([CALLS, kind], input="\n".join([*cases, ""]).encode(), capture_output=True, timeout=600))
+    office.expect(f"calls over rows, {kind}: its end", (0, b""), (ended.returncode, ended.stderr))
+    return answers_in(cases, ended.stdout.decode()) if ended.returncode == 0 else {}
 
 
 def file_calls():
@@ -540,7 +576,25 @@ def file_calls():
     office.expect("calls on a RET file", (0, wanted), (ended.returncode, ended.stdout.decode().splitlines()[-4:]))
 
 
-PARTS = {"reports": reports, "requests": requests, "trials": trials, "many": offices_of_many, "months": offices, "calls": file_calls}
+def calls():
+    """On a file, and over a book in memory and over tables."""
+    file_calls()
+    pathlib.Path("month.toml").write_text(PLAN % '"125"', encoding="utf-8")
+    for at in range(3):
+        pathlib.Path(f"month-{at}.ret").write_bytes(ret_file(10_000, FIRST + 10_000 * at))
+    in_memory, net = over_rows("memory"), 22_500 * 30_000
+    office.expect("the statement over rows", True, in_memory.get(f"statement {AGENT}", "").endswith(money(net)))
+    for word, rest in ("statement", AGENT), ("settlement", "24011"), ("hot", "125"):
+        of_rows, of_tallies = (in_memory.get(f"{it} {rest}") for it in (word, f"{word}-of"))
+        office.expect(f"{word} over rows and over tallies are the same", True, of_rows is not None and of_rows == of_tallies)
+    office.expect("the rows are sound", "yes", in_memory.get("sound"))
+    run = f'100000 times 200 {{"closed":true,"documents":30000,"net":"{money(net)}","period":"24011"}}'
+    office.expect("a run of 100,000 requests", run, in_memory.get("run-many 100000"))
+    for case, given in over_rows("tables").items():
+        office.expect(f"{case}: over tables", True, given == in_memory.get(case))
+
+
+PARTS = {"reports": reports, "requests": requests, "trials": trials, "many": offices_of_many, "months": offices, "calls": calls}
 
 
 def main():
