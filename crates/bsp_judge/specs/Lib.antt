@@ -3,5 +3,4 @@ pub mod Asked
 pub mod Judged
 pub mod PlanLines
 pub mod Plans
-pub mod Turns
 pub mod Unjudged
