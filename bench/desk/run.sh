@@ -16,7 +16,7 @@ for items in 10000 100000; do
 done
 rustc --edition 2024 -O -o "$work/plain" "$here/plain/main.rs"
 
-workspace serving bsp_fields bsp_routes bsp_messages bsp_book bsp_desk_base bsp_desk
+workspace serving bsp_fields bsp_routes bsp_messages bsp_book bsp_desk_writes bsp_desk
 source_file serving main.rt <<'PROGRAM'
 #![tactic(auto)]
 
@@ -25,7 +25,7 @@ use bsp_desk::{Desk, Request};
 use bsp_fields::Token;
 use bsp_messages::Reply;
 use bsp_routes::Routes;
-use bsp_desk_base::Content;
+use bsp_desk_writes::Content;
 use std::fs;
 use std::io;
 use std::time::Instant;

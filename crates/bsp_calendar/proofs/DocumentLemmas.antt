@@ -96,15 +96,31 @@ cond_none : {A : Type 0} (b : Bool) (o : Option A) → o ≡ None → cond b o N
 cond_none true o h = h
 cond_none false o h = refl
 
--- where the taxes on commission are no list of such
-pub no_plan : (members : Members) → listed tax_of (get_member (codes "commission_tax") members) ≡ None → plan_in members ≡ None
-no_plan members none =
-    cond_none (has_only plan_keys members) _
-    (and_then_none (terms_in members) _
-    (λ terms. and_then_none (listed airline_of (get_member (codes "airline") members)) _
-    (λ airlines. and_then_none (listed rate_of (get_member (codes "rate") members)) _
-    (λ rates. and_then_none (listed period_of (get_member (codes "period") members)) _
-    (λ periods. rw none refl)))))
+-- where a list is none of such entries
+module _ (members : Members) where
+  pub no_airlines : listed airline_of (get_member (codes "airline") members) ≡ None → plan_in members ≡ None
+  no_airlines none = cond_none (has_only plan_keys members) _ (and_then_none (terms_in members) _ (λ terms. rw none refl))
+
+  pub no_rates : listed rate_of (get_member (codes "rate") members) ≡ None → plan_in members ≡ None
+  no_rates none =
+      cond_none (has_only plan_keys members) _
+      (and_then_none (terms_in members) _
+      (λ terms. and_then_none (listed airline_of (get_member (codes "airline") members)) _ (λ airlines. rw none refl)))
+
+  pub no_periods : listed period_of (get_member (codes "period") members) ≡ None → plan_in members ≡ None
+  no_periods none =
+      cond_none (has_only plan_keys members) _
+      (and_then_none (terms_in members) _
+      (λ terms. and_then_none (listed airline_of (get_member (codes "airline") members)) _
+      (λ airlines. and_then_none (listed rate_of (get_member (codes "rate") members)) _ (λ rates. rw none refl))))
+
+  pub no_taxes : listed tax_of (get_member (codes "commission_tax") members) ≡ None → plan_in members ≡ None
+  no_taxes none =
+      cond_none (has_only plan_keys members) _
+      (and_then_none (terms_in members) _
+      (λ terms. and_then_none (listed airline_of (get_member (codes "airline") members)) _
+      (λ airlines. and_then_none (listed rate_of (get_member (codes "rate") members)) _
+      (λ rates. and_then_none (listed period_of (get_member (codes "period") members)) _ (λ periods. rw none refl)))))
 
 wrong_key : {A B : Type 0} (x : Option A) (y : Option B) (fault : PlanFault) → ok_or x WrongKey ≡ Err fault → (x ≡ None → y ≡ None) → ok_or y WrongKey ≡ Err fault
 wrong_key None y fault h pass = let e : WrongKey ≡ fault = cc in rw (pass refl) (ap (λ (f : PlanFault). Err f) e)

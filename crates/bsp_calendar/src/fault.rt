@@ -9,7 +9,7 @@ use thiserror::Error;
 /// Why a plan text or a request on the plan is refused, in the order in which faults are answered.
 /// Where several apply, the first of this list is answered. Out of memory may be answered in place
 /// of any other but a number out of its bounds.
-#[derive(Clone, Copy, Debug, PartialEq, Eq, Hash, Error)]
+#[derive(Clone, Copy, Debug, PartialEq, Eq, Error)]
 pub enum PlanFault {
     /// The bytes are no TOML text.
     #[error("P01: the text is not TOML")]

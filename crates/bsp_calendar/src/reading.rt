@@ -13,8 +13,11 @@ mod values;
 
 use crate::entries::{PlanText, Terms};
 use crate::fault::PlanFault;
+use crate::reading::entries::{PeriodForm, RateForm};
 use crate::reading::lists::items_at;
 use crate::reading::tables::{at, has_only, number_at};
+use crate::reading::taxes::TaxForm;
+use crate::reading::values::{AirlineForm, CurrencyForm};
 use std::alloc::Global;
 use toml::Table;
 
@@ -32,7 +35,7 @@ const PLAN_KEYS: [&str; 7] = [
 fn terms_in(document: &Table) -> Option<Terms>
     ensures { result ≡ terms_in (table_view document.now) }
 {
-    let currency = at(document, "currency")?;
+    let currency = at::<CurrencyForm>(document, "currency")?;
     let review_days = number_at(document, "review_days", 1, 60)? as u8;
     let documents_limit = number_at(document, "documents_limit", 1, 1_000_000)?;
     Some(Terms {
@@ -52,10 +55,10 @@ fn plan_in(alloc: Global, document: &Table) -> Result<PlanText, PlanFault>
     let Some(terms) = terms_in(document) else {
         return Err(PlanFault::WrongKey);
     };
-    let airlines = items_at(alloc, document, "airline")?;
-    let rates = items_at(alloc, document, "rate")?;
-    let periods = items_at(alloc, document, "period")?;
-    let commission_taxes = items_at(alloc, document, "commission_tax")?;
+    let airlines = items_at::<AirlineForm>(alloc, document, "airline")?;
+    let rates = items_at::<RateForm>(alloc, document, "rate")?;
+    let periods = items_at::<PeriodForm>(alloc, document, "period")?;
+    let commission_taxes = items_at::<TaxForm>(alloc, document, "commission_tax")?;
     Ok(PlanText {
         terms,
         airlines,

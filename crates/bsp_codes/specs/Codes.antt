@@ -1,12 +1,11 @@
 -- Which texts are codes.
-use Rattle.std.specs.Prelude.{ℕ, Bool, List, ◌∷◌, ◌++◌, map}
+use Rattle.std.specs.Prelude.{ℕ, ◌+◌, ◌/◌, ◌%◌, Bool, List, [], ◌∷◌, ◌++◌, map}
 use Rattle.std.specs.List.{list_any, range_with_len}
 use Rattle.std.specs.Str.{bytes_eq}
-use Rattle.bsp_fields.specs.Decimal.{fixed_digits}
 
 -- a letter and two digits
 abbrev pub code_text : ℕ → ℕ → List ℕ
-code_text letter number = letter ∷ fixed_digits 2 number
+code_text letter number = letter ∷ ((48 + number / 10) ∷ ((48 + number % 10) ∷ []))
 
 -- the codes of a letter, from 01 to the most
 abbrev pub codes_of : ℕ → ℕ → List (List ℕ)

@@ -6,7 +6,7 @@ ghost use Rattle.bsp_connection.specs.Ends.{served_until};
 use thiserror::Error;
 
 /// How a connection ended.
-#[derive(Clone, Copy, Debug, PartialEq, Eq, Hash)]
+#[derive(Clone, Copy, Debug, PartialEq, Eq)]
 pub enum End {
     /// The input ended behind a message, or before the first.
     Clean,
@@ -17,7 +17,7 @@ pub enum End {
 }
 
 /// Why a connection was not served to its end.
-#[derive(Clone, Copy, Debug, PartialEq, Eq, Hash, Error)]
+#[derive(Clone, Copy, Debug, PartialEq, Eq, Error)]
 pub enum ServeFault {
     /// A read failed.
     #[error("the peer's bytes could not be read")]
@@ -31,7 +31,7 @@ pub enum ServeFault {
 }
 
 /// What was served of a connection.
-#[derive(Clone, Copy, Debug, PartialEq, Eq, Hash)]
+#[derive(Clone, Copy, Debug, PartialEq, Eq)]
 pub struct Served {
     /// How many messages were answered, refusals among them; interim responses are not counted.
     pub messages: usize,

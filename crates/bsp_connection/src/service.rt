@@ -10,7 +10,7 @@ use std::alloc::Global;
 use std::borrow::CowSlice;
 
 /// What of a request's body is answered.
-#[derive(Clone, Copy, Debug, PartialEq, Eq, Hash)]
+#[derive(Clone, Copy, Debug, PartialEq, Eq)]
 pub enum BodyUse {
     /// Nothing: the body is read and dropped.
     Ignored,

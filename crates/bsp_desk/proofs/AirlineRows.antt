@@ -13,7 +13,7 @@ use Rattle.bsp_rows.specs.declared.questions.Memos.TheVariants as memo
 use Rattle.bsp_rows.proofs.KeyOrders.{memo_exact, memo_total}
 use Rattle.bsp_rows.proofs.PartLemmas.{kept_entries}
 use Rattle.bsp_rules.specs.declared.rows.Item.{Item}
-use Rattle.bsp_desk_base.proofs.Unchanged.{airline_items}
+use Rattle.bsp_desk_writes.proofs.Unchanged.{airline_items}
 
 pub bearing_items : (airline period : ℕ) (rows : Rows) → items_of (item.OfAirlineIn airline period) rows ≡ filter (is_in period) (values (airline_part airline rows).items)
 bearing_items airline period rows =

@@ -4,16 +4,16 @@ use Rattle.bsp_messages.specs.declared.reply.Reply.{Reply}
 use Rattle.bsp_messages.specs.declared.status.Media.{Media}
 use Rattle.bsp_messages.specs.declared.status.Status.{Status}
 use Rattle.bsp_rows.specs.Rows.{Rows}
-use Rattle.bsp_desk_base.proofs.AirlineIsolated.{airlines_alike}
-use Rattle.bsp_desk_base.proofs.Isolated.{alike}
-use Rattle.bsp_desk_base.proofs.TextLemmas.{one_message}
-use Rattle.bsp_desk_base.specs.AirlineLedger.{AirlineLedger, airline_ledger_of}
-use Rattle.bsp_desk_base.specs.AirlineView.{airline_all, airline_reply_sights, airline_told, airline_told_one, airline_told_reply, is_own_airline}
-use Rattle.bsp_desk_base.specs.Answers.{Answer}
-use Rattle.bsp_desk_base.specs.Ledger.{Ledger, ledger_of}
-use Rattle.bsp_desk_base.specs.Requests.{Asked, Request as Reading}
-use Rattle.bsp_desk_base.specs.Requests.Asked.{NoRoute, OtherMethod, ByOffice, ByAgent, ByAirline}
-use Rattle.bsp_desk_base.specs.View.{Exchange, is_own, ledger_all, reply_sights, told, told_one, told_reply}
+use Rattle.bsp_desk_writes.proofs.AirlineIsolated.{airlines_alike}
+use Rattle.bsp_desk_writes.proofs.Isolated.{alike}
+use Rattle.bsp_desk_writes.proofs.TextLemmas.{one_message}
+use Rattle.bsp_desk_writes.specs.AirlineLedger.{AirlineLedger, airline_ledger_of}
+use Rattle.bsp_desk_writes.specs.AirlineView.{airline_all, airline_reply_sights, airline_told, airline_told_one, airline_told_reply, is_own_airline}
+use Rattle.bsp_desk_writes.specs.Answers.{Answer}
+use Rattle.bsp_desk_writes.specs.Ledger.{Ledger, ledger_of}
+use Rattle.bsp_desk_writes.specs.Requests.{Asked, Request as Reading}
+use Rattle.bsp_desk_writes.specs.Requests.Asked.{NoRoute, OtherMethod, ByOffice, ByAgent, ByAirline}
+use Rattle.bsp_desk_writes.specs.View.{Exchange, is_own, ledger_all, reply_sights, told, told_one, told_reply}
 use Rattle.bsp_desk.specs.Laws.{AgentReadsAlike, AirlineReadsAlike, AnswersAreOneReply, CallersReadAlike, agent_replies, airline_replies}
 use Rattle.bsp_desk.specs.Replies.{IsSent, ReplyRead, read_of}
 use Rattle.bsp_desk.specs.Runs.{AreExchanges, IsReplied, RunReplied}

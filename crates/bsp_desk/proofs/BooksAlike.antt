@@ -4,10 +4,10 @@ use Rattle.bsp_book.specs.Calls.{Meaning}
 use Rattle.bsp_messages.specs.declared.reply.Reply.{Reply}
 use Rattle.bsp_rows.specs.Rows.{Rows}
 use Rattle.bsp_rows.specs.Sound.{Sound}
-use Rattle.bsp_desk_base.specs.Answers.{Answer}
-use Rattle.bsp_desk_base.specs.Requests.{Request as Reading}
-use Rattle.bsp_desk_base.specs.Step.{answer_of, rows_after}
-use Rattle.bsp_desk_base.specs.View.{Exchange, IsAnswered, Run, rows_replied}
+use Rattle.bsp_desk_writes.specs.Answers.{Answer}
+use Rattle.bsp_desk_writes.specs.Requests.{Request as Reading}
+use Rattle.bsp_desk_writes.specs.Step.{answer_of, rows_after}
+use Rattle.bsp_desk_writes.specs.View.{Exchange, IsAnswered, Run, rows_replied}
 use Rattle.bsp_desk.specs.Books.{AreAlike, AreAvailable, BooksReplyAlike, RunsReplyAlike}
 use Rattle.bsp_desk.specs.Reading.{AreRead}
 use Rattle.bsp_desk.specs.Replies.{IsSent, is_unavailable, read_of}

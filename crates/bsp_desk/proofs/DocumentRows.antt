@@ -26,9 +26,9 @@ use Rattle.bsp_rows.specs.Sound.{IsRight, Sound}
 use Rattle.bsp_rows.specs.declared.keys.ItemKey.{ItemKey}
 use Rattle.bsp_rules.specs.Rows.{has_number, is_canx}
 use Rattle.bsp_rules.specs.declared.rows.Item.{Item}
-use Rattle.bsp_desk_base.specs.Ledger.{document_answer, document_shown, first_of, item_of_number, ledger_answer, ledger_of, state_of}
-use Rattle.bsp_desk_base.specs.Requests.AgentRequest.{AskDocument}
-use Rattle.bsp_desk_base.specs.Texts.{Says}
+use Rattle.bsp_desk_writes.specs.Ledger.{document_answer, document_shown, first_of, item_of_number, ledger_answer, ledger_of, state_of}
+use Rattle.bsp_desk_writes.specs.Requests.AgentRequest.{AskDocument}
+use Rattle.bsp_desk_writes.specs.Texts.{Says}
 use Rattle.bsp_desk.specs.Documents.{is_canx_of, is_sale_of}
 use Rattle.bsp_desk.proofs.OwnRows.{part_items}
 

@@ -11,13 +11,13 @@ use Rattle.bsp_routes.specs.declared.call.AgentCall.TheVariants as agent
 use Rattle.bsp_routes.specs.declared.call.Call.TheVariants as call
 use Rattle.bsp_routes.specs.declared.call.OfficeCall.{OfficeCall}
 use Rattle.bsp_routes.specs.declared.call.OfficeCall.TheVariants as office
-use Rattle.bsp_desk_base.specs.Contents.{IsAgentCall, IsAskedWith, IsFileIn, IsOfficeCall, bytes_in}
-use Rattle.bsp_desk_base.specs.declared.content.Content.{Content}
-use Rattle.bsp_desk_base.specs.declared.content.Content.TheVariants.{Bytes, File, Fault}
-use Rattle.bsp_desk_base.proofs.FitLemmas.{read_fits as bytes_fit}
-use Rattle.bsp_desk_base.specs.Requests.{AgentRequest, Asked, FileRead, OfficeRequest, Request as Reading}
-use Rattle.bsp_desk_base.specs.Requests.Asked.{ByAgent, ByOffice}
-use Rattle.bsp_desk_base.specs.Step.{AreGroups, Fits, HasGroups}
+use Rattle.bsp_desk_writes.specs.Contents.{IsAgentCall, IsAskedWith, IsFileIn, IsOfficeCall, bytes_in}
+use Rattle.bsp_desk_writes.specs.declared.content.Content.{Content}
+use Rattle.bsp_desk_writes.specs.declared.content.Content.TheVariants.{Bytes, File, Fault}
+use Rattle.bsp_desk_writes.proofs.FitLemmas.{read_fits as bytes_fit}
+use Rattle.bsp_desk_writes.specs.Requests.{AgentRequest, Asked, FileRead, OfficeRequest, Request as Reading}
+use Rattle.bsp_desk_writes.specs.Requests.Asked.{ByAgent, ByOffice}
+use Rattle.bsp_desk_writes.specs.Step.{AreGroups, Fits, HasGroups}
 use Rattle.bsp_desk.specs.Reading.{IsRead}
 use Rattle.bsp_desk.specs.declared.request.Request.{Request}
 

@@ -9,14 +9,14 @@ use Rattle.bsp_rows.specs.Period.{Period}
 use Rattle.bsp_rows.specs.Published.{closed_period}
 use Rattle.bsp_rows.specs.Rows.{Rows, airline_token}
 use Rattle.bsp_office_spec.proofs.HotRules.{hot_files_pass}
-use Rattle.bsp_desk_base.specs.AirlineLedger.{airline_ledger_of, hot_answer, hot_rows, hot_shown}
-use Rattle.bsp_desk_base.specs.Answers.{Answer}
-use Rattle.bsp_desk_base.specs.Answers.Answer.{Refused}
-use Rattle.bsp_desk_base.specs.Requests.{Asked}
-use Rattle.bsp_desk_base.specs.Requests.AirlineRequest.{AskHot}
-use Rattle.bsp_desk_base.specs.Requests.Asked.{ByAirline}
-use Rattle.bsp_desk_base.specs.Step.{asked_answer, is_token, to_airline}
-use Rattle.bsp_desk_base.specs.Texts.{Says}
+use Rattle.bsp_desk_writes.specs.AirlineLedger.{airline_ledger_of, hot_answer, hot_rows, hot_shown}
+use Rattle.bsp_desk_writes.specs.Answers.{Answer}
+use Rattle.bsp_desk_writes.specs.Answers.Answer.{Refused}
+use Rattle.bsp_desk_writes.specs.Requests.{Asked}
+use Rattle.bsp_desk_writes.specs.Requests.AirlineRequest.{AskHot}
+use Rattle.bsp_desk_writes.specs.Requests.Asked.{ByAirline}
+use Rattle.bsp_desk_writes.specs.Step.{asked_answer, is_token, to_airline}
+use Rattle.bsp_desk_writes.specs.Texts.{Says}
 use Rattle.bsp_book.specs.Calls.{Meaning}
 use Rattle.bsp_desk.specs.HotReplies.{HotAnswersPass, HotRepliesPass, PassesCheck, asks_hot}
 use Rattle.bsp_desk.specs.Replies.{is_unavailable}

@@ -7,17 +7,17 @@ use Rattle.bsp_messages.specs.declared.answer.Answer.{Answer as Message}
 use Rattle.bsp_messages.specs.declared.answer.Answer.TheVariants as message
 use Rattle.bsp_messages.specs.declared.refusal.RequestRefusal.TheVariants.{Forbidden}
 use Rattle.bsp_rows.specs.Rows.{Rows, agent_token, airline_token}
-use Rattle.bsp_desk_base.specs.After.{agent_after, airline_after}
-use Rattle.bsp_desk_base.specs.Serves.{Serves}
-use Rattle.bsp_desk_base.proofs.Unchanged.{unchanged}
-use Rattle.bsp_desk_base.specs.AirlineLedger.{airline_answer, airline_ledger_of}
-use Rattle.bsp_desk_base.specs.Answers.{Answer, is_done, verdicts_in}
-use Rattle.bsp_desk_base.specs.Answers.Answer.{Refused}
-use Rattle.bsp_desk_base.specs.Ledger.{agent_of, ledger_answer, ledger_of}
-use Rattle.bsp_desk_base.specs.Requests.{AgentRequest, AirlineRequest, Asked}
-use Rattle.bsp_desk_base.specs.Requests.Asked.{ByAgent, ByAirline}
-use Rattle.bsp_desk_base.specs.Step.{agent_done, asked_after, asked_answer, by_airline, filed_by_agent, is_token, to_agent, to_airline}
-use Rattle.bsp_desk_base.specs.Texts.{Says}
+use Rattle.bsp_desk_writes.specs.After.{agent_after, airline_after}
+use Rattle.bsp_desk_writes.specs.Serves.{Serves}
+use Rattle.bsp_desk_writes.proofs.Unchanged.{unchanged}
+use Rattle.bsp_desk_writes.specs.AirlineLedger.{airline_answer, airline_ledger_of}
+use Rattle.bsp_desk_writes.specs.Answers.{Answer, is_done, verdicts_in}
+use Rattle.bsp_desk_writes.specs.Answers.Answer.{Refused}
+use Rattle.bsp_desk_writes.specs.Ledger.{agent_of, ledger_answer, ledger_of}
+use Rattle.bsp_desk_writes.specs.Requests.{AgentRequest, AirlineRequest, Asked}
+use Rattle.bsp_desk_writes.specs.Requests.Asked.{ByAgent, ByAirline}
+use Rattle.bsp_desk_writes.specs.Step.{agent_done, asked_after, asked_answer, by_airline, filed_by_agent, is_token, to_agent, to_airline}
+use Rattle.bsp_desk_writes.specs.Texts.{Says}
 use Rattle.bsp_desk.specs.Callers.{if_own, known_agent, known_airline}
 
 -- ---- the caller

@@ -18,4 +18,4 @@ pub mod DocumentRows
 pub mod NumberOrder
 pub mod StockRows
 pub mod Outliving
-pub use Rattle.bsp_desk_base.proofs.RequestsRead
+pub use Rattle.bsp_desk_writes.proofs.RequestsRead

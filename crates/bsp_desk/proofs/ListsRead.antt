@@ -1,7 +1,7 @@
 -- Each request, and each list of requests, has a reading.
 use Rattle.std.proofs.Common.{[], ◌∷◌, refl}
 use Rattle.bsp_routes.specs.Calls.{asking_text}
-use Rattle.bsp_desk_base.proofs.ContentsRead.{each_content_is_read}
+use Rattle.bsp_desk_writes.proofs.ContentsRead.{each_content_is_read}
 use Rattle.bsp_desk.specs.Reading.{EachIsRead, ListsAreRead, token_text}
 
 pub each_is_read : EachIsRead

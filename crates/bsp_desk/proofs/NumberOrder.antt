@@ -11,8 +11,8 @@ use Rattle.bsp_rows.proofs.ListedLemmas.{contains_any, once_push}
 use Rattle.bsp_rows.specs.Requests.{once}
 use Rattle.bsp_postings.proofs.ListLemmas.{filter_filter}
 use Rattle.bsp_rows.proofs.ItemTies.{any_true}
-use Rattle.bsp_desk_base.specs.Ledger.{same_number}
-use Rattle.bsp_desk_base.specs.Step.{is_last}
+use Rattle.bsp_desk_writes.specs.Ledger.{same_number}
+use Rattle.bsp_desk_writes.specs.Step.{is_last}
 
 -- the last of numbers that never fall
 abbrev pub IsLatest : Option ℕ → List ℕ → Type 0

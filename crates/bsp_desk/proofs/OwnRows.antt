@@ -12,7 +12,7 @@ use Rattle.bsp_rows.proofs.MapLemmas.{entry_get}
 use Rattle.bsp_rows.proofs.PartLaws.{filter-map}
 use Rattle.bsp_rows.proofs.PartLemmas.{kept_entries}
 use Rattle.bsp_rules.specs.declared.rows.Item.{Item}
-use Rattle.bsp_desk_base.proofs.Unchanged.{part_memos}
+use Rattle.bsp_desk_writes.proofs.Unchanged.{part_memos}
 
 -- two tests that agree at each element of a list keep the same elements
 pub filter_alike : {X : Type 0} (p q : X → Bool) (xs : List X) → ((x : X) → Contains xs x → p x ≡ q x) → filter p xs ≡ filter q xs

@@ -29,9 +29,9 @@ use Rattle.bsp_rows.specs.declared.questions.Tallies.TheVariants.{OfAgentIn}
 use Rattle.bsp_rules.specs.declared.rows.Item.{Item}
 use Rattle.bsp_statement.proofs.TallyLemmas.{own_figures}
 use Rattle.bsp_statement.specs.Sums.{figures_of}
-use Rattle.bsp_desk_base.specs.Ledger.{ledger_answer, ledger_of, period_answer, period_shown}
-use Rattle.bsp_desk_base.specs.Requests.AgentRequest.{AskPeriod}
-use Rattle.bsp_desk_base.specs.Texts.{Says}
+use Rattle.bsp_desk_writes.specs.Ledger.{ledger_answer, ledger_of, period_answer, period_shown}
+use Rattle.bsp_desk_writes.specs.Requests.AgentRequest.{AskPeriod}
+use Rattle.bsp_desk_writes.specs.Texts.{Says}
 use Rattle.bsp_desk.specs.Sums.{shown_over}
 use Rattle.bsp_desk.proofs.PeriodRows.{asked_items, asked_memos, own_posted}
 

@@ -5,21 +5,21 @@ use Rattle.bsp_messages.specs.declared.refusal.RequestRefusal.TheVariants.{NoRoo
 use Rattle.bsp_messages.specs.declared.reply.Reply.{Reply}
 use Rattle.bsp_rows.specs.Rows.{Rows}
 use Rattle.bsp_rows.specs.Sound.{Sound}
-use Rattle.bsp_desk_base.proofs.AirlineIsolated.{airline_isolated}
-use Rattle.bsp_desk_base.proofs.ClosedKept.{closed_stays}
-use Rattle.bsp_desk_base.proofs.Held.{one_owner, repeats_are_held}
-use Rattle.bsp_desk_base.proofs.HeldInRuns.{runs_hold}
-use Rattle.bsp_desk_base.proofs.Isolated.{isolated}
-use Rattle.bsp_desk_base.proofs.NetLemmas.{nets_add_up}
-use Rattle.bsp_desk_base.proofs.PrintedInRuns.{runs_print}
-use Rattle.bsp_desk_base.proofs.Reports.{reports_stay}
-use Rattle.bsp_desk_base.proofs.ShownInRuns.{runs_show}
-use Rattle.bsp_desk_base.proofs.UnmarkedAirline.{airlines_need_no_marks}
-use Rattle.bsp_desk_base.proofs.UnmarkedInRuns.{agents_need_no_marks}
-use Rattle.bsp_desk_base.proofs.Values.{runs_agree}
-use Rattle.bsp_desk_base.specs.Requests.{Request as Reading}
-use Rattle.bsp_desk_base.specs.Step.{Fits, answer_of}
-use Rattle.bsp_desk_base.specs.View.{AllFit, Exchange, IsAnswered, Run, rows_replied}
+use Rattle.bsp_desk_writes.proofs.AirlineIsolated.{airline_isolated}
+use Rattle.bsp_desk_writes.proofs.ClosedKept.{closed_stays}
+use Rattle.bsp_desk_writes.proofs.Held.{one_owner, repeats_are_held}
+use Rattle.bsp_desk_writes.proofs.HeldInRuns.{runs_hold}
+use Rattle.bsp_desk_writes.proofs.Isolated.{isolated}
+use Rattle.bsp_desk_writes.proofs.NetLemmas.{nets_add_up}
+use Rattle.bsp_desk_writes.proofs.PrintedInRuns.{runs_print}
+use Rattle.bsp_desk_writes.proofs.Reports.{reports_stay}
+use Rattle.bsp_desk_writes.proofs.ShownInRuns.{runs_show}
+use Rattle.bsp_desk_writes.proofs.UnmarkedAirline.{airlines_need_no_marks}
+use Rattle.bsp_desk_writes.proofs.UnmarkedInRuns.{agents_need_no_marks}
+use Rattle.bsp_desk_writes.proofs.Values.{runs_agree}
+use Rattle.bsp_desk_writes.specs.Requests.{Request as Reading}
+use Rattle.bsp_desk_writes.specs.Step.{Fits, answer_of}
+use Rattle.bsp_desk_writes.specs.View.{AllFit, Exchange, IsAnswered, Run, rows_replied}
 use Rattle.bsp_desk.specs.Reading.{AreRead, IsRead}
 use Rattle.bsp_desk.specs.Replies.{Refuses, is_unavailable}
 use Rattle.bsp_desk.specs.Runs.{AreAnswered, AreExchanges, IsReplied, Ran}

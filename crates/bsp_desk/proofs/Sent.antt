@@ -15,13 +15,13 @@ use Rattle.bsp_messages.specs.declared.status.Status.TheVariants as status
 use Rattle.bsp_routes.specs.declared.asking.Asking.TheVariants as asking
 use Rattle.bsp_routes.specs.declared.call.Call.{Call}
 use Rattle.bsp_rows.specs.Rows.{Rows}
-use Rattle.bsp_desk_base.proofs.Runs.{sound_kept}
-use Rattle.bsp_desk_base.proofs.Unchanged.{unchanged}
-use Rattle.bsp_desk_base.specs.Answers.{Answer, is_done, verdicts_in}
-use Rattle.bsp_desk_base.specs.Answers.Answer.{Changed, Verdicts, Document, InPeriod, Ranges, Memos, Statement, Settlement, Hot, FileFault, Refused}
-use Rattle.bsp_desk_base.specs.Requests.{Request as Reading}
-use Rattle.bsp_desk_base.specs.Step.{answer_of, rows_after}
-use Rattle.bsp_desk_base.specs.Texts.{Says}
+use Rattle.bsp_desk_writes.proofs.Runs.{sound_kept}
+use Rattle.bsp_desk_writes.proofs.Unchanged.{unchanged}
+use Rattle.bsp_desk_writes.specs.Answers.{Answer, is_done, verdicts_in}
+use Rattle.bsp_desk_writes.specs.Answers.Answer.{Changed, Verdicts, Document, InPeriod, Ranges, Memos, Statement, Settlement, Hot, FileFault, Refused}
+use Rattle.bsp_desk_writes.specs.Requests.{Request as Reading}
+use Rattle.bsp_desk_writes.specs.Step.{answer_of, rows_after}
+use Rattle.bsp_desk_writes.specs.Texts.{Says}
 use Rattle.bsp_desk.specs.Replies.{IsSent, Refuses, is_refusal, is_unavailable}
 use Rattle.bsp_desk.specs.Steps.{Answers, Commits, EndsRequest}
 use Rattle.bsp_desk.specs.declared.request.Request.{Request}

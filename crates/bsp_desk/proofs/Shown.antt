@@ -25,9 +25,9 @@ use Rattle.std.specs.List.{filter}
 use Rattle.bsp_rows.specs.declared.questions.Items.TheVariants as items
 use Rattle.bsp_rows.specs.declared.questions.Memos.TheVariants as memos
 use Rattle.bsp_rows.specs.Rows.{items_of, memos_of}
-use Rattle.bsp_desk_base.specs.AirlineLedger.{airline_answer, airline_ledger_of, hot_answer, hot_shown}
-use Rattle.bsp_desk_base.specs.HotRules.{KeepRulesOfSound}
-use Rattle.bsp_desk_base.specs.Requests.AirlineRequest.{AskHot}
+use Rattle.bsp_desk_writes.specs.AirlineLedger.{airline_answer, airline_ledger_of, hot_answer, hot_shown}
+use Rattle.bsp_desk_writes.specs.HotRules.{KeepRulesOfSound}
+use Rattle.bsp_desk_writes.specs.Requests.AirlineRequest.{AskHot}
 use Rattle.bsp_desk.proofs.AirlineRows.{bearing_items, billed_memos}
 use Rattle.bsp_messages.specs.Values.{period_in}
 use Rattle.bsp_messages.specs.declared.answer.Answer.TheVariants as message
@@ -39,12 +39,12 @@ use Rattle.bsp_rows.specs.Sound.{Sound}
 use Rattle.bsp_rows.specs.declared.questions.Tallies.TheVariants.{In, OfAgentIn}
 use Rattle.bsp_statement.specs.Reports.{IsSettlement, IsStatement, of_period}
 use Rattle.bsp_statement.specs.declared.nets.Settlement.{Settlement as SettlementMade}
-use Rattle.bsp_desk_base.specs.Ledger.{ledger_answer, ledger_of, statement_answer, statement_shown}
-use Rattle.bsp_desk_base.specs.Requests.AgentRequest.{AskStatement}
-use Rattle.bsp_desk_base.specs.Requests.OfficeRequest.{AskSettlement}
-use Rattle.bsp_desk_base.specs.Step.{office_answer, settlement_answer, settlement_shown}
-use Rattle.bsp_desk_base.specs.Texts.{Says}
-use Rattle.bsp_desk_base.proofs.ClosedKept.{closed_of}
+use Rattle.bsp_desk_writes.specs.Ledger.{ledger_answer, ledger_of, statement_answer, statement_shown}
+use Rattle.bsp_desk_writes.specs.Requests.AgentRequest.{AskStatement}
+use Rattle.bsp_desk_writes.specs.Requests.OfficeRequest.{AskSettlement}
+use Rattle.bsp_desk_writes.specs.Step.{office_answer, settlement_answer, settlement_shown}
+use Rattle.bsp_desk_writes.specs.Texts.{Says}
+use Rattle.bsp_desk_writes.proofs.ClosedKept.{closed_of}
 use Rattle.bsp_desk.proofs.PeriodRows.{all_posted, asked_items, asked_memos, own_alone, own_posted}
 
 -- done or not, the same rows

@@ -26,7 +26,7 @@ use Rattle.bsp_rows.specs.declared.keys.RangeKey.{RangeKey}
 use Rattle.bsp_rules.specs.Rows.{contains}
 use Rattle.bsp_rules.specs.declared.rows.Item.{Item}
 use Rattle.bsp_rules.specs.declared.rows.Range.{Range}
-use Rattle.bsp_desk_base.specs.Ledger.{ranges_in, ranges_shown, same_number}
+use Rattle.bsp_desk_writes.specs.Ledger.{ranges_in, ranges_shown, same_number}
 use Rattle.bsp_desk.specs.Stock.{AreInOrder, item_number, numbers_once, shown_by}
 use Rattle.bsp_desk.proofs.NumberOrder.{once_filter}
 

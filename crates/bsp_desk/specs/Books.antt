@@ -4,7 +4,7 @@ use Rattle.bsp_book.specs.Calls.{Meaning}
 use Rattle.bsp_messages.specs.declared.reply.Reply.{Reply}
 use Rattle.bsp_rows.specs.Rows.{Rows}
 use Rattle.bsp_rows.specs.Sound.{Sound}
-use Rattle.bsp_desk_base.specs.Requests.{Request as Reading}
+use Rattle.bsp_desk_writes.specs.Requests.{Request as Reading}
 use Rattle.bsp_desk.specs.Reading.{AreRead}
 use Rattle.bsp_desk.specs.Replies.{is_unavailable, read_of}
 use Rattle.bsp_desk.specs.Runs.{AreAnswered, RunReplied}

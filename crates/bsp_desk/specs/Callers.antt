@@ -5,9 +5,9 @@ use Rattle.bsp_messages.specs.Values.{airline_in}
 use Rattle.bsp_routes.specs.declared.asking.Asking.TheVariants as asking
 use Rattle.bsp_routes.specs.declared.call.Call.{Call}
 use Rattle.bsp_rows.specs.Rows.{Rows, agent_token, airline_token}
-use Rattle.bsp_desk_base.specs.declared.content.Content.{Content}
-use Rattle.bsp_desk_base.specs.Ledger.{agent_of}
-use Rattle.bsp_desk_base.specs.Step.{is_token}
+use Rattle.bsp_desk_writes.specs.declared.content.Content.{Content}
+use Rattle.bsp_desk_writes.specs.Ledger.{agent_of}
+use Rattle.bsp_desk_writes.specs.Step.{is_token}
 use Rattle.bsp_desk.specs.declared.request.Request.{Request}
 
 -- a caller of this kind with its token among the rows, and the token given

@@ -8,10 +8,10 @@ use Rattle.bsp_rows.specs.Lines.{lines}
 use Rattle.bsp_book.specs.Calls.{Meaning}
 use Rattle.bsp_hot_check.specs.Checked.{HasTotals}
 use Rattle.bsp_hot_check.specs.declared.model.HotTotals.{HotTotals}
-use Rattle.bsp_desk_base.specs.Requests.{Asked, Request as Reading}
-use Rattle.bsp_desk_base.specs.Requests.AirlineRequest.{AskHot}
-use Rattle.bsp_desk_base.specs.Requests.Asked.{ByAirline}
-use Rattle.bsp_desk_base.specs.Step.{answer_of}
+use Rattle.bsp_desk_writes.specs.Requests.{Asked, Request as Reading}
+use Rattle.bsp_desk_writes.specs.Requests.AirlineRequest.{AskHot}
+use Rattle.bsp_desk_writes.specs.Requests.Asked.{ByAirline}
+use Rattle.bsp_desk_writes.specs.Step.{answer_of}
 use Rattle.bsp_desk.specs.Replies.{IsSent}
 use Rattle.bsp_desk.specs.Steps.{Answers, OfRequest}
 use Rattle.bsp_desk.specs.declared.request.Request.{Request}

@@ -2,12 +2,12 @@
 use Rattle.std.specs.Prelude.{◌≡◌, ℕ, List, [], ◌∷◌, ◌++◌, map}
 use Rattle.bsp_messages.specs.declared.reply.Reply.{Reply}
 use Rattle.bsp_rows.specs.Rows.{Rows}
-use Rattle.bsp_desk_base.specs.AirlineLedger.{AirlineLedger, airline_ledger_of}
-use Rattle.bsp_desk_base.specs.AirlineView.{AirlineSight, airline_all, airline_reply_sights, airline_told_reply, airline_view}
-use Rattle.bsp_desk_base.specs.Answers.{Answer}
-use Rattle.bsp_desk_base.specs.Ledger.{Ledger, ledger_of}
-use Rattle.bsp_desk_base.specs.Requests.{Request as Reading}
-use Rattle.bsp_desk_base.specs.View.{Exchange, Sight, ledger_all, reply_sights, told_reply, view}
+use Rattle.bsp_desk_writes.specs.AirlineLedger.{AirlineLedger, airline_ledger_of}
+use Rattle.bsp_desk_writes.specs.AirlineView.{AirlineSight, airline_all, airline_reply_sights, airline_told_reply, airline_view}
+use Rattle.bsp_desk_writes.specs.Answers.{Answer}
+use Rattle.bsp_desk_writes.specs.Ledger.{Ledger, ledger_of}
+use Rattle.bsp_desk_writes.specs.Requests.{Request as Reading}
+use Rattle.bsp_desk_writes.specs.View.{Exchange, Sight, ledger_all, reply_sights, told_reply, view}
 use Rattle.bsp_desk.specs.Replies.{IsSent, ReplyRead, read_of}
 use Rattle.bsp_desk.specs.Runs.{RunReplied}
 

@@ -13,9 +13,9 @@ pub mod Documents
 pub mod Stock
 pub mod Stops
 pub use Rattle.bsp_book.specs.Calls as BookCalls
-pub use Rattle.bsp_desk_base.specs.Contents
-pub use Rattle.bsp_desk_base.specs.Requests
-pub use Rattle.bsp_desk_base.specs.declared.content.Content
+pub use Rattle.bsp_desk_writes.specs.Contents
+pub use Rattle.bsp_desk_writes.specs.Requests
+pub use Rattle.bsp_desk_writes.specs.declared.content.Content
 pub use Rattle.bsp_messages.specs.Answers
 pub use Rattle.bsp_messages.specs.Replies as MessagesReplies
 pub use Rattle.bsp_messages.specs.declared.answer.Answer

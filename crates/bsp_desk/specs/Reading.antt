@@ -2,8 +2,8 @@
 use Rattle.std.specs.Prelude.{◌≡◌, ℕ, List, [], ◌∷◌, Option, Some, None}
 use Rattle.std.specs.Borrow.{Bor}
 use Rattle.bsp_routes.specs.Calls.{asking_text}
-use Rattle.bsp_desk_base.specs.Contents.{IsAskedWith, IsWhole}
-use Rattle.bsp_desk_base.specs.Requests.{Request as Reading}
+use Rattle.bsp_desk_writes.specs.Contents.{IsAskedWith, IsWhole}
+use Rattle.bsp_desk_writes.specs.Requests.{Request as Reading}
 use Rattle.bsp_desk.specs.declared.request.Request.{Request}
 
 -- the bytes of the token that a request bears, if it bears one

@@ -8,8 +8,8 @@ use Rattle.bsp_messages.specs.declared.reply.Reply.{Reply}
 use Rattle.bsp_messages.specs.declared.status.Media.{Media}
 use Rattle.bsp_messages.specs.declared.status.Status.{Status}
 use Rattle.bsp_messages.specs.declared.status.Status.TheVariants as status
-use Rattle.bsp_desk_base.specs.Answers.{Answer}
-use Rattle.bsp_desk_base.specs.Texts.{Says}
+use Rattle.bsp_desk_writes.specs.Answers.{Answer}
+use Rattle.bsp_desk_writes.specs.Texts.{Says}
 
 -- the reply has the status, the media type and the text of the answer
 abbrev pub IsSent : Answer → Reply → Type 0

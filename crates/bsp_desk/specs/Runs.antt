@@ -10,16 +10,16 @@ use Rattle.bsp_rows.specs.Rows.{Rows, item_at}
 use Rattle.bsp_rows.specs.declared.keys.ItemKey.{ItemKey}
 use Rattle.bsp_rows.specs.Sound.{Sound}
 use Rattle.bsp_rows.specs.Item.{Item}
-use Rattle.bsp_desk_base.specs.AirlineLedger.{airline_ledger_of, hot_answer}
-use Rattle.bsp_desk_base.specs.AirlineView.{airline_all, airline_ledger_answers, airline_told, airline_view}
-use Rattle.bsp_desk_base.specs.Answers.{Answer}
-use Rattle.bsp_desk_base.specs.Laws.{HasAccepted, IsHeldIn, IsPeriodKept, NetsAddUp, NewAgreeWithTickets, RepeatsHeld, ShownReportsStay}
-use Rattle.bsp_desk_base.specs.Ledger.{ledger_of, own_verdicts, statement_answer}
-use Rattle.bsp_desk_base.specs.Printed.{ReportsPrintNets}
-use Rattle.bsp_desk_base.specs.Requests.{Request as Reading}
-use Rattle.bsp_desk_base.specs.Step.{AreGroups, office_verdicts, settlement_answer}
-use Rattle.bsp_desk_base.specs.Unmarked.{AgentNeedsNoMarks, AirlineNeedsNoMarks}
-use Rattle.bsp_desk_base.specs.View.{AllFit, Exchange, Run, ledger_all, ledger_answers, told, view}
+use Rattle.bsp_desk_writes.specs.AirlineLedger.{airline_ledger_of, hot_answer}
+use Rattle.bsp_desk_writes.specs.AirlineView.{airline_all, airline_ledger_answers, airline_told, airline_view}
+use Rattle.bsp_desk_writes.specs.Answers.{Answer}
+use Rattle.bsp_desk_writes.specs.Laws.{HasAccepted, IsHeldIn, IsPeriodKept, NetsAddUp, NewAgreeWithTickets, RepeatsHeld, ShownReportsStay}
+use Rattle.bsp_desk_writes.specs.Ledger.{ledger_of, own_verdicts, statement_answer}
+use Rattle.bsp_desk_writes.specs.Printed.{ReportsPrintNets}
+use Rattle.bsp_desk_writes.specs.Requests.{Request as Reading}
+use Rattle.bsp_desk_writes.specs.Step.{AreGroups, office_verdicts, settlement_answer}
+use Rattle.bsp_desk_writes.specs.Unmarked.{AgentNeedsNoMarks, AirlineNeedsNoMarks}
+use Rattle.bsp_desk_writes.specs.View.{AllFit, Exchange, Run, ledger_all, ledger_answers, told, view}
 use Rattle.bsp_desk.specs.Replies.{IsSent, Refuses, is_unavailable}
 use Rattle.bsp_desk.specs.Steps.{Answers}
 use Rattle.bsp_desk.specs.declared.request.Request.{Request}

@@ -9,10 +9,10 @@ use Rattle.bsp_routes.specs.declared.asking.Asking.TheVariants as asking
 use Rattle.bsp_routes.specs.declared.methods.Methods.{Methods}
 use Rattle.bsp_rows.specs.Rows.{Rows}
 use Rattle.bsp_rows.specs.Sound.{Sound}
-use Rattle.bsp_desk_base.specs.Serves.{FallsBackSound, Finds, LeavesLastSound, Serves}
-use Rattle.bsp_desk_base.specs.Answers.{is_done, verdicts_in}
-use Rattle.bsp_desk_base.specs.Requests.{Request as Reading}
-use Rattle.bsp_desk_base.specs.Step.{answer_of, rows_after}
+use Rattle.bsp_desk_writes.specs.Serves.{FallsBackSound, Finds, LeavesLastSound, Serves}
+use Rattle.bsp_desk_writes.specs.Answers.{is_done, verdicts_in}
+use Rattle.bsp_desk_writes.specs.Requests.{Request as Reading}
+use Rattle.bsp_desk_writes.specs.Step.{answer_of, rows_after}
 use Rattle.bsp_desk.specs.Reading.{IsRead}
 use Rattle.bsp_desk.specs.Replies.{IsSent, Refuses, is_refusal, is_unavailable}
 use Rattle.bsp_desk.specs.declared.request.Request.{Request}

@@ -9,7 +9,7 @@ use Rattle.bsp_rows.specs.Rows.{HasNumberKey}
 use Rattle.bsp_rules.specs.Rows.{contains}
 use Rattle.bsp_rules.specs.declared.rows.Item.{Item}
 use Rattle.bsp_rules.specs.declared.rows.Range.{Range}
-use Rattle.bsp_desk_base.specs.Ledger.{same_number}
+use Rattle.bsp_desk_writes.specs.Ledger.{same_number}
 
 -- the document number of an item
 abbrev pub item_number : Item → ℕ

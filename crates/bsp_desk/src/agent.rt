@@ -2,17 +2,16 @@
 
 ghost use Rattle.std.specs.Prelude.{◌≡◌, false};
 ghost use Rattle.bsp_desk.specs.Calls.{agent_text};
-ghost use Rattle.bsp_desk_base.specs.Contents.{IsAgentCall};
-ghost use Rattle.bsp_desk_base.specs.Serves.{EndsOnFault, ServesAgent};
-ghost use Rattle.bsp_desk_base.specs.Requests.{AgentRequest};
+ghost use Rattle.bsp_desk_writes.specs.Contents.{IsAgentCall};
+ghost use Rattle.bsp_desk_writes.specs.Serves.{EndsOnFault, ServesAgent};
+ghost use Rattle.bsp_desk_writes.specs.Requests.{AgentRequest};
 
 use crate::documents::document;
 use crate::periods::period;
 use crate::statements::statement;
 use crate::stocks::stock;
 use bsp_book::{Book, BookFault};
-use bsp_desk_base::Content;
-use bsp_desk_writes::{agent_memos, agree, dispute, report_of_agent};
+use bsp_desk_writes::{Content, agent_memos, agree, dispute, report_of_agent};
 use bsp_messages::Answer;
 use bsp_routes::AgentCall;
 use bsp_rows::AgentCode;

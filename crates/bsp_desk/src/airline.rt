@@ -2,14 +2,13 @@
 
 ghost use Rattle.std.specs.Prelude.{◌≡◌, false};
 ghost use Rattle.bsp_desk.specs.Calls.{airline_text};
-ghost use Rattle.bsp_desk_base.specs.Contents.{bytes_in};
-ghost use Rattle.bsp_desk_base.specs.Serves.{EndsOnFault, ServesAirline};
-ghost use Rattle.bsp_desk_base.specs.Requests.{AirlineRequest, IsAirlineRequest};
+ghost use Rattle.bsp_desk_writes.specs.Contents.{bytes_in};
+ghost use Rattle.bsp_desk_writes.specs.Serves.{EndsOnFault, ServesAirline};
+ghost use Rattle.bsp_desk_writes.specs.Requests.{AirlineRequest, IsAirlineRequest};
 
 use crate::hot_files::hot;
 use bsp_book::{Book, BookFault};
-use bsp_desk_base::Content;
-use bsp_desk_writes::{airline_memos, issue, reduce, uphold, withdraw};
+use bsp_desk_writes::{Content, airline_memos, issue, reduce, uphold, withdraw};
 use bsp_messages::Answer;
 use bsp_routes::AirlineCall;
 use bsp_rows::AirlineCode;

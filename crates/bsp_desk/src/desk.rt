@@ -8,12 +8,12 @@ ghost use Rattle.bsp_desk.specs.Steps.{Answers};
 ghost use Rattle.bsp_desk.specs.Stops.{Outlives};
 ghost use Rattle.bsp_rows.specs.Rows.{Rows};
 ghost use Rattle.bsp_rows.specs.Sound.{Sound};
-ghost use Rattle.bsp_desk_base.specs.Requests.{Request as Reading};
+ghost use Rattle.bsp_desk_writes.specs.Requests.{Request as Reading};
 
 use crate::request::Request;
 use crate::transaction::answer_call;
 use bsp_book::{Book, BookFault};
-use bsp_desk_base::Content;
+use bsp_desk_writes::Content;
 use bsp_messages::{Reply, RequestRefusal};
 use bsp_routes::{Asking, Call};
 use bsp_rows::Token;

@@ -5,9 +5,9 @@ ghost use Rattle.std.specs.Option.{option_copied};
 ghost use Rattle.std.specs.Prelude.{◌≡◌, false};
 ghost use Rattle.bsp_rules.specs.Rows.{is_living_relation};
 ghost use Rattle.bsp_desk.specs.Documents.{is_canx_of, is_sale_of};
-ghost use Rattle.bsp_desk_base.specs.Serves.{EndsOnFault, ServesAgent};
-ghost use Rattle.bsp_desk_base.specs.Ledger.{first_of, state_of};
-ghost use Rattle.bsp_desk_base.specs.Requests.AgentRequest.{AskDocument};
+ghost use Rattle.bsp_desk_writes.specs.Serves.{EndsOnFault, ServesAgent};
+ghost use Rattle.bsp_desk_writes.specs.Ledger.{first_of, state_of};
+ghost use Rattle.bsp_desk_writes.specs.Requests.AgentRequest.{AskDocument};
 
 use bsp_book::{Book, BookFault};
 use bsp_messages::{Answer, DocumentShown, DocumentState, RequestRefusal};

@@ -4,11 +4,11 @@ ghost use Rattle.std.specs.Prelude.{◌≡◌, false, IfOk, OnOk};
 ghost use Rattle.bsp_book.specs.Calls.{FallsBack, Faults, Keeps, LeavesLast, Shows};
 ghost use Rattle.bsp_hot.specs.Files.{AnswersOver};
 ghost use Rattle.bsp_hot.specs.Rows.{entries};
-ghost use Rattle.bsp_desk_base.specs.Serves.{EndsOnFault, ServesAirline};
-ghost use Rattle.bsp_desk_base.specs.Requests.AirlineRequest.{AskHot};
+ghost use Rattle.bsp_desk_writes.specs.Serves.{EndsOnFault, ServesAirline};
+ghost use Rattle.bsp_desk_writes.specs.Requests.AirlineRequest.{AskHot};
 
 use bsp_book::{Book, BookFault};
-use bsp_desk_base::{give_up, hot_rows_keep_rules};
+use bsp_desk_writes::{give_up, hot_rows_keep_rules};
 use bsp_hot::{HotFault, write_hot_of};
 use bsp_messages::{Answer, RequestRefusal};
 use bsp_rows::{AirlineCode, Items, Memos, PeriodCode, Tallies};

@@ -26,7 +26,7 @@ mod token;
 mod transaction;
 
 pub use bsp_book::{Book, BookFault, ListBook};
-pub use bsp_desk_base::Content;
+pub use bsp_desk_writes::Content;
 pub use bsp_messages::{Body, Media, Reply, RequestRefusal, Status};
 pub use bsp_routes::{Asking, BodyKind, Route, Routes};
 pub use bsp_rows::Token;

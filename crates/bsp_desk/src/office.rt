@@ -2,15 +2,14 @@
 
 ghost use Rattle.std.specs.Prelude.{◌≡◌, false};
 ghost use Rattle.bsp_desk.specs.Calls.{office_text};
-ghost use Rattle.bsp_desk_base.specs.Contents.{IsOfficeCall};
-ghost use Rattle.bsp_desk_base.specs.Serves.{EndsOnFault, ServesOffice};
-ghost use Rattle.bsp_desk_base.specs.Requests.{OfficeRequest};
+ghost use Rattle.bsp_desk_writes.specs.Contents.{IsOfficeCall};
+ghost use Rattle.bsp_desk_writes.specs.Serves.{EndsOnFault, ServesOffice};
+ghost use Rattle.bsp_desk_writes.specs.Requests.{OfficeRequest};
 
 use crate::settlements::settlement;
 use bsp_book::{Book, BookFault};
-use bsp_desk_base::Content;
 use bsp_desk_writes::{
-    allot, close, publish, register_agent, register_airline, report_of_office, set_day,
+    Content, allot, close, publish, register_agent, register_airline, report_of_office, set_day,
     withdraw_range,
 };
 use bsp_messages::Answer;

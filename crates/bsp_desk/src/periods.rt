@@ -6,8 +6,8 @@ ghost use Rattle.bsp_postings.specs.Nets.{net_of_postings};
 ghost use Rattle.bsp_postings.specs.Sides.{AreOnce};
 ghost use Rattle.bsp_postings.specs.Tallies.{tally_posting, tally_postings};
 ghost use Rattle.bsp_desk.specs.Sums.{shown_over};
-ghost use Rattle.bsp_desk_base.specs.Serves.{EndsOnFault, ServesAgent};
-ghost use Rattle.bsp_desk_base.specs.Requests.AgentRequest.{AskPeriod};
+ghost use Rattle.bsp_desk_writes.specs.Serves.{EndsOnFault, ServesAgent};
+ghost use Rattle.bsp_desk_writes.specs.Requests.AgentRequest.{AskPeriod};
 
 use bsp_book::{Book, BookFault};
 use bsp_messages::{Answer, PeriodShown, RequestRefusal};

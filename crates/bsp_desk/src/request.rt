@@ -1,6 +1,6 @@
 //! A request with its token.
 
-use bsp_desk_base::Content;
+use bsp_desk_writes::Content;
 use bsp_routes::Asking;
 
 /// A request as it comes in.

@@ -1,11 +1,11 @@
 //! The settlement of a period.
 
 ghost use Rattle.std.specs.Prelude.{◌≡◌, false};
-ghost use Rattle.bsp_desk_base.specs.Serves.{EndsOnFault, ServesOffice};
-ghost use Rattle.bsp_desk_base.specs.Requests.OfficeRequest.{AskSettlement};
+ghost use Rattle.bsp_desk_writes.specs.Serves.{EndsOnFault, ServesOffice};
+ghost use Rattle.bsp_desk_writes.specs.Requests.OfficeRequest.{AskSettlement};
 
 use bsp_book::{Book, BookFault};
-use bsp_desk_base::give_up;
+use bsp_desk_writes::give_up;
 use bsp_messages::{Answer, RequestRefusal};
 use bsp_rows::{PeriodCode, Tallies};
 use bsp_statement::{StatementFault, settlement_of};

@@ -1,11 +1,11 @@
 //! The billing statement of an agent.
 
 ghost use Rattle.std.specs.Prelude.{◌≡◌, false};
-ghost use Rattle.bsp_desk_base.specs.Serves.{EndsOnFault, ServesAgent};
-ghost use Rattle.bsp_desk_base.specs.Requests.AgentRequest.{AskStatement};
+ghost use Rattle.bsp_desk_writes.specs.Serves.{EndsOnFault, ServesAgent};
+ghost use Rattle.bsp_desk_writes.specs.Requests.AgentRequest.{AskStatement};
 
 use bsp_book::{Book, BookFault};
-use bsp_desk_base::give_up;
+use bsp_desk_writes::give_up;
 use bsp_messages::{Answer, RequestRefusal};
 use bsp_rows::{AgentCode, PeriodCode, Tallies};
 use bsp_statement::{StatementFault, statement_of};

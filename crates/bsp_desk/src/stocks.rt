@@ -4,12 +4,12 @@ ghost use Rattle.std.specs.List.{filter};
 ghost use Rattle.std.specs.Prelude.{◌≡◌, [], ◌∷◌, ◌++◌, false, length, map, if◌then◌else◌, IfOk, OnOk};
 ghost use Rattle.bsp_desk.specs.Stock.{AreInOrder, numbers_once, shown_by};
 ghost use Rattle.bsp_rules.specs.Rows.{contains};
-ghost use Rattle.bsp_desk_base.specs.Serves.{EndsOnFault, ServesAgent};
-ghost use Rattle.bsp_desk_base.specs.Requests.AgentRequest.{AskStock};
-ghost use Rattle.bsp_desk_base.specs.Step.{is_last};
+ghost use Rattle.bsp_desk_writes.specs.Serves.{EndsOnFault, ServesAgent};
+ghost use Rattle.bsp_desk_writes.specs.Requests.AgentRequest.{AskStock};
+ghost use Rattle.bsp_desk_writes.specs.Step.{is_last};
 
 use bsp_book::{Book, BookFault};
-use bsp_desk_base::give_up;
+use bsp_desk_writes::give_up;
 use bsp_messages::{Answer, RangeShown};
 use bsp_rows::{AgentCode, DocNumber, ItemKey, Items};
 use bsp_rules::{Item, Range};

@@ -2,7 +2,7 @@
 
 ghost use Rattle.std.specs.Prelude.{◌≡◌, Some};
 ghost use Rattle.bsp_desk.specs.Reading.{token_text};
-ghost use Rattle.bsp_desk_base.specs.Step.{is_token};
+ghost use Rattle.bsp_desk_writes.specs.Step.{is_token};
 
 use bsp_rows::Token;
 

@@ -7,7 +7,7 @@ ghost use Rattle.bsp_desk.specs.Steps.{Commits, EndsRequest, EndsUnsent, Sends};
 
 use crate::serve::serve;
 use bsp_book::{Book, BookFault};
-use bsp_desk_base::{Content, give_up};
+use bsp_desk_writes::{Content, give_up};
 use bsp_messages::{Reply, Status, reply_of};
 use bsp_routes::Call;
 use bsp_rows::Token;

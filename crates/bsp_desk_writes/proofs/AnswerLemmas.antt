@@ -19,8 +19,8 @@ use Rattle.bsp_rules.specs.declared.verdict.Verdict.{Verdict}
 use Rattle.bsp_rows.specs.Rows.{Rows}
 use Rattle.bsp_rows.specs.Sound.{Sound}
 use Rattle.bsp_rows.proofs.MapLemmas.{same_Some}
-use Rattle.bsp_desk_base.specs.Requests.{FileRead, IsFileOf}
-use Rattle.bsp_desk_base.specs.Step.{rows_filed}
+use Rattle.bsp_office_spec.specs.Requests.{FileRead, IsFileOf}
+use Rattle.bsp_office_spec.specs.Step.{rows_filed}
 use Rattle.bsp_desk_writes.specs.Judged.{AreJudged, owner_of, verdicts_of}
 use Rattle.bsp_desk_writes.specs.Reported.{ServesFile}
 use Rattle.bsp_desk_writes.proofs.FileLemmas.{one_list}

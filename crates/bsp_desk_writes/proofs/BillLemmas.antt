@@ -16,8 +16,8 @@ use Rattle.bsp_rows.specs.Writes.{changed, with_billing}
 use Rattle.bsp_rows.specs.declared.questions.Memos.TheVariants.{Unbilled}
 use Rattle.bsp_rows.proofs.KeyOrders.{memo_exact, memo_total}
 use Rattle.bsp_rows.proofs.PartLemmas.{changed_some}
-use Rattle.bsp_desk_base.proofs.Seen.{insert_same}
-use Rattle.bsp_desk_base.specs.Ledger.{review_of}
+use Rattle.bsp_office_spec.proofs.Seen.{insert_same}
+use Rattle.bsp_office_spec.specs.Ledger.{review_of}
 use Rattle.bsp_desk_writes.specs.Billings.{IsAsRead, with_billings, with_closed_memo}
 use Rattle.bsp_desk_writes.proofs.EachLemmas.{IsLeft, changed_each, changed_left, left_there, none_left, passed_left}
 

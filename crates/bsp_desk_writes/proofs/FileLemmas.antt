@@ -12,10 +12,10 @@ use Rattle.bsp_rules.specs.declared.verdict.Reporter.TheVariants.{Office, Agent}
 use Rattle.bsp_rules.specs.declared.verdict.Verdict.{Verdict}
 use Rattle.bsp_rows.specs.Rows.{Rows}
 use Rattle.bsp_rows.specs.Sound.{Sound}
-use Rattle.bsp_desk_base.specs.Serves.{FallsBackSound, LeavesLastSound}
-use Rattle.bsp_desk_base.specs.Ledger.{Ledger, ledger_filed, ledger_judged, ledger_of, own_verdict, own_verdicts}
-use Rattle.bsp_desk_base.specs.Step.{Owner, bearer, office_verdict, office_verdicts, rows_filed, rows_judged}
-use Rattle.bsp_desk_base.proofs.SeenLemmas.{filed_own}
+use Rattle.bsp_desk_writes.specs.Serves.{FallsBackSound, LeavesLastSound}
+use Rattle.bsp_office_spec.specs.Ledger.{Ledger, ledger_filed, ledger_judged, ledger_of, own_verdict, own_verdicts}
+use Rattle.bsp_office_spec.specs.Step.{Owner, bearer, office_verdict, office_verdicts, rows_filed, rows_judged}
+use Rattle.bsp_office_spec.proofs.SeenLemmas.{filed_own}
 use Rattle.bsp_desk_writes.specs.Judged.{AreJudged, HasJudged, IsJudged, owner_of, rows_next, verdict_of, verdicts_of}
 
 -- groups have one list of values

@@ -14,10 +14,10 @@ use Rattle.bsp_rows.specs.Laws.{issued_count}
 use Rattle.bsp_rows.specs.Rows.{Rows, agent_token, memo_at}
 use Rattle.bsp_rows.proofs.KeyOrders.{memo_exact, memo_total}
 use Rattle.bsp_rows.proofs.PartLemmas.{each_get, kept_entries}
-use Rattle.bsp_desk_base.specs.AirlineLedger.{airline_ledger_of, count_to, is_known, issue_beside, issue_key, issuing, new_memo, no_token}
-use Rattle.bsp_desk_base.specs.Answers.{Answer}
-use Rattle.bsp_desk_base.specs.Answers.Answer.{Changed, Refused}
-use Rattle.bsp_desk_base.proofs.Seen.{of_its_airline}
+use Rattle.bsp_office_spec.specs.AirlineLedger.{airline_ledger_of, count_to, is_known, issue_beside, issue_key, issuing, new_memo, no_token}
+use Rattle.bsp_office_spec.specs.Answers.{Answer}
+use Rattle.bsp_office_spec.specs.Answers.Answer.{Changed, Refused}
+use Rattle.bsp_office_spec.proofs.Seen.{of_its_airline}
 use Rattle.bsp_desk_writes.specs.Issues.{beside, placing}
 use Rattle.bsp_desk_writes.proofs.MemoLemmas.{by_airline}
 

@@ -10,9 +10,9 @@ use Rattle.bsp_rows.specs.declared.questions.Memos.TheVariants.{OfAgent, OfAirli
 use Rattle.bsp_rows.proofs.KeyOrders.{memo_exact, memo_total}
 use Rattle.bsp_rows.proofs.PartLaws.{filter-map}
 use Rattle.bsp_rows.proofs.PartLemmas.{kept_entries, kept_get, passing}
-use Rattle.bsp_desk_base.specs.AirlineLedger.{issue_key}
-use Rattle.bsp_desk_base.proofs.Seen.{of_its_airline}
-use Rattle.bsp_desk_base.proofs.SeenLemmas.{own_memo}
+use Rattle.bsp_office_spec.specs.AirlineLedger.{issue_key}
+use Rattle.bsp_office_spec.proofs.Seen.{of_its_airline}
+use Rattle.bsp_office_spec.proofs.SeenLemmas.{own_memo}
 use Rattle.bsp_desk_writes.specs.Actions.{IsFound, memo_by, memo_to}
 
 -- ---- the memo at a key

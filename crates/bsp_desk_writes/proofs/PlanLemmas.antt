@@ -24,13 +24,13 @@ use Rattle.bsp_rows.specs.Changes.{each}
 use Rattle.bsp_rows.specs.Rows.{Rows}
 use Rattle.bsp_rows.specs.Sound.{Sound}
 use Rattle.bsp_rows.specs.Writes.{after_request, change_or_fault, is_held, plan_left, request_answer}
-use Rattle.bsp_desk_base.specs.After.{office_after}
-use Rattle.bsp_desk_base.specs.Answers.{is_done}
-use Rattle.bsp_desk_base.specs.Ledger.{review_of}
-use Rattle.bsp_desk_base.specs.Requests.{IsBeyondMemory, IsInMemory, IsPlanOf, PlanRead}
-use Rattle.bsp_desk_base.specs.Requests.OfficeRequest.{ClosePeriod, PublishPlan, SetBusinessDay}
-use Rattle.bsp_desk_base.specs.Step.{office_answer, outcome_answer, with_close}
-use Rattle.bsp_desk_base.specs.Texts.{Says}
+use Rattle.bsp_desk_writes.specs.After.{office_after}
+use Rattle.bsp_office_spec.specs.Answers.{is_done}
+use Rattle.bsp_office_spec.specs.Ledger.{review_of}
+use Rattle.bsp_office_spec.specs.Requests.{IsBeyondMemory, IsInMemory, IsPlanOf, PlanRead}
+use Rattle.bsp_office_spec.specs.Requests.OfficeRequest.{ClosePeriod, PublishPlan, SetBusinessDay}
+use Rattle.bsp_office_spec.specs.Step.{office_answer, outcome_answer, with_close}
+use Rattle.bsp_office_spec.specs.Texts.{Says}
 use Rattle.bsp_desk_writes.specs.Billings.{with_billings}
 
 -- ---- what is held leaves the plan

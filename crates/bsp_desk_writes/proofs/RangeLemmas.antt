@@ -17,13 +17,13 @@ use Rattle.bsp_rows.specs.declared.keys.RangeKey.{RangeKey}
 use Rattle.bsp_rows.proofs.KeyOrders.{range_exact, range_total}
 use Rattle.bsp_rows.proofs.MapLemmas.{get_entry}
 use Rattle.bsp_rows.proofs.RowLemmas.{mapped, range_among}
-use Rattle.bsp_desk_base.specs.After.{office_after, office_left}
-use Rattle.bsp_desk_base.specs.Answers.{Answer}
-use Rattle.bsp_desk_base.specs.Answers.Answer.{Changed, Refused}
-use Rattle.bsp_desk_base.specs.Requests.{OfficeRequest}
-use Rattle.bsp_desk_base.specs.Requests.OfficeRequest.{AllotRange}
-use Rattle.bsp_desk_base.specs.Step.{has_range, is_last, is_out_of_order, is_registered, office_answer}
-use Rattle.bsp_desk_base.specs.Texts.{Says}
+use Rattle.bsp_desk_writes.specs.After.{office_after, office_left}
+use Rattle.bsp_office_spec.specs.Answers.{Answer}
+use Rattle.bsp_office_spec.specs.Answers.Answer.{Changed, Refused}
+use Rattle.bsp_office_spec.specs.Requests.{OfficeRequest}
+use Rattle.bsp_office_spec.specs.Requests.OfficeRequest.{AllotRange}
+use Rattle.bsp_office_spec.specs.Step.{has_range, is_last, is_out_of_order, is_registered, office_answer}
+use Rattle.bsp_office_spec.specs.Texts.{Says}
 use Rattle.bsp_desk_writes.specs.Replies.{is_same_range}
 
 -- ---- the very range

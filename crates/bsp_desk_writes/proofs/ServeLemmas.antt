@@ -12,12 +12,12 @@ use Rattle.bsp_messages.specs.declared.answer.Answer.TheVariants as message
 use Rattle.bsp_messages.specs.declared.refusal.RequestRefusal.TheVariants as refusal
 use Rattle.bsp_rows.specs.Rows.{Rows, agent_token, memo_at, memo_key}
 use Rattle.bsp_rows.specs.declared.keys.MemoKey.{MemoKey}
-use Rattle.bsp_desk_base.specs.Serves.{Serves}
-use Rattle.bsp_desk_base.specs.AirlineLedger.{airline_ledger_of, issuing, new_memo}
-use Rattle.bsp_desk_base.specs.Answers.{Answer}
-use Rattle.bsp_desk_base.specs.Answers.Answer.{Refused}
-use Rattle.bsp_desk_base.specs.Ledger.{memo_answer}
-use Rattle.bsp_desk_base.specs.Texts.{Says}
+use Rattle.bsp_desk_writes.specs.Serves.{Serves}
+use Rattle.bsp_office_spec.specs.AirlineLedger.{airline_ledger_of, issuing, new_memo}
+use Rattle.bsp_office_spec.specs.Answers.{Answer}
+use Rattle.bsp_office_spec.specs.Answers.Answer.{Refused}
+use Rattle.bsp_office_spec.specs.Ledger.{memo_answer}
+use Rattle.bsp_office_spec.specs.Texts.{Says}
 use Rattle.bsp_desk_writes.specs.Actions.{ActsOn, IsFound, ServesAction, acted_left}
 use Rattle.bsp_desk_writes.specs.Issues.{Adds, ServesIssue, beside, issued_left, placed, placed_left, placing}
 use Rattle.bsp_desk_writes.proofs.IssueLemmas.{placing_is}

@@ -22,10 +22,10 @@ use Rattle.bsp_rows.specs.Writes.{IsFree}
 use Rattle.bsp_rows.proofs.GroupLemmas.{own_reads}
 use Rattle.bsp_rows.proofs.KeptLemmas.{accepted_free}
 use Rattle.bsp_rows.proofs.MapLemmas.{same_Some}
-use Rattle.bsp_desk_base.specs.Ledger.{agent_of, ledger_of, new_item, own_verdict}
-use Rattle.bsp_desk_base.specs.Step.{Owner, joined, office_verdict, office_verdict_for, reporter, rows_judged}
-use Rattle.bsp_desk_base.proofs.ChangeLemmas.{accepts, office_judged_keeps, own_judged_keeps, part_item, part_verdict, reported_own}
-use Rattle.bsp_desk_base.proofs.Invariant.{sound_is_kept}
+use Rattle.bsp_office_spec.specs.Ledger.{agent_of, ledger_of, new_item, own_verdict}
+use Rattle.bsp_office_spec.specs.Step.{Owner, joined, office_verdict, office_verdict_for, reporter, rows_judged}
+use Rattle.bsp_office_spec.proofs.ChangeLemmas.{accepts, office_judged_keeps, own_judged_keeps, part_item, part_verdict, reported_own}
+use Rattle.bsp_office_spec.proofs.Invariant.{sound_is_kept}
 use Rattle.bsp_desk_writes.specs.Judged.{HasFreeKey, IsJudged, item_of, owner_of, rows_next, rows_with, verdict_of}
 
 -- what is accepted has a number with its check digit

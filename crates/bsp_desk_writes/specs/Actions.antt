@@ -11,11 +11,11 @@ use Rattle.bsp_rows.specs.Part.{agent_part, airline_part}
 use Rattle.bsp_rows.specs.Rows.{Rows, memo_at}
 use Rattle.bsp_rows.specs.Sound.{Sound}
 use Rattle.bsp_rows.specs.declared.keys.MemoKey.{MemoKey}
-use Rattle.bsp_desk_base.specs.Serves.{Serves}
-use Rattle.bsp_desk_base.specs.Answers.{Answer, is_done}
-use Rattle.bsp_desk_base.specs.Ledger.{memo_answer}
-use Rattle.bsp_desk_base.specs.Step.{with_action}
-use Rattle.bsp_desk_base.specs.Texts.{Says}
+use Rattle.bsp_desk_writes.specs.Serves.{Serves}
+use Rattle.bsp_office_spec.specs.Answers.{Answer, is_done}
+use Rattle.bsp_office_spec.specs.Ledger.{memo_answer}
+use Rattle.bsp_office_spec.specs.Step.{with_action}
+use Rattle.bsp_office_spec.specs.Texts.{Says}
 use Rattle.bsp_desk_writes.specs.declared.action.Action.{Action as Taken}
 use Rattle.bsp_desk_writes.specs.declared.action.Action.TheVariants as taken
 

@@ -7,8 +7,8 @@ use Rattle.bsp_messages.specs.declared.fault.BodyFault.TheVariants as body
 use Rattle.bsp_messages.specs.declared.refusal.RequestRefusal.TheVariants.{Malformed}
 use Rattle.bsp_rows.specs.Rows.{Rows, memos_of}
 use Rattle.bsp_rows.specs.declared.questions.Memos.{Memos as Question}
-use Rattle.bsp_desk_base.specs.Answers.{Answer}
-use Rattle.bsp_desk_base.specs.Answers.Answer.{Memos}
+use Rattle.bsp_office_spec.specs.Answers.{Answer}
+use Rattle.bsp_office_spec.specs.Answers.Answer.{Memos}
 
 -- the body is malformed, and the message says so
 pub record IsMalformed (fault : BodyFault) (m : Message) : Type 0 where

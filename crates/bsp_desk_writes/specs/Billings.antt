@@ -7,7 +7,7 @@ use Rattle.bsp_memos.specs.declared.fields.MemoFields.{MemoFields}
 use Rattle.bsp_rows.specs.Changes.{each}
 use Rattle.bsp_rows.specs.Rows.{Rows, memo_at, memo_key}
 use Rattle.bsp_rows.specs.Writes.{changed}
-use Rattle.bsp_desk_base.specs.Ledger.{review_of}
+use Rattle.bsp_office_spec.specs.Ledger.{review_of}
 
 -- the memo is at its key
 abbrev pub IsAsRead : MemoFields → Rows → Type 0

@@ -13,12 +13,12 @@ use Rattle.bsp_messages.specs.declared.refusal.RequestRefusal.TheVariants as ref
 use Rattle.bsp_rows.specs.Laws.{issued_count}
 use Rattle.bsp_rows.specs.Rows.{Rows, memo_at, memo_key}
 use Rattle.bsp_rows.specs.Writes.{IsFree, with_memo}
-use Rattle.bsp_desk_base.specs.Serves.{Serves}
-use Rattle.bsp_desk_base.specs.AirlineLedger.{airline_ledger_of, issuing}
-use Rattle.bsp_desk_base.specs.Answers.{Answer, is_done}
-use Rattle.bsp_desk_base.specs.Answers.Answer.{Changed, Refused}
-use Rattle.bsp_desk_base.specs.Step.{issued_to}
-use Rattle.bsp_desk_base.specs.Texts.{Says}
+use Rattle.bsp_desk_writes.specs.Serves.{Serves}
+use Rattle.bsp_office_spec.specs.AirlineLedger.{airline_ledger_of, issuing}
+use Rattle.bsp_office_spec.specs.Answers.{Answer, is_done}
+use Rattle.bsp_office_spec.specs.Answers.Answer.{Changed, Refused}
+use Rattle.bsp_office_spec.specs.Step.{issued_to}
+use Rattle.bsp_office_spec.specs.Texts.{Says}
 
 -- ---- a new memo, whose amount is in range, to an agent that is registered
 

@@ -15,8 +15,8 @@ use Rattle.bsp_rules.specs.declared.verdict.Reporter.{Reporter}
 use Rattle.bsp_rules.specs.declared.verdict.Reporter.TheVariants.{Office, Agent}
 use Rattle.bsp_rules.specs.declared.verdict.Verdict.{Verdict}
 use Rattle.bsp_rules.specs.declared.verdict.Verdict.TheVariants as verdict
-use Rattle.bsp_desk_base.specs.Ledger.{ledger_of, own_verdict, own_verdicts}
-use Rattle.bsp_desk_base.specs.Step.{Owner, bearer, office_verdict, office_verdicts, reporter, rows_filed, rows_judged}
+use Rattle.bsp_office_spec.specs.Ledger.{ledger_of, own_verdict, own_verdicts}
+use Rattle.bsp_office_spec.specs.Step.{Owner, bearer, office_verdict, office_verdicts, reporter, rows_filed, rows_judged}
 
 -- whose rows a transaction is judged over, and joins
 abbrev pub owner_of : Reporter → Owner

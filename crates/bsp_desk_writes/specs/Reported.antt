@@ -6,10 +6,10 @@ use Rattle.bsp_messages.specs.declared.answer.Answer.{Answer}
 use Rattle.bsp_rows.specs.Rows.{Rows}
 use Rattle.bsp_rules.specs.declared.verdict.Reporter.{Reporter}
 use Rattle.bsp_rules.specs.declared.verdict.Reporter.TheVariants.{Office, Agent}
-use Rattle.bsp_desk_base.specs.Serves.{ServesAgent, ServesOffice}
-use Rattle.bsp_desk_base.specs.Requests.{FileRead}
-use Rattle.bsp_desk_base.specs.Requests.AgentRequest.{AgentFile}
-use Rattle.bsp_desk_base.specs.Requests.OfficeRequest.{OfficeFile}
+use Rattle.bsp_desk_writes.specs.Serves.{ServesAgent, ServesOffice}
+use Rattle.bsp_office_spec.specs.Requests.{FileRead}
+use Rattle.bsp_office_spec.specs.Requests.AgentRequest.{AgentFile}
+use Rattle.bsp_office_spec.specs.Requests.OfficeRequest.{OfficeFile}
 
 -- the reporter's request with this file is served
 abbrev pub ServesFile : {B : Type 0} (m : Meaning B Rows) (old new : B) → Result Answer BookFault → Reporter → FileRead → Type 0

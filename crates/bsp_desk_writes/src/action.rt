@@ -2,7 +2,7 @@
 
 ghost use Rattle.std.specs.Prelude.{◌≡◌};
 ghost use Rattle.bsp_memos.specs.Steps.{MemoStep};
-ghost use Rattle.bsp_desk_base.specs.Ledger.{review_of};
+ghost use Rattle.bsp_office_spec.specs.Ledger.{review_of};
 ghost use Rattle.bsp_desk_writes.specs.Actions.{meaning_of};
 
 use bsp_memos::{Memo, MemoFault, agree, dispute, reduce, uphold, withdraw};

@@ -4,8 +4,8 @@ ghost use Rattle.std.specs.Prelude.{◌≡◌, false, IfOk};
 ghost use Rattle.bsp_book.specs.Calls.{FallsBack, Faults, LeavesLast};
 ghost use Rattle.bsp_desk_writes.specs.Replies.{IsMalformed};
 
+use crate::memory::give_up;
 use bsp_book::{Book, BookFault};
-use bsp_desk_base::give_up;
 use bsp_messages::{Answer, BodyFault, RequestRefusal};
 
 /// Answers a body of which a reader gave this fault: it is malformed, or the request is given up.

@@ -3,9 +3,9 @@
 ghost use Rattle.std.specs.Prelude.{◌≡◌, false, Some};
 ghost use Rattle.bsp_book.specs.Calls.{FallsBack, Faults, LeavesLast};
 ghost use Rattle.bsp_messages.specs.Bodies.{agent_registration_form, airline_registration_form, body_of};
-ghost use Rattle.bsp_desk_base.specs.Serves.{EndsOnFault, ServesOffice};
-ghost use Rattle.bsp_desk_base.specs.Requests.OfficeRequest.{RegisterAgent, RegisterAirline};
-ghost use Rattle.bsp_desk_base.specs.Step.{is_token};
+ghost use Rattle.bsp_desk_writes.specs.Serves.{EndsOnFault, ServesOffice};
+ghost use Rattle.bsp_office_spec.specs.Requests.OfficeRequest.{RegisterAgent, RegisterAirline};
+ghost use Rattle.bsp_office_spec.specs.Step.{is_token};
 
 use crate::bodies::unread;
 use bsp_book::{Book, BookFault};

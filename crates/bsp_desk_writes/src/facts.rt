@@ -3,7 +3,7 @@
 ghost use Rattle.std.specs.Prelude.{◌≡◌, OnOk, false};
 ghost use Rattle.bsp_book.specs.Calls.{FallsBack, Faults, Keeps, LeavesLast, LooksUp};
 ghost use Rattle.bsp_rows.specs.Changes.{facts_at};
-ghost use Rattle.bsp_desk_base.specs.Serves.{Finds};
+ghost use Rattle.bsp_desk_writes.specs.Serves.{Finds};
 ghost use Rattle.bsp_desk_writes.specs.Counted.{count_at};
 
 use bsp_book::{Book, BookFault};

@@ -3,8 +3,8 @@
 ghost use Rattle.std.specs.Prelude.{◌≡◌, ◌≤◌, OnOk, Some, [], false, length, true, vec_capacity};
 ghost use Rattle.bsp_rows.specs.Decimal.{fixed_digits};
 ghost use Rattle.bsp_rows.specs.GroupValues.{is_group_values};
-ghost use Rattle.bsp_desk_base.specs.Serves.{EndsOnFault, Finds};
-ghost use Rattle.bsp_desk_base.specs.Ledger.{agent_of};
+ghost use Rattle.bsp_desk_writes.specs.Serves.{EndsOnFault, Finds};
+ghost use Rattle.bsp_office_spec.specs.Ledger.{agent_of};
 ghost use Rattle.bsp_desk_writes.specs.Judged.{AreJudged, IsJudged, owner_of, rows_next};
 
 use crate::facts::facts;

@@ -2,8 +2,11 @@
 //! The lists of memos are here too.
 //!
 //! Each function serves one request in the open transaction of a book, and answers it as `bsp_office_spec` defines
-//! over the rows. A change is written where it is done; a refusal and a held change leave the rows as they were. A
-//! call that finds no room undoes what the transaction wrote.
+//! over the rows. A change is written where it is done. A refusal and a held change leave the rows as they were. A call
+//! that finds no room undoes what the transaction wrote.
+//!
+//! `specs/` has the words of the contracts: what each part of a request answers, which rows it leaves, and how it ends with
+//! a fault. It also says how a call and its content are read as a request.
 //!
 //! Each transaction of a RET file is judged over the rows that those before it left. What is accepted joins the rows.
 #![tactic(auto)]
@@ -13,20 +16,25 @@ mod actions;
 mod bodies;
 mod callers;
 mod closes;
+mod content;
 mod facts;
 mod issues;
 mod judging;
 mod keeping;
 mod memo_bodies;
+mod memory;
 mod plan;
 mod report;
 mod shown;
 mod stock;
 
 pub use actions::{agree, dispute, reduce, uphold, withdraw};
+pub use bsp_office_spec::hot_rows_keep_rules;
 pub use callers::{register_agent, register_airline};
 pub use closes::close;
+pub use content::{Content, contents_are_read};
 pub use issues::issue;
+pub use memory::give_up;
 pub use plan::{publish, set_day};
 pub use report::{report_of_agent, report_of_office};
 pub use shown::{agent_memos, airline_memos};

@@ -5,9 +5,9 @@ ghost use Rattle.std.specs.List.{list_any};
 ghost use Rattle.bsp_book.specs.Calls.{FallsBack, Faults, LeavesLast, LooksUp};
 ghost use Rattle.bsp_desk_writes.specs.Replies.{is_same_range};
 ghost use Rattle.bsp_messages.specs.Bodies.{body_of, stock_change_form};
-ghost use Rattle.bsp_desk_base.specs.Serves.{EndsOnFault, ServesOffice};
-ghost use Rattle.bsp_desk_base.specs.Requests.OfficeRequest.{AllotRange, WithdrawRange};
-ghost use Rattle.bsp_desk_base.specs.Step.{has_range, is_out_of_order, is_registered};
+ghost use Rattle.bsp_desk_writes.specs.Serves.{EndsOnFault, ServesOffice};
+ghost use Rattle.bsp_office_spec.specs.Requests.OfficeRequest.{AllotRange, WithdrawRange};
+ghost use Rattle.bsp_office_spec.specs.Step.{has_range, is_out_of_order, is_registered};
 
 use crate::bodies::unread;
 use bsp_book::{Book, BookFault};

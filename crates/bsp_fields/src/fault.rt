@@ -4,7 +4,7 @@ use thiserror::Error;
 
 /// Why characters are no field, in the order in which a reader looks: where several faults are
 /// there, the first of this list is answered.
-#[derive(Clone, Copy, Debug, PartialEq, Eq, Hash, Error)]
+#[derive(Clone, Copy, Debug, PartialEq, Eq, Error)]
 pub enum FieldFault {
     /// The text has another number of characters than the field.
     #[error("not of the field's width")]

@@ -9,7 +9,7 @@ use std::alloc::{AllocError, Global};
 use thiserror::Error;
 
 /// An allocation was refused.
-#[derive(Clone, Copy, Debug, PartialEq, Eq, Hash, Error)]
+#[derive(Clone, Copy, Debug, PartialEq, Eq, Error)]
 #[error("out of memory")]
 pub struct NoRoom;
 

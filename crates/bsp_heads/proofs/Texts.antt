@@ -7,12 +7,12 @@ lines_append [] b = refl
 lines_append (l ∷ a) b = ap (λ r. l ++ (codes "\r\n" ++ r)) (lines_append a b) ∙ simp append_assoc
 
 regroup : (h d s ph ct m cl n e a c x : List ℕ) → x ≡ a ++ c →
-    (((((((((((h ++ d) ++ s) ++ ph) ++ (e ++ ct)) ++ m) ++ (e ++ cl)) ++ n) ++ e) ++ a) ++ c) ++ e)
+    ((((((h ++ d) ++ (s ++ (ph ++ e))) ++ (ct ++ (m ++ e))) ++ (cl ++ (n ++ e))) ++ a) ++ c) ++ e
     ≡ (h ++ (d ++ (s ++ ph))) ++ (e ++ ((ct ++ m) ++ (e ++ ((cl ++ n) ++ (e ++ x))))) ++ e
 regroup h d s ph ct m cl n e a c x is = rw is (simp append_assoc)
 
 pub text_is : (d ph m n : List ℕ) (a c : List (List ℕ)) →
-    (((((((((((codes "HTTP/1.1 " ++ d) ++ codes " ") ++ ph) ++ codes "\r\nContent-Type: ") ++ m) ++ codes "\r\nContent-Length: ") ++ n) ++ codes "\r\n") ++ lines_text a) ++ lines_text c) ++ codes "\r\n")
+    ((((((codes "HTTP/1.1 " ++ d) ++ (codes " " ++ (ph ++ codes "\r\n"))) ++ (codes "Content-Type: " ++ (m ++ codes "\r\n"))) ++ (codes "Content-Length: " ++ (n ++ codes "\r\n"))) ++ lines_text a) ++ lines_text c) ++ codes "\r\n"
     ≡ lines_text ((codes "HTTP/1.1 " ++ (d ++ (codes " " ++ ph))) ∷ (codes "Content-Type: " ++ m) ∷ (codes "Content-Length: " ++ n) ∷ (a ++ c)) ++ codes "\r\n"
 text_is d ph m n a c =
     regroup (codes "HTTP/1.1 ") d (codes " ") ph (codes "Content-Type: ") m (codes "Content-Length: ") n (codes "\r\n") (lines_text a) (lines_text c) (lines_text (a ++ c)) (lines_append a c)

@@ -54,14 +54,13 @@ impl ResponseHead {
     {
         let mut text = HeadText::new();
         text.put(b"HTTP/1.1 ");
-        text.put(Buffer::new().format(self.status.code().as_u16()).as_bytes());
-        text.put(b" ");
-        text.put(self.status.phrase().as_bytes());
-        text.put(b"\r\nContent-Type: ");
-        text.put(self.media.text().as_bytes());
-        text.put(b"\r\nContent-Length: ");
-        text.put(Buffer::new().format(self.length).as_bytes());
-        text.put(b"\r\n");
+        text.put(Buffer::new().format(self.status.code()).as_bytes());
+        text.put_line(b" ", self.status.phrase().as_bytes());
+        text.put_line(b"Content-Type: ", self.media.text().as_bytes());
+        text.put_line(
+            b"Content-Length: ",
+            Buffer::new().format(self.length).as_bytes(),
+        );
         text.put(allow_line(self.allow));
         text.put(closing_line(self.closes));
         text.put(b"\r\n");

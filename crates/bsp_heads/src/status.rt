@@ -6,7 +6,7 @@ ghost use Rattle.bsp_heads.specs.ResponseHeads.{code, phrase, media_type};
 use http::StatusCode;
 
 /// The status of a response (RFC 9110, section 15).
-#[derive(Clone, Copy, Debug, PartialEq, Eq, Hash)]
+#[derive(Clone, Copy, Debug, PartialEq, Eq)]
 pub enum Status {
     /// 200: the request is answered.
     Ok,
@@ -34,25 +34,32 @@ pub enum Status {
     ServiceUnavailable,
 }
 
+/// The status as the library of HTTP has it.
+fn status_code(status: Status) -> StatusCode
+    ensures { result ≡ code status }
+{
+    match status {
+        Status::Ok => StatusCode::OK,
+        Status::BadRequest => StatusCode::BAD_REQUEST,
+        Status::Forbidden => StatusCode::FORBIDDEN,
+        Status::NotFound => StatusCode::NOT_FOUND,
+        Status::MethodNotAllowed => StatusCode::METHOD_NOT_ALLOWED,
+        Status::Conflict => StatusCode::CONFLICT,
+        Status::LengthRequired => StatusCode::LENGTH_REQUIRED,
+        Status::PayloadTooLarge => StatusCode::PAYLOAD_TOO_LARGE,
+        Status::UnprocessableEntity => StatusCode::UNPROCESSABLE_ENTITY,
+        Status::RequestHeaderFieldsTooLarge => StatusCode::REQUEST_HEADER_FIELDS_TOO_LARGE,
+        Status::NotImplemented => StatusCode::NOT_IMPLEMENTED,
+        Status::ServiceUnavailable => StatusCode::SERVICE_UNAVAILABLE,
+    }
+}
+
 impl Status {
     /// The status code.
-    pub fn code(self) -> StatusCode
+    pub fn code(self) -> u16
         ensures { result ≡ code self }
     {
-        match self {
-            Status::Ok => StatusCode::OK,
-            Status::BadRequest => StatusCode::BAD_REQUEST,
-            Status::Forbidden => StatusCode::FORBIDDEN,
-            Status::NotFound => StatusCode::NOT_FOUND,
-            Status::MethodNotAllowed => StatusCode::METHOD_NOT_ALLOWED,
-            Status::Conflict => StatusCode::CONFLICT,
-            Status::LengthRequired => StatusCode::LENGTH_REQUIRED,
-            Status::PayloadTooLarge => StatusCode::PAYLOAD_TOO_LARGE,
-            Status::UnprocessableEntity => StatusCode::UNPROCESSABLE_ENTITY,
-            Status::RequestHeaderFieldsTooLarge => StatusCode::REQUEST_HEADER_FIELDS_TOO_LARGE,
-            Status::NotImplemented => StatusCode::NOT_IMPLEMENTED,
-            Status::ServiceUnavailable => StatusCode::SERVICE_UNAVAILABLE,
-        }
+        status_code(self).as_u16()
     }
 
     /// The reason phrase (RFC 9110, section 15; RFC 6585, section 5).
@@ -60,12 +67,12 @@ impl Status {
         ensures value { result.now ≡ phrase self }
         ensures short { length result.now ≤ 31 }
     {
-        self.code().canonical_reason().unwrap_or("")
+        status_code(self).canonical_reason().unwrap_or("")
     }
 }
 
 /// The media type of a body.
-#[derive(Clone, Copy, Debug, PartialEq, Eq, Hash)]
+#[derive(Clone, Copy, Debug, PartialEq, Eq)]
 pub enum Media {
     /// `application/json` (RFC 8259).
     Json,

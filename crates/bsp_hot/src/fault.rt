@@ -7,7 +7,7 @@ use std::alloc::AllocError;
 use thiserror::Error;
 
 /// Why there is no HOT file over rows.
-#[derive(Clone, Copy, Debug, PartialEq, Eq, Hash, Error)]
+#[derive(Clone, Copy, Debug, PartialEq, Eq, Error)]
 pub enum HotFault {
     /// A count or a total does not fit its place.
     #[error("H01: a count or a total does not fit its place")]

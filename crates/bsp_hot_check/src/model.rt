@@ -5,7 +5,7 @@ use bsp_hot_records::{AgentDigits, DocumentCode, Heading, Sums};
 use thiserror::Error;
 
 /// The first record at fault of a text that is no HOT file.
-#[derive(Clone, Copy, Debug, PartialEq, Eq, Hash, Error)]
+#[derive(Clone, Copy, Debug, PartialEq, Eq, Error)]
 #[error("H04 record {number}")]
 pub struct RecordFault {
     /// Its number, counted from 1; where the text ends too early, the number after the last record.

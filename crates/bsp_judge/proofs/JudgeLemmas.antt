@@ -19,7 +19,7 @@ use Rattle.bsp_messages.specs.declared.answer.Answer.TheVariants as message
 use Rattle.bsp_messages.specs.declared.reply.Reply.{Reply}
 use Rattle.bsp_book.specs.Listed.{meaning}
 use Rattle.bsp_book.specs.declared.list.ListBook.{ListBook}
-use Rattle.bsp_desk_base.specs.Answers.Answer.{Verdicts}
+use Rattle.bsp_desk_writes.specs.Answers.Answer.{Verdicts}
 use Rattle.bsp_desk.specs.Replies.{IsSent}
 use Rattle.bsp_judge.specs.declared.judging.Judged.{Judged}
 use Rattle.bsp_judge.specs.Judged.{owed, verdict_line, verdict_lines}

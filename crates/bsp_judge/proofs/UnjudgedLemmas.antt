@@ -1,84 +1,53 @@
 -- Lemmas on why a RET file is not judged.
-use Rattle.std.proofs.Common.{◌≡◌, ℕ, ◌<◌, inl, inr, List, length, get_or, take, ap, sym, subst}
+use Rattle.std.proofs.Common.{◌≡◌, ℕ, ◌<◌, inl, inr, List, get_or, take, map, ap, refl, sym, subst}
 use Rattle.std.specs.Prelude.{Result, Ok, Err, IfErr, IsErrAnd, IsOkUnless, None}
-use Rattle.std.specs.Global.{Vec}
 use Rattle.std.specs.List.{FoldsTo}
 use Rattle.bsp_ret.specs.declared.model.FaultCode.TheVariants.{F10}
 use Rattle.bsp_ret.specs.declared.model.RetFault.{RetFault}
 use Rattle.bsp_rows.specs.Rows.{no_rows}
 use Rattle.bsp_book.specs.Listed.{meaning}
 use Rattle.bsp_book.specs.declared.list.ListBook.{ListBook}
-use Rattle.bsp_judge.specs.Asked.{Passes, SetupTexts, office_requests, reports}
-use Rattle.bsp_judge.specs.Plans.{texts_of}
-use Rattle.bsp_judge.specs.Unjudged.{HasRetFault, IsEarlierFault, IsFaultAt, IsRefusal, IsRefusedAt, IsRefusedIn, IsRetFaultOf, IsStepRefused, IsUnjudged, IsUnready, step_request, steps_before}
+use Rattle.bsp_judge.specs.Asked.{Passes, SetupTexts, all_steps, office_requests, step_request}
+use Rattle.bsp_judge.specs.Unjudged.{HasRetFault, IsEarlierFault, IsRefusal, IsRefusedIn, IsRetFaultOf, IsStepRefused, IsUnjudged, IsUnready}
 use Rattle.bsp_judge.specs.declared.setup.JudgeFault.{JudgeFault}
 use Rattle.bsp_judge.specs.declared.setup.JudgeFault.TheVariants.{Setup, Earlier, File, Memory}
-use Rattle.bsp_judge.specs.declared.setup.Step.{Step}
-use Rattle.bsp_judge.proofs.PlanLemmas.{split_at}
+use Rattle.bsp_judge.specs.declared.setup.Step.TheVariants as step
+use Rattle.bsp_judge.proofs.TurnLemmas.{stops_at}
 
 -- a fault is passed on
 pub passed_on : {X E : Type 0} (P : E → Type 0) (r : Result X E) (e : E) → IsErrAnd r (λ f. f ≡ e) → P e → IfErr r P
 passed_on P (Ok x) e is p = tt
 passed_on P (Err f) e is p = subst P (sym is) p
 
--- ---- the setup
+-- a step is refused, after those before it passed
+module _ (office token : List ℕ) (s : SetupTexts) (start before after : ListBook) (i : ℕ) (o : List ℕ) where
+  pub refused_at : (fault : JudgeFault) → i < 4 → FoldsTo (Passes office) start (map (step_request office token s) (take i all_steps)) before → o ≡ office
+      → IsStepRefused o before (get_or all_steps i step.Plan) (step_request office token s (get_or all_steps i step.Plan)) after fault → IsRefusedIn office token s start fault
+  refused_at (Setup at reply) below so_far same refused =
+      let of = get_or all_steps i step.Plan in
+      let request = step_request office token s in (
+        i,
+        stops_at request (Passes office) start all_steps (λ book w. (w ≡ request at) × ((left : ListBook) × IsRefusal office book w reply left)) i step.Plan of before below refl so_far
+            (ap request (sym refused.0), (after, subst (λ (x : List ℕ). IsRefusal x before (request of) reply after) same refused.1)),
+      )
+  refused_at Memory below so_far same refused = tt
+  refused_at (Earlier place fault) below so_far same refused = refused
+  refused_at (File fault) below so_far same refused = refused
 
-module _ (office token : List ℕ) (s : SetupTexts) (start before after : ListBook) (at : Step) where
-  -- the request of a step is refused, after those before it passed
-  pub step_refused : (o : List ℕ) (fault : JudgeFault) → o ≡ office → FoldsTo (Passes office) start (steps_before office token s at) before
-      → IsStepRefused o before at (step_request office token s at) after fault → IsRefusedIn office token s start fault
-  step_refused o (Setup other reply) same passed refused =
-      subst (λ (x : Step). IsRefusedAt office token s start x reply) (sym refused.0)
-      (record {
-        before = before;
-        passed = passed;
-        after = after;
-        is = subst (λ (x : List ℕ). IsRefusal x before (step_request office token s at) reply after) same refused.1;
-      })
-  step_refused o Memory same passed refused = tt
-  step_refused o (Earlier place fault) same passed refused = refused
-  step_refused o (File fault) same passed refused = refused
-
-  pub step_stops : {U : Type 0} (r : Result U JudgeFault) (o : List ℕ) → o ≡ office → FoldsTo (Passes office) start (steps_before office token s at) before
-      → IfErr r (IsStepRefused o before at (step_request office token s at) after) → IfErr r (IsRefusedIn office token s start)
-  step_stops (Ok u) o same passed refused = tt
-  step_stops (Err fault) o same passed refused = step_refused o fault same passed refused
-
--- ---- an earlier file
-
-has_fault : (text : List ℕ) (fault : RetFault) → IsRetFaultOf text fault → (fault.code ≡ F10 → ⊥) → HasRetFault text fault
+-- what was no want of memory is the fault of the text
+pub has_fault : (text : List ℕ) (fault : RetFault) → IsRetFaultOf text fault → (fault.code ≡ F10 → ⊥) → HasRetFault text fault
 has_fault text fault (inl none) other = absurd (other (ap (λ (f : RetFault). f.code) none))
 has_fault text fault (inr has) other = has
-
--- the file at a place has a fault, after those before it were posted
-pub fault_at : (office token : List ℕ) (agent : ℕ) (texts : List (Vec ℕ)) (i : ℕ) (v : Vec ℕ) (start ready : ListBook) (fault : RetFault) → i < length texts → v ≡ get_or texts i v
-    → FoldsTo (Passes office) start (reports token agent (texts_of (take i texts))) ready → IsRetFaultOf v.items fault → (fault.code ≡ F10 → ⊥)
-    → IsFaultAt office token agent start (texts_of texts) i fault
-fault_at office token agent texts i v start ready fault below is so_far of other =
-    let parts = split_at texts i v below is in
-    record {
-      before = texts_of (take i texts);
-      text = v.items;
-      rest = parts.0;
-      are = parts.1;
-      place_is = parts.2;
-      ready = ready;
-      passed = so_far;
-      has = has_fault v.items fault of other;
-    }
 
 -- ---- the trial
 
 module _ (office token : List ℕ) (s : SetupTexts) (empty : ListBook) (is : meaning.holds empty no_rows None) where
   -- a desk over an empty book refuses a step
-  refused_unready : (fault : JudgeFault) → IsRefusedIn office token s empty fault → IsUnready office token s fault
+  pub refused_unready : (fault : JudgeFault) → IsRefusedIn office token s empty fault → IsUnready office token s fault
   refused_unready (Setup at reply) refused = (empty, is, refused)
   refused_unready Memory refused = tt
   refused_unready (Earlier place fault) refused = absurd refused
   refused_unready (File fault) refused = refused
-
-  pub setup_unready : (start : ListBook) → start ≡ empty → (fault : JudgeFault) → IsRefusedIn office token s start fault → IsUnready office token s fault
-  setup_unready start same fault refused = refused_unready fault (subst (λ (x : ListBook). IsRefusedIn office token s x fault) same refused)
 
   -- or an earlier file has a fault
   faulty_unready : (start : ListBook) → FoldsTo (Passes office) empty (office_requests office token s) start → (fault : JudgeFault) → IsEarlierFault office token s.agent start s.earlier fault

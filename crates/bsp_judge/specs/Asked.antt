@@ -17,13 +17,15 @@ use Rattle.bsp_messages.specs.declared.reply.Reply.{Reply}
 use Rattle.bsp_messages.specs.declared.status.Status.TheVariants as status
 use Rattle.bsp_book.specs.Listed.{meaning}
 use Rattle.bsp_book.specs.declared.list.ListBook.{ListBook}
-use Rattle.bsp_desk_base.specs.declared.content.Content.{Content}
-use Rattle.bsp_desk_base.specs.declared.content.Content.TheVariants.{Bytes, File, Fault}
+use Rattle.bsp_desk_writes.specs.declared.content.Content.{Content}
+use Rattle.bsp_desk_writes.specs.declared.content.Content.TheVariants.{Bytes, File, Fault}
 use Rattle.bsp_desk.specs.Reading.{token_text}
 use Rattle.bsp_desk.specs.Steps.{Answers}
 use Rattle.bsp_desk.specs.declared.request.Request.{Request}
 use Rattle.bsp_judge.specs.Plans.{texts_of}
 use Rattle.bsp_judge.specs.declared.setup.Setup.{Setup}
+use Rattle.bsp_judge.specs.declared.setup.Step.{Step}
+use Rattle.bsp_judge.specs.declared.setup.Step.TheVariants as step
 
 -- ---- a request
 
@@ -93,17 +95,30 @@ stock_body agent first last =
     ∷ codes "\"}" ∷ [])
 
 -- the plan is published, the day is set, the agent is registered with a token, and its numbers are allotted
+abbrev pub step_call : Step → OfficeCall (List ℕ)
+step_call step.Plan = of_office.Plan
+step_call step.Day = of_office.Day
+step_call step.Agent = of_office.RegisterAgent
+step_call step.Stock = of_office.Allot
+
+abbrev pub step_body : List ℕ → SetupTexts → Step → List ℕ
+step_body token s step.Plan = s.plan
+step_body token s step.Day = day_body s.day
+step_body token s step.Agent = agent_body s.agent token
+step_body token s step.Stock = stock_body s.agent s.first s.last
+
+abbrev pub step_request : List ℕ → List ℕ → SetupTexts → Step → Wanted
+step_request office token s step = by_office office (step_call step) (step_body token s step)
+
+abbrev pub all_steps : List Step
+all_steps = step.Plan ∷ step.Day ∷ step.Agent ∷ step.Stock ∷ []
+
 abbrev pub office_requests : List ℕ → List ℕ → SetupTexts → List Wanted
-office_requests office token s =
-    by_office office of_office.Plan s.plan
-    ∷ by_office office of_office.Day (day_body s.day)
-    ∷ by_office office of_office.RegisterAgent (agent_body s.agent token)
-    ∷ by_office office of_office.Allot (stock_body s.agent s.first s.last)
-    ∷ []
+office_requests office token s = map (step_request office token s) all_steps
 
 -- the agent reports a file
 abbrev pub report : List ℕ → ℕ → List ℕ → Wanted
 report token agent text = record { token = token; call = call.Agent (fixed_digits 8 agent) of_agent.Ret; given = file text }
 
-abbrev pub reports : List ℕ → ℕ → List (List ℕ) → List Wanted
-reports token agent texts = map (report token agent) texts
+abbrev pub Reports : List ℕ → List ℕ → ℕ → ListBook → List ℕ → ListBook → Type 0
+Reports office token agent old text new = Passes office old (report token agent text) new

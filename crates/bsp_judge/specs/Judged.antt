@@ -15,8 +15,8 @@ use Rattle.bsp_messages.specs.declared.reply.Reply.{Reply}
 use Rattle.bsp_book.specs.Listed.{meaning}
 use Rattle.bsp_book.specs.declared.list.ListBook.{ListBook}
 use Rattle.bsp_desk.specs.Replies.{IsSent}
-use Rattle.bsp_desk_base.specs.Answers.Answer.{Verdicts}
-use Rattle.bsp_judge.specs.Asked.{IsAnswered, Passes, SetupTexts, office_requests, report, reports}
+use Rattle.bsp_desk_writes.specs.Answers.Answer.{Verdicts}
+use Rattle.bsp_judge.specs.Asked.{IsAnswered, Passes, Reports, SetupTexts, office_requests, report}
 
 -- ---- the verdicts
 
@@ -53,7 +53,9 @@ net_line net = codes "net " ++ (money_text net ++ codes "\n")
 pub record IsReady (office token : List ℕ) (setup : SetupTexts) (ready : ListBook) : Type 0 where
   pub empty : ListBook
   pub is_empty : meaning.holds empty no_rows None
-  pub passed : FoldsTo (Passes office) empty (office_requests office token setup ++ reports token setup.agent setup.earlier) ready
+  pub start : ListBook
+  pub passed : FoldsTo (Passes office) empty (office_requests office token setup) start
+  pub reported : FoldsTo (Reports office token setup.agent) start setup.earlier ready
 
 -- the lines say the verdicts that the reply sends, and the net; and it is said whether each is taken
 pub record IsSaid (reply : Reply) (net : ℤ) (lines : List ℕ) (taken : Bool) : Type 0 where

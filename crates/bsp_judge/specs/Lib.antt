@@ -3,4 +3,5 @@ pub mod Asked
 pub mod Judged
 pub mod PlanLines
 pub mod Plans
+pub mod Turns
 pub mod Unjudged

@@ -5,7 +5,7 @@ ghost use Rattle.std.specs.List.{FoldsTo};
 ghost use Rattle.bsp_ret.specs.Lines.{lines};
 ghost use Rattle.bsp_ret.specs.Ret.{Ret};
 ghost use Rattle.bsp_desk.specs.Calls.{office_text};
-ghost use Rattle.bsp_judge.specs.Asked.{IsAnswered, Passes, agent_body, by_office, day_body, office_requests, report, reports, setup_texts, stock_body};
+ghost use Rattle.bsp_judge.specs.Asked.{IsAnswered, Passes, Reports, agent_body, by_office, day_body, office_requests, report, setup_texts, step_body, step_call, step_request, stock_body};
 ghost use Rattle.bsp_judge.specs.Unjudged.{IsEarlierFault, IsRefusedIn, IsRetFaultOf, IsStepRefused};
 ghost use Rattle.bsp_judge.specs.Plans.{texts_of};
 
@@ -85,56 +85,52 @@ fn stock_body(alloc: Global, setup: &Setup<'_>) -> Result<Vec<u8>, AllocError>
     Ok(body)
 }
 
-/// Sets the business day.
-fn set_day(
-    alloc: Global,
-    desk: &mut Desk<ListBook>,
-    office: &Token,
-    day: Day,
-) -> Result<(), JudgeFault>
-    ensures passed { OnOk result (Passes desk.old.office desk.old.book (by_office office.now OfficeCall.Day (day_body day)) desk.new.book) }
-    ensures refused { IfErr result (IsStepRefused desk.old.office desk.old.book Step.Day (by_office office.now OfficeCall.Day (day_body day)) desk.new.book) }
-    ensures office { desk.new.office ≡ desk.old.office }
+/// The call of a step.
+fn step_call(step: Step) -> OfficeCall<&'static [u8]>
+    ensures { office_text result ≡ step_call step }
 {
-    let Ok(body) = day_body(alloc, day) else {
-        return Err(JudgeFault::Memory);
-    };
-    by_office(desk, Step::Day, office, OfficeCall::Day, &body)
+    match step {
+        Step::Plan => OfficeCall::Plan,
+        Step::Day => OfficeCall::Day,
+        Step::Agent => OfficeCall::RegisterAgent,
+        Step::Stock => OfficeCall::Allot,
+    }
 }
 
-/// Registers the agent.
-fn register(
+/// The body of the request of a step.
+fn step_body(
     alloc: Global,
-    desk: &mut Desk<ListBook>,
-    office: &Token,
-    agent: AgentCode,
     token: &Token,
-) -> Result<(), JudgeFault>
-    ensures passed { OnOk result (Passes desk.old.office desk.old.book (by_office office.now OfficeCall.RegisterAgent (agent_body agent token.now)) desk.new.book) }
-    ensures refused { IfErr result (IsStepRefused desk.old.office desk.old.book Step.Agent (by_office office.now OfficeCall.RegisterAgent (agent_body agent token.now)) desk.new.book) }
-    ensures office { desk.new.office ≡ desk.old.office }
+    setup: &Setup<'_>,
+    step: Step,
+) -> Result<Vec<u8>, AllocError>
+    ensures { IfOk result (λ body. body.items ≡ step_body token.now (setup_texts setup.now) step) }
 {
-    let Ok(body) = agent_body(alloc, agent, token) else {
-        return Err(JudgeFault::Memory);
-    };
-    by_office(desk, Step::Agent, office, OfficeCall::RegisterAgent, &body)
+    match step {
+        Step::Plan => Vec::from_slice(alloc, setup.plan),
+        Step::Day => day_body(alloc, setup.day),
+        Step::Agent => agent_body(alloc, setup.agent, token),
+        Step::Stock => stock_body(alloc, setup),
+    }
 }
 
-/// Allots the agent's numbers.
-fn allot(
+/// Asks the desk for a step.
+fn ask_step(
     alloc: Global,
     desk: &mut Desk<ListBook>,
     office: &Token,
+    token: &Token,
     setup: &Setup<'_>,
+    step: Step,
 ) -> Result<(), JudgeFault>
-    ensures passed { OnOk result (Passes desk.old.office desk.old.book (by_office office.now OfficeCall.Allot (stock_body setup.now.agent setup.now.first setup.now.last)) desk.new.book) }
-    ensures refused { IfErr result (IsStepRefused desk.old.office desk.old.book Step.Stock (by_office office.now OfficeCall.Allot (stock_body setup.now.agent setup.now.first setup.now.last)) desk.new.book) }
+    ensures passed { OnOk result (Passes desk.old.office desk.old.book (step_request office.now token.now (setup_texts setup.now) step) desk.new.book) }
+    ensures refused { IfErr result (IsStepRefused desk.old.office desk.old.book step (step_request office.now token.now (setup_texts setup.now) step) desk.new.book) }
     ensures office { desk.new.office ≡ desk.old.office }
 {
-    let Ok(body) = stock_body(alloc, setup) else {
+    let Ok(body) = step_body(alloc, token, setup, step) else {
         return Err(JudgeFault::Memory);
     };
-    by_office(desk, Step::Stock, office, OfficeCall::Allot, &body)
+    by_office(desk, step, office, step_call(step), &body)
 }
 
 /// Publishes the plan, sets the day, registers the agent and allots its numbers.
@@ -150,10 +146,10 @@ pub(crate) fn set_up(
     ensures refused { IfErr result (IsRefusedIn office.now token.now (setup_texts setup.now) desk.old.book) }
     ensures office { desk.new.office ≡ desk.old.office }
 {
-    by_office(desk, Step::Plan, office, OfficeCall::Plan, setup.plan)?;
-    set_day(alloc, desk, office, setup.day)?;
-    register(alloc, desk, office, setup.agent, token)?;
-    allot(alloc, desk, office, setup)
+    for step in [Step::Plan, Step::Day, Step::Agent, Step::Stock] {
+        ask_step(alloc, desk, office, token, setup, step)?;
+    }
+    Ok(())
 }
 
 /// Posts a RET file for the agent.
@@ -210,7 +206,7 @@ pub(crate) fn post_all(
     agent: AgentCode,
     texts: &[Vec<u8>],
 ) -> Result<(), JudgeFault>
-    ensures passed { OnOk result (FoldsTo (Passes desk.old.office) desk.old.book (reports token.now agent (texts_of texts.now)) desk.new.book) }
+    ensures passed { OnOk result (FoldsTo (Reports desk.old.office token.now agent) desk.old.book (texts_of texts.now) desk.new.book) }
     ensures fault { IfErr result (IsEarlierFault desk.old.office token.now agent desk.old.book (texts_of texts.now)) }
     ensures office { desk.new.office ≡ desk.old.office }
 {

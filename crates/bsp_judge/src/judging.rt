@@ -1,11 +1,13 @@
 //! A RET file judged by a desk over an empty book.
 
-ghost use Rattle.std.specs.Prelude.{◌≡◌, ◌++◌, IfErr, IfOk, IsOkUnless, List, ℕ};
+ghost use Rattle.std.specs.Prelude.{◌≡◌, ◌++◌, ◌-ℤ◌, IfErr, IfOk, IfSome, IsOkUnless, List, None, OnOk, Option, ℕ, ℤ};
 ghost use Rattle.std.specs.List.{list_all};
 ghost use Rattle.bsp_ret.specs.Lines.{lines};
 ghost use Rattle.bsp_ret.specs.Ret.{Ret};
+ghost use Rattle.bsp_rows.specs.Rows.{Rows, no_rows};
+ghost use Rattle.bsp_book.specs.Listed.{meaning};
 ghost use Rattle.bsp_judge.specs.Asked.{setup_texts};
-ghost use Rattle.bsp_judge.specs.Judged.{IsJudged, IsReady, IsSaid, is_taken, net_line, verdict_lines};
+ghost use Rattle.bsp_judge.specs.Judged.{IsJudged, IsReady, IsSaid, is_taken, net_line, owed, verdict_lines};
 ghost use Rattle.bsp_judge.specs.Unjudged.{IsUnjudged, IsUnready};
 
 use crate::asking::{post, post_all, set_up};
@@ -32,22 +34,23 @@ pub struct Judged {
     pub is_taken: bool,
 }
 
-/// A desk that was set up, and to which the earlier files were posted.
-fn ready_desk(
+/// Sets up a desk over an empty book, and posts the earlier files.
+fn make_ready(
     alloc: Global,
-    office: Token,
+    desk: &mut Desk<ListBook>,
+    office: &Token,
     token: &Token,
     setup: &Setup<'_>,
-) -> Result<Desk<ListBook>, JudgeFault>
-    ensures ready { IfOk result (λ desk. IsReady office token.now (setup_texts setup.now) desk.book × (desk.office ≡ office)) }
-    ensures unready { IfErr result (IsUnready office token.now (setup_texts setup.now)) }
+) -> Result<(), JudgeFault>
+    requires office { desk.old.office ≡ office.now }
+    requires empty { meaning.holds desk.old.book no_rows None }
+    ensures ready { OnOk result (IsReady office.now token.now (setup_texts setup.now) desk.new.book) }
+    ensures unready { IfErr result (IsUnready office.now token.now (setup_texts setup.now)) }
+    ensures office { desk.new.office ≡ desk.old.office }
 {
-    let Ok(mut desk) = Desk::open(alloc, ListBook::new(alloc), office) else {
-        return Err(JudgeFault::Memory);
-    };
-    set_up(alloc, &mut desk, &office, token, setup)?;
-    post_all(alloc, &mut desk, token, setup.agent, setup.earlier)?;
-    Ok(desk)
+    set_up(alloc, desk, office, token, setup)?;
+    post_all(alloc, desk, token, setup.agent, setup.earlier)?;
+    Ok(())
 }
 
 /// The lines of verdicts and a net in minor units.
@@ -94,29 +97,70 @@ fn say(
     })
 }
 
+/// What is said of a file that the desk answered by this reply, over what the agent owed before it.
+fn judge_reply(
+    alloc: Global,
+    known: &Known<'_>,
+    before: i128,
+    reply: &Reply,
+    file: &RetFile<'_>,
+) -> Result<Judged, JudgeFault>
+    ensures said { IfOk result (λ judged. (net : ℤ) × IsSaid reply.now net judged.lines.items judged.is_taken × ((rows : Rows) (begun : Option Rows) → meaning.holds known.now.book.now rows begun → net ≡ owed known.now.setup.now.agent rows -ℤ before)) }
+    ensures fault { IsOkUnless result JudgeFault.Memory }
+{
+    let after = owed(alloc, known.book, known.setup.agent)?;
+    let Some(net) = after.checked_sub(before) else {
+        return Err(JudgeFault::Memory);
+    };
+    say(alloc, known, reply, net, file)
+}
+
 /// What a desk over an empty book says of a file, after the setup and the earlier files.
+fn judge_at(
+    alloc: Global,
+    desk: &mut Desk<ListBook>,
+    office: &Token,
+    token: &Token,
+    setup: &Setup<'_>,
+    file: &RetFile<'_>,
+) -> Result<Judged, JudgeFault>
+    requires office { desk.old.office ≡ office.now }
+    requires empty { meaning.holds desk.old.book no_rows None }
+    ensures judged { IfOk result (λ judged. (text : List ℕ) → Ret (lines text) file.now → IsJudged (setup_texts setup.now) text judged.lines.items judged.is_taken) }
+    ensures unready { IfErr result (IsUnready office.now token.now (setup_texts setup.now)) }
+{
+    make_ready(alloc, desk, office, token, setup)?;
+    let before = owed(alloc, desk.book(), setup.agent)?;
+    let reply = post(desk, token, setup.agent, file);
+    let known = Known {
+        setup,
+        book: desk.book(),
+    };
+    judge_reply(alloc, &known, before, &reply, file)
+}
+
+/// A desk of the office over an empty book.
+fn new_desk(alloc: Global, office: &Token) -> Option<Desk<ListBook>>
+    ensures { IfSome result (λ desk. meaning.holds desk.book no_rows None × (desk.office ≡ office.now)) }
+{
+    Desk::open(alloc, ListBook::new(alloc), *office).ok()
+}
+
+/// What a new desk over an empty book says of a file.
 fn judge_file(
     alloc: Global,
-    office: Token,
+    office: &Token,
     token: &Token,
     setup: &Setup<'_>,
     file: &RetFile<'_>,
 ) -> Result<Judged, JudgeFault>
     ensures judged { IfOk result (λ judged. (text : List ℕ) → Ret (lines text) file.now → IsJudged (setup_texts setup.now) text judged.lines.items judged.is_taken) }
-    ensures unready { IfErr result (IsUnready office token.now (setup_texts setup.now)) }
+    ensures unready { IfErr result (IsUnready office.now token.now (setup_texts setup.now)) }
 {
-    let mut desk = ready_desk(alloc, office, token, setup)?;
-    let before = owed(alloc, desk.book(), setup.agent)?;
-    let reply = post(&mut desk, token, setup.agent, file);
-    let after = owed(alloc, desk.book(), setup.agent)?;
-    let Some(net) = after.checked_sub(before) else {
+    let Some(mut desk) = new_desk(alloc, office) else {
         return Err(JudgeFault::Memory);
     };
-    let known = Known {
-        setup,
-        book: desk.book(),
-    };
-    say(alloc, &known, &reply, net, file)
+    judge_at(alloc, &mut desk, office, token, setup, file)
 }
 
 /// The verdicts that an office with this plan gives on the RET file of an agent, over an empty book in which the agent
@@ -141,5 +185,5 @@ pub fn judge(alloc: Global, setup: &Setup<'_>, text: &[u8]) -> Result<Judged, Ju
     let Some(token) = Token::read(b"trialagenttoken1") else {
         return Err(JudgeFault::Memory);
     };
-    judge_file(alloc, office, &token, setup, &file)
+    judge_file(alloc, &office, &token, setup, &file)
 }

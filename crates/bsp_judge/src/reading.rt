@@ -1,7 +1,7 @@
 //! The verdicts that a reply sends.
 
 ghost use Rattle.std.specs.Prelude.{◌≡◌, IfOk, IsOkUnless, true};
-ghost use Rattle.bsp_desk_base.specs.Answers.Answer.{Verdicts};
+ghost use Rattle.bsp_desk_writes.specs.Answers.Answer.{Verdicts};
 ghost use Rattle.bsp_messages.specs.Replies.{body_bytes};
 ghost use Rattle.bsp_desk.specs.Replies.{IsSent};
 

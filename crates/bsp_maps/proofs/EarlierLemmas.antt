@@ -1,5 +1,5 @@
 -- What was at the keys that were written, found by undoing the writes one by one.
-use Rattle.std.proofs.Common.{◌≡◌, ℕ, ◌+◌, ◌-◌, ◌<◌, List, [], ◌∷◌, length, Bool, true, false, cond, Option, Some, None, is_some, refl, sym, ap, ◌∙◌, Ordering, if◌then◌else◌, get_or, arith}
+use Rattle.std.proofs.Common.{◌≡◌, ℕ, ◌+◌, ◌-◌, ◌<◌, ◌≤◌, List, [], ◌∷◌, length, Bool, true, false, cond, Option, Some, None, is_some, refl, sym, ap, ◌∙◌, Ordering, if◌then◌else◌, get_or, arith}
 use Rattle.std.proofs.lemmas.List.{drop_all, drop_more}
 use Rattle.std.specs.Prelude.{unwrap_or, drop}
 use Rattle.std.specs.Ordering.{eq_by_cmp}
@@ -55,3 +55,7 @@ module _ {K V : Type 0} {R : K → K → Ordering} (o : IsTotalOrder R) where
       let at : length olds - (step + 1) ≡ length olds - 1 - step = omega arith in
       let next : (length olds - 1 - step) + 1 ≡ length olds - step = omega (arith, low) in
       ap (λ n. drop n olds) at ∙ drop_more olds (length olds - 1 - step) d (omega (arith, low)) ∙ ap (λ n. get_or olds (length olds - 1 - step) d ∷ drop n olds) next
+
+  -- at last all are undone
+  pub all_undone : (found : FinMap R (Option V)) (now : FinMap R V) (olds : List (Old K V)) (step : ℕ) → length olds ≤ step → IsEarlier found now (undone (drop (length olds - step) olds) now) → IsEarlier found now (undone olds now)
+  all_undone found now olds step through is = let whole : length olds - step ≡ 0 = omega arith in rw whole at is

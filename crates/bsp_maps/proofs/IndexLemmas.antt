@@ -1,10 +1,11 @@
 -- The index of rows, and what a written row makes of it.
-use Rattle.std.proofs.Common.{◌≡◌, Bool, true, false, cond, ◌&&◌, ◌||◌, List, [], ◌∷◌, map, refl, sym, ap, subst, ◌∙◌, Ordering, Less, Equal, Greater, Option, Some, None, is_some}
+use Rattle.std.proofs.Common.{◌≡◌, Bool, true, false, cond, ◌&&◌, ◌||◌, List, [], ◌∷◌, ◌++◌, map, refl, sym, ap, subst, ◌∙◌, Ordering, Less, Equal, Greater, Option, Some, None, is_some}
 use Rattle.std.specs.List.{filter, filter_map, list_any}
 use Rattle.std.specs.Ordering.{eq_by_cmp, is_eq, is_le, ordering_then}
 use Rattle.std.specs.Cmp.{IsTotalOrder, alike_right}
 use Rattle.std.specs.FinMap.{FinMap, IsAntisymmetric, contains_key-keys, empty, entries, get, get-empty, get-insert, get-remove, insert, remove}
 use Rattle.bsp_maps.proofs.PickLemmas.{AreAmong}
+use Rattle.bsp_maps.proofs.WindowLemmas.{front, more_found, none_found}
 use Rattle.bsp_maps.specs.Present.{present_entry}
 use Rattle.bsp_maps.specs.Windows.{entries_in}
 use Rattle.bsp_maps.specs.Indexes.{IsAlone, IsIndex, IsLeast, IsMoved, entry_cmp, found_place, is_place, keys_at}
@@ -14,6 +15,24 @@ use Rattle.bsp_maps.proofs.EntryLemmas.{entry_tied, tied}
 abbrev pub here : {P K : Type 0} → (P × K) × Option (Unit {0}) → Option K
 here (e, None) = None
 here (e, Some u) = Some e.1
+
+module _ {P K : Type 0} (has : P × K → Bool) where
+  abbrev keys_of_front : List ((P × K) × Option (Unit {0})) → List K
+  keys_of_front es = filter_map here (front has es)
+
+  there : (e : P × K) (value : Option (Unit {0})) (es : List ((P × K) × Option (Unit {0}))) → is_some value ≡ true → filter_map here ((e, value) ∷ es) ≡ e.1 ∷ filter_map here es
+  there e None es is = absurd (cc)
+  there e (Some u) es is = refl
+
+  gone : (e : P × K) (value : Option (Unit {0})) (es : List ((P × K) × Option (Unit {0}))) → is_some value ≡ false → filter_map here ((e, value) ∷ es) ≡ filter_map here es
+  gone e None es is = refl
+  gone e (Some u) es is = absurd (cc)
+
+  pub keys_more : (found after : List K) (e : (P × K) × Option (Unit {0})) (es rest : List ((P × K) × Option (Unit {0}))) (all : List K) → es ≡ e ∷ rest → has e.0 ≡ true → is_some e.1 ≡ true → after ≡ found ++ e.0.1 ∷ [] → found ++ keys_of_front es ≡ all → after ++ keys_of_front rest ≡ all
+  keys_more found after e es rest all first is some = more_found keys_of_front found after e.0.1 es rest all (rw (first, is) (there e.0 e.1 (front has rest) some))
+
+  pub keys_none : (found : List K) (e : (P × K) × Option (Unit {0})) (es rest : List ((P × K) × Option (Unit {0}))) (all : List K) → es ≡ e ∷ rest → has e.0 ≡ true → is_some e.1 ≡ false → found ++ keys_of_front es ≡ all → found ++ keys_of_front rest ≡ all
+  keys_none found e es rest all first is none = none_found keys_of_front found es rest all (rw (first, is) (gone e.0 e.1 (front has rest) none))
 
 -- ---- a row is written
 

@@ -1,5 +1,6 @@
 -- The values at some keys that pass are those of the map that pass, where each such key is among them.
-use Rattle.std.proofs.Common.{◌≡◌, Bool, true, false, cond, ◌||◌, List, [], ◌∷◌, map, refl, sym, ap, ◌∙◌, Ordering, Option, Some, None, Result, Ok, Err, IfOk, ℕ, ◌≤◌, length, drop, length-drop, arith}
+use Rattle.std.proofs.Common.{◌≡◌, Bool, true, false, cond, ◌||◌, List, [], ◌∷◌, map, refl, sym, ap, ◌∙◌, Ordering, Option, Some, None, Result, Ok, Err, IfOk, ℕ, ◌+◌, ◌<◌, ◌≤◌, length, get_or, drop, length-drop, arith}
+use Rattle.std.proofs.lemmas.List.{drop_more}
 use Rattle.std.specs.Prelude.{T}
 use Rattle.std.specs.List.{filter, list_any}
 use Rattle.std.specs.Ordering.{is_eq, is_lt, eq_by_cmp}
@@ -49,6 +50,12 @@ module _ {K V : Type 0} {R : K → K → Ordering} (holds : K → V → Bool) (m
 pub if_ok : {A B : Type 0} {P Q : A → Type 0} (r : Result A B) → ((x : A) → P x → Q x) → IfOk r P → IfOk r Q
 if_ok (Ok x) f p = f x p
 if_ok (Err y) f p = tt
+
+-- one key after another
+pub next_key : {K V : Type 0} {R : K → K → Ordering} (holds : K → V → Bool) (m : FinMap R V) (keys : List K) (i : ℕ) (key : K) (found after all : FinMap R V) → i < length keys → key ≡ get_or keys i key → after ≡ with_key holds m key found → with_keys holds m (drop i keys) found ≡ all → with_keys holds m (drop (i + 1) keys) after ≡ all
+next_key holds m keys i key found after all within is picked so_far =
+    let step : drop i keys ≡ key ∷ drop (i + 1) keys = drop_more keys i key within ∙ ap (λ k. k ∷ drop (i + 1) keys) (sym is) in
+    rw picked (rw step at so_far)
 
 pub none_left : {A : Type 0} (xs : List A) (i : ℕ) → length xs ≤ i → drop i xs ≡ []
 none_left xs i h = no_length (drop i xs) (let b = length-drop i xs in omega arith)

@@ -1,5 +1,5 @@
 -- Where the entries of a window are.
-use Rattle.std.proofs.Common.{◌≡◌, Bool, true, false, cond, ◌&&◌, ◌||◌, List, [], ◌∷◌, refl, sym, ap, ◌∙◌, Ordering, Less}
+use Rattle.std.proofs.Common.{◌≡◌, Bool, true, false, cond, ◌&&◌, ◌||◌, List, [], ◌∷◌, ◌++◌, map, append_assoc, refl, sym, ap, ◌∙◌, Ordering, Less}
 use Rattle.std.specs.List.{filter, list_any, AllByRecursion}
 use Rattle.std.specs.List.Sorted.{IsStrictlySortedBy}
 use Rattle.std.specs.Map.{keys_of}
@@ -46,6 +46,28 @@ pub from_low : {K V : Type 0} (R : K → K → Ordering) (has : K → Bool) (low
 from_low R has low lowest together es up = in_front R has (range_contains R (Included low) Unbounded)
     (λ k is. and_true (is_le (R low k)) ∙ lowest k is)
     (λ x y f. together x y (sym (and_true (is_le (R low x))) ∙ f)) es up
+
+-- ---- one entry after another
+
+-- what is found and what is read of the rest stay the same list: an item more is found, or none
+pub more_found : {E X : Type 0} (reads : List E → List X) (found after : List X) (x : X) (es rest : List E) (all : List X) → reads es ≡ x ∷ reads rest → after ≡ found ++ x ∷ [] → found ++ reads es ≡ all → after ++ reads rest ≡ all
+more_found reads found after x es rest all more pushed so_far = rw (pushed, append_assoc) (rw more at so_far)
+
+pub none_found : {E X : Type 0} (reads : List E → List X) (found : List X) (es rest : List E) (all : List X) → reads es ≡ reads rest → found ++ reads es ≡ all → found ++ reads rest ≡ all
+none_found reads found es rest all same so_far = rw same at so_far
+
+pub front_in : {K V : Type 0} (has : K → Bool) (e : K × V) (es rest : List (K × V)) → es ≡ e ∷ rest → has e.0 ≡ true → front has es ≡ e ∷ front has rest
+front_in has e es rest first is = rw (first, is) refl
+
+module _ {K V : Type 0} (has : K → Bool) (passes : V → Bool) where
+  abbrev chosen_of : List (K × V) → List V
+  chosen_of es = filter passes (map (λ e. e.1) (front has es))
+
+  pub chosen_more : (found after : List V) (e : K × V) (es rest : List (K × V)) (all : List V) → es ≡ e ∷ rest → has e.0 ≡ true → passes e.1 ≡ true → after ≡ found ++ e.1 ∷ [] → found ++ chosen_of es ≡ all → after ++ chosen_of rest ≡ all
+  chosen_more found after e es rest all first is passed = more_found chosen_of found after e.1 es rest all (rw (first, is, passed) refl)
+
+  pub chosen_none : (found : List V) (e : K × V) (es rest : List (K × V)) (all : List V) → es ≡ e ∷ rest → has e.0 ≡ true → passes e.1 ≡ false → found ++ chosen_of es ≡ all → found ++ chosen_of rest ≡ all
+  chosen_none found e es rest all first is refused = none_found chosen_of found es rest all (rw (first, is, refused) refl)
 
 -- ---- whether there is one
 

@@ -39,12 +39,7 @@ fn copied<K: Ord + Copy + Drop, V: Copy + Drop>(
     ensures ordered { IsOrdered K.cmp entries.now }
     ensures found { IfOk result (λ found. found.items ≡ values entries.now) }
 {
-    let mut found = Vec::new(alloc);
-    let _count = entries.len();
-    for value in entries.values() {
-        found.push(*value)?;
-    }
-    Ok(found)
+    entries.values().copied().collect(alloc)
 }
 
 /// The keys of a map, in their order. It reads all of them.
@@ -55,12 +50,7 @@ pub fn keys<K: Ord + Copy + Drop, V: Copy + Drop>(
     ensures ordered { IsOrdered K.cmp entries.now }
     ensures found { IfOk result (λ found. found.items ≡ keys entries.now) }
 {
-    let mut found = Vec::new(alloc);
-    let _count = entries.len();
-    for key in entries.keys() {
-        found.push(*key)?;
-    }
-    Ok(found)
+    entries.keys().copied().collect(alloc)
 }
 
 /// The values at the keys that pass, each once, in the order of their keys.

@@ -7,7 +7,7 @@ use thiserror::Error;
 
 /// Why an issue of a memo or an action on one is refused. Of several, an issue answers the first of
 /// M08, M04, M05, M07, and an action the first of M01, M06, M03, M02, M04.
-#[derive(Clone, Copy, Debug, PartialEq, Eq, Hash, Error)]
+#[derive(Clone, Copy, Debug, PartialEq, Eq, Error)]
 pub enum MemoFault {
     /// The caller has no such memo.
     #[error("M01: no such memo of this caller")]

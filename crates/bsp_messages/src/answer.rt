@@ -10,7 +10,7 @@ use bsp_ret::RetFault;
 use bsp_rules::{Item, Range, Verdict};
 
 /// What became of a document.
-#[derive(Clone, Copy, Debug, PartialEq, Eq, Hash)]
+#[derive(Clone, Copy, Debug, PartialEq, Eq)]
 pub enum DocumentState {
     /// It is neither cancelled nor related to.
     Alive,
@@ -46,7 +46,7 @@ pub struct DocumentShown {
 }
 
 /// A period of an agent.
-#[derive(Clone, Copy, Debug, PartialEq, Eq, Hash)]
+#[derive(Clone, Copy, Debug, PartialEq, Eq)]
 pub struct PeriodShown {
     /// Whether it is closed.
     pub closed: bool,

@@ -25,7 +25,7 @@ const LINGERING: usize = 8_388_608;
 const PIECE: usize = 8192;
 
 /// Why the office stopped before its last connection.
-#[derive(Clone, Copy, Debug, PartialEq, Eq, Hash, Error)]
+#[derive(Clone, Copy, Debug, PartialEq, Eq, Error)]
 pub enum ListenFault {
     /// A connection could not be accepted.
     #[error("a connection could not be accepted: {0}")]

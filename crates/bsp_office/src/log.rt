@@ -50,7 +50,7 @@ fn reply_line(
         }
         None => line.push_str("- -")?,
     }
-    let status = reply.status.code().as_u16();
+    let status = reply.status.code();
     let (code, count) = (code_in(reply.body), reply.body.len());
     write!(line, " {status} {code} {count}")?;
     Ok(line)

@@ -3,7 +3,7 @@ use Rattle.std.proofs.Common.{◌≡◌, ◌⊎◌, inl, inr, ℕ, ◌<◌, ◌^
 use Rattle.std.specs.Global.{Vec}
 use Rattle.std.specs.Ptr.{null_ptr}
 use Rattle.std.proofs.lemmas.Bool.{cases_lt}
-use Rattle.bsp_rows.specs.PlanDocument.{PlanData, plan_reading}
+use Rattle.bsp_calendar.specs.PlanDocument.{PlanData, plan_reading}
 use Rattle.bsp_rows.specs.PlanFault.{PlanFault}
 use Rattle.bsp_rows.specs.PlanFault.TheVariants.{NoMemory}
 use Rattle.bsp_messages.specs.Bodies.{agent_registration_form, airline_registration_form, body_of, day_form, document_form, issue_form, named_memo_form, period_form, reduction_form, stock_change_form}

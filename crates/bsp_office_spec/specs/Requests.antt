@@ -2,7 +2,7 @@
 use Rattle.std.specs.Prelude.{◌≡◌, ◌⊎◌, ℕ, ◌<◌, ◌^◌, List, length, Option, Result, Ok, Err, Some}
 use Rattle.std.specs.Result.{result_map_both}
 use Rattle.bsp_rows.specs.CivilDay.{CivilDay}
-use Rattle.bsp_rows.specs.PlanDocument.{PlanData, plan_data, plan_reading}
+use Rattle.bsp_calendar.specs.PlanDocument.{PlanData, plan_data, plan_reading}
 use Rattle.bsp_rows.specs.PlanText.{PlanText}
 use Rattle.bsp_rows.specs.PlanFault.{PlanFault}
 use Rattle.bsp_rows.specs.PlanFault.TheVariants.{NoMemory}

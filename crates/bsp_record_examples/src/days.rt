@@ -1,109 +1,117 @@
-//! The calls of days, and the display of codes and days.
+//! The calls of days, the display of codes and days, and the calls of commission and of memos.
 
-use crate::fault::Fault;
+use crate::fault::{Answered, Fault};
 use crate::output::{Output, say};
-use crate::words::{first_word, number};
-use bsp_fields::{AgentCode, AirlineCode, Day, DocNumber, PeriodCode};
+use crate::page::Page;
+use crate::records;
+use crate::words::{Words, amount, first_word, number};
+use bsp_fields::{AgentCode, AirlineCode, Day, DocNumber, FieldFault, PeriodCode};
+use bsp_memos::{Memo, MemoFields, MemoKind, MemoState, Reason};
+use bsp_rules::commission;
 
-/// The day that a text is, as YYYY-MM-DD.
-fn day_of(text: &str) -> Result<Day, Fault> {
-    match Day::read_text(text.as_bytes()) {
-        Ok(day) => Ok(day),
-        Err(_) => Err(Fault::Field),
-    }
-}
-
-/// Reads a day of a record.
-fn record_day(text: &str, out: &mut Output) -> Result<(), Fault> {
-    match Day::read_record(text.as_bytes()) {
-        Ok(day) => out.characters(&day.write_text()),
-        Err(fault) => out.fault(fault),
-    }
-    Ok(())
-}
-
-/// Reads a day of a text.
-fn text_day(text: &str, out: &mut Output) -> Result<(), Fault> {
-    match Day::read_text(text.as_bytes()) {
+/// Appends a day as a record has it.
+fn show_record(day: Result<Day, FieldFault>, out: &mut Output) -> Answered {
+    match day {
         Ok(day) => out.characters(&day.write_record()),
         Err(fault) => out.fault(fault),
     }
     Ok(())
 }
 
-/// Numbers a day.
-fn day_number(text: &str, out: &mut Output) -> Result<(), Fault> {
-    out.say(day_of(text)?.number());
-    Ok(())
-}
-
-/// Numbers the day so many days after one.
-fn plus(text: &str, out: &mut Output) -> Result<(), Fault> {
-    let (day, days) = first_word(text);
-    let Ok(days) = days.parse::<u32>() else {
-        return Err(Fault::Number);
-    };
-    out.say(day_of(day)?.plus(days));
-    Ok(())
-}
-
-/// Finds the day of a number.
-fn day_of_number(text: &str, out: &mut Output) -> Result<(), Fault> {
-    match Day::of_number(number(text)?) {
-        Ok(day) => out.characters(&day.write_text()),
+/// Appends the number of a day.
+fn show_number(day: Result<Day, FieldFault>, out: &mut Output) -> Answered {
+    match day {
+        Ok(day) => out.say(day.number()),
         Err(fault) => out.fault(fault),
     }
     Ok(())
 }
 
+/// Numbers the day so many days after one.
+fn show_plus(text: &str, out: &mut Output) -> Answered {
+    let (day, days) = first_word(text);
+    let day = Day::read_text(day.as_bytes())?;
+    let days = number(days)?;
+    out.say(day.plus(days));
+    Ok(())
+}
+
 /// Makes the first day.
-fn first_day(out: &mut Output) -> Result<(), Fault> {
+fn show_first(out: &mut Output) -> Answered {
     let first = Day::first();
     say!(out, "{first}, number {}", first.number());
     Ok(())
 }
 
-/// Displays a document number, a period and a day of a record.
-fn display_period(text: &str, out: &mut Output) -> Result<(), Fault> {
-    let (document, rest) = first_word(text);
-    let (period, day) = first_word(rest);
-    let Ok(document) = DocNumber::read_unchecked(document.as_bytes()) else {
-        return Err(Fault::Field);
-    };
-    let Ok(period) = PeriodCode::read(period.as_bytes()) else {
-        return Err(Fault::Field);
-    };
-    let Ok(day) = Day::read_record(day.as_bytes()) else {
-        return Err(Fault::Field);
-    };
-    say!(out, "{document} {period:<8}{day:>12}");
+/// Displays an agent, an airline, a document number, a period and a day of a record.
+fn display(mut words: Words<'_>, out: &mut Output) -> Answered {
+    let agent = AgentCode::read(words.bytes())?;
+    let airline = AirlineCode::read(words.bytes())?;
+    let document = DocNumber::read_unchecked(words.bytes())?;
+    let period = PeriodCode::read(words.bytes())?;
+    let day = Day::read_record(words.bytes())?;
+    say!(out, "{agent} {airline}-{document} {period:<8}{day:>12}");
     Ok(())
 }
 
-/// Displays an agent and an airline, and what follows them.
-fn display(text: &str, out: &mut Output) -> Result<(), Fault> {
-    let (agent, rest) = first_word(text);
-    let (airline, rest) = first_word(rest);
-    let Ok(agent) = AgentCode::read(agent.as_bytes()) else {
+/// Computes the commission of a rate, in hundredths of a percent, on minor units.
+fn show_commission(text: &str, out: &mut Output) -> Answered {
+    let (rate, basis) = first_word(text);
+    let (rate, basis) = (number(rate)?, number(basis)?);
+    if rate > 10_000 {
         return Err(Fault::Field);
-    };
-    let Ok(airline) = AirlineCode::read(airline.as_bytes()) else {
-        return Err(Fault::Field);
-    };
-    say!(out, "{agent} {airline}-");
-    display_period(rest, out)
+    }
+    out.say(commission(rate, basis));
+    Ok(())
 }
 
-/// Makes the call of a word, where it is one of these.
-pub fn answer(word: &str, rest: &str, out: &mut Output) -> Option<Result<(), Fault>> {
+/// The period that a word is, and none of the word `unbilled`.
+fn billed_in(word: &str) -> Result<Option<PeriodCode>, Fault> {
+    if word == "unbilled" {
+        return Ok(None);
+    }
+    Ok(Some(PeriodCode::read(word.as_bytes())?))
+}
+
+/// Whether there is a memo of these fields: kind, state, period, amount and amount as issued.
+fn is_memo(mut words: Words<'_>) -> Result<bool, Fault> {
+    let memo = Memo::restore(MemoFields {
+        airline: AirlineCode::read(b"125")?,
+        document: DocNumber::read_unchecked(b"6000000001")?,
+        agent: AgentCode::read(b"12345675")?,
+        reason: Reason::read(b"fare").ok_or(Fault::Field)?,
+        issued: Day::first(),
+        kind: MemoKind::read(words.word()).ok_or(Fault::Field)?,
+        state: MemoState::read(words.word()).ok_or(Fault::Field)?,
+        billed: billed_in(words.word())?,
+        amount: amount(words.word())?,
+        issued_amount: amount(words.word())?,
+    });
+    Ok(memo.is_some())
+}
+
+/// Makes the call of a case, of commission or memos.
+fn answer_rules(page: &Page<'_>, case: &str, out: &mut Output) -> Answered {
+    let (word, rest) = first_word(case);
     match word {
-        "day" => Some(record_day(rest, out)),
-        "date" => Some(text_day(rest, out)),
-        "day-number" => Some(day_number(rest, out)),
-        "plus" => Some(plus(rest, out)),
-        "day-of" => Some(day_of_number(rest, out)),
-        "first-day" => Some(first_day(out)),
-        "display" => Some(display(rest, out)),
-        _ => None,
+        "commission" => show_commission(rest, out),
+        "memo" => out.answer(is_memo(Words::of(rest))?),
+        _ => records::answer(page, case, out),
+    }
+}
+
+/// Makes the call of a case, of days, commission or memos.
+pub fn answer(page: &Page<'_>, case: &str, out: &mut Output) -> Answered {
+    let (word, rest) = first_word(case);
+    let text = rest.as_bytes();
+    match word {
+        "day" => out.found(Day::read_record(text)),
+        "date" => show_record(Day::read_text(text), out),
+        "day-number" => show_number(Day::read_text(text), out),
+        "plus" => show_plus(rest, out),
+        "day-of" => out.found(Day::of_number(number(rest)?)),
+        "first-day" => show_first(out),
+        "display" => display(Words::of(rest), out),
+        _ => answer_rules(page, case, out),
     }
 }

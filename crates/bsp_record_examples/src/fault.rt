@@ -1,31 +1,48 @@
 //! Why a line has no answer.
 
+use bsp_fields::FieldFault;
 use bsp_ret::{FaultCode, RetFault};
 use std::alloc::{AllocError, AllocFailed};
 use std::io;
-use thiserror::Error;
 
 /// Why a line has no answer.
-#[derive(Clone, Copy, Debug, Error)]
+#[derive(Clone, Copy)]
 pub enum Fault {
-    #[error("no call has this word")]
+    /// No call has this word, or a call lacks one.
     Word,
-    #[error("a number is missing")]
-    Number,
-    #[error("a field of the call is not in its form")]
+    /// A number or a field of the call is not in its form.
     Field,
-    #[error("no file or record has this name")]
-    Name,
-    #[error("characters are not between quotation marks")]
-    Quotes,
-    #[error("the call needs a record")]
-    Record,
-    #[error("the call needs a RET file without fault")]
+    /// No file or record has this name, or the text of the call is empty.
+    Text,
+    /// The call needs a RET file without fault.
     File,
-    #[error("out of memory")]
+    /// Memory was short.
     Memory,
-    #[error("standard input or output failed")]
+    /// Standard input or output failed.
     Stream,
+}
+
+impl Fault {
+    /// What is printed about it.
+    pub fn text(self) -> &'static str {
+        match self {
+            Fault::Word => "no call has these words",
+            Fault::Field => "a number or a field of the call is not in its form",
+            Fault::Text => "the call needs a record, or the name of a file or record",
+            Fault::File => "the call needs a RET file without fault",
+            Fault::Memory => "out of memory",
+            Fault::Stream => "standard input or output failed",
+        }
+    }
+}
+
+/// What a call gives that appends its answer itself.
+pub type Answered = Result<(), Fault>;
+
+impl From<FieldFault> for Fault {
+    fn from(_: FieldFault) -> Fault {
+        Fault::Field
+    }
 }
 
 impl From<RetFault> for Fault {

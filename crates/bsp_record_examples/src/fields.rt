@@ -1,19 +1,22 @@
-//! The calls of amounts, totals, money and tax places.
+//! The calls of amounts, totals, money, tax places, codes, document numbers and tokens.
 
-use crate::fault::Fault;
+use crate::days;
+use crate::fault::{Answered, Fault};
 use crate::output::{Output, say};
 use crate::page::Page;
-use crate::words::{first_word, number, shown};
+use crate::words::{amount, first_word, number, shown};
 use bsp_fields::{
-    Amount, FieldFault, NoRoom, Total, read_amount, read_total, write_amount, write_money,
-    write_total,
+    AgentCode, AirlineCode, Amount, DocNumber, FieldFault, NoRoom, PeriodCode, Token, Total,
+    check_digit, read_amount, read_total, write_amount, write_money, write_total,
 };
+use bsp_records::all_digits;
 use bsp_ret_records::Tax;
 use bsp_ret_writer::write_tax;
+use std::alloc::Global;
 
-/// Reads an amount, and writes it back.
-fn amount(text: &str, out: &mut Output) -> Result<(), Fault> {
-    match read_amount(text.as_bytes()) {
+/// Appends an amount, and how it is written.
+fn show_amount(amount: Result<Amount, FieldFault>, out: &mut Output) -> Answered {
+    match amount {
         Ok(amount) => {
             let written = write_amount(amount);
             say!(out, "{}, written {}", amount.get(), shown(&written));
@@ -23,18 +26,17 @@ fn amount(text: &str, out: &mut Output) -> Result<(), Fault> {
     Ok(())
 }
 
-/// Makes an amount of minor units, and writes it.
-fn amount_of(text: &str, out: &mut Output) -> Result<(), Fault> {
-    match Amount::new(number(text)?) {
-        Ok(amount) => out.characters(&write_amount(amount)),
-        Err(fault) => out.fault(fault),
+/// Displays the fault of an amount.
+fn show_fault(amount: Result<Amount, FieldFault>, out: &mut Output) -> Answered {
+    if let Err(fault) = amount {
+        out.say(fault);
     }
     Ok(())
 }
 
-/// Reads a total, and writes it back.
-fn total(text: &str, out: &mut Output) -> Result<(), Fault> {
-    match read_total(text.as_bytes()) {
+/// Appends a total, and how it is written.
+fn show_total(total: Result<Total, FieldFault>, out: &mut Output) -> Answered {
+    match total {
         Ok(total) => {
             let written = write_total(total);
             say!(out, "{}, written {}", total.get(), shown(&written));
@@ -44,32 +46,9 @@ fn total(text: &str, out: &mut Output) -> Result<(), Fault> {
     Ok(())
 }
 
-/// Makes a total of minor units, and writes it.
-fn total_of(text: &str, out: &mut Output) -> Result<(), Fault> {
-    match Total::new(i128::from(number(text)?)) {
-        Ok(total) => out.characters(&write_total(total)),
-        Err(fault) => out.fault(fault),
-    }
-    Ok(())
-}
-
-/// Displays the fault of an amount.
-fn amount_fault(text: &str, out: &mut Output) -> Result<(), Fault> {
-    if let Err(fault) = read_amount(text.as_bytes()) {
-        out.say(fault);
-    }
-    Ok(())
-}
-
-/// Displays the fault of a refused allocation.
-fn no_room(out: &mut Output) -> Result<(), Fault> {
-    out.say(NoRoom);
-    Ok(())
-}
-
 /// Writes minor units as money.
-fn money(page: &Page<'_>, text: &str, out: &mut Output) -> Result<(), Fault> {
-    match write_money(page.alloc(), i128::from(number(text)?)) {
+fn show_money(alloc: Global, units: &str, out: &mut Output) -> Answered {
+    match write_money(alloc, number(units)?) {
         Ok(money) => out.push(money.as_str()),
         Err(NoRoom) => return Err(Fault::Memory),
     }
@@ -77,34 +56,85 @@ fn money(page: &Page<'_>, text: &str, out: &mut Output) -> Result<(), Fault> {
 }
 
 /// Writes a tax place.
-fn tax(text: &str, out: &mut Output) -> Result<(), Fault> {
+fn show_tax(text: &str, out: &mut Output) -> Answered {
     let (code, units) = first_word(text);
     let Ok(code) = <[u8; 2]>::try_from(code.as_bytes()) else {
         return Err(Fault::Field);
     };
-    let Ok(amount) = Amount::new(number(units)?) else {
-        return Err(Fault::Field);
-    };
+    let amount = amount(units)?;
     out.characters(&write_tax(Some(Tax { code, amount })));
     Ok(())
 }
 
-/// Makes the call of a word, where it is one of these.
-pub fn answer(
-    page: &Page<'_>,
-    word: &str,
-    rest: &str,
-    out: &mut Output,
-) -> Option<Result<(), Fault>> {
+/// Computes the check digit of a document number.
+fn show_check_digit(text: &[u8], out: &mut Output) -> Answered {
+    match <[u8; 10]>::try_from(text) {
+        Ok(digits) if all_digits(&digits) => out.say(check_digit(&digits)),
+        _ => return Err(Fault::Field),
+    }
+    Ok(())
+}
+
+/// Reads a document number beside its check digit.
+fn show_document(text: &str, out: &mut Output) -> Answered {
+    let (digits, check) = first_word(text);
+    match DocNumber::read(digits.as_bytes(), number(check)?) {
+        Ok(document) => say!(out, "{document}, check digit {}", document.check_digit()),
+        Err(fault) => out.fault(fault),
+    }
+    Ok(())
+}
+
+/// Appends a token.
+fn show_token(token: Option<Token>, out: &mut Output) -> Answered {
+    match token {
+        Some(token) => out.characters(token.as_bytes()),
+        None => out.push("none"),
+    }
+    Ok(())
+}
+
+/// Compares two tokens.
+fn show_same_token(text: &str, out: &mut Output) -> Answered {
+    let (own, other) = first_word(text);
+    let Some(own) = Token::read(own.as_bytes()) else {
+        return Err(Fault::Field);
+    };
+    let Some(other) = Token::read(other.as_bytes()) else {
+        return Err(Fault::Field);
+    };
+    out.answer(own == other)
+}
+
+/// Makes a call of codes, document numbers or tokens.
+fn answer_codes(page: &Page<'_>, case: &str, out: &mut Output) -> Answered {
+    let (word, rest) = first_word(case);
+    let text = rest.as_bytes();
     match word {
-        "amount" => Some(amount(rest, out)),
-        "amount-of" => Some(amount_of(rest, out)),
-        "amount-fault" => Some(amount_fault(rest, out)),
-        "total" => Some(total(rest, out)),
-        "total-of" => Some(total_of(rest, out)),
-        "no-room" => Some(no_room(out)),
-        "money" => Some(money(page, rest, out)),
-        "tax" => Some(tax(rest, out)),
-        _ => None,
+        "check-digit" => show_check_digit(text, out),
+        "document" => show_document(rest, out),
+        "agent" => out.found(AgentCode::read(text)),
+        "airline" => out.found(AirlineCode::read(text)),
+        "period" => out.found(PeriodCode::read(text)),
+        "token" => show_token(Token::read(text), out),
+        "same-token" => show_same_token(rest, out),
+        _ => days::answer(page, case, out),
+    }
+}
+
+/// Makes the call of a case, of fields, days, commission or memos.
+pub fn answer(page: &Page<'_>, case: &str, out: &mut Output) -> Answered {
+    let (word, rest) = first_word(case);
+    let text = rest.as_bytes();
+    match word {
+        "amount" => show_amount(read_amount(text), out),
+        "amount-of" => show_amount(Amount::new(number(rest)?), out),
+        "amount-fault" => show_fault(read_amount(text), out),
+        "total" => show_total(read_total(text), out),
+        "total-of" => show_total(Total::new(number(rest)?), out),
+        "no-room" => out.found(Ok(NoRoom)),
+        "money" => show_money(page.alloc(), rest, out),
+        "tax" => show_tax(rest, out),
+        _ => answer_codes(page, case, out),
     }
 }

@@ -11,8 +11,8 @@ pub enum Line<'a> {
     File(&'a str),
     /// A record in the notation of the page, with its name or an empty one.
     Record(&'a str, &'a str),
-    /// The word of a call, and what the call takes.
-    Case(&'a str, &'a str),
+    /// A case.
+    Case,
 }
 
 impl<'a> Line<'a> {
@@ -27,8 +27,7 @@ impl<'a> Line<'a> {
         if let Some(name) = text.strip_suffix(":") {
             return Line::File(name);
         }
-        let (word, rest) = first_word(text);
-        Line::Case(word, rest)
+        Line::Case
     }
 
     /// A record; a first word without `|` is its name.

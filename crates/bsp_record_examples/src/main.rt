@@ -4,41 +4,35 @@
 #![tactic(auto)]
 
 mod answers;
-mod codes;
 mod days;
 mod explanations;
 mod fault;
 mod fields;
-mod hot;
-mod hot_records;
+mod files;
 mod lines;
 mod notation;
-mod operations;
-mod outcome;
 mod output;
 mod page;
 mod reader;
 mod records;
 mod ret;
-mod rules;
 mod texts;
 mod transactions;
 mod words;
-mod written;
 
 use answers::answer_page;
-use fault::Fault;
+use fault::Answered;
 use output::Output;
 use page::Page;
 use std::io;
 use std::process::ExitCode;
 
 /// Reads the page and writes it with its answers, up to the first line that is no case.
-fn run(rt: &HostRuntime) -> Result<(), Fault> {
+fn run(rt: &HostRuntime) -> Answered {
     let text = io::read_to_string(rt.alloc(), rt.stdin())?;
-    let page = Page::of(rt.alloc(), text.as_str())?;
+    let page = Page::of(rt.alloc(), text.as_str());
     let mut out = Output::new(rt.alloc())?;
-    let answered = answer_page(&page, text.as_str(), &mut out);
+    let answered = answer_page(&page, &mut out);
     rt.print(out.text())?;
     answered
 }
@@ -47,7 +41,7 @@ fn main(rt: HostRuntime) -> ExitCode {
     match run(&rt) {
         Ok(()) => ExitCode::SUCCESS,
         Err(fault) => {
-            let _ = eprintln!(rt; "the last line: {fault}");
+            let _ = eprintln!(rt; "the last line: {}", fault.text());
             ExitCode::FAILURE
         }
     }

@@ -1,5 +1,6 @@
 //! What is printed.
 
+use crate::fault::Answered;
 use crate::words::shown;
 use bsp_fields::FieldFault;
 use std::alloc::{AllocError, Global};
@@ -41,14 +42,24 @@ impl Output {
         self.is_short |= said.is_err();
     }
 
+    /// Appends the value that a call gave, or the name of its fault.
+    pub fn found<D: Display + Drop>(&mut self, found: Result<D, FieldFault>) -> Answered {
+        match found {
+            Ok(value) => self.say(value),
+            Err(fault) => self.fault(fault),
+        }
+        Ok(())
+    }
+
     /// Appends the name of a fault.
     pub fn fault(&mut self, fault: FieldFault) {
         self.say(format_args!("{fault:?}"));
     }
 
     /// Appends whether something is so.
-    pub fn answer(&mut self, is_so: bool) {
+    pub fn answer(&mut self, is_so: bool) -> Answered {
         self.push(if is_so { "yes" } else { "no" });
+        Ok(())
     }
 
     /// The text.

@@ -1,25 +1,21 @@
 //! The files and records of a page, by their names.
 
-use crate::fault::Fault;
+use crate::fault::{Answered, Fault};
 use crate::lines::Line;
 use crate::notation::push_record;
 use std::alloc::Global;
 
-/// The lines of a page.
-#[derive(Drop)]
+/// A page, and what memory is taken from.
+#[derive(Clone, Copy)]
 pub struct Page<'a> {
     alloc: Global,
-    lines: Vec<Line<'a>>,
+    text: &'a str,
 }
 
 impl<'a> Page<'a> {
     /// The page of that text.
-    pub fn of(alloc: Global, text: &'a str) -> Result<Page<'a>, Fault> {
-        let mut lines = Vec::new(alloc);
-        for line in text.lines() {
-            lines.push(Line::of(line))?;
-        }
-        Ok(Page { alloc, lines })
+    pub fn of(alloc: Global, text: &'a str) -> Page<'a> {
+        Page { alloc, text }
     }
 
     /// What memory is taken from.
@@ -27,23 +23,28 @@ impl<'a> Page<'a> {
         self.alloc
     }
 
+    /// The text of the page.
+    pub fn text(&self) -> &'a str {
+        self.text
+    }
+
     /// Appends the record or the file of that name.
-    pub fn push_named(&self, name: &str, text: &mut Vec<u8>) -> Result<(), Fault> {
+    pub fn push_named(&self, name: &str, text: &mut Vec<u8>) -> Answered {
         let before = text.len();
         let mut is_inside = false;
-        for line in &self.lines {
-            match line {
-                Line::File(file) => is_inside = *file == name,
+        for line in self.text.lines() {
+            match Line::of(line) {
+                Line::File(file) => is_inside = file == name,
                 Line::Record(own, record) => {
-                    if is_inside || *own == name {
+                    if is_inside || own == name {
                         push_record(record, text)?;
                     }
                 }
-                Line::Remark | Line::Case(_, _) => {}
+                Line::Remark | Line::Case => {}
             }
         }
         if text.len() == before {
-            return Err(Fault::Name);
+            return Err(Fault::Text);
         }
         Ok(())
     }

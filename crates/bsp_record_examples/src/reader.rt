@@ -1,119 +1,87 @@
 //! The calls of a reader of a RET file that comes in pieces, one after another.
 
-use crate::fault::Fault;
-use crate::outcome::{Counts, Outcome, write_outcome};
+use crate::fault::{Answered, Fault};
 use crate::output::{Output, say};
 use crate::page::Page;
+use crate::ret::{Counts, counted, show};
 use crate::texts::text_of;
 use crate::words::first_word;
 use bsp_ret::{FaultCode, RetFault, RetReader};
 
+/// What a call of a reader gives: the counts of its file, or nothing.
+type Made = Result<Option<Counts>, RetFault>;
+
 /// A call of a reader.
 #[derive(Clone, Copy)]
-enum Step<'a> {
-    /// `feed V1`: feeds the text of these parts.
-    Feed(&'a str),
-    /// `finish`: ends the text.
+enum Call<'a> {
+    /// Feeds a piece.
+    Feed(&'a [u8]),
+    /// Ends the text.
     Finish,
-    /// `file`: asks for the file.
+    /// Asks for the file.
     File,
 }
 
-impl<'a> Step<'a> {
-    /// The call that a text says.
-    fn of(text: &'a str) -> Result<Step<'a>, Fault> {
-        let (word, parts) = first_word(text);
-        match word {
-            "feed" => Ok(Step::Feed(parts)),
-            "finish" => Ok(Step::Finish),
-            "file" => Ok(Step::File),
-            _ => Err(Fault::Word),
+/// Makes a call of a reader.
+fn make(reader: &mut RetReader, call: Call<'_>) -> Made {
+    match call {
+        Call::Feed(piece) => reader.feed(piece)?,
+        Call::Finish => reader.finish()?,
+        Call::File => return Ok(Some(counted(reader.file())?)),
+    }
+    Ok(None)
+}
+
+/// Appends what a call gave.
+fn show_made(made: Made, out: &mut Output) -> Answered {
+    match made {
+        Ok(None) => {
+            out.push("done");
+            Ok(())
         }
+        Ok(Some(counts)) => show(Ok(counts), out),
+        Err(fault) => show(Err(fault), out),
     }
 }
 
-/// Writes what a call gave that gives nothing but a fault.
-fn write_done(out: &mut Output, done: Result<(), RetFault>) {
-    match done {
-        Ok(()) => out.push("done"),
-        Err(fault) => out.say(fault),
-    }
-}
-
-/// Writes that memory was short for a call, which is made again; whether it was.
-fn is_made_again<T>(out: &mut Output, made: &Result<T, RetFault>) -> bool {
+/// Makes a call, and appends what it gave; where memory was short, makes it again.
+fn answer(reader: &mut RetReader, call: Call<'_>, out: &mut Output) -> Answered {
+    let made = make(reader, call);
     match made {
         Err(fault) if fault.code == FaultCode::F10 => {
-            say!(out, "{}, again ", *fault);
-            true
+            say!(out, "{fault}, again ");
+            show_made(make(reader, call), out)
         }
-        _ => false,
+        _ => show_made(made, out),
     }
 }
 
-/// Feeds a piece.
-fn feed(reader: &mut RetReader, piece: &[u8], out: &mut Output) {
-    let mut fed = reader.feed(piece);
-    if is_made_again(out, &fed) {
-        fed = reader.feed(piece);
+/// Makes the call that a text says: `feed V1`, `finish` or `file`.
+fn take(page: &Page<'_>, step: &str, reader: &mut RetReader, out: &mut Output) -> Answered {
+    let (word, parts) = first_word(step);
+    match word {
+        "feed" => answer(reader, Call::Feed(&text_of(page, parts)?), out),
+        "finish" => answer(reader, Call::Finish, out),
+        "file" => answer(reader, Call::File, out),
+        _ => Err(Fault::Word),
     }
-    write_done(out, fed);
-}
-
-/// Ends the text.
-fn finish(reader: &mut RetReader, out: &mut Output) {
-    let mut finished = reader.finish();
-    if is_made_again(out, &finished) {
-        finished = reader.finish();
-    }
-    write_done(out, finished);
-}
-
-/// The counts of the file that a reader gives.
-fn counts_of(reader: &RetReader) -> Outcome {
-    match reader.file() {
-        Ok(file) => Ok(Counts::of(&file)),
-        Err(fault) => Err(fault),
-    }
-}
-
-/// Asks for the file.
-fn write_file(reader: &RetReader, out: &mut Output) {
-    let mut outcome = counts_of(reader);
-    if is_made_again(out, &outcome) {
-        outcome = counts_of(reader);
-    }
-    write_outcome(out, outcome);
-}
-
-/// Makes a call, and writes what it gave.
-fn take(
-    page: &Page<'_>,
-    step: Step<'_>,
-    reader: &mut RetReader,
-    out: &mut Output,
-) -> Result<(), Fault> {
-    match step {
-        Step::Feed(parts) => {
-            let piece = text_of(page, parts)?;
-            feed(reader, &piece, out);
-        }
-        Step::Finish => finish(reader, out),
-        Step::File => write_file(reader, out),
-    }
-    Ok(())
 }
 
 /// Makes the calls of a reader; `; ` is between them.
-pub fn calls(page: &Page<'_>, steps: &str, out: &mut Output) -> Result<(), Fault> {
-    let mut reader = RetReader::new(page.alloc());
+fn take_all(page: &Page<'_>, steps: &str, reader: &mut RetReader, out: &mut Output) -> Answered {
     let mut is_first = true;
     for step in steps.split("; ") {
         if !is_first {
             out.push("; ");
         }
         is_first = false;
-        take(page, Step::of(step)?, &mut reader, out)?;
+        take(page, step, reader, out)?;
     }
     Ok(())
+}
+
+/// Makes the calls of a new reader.
+pub fn calls(page: &Page<'_>, steps: &str, out: &mut Output) -> Answered {
+    let mut reader = RetReader::new(page.alloc());
+    take_all(page, steps, &mut reader, out)
 }

@@ -1,24 +1,61 @@
 //! The calls of whole RET files.
 
-use crate::fault::Fault;
-use crate::outcome::{Outcome, read_fed, read_whole, write_outcome};
+use crate::fault::{Answered, Fault};
 use crate::output::{Output, say};
 use crate::page::Page;
-use crate::reader::calls;
 use crate::texts::text_of;
-use crate::written::{same_pieces, written};
-use bsp_ret::RetReader;
+use bsp_ret::{RetFault, RetFile, RetReader, read_ret};
+use bsp_ret_writer::write_ret;
 use std::alloc::Global;
 
-/// How a text is read, for each place in it.
-#[derive(Clone, Copy)]
-enum Way {
-    /// What is before the place, in one text.
-    Cut,
-    /// What is before the place, fed to a reader, and then nothing.
-    CutFed,
-    /// What is before the place and what is behind it, fed to a reader.
-    Pieces,
+/// The numbers of records and transactions of a RET file, and its sum in minor units.
+#[derive(Clone, Copy, PartialEq)]
+pub struct Counts {
+    records: usize,
+    transactions: usize,
+    sum: i128,
+}
+
+/// The counts of a file, or a fault.
+pub type Outcome = Result<Counts, RetFault>;
+
+/// The counts of the file that a call gave.
+pub fn counted(file: Result<RetFile<'_>, RetFault>) -> Outcome {
+    match file {
+        Ok(file) => Ok(Counts {
+            records: file.record_count(),
+            transactions: file.transactions(),
+            sum: file.sum().get(),
+        }),
+        Err(fault) => Err(fault),
+    }
+}
+
+/// Appends an outcome.
+pub fn show(outcome: Outcome, out: &mut Output) -> Answered {
+    match outcome {
+        Ok(counts) => {
+            let (records, transactions) = (counts.records, counts.transactions);
+            say!(
+                out,
+                "records {records}, transactions {transactions}, sum {}",
+                counts.sum
+            );
+        }
+        Err(fault) => out.say(fault),
+    }
+    Ok(())
+}
+
+/// Reads a text.
+pub fn show_whole(alloc: Global, text: &[u8], out: &mut Output) -> Answered {
+    show(counted(read_ret(alloc, text)), out)
+}
+
+/// What a reader gives that was fed to the end.
+fn read_fed(reader: &mut RetReader) -> Outcome {
+    reader.finish()?;
+    counted(reader.file())
 }
 
 /// What is read of two pieces.
@@ -38,91 +75,121 @@ fn read_bytes(alloc: Global, text: &[u8]) -> Outcome {
     read_fed(&mut reader)
 }
 
+/// Feeds a text byte by byte.
+pub fn show_bytes(alloc: Global, text: &[u8], out: &mut Output) -> Answered {
+    show(read_bytes(alloc, text), out)
+}
+
+/// How a text is read, for each place in it.
+#[derive(Clone, Copy)]
+pub enum Way {
+    /// What is before the place, in one text.
+    Cut,
+    /// What is before the place, fed to a reader, and then nothing.
+    CutFed,
+    /// What is before the place and what is behind it, fed to a reader.
+    Pieces,
+}
+
 /// What is read of a text in that way at a place.
 fn read_at(alloc: Global, way: Way, text: &[u8], place: usize) -> Outcome {
     let (front, back) = text.split_at(place.min(text.len()));
     match way {
-        Way::Cut => read_whole(alloc, front),
+        Way::Cut => counted(read_ret(alloc, front)),
         Way::CutFed => read_pieces(alloc, front, b""),
         Way::Pieces => read_pieces(alloc, front, back),
     }
 }
 
 /// Writes that all places of a range have an outcome.
-fn write_range(out: &mut Output, first: usize, last: usize, outcome: Outcome) {
+fn show_range(first: usize, last: usize, outcome: Outcome, out: &mut Output) -> Answered {
     say!(out, "\n    {first} to {last}: ");
-    write_outcome(out, outcome);
+    show(outcome, out)
 }
 
 /// Reads a text at each place, and writes the ranges of places with one outcome.
-fn write_ranges(alloc: Global, way: Way, text: &[u8], out: &mut Output) {
+pub fn show_ranges(alloc: Global, way: Way, text: &[u8], out: &mut Output) -> Answered {
+    say!(out, "{} texts", text.len().saturating_add(1));
     let mut first = 0;
     let mut last = 0;
     let mut current = read_at(alloc, way, text, 0);
     for place in 1..=text.len() {
         let outcome = read_at(alloc, way, text, place);
         if outcome != current {
-            write_range(out, first, last, current);
+            show_range(first, last, current, out)?;
             first = place;
             current = outcome;
         }
         last = place;
     }
-    write_range(out, first, last, current);
+    show_range(first, last, current, out)
 }
 
-/// Reads a text at each of its places.
-fn ranges(page: &Page<'_>, way: Way, parts: &str, out: &mut Output) -> Result<(), Fault> {
-    let text = text_of(page, parts)?;
-    say!(out, "{} texts", text.len().saturating_add(1));
-    write_ranges(page.alloc(), way, &text, out);
+/// The text that is written of the file that a call gave.
+fn written(alloc: Global, file: Result<RetFile<'_>, RetFault>) -> Result<Vec<u8>, Fault> {
+    match file {
+        Ok(file) => write_ret(alloc, &file).map_err(|_| Fault::Memory),
+        Err(fault) => Err(Fault::from(fault)),
+    }
+}
+
+/// The text that is written of the RET file that a reader gives of two pieces.
+fn written_of_pieces(alloc: Global, front: &[u8], back: &[u8]) -> Result<Vec<u8>, Fault> {
+    let mut reader = RetReader::new(alloc);
+    reader.feed(front)?;
+    reader.feed(back)?;
+    reader.finish()?;
+    written(alloc, reader.file())
+}
+
+/// Of how many places of a text the file of the two pieces is written as `whole`.
+fn count_same(alloc: Global, text: &[u8], whole: &[u8]) -> Result<usize, Fault> {
+    let mut same = 0_usize;
+    for place in 0..=text.len() {
+        let (front, back) = text.split_at(place.min(text.len()));
+        if written_of_pieces(alloc, front, back)?.as_slice() == whole {
+            same = same.saturating_add(1);
+        }
+    }
+    Ok(same)
+}
+
+/// Cuts a RET file into two pieces at each of its places, and writes of how many the file of the reader is that of
+/// the whole text.
+pub fn show_same_pieces(alloc: Global, text: &[u8], out: &mut Output) -> Answered {
+    let whole = written(alloc, read_ret(alloc, text))?;
+    let same = count_same(alloc, text, &whole)?;
+    say!(
+        out,
+        "{} texts, {same} of the same file",
+        text.len().saturating_add(1)
+    );
     Ok(())
 }
 
-/// Reads a text.
-fn ret(page: &Page<'_>, parts: &str, out: &mut Output) -> Result<(), Fault> {
+/// The text that is written of the RET file that parts make.
+fn written_of(page: &Page<'_>, parts: &str) -> Result<Vec<u8>, Fault> {
     let text = text_of(page, parts)?;
-    write_outcome(out, read_whole(page.alloc(), &text));
-    Ok(())
+    written(page.alloc(), read_ret(page.alloc(), &text))
 }
 
-/// Feeds a text byte by byte.
-fn bytes(page: &Page<'_>, parts: &str, out: &mut Output) -> Result<(), Fault> {
-    let text = text_of(page, parts)?;
-    write_outcome(out, read_bytes(page.alloc(), &text));
-    Ok(())
+/// Appends whether a text is the one that it has to be.
+fn show_same(text: &[u8], expected: &[u8], out: &mut Output) {
+    out.push(if text == expected {
+        "the same"
+    } else {
+        "another text"
+    });
+    say!(out, ", {} bytes", text.len());
 }
 
 /// Reads a text and writes it; `; ` is before the text that this has to be.
-fn write(page: &Page<'_>, texts: &str, out: &mut Output) -> Result<(), Fault> {
+pub fn write(page: &Page<'_>, texts: &str, out: &mut Output) -> Answered {
     let Some((own, expected)) = texts.split_once("; ") else {
         return Err(Fault::File);
     };
-    let own = text_of(page, own)?;
-    let written = written(page.alloc(), &own)?;
+    let written = written_of(page, own)?;
     let expected = text_of(page, expected)?;
-    let is_same = written == expected;
-    let word = if is_same { "the same" } else { "another text" };
-    say!(out, "{word}, {} bytes", written.len());
+    show_same(&written, &expected, out);
     Ok(())
-}
-
-/// Makes the call of a word, where it is one of these.
-pub fn answer(
-    page: &Page<'_>,
-    word: &str,
-    rest: &str,
-    out: &mut Output,
-) -> Option<Result<(), Fault>> {
-    match word {
-        "ret" => Some(ret(page, rest, out)),
-        "bytes" => Some(bytes(page, rest, out)),
-        "cuts" => Some(ranges(page, Way::Cut, rest, out)),
-        "fed-cuts" => Some(ranges(page, Way::CutFed, rest, out)),
-        "pieces" => Some(ranges(page, Way::Pieces, rest, out)),
-        "same-pieces" => Some(same_pieces(page, rest, out)),
-        "reader" => Some(calls(page, rest, out)),
-        "write" => Some(write(page, rest, out)),
-        _ => None,
-    }
 }

@@ -1,7 +1,10 @@
 //! Words and numbers of a case.
 
 use crate::fault::Fault;
+use bsp_fields::Amount;
+use std::num::ParseIntError;
 use std::str;
+use std::str::FromStr;
 
 /// The first word of a text, and what follows it.
 pub fn first_word(text: &str) -> (&str, &str) {
@@ -11,27 +14,47 @@ pub fn first_word(text: &str) -> (&str, &str) {
     }
 }
 
-/// The number that a text begins with, and what follows it.
-pub fn first_count(text: &str) -> Result<(usize, &str), Fault> {
-    let (word, rest) = first_word(text);
-    match word.parse::<usize>() {
-        Ok(number) => Ok((number, rest)),
-        Err(_) => Err(Fault::Number),
-    }
+/// The number that a word is.
+pub fn number<N: FromStr<Err = ParseIntError>>(word: &str) -> Result<N, Fault> {
+    word.parse::<N>().map_err(|_| Fault::Field)
 }
 
-/// The number that a text is.
-pub fn number(text: &str) -> Result<i64, Fault> {
-    match text.parse::<i64>() {
-        Ok(number) => Ok(number),
-        Err(_) => Err(Fault::Number),
-    }
+/// The amount of minor units that a word is.
+pub fn amount(word: &str) -> Result<Amount, Fault> {
+    Ok(Amount::new(number(word)?)?)
 }
 
 /// The characters that a call gave.
 pub fn shown(characters: &[u8]) -> &str {
-    match str::from_utf8(characters) {
-        Ok(text) => text,
-        Err(_) => "no text",
+    str::from_utf8(characters).unwrap_or("no text")
+}
+
+/// What is left of a case, word by word.
+#[derive(Clone, Copy)]
+pub struct Words<'t> {
+    rest: &'t str,
+}
+
+impl<'t> Words<'t> {
+    /// The words of a text.
+    pub fn of(text: &'t str) -> Words<'t> {
+        Words { rest: text }
+    }
+
+    /// The next word, and an empty one where there is none.
+    pub fn word(&mut self) -> &'t str {
+        let (word, rest) = first_word(self.rest);
+        self.rest = rest;
+        word
+    }
+
+    /// The characters of the next word.
+    pub fn bytes(&mut self) -> &'t [u8] {
+        self.word().as_bytes()
+    }
+
+    /// All that is left.
+    pub fn rest(self) -> &'t str {
+        self.rest
     }
 }

@@ -8,7 +8,7 @@ use bsp_ret_records::{FormOfPayment, Profile, TransactionCode};
 use thiserror::Error;
 
 /// A row of the fault table of RET files.
-#[derive(Clone, Copy, Debug, PartialEq, Eq, Hash)]
+#[derive(Clone, Copy, Debug, PartialEq, Eq)]
 pub enum FaultCode {
     /// Not 136 characters, or a character outside 0x20 to 0x7E.
     F01,
@@ -34,7 +34,7 @@ pub enum FaultCode {
 
 /// The first fault of a RET file, and the number of its record, counted from 1; F10, out of memory,
 /// has record 0.
-#[derive(Clone, Copy, Debug, PartialEq, Eq, Hash, Error)]
+#[derive(Clone, Copy, Debug, PartialEq, Eq, Error)]
 #[error("{code:?} record {at}")]
 pub struct RetFault {
     /// The row that applies.

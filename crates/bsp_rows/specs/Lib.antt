@@ -10,7 +10,6 @@ pub mod Audit
 pub use Rattle.bsp_calendar.specs.DayOrder
 pub use Rattle.bsp_calendar.specs.History
 pub use Rattle.bsp_calendar.specs.Letters
-pub use Rattle.bsp_calendar.specs.PlanDocument
 pub use Rattle.bsp_calendar.specs.Published
 pub use Rattle.bsp_calendar.specs.Requests
 pub use Rattle.bsp_calendar.specs.SoundPlan

@@ -65,7 +65,7 @@ pub(crate) fn are_apart(
 }
 
 /// The agent and the number of a ticket, as it was reported.
-#[derive(Clone, Copy, Debug, PartialEq, Eq, PartialOrd, Ord, Drop)]
+#[derive(Clone, Copy, PartialEq, Eq, PartialOrd, Ord, Drop)]
 pub(crate) struct RelationKey {
     agent: AgentCode,
     number: [u8; 10],
@@ -151,7 +151,7 @@ pub(crate) fn are_documents_within(
 }
 
 /// The airline and the agent of a memo.
-#[derive(Clone, Copy, Debug, PartialEq, Eq, PartialOrd, Ord, Drop)]
+#[derive(Clone, Copy, PartialEq, Eq, PartialOrd, Ord, Drop)]
 pub(crate) struct PartiesKey {
     airline: AirlineCode,
     agent: AgentCode,

@@ -6,3 +6,4 @@ pub mod SelectedLemmas
 pub mod SameContentLemmas
 pub mod FoundLemmas
 pub mod MeaningLemmas
+pub mod RowLemmas

@@ -1,9 +1,10 @@
 //! The verdict on a transaction.
 
-ghost use Rattle.std.specs.Prelude.{◌≡◌, ◌∷◌, []};
+ghost use Rattle.std.specs.Prelude.{◌≡◌, ◌∷◌, [], take, drop};
 ghost use Rattle.bsp_fields.specs.FirstFault.{first_fault_or};
 ghost use Rattle.bsp_calendar.specs.Published.{target_or_zero};
 ghost use Rattle.bsp_rules.specs.Verdicts.{rows, verdict_on};
+ghost use Rattle.bsp_rules.specs.declared.verdict.Reporter.TheVariants.{Office};
 
 use crate::amounts::has_wrong_amounts;
 use crate::conditions::{
@@ -27,6 +28,54 @@ fn refuse_if(applies: bool, refusal: Refusal) -> Result<(), Verdict>
     Ok(())
 }
 
+/// Tests the conditions of the first three rows: the agent, whether the transaction is accepted already, the airline.
+fn check_parties(
+    reporter: Reporter,
+    transaction: &Transaction,
+    facts: &Facts,
+    plan: &Plan,
+) -> Result<(), Verdict>
+    ensures { result ≡ first_fault_or (take 3 (rows reporter transaction.now facts.now plan.now)) (tt {0}) }
+{
+    refuse_if(
+        has_wrong_agent(reporter, transaction, facts),
+        Refusal::WrongAgent,
+    )?;
+    if let Some(period) = facts.held {
+        return Err(Verdict::Held(period));
+    }
+    let airline = transaction.document.airline;
+    refuse_if(!plan.has_airline(airline), Refusal::UnknownAirline)
+}
+
+/// Tests the conditions of the next four: the check digits, the day of issue, the stock and the number.
+fn check_number(transaction: &Transaction, facts: &Facts, plan: &Plan) -> Result<(), Verdict>
+    ensures { result ≡ first_fault_or (take 4 (drop 3 (rows Office transaction.now facts.now plan.now))) (tt {0}) }
+{
+    refuse_if(has_wrong_check_digit(transaction), Refusal::WrongCheckDigit)?;
+    let issued = transaction.issued.number();
+    refuse_if(plan.day().number() < issued, Refusal::NotYetIssued)?;
+    refuse_if(is_out_of_stock(facts), Refusal::NotInStock)?;
+    refuse_if(
+        is_number_used(transaction.code, &facts.own),
+        Refusal::NumberUsed,
+    )
+}
+
+/// Tests the conditions of the next four: the amounts and the related tickets.
+fn check_content(transaction: &Transaction, facts: &Facts, plan: &Plan) -> Result<(), Verdict>
+    ensures { result ≡ first_fault_or (take 4 (drop 7 (rows Office transaction.now facts.now plan.now))) (tt {0}) }
+{
+    let rate = plan.rate(transaction.document.airline, transaction.issued);
+    refuse_if(has_wrong_amounts(transaction, rate), Refusal::WrongAmounts)?;
+    refuse_if(lacks_ticket(transaction, facts), Refusal::NoTicket)?;
+    refuse_if(has_ended(transaction, facts), Refusal::TicketEnded)?;
+    refuse_if(
+        disagrees_with_tickets(transaction, &facts.related),
+        Refusal::WrongAgainstTicket,
+    )
+}
+
 /// The period in which a transaction is accepted, or the verdict of the first row that applies.
 fn ruled(
     reporter: Reporter,
@@ -36,32 +85,10 @@ fn ruled(
 ) -> Result<PeriodCode, Verdict>
     ensures { result ≡ first_fault_or (rows reporter transaction.now facts.now plan.now) (target_or_zero plan.now transaction.now.issued) }
 {
-    let airline = transaction.document.airline;
-    let issued = transaction.issued;
-    refuse_if(
-        has_wrong_agent(reporter, transaction, facts),
-        Refusal::WrongAgent,
-    )?;
-    if let Some(period) = facts.held {
-        return Err(Verdict::Held(period));
-    }
-    refuse_if(!plan.has_airline(airline), Refusal::UnknownAirline)?;
-    refuse_if(has_wrong_check_digit(transaction), Refusal::WrongCheckDigit)?;
-    refuse_if(plan.day().number() < issued.number(), Refusal::NotYetIssued)?;
-    refuse_if(is_out_of_stock(facts), Refusal::NotInStock)?;
-    refuse_if(
-        is_number_used(transaction.code, &facts.own),
-        Refusal::NumberUsed,
-    )?;
-    let rate = plan.rate(airline, issued);
-    refuse_if(has_wrong_amounts(transaction, rate), Refusal::WrongAmounts)?;
-    refuse_if(lacks_ticket(transaction, facts), Refusal::NoTicket)?;
-    refuse_if(has_ended(transaction, facts), Refusal::TicketEnded)?;
-    refuse_if(
-        disagrees_with_tickets(transaction, &facts.related),
-        Refusal::WrongAgainstTicket,
-    )?;
-    let Some(target) = plan.target(issued) else {
+    check_parties(reporter, transaction, facts, plan)?;
+    check_number(transaction, facts, plan)?;
+    check_content(transaction, facts, plan)?;
+    let Some(target) = plan.target(transaction.issued) else {
         return Err(Verdict::Refused(Refusal::NoPeriod));
     };
     refuse_if(is_at_limit(facts, plan), Refusal::LimitReached)?;

@@ -54,11 +54,8 @@ fn ticket_fare(related: &Option<RelatedDocument>) -> i64
 fn tickets_gross(related: &[Option<RelatedDocument>; 2]) -> i64
     ensures { result ≡ tickets_gross related.now }
 {
-    let mut sum = 0;
-    for place in related {
-        sum += ticket_gross(place);
-    }
-    sum
+    let [first, second] = related;
+    ticket_gross(first) + ticket_gross(second)
 }
 
 /// Fares of the related tickets.
@@ -66,11 +63,8 @@ fn tickets_fare(related: &[Option<RelatedDocument>; 2]) -> i64
     ensures value { result ≡ tickets_fare related.now }
     ensures bound { unsigned_abs result ≤ 199_999_999_998 }
 {
-    let mut sum = 0;
-    for place in related {
-        sum += ticket_fare(place);
-    }
-    sum
+    let [first, second] = related;
+    ticket_fare(first) + ticket_fare(second)
 }
 
 /// What a fare is above the tickets' fares, and 0 where it is not above them.

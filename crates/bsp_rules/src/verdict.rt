@@ -16,7 +16,7 @@ pub enum Reporter {
 }
 
 /// Why a transaction is refused, in the order in which it is judged.
-#[derive(Clone, Copy, Debug, PartialEq, Eq, Hash, Error)]
+#[derive(Clone, Copy, Debug, PartialEq, Eq, Error)]
 pub enum Refusal {
     /// The agent is not registered, or another agent reports.
     #[error("E02: the agent is not registered, or is not the one that reports")]

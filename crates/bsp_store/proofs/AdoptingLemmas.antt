@@ -21,7 +21,7 @@ use Rattle.bsp_store_save.proofs.MakingLemmas.{new_trees}
 use Rattle.bsp_store.specs.Meanings.{Holds}
 use Rattle.bsp_store_migration.specs.Migrating.{IsMigrated, KeepsOldBook, KeepsOnlyOld, LeavesMigration}
 use Rattle.bsp_store_migration.specs.Old.{old_schema}
-use Rattle.bsp_store_migration.specs.OldVersion.{OldVersion}
+use Rattle.bsp_store_migration.specs.declared.version.OldVersion.{OldVersion}
 use Rattle.bsp_store.specs.Adopting.{Adopts, IsFoundIn, IsMigratedIn, LeavesMigrated, Refuses}
 use Rattle.bsp_store.specs.declared.book.SqlBook.{SqlBook}
 

@@ -1,5 +1,5 @@
 -- From the rows that an audit counts to what the store keeps.
-use Rattle.std.proofs.Common.{◌≡◌, ℕ, [], length, None, Result, Ok, Err, IfOk, inl, inr, sym, ap, subst, ◌∙◌, arith}
+use Rattle.std.proofs.Common.{◌≡◌, ◌⊎◌, ℕ, [], length, None, Result, Ok, Err, IfOk, inl, inr, sym, ap, subst, ◌∙◌, arith}
 use Rattle.std.specs.Prelude.{IfErr, IsErrAnd, IsOkAnd, MatchResult, false, true}
 use Rattle.std.specs.declared.cmp.Ordering.{Ordering}
 use Rattle.std.specs.BTreeMap.{BTreeMap, IsOrdered as AreKeysOrdered}
@@ -21,7 +21,7 @@ use Rattle.bsp_store_open.specs.declared.fault.OpenFault.{OpenFault}
 use Rattle.bsp_store_open.proofs.Asking.{version_commits_nothing}
 use Rattle.bsp_store_open.proofs.OpeningLemmas.{still_clean}
 use Rattle.bsp_store_save.specs.Kept.{Spares}
-use Rattle.bsp_store.specs.Auditing.{HasNone, IsAudited, IsCounted, IsSummaryOf, WasRefused, fault_in}
+use Rattle.bsp_store.specs.Auditing.{HasNone, IsAuditOf, IsAudited, IsCounted, IsSummaryOf, WasRefused, fault_in}
 use Rattle.bsp_store.specs.declared.audit.AuditFault.{AuditFault}
 use Rattle.bsp_store.specs.declared.audit.Summary.{Summary}
 
@@ -77,24 +77,21 @@ module _ {S : Type 0} (g : Ghosts S) where
   left_behind h left leaves (Ok s) none = tt
   left_behind h left leaves (Err e) none = λ is. (left, none is, leaves)
 
--- a connection that was opened, and its audit
-module _ {S L : Type 0} (g : Ghosts S) (Found : Held S → Type 0) where
-  pub audited_ok : (opened : Result (Held S) (OpenFault × L)) (r : Result Summary AuditFault) → IfOk opened Found
-      → MatchResult opened (λ conn. IfOk r (λ s. (left : S) × IsAudited g conn left s × LeavesCommitted g conn left)) (λ e. IsErrAnd r (λ f. fault_in f ≡ e.0))
-      → IfOk r (λ s. (conn : Held S) × (left : S) × Found conn × IsAudited g conn left s × LeavesCommitted g conn left)
-  audited_ok (Ok conn) (Ok s) found it = (conn, it.0, found, it.1, it.2)
-  audited_ok (Ok conn) (Err f) found it = tt
-  audited_ok (Err e) (Ok s) found is = absurd is
-  audited_ok (Err e) (Err f) found is = tt
+-- a connection that was opened, or was not, and what is answered
+module _ {S : Type 0} (g : Ghosts S) (Found : Held S → Type 0) where
+  abbrev Answers : Result Summary AuditFault → Type 0
+  Answers r = ((conn : Held S) × Found conn × IsAuditOf g conn r) ⊎ ((fault : OpenFault) × (is_refusal fault ≡ false) × IsErrAnd r (λ f. fault_in f ≡ fault))
 
-  pub audited_err : (opened : Result (Held S) (OpenFault × L)) (r : Result Summary AuditFault) → IfOk opened Found → IfErr opened (λ e. is_refusal e.0 ≡ false)
-      → MatchResult opened (λ conn. IfOk r (λ s. (left : S) × IsAudited g conn left s × LeavesCommitted g conn left)) (λ e. IsErrAnd r (λ f. fault_in f ≡ e.0))
-      → IfOk opened (λ conn. IfErr r (λ f. is_refusal (fault_in f) ≡ true → (left : S) × WasRefused g (fault_in f) conn left × LeavesCommitted g conn left))
+  pub audited_ok : (r : Result Summary AuditFault) → Answers r → IfOk r (λ s. (conn : Held S) × (left : S) × Found conn × IsAudited g conn left s × LeavesCommitted g conn left)
+  audited_ok (Ok s) (inl it) = let left = it.2.passed in (it.0, left.0, it.1, left.1, left.2)
+  audited_ok (Ok s) (inr is) = absurd is.2
+  audited_ok (Err f) it = tt
+
+  pub audited_err : (r : Result Summary AuditFault) → Answers r
       → IfErr r (λ f. is_refusal (fault_in f) ≡ true → (conn : Held S) × (left : S) × Found conn × WasRefused g (fault_in f) conn left × LeavesCommitted g conn left)
-  audited_err (Ok conn) (Ok s) found fine it none = tt
-  audited_err (Ok conn) (Err f) found fine it none = λ is. let left = none is in (conn, left.0, found, left.1, left.2)
-  audited_err (Err e) (Ok s) found fine it none = tt
-  audited_err (Err e) (Err f) found fine is none = λ refused. let other = ap is_refusal is in absurd (cc (refused, other, fine))
+  audited_err (Ok s) it = tt
+  audited_err (Err f) (inl it) = λ is. let left = it.2.refused is in (it.0, left.0, it.1, left.1, left.2)
+  audited_err (Err f) (inr is) = λ refused. let fine = is.1 in let other = ap is_refusal is.2 in absurd (cc (refused, other, fine))
 
 -- the numbers of a book that was read
 module _ {B : Type 0} (Has : B → Summary → Type 0) where

@@ -18,7 +18,7 @@ use Rattle.bsp_store_open.specs.Schema.{our_schema}
 use Rattle.bsp_store_open.specs.declared.fault.OpenFault.{OpenFault}
 use Rattle.bsp_store_open.proofs.FormedContent.{formed_content}
 use Rattle.bsp_store_migration.specs.Migrating.{IsOldBook, KeepsNoOld}
-use Rattle.bsp_store_migration.specs.OldVersion.{OldVersion}
+use Rattle.bsp_store_migration.specs.declared.version.OldVersion.{OldVersion}
 use Rattle.bsp_store_migration.proofs.OldBookLemmas.{keeps_some, migrated_book, not_this_book, old_ours, only_rows}
 use Rattle.bsp_store_migration.proofs.VersionLemmas.{bare_not_ours, old_not_bare, old_not_ours}
 use Rattle.bsp_store_save.specs.Content.{form}

@@ -15,7 +15,7 @@ use Rattle.bsp_store_open.specs.Schema.{no_schema, our_schema}
 use Rattle.bsp_store_open.specs.declared.fault.OpenFault.{OpenFault}
 use Rattle.bsp_store_migration.specs.Migrating.{IsMigrationOf, KeepsOldBook, KeepsOnlyOld, ShowsNoOldBook}
 use Rattle.bsp_store_migration.specs.Old.{old_schema}
-use Rattle.bsp_store_migration.specs.OldVersion.{OldVersion}
+use Rattle.bsp_store_migration.specs.declared.version.OldVersion.{OldVersion}
 use Rattle.bsp_store.specs.Meanings.{Holds}
 use Rattle.bsp_store.specs.declared.book.SqlBook.{SqlBook}
 

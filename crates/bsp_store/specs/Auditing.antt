@@ -1,5 +1,5 @@
 -- What an audit finds in a store.
-use Rattle.std.specs.Prelude.{◌≡◌, ℤ, List, ◌∷◌, length}
+use Rattle.std.specs.Prelude.{◌≡◌, ℤ, List, ◌∷◌, length, Result, IfErr, IfOk, true}
 use Rattle.std.specs.FinMap.{entries}
 use Rattle.sqlite_value.specs.Order.{Row, column}
 use Rattle.sqlite_value.specs.declared.value.Value.TheVariants.{Int}
@@ -11,7 +11,8 @@ use Rattle.bsp_rows.specs.Rows.{Rows}
 use Rattle.bsp_rows.specs.Sound.{Sound}
 use Rattle.bsp_store_open.specs.Contents.{KeepsBook}
 use Rattle.bsp_store_open.specs.Schema.{our_schema}
-use Rattle.bsp_store_open.specs.Opening.{HasNoBook, IsAskedVersion, Reopens}
+use Rattle.bsp_store_open.specs.Faults.{is_refusal}
+use Rattle.bsp_store_open.specs.Opening.{HasNoBook, IsAskedVersion, LeavesCommitted, Reopens}
 use Rattle.bsp_store_open.specs.declared.fault.OpenFault.{OpenFault}
 use Rattle.bsp_store_open.specs.declared.fault.OpenFault.TheVariants as opening
 use Rattle.bsp_store.specs.declared.audit.AuditFault.{AuditFault}
@@ -64,3 +65,8 @@ module _ {S : Type 0} (g : Ghosts S) where
   -- opened again, the store showed no book of this version, for what the fault says
   abbrev pub WasRefused : OpenFault → Held S → S → Type 0
   WasRefused fault h left = IsClean (g.view left) → (now : Held S) × Reopens g h now × ((later : Held S) × HasCleanDisk (state g later) × HasNone fault now later)
+
+  -- what is answered of a connection, whose store is then let go
+  pub record IsAuditOf (h : Held S) (r : Result Summary AuditFault) : Type 0 where
+    pub passed : IfOk r (λ s. (left : S) × IsAudited h left s × LeavesCommitted g h left)
+    pub refused : IfErr r (λ e. is_refusal (fault_in e) ≡ true → (left : S) × WasRefused (fault_in e) h left × LeavesCommitted g h left)

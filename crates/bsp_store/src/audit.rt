@@ -1,6 +1,6 @@
 //! The audit of a book, which changes nothing in its store.
 
-ghost use Rattle.std.specs.Prelude.{◌≡◌, Err, IfErr, IfOk, IfSome, IsErrAnd, IsOkAnd, MatchResult, None, true};
+ghost use Rattle.std.specs.Prelude.{◌≡◌, Err, IfErr, IfOk, IfSome, IsOkAnd, MatchResult, None, true};
 ghost use Rattle.sqlite.specs.Files.{file_state, over_files};
 ghost use Rattle.sqlite.specs.Held.{Held};
 ghost use Rattle.sqlite.specs.Start.{FindsIn};
@@ -15,7 +15,7 @@ ghost use Rattle.bsp_store.specs.Files.{StoreFrom};
 ghost use Rattle.bsp_store.specs.Auditing.{HasNone, IsAudited, IsCounted, IsSummaryOf, ShowsNumber, WasRefused, fault_in};
 
 use crate::missing_log::MissingLog;
-use crate::opening::files_at;
+use crate::on_files::{OnFiles, on_files};
 use bsp_book::ListBook;
 use bsp_rows::Day;
 use bsp_store_damage::{Damage, find_damage};
@@ -200,23 +200,33 @@ fn audited_alone<S: Alter + Drop>(
     found
 }
 
-/// Audits the book of a connection that was just opened, if it was. What is left of the files is dropped after the log
-/// that their opening made is taken away.
-fn audited_opened<S: Alter + Drop, L: Drop>(
-    rt: &HostRuntime,
-    opened: Result<Connection<S>, (OpenFault, Option<L>)>,
-    log: &MissingLog,
-) -> Result<Summary, AuditFault>
-    ensures ok { MatchResult opened (λ conn. IfOk result (λ summary. (left : S) × IsAudited S.Store conn left summary × LeavesCommitted S.Store conn left)) (λ e. IsErrAnd result (λ fault. fault_in fault ≡ e.0)) }
-    ensures refused { IfOk opened (λ conn. IfErr result (λ e. is_refusal (fault_in e) ≡ true → (left : S) × WasRefused S.Store (fault_in e) conn left × LeavesCommitted S.Store conn left)) }
-{
-    match opened {
-        Ok(conn) => audited_alone(rt, conn, log),
-        Err((fault, left)) => {
-            if left.is_some() {
-                log.remove(rt);
+/// The audit of a book in files, whose log is taken away if their opening made it.
+#[derive(Drop)]
+struct Audit {
+    log: MissingLog,
+}
+
+impl OnFiles<Result<Summary, AuditFault>> for Audit {
+    ghost use Rattle.std.specs.Prelude.{◌≡◌, IsErrAnd};
+    ghost use Rattle.bsp_store.specs.Auditing.{IsAuditOf, fault_in};
+
+    ghost is_found = { λ S g conn found. IsAuditOf g conn found };
+
+    ghost is_failed = { λ fault found. IsErrAnd found (λ e. fault_in e ≡ fault) };
+
+    fn found<S: Alter + Drop, L: Drop>(
+        self,
+        rt: &HostRuntime,
+        opened: Result<Connection<S>, (OpenFault, Option<L>)>,
+    ) -> Result<Summary, AuditFault> {
+        match opened {
+            Ok(conn) => audited_alone(rt, conn, &self.log),
+            Err((fault, left)) => {
+                if left.is_some() {
+                    self.log.remove(rt);
+                }
+                Err(AuditFault::Failed(fault))
             }
-            Err(AuditFault::Failed(fault))
         }
     }
 }
@@ -236,6 +246,5 @@ pub fn audit_at<T: Start>(rt: &HostRuntime, path: &str, start: T) -> Result<Summ
         Ok(log) => log,
         Err(fault) => return Err(AuditFault::Failed(fault)),
     };
-    let opened = files_at(rt, path, start);
-    audited_opened(rt, opened, &log)
+    on_files(rt, path, start, Audit { log })
 }

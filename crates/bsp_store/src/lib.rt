@@ -6,6 +6,7 @@ mod book;
 mod laws;
 mod logged;
 mod missing_log;
+mod on_files;
 mod opening;
 
 pub use audit::{AuditFault, Summary, audit_at, audit_store};

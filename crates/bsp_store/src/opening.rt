@@ -14,13 +14,14 @@ ghost use Rattle.bsp_store_open.specs.Faults.{is_refusal};
 ghost use Rattle.bsp_store_open.specs.Opening.{IsOrdered, LeavesCommitted, LeavesEmptyBook, Reopens, SparesStore};
 ghost use Rattle.bsp_store_migration.specs.Migrating.{AreAllInOrder, IsOld, ShowsNoOldBook};
 ghost use Rattle.bsp_store_migration.specs.Old.{old_schema};
-ghost use Rattle.bsp_store_migration.specs.OldVersion.{OldVersion};
+ghost use Rattle.bsp_store_migration.specs.declared.version.OldVersion.{OldVersion};
 ghost use Rattle.bsp_store.specs.Meanings.{Holds};
 ghost use Rattle.bsp_store.specs.Adopting.{Adopts, IfRefused, IsFoundIn, IsMigratedIn, LeavesMigrated, LeavesWhole, Refuses, ShowsNone, WasNoBook};
 ghost use Rattle.bsp_store.specs.Stops.{FindsBook};
 
 use crate::book::SqlBook;
 use crate::logged::Logged;
+use crate::on_files::{OnFiles, on_files};
 use bsp_store_damage::{Damage, find_damage};
 use bsp_store_migration::{OldVersion, again_ordered, migrated_list, old_version, open_ordered};
 use bsp_store_open::{OpenFault, again, empty_list, is_bare, is_ours, kept_list, refusal};
@@ -272,14 +273,24 @@ impl<T: Start> SqlBook<FileStore<FileFrom<T>>> {
     }
 }
 
-/// What damages the book of a connection that was just opened, which is then given up.
-fn damage_of<S: Alter + Drop, L: Drop>(
-    alloc: Global,
-    opened: Result<Connection<S>, (OpenFault, L)>,
-) -> Result<Damage, OpenFault> {
-    match opened {
-        Ok(mut conn) => find_damage(alloc, &mut conn),
-        Err((fault, _)) => Err(fault),
+/// The search for what damages a book in files.
+#[derive(Clone, Copy)]
+struct Search;
+
+impl OnFiles<Result<Damage, OpenFault>> for Search {
+    ghost is_found = { λ S g conn found. Unit {0} };
+
+    ghost is_failed = { λ fault found. Unit {0} };
+
+    fn found<S: Alter + Drop, L: Drop>(
+        self,
+        rt: &HostRuntime,
+        opened: Result<Connection<S>, (OpenFault, Option<L>)>,
+    ) -> Result<Damage, OpenFault> {
+        match opened {
+            Ok(mut conn) => find_damage(rt.alloc(), &mut conn),
+            Err((fault, _)) => Err(fault),
+        }
     }
 }
 
@@ -290,6 +301,5 @@ fn damage_of<S: Alter + Drop, L: Drop>(
 ///
 /// Those of an opening.
 pub fn damage_at<T: Start>(rt: &HostRuntime, path: &str, start: T) -> Result<Damage, OpenFault> {
-    let opened = files_at(rt, path, start);
-    damage_of(rt.alloc(), opened)
+    on_files(rt, path, start, Search)
 }

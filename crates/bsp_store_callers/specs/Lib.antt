@@ -1,2 +1,4 @@
 pub mod Callers
 pub mod Reading
+pub mod MemoReading
+pub mod MemoWritten

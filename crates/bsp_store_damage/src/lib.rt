@@ -5,6 +5,7 @@
 
 mod beside;
 mod damage;
+mod end;
 mod key;
 mod rows;
 mod schema;

@@ -1,7 +1,9 @@
 //! The table, the index or the view that is not the book's.
 
 use crate::damage::Damage;
+use crate::end::End;
 use crate::tables::{TABLES, Table};
+use bsp_store_open::OpenFault;
 use bsp_store_schema::is_our_table;
 use sqlite_items::Items;
 use sqlite_schema::schema::{Index, Schema, Table as StoredTable, View};
@@ -91,10 +93,21 @@ fn first_foreign(schema: &Schema) -> Option<(&'static str, &Bytes)> {
     Some(("object", name))
 }
 
-/// What is in a store beside the tables of a book, or which of these is missing or another.
-pub(crate) fn schema_damage(alloc: Global, schema: &Schema) -> Result<Option<Damage>, AllocError> {
-    if let Some((what, name)) = first_foreign(schema) {
-        return Ok(Some(Damage::Foreign(what, text_of(alloc, name)?)));
+/// The end at something that a book has not, by its kind and its name, as far as there was memory for it.
+fn at_foreign(what: &'static str, name: Result<String, AllocError>) -> End {
+    match name {
+        Ok(name) => End::Found(Damage::Foreign(what, name)),
+        Err(_) => End::Failed(OpenFault::NoRoom),
     }
-    Ok(first_missing(&schema.tables).map(Damage::Table))
+}
+
+/// Ends at what is in a store beside the tables of a book, or at one of these that is missing or another.
+pub(crate) fn search_schema(alloc: Global, schema: &Schema) -> Result<(), End> {
+    if let Some((what, name)) = first_foreign(schema) {
+        return Err(at_foreign(what, text_of(alloc, name)));
+    }
+    match first_missing(&schema.tables) {
+        Some(table) => Err(End::Found(Damage::Table(table))),
+        None => Ok(()),
+    }
 }

@@ -1,12 +1,13 @@
-//! The search for what damages a book.
+//! The search for what damages a book. It ends where something is found.
 
 ghost use Rattle.bsp_store_load.specs.Kept.{Spares};
 
 use crate::beside::{first_spare_second, first_spare_tax};
 use crate::damage::Damage;
-use crate::key::{item_key, memo_key, range_key, row_key, ticket_key};
+use crate::end::{End, at_key, at_row};
+use crate::key::{item_key, memo_key, range_key, ticket_key};
 use crate::rows::first_unwritten;
-use crate::schema::schema_damage;
+use crate::schema::search_schema;
 use crate::tables::Table;
 use crate::tallies::{first_wrong, used};
 use bsp_memory_rows::Tables;
@@ -18,215 +19,224 @@ use bsp_store_load::{
 };
 use bsp_store_open::{OpenFault, load_rows, plan_rows, tallies, tally_taxes};
 use sqlite::{Alter, Connection, Row};
-use std::alloc::{AllocError, Global};
+use std::alloc::Global;
 use std::collections::BTreeMap;
 
-fn at_row(alloc: Global, table: Table, row: &Row) -> Result<Damage, AllocError> {
-    let key = row_key(alloc, row, table.key_columns())?;
-    Ok(Damage::Row(table, key))
-}
-
-/// A table that has not one row where it must, or more than one where it may have one.
-fn count_damage(rows: &PlanRows) -> Option<Damage> {
+/// Ends at a table that has not one row where it must, or more than one where it may have one.
+fn search_counts(rows: &PlanRows) -> Result<(), End> {
     if rows.meta.len() != 1 {
-        return Some(Damage::Count(Table::Meta));
+        return Err(End::Found(Damage::Count(Table::Meta)));
     }
     if rows.terms.len() > 1 {
-        return Some(Damage::Count(Table::Terms));
+        return Err(End::Found(Damage::Count(Table::Terms)));
     }
-    None
+    Ok(())
 }
 
-/// What damages the rows of the plan by themselves.
-fn plan_damage(alloc: Global, rows: &PlanRows) -> Result<Option<Damage>, AllocError> {
-    if let Some(damage) = count_damage(rows) {
-        return Ok(Some(damage));
-    }
+/// Ends at what damages the rows of the plan by themselves.
+fn search_plan(alloc: Global, rows: &PlanRows) -> Result<(), End> {
+    search_counts(rows)?;
     match first_unwritten(rows) {
-        Some((table, row)) => Ok(Some(at_row(alloc, table, row)?)),
-        None => Ok(None),
+        Some((table, row)) => Err(at_row(alloc, table, row)),
+        None => Ok(()),
     }
 }
 
-/// The first row of a table that no office writes; those before it are put into memory.
-fn row_damage<S: Alter, K, V, M, T: StoredTable<K, V, M>>(
+/// Ends at the first row of a table that no office writes; those before it are put into memory.
+fn search_rows<S: Alter, K, V, M, T: StoredTable<K, V, M>>(
     alloc: Global,
     conn: &mut Connection<S>,
     memory: &mut M,
     table: Table,
     stored: &T,
-) -> Result<Option<Damage>, OpenFault>
+) -> Result<(), End>
     ensures spares { Spares S.Store conn.old conn.new }
 {
-    match load_rows(stored, conn, memory)? {
-        Some(row) => Ok(Some(at_row(alloc, table, &row)?)),
-        None => Ok(None),
+    match load_rows(stored, conn, memory) {
+        Ok(Some(row)) => Err(at_row(alloc, table, &row)),
+        Ok(None) => Ok(()),
+        Err(fault) => Err(End::Failed(fault)),
     }
 }
 
-/// The first row of agents and ranges that no office writes.
-fn caller_damage<S: Alter>(
+/// Ends at the first row of agents and ranges that no office writes.
+fn search_callers<S: Alter>(
     alloc: Global,
     conn: &mut Connection<S>,
     tables: &mut Tables,
-) -> Result<Option<Damage>, OpenFault>
+) -> Result<(), End>
     ensures spares { Spares S.Store conn.old conn.new }
 {
-    if let Some(damage) = row_damage(alloc, conn, tables, Table::Agent, &Agents)? {
-        return Ok(Some(damage));
-    }
-    row_damage(alloc, conn, tables, Table::Stock, &Ranges)
+    search_rows(alloc, conn, tables, Table::Agent, &Agents)?;
+    search_rows(alloc, conn, tables, Table::Stock, &Ranges)
 }
 
-/// The first row of the taxes of items and of second related documents that no office writes.
-fn beside_damage<S: Alter>(
+/// Ends at the first row of the taxes of items and of second related documents that no office writes.
+fn search_beside<S: Alter>(
     alloc: Global,
     conn: &mut Connection<S>,
     taxes: &mut BTreeMap<ItemKey, ItemTax>,
     seconds: &mut BTreeMap<TicketKey, ReportedDocument>,
-) -> Result<Option<Damage>, OpenFault>
+) -> Result<(), End>
     ensures spares { Spares S.Store conn.old conn.new }
 {
-    if let Some(damage) = row_damage(alloc, conn, taxes, Table::ItemTax, &StoredTaxes)? {
-        return Ok(Some(damage));
-    }
-    row_damage(alloc, conn, seconds, Table::SecondRelated, &StoredSeconds)
+    search_rows(alloc, conn, taxes, Table::ItemTax, &StoredTaxes)?;
+    search_rows(alloc, conn, seconds, Table::SecondRelated, &StoredSeconds)
 }
 
-/// The first row of items, with these taxes and second related documents, and of memos that no office writes.
-fn sale_damage<S: Alter>(
+/// Ends at the first row of items, with these taxes and second related documents, and of memos that no office writes.
+fn search_sales<S: Alter>(
     alloc: Global,
     conn: &mut Connection<S>,
     tables: &mut Tables,
     taxes: &BTreeMap<ItemKey, ItemTax>,
     seconds: &BTreeMap<TicketKey, ReportedDocument>,
-) -> Result<Option<Damage>, OpenFault>
+) -> Result<(), End>
     ensures spares { Spares S.Store conn.old conn.new }
 {
     let items = StoredItems { taxes, seconds };
-    if let Some(damage) = row_damage(alloc, conn, tables, Table::Item, &items)? {
-        return Ok(Some(damage));
-    }
-    row_damage(alloc, conn, tables, Table::Memo, &StoredMemos)
+    search_rows(alloc, conn, tables, Table::Item, &items)?;
+    search_rows(alloc, conn, tables, Table::Memo, &StoredMemos)
 }
 
-/// The first tax and the first second related document that is of no item.
-fn spare_damage(
+/// Ends at the first tax and the first second related document that is of no item.
+fn search_spare(
     alloc: Global,
     tables: &Tables,
     taxes: &BTreeMap<ItemKey, ItemTax>,
     seconds: &BTreeMap<TicketKey, ReportedDocument>,
-) -> Result<Option<Damage>, AllocError> {
+) -> Result<(), End> {
     if let Some(key) = first_spare_tax(taxes, tables.item_table()) {
-        return Ok(Some(Damage::Row(Table::ItemTax, item_key(alloc, key)?)));
+        return Err(at_key(Table::ItemTax, item_key(alloc, key)));
     }
     match first_spare_second(seconds, tables.item_table()) {
-        Some(ticket) => Ok(Some(Damage::Row(Table::SecondRelated, ticket_key(alloc, ticket)?))),
-        None => Ok(None),
+        Some(ticket) => Err(at_key(Table::SecondRelated, ticket_key(alloc, ticket))),
+        None => Ok(()),
     }
 }
 
-/// What damages the items and the memos, which are put into memory, with what is kept beside the items.
-fn document_damage<S: Alter>(
+/// Ends at what damages the items and the memos, with what is kept beside the items. All are put into memory.
+fn search_into<S: Alter>(
     alloc: Global,
     conn: &mut Connection<S>,
     tables: &mut Tables,
-) -> Result<Option<Damage>, OpenFault>
+    taxes: &mut BTreeMap<ItemKey, ItemTax>,
+    seconds: &mut BTreeMap<TicketKey, ReportedDocument>,
+) -> Result<(), End>
+    ensures spares { Spares S.Store conn.old conn.new }
+{
+    search_beside(alloc, conn, taxes, seconds)?;
+    search_sales(alloc, conn, tables, taxes, seconds)?;
+    search_spare(alloc, tables, taxes, seconds)
+}
+
+/// Ends at what damages the items and the memos, which are put into memory.
+fn search_documents<S: Alter>(
+    alloc: Global,
+    conn: &mut Connection<S>,
+    tables: &mut Tables,
+) -> Result<(), End>
     ensures spares { Spares S.Store conn.old conn.new }
 {
     let mut taxes = BTreeMap::new(alloc);
     let mut seconds = BTreeMap::new(alloc);
-    if let Some(damage) = beside_damage(alloc, conn, &mut taxes, &mut seconds)? {
-        return Ok(Some(damage));
-    }
-    if let Some(damage) = sale_damage(alloc, conn, tables, &taxes, &seconds)? {
-        return Ok(Some(damage));
-    }
-    Ok(spare_damage(alloc, tables, &taxes, &seconds)?)
+    search_into(alloc, conn, tables, &mut taxes, &mut seconds)
 }
 
-/// The row of tallies, or of their taxes, that is not what the rows add up to, or the table that has too few or too many.
-fn tally_damage(
-    alloc: Global,
-    table: Table,
-    stored: &[Row],
-    tables: &Tables,
-) -> Result<Option<Damage>, AllocError> {
+/// Ends at the row of tallies, or of their taxes, that is not what the rows add up to, or the table that has too few or too
+/// many.
+fn search_sums_of(alloc: Global, table: Table, stored: &[Row], tables: &Tables) -> Result<(), End> {
     if let Some(row) = first_wrong(table, stored, tables.tally_table()) {
-        return Ok(Some(at_row(alloc, table, row)?));
+        return Err(at_row(alloc, table, row));
     }
     if stored.len() != used(tables.tally_table()) {
-        return Ok(Some(Damage::Count(table)));
+        return Err(End::Found(Damage::Count(table)));
     }
-    Ok(None)
+    Ok(())
 }
 
-/// What damages the tallies, with their taxes.
-fn sum_damage<S: Alter>(
+/// The same of the rows of a table, if they were read.
+fn search_sums_in(
+    alloc: Global,
+    table: Table,
+    stored: Result<Vec<Row>, OpenFault>,
+    tables: &Tables,
+) -> Result<(), End> {
+    match stored {
+        Ok(rows) => search_sums_of(alloc, table, &rows, tables),
+        Err(fault) => Err(End::Failed(fault)),
+    }
+}
+
+/// Ends at what damages the tallies, with their taxes.
+fn search_sums<S: Alter>(
     alloc: Global,
     conn: &mut Connection<S>,
     tables: &Tables,
-) -> Result<Option<Damage>, OpenFault>
+) -> Result<(), End>
     ensures spares { Spares S.Store conn.old conn.new }
 {
-    if let Some(damage) = tally_damage(alloc, Table::Tally, &tallies(conn)?, tables)? {
-        return Ok(Some(damage));
-    }
-    Ok(tally_damage(alloc, Table::TallyTax, &tally_taxes(conn)?, tables)?)
+    search_sums_in(alloc, Table::Tally, tallies(conn), tables)?;
+    search_sums_in(alloc, Table::TallyTax, tally_taxes(conn), tables)
 }
 
-/// The row that breaks a rule of the audit.
-fn at_key(alloc: Global, found: &Unsound) -> Result<Damage, AllocError> {
-    let (table, key) = match found {
-        Unsound::Range(key) => (Table::Stock, range_key(alloc, key)?),
-        Unsound::Item(key) => (Table::Item, item_key(alloc, key)?),
-        Unsound::Memo(key) => (Table::Memo, memo_key(alloc, key)?),
-    };
-    Ok(Damage::Row(table, key))
-}
-
-/// The row that breaks a rule of the audit, or a rule on many rows.
-fn audit_damage(alloc: Global, tables: &Tables) -> Result<Damage, AllocError> {
-    match tables.first_unsound(alloc)? {
-        Some(found) => at_key(alloc, &found),
-        None => Ok(Damage::Rows),
+/// The end at the row that breaks a rule of the audit.
+fn at_unsound(alloc: Global, found: &Unsound) -> End {
+    match found {
+        Unsound::Range(key) => at_key(Table::Stock, range_key(alloc, key)),
+        Unsound::Item(key) => at_key(Table::Item, item_key(alloc, key)),
+        Unsound::Memo(key) => at_key(Table::Memo, memo_key(alloc, key)),
     }
 }
 
-/// What damages the rows beside those of the plan, which are put into memory.
-fn rest_damage<S: Alter>(
+/// Ends at the row that breaks a rule of the audit, unless only rules on many rows are broken.
+fn search_unsound(alloc: Global, tables: &Tables) -> Result<(), End> {
+    match tables.first_unsound(alloc) {
+        Ok(Some(found)) => Err(at_unsound(alloc, &found)),
+        Ok(None) => Ok(()),
+        Err(_) => Err(End::Failed(OpenFault::NoRoom)),
+    }
+}
+
+/// Ends at what damages the rows beside those of the plan, which are put into memory.
+fn search_rest<S: Alter>(
     alloc: Global,
     conn: &mut Connection<S>,
     tables: &mut Tables,
-) -> Result<Damage, OpenFault>
+) -> Result<(), End>
     ensures spares { Spares S.Store conn.old conn.new }
 {
-    if let Some(damage) = caller_damage(alloc, conn, tables)? {
-        return Ok(damage);
-    }
-    if let Some(damage) = document_damage(alloc, conn, tables)? {
-        return Ok(damage);
-    }
-    if let Some(damage) = sum_damage(alloc, conn, tables)? {
-        return Ok(damage);
-    }
-    Ok(audit_damage(alloc, tables)?)
+    search_callers(alloc, conn, tables)?;
+    search_documents(alloc, conn, tables)?;
+    search_sums(alloc, conn, tables)?;
+    search_unsound(alloc, tables)
 }
 
-/// What damages the rows of a book's tables.
-fn all_damage<S: Alter>(
+/// Ends at what damages the rows of a book's tables.
+fn search_tables<S: Alter>(
     alloc: Global,
     conn: &mut Connection<S>,
     rows: &PlanRows,
-) -> Result<Damage, OpenFault>
+) -> Result<(), End>
     ensures spares { Spares S.Store conn.old conn.new }
 {
-    if let Some(damage) = plan_damage(alloc, rows)? {
-        return Ok(damage);
+    search_plan(alloc, rows)?;
+    match plan_tables(alloc, rows) {
+        Ok(Some(mut tables)) => search_rest(alloc, conn, &mut tables),
+        Ok(None) => Err(End::Found(Damage::Plan)),
+        Err(_) => Err(End::Failed(OpenFault::NoRoom)),
     }
-    match plan_tables(alloc, rows)? {
-        Some(mut tables) => rest_damage(alloc, conn, &mut tables),
-        None => Ok(Damage::Plan),
+}
+
+/// Ends at what damages a store that should keep a book.
+fn search_store<S: Alter>(alloc: Global, conn: &mut Connection<S>) -> Result<(), End>
+    ensures spares { Spares S.Store conn.old conn.new }
+{
+    search_schema(alloc, conn.schema())?;
+    match plan_rows(conn) {
+        Ok(rows) => search_tables(alloc, conn, &rows),
+        Err(OpenFault::Damaged) => Err(End::Found(Damage::Count(Table::Meta))),
+        Err(fault) => Err(End::Failed(fault)),
     }
 }
 
@@ -239,12 +249,9 @@ fn all_damage<S: Alter>(
 pub fn find_damage<S: Alter>(alloc: Global, conn: &mut Connection<S>) -> Result<Damage, OpenFault>
     ensures spares { Spares S.Store conn.old conn.new }
 {
-    if let Some(damage) = schema_damage(alloc, conn.schema())? {
-        return Ok(damage);
-    }
-    match plan_rows(conn) {
-        Ok(rows) => all_damage(alloc, conn, &rows),
-        Err(OpenFault::Damaged) => Ok(Damage::Count(Table::Meta)),
-        Err(fault) => Err(fault),
+    match search_store(alloc, conn) {
+        Ok(()) => Ok(Damage::Rows),
+        Err(End::Found(damage)) => Ok(damage),
+        Err(End::Failed(fault)) => Err(fault),
     }
 }

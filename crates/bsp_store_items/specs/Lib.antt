@@ -1,2 +1,4 @@
 pub mod Reading
 pub mod Written
+pub mod TaxReading
+pub mod TaxWritten

@@ -1,12 +1,21 @@
-//! The table of the items: each item of the book is one row of it. Its tax and its second related document are in other
-//! tables.
+//! The tables of the items, each item of the book being one row of `item`. Beside it are the tables of what items and
+//! tallies have beside their own rows: the tax on the commission of each item, the tax of each tally, and the second
+//! related document of a ticket.
 #![tactic(auto)]
 
 mod columns;
+mod item_taxes;
 mod reading;
 mod row;
+mod seconds;
+mod tally_taxes;
+mod tax_rows;
 mod writing;
 
+pub use item_taxes::{ItemTaxRow, item_taxes_query, put_item_tax};
 pub use reading::{items_query, read_item, read_item_key, read_reported};
 pub use row::{ItemRow, flag};
+pub use seconds::{SecondRow, put_second, seconds_query};
+pub use tally_taxes::{TallyTaxRow, all_tally_taxes, put_tally_tax};
+pub use tax_rows::{read_item_tax, read_second};
 pub use writing::put_item;

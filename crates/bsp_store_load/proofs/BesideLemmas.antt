@@ -19,7 +19,7 @@ use Rattle.bsp_store_base.specs.Seconds.{second_entry, second_pair, seconds_of, 
 use Rattle.bsp_store_base.specs.Taxes.{tax_with}
 use Rattle.bsp_store_base.specs.declared.tickets.TicketKey.{TicketKey}
 use Rattle.bsp_store_base.proofs.SecondLemmas.{entries-seconds_of}
-use Rattle.bsp_store_taxes.proofs.Back.{tax_formed}
+use Rattle.bsp_store_items.proofs.TaxBack.{tax_formed}
 use Rattle.bsp_store_load.specs.Beside.{IsSecond, tax_entry, taxes_of}
 
 -- ---- the taxes of items

@@ -83,7 +83,7 @@ fn airlines_of(
 }
 
 /// The rows of airlines.
-#[derive(Clone, Copy, Debug)]
+#[derive(Clone, Copy)]
 struct Airlines;
 
 impl RowOf<AirlineCode, AirlineEntry> for Airlines {
@@ -100,7 +100,7 @@ impl RowOf<AirlineCode, AirlineEntry> for Airlines {
 }
 
 /// Each airline has a row.
-#[derive(Clone, Copy, Debug)]
+#[derive(Clone, Copy)]
 struct EachAirline;
 
 impl Rule<AirlineCode, AirlineEntry> for EachAirline {

@@ -12,7 +12,7 @@ use bsp_memory_rows::NoRoom;
 use bsp_memory_tables::ItemTable;
 use bsp_rows::{Item, ItemKey};
 use bsp_store_base::ItemTax;
-use bsp_store_taxes::{ItemTaxRow, item_taxes_query, read_item_tax};
+use bsp_store_items::{ItemTaxRow, item_taxes_query, read_item_tax};
 use sqlite::Row;
 use std::collections::BTreeMap;
 
@@ -67,7 +67,7 @@ impl StoredTable<ItemKey, ItemTax, BTreeMap<ItemKey, ItemTax>> for StoredTaxes {
 }
 
 /// Each item has a tax, under its own key.
-#[derive(Clone, Copy, Debug)]
+#[derive(Clone, Copy)]
 struct TaxOf;
 
 impl EntryOf<ItemKey, Item, ItemKey, ItemTax> for TaxOf {

@@ -29,12 +29,12 @@ mod tallies;
 pub use bsp_memory_rows::{NoRoom, SavedPlan, Tables};
 pub use bsp_rows::{ItemKey, ReportedDocument};
 pub use bsp_store_base::{ItemTax, TicketKey};
-pub use bsp_store_memos::all_tallies;
+pub use bsp_store_callers::all_tallies;
+pub use bsp_store_items::all_tally_taxes;
 pub use bsp_store_plan::{
     VERSION, all_airlines, all_commission_taxes, all_meta, all_periods, all_rates, all_terms,
     read_version,
 };
-pub use bsp_store_taxes::all_tally_taxes;
 pub use callers::{Agents, Ranges};
 pub use compared::plan_tables;
 pub use equal::is_row;

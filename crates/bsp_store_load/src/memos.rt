@@ -5,7 +5,7 @@ use crate::formed::formed_memo;
 use crate::load::StoredTable;
 use bsp_memory_rows::{NoRoom, Tables};
 use bsp_rows::{Memo, MemoKey};
-use bsp_store_memos::{MemoRow, memos_query, read_memo};
+use bsp_store_callers::{MemoRow, memos_query, read_memo};
 use sqlite::Row;
 
 /// Memos.

@@ -17,7 +17,7 @@ fn is_integer(count: usize) -> bool
 }
 
 /// Rates of commission.
-#[derive(Clone, Copy, Debug)]
+#[derive(Clone, Copy)]
 struct Rates;
 
 impl RowOf<usize, Rate> for Rates {
@@ -34,7 +34,7 @@ impl RowOf<usize, Rate> for Rates {
 }
 
 /// Billing periods.
-#[derive(Clone, Copy, Debug)]
+#[derive(Clone, Copy)]
 struct Periods;
 
 impl RowOf<usize, Period> for Periods {
@@ -51,7 +51,7 @@ impl RowOf<usize, Period> for Periods {
 }
 
 /// Taxes on commission.
-#[derive(Clone, Copy, Debug)]
+#[derive(Clone, Copy)]
 struct CommissionTaxes;
 
 impl RowOf<usize, CommissionTax> for CommissionTaxes {

@@ -12,7 +12,7 @@ use bsp_memory_rows::NoRoom;
 use bsp_memory_tables::ItemTable;
 use bsp_rows::{Item, ItemKey, ReportedDocument};
 use bsp_store_base::{TicketKey, second_related};
-use bsp_store_taxes::{SecondRow, read_second, seconds_query};
+use bsp_store_items::{SecondRow, read_second, seconds_query};
 use sqlite::Row;
 use std::collections::BTreeMap;
 
@@ -72,7 +72,7 @@ impl StoredTable<TicketKey, ReportedDocument, BTreeMap<TicketKey, ReportedDocume
 }
 
 /// An item that is no CANX may have a second related document, under its ticket.
-#[derive(Clone, Copy, Debug)]
+#[derive(Clone, Copy)]
 struct SecondOf;
 
 impl EntryOf<ItemKey, Item, TicketKey, ReportedDocument> for SecondOf {

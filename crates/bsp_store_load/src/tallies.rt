@@ -11,12 +11,12 @@ use crate::listed::{RowOf, are_rows_of};
 use bsp_maps::Rule;
 use bsp_memory_tables::TallyTable;
 use bsp_rows::{Tally, TallyKey};
-use bsp_store_memos::TallyRow;
-use bsp_store_taxes::TallyTaxRow;
+use bsp_store_callers::TallyRow;
+use bsp_store_items::TallyTaxRow;
 use sqlite::Row;
 
 /// Tallies.
-#[derive(Clone, Copy, Debug)]
+#[derive(Clone, Copy)]
 struct StoredTallies;
 
 impl RowOf<TallyKey, Tally> for StoredTallies {
@@ -30,7 +30,7 @@ impl RowOf<TallyKey, Tally> for StoredTallies {
 }
 
 /// The taxes of tallies.
-#[derive(Clone, Copy, Debug)]
+#[derive(Clone, Copy)]
 struct StoredTallyTaxes;
 
 impl RowOf<TallyKey, Tally> for StoredTallyTaxes {
@@ -44,7 +44,7 @@ impl RowOf<TallyKey, Tally> for StoredTallyTaxes {
 }
 
 /// A tally to which some row adds has a row in each of the two tables.
-#[derive(Clone, Copy, Debug)]
+#[derive(Clone, Copy)]
 struct Used;
 
 impl Rule<TallyKey, Tally> for Used {

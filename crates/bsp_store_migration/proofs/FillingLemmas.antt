@@ -14,8 +14,8 @@ use Rattle.bsp_store_load.specs.MemoryRowsTables.{rows_of}
 use Rattle.bsp_store_load.specs.Schema.{our_schema}
 use Rattle.bsp_store_load.specs.Tables.{Tables}
 use Rattle.bsp_store_load.proofs.FormedContent.{formed_content}
-use Rattle.bsp_store_old.specs.Filled.{Fills, HasOldNumber, IsTied}
-use Rattle.bsp_store_old.specs.declared.version.OldVersion.{OldVersion}
+use Rattle.bsp_store_migration.specs.Filled.{Fills, HasOldNumber, IsTied}
+use Rattle.bsp_store_migration.specs.declared.version.OldVersion.{OldVersion}
 use Rattle.bsp_store_open.specs.Loaded.{IsAllLoaded, KeepsNone}
 use Rattle.bsp_store_open.specs.Opening.{Finds}
 use Rattle.bsp_store_open.proofs.OpeningLemmas.{keeps_all}

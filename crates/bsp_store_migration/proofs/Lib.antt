@@ -5,3 +5,9 @@ pub mod FillingLemmas
 pub mod MigratingLemmas
 pub mod VersionLemmas
 pub mod OldBookLemmas
+pub mod Putting
+pub mod Running
+pub mod Texts
+pub mod Contents
+pub mod Versions
+pub mod Schemas

@@ -28,10 +28,10 @@ use Rattle.bsp_store_load.specs.Kept.{Spares, columns_of}
 use Rattle.bsp_store_load.specs.Columns.{Meta, meta_row, meta_rows}
 use Rattle.bsp_store_load.specs.Content.{Content, meta_part, width_of}
 use Rattle.bsp_store_load.specs.Contents.{IsContentOf}
-use Rattle.bsp_store_old.specs.Filled.{HasOldNumber, KeepsOldRows, with_number}
-use Rattle.bsp_store_old.specs.Old.{old_number, old_schema}
-use Rattle.bsp_store_old.specs.declared.version.OldVersion.{OldVersion}
-use Rattle.bsp_store_old.specs.declared.version.OldVersion.TheVariants.{First, Second}
+use Rattle.bsp_store_migration.specs.Filled.{HasOldNumber, KeepsOldRows, with_number}
+use Rattle.bsp_store_migration.specs.Old.{old_number, old_schema}
+use Rattle.bsp_store_migration.specs.declared.version.OldVersion.{OldVersion}
+use Rattle.bsp_store_migration.specs.declared.version.OldVersion.TheVariants.{First, Second}
 use Rattle.bsp_store_open.specs.declared.fault.OpenFault.{OpenFault}
 use Rattle.bsp_store_migration.specs.Migrating.{AreMetaOf, AreOldMeta, HasNoOldBook, HasNumber, IsNumbered, ReportsOld}
 

@@ -18,9 +18,9 @@ use Rattle.bsp_store_load.specs.Formed.{AreFormed, IsBook}
 use Rattle.bsp_store_load.specs.Kept.{AreTreesOf, KeepsSound, Spares}
 use Rattle.bsp_store_load.specs.Schema.{our_schema}
 use Rattle.bsp_store_load.proofs.Held.{trees_of}
-use Rattle.bsp_store_old.specs.Filled.{AreInOldOrder, HasOldNumber, IsBegun, KeepsOldRows}
-use Rattle.bsp_store_old.specs.Old.{old_number}
-use Rattle.bsp_store_old.specs.declared.version.OldVersion.{OldVersion}
+use Rattle.bsp_store_migration.specs.Filled.{AreInOldOrder, HasOldNumber, IsBegun, KeepsOldRows}
+use Rattle.bsp_store_migration.specs.Old.{old_number}
+use Rattle.bsp_store_migration.specs.declared.version.OldVersion.{OldVersion}
 use Rattle.bsp_store_open.specs.Opening.{KeepsAtRest}
 use Rattle.bsp_store_open.specs.declared.fault.OpenFault.{OpenFault}
 use Rattle.bsp_store_open.specs.declared.fault.OpenFault.TheVariants.{Damaged}

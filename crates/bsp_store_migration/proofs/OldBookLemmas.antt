@@ -17,8 +17,8 @@ use Rattle.bsp_store_load.specs.Content.{Content, meta_part, width_of}
 use Rattle.bsp_store_load.specs.Contents.{KeepsBook}
 use Rattle.bsp_store_load.specs.Kept.{columns_of}
 use Rattle.bsp_store_load.proofs.FormedContent.{formed_content}
-use Rattle.bsp_store_old.specs.Old.{old_number, old_schema}
-use Rattle.bsp_store_old.specs.declared.version.OldVersion.{OldVersion}
+use Rattle.bsp_store_migration.specs.Old.{old_number, old_schema}
+use Rattle.bsp_store_migration.specs.declared.version.OldVersion.{OldVersion}
 use Rattle.bsp_store_open.specs.Opening.{Reopens}
 use Rattle.bsp_store_migration.specs.Migrating.{HasNumber, IsMigrationOf, IsOldBook, KeepsNoOld, KeepsOldBook, KeepsOnlyOld}
 use Rattle.bsp_store_load.specs.Formed.{IsBook}

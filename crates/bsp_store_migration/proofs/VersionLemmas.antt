@@ -3,9 +3,9 @@ use Rattle.std.proofs.Common.{◌≡◌, ap, arith, drop, refl, sym}
 use Rattle.sqlite_schema.specs.declared.schema.Schema.{Schema}
 use Rattle.bsp_store_load.specs.Schema.{no_schema, our_schema}
 use Rattle.bsp_store_load.specs.Columns.{version as our_version}
-use Rattle.bsp_store_old.specs.Old.{old_number, old_schema}
-use Rattle.bsp_store_old.specs.declared.version.OldVersion.{OldVersion}
-use Rattle.bsp_store_old.specs.declared.version.OldVersion.TheVariants.{First, Second}
+use Rattle.bsp_store_migration.specs.Old.{old_number, old_schema}
+use Rattle.bsp_store_migration.specs.declared.version.OldVersion.{OldVersion}
+use Rattle.bsp_store_migration.specs.declared.version.OldVersion.TheVariants.{First, Second}
 
 pub bare_not_ours : no_schema ≡ our_schema → ⊥
 bare_not_ours same = absurd (cc (ap (λ (s : Schema). s.tables) same))

@@ -1,4 +1,5 @@
+pub mod Old
+pub mod Filled
+pub mod Statements
 pub mod Migrating
-pub use Rattle.bsp_store_old.specs.Filled
-pub use Rattle.bsp_store_old.specs.Old
-pub use Rattle.bsp_store_old.specs.declared.version.OldVersion
+pub use Rattle.bsp_store_base.specs.Kept

@@ -20,9 +20,9 @@ use Rattle.bsp_store_load.specs.Content.{Content, form, meta_part, width_of}
 use Rattle.bsp_store_load.specs.Contents.{IsContentOf}
 use Rattle.bsp_store_load.specs.Formed.{AreFormed, IsBook}
 use Rattle.bsp_store_load.specs.Forms.{IsFormed}
-use Rattle.bsp_store_old.specs.Filled.{HasOldNumber, IsOfOld, KeepsOldRows}
-use Rattle.bsp_store_old.specs.Old.{old_number, old_schema}
-use Rattle.bsp_store_old.specs.declared.version.OldVersion.{OldVersion}
+use Rattle.bsp_store_migration.specs.Filled.{HasOldNumber, IsOfOld, KeepsOldRows}
+use Rattle.bsp_store_migration.specs.Old.{old_number, old_schema}
+use Rattle.bsp_store_migration.specs.declared.version.OldVersion.{OldVersion}
 use Rattle.bsp_store_open.specs.Opening.{KeepsAtRest}
 use Rattle.bsp_store_open.specs.declared.fault.OpenFault.{OpenFault}
 use Rattle.bsp_store_open.specs.declared.fault.OpenFault.TheVariants.{NoRoom, Damaged, Failed, OtherVersion}

@@ -10,14 +10,15 @@ ghost use Rattle.bsp_store_load.specs.Kept.{Spares};
 ghost use Rattle.bsp_store_load.specs.MemoryRowsTables.{rows_of};
 ghost use Rattle.bsp_store_load.specs.Schema.{our_schema};
 ghost use Rattle.bsp_store_load.specs.Stored.{AreCommitted};
-ghost use Rattle.bsp_store_old.specs.Filled.{HasOldNumber, IsBegun};
+ghost use Rattle.bsp_store_migration.specs.Filled.{HasOldNumber, IsBegun};
 ghost use Rattle.bsp_store_open.specs.Faults.{is_refusal};
 ghost use Rattle.bsp_store_open.specs.Loaded.{IsAllLoaded, KeepsNone};
 ghost use Rattle.bsp_store_open.specs.Opening.{Finds};
 ghost use Rattle.bsp_store_migration.specs.Migrating.{IsFilledWith, KeepsNoOld, KeepsOnlyOld};
 
+use crate::adding::fill;
+use crate::version::OldVersion;
 use bsp_store_load::Tables;
-use bsp_store_old::{OldVersion, fill};
 use bsp_store_open::{OpenFault, expect_sound, kept_tables};
 use sqlite::{Alter, Connection};
 use std::alloc::Global;

@@ -8,8 +8,8 @@ ghost use Rattle.bsp_store_migration.specs.Migrating.{HasNoOldBook, IsMigrated, 
 use crate::ends::{begin, commit};
 use crate::filling::filled_tables;
 use crate::number::expect_numbered;
+use crate::version::OldVersion;
 use bsp_book::ListBook;
-use bsp_store_old::OldVersion;
 use bsp_store_open::OpenFault;
 use sqlite::{Alter, Connection};
 use std::alloc::Global;

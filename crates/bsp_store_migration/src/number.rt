@@ -2,13 +2,13 @@
 
 ghost use Rattle.std.specs.Prelude.{◌≡◌, false, true, IfErr, IfOk, OnOk};
 ghost use Rattle.bsp_store_load.specs.Kept.{Spares};
-ghost use Rattle.bsp_store_old.specs.Old.{old_number, old_schema};
-ghost use Rattle.bsp_store_old.specs.declared.version.OldVersion.{OldVersion};
+ghost use Rattle.bsp_store_migration.specs.Old.{old_number, old_schema};
+ghost use Rattle.bsp_store_migration.specs.declared.version.OldVersion.{OldVersion};
 ghost use Rattle.bsp_store_open.specs.Faults.{is_refusal};
 ghost use Rattle.bsp_store_migration.specs.Migrating.{AreOldMeta, HasNoOldBook, HasNumber, IsNumbered, ReportsOld};
 
+use crate::version::OldVersion;
 use bsp_store_load::{VERSION, read_version};
-use bsp_store_old::OldVersion;
 use bsp_store_open::OpenFault;
 use sqlite::{Alter, Connection, Row};
 

@@ -3,9 +3,8 @@ use Rattle.std.proofs.Common.{◌≡◌, ℕ, List, Bool, true, false, Option, S
 use Rattle.std.specs.List.{AllByRecursion}
 use Rattle.std.specs.FinMap.{FinMap, empty, entries}
 use Rattle.sqlite_trees.specs.Tree.{Trees}
-use Rattle.bsp_store_load.specs.Memos.{is_memo}
-use Rattle.bsp_book.specs.Rows.{Rows, item_cmp, memo_key, no_rows}
-use Rattle.bsp_book.specs.Sound.{IsRight, Sound}
+use Rattle.bsp_book.specs.Rows.{Rows, item_cmp, no_rows}
+use Rattle.bsp_book.specs.Sound.{Sound}
 use Rattle.bsp_store_load.specs.MemoryRowsTables.{IsDerived, rows_of}
 use Rattle.bsp_store_load.specs.Tables.{Tables}
 use Rattle.bsp_store_load.specs.Kept.{KeepsRows, Part, columns_of}

@@ -15,7 +15,7 @@ ghost use Rattle.bsp_store_open.specs.Loaded.{AreBeside, AreCallersLoaded, AreIt
 ghost use Rattle.bsp_store_open.specs.Opening.{Finds, HasNoBook, Misses};
 
 use crate::fault::OpenFault;
-use crate::given::unless_fault;
+use crate::given::{made_of, unless_fault};
 use crate::reading::{expect_tables, plan_rows, tallies, tally_taxes};
 use bsp_store_load::{
     Agents, ItemKey, ItemTax, Ranges, ReportedDocument, StoredItems, StoredMemos, StoredSeconds,
@@ -34,10 +34,7 @@ fn planned_tables<S: Alter>(alloc: Global, conn: &mut Connection<S>) -> Result<T
     ensures spares { Spares S.Store conn.old conn.new }
 {
     let rows = plan_rows(conn)?;
-    let Some(tables) = plan_tables(alloc, &rows)? else {
-        return Err(OpenFault::Damaged);
-    };
-    Ok(tables)
+    made_of(plan_tables(alloc, &rows))
 }
 
 /// Puts the rows of a table of a book into memory, up to the first that is not put. It answers that row, or none.

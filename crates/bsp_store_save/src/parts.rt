@@ -14,9 +14,8 @@ use bsp_rows::{
     Token,
 };
 use bsp_store_base::{AirlineEntry, place_of};
-use bsp_store_callers::{put_agent, put_range};
+use bsp_store_callers::{put_agent, put_memo, put_range, put_tally};
 use bsp_store_items::put_item;
-use bsp_store_memos::{put_memo, put_tally};
 use bsp_store_plan::put_airline;
 use sqlite::{Alter, Connection, Error};
 

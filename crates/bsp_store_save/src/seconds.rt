@@ -8,7 +8,7 @@ ghost use Rattle.bsp_store_save.specs.Seconds.{gives_second, has_second};
 use crate::keyed::Keyed;
 use bsp_rows::{Item, ItemKey, ReportedDocument};
 use bsp_store_base::{TicketKey, second_related};
-use bsp_store_taxes::put_second;
+use bsp_store_items::put_second;
 use sqlite::{Alter, Connection, Error};
 
 /// The second related documents of items. A CANX has none.

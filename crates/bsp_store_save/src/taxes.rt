@@ -9,7 +9,7 @@ ghost use Rattle.bsp_store_load.specs.Synced.{with_value};
 use crate::keyed::Keyed;
 use crate::parts::used;
 use bsp_rows::{Item, ItemKey, Tally, TallyKey};
-use bsp_store_taxes::{put_item_tax, put_tally_tax};
+use bsp_store_items::{put_item_tax, put_tally_tax};
 use sqlite::{Alter, Connection, Error};
 
 /// The taxes of items.

@@ -6,7 +6,7 @@ ghost use Rattle.bsp_calendar.specs.PlanDocument.{period_in, period_of, rate_in,
 
 use crate::entries::{Period, Rate};
 use crate::reading::tables::{at, has_only, number_at};
-use crate::reading::values::FromValue;
+use crate::reading::values::{AirlineForm, DayForm, Form, PeriodCodeForm};
 use toml::{Table, Value};
 
 const RATE_KEYS: [&str; 3] = ["airline", "from", "hundredths"];
@@ -20,8 +20,8 @@ fn rate_in(table: &Table) -> Option<Rate>
     if !has_only(table, &RATE_KEYS) {
         return None;
     }
-    let airline = at(table, "airline")?;
-    let from = at(table, "from")?;
+    let airline = at::<AirlineForm>(table, "airline")?;
+    let from = at::<DayForm>(table, "from")?;
     let hundredths = number_at(table, "hundredths", 0, 10_000)? as u16;
     Some(Rate {
         airline,
@@ -37,10 +37,10 @@ fn period_in(table: &Table) -> Option<Period>
     if !has_only(table, &PERIOD_KEYS) {
         return None;
     }
-    let code = at(table, "code")?;
-    let first = at(table, "first")?;
-    let last = at(table, "last")?;
-    let remittance = at(table, "remit")?;
+    let code = at::<PeriodCodeForm>(table, "code")?;
+    let first = at::<DayForm>(table, "first")?;
+    let last = at::<DayForm>(table, "last")?;
+    let remittance = at::<DayForm>(table, "remit")?;
     Some(Period {
         code,
         first,
@@ -49,18 +49,28 @@ fn period_in(table: &Table) -> Option<Period>
     })
 }
 
-impl FromValue for Rate {
+/// A rate of commission.
+pub struct RateForm;
+
+impl Form for RateForm {
+    type Read = Rate;
+
     ghost form = { rate_of };
 
-    fn from_value(value: &Value) -> Option<Rate> {
+    fn read(value: &Value) -> Option<Rate> {
         rate_in(value.as_table()?)
     }
 }
 
-impl FromValue for Period {
+/// A billing period.
+pub struct PeriodForm;
+
+impl Form for PeriodForm {
+    type Read = Period;
+
     ghost form = { period_of };
 
-    fn from_value(value: &Value) -> Option<Period> {
+    fn read(value: &Value) -> Option<Period> {
         period_in(value.as_table()?)
     }
 }

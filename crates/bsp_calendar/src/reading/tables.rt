@@ -5,7 +5,7 @@ ghost use Rattle.toml.specs.Data.{get_member};
 ghost use Rattle.toml.specs.View.{table_view, view};
 ghost use Rattle.bsp_calendar.specs.PlanDocument.{at, has_only, is_known, number_of};
 
-use crate::reading::values::FromValue;
+use crate::reading::values::Form;
 use toml::{Table, Value};
 
 /// Whether a key is one of those that are known.
@@ -30,10 +30,10 @@ pub fn value_at<'a>(table: &'a Table, key: &str) -> Option<&'a Value>
 }
 
 /// The value at a key, where it is in its form.
-pub fn at<T: FromValue>(table: &Table, key: &str) -> Option<T>
-    ensures { result ≡ at key.now T.form (table_view table.now) }
+pub fn at<F: Form>(table: &Table, key: &str) -> Option<F::Read>
+    ensures { result ≡ at key.now F.form (table_view table.now) }
 {
-    T::from_value(value_at(table, key)?)
+    F::read(value_at(table, key)?)
 }
 
 /// The whole number at a key, where it is one from `low` to `high`.

@@ -6,7 +6,7 @@ ghost use Rattle.bsp_calendar.specs.PlanDocument.{tax_in, tax_of};
 
 use crate::entries::CommissionTax;
 use crate::reading::tables::{at, has_only, number_at};
-use crate::reading::values::FromValue;
+use crate::reading::values::{DayForm, Form};
 use toml::{Table, Value};
 
 const TAX_KEYS: [&str; 2] = ["from", "hundredths"];
@@ -18,15 +18,20 @@ fn tax_in(table: &Table) -> Option<CommissionTax>
     if !has_only(table, &TAX_KEYS) {
         return None;
     }
-    let from = at(table, "from")?;
+    let from = at::<DayForm>(table, "from")?;
     let hundredths = number_at(table, "hundredths", 0, 10_000)? as u16;
     Some(CommissionTax { from, hundredths })
 }
 
-impl FromValue for CommissionTax {
+/// A tax on commission.
+pub struct TaxForm;
+
+impl Form for TaxForm {
+    type Read = CommissionTax;
+
     ghost form = { tax_of };
 
-    fn from_value(value: &Value) -> Option<CommissionTax> {
+    fn read(value: &Value) -> Option<CommissionTax> {
         tax_in(value.as_table()?)
     }
 }

@@ -1,4 +1,4 @@
-//! Reads the values of a plan text: codes, days, rates and amounts.
+//! The forms of the values of a plan text: codes, days, rates and amounts.
 
 ghost use Rattle.std.specs.Prelude.{◌≡◌};
 ghost use Rattle.toml.specs.View.{view};
@@ -8,46 +8,69 @@ use crate::currency::Currency;
 use bsp_fields::{AirlineCode, Day, PeriodCode};
 use toml::Value;
 
-/// What a value of a plan text is read as.
-pub trait FromValue: Drop {
+/// A form of values.
+pub trait Form {
     ghost use Rattle.std.specs.Prelude.{Option};
     ghost use Rattle.toml.specs.Data.{Data};
 
-    ghost form: { Data → Option Self };
+    /// What a value in this form is read as.
+    type Read: Drop;
 
-    /// The value, where it is in the form.
-    fn from_value(value: &Value) -> Option<Self>
+    ghost form: { Data → Option Self.Read };
+
+    /// What the value is read as, where it is in this form.
+    fn read(value: &Value) -> Option<Self::Read>
         ensures { result ≡ form (view value.now) };
 }
 
-impl FromValue for Currency {
+/// The code of a currency.
+pub struct CurrencyForm;
+
+impl Form for CurrencyForm {
+    type Read = Currency;
+
     ghost form = { currency_of };
 
-    fn from_value(value: &Value) -> Option<Currency> {
+    fn read(value: &Value) -> Option<Currency> {
         Currency::read(value.as_str()?.as_bytes())
     }
 }
 
-impl FromValue for AirlineCode {
+/// The code of an airline.
+pub struct AirlineForm;
+
+impl Form for AirlineForm {
+    type Read = AirlineCode;
+
     ghost form = { airline_of };
 
-    fn from_value(value: &Value) -> Option<AirlineCode> {
+    fn read(value: &Value) -> Option<AirlineCode> {
         AirlineCode::read(value.as_str()?.as_bytes()).ok()
     }
 }
 
-impl FromValue for PeriodCode {
+/// The code of a billing period.
+pub struct PeriodCodeForm;
+
+impl Form for PeriodCodeForm {
+    type Read = PeriodCode;
+
     ghost form = { code_of };
 
-    fn from_value(value: &Value) -> Option<PeriodCode> {
+    fn read(value: &Value) -> Option<PeriodCode> {
         PeriodCode::read(value.as_str()?.as_bytes()).ok()
     }
 }
 
-impl FromValue for Day {
+/// A day.
+pub struct DayForm;
+
+impl Form for DayForm {
+    type Read = Day;
+
     ghost form = { day_of };
 
-    fn from_value(value: &Value) -> Option<Day> {
+    fn read(value: &Value) -> Option<Day> {
         Day::read_text(value.as_str()?.as_bytes()).ok()
     }
 }

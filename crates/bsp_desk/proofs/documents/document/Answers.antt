@@ -5,7 +5,7 @@ use Rattle.bsp_messages.specs.declared.answer.DocumentShown.{DocumentShown}
 use Rattle.bsp_messages.specs.declared.answer.DocumentState.{DocumentState}
 use Rattle.bsp_rows.specs.Rows.{Rows}
 use Rattle.bsp_rules.specs.declared.rows.Item.{Item}
-use Rattle.bsp_desk_base.specs.Ledger.{state_of}
+use Rattle.bsp_desk_writes.specs.Ledger.{state_of}
 use Rattle.bsp_desk.proofs.DocumentRows.{document_says, no_document}
 use Rattle.bsp_desk.proofs.Shown.{same_rows}
 use Rattle.bsp_desk.proofs.documents.document.Goals as goal

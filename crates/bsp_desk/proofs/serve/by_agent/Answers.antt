@@ -1,8 +1,8 @@
 use Rattle.std.proofs.Common.{◌∙◌, sym, [], Some}
-use Rattle.bsp_desk_base.specs.After.{agent_after}
-use Rattle.bsp_desk_base.specs.Ledger.{ledger_answer, ledger_of}
-use Rattle.bsp_desk_base.specs.Requests.Asked.{ByAgent}
-use Rattle.bsp_desk_base.specs.Step.{asked_after, asked_answer}
+use Rattle.bsp_desk_writes.specs.After.{agent_after}
+use Rattle.bsp_desk_writes.specs.Ledger.{ledger_answer, ledger_of}
+use Rattle.bsp_desk_writes.specs.Requests.Asked.{ByAgent}
+use Rattle.bsp_desk_writes.specs.Step.{asked_after, asked_answer}
 use Rattle.bsp_desk.specs.Reading.{token_text}
 use Rattle.bsp_desk.proofs.Known.{agent_answered, agent_next, agent_refused, forbids, serves_as}
 use Rattle.bsp_desk.proofs.serve.by_agent.Goals as goal

@@ -1,8 +1,8 @@
 use Rattle.std.proofs.Common.{◌∙◌, sym, [], Some}
-use Rattle.bsp_desk_base.specs.After.{airline_after}
-use Rattle.bsp_desk_base.specs.AirlineLedger.{airline_answer, airline_ledger_of}
-use Rattle.bsp_desk_base.specs.Requests.Asked.{ByAirline}
-use Rattle.bsp_desk_base.specs.Step.{asked_after, asked_answer}
+use Rattle.bsp_desk_writes.specs.After.{airline_after}
+use Rattle.bsp_desk_writes.specs.AirlineLedger.{airline_answer, airline_ledger_of}
+use Rattle.bsp_desk_writes.specs.Requests.Asked.{ByAirline}
+use Rattle.bsp_desk_writes.specs.Step.{asked_after, asked_answer}
 use Rattle.bsp_desk.specs.Reading.{token_text}
 use Rattle.bsp_desk.proofs.Known.{airline_answered, airline_next, serves_as}
 use Rattle.bsp_desk.proofs.serve.by_airline.Goals as goal

@@ -1,8 +1,8 @@
 use Rattle.std.proofs.Common.{ap, cond, sym, ◌∙◌}
 use Rattle.bsp_messages.specs.declared.refusal.RequestRefusal.TheVariants.{Forbidden}
-use Rattle.bsp_desk_base.specs.Answers.Answer.{Refused}
-use Rattle.bsp_desk_base.specs.Requests.Asked.{ByOffice}
-use Rattle.bsp_desk_base.specs.Step.{asked_answer, office_answer}
+use Rattle.bsp_desk_writes.specs.Answers.Answer.{Refused}
+use Rattle.bsp_desk_writes.specs.Requests.Asked.{ByOffice}
+use Rattle.bsp_desk_writes.specs.Step.{asked_answer, office_answer}
 use Rattle.bsp_desk.specs.Reading.{token_text}
 use Rattle.bsp_desk.proofs.Known.{forbids}
 use Rattle.bsp_desk.proofs.serve.by_office.Goals as goal

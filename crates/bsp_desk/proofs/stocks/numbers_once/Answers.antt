@@ -1,7 +1,7 @@
 use Rattle.std.proofs.Common.{◌≡◌, ℕ, ◌<◌, List, ◌++◌, ◌∷◌, [], ap, arith, cond, get_or, length, map, sym, ◌∙◌}
 use Rattle.std.proofs.lemmas.List.{get_or-map, length-map}
 use Rattle.bsp_rows.specs.declared.keys.ItemKey.{ItemKey}
-use Rattle.bsp_desk_base.specs.Step.{is_last}
+use Rattle.bsp_desk_writes.specs.Step.{is_last}
 use Rattle.bsp_desk.specs.Stock.{item_number}
 use Rattle.bsp_desk.proofs.NumberOrder.{latest_more, once_more}
 use Rattle.bsp_desk.proofs.stocks.numbers_once.Goals as goal

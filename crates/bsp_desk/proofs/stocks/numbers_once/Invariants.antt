@@ -1,6 +1,6 @@
 use Rattle.std.proofs.Common.{◌≡◌, map, take}
 use Rattle.bsp_rows.specs.Requests.{once}
-use Rattle.bsp_desk_base.specs.Ledger.{same_number}
+use Rattle.bsp_desk_writes.specs.Ledger.{same_number}
 use Rattle.bsp_desk.specs.Stock.{AreInOrder, item_number}
 use Rattle.bsp_desk.proofs.NumberOrder.{IsLatest}
 use Rattle.bsp_desk.proofs.stocks.numbers_once.Given as goal

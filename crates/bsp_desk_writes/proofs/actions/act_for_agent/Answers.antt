@@ -1,5 +1,5 @@
 use Rattle.std.proofs.Common.{Some}
-use Rattle.bsp_desk_base.specs.Ledger.{memo_named}
+use Rattle.bsp_office_spec.specs.Ledger.{memo_named}
 use Rattle.bsp_desk_writes.specs.Actions.{meaning_of, memo_to}
 use Rattle.bsp_desk_writes.proofs.MemoLemmas.{found_to}
 use Rattle.bsp_desk_writes.proofs.ServeLemmas.{acts_for}

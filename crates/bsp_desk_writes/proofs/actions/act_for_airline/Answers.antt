@@ -1,5 +1,5 @@
 use Rattle.std.proofs.Common.{sym, ◌∙◌, Some}
-use Rattle.bsp_desk_base.specs.AirlineLedger.{issue_key}
+use Rattle.bsp_office_spec.specs.AirlineLedger.{issue_key}
 use Rattle.bsp_desk_writes.specs.Actions.{meaning_of, memo_by}
 use Rattle.bsp_desk_writes.proofs.MemoLemmas.{by_airline, found_at}
 use Rattle.bsp_desk_writes.proofs.ServeLemmas.{acts_for}

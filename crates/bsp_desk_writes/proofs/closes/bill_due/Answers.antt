@@ -1,7 +1,7 @@
 use Rattle.std.proofs.Common.{◌≡◌, ◌+◌, ◌<◌, ◌∷◌, Some, [], List, ℕ, rules, subst, sym, ap, ◌∙◌, drop, get_or, length}
 use Rattle.std.proofs.lemmas.List.{at_drop_more, drop_all}
 use Rattle.bsp_memos.specs.declared.fields.MemoFields.{MemoFields}
-use Rattle.bsp_desk_base.specs.Ledger.{review_of}
+use Rattle.bsp_office_spec.specs.Ledger.{review_of}
 use Rattle.bsp_desk_writes.proofs.BillLemmas.{IsBilling, begun, continued, finished}
 use Rattle.bsp_desk_writes.proofs.closes.bill_due.Goals as goal
 

@@ -8,7 +8,7 @@ use Rattle.bsp_memos.specs.declared.fault.MemoFault.TheVariants.{AgentNotRegiste
 use Rattle.bsp_memos.specs.declared.fields.MemoFields.{MemoFields}
 use Rattle.bsp_rows.specs.Published.{Published}
 use Rattle.bsp_messages.specs.declared.refusal.RequestRefusal.TheVariants as refusal
-use Rattle.bsp_desk_base.specs.Answers.Answer.{Refused}
+use Rattle.bsp_office_spec.specs.Answers.Answer.{Refused}
 use Rattle.bsp_desk_writes.proofs.IssueLemmas.{made_of, not_registered, out_of_range, refused_of}
 use Rattle.bsp_desk_writes.proofs.ServeLemmas.{faults_after, issues, refuses}
 use Rattle.bsp_desk_writes.proofs.issues.issue_to.Goals as goal

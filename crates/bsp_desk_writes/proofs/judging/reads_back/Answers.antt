@@ -1,6 +1,6 @@
 use Rattle.std.proofs.Common.{ap, sym, ◌∙◌}
 use Rattle.std.specs.Result.{result_ok}
-use Rattle.bsp_desk_base.specs.Ledger.{agent_of}
+use Rattle.bsp_office_spec.specs.Ledger.{agent_of}
 use Rattle.bsp_desk_writes.proofs.judging.reads_back.Goals as goal
 
 pub returns : goal.returns

@@ -1,10 +1,10 @@
 use Rattle.std.proofs.Common.{Option, Some, sym, subst}
 use Rattle.bsp_rows.specs.CivilDay.{CivilDay}
 use Rattle.bsp_rows.specs.Rows.{Rows}
-use Rattle.bsp_desk_base.specs.After.{office_after}
-use Rattle.bsp_desk_base.specs.Requests.OfficeRequest.{SetBusinessDay}
-use Rattle.bsp_desk_base.specs.Step.{office_answer}
-use Rattle.bsp_desk_base.specs.Texts.{Says}
+use Rattle.bsp_desk_writes.specs.After.{office_after}
+use Rattle.bsp_office_spec.specs.Requests.OfficeRequest.{SetBusinessDay}
+use Rattle.bsp_office_spec.specs.Step.{office_answer}
+use Rattle.bsp_office_spec.specs.Texts.{Says}
 use Rattle.bsp_desk_writes.proofs.PlanLemmas.{day_served}
 use Rattle.bsp_desk_writes.proofs.plan.set_day.Goals as goal
 

@@ -2,7 +2,7 @@ use Rattle.std.proofs.Common.{ap}
 use Rattle.std.specs.FinMap.{values}
 use Rattle.bsp_rows.specs.Part.{airline_part}
 use Rattle.bsp_rows.specs.declared.questions.Memos.TheVariants.{OfAirline}
-use Rattle.bsp_desk_base.specs.Answers.Answer.{Memos}
+use Rattle.bsp_office_spec.specs.Answers.Answer.{Memos}
 use Rattle.bsp_desk_writes.specs.Answered.{listed}
 use Rattle.bsp_desk_writes.proofs.MemoLemmas.{shown_by}
 use Rattle.bsp_desk_writes.proofs.ServeLemmas.{shown_alike}

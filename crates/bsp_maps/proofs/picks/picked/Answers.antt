@@ -2,8 +2,13 @@ use Rattle.std.proofs.Common.{map, sym, ap, ◌∙◌}
 use Rattle.std.specs.FinMap.{values, from_entries}
 use Rattle.bsp_maps.specs.Picks.{with_keys}
 use Rattle.bsp_maps.proofs.OrderLemmas.{in_order}
-use Rattle.bsp_maps.proofs.PickLemmas.{if_ok, none_left}
+use Rattle.bsp_maps.proofs.PickLemmas.{if_ok, next_key, none_left}
 use Rattle.bsp_maps.proofs.picks.picked.Goals as goal
+
+pub loop-key-preserved : goal.loop-key-preserved
+loop-key-preserved g c =
+    next_key {R = g.K.Ord.cmp} (g.T.Rule.holds c.args.rule.now) (from_entries c.args.entries.now.entries) c.args.keys.now c.loop-key.key-index c.key-item.result (from_entries c.loop-key.found.entries) (from_entries c.pick.new.found.entries) _
+    c.loop-key-test.true c.key-item.is c.in_ok-pick.ensures c.loop-key.invariant
 
 pub returns : goal.returns
 returns g c =

@@ -5,12 +5,22 @@ use Rattle.std.proofs.lemmas.List.{append-nil}
 use Rattle.std.proofs.lemmas.Map.Iter.{rest_more, rest_all}
 use Rattle.bsp_maps.specs.Windows.{entries_in}
 use Rattle.bsp_maps.proofs.WindowLemmas.{front}
-use Rattle.bsp_maps.proofs.WindowLemmas.{from_low}
+use Rattle.bsp_maps.proofs.WindowLemmas.{chosen_more, chosen_none, from_low}
 use Rattle.bsp_maps.proofs.windows.chosen.Goals.{in-None, in-Some+then-not-has}
 use Rattle.bsp_maps.proofs.windows.chosen.Goals as goal
 
 finish : {K V : Type 0} (passes : V → Bool) (found : List V) (rest all es : List (K × V)) → rest ≡ [] → found ++ filter passes (map (λ e. e.1) rest) ≡ filter passes (map (λ e. e.1) all) → all ≡ es → found ≡ filter passes (map (λ e. e.1) es)
 finish passes found rest all es none so_far is = sym (append-nil found) ∙ ap (λ r. found ++ filter passes (map (λ e. e.1) r)) (sym none) ∙ so_far ∙ ap (λ r. filter passes (map (λ e. e.1) r)) is
+
+pub loop-key-preserved-in-Continue-1 : goal.loop-key-preserved-in-Continue-1
+loop-key-preserved-in-Continue-1 g c =
+    chosen_more (g.W.Window.has c.args.window.now) (g.T.Test.passes c.args.test.now) c.loop-key.found.items c.push.new.self.items (c.in-Some.key.now, c.in-Some.value.now) c.loop-key.key-iterator c.next.new.self _
+    c.in-Some.ensures.steps (sym c.has.ensures ∙ c.if-not-has.false) (sym c.passes.ensures ∙ c.if-passes.true) c.in_ok-push.ensures.items c.loop-key.invariant
+
+pub loop-key-preserved : goal.loop-key-preserved
+loop-key-preserved g c =
+    chosen_none (g.W.Window.has c.args.window.now) (g.T.Test.passes c.args.test.now) c.loop-key.found.items (c.in-Some.key.now, c.in-Some.value.now) c.loop-key.key-iterator c.next.new.self _
+    c.in-Some.ensures.steps (sym c.has.ensures ∙ c.if-not-has.false) (sym c.passes.ensures ∙ c.if-passes.false) c.loop-key.invariant
 
 pub returns-clause-found : goal.returns-clause-found
 returns-clause-found g c =

@@ -3,9 +3,16 @@ use Rattle.std.specs.Map.Iter.{deref_pair}
 use Rattle.std.proofs.lemmas.List.{append-nil}
 use Rattle.std.proofs.lemmas.Map.Iter.{rest_more, rest_all}
 use Rattle.bsp_maps.proofs.WindowLemmas.{front}
-use Rattle.bsp_maps.proofs.WindowLemmas.{from_low}
+use Rattle.bsp_maps.proofs.WindowLemmas.{from_low, front_in, more_found}
 use Rattle.bsp_maps.proofs.windows.window_entries.Goals.{in-None, in-Some+then-not-has}
 use Rattle.bsp_maps.proofs.windows.window_entries.Goals as goal
+
+pub loop-key-preserved : goal.loop-key-preserved
+loop-key-preserved g c =
+    let has = g.W.Window.has c.args.window.now in
+    let e : g.row.K.Denot × g.row.V.Denot = (c.in-Some.key.now, c.in-Some.value.now) in
+    more_found (front has) c.loop-key.found.items c.push.new.self.items e c.loop-key.key-iterator c.next.new.self _
+    (front_in has e c.loop-key.key-iterator c.next.new.self c.in-Some.ensures.steps (sym c.has.ensures ∙ c.if-not-has.false)) c.in_ok-push.ensures.items c.loop-key.invariant
 
 pub returns-clause-found : goal.returns-clause-found
 returns-clause-found g c =

@@ -9,8 +9,8 @@ use Rattle.bsp_store.proofs.audit.audit_at.Goals as goal
 
 pub returns-clause-ok : goal.returns-clause-ok
 returns-clause-ok g c =
-    audited_ok over_files (λ (conn : Held (StoreFrom g.T.Start)). HasCleanDisk (file_state conn) → FindsIn (image_at g.T.Start) (file_state conn)) c.files_at-opened.result c.audited_opened.result c.files_at-opened.ensures.found c.audited_opened.ensures.ok
+    audited_ok over_files (λ (conn : Held (StoreFrom g.T.Start)). HasCleanDisk (file_state conn) → FindsIn (image_at g.T.Start) (file_state conn)) c.on_files.result c.on_files.ensures
 
 pub returns-clause-refused : goal.returns-clause-refused
 returns-clause-refused g c =
-    audited_err over_files (λ (conn : Held (StoreFrom g.T.Start)). HasCleanDisk (file_state conn) → FindsIn (image_at g.T.Start) (file_state conn)) c.files_at-opened.result c.audited_opened.result c.files_at-opened.ensures.found c.files_at-opened.ensures.refused c.audited_opened.ensures.ok c.audited_opened.ensures.refused
+    audited_err over_files (λ (conn : Held (StoreFrom g.T.Start)). HasCleanDisk (file_state conn) → FindsIn (image_at g.T.Start) (file_state conn)) c.on_files.result c.on_files.ensures

@@ -1,6 +1,6 @@
 use Rattle.std.proofs.Common.{◌≡◌, List, true, subst}
 use Rattle.sqlite_value.specs.Order.{Row}
-use Rattle.bsp_store_old.specs.Old.{old_number}
+use Rattle.bsp_store_migration.specs.Old.{old_number}
 use Rattle.bsp_store_open.specs.Faults.{is_refusal}
 use Rattle.bsp_store_open.proofs.OpeningLemmas.{on_ok, passed_on}
 use Rattle.bsp_store_migration.specs.Migrating.{HasNoOldBook, HasNumber, ReportsOld}

@@ -1,7 +1,7 @@
 use Rattle.std.proofs.Common.{◌≡◌, ◌≤◌, List, None, length, take, vec_len, vec_capacity}
 use Rattle.bsp_rows.specs.Rows.{Rows}
 use Rattle.bsp_rows.specs.Sound.{Sound}
-use Rattle.bsp_desk_base.specs.Requests.{Request as Reading}
+use Rattle.bsp_desk_writes.specs.Requests.{Request as Reading}
 use Rattle.bsp_desk.specs.Reading.{AreRead}
 use Rattle.bsp_desk.specs.Runs.{AreAnswered}
 use Rattle.bsp_desk.proofs.Reach.{Reached}

@@ -16,7 +16,7 @@ use Rattle.bsp_maps.proofs.PresentLemmas.{entries-present}
 use Rattle.bsp_maps.proofs.WindowLemmas.{from_low}
 use Rattle.bsp_maps.specs.Indexes.{entry_cmp}
 use Rattle.bsp_maps.proofs.EntryLemmas.{entry_total}
-use Rattle.bsp_maps.proofs.IndexLemmas.{here, here_keys, place_lowest, place_together}
+use Rattle.bsp_maps.proofs.IndexLemmas.{here, here_keys, keys_more, keys_none, place_lowest, place_together}
 use Rattle.bsp_maps.proofs.index.Index.keys_at.Goals.{in-None, in-Some+then-is_ne}
 use Rattle.bsp_maps.proofs.index.Index.keys_at.Goals as goal
 
@@ -24,6 +24,21 @@ apart : (r : Ordering) → is_ne r ≡ true → is_eq r ≡ false
 apart Less h = refl
 apart Equal h = absurd (cc)
 apart Greater h = refl
+
+alike : (r : Ordering) → is_ne r ≡ false → is_eq r ≡ true
+alike Less h = absurd (cc)
+alike Equal h = refl
+alike Greater h = absurd (cc)
+
+pub loop-entry-preserved-in-Continue-1 : goal.loop-entry-preserved-in-Continue-1
+loop-entry-preserved-in-Continue-1 g c =
+    keys_more (λ e. eq_by_cmp g.P.Ord.cmp c.args.place e.0) c.loop-entry.found.items c.push.new.self.items (c.in-Some.entry.now, c.in-Some.value.now) c.loop-entry.entry-iterator c.next.new.self _
+    c.in-Some.ensures.steps (alike (g.P.Ord.cmp c.args.place c.in-Some.entry.now.0) (sym (c.is_ne.ensures ∙ ap is_ne c.cmp.ensures) ∙ c.if-is_ne.false)) (sym c.is_some.ensures ∙ c.if-is_some.true) c.in_ok-push.ensures.items c.loop-entry.invariant
+
+pub loop-entry-preserved : goal.loop-entry-preserved
+loop-entry-preserved g c =
+    keys_none (λ e. eq_by_cmp g.P.Ord.cmp c.args.place e.0) c.loop-entry.found.items (c.in-Some.entry.now, c.in-Some.value.now) c.loop-entry.entry-iterator c.next.new.self _
+    c.in-Some.ensures.steps (alike (g.P.Ord.cmp c.args.place c.in-Some.entry.now.0) (sym (c.is_ne.ensures ∙ ap is_ne c.cmp.ensures) ∙ c.if-is_ne.false)) (sym c.is_some.ensures ∙ c.if-is_some.false) c.loop-entry.invariant
 
 pub returns : goal.returns
 returns g c =

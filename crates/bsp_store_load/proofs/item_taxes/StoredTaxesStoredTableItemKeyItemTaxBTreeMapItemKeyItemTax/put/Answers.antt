@@ -4,8 +4,8 @@ use Rattle.bsp_rows.specs.Rows.{item_cmp}
 use Rattle.bsp_rows.specs.declared.keys.ItemKey.{ItemKey}
 use Rattle.bsp_store_base.specs.declared.taxes.ItemTax.{ItemTax}
 use Rattle.bsp_store_base.specs.Columns.{tax_row}
-use Rattle.bsp_store_taxes.specs.Reading.{item_tax_in}
-use Rattle.bsp_store_taxes.proofs.Back.{item_tax_back}
+use Rattle.bsp_store_items.specs.TaxReading.{item_tax_in}
+use Rattle.bsp_store_items.proofs.TaxBack.{item_tax_back}
 use Rattle.bsp_store_load.specs.Entries.{has_real}
 use Rattle.bsp_store_load.proofs.EntryLemmas.{none_there, put_told}
 use Rattle.bsp_store_load.proofs.RowReads.{not_none, own_is, own_row}

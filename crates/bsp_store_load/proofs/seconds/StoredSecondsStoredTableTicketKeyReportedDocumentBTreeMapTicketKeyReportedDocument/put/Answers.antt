@@ -4,8 +4,8 @@ use Rattle.bsp_store_base.specs.Seconds.{ticket_cmp}
 use Rattle.bsp_store_base.specs.declared.tickets.TicketKey.{TicketKey}
 use Rattle.bsp_rows.specs.ReportedDocument.{ReportedDocument}
 use Rattle.bsp_store_base.specs.Columns.{second_row}
-use Rattle.bsp_store_taxes.specs.Reading.{second_row_in}
-use Rattle.bsp_store_taxes.proofs.Back.{second_back}
+use Rattle.bsp_store_items.specs.TaxReading.{second_row_in}
+use Rattle.bsp_store_items.proofs.TaxBack.{second_back}
 use Rattle.bsp_store_load.specs.Entries.{has_real}
 use Rattle.bsp_store_load.proofs.EntryLemmas.{none_there, put_told}
 use Rattle.bsp_store_load.proofs.RowReads.{not_none, own_is, own_row}

@@ -1,4 +1,0 @@
-pub mod Old
-pub mod Filled
-pub mod Statements
-pub use Rattle.bsp_store_base.specs.Kept

@@ -1,5 +1,0 @@
-use Rattle.bsp_store_taxes.proofs.Shown.{seconds_shown}
-use Rattle.bsp_store_taxes.proofs.seconds.seconds_query.Goals as goal
-
-pub returns : goal.returns
-returns c = seconds_shown
