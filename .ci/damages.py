@@ -112,6 +112,9 @@ PLAN = {
     "a rate of an airline that is not published": ("UPDATE rate SET airline = ?", "'999'", "'220'", NO_PLAN),
     "a period that begins late": ("UPDATE period SET begins = ? WHERE code = '24012'", day("17"), day("16"), NO_PLAN),
     "a closed period that is not over": ("UPDATE meta SET closed = 2, day = ?", day("31"), day("31") + 1, NO_PLAN),
+    "a tax where no plan is published": (
+        "DELETE FROM item; DELETE FROM memo; DELETE FROM terms; DELETE FROM rate; DELETE FROM period;"
+        "UPDATE airline SET place = NULL; UPDATE meta SET closed = 0; DELETE FROM commission_tax WHERE ?", "0", "1", NO_PLAN),
     "a tax from the opening day": ("UPDATE commission_tax SET begins = ? WHERE place = 1", OPENING, OPENING + 1, NO_PLAN),
     "a tax of more than the commission": ("UPDATE commission_tax SET hundredths = ? WHERE place = 1", 10001, 10000, NO_PLAN),
 }

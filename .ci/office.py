@@ -1,4 +1,5 @@
-"""What the scripts beside this one share: the built program as it serves, and a comparison that counts what differs.
+"""What the scripts beside this one share: the built program as it serves, requests as they are sent and replies as they come,
+and a comparison that counts what differs.
 
     PROGRAM = office.program()
     with office.Office(PROGRAM, "token", "--db", "book.db") as it:
@@ -9,6 +10,7 @@
 import http.client
 import os
 import pathlib
+import re
 import resource
 import select
 import signal
@@ -38,6 +40,28 @@ def free_port():
     with socket.socket() as it:
         it.bind(("127.0.0.1", 0))
         return it.getsockname()[1]
+
+
+def message(method, path, token, body=""):
+    """A request as it is sent on a connection."""
+    body = body.encode() if isinstance(body, str) else body
+    token = f"Bsp-Token: {token}\r\n" if token else ""
+    length = f"Content-Length: {len(body)}\r\n" if method == "POST" else ""
+    return f"{method} {path} HTTP/1.1\r\nHost: bsp\r\n{token}{length}\r\n".encode() + body
+
+
+def replies(out):
+    """The replies in an output, each with its head."""
+    found = []
+    while out:
+        head, end, _ = out.partition(b"\r\n\r\n")
+        length = re.search(rb"Content-Length: (\d+)", head)
+        if not end or not length:
+            return found + [out]
+        at = len(head) + 4 + int(length[1])
+        found.append(out[:at])
+        out = out[at:]
+    return found
 
 
 def expect(what, wanted, found):

@@ -1,12 +1,7 @@
 #!/usr/bin/env python3
 """Runs the built programs with their first allocation refused, then with their second, and so on until a run refuses none:
-- bsp_record_examples on a page with each call of fields and records that takes memory. A call then answers as with ample
+- bsp_record_examples on a page with each call of fields, records and reports over rows that takes memory. A call then answers as with ample
   memory, or names the lack of memory; the same case after it answers as with ample memory.
-- bsp_book_examples on the sections of its page, which have each call of plans, of books, of their reports and of a desk:
-  over a book in memory for each allocation, over one in tables in memory and over one in two files in memory for one in
-  forty of the first opening and for some behind it. A call then answers as with ample memory, or `out of memory`. The look
-  after that one shows the plan or the rows as they were, and the same call again answers as with ample memory. A file in
-  memory that does not grow is a store that failed.
 - bsp_office on words and files. It ends as with ample memory, or with status 3, no output and the line that memory was short.
 - its command `run`, which is sent each request of some conversations twice; these have each request of docs/ROUTES.md.
   Each reply is that of ample memory; or one is 503 B01, and the same request after it has the reply of ample memory to the
@@ -40,14 +35,10 @@ import typing
 sys.dont_write_bytecode = True
 import examples
 import office
-from office import TOP, expect, sample
+from office import TOP, expect, replies, sample
 
 PROGRAM = office.program()
 RECORDS = TOP / "crates" / "bsp_record_examples" / "out" / "bsp_record_examples"
-BOOKS = TOP / "crates" / "bsp_book_examples" / "out" / "bsp_book_examples"
-BOOK_KINDS = ["memory", "tables", "files"]
-# one in how many allocations is refused behind an opening, over tables; the last two sections open their book many times
-BOOK_STEPS = {"Plans": 1, "A book": 11, "Requests": 29, "Files": 211, "Spare rows": 499}
 TOKEN = "officetoken00001"
 SHORT = re.compile(rb"bsp_office: .*out of memory\n")
 NOTES = re.compile(rb"(bsp_office: (\S+\.db: (new book|day .*)|[A-Z]+ /\S* 503 B01 14)\n)*")
@@ -144,94 +135,6 @@ def pages():
     yield RECORDS.name, each_refused(RECORDS.name, lambda _: [RECORDS], page, is_page)
 
 
-# ---- pages of books
-
-
-def is_case(line):
-    return bool(line) and not line.startswith("#")
-
-
-def is_look(line):
-    return line in ("plan", "rows")
-
-
-def answered(lines, out):
-    """What is printed for each of these lines."""
-    out, at, places = f"\n{out}", 0, []
-    for line in lines:
-        at = out.index(f"\n{line}" + (" = " if is_case(line) else "\n"), at) + 1
-        places.append(at - 1)
-    return [out[begun + 1:end + 1] for begun, end in zip(places, places[1:] + [len(out)])]
-
-
-def looks_before(kind, lines):
-    """For each line the last look, as it is before that line is answered."""
-    looked, known, look = [], [], ""
-    for line in lines:
-        known.append(len(looked) if look and is_case(line) else None)
-        looked += [look, line] if known[-1] is not None else [line]
-        look = line if is_look(line) else look
-    given = answered(looked, run([BOOKS, kind], "\n".join(looked).encode(), 0).out.decode())
-    return ["" if it is None else given[it] for it in known]
-
-
-def with_one_refused(kind, lines, out):
-    """What may be printed for these lines, where it is `out` with ample memory: where memory is short for one of them, and
-    where the page ends before one of them."""
-    given, looks, again, ended = answered(lines, out), looks_before(kind, lines), set(), set()
-    for at, line in enumerate(lines):
-        if is_case(line):
-            # a book that is opened again is given back closed, where that is refused
-            look = "rows = closed\n" if line.startswith("adopt") and looks[at] else looks[at]
-            before = "".join(given[:at])
-            again.add(f"{before}{line} = out of memory\n{look}" + "".join(given[at:]))
-            ended.add(before)
-    return again, ended
-
-
-def is_made_again(kind, again, ended, noted):
-    """The answers of ample memory, or these with one call made again; or none, where memory was short before the first. A file
-    in memory that does not grow fails as a disk does: the page then ends there. Notes how the calls did."""
-    def judge(ample, found, _number):
-        text = found.out.decode()
-        if found.status == 1 and text:
-            noted.append("failed")
-            return kind == "files" and found.err.endswith(b": the store failed\n") and text in ended
-        if found.status == 1:
-            return LACKS.search(found.err) is not None
-        noted.append("again" if " = out of memory\n" in text else "ample")
-        return found.status == 0 and not found.err and (found.out == ample.out or text in again)
-    return judge
-
-
-def book_pages():
-    """The sections of the page but that of many requests, each with the kinds of book that it is about."""
-    page = (BOOKS.parents[1] / "stdin").read_text()
-    for section in page.split("\n## ")[1:]:
-        name, _, text = section.partition("\n")
-        kinds = {"Plans": ["memory"], "A book": BOOK_KINDS, "Requests": BOOK_KINDS, "Files": ["files"], "Spare rows": ["files"]}
-        yield from ((name, kind, text) for kind in kinds.get(name, []))
-
-
-def books():
-    for it in (BOOKS.parents[1] / "data").iterdir():
-        shutil.copy(it, ".")
-    opened = {kind: last_refused([BOOKS, kind], b"open\n") for kind in BOOK_KINDS}
-    for name, kind, text in book_pages():
-        what = f"{name}, in {kind}"
-        ample = run([BOOKS, kind], text.encode(), 0)
-        expect(f"{what}: the status", (0, b""), (ample.status, ample.err))
-        (again, ended), noted = with_one_refused(kind, text.splitlines(), ample.out.decode()), []
-        # the opening is the same in each section
-        opening = range(1, opened[kind], 40) if name == "A book" else []
-        numbers = itertools.chain(opening, itertools.count(opened[kind] + 1, BOOK_STEPS[name]))
-        numbers = None if kind == "memory" else numbers
-        judge = is_made_again(kind, again, ended, noted)
-        yield what, each_refused(what, lambda _, it=kind: [BOOKS, it], text.encode(), judge, numbers)
-        expect(f"{what}: some call was made again", True, "again" in noted)
-        expect(f"{what}: the files failed seldom", True, 50 * noted.count("failed") <= len(noted))
-
-
 # ---- words
 
 
@@ -261,23 +164,7 @@ def words():
 
 def message(entry):
     """A request of an example as it is sent."""
-    token = f"Bsp-Token: {entry.token}\r\n" if entry.token else ""
-    length = f"Content-Length: {len(entry.body)}\r\n" if entry.method == "POST" else ""
-    return f"{entry.method} {entry.path} HTTP/1.1\r\nHost: bsp\r\n{token}{length}\r\n".encode() + entry.body
-
-
-def replies(out):
-    """The replies in an output, each with its head."""
-    found = []
-    while out:
-        head, end, _ = out.partition(b"\r\n\r\n")
-        length = re.search(rb"Content-Length: (\d+)", head)
-        if not end or not length:
-            return found + [out]
-        at = len(head) + 4 + int(length[1])
-        found.append(out[:at])
-        out = out[at:]
-    return found
+    return office.message(entry.method, entry.path, entry.token, entry.body)
 
 
 def is_lacking(reply):
@@ -456,7 +343,7 @@ def main():
     with tempfile.TemporaryDirectory() as folder:
         os.chdir(folder)
         subprocess.run(library, check=True)
-        for part in pages, books, words, conversations, over_files, migrations, audits:
+        for part in pages, words, conversations, over_files, migrations, audits:
             if chosen and part.__name__ not in chosen:
                 continue
             begun, count = time.monotonic(), sum(it[1] for it in part())

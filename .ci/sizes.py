@@ -10,9 +10,8 @@ gives up at a size that memory has room for:
   settlement of the period; and the book in the file opened and audited again, and opened as one of version 1 and of version 2;
 - the same with many of all else: 1,000 airlines, 1,000 agents, as many ranges of one agent, 20,001 memos to it, which one close
   bills, 60,000 periods and taxes, and 500 closes;
-- `run` with 65,536 requests, the most that one connection has;
-- `bsp_record_examples` with a RET file of 10,000 sales, read and written, and `bsp_book_examples` with the calls that no request
-  makes, over the rows of 30,000 sales: reports over rows, and a run of 100,000 requests at a desk.
+- `run` with 65,536 requests of strangers, the most that one connection has, and with as many of an agent;
+- `bsp_record_examples` with a RET file of 10,000 sales, read and written, and with reports over its transactions.
 Prints how long each took. Exits with the number of cases that differ.
 
 usage: .ci/sizes.py [PROGRAM [ITEMS [PART..]]]   (with no PROGRAM it takes the one that is built; 50,000 items by default;
@@ -513,85 +512,71 @@ def trials():
 # ---- a connection
 
 
-def requests():
-    """As many requests on one connection as it takes, and one more. It closes after message 65,536 (docs/HTTP.md)."""
+def asked(method, path, token, body=""):
+    """A request as it is sent."""
+    length = f"Content-Length: {len(body)}\r\n" if body else ""
+    return f"{method} /{path} HTTP/1.1\r\nHost: bsp\r\nBsp-Token: {token}\r\n{length}\r\n{body}".encode()
+
+
+def replied(status, body, last=""):
+    """A reply as it is sent."""
+    return f"HTTP/1.1 {status}\r\nContent-Type: application/json\r\nContent-Length: {len(body)}\r\n{last}\r\n{body}".encode()
+
+
+def many_on_one(what, first, reply, wanted):
+    """Sends a request and behind it as many of an agent as one connection takes, and one more. It closes after message 65,536
+    (docs/HTTP.md)."""
     count = 65_536
-    sent = (f"GET /agents/{AGENT}/stock HTTP/1.1\r\nHost: bsp\r\nBsp-Token: {AGENT_TOKEN}\r\n\r\n".encode()) * (count + 1)
-    one = b'HTTP/1.1 403 Forbidden\r\nContent-Type: application/json\r\nContent-Length: 14\r\n\r\n{"code":"N01"}'
-    last = one.replace(b"\r\n\r\n", b"\r\nConnection: close\r\n\r\n")
-    ended = timed(f"run with {count:,} requests", lambda: subprocess.run([PROGRAM, "run", "--token", TOKEN], input=sent, capture_output=True, timeout=600))
-    office.expect("run with many requests", (0, True), (ended.returncode, ended.stdout == one * (count - 1) + last))
+    sent = first + asked("GET", f"agents/{AGENT}/stock", AGENT_TOKEN) * count
+    one, last = replied(*wanted), replied(*wanted, "Connection: close\r\n")
+    ended = timed(f"run with {count:,} {what}", lambda: subprocess.run([PROGRAM, "run", "--token", TOKEN], input=sent, capture_output=True, timeout=600))
+    office.expect(f"run with many {what}", (0, True), (ended.returncode, ended.stdout == reply + one * (count - 2) + last))
+
+
+def requests():
+    """Requests of an agent that is not registered, and of one that is."""
+    stranger = "403 Forbidden", '{"code":"N01"}'
+    many_on_one("requests of a stranger", asked("GET", f"agents/{AGENT}/stock", AGENT_TOKEN), replied(*stranger), stranger)
+    registered = asked("POST", "office/agents", TOKEN, body_of(agent=AGENT, token=AGENT_TOKEN))
+    many_on_one("requests of an agent", registered, replied("200 OK", DONE[2].decode()), ("200 OK", '{"ranges":[]}'))
 
 
 # ---- calls that no request makes
 
 
-CALLS = office.TOP / "crates" / "bsp_book_examples" / "out" / "bsp_book_examples"
-RECORD_CALLS = office.TOP / "crates" / "bsp_record_examples" / "out" / "bsp_record_examples"
-
-
-def page():
-    """Cases of bsp_book_examples: a month of 30,000 sales, each call over its rows, and a run of 100,000 requests."""
-    yield from ("open", "routes", f"ask-file POST /office/plan {TOKEN} month.toml")
-    for path, body in (
-            ("day", body_of(day="2024-01-05")), ("agents", body_of(agent=AGENT, token=AGENT_TOKEN)), ("airlines", body_of(airline="125", token=AIRLINE)),
-            ("stock/allot", body_of(agent=AGENT, first=f"{FIRST}", last=f"{FIRST + 99_999}"))):
-        yield f"ask POST /office/{path} {TOKEN} {body}"
-    yield from (f"ask-file POST /agents/{AGENT}/ret {AGENT_TOKEN} month-{at}.ret" for at in range(3))
-    for path, body in (("day", body_of(day="2024-01-16")), ("close", body_of(period="24011"))):
-        yield f"ask POST /office/{path} {TOKEN} {body}"
-    yield from (f"{word}{' ' + rest if rest else ''}" for word, rest in (
-        ("statement", f"{AGENT} 24011"), ("statement-of", f"{AGENT} 24011"), ("settlement", "24011"), ("settlement-of", "24011"),
-        ("hot", "125 24011"), ("hot-of", "125 24011"), ("items", AGENT), ("items", "125 24011"), ("agents", ""),
-        ("run-many", f"100000 GET /agents/{AGENT}/periods/24011 {AGENT_TOKEN}"), ("sound", "")))
+CALLS = office.TOP / "crates" / "bsp_record_examples" / "out" / "bsp_record_examples"
+# the calls on a RET file, and those of reports over its transactions
+READS = "ret MOST", "bytes MOST", "reader feed MOST; finish; file", "write MOST; MOST"
+REPORTS = f"statement {AGENT} MOST", "settlement 24011 MOST", "hot-file 125 MOST"
 
 
 def answers_in(cases, out):
-    """What each case gave, by its first two words."""
-    at, found = 0, {}
+    """What each case gave."""
+    at, found = 0, []
     for case, after in zip(cases, [*cases[1:], None]):
         begun = out.index(f"{case} = ", at) + len(case) + 3
         at = out.index(f"\n{after} = ", begun) + 1 if after else len(out)
-        found[" ".join(case.split()[:2])] = out[begun:at].rstrip("\n")
+        found.append(out[begun:at].rstrip("\n"))
     return found
 
 
-def over_rows(kind):
-    """What the cases give over a book of a kind."""
-    cases = list(page())
-    ended = timed(f"calls over rows, {kind}", lambda: subprocess.run([CALLS, kind], input="\n".join([*cases, ""]).encode(), capture_output=True, timeout=600))
-    office.expect(f"calls over rows, {kind}: its end", (0, b""), (ended.returncode, ended.stderr))
-    return answers_in(cases, ended.stdout.decode()) if ended.returncode == 0 else {}
-
-
-def file_calls():
-    """Reads a RET file of 10,000 sales, in one piece and byte by byte, and writes it again."""
-    text = ret_file(10_000, FIRST).decode()
-    records = "".join(f"  {it[0]}|{it[1:].rstrip()}\n" for it in text.splitlines())
-    cases = "ret MOST", "bytes MOST", "reader feed MOST; finish; file", "write MOST; MOST"
-    page = f"MOST:\n{records}\n" + "".join(f"{it}\n" for it in cases)
-    ended = timed("calls on a RET file", lambda: subprocess.run([RECORD_CALLS], input=page.encode(), capture_output=True, timeout=600))
-    found = f"records 30002, transactions 10000, sum {23_500 * 10_000}"
-    wanted = [f"{cases[0]} = {found}", f"{cases[1]} = {found}", f"{cases[2]} = done; done; {found}", f"{cases[3]} = the same, {len(text)} bytes"]
-    office.expect("calls on a RET file", (0, wanted), (ended.returncode, ended.stdout.decode().splitlines()[-4:]))
-
-
 def calls():
-    """On a file, and over a book in memory and over tables."""
-    file_calls()
-    pathlib.Path("month.toml").write_text(PLAN % '"125"', encoding="utf-8")
-    for at in range(3):
-        pathlib.Path(f"month-{at}.ret").write_bytes(ret_file(10_000, FIRST + 10_000 * at))
-    in_memory, net = over_rows("memory"), 22_500 * 30_000
-    office.expect("the statement over rows", True, in_memory.get(f"statement {AGENT}", "").endswith(money(net)))
-    for word, rest in ("statement", AGENT), ("settlement", "24011"), ("hot", "125"):
-        of_rows, of_tallies = (in_memory.get(f"{it} {rest}") for it in (word, f"{word}-of"))
-        office.expect(f"{word} over rows and over tallies are the same", True, of_rows is not None and of_rows == of_tallies)
-    office.expect("the rows are sound", "yes", in_memory.get("sound"))
-    run = f'100000 times 200 {{"closed":true,"documents":30000,"net":"{money(net)}","period":"24011"}}'
-    office.expect("a run of 100,000 requests", run, in_memory.get("run-many 100000"))
-    for case, given in over_rows("tables").items():
-        office.expect(f"{case}: over tables", True, given == in_memory.get(case))
+    """Reads a RET file of 10,000 sales, in one piece and byte by byte, and writes it again. Writes the reports over its
+    transactions and a memo of 50.00: a statement, a settlement and a HOT file, which the program then checks."""
+    count, text = 10_000, ret_file(10_000, FIRST).decode()
+    records = "".join(f"  {it[0]}|{it[1:].rstrip()}\n" for it in text.splitlines())
+    page = "".join(f"{it}\n" for it in ("MOST:", records, *READS, *REPORTS))
+    ended = timed("calls on a RET file", lambda: subprocess.run([CALLS], input=page.encode(), capture_output=True, timeout=600))
+    if not office.expect("calls on a RET file: their end", (0, b""), (ended.returncode, ended.stderr)):
+        return
+    *reads, statement, settlement, hot = answers_in([*READS, *REPORTS], ended.stdout.decode())
+    found = f"records {3 * count + 2}, transactions {count}, sum {23_500 * count}"
+    office.expect("calls on a RET file", [found, found, f"done; done; {found}", f"the same, {len(text)} bytes"], reads)
+    net = money(22_500 * count + 5_000)
+    office.expect("the statement over rows", True, statement.endswith(f" {net}"))
+    office.expect("the settlement over rows", 4, settlement.count(f" {net}\n") + settlement.endswith(f" {net}"))
+    wanted = 0, f"OK records {5 * count + 12} documents {count + 1} net {net}\n".encode(), b""
+    office.expect_end("the HOT file over rows", wanted, [PROGRAM, "hotcheck", "-"], input=f"{hot}\n".encode())
 
 
 PARTS = {"reports": reports, "requests": requests, "trials": trials, "many": offices_of_many, "months": offices, "calls": calls}

@@ -2,10 +2,10 @@
 """Runs the built program over a book in a file, and looks at the file with SQLite's own library:
 the requests of a month, with the program killed after each reply, are answered as over a book in memory; sales that
 were answered before a kill at any moment are there afterwards; the file passes SQLite's integrity check; a book that
-SQLite wrote is opened; the queries of docs/TABLES.md agree with the replies; the examples 22, 26, 27, 41 to 43 and
-49 of docs/EXAMPLES.md are as it says; a book of 10,000 requests, opened again, gives the same statements; and a file that
-is no book, or is a damaged one (.ci/damages.py), is refused with its status and one line on standard error. Exits with
-the number of cases that differ.
+SQLite wrote is opened, and has nothing of a transaction that was left open; the queries of docs/TABLES.md agree with the
+replies; the examples 22, 26, 27, 41 to 43 and 49 of docs/EXAMPLES.md are as it says; a book of 10,000 requests, opened
+again, gives the same statements; and a file that is no book, or is a damaged one (.ci/damages.py), is refused with its
+status and one line on standard error. Exits with the number of cases that differ.
 
 usage: .ci/store.py [PROGRAM]   (with no PROGRAM it takes the one that is built)
 """
@@ -413,6 +413,20 @@ def written_by_sqlite(wanted):
         expect(f"integrity of {file}", [("ok",)], rows_of(file, "PRAGMA integrity_check"))
 
 
+def left_open(wanted):
+    """A transaction that another program began, and in which it was killed, leaves nothing, although the log has its pages."""
+    changed("")
+    names = [it for it, in rows_of("copy.db", "SELECT name FROM sqlite_schema WHERE type = 'table'")]
+    begun = "PRAGMA cache_size = 1; BEGIN; " + "; ".join(f"DELETE FROM {it}" for it in names)
+    script = "import os, sqlite3, sys; sqlite3.connect('copy.db').executescript(sys.argv[1]); os.kill(os.getpid(), 9)"
+    subprocess.run([sys.executable, "-c", script, begun], check=False)
+    expect("a transaction left open: its log has pages", True, os.path.getsize("copy.db-wal") > 4096)
+    program = opened("copy.db")
+    expect("replies after a transaction left open", wanted[-len(list(looking())):], answers(program, looking()))
+    program.kill()
+    expect("integrity after a transaction left open", [("ok",)], rows_of("copy.db", "PRAGMA integrity_check"))
+
+
 def queries():
     """The queries that docs/TABLES.md shows."""
     text = (TOP / "docs" / "TABLES.md").read_text(encoding="utf-8")
@@ -580,6 +594,7 @@ def main():
         expect("integrity of office.db", [("ok",)], rows_of("office.db", "PRAGMA integrity_check"))
         audited(wanted)
         written_by_sqlite(wanted)
+        left_open(wanted)
         examples_26_and_27()
         example_42()
         example_43()

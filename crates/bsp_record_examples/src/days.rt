@@ -73,9 +73,9 @@ fn billed_in(word: &str) -> Result<Option<PeriodCode>, Fault> {
     Ok(Some(PeriodCode::read(word.as_bytes())?))
 }
 
-/// Whether there is a memo of these fields: kind, state, period, amount and amount as issued.
-fn is_memo(mut words: Words<'_>) -> Result<bool, Fault> {
-    let memo = Memo::restore(MemoFields {
+/// The memo of these fields, if there is one: kind, state, period, amount and amount as issued.
+pub fn memo_of(mut words: Words<'_>) -> Result<Option<Memo>, Fault> {
+    Ok(Memo::restore(MemoFields {
         airline: AirlineCode::read(b"125")?,
         document: DocNumber::read_unchecked(b"6000000001")?,
         agent: AgentCode::read(b"12345675")?,
@@ -86,8 +86,7 @@ fn is_memo(mut words: Words<'_>) -> Result<bool, Fault> {
         billed: billed_in(words.word())?,
         amount: amount(words.word())?,
         issued_amount: amount(words.word())?,
-    });
-    Ok(memo.is_some())
+    }))
 }
 
 /// Makes the call of a case, of commission or memos.
@@ -95,7 +94,7 @@ fn answer_rules(page: &Page<'_>, case: &str, out: &mut Output) -> Answered {
     let (word, rest) = first_word(case);
     match word {
         "commission" => show_commission(rest, out),
-        "memo" => out.answer(is_memo(Words::of(rest))?),
+        "memo" => out.answer(memo_of(Words::of(rest))?.is_some()),
         _ => records::answer(page, case, out),
     }
 }

@@ -1,5 +1,6 @@
 //! Why a line has no answer.
 
+use bsp_calendar::PlanFault;
 use bsp_fields::FieldFault;
 use bsp_ret::{FaultCode, RetFault};
 use std::alloc::{AllocError, AllocFailed};
@@ -50,6 +51,15 @@ impl From<RetFault> for Fault {
         match fault.code {
             FaultCode::F10 => Fault::Memory,
             _ => Fault::File,
+        }
+    }
+}
+
+impl From<PlanFault> for Fault {
+    fn from(fault: PlanFault) -> Fault {
+        match fault {
+            PlanFault::NoMemory => Fault::Memory,
+            _ => Fault::Field,
         }
     }
 }

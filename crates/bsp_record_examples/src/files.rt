@@ -6,6 +6,7 @@ use crate::output::{Output, say};
 use crate::page::Page;
 use crate::reader::calls;
 use crate::records::{show_code, show_first, show_fit, show_record};
+use crate::reports::{show_hot_file, show_settlement, show_statement};
 use crate::ret::{Way, show_bytes, show_ranges, show_same_pieces, show_whole, write};
 use crate::texts::{line_of, text_of};
 use crate::transactions::{Question, show_paid, show_transaction};
@@ -73,6 +74,9 @@ fn call_headed(alloc: Global, word: &str, head: &str, text: &[u8], out: &mut Out
         "group-with-exchange" => {
             show_transaction(alloc, Question::IsGroupWith(amount(head)?), text, out)
         }
+        "statement" => show_statement(alloc, head, text, out),
+        "settlement" => show_settlement(alloc, head, text, out),
+        "hot-file" => show_hot_file(alloc, head, text, out),
         _ => call_line(word, head, line_of(text)?, out),
     }
 }
@@ -96,7 +100,10 @@ pub fn answer(page: &Page<'_>, case: &str, out: &mut Output) -> Answered {
         | "hot-reason"
         | "hot-reason-2"
         | "hot-explain"
-        | "group-with-exchange" => answer_headed(page, word, rest, out),
+        | "group-with-exchange"
+        | "statement"
+        | "settlement"
+        | "hot-file" => answer_headed(page, word, rest, out),
         _ => call_text(page.alloc(), word, &text_of(page, rest)?, out),
     }
 }

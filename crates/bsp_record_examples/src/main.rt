@@ -1,4 +1,4 @@
-//! Worked examples of the fields and records of RET and HOT files, of commission and of memos. It reads a page of
+//! Worked examples of the fields and records of RET and HOT files, of commission, memos and reports. It reads a page of
 //! cases from standard input, makes the call that each case names, and writes the page with what the calls gave.
 //! The page says how a case is written. The status is 1 where a line is no case.
 #![tactic(auto)]
@@ -15,6 +15,7 @@ mod output;
 mod page;
 mod reader;
 mod records;
+mod reports;
 mod ret;
 mod texts;
 mod transactions;

@@ -1,0 +1,174 @@
+//! The calls of reports and HOT files over rows: the transactions of a RET file, all accepted in one closed period, and a
+//! debit memo that is billed in it.
+
+use crate::days::memo_of;
+use crate::fault::{Answered, Fault};
+use crate::output::Output;
+use crate::words::Words;
+use bsp_calendar::{Currency, Period, Plan, PlanText, Terms};
+use bsp_fields::{AgentCode, AirlineCode, Amount, Day, PeriodCode};
+use bsp_hot::{HotFault, write_hot};
+use bsp_memos::Memo;
+use bsp_ret::{RetFile, read_ret, transaction};
+use bsp_ret_records::Transaction;
+use bsp_rules::Item;
+use bsp_statement::{StatementFault, settlement, statement};
+use std::alloc::Global;
+
+/// The period in which the transactions are accepted.
+const PERIOD: &[u8] = b"24011";
+
+/// The memo, as a case of `memo` states it.
+const MEMO: &str = "ADMA agreed 24011 5000 5000";
+
+/// The period with its days.
+fn period() -> Result<Period, Fault> {
+    Ok(Period {
+        code: PeriodCode::read(PERIOD)?,
+        first: Day::read_text(b"2024-01-01")?,
+        last: Day::read_text(b"2024-01-15")?,
+        remittance: Day::read_text(b"2024-02-15")?,
+    })
+}
+
+/// The currency and the limits of the market.
+fn terms() -> Result<Terms, Fault> {
+    Ok(Terms {
+        currency: Currency::read(b"EUR").ok_or(Fault::Field)?,
+        review_days: 14,
+        documents_limit: 1_000_000,
+    })
+}
+
+/// The entries of a plan with the airlines 125 and 220 and the period.
+fn entries(alloc: Global) -> Result<PlanText, Fault> {
+    let (first, second) = (AirlineCode::read(b"125")?, AirlineCode::read(b"220")?);
+    let (terms, period) = (terms()?, period()?);
+    Ok(PlanText {
+        terms,
+        airlines: Vec::from_slice(alloc, &[first, second])?,
+        rates: Vec::new(alloc),
+        periods: Vec::from_slice(alloc, &[period])?,
+        commission_taxes: Vec::new(alloc),
+    })
+}
+
+/// A plan in which the period is closed.
+fn closed_plan(alloc: Global) -> Result<Plan, Fault> {
+    let (period, day) = (PeriodCode::read(PERIOD)?, Day::read_text(b"2024-01-16")?);
+    let entries = entries(alloc)?;
+    let mut plan = Plan::empty(alloc);
+    plan.extend(&entries)?;
+    plan.set_day(day)?;
+    plan.close_next(period)?;
+    Ok(plan)
+}
+
+/// A transaction as it was accepted in the period.
+fn item_of(transaction: Transaction) -> Result<Item, Fault> {
+    Ok(Item {
+        agent: AgentCode::read(&transaction.agent)?,
+        period: PeriodCode::read(PERIOD)?,
+        transaction,
+        lives: true,
+        tax: Amount::new(0)?,
+        hundredths: 0,
+    })
+}
+
+/// What the transaction of a place of a file is.
+trait OfPlace: Sized {
+    /// That of this place.
+    fn at(file: &RetFile<'_>, index: usize) -> Result<Self, Fault>;
+}
+
+impl OfPlace for Item {
+    fn at(file: &RetFile<'_>, index: usize) -> Result<Item, Fault> {
+        match transaction(file, index) {
+            Some(found) => item_of(found),
+            None => Err(Fault::File),
+        }
+    }
+}
+
+/// What the transactions of a file are, in order.
+fn all_of<T: OfPlace + Drop>(alloc: Global, file: &RetFile<'_>) -> Result<Vec<T>, Fault> {
+    let mut all = Vec::new(alloc);
+    for index in 0..file.transactions() {
+        all.push(T::at(file, index)?)?;
+    }
+    Ok(all)
+}
+
+/// The rows that reports are over.
+#[derive(Drop)]
+struct Rows {
+    plan: Plan,
+    items: Vec<Item>,
+    memos: [Memo; 1],
+}
+
+impl Rows {
+    /// Those of the RET file that a text is.
+    fn of(alloc: Global, text: &[u8]) -> Result<Rows, Fault> {
+        let memo = memo_of(Words::of(MEMO))?.ok_or(Fault::Field)?;
+        let items = match read_ret(alloc, text) {
+            Ok(file) => all_of(alloc, &file)?,
+            Err(fault) => return Err(Fault::from(fault)),
+        };
+        Ok(Rows {
+            plan: closed_plan(alloc)?,
+            items,
+            memos: [memo],
+        })
+    }
+}
+
+/// Appends why there is no report.
+fn show_fault(fault: StatementFault, out: &mut Output) -> Answered {
+    if fault == StatementFault::NoMemory {
+        return Err(Fault::Memory);
+    }
+    out.push(fault.code());
+    Ok(())
+}
+
+/// Writes the statement of an agent over the rows of a text.
+pub fn show_statement(alloc: Global, agent: &str, text: &[u8], out: &mut Output) -> Answered {
+    let (agent, period) = (
+        AgentCode::read(agent.as_bytes())?,
+        PeriodCode::read(PERIOD)?,
+    );
+    let rows = Rows::of(alloc, text)?;
+    match statement(alloc, agent, period, &rows.items, &rows.memos, &rows.plan) {
+        Ok(report) => out.push(report.as_str()),
+        Err(fault) => return show_fault(fault, out),
+    }
+    Ok(())
+}
+
+/// Writes the settlement of a period over the rows of a text.
+pub fn show_settlement(alloc: Global, period: &str, text: &[u8], out: &mut Output) -> Answered {
+    let period = PeriodCode::read(period.as_bytes())?;
+    let rows = Rows::of(alloc, text)?;
+    match settlement(alloc, period, &rows.items, &rows.memos, &rows.plan) {
+        Ok(report) => out.push(report.text.as_str()),
+        Err(fault) => return show_fault(fault, out),
+    }
+    Ok(())
+}
+
+/// Writes the HOT file of an airline over the rows of a text.
+pub fn show_hot_file(alloc: Global, airline: &str, text: &[u8], out: &mut Output) -> Answered {
+    let (airline, period) = (
+        AirlineCode::read(airline.as_bytes())?,
+        PeriodCode::read(PERIOD)?,
+    );
+    let rows = Rows::of(alloc, text)?;
+    match write_hot(alloc, airline, period, &rows.items, &rows.memos, &rows.plan) {
+        Ok(file) => out.characters(&file),
+        Err(HotFault::NoMemory) => return Err(Fault::Memory),
+        Err(fault) => out.push(fault.code()),
+    }
+    Ok(())
+}
