@@ -2,8 +2,8 @@
 """Asks the built program the requests of examples/, and compares its replies byte for byte with those that the files have.
 examples/README.md says how a file is written, and what is compared.
 
-Each example is run over a book in memory; over a book in a file; and over a book in a file with the office killed, and
-started again, between each two requests. Each difference is printed with its file and line, and with the ways that have
+Each example is run over a book in memory; over a book in tables in memory; over a book in a file; and over a book in a file
+with the office killed, and started again, between each two requests. Each difference is printed with its file and line, and with the ways that have
 it. A body of which a file has the end alone must be the same in all ways. The status is 1 where something differs, or where
 a file is not in its form.
 
@@ -26,8 +26,8 @@ import office
 
 FOLDER = office.TOP / "examples"
 TOKEN = "officetoken00001"
-# a way: whether the book is in a file, and whether the office is killed between each two requests
-WAYS = {"memory": (False, False), "file": (True, False), "restarts": (True, True)}
+# a way: the word of --db, and whether the office is killed between each two requests
+WAYS = {"memory": ("", False), "tables": (":memory:", False), "file": ("{}.db", False), "restarts": ("{}.db", True)}
 
 AFTER = re.compile(r"# after:((?: [\w./-]+\.hurl)+)")
 EACH = re.compile(r"# each number: (\d+) to (\d+)")
@@ -299,9 +299,9 @@ def whole(entry, reply):
 
 def run(program, folder, file, number, way):
     """The name of a conversation in this way, how many requests it has, its differences, and what stands for its bodies."""
-    is_kept, is_killed = WAYS[way]
+    word, is_killed = WAYS[way]
     name, entries = conversations(file)[number]
-    book = ["--db", f"{folder}/{file.stem}-{number}-{way}.db"] if is_kept else []
+    book = ["--db", word.format(f"{folder}/{file.stem}-{number}-{way}")] if word else []
     pairs = list(replies([program, f"{folder}/token", *book], entries, is_killed))
     return (
         way + name, len(entries), [it for pair in pairs for it in differences(*pair)],

@@ -1,6 +1,6 @@
 #!/usr/bin/env python3
 """Runs the built programs with their first allocation refused, then with their second, and so on until a run refuses none:
-- bsp_record_examples on a page with each call of fields, records and reports over rows that takes memory. A call then answers as with ample
+- bsp_record_examples on a page with each call of fields, records and reports over rows that takes memory, and a run of requests. A call then answers as with ample
   memory, or names the lack of memory; the same case after it answers as with ample memory.
 - bsp_office on words and files. It ends as with ample memory, or with status 3, no output and the line that memory was short.
 - its command `run`, which is sent each request of some conversations twice; these have each request of docs/ROUTES.md.
@@ -43,7 +43,7 @@ TOKEN = "officetoken00001"
 SHORT = re.compile(rb"bsp_office: .*out of memory\n")
 NOTES = re.compile(rb"(bsp_office: (\S+\.db: (new book|day .*)|[A-Z]+ /\S* 503 B01 14)\n)*")
 # how a call names the lack of memory
-LACKS = re.compile(rb"F10|NoRoom|out of memory|standard input or output failed")
+LACKS = re.compile(rb"F10|NoRoom|out of memory|503 \{\"code\":\"B01\"\}|standard input or output failed")
 # what a reader of a RET file prints in front of a call that it makes again
 AGAIN = re.compile(rb"F10 record \d+, again ")
 JUDGE = "judge --plan plan.toml --day 2024-01-05 --agent 12345675 --stock 1300000000-1300000099"

@@ -11,7 +11,8 @@ gives up at a size that memory has room for:
 - the same with many of all else: 1,000 airlines, 1,000 agents, as many ranges of one agent, 20,001 memos to it, which one close
   bills, 60,000 periods and taxes, and 500 closes;
 - `run` with 65,536 requests of strangers, the most that one connection has, and with as many of an agent;
-- `bsp_record_examples` with a RET file of 10,000 sales, read and written, and with reports over its transactions.
+- `bsp_record_examples` with a RET file of 10,000 sales, read and written, with reports over its transactions, and with a run of
+  20,000 requests.
 Prints how long each took. Exits with the number of cases that differ.
 
 usage: .ci/sizes.py [PROGRAM [ITEMS [PART..]]]   (with no PROGRAM it takes the one that is built; 50,000 items by default;
@@ -548,6 +549,7 @@ CALLS = office.TOP / "crates" / "bsp_record_examples" / "out" / "bsp_record_exam
 # the calls on a RET file, and those of reports over its transactions
 READS = "ret MOST", "bytes MOST", "reader feed MOST; finish; file", "write MOST; MOST"
 REPORTS = f"statement {AGENT} MOST", "settlement 24011 MOST", "hot-file 125 MOST"
+MANY_REQUESTS = f"run-many 20000 GET /agents/{AGENT}/stock {AGENT_TOKEN}"
 
 
 def answers_in(cases, out):
@@ -565,13 +567,14 @@ def calls():
     transactions and a memo of 50.00: a statement, a settlement and a HOT file, which the program then checks."""
     count, text = 10_000, ret_file(10_000, FIRST).decode()
     records = "".join(f"  {it[0]}|{it[1:].rstrip()}\n" for it in text.splitlines())
-    page = "".join(f"{it}\n" for it in ("MOST:", records, *READS, *REPORTS))
+    page = "".join(f"{it}\n" for it in ("MOST:", records, *READS, *REPORTS, MANY_REQUESTS))
     ended = timed("calls on a RET file", lambda: subprocess.run([CALLS], input=page.encode(), capture_output=True, timeout=600))
     if not office.expect("calls on a RET file: their end", (0, b""), (ended.returncode, ended.stderr)):
         return
-    *reads, statement, settlement, hot = answers_in([*READS, *REPORTS], ended.stdout.decode())
+    *reads, statement, settlement, hot, replies = answers_in([*READS, *REPORTS, MANY_REQUESTS], ended.stdout.decode())
     found = f"records {3 * count + 2}, transactions {count}, sum {23_500 * count}"
     office.expect("calls on a RET file", [found, found, f"done; done; {found}", f"the same, {len(text)} bytes"], reads)
+    office.expect("a run of many requests", '20000 times 403 {"code":"N01"}', replies)
     net = money(22_500 * count + 5_000)
     office.expect("the statement over rows", True, statement.endswith(f" {net}"))
     office.expect("the settlement over rows", 4, settlement.count(f" {net}\n") + settlement.endswith(f" {net}"))

@@ -555,7 +555,7 @@ def not_opened():
     refusal("a directory", "folder", NOT_OPENED + "it is a directory", 3)
     refusal("no folder", "missing/it", NOT_OPENED + "No such file or directory (os error 2)", 3)
     refusal("a URI", "file:it", NOT_OPENED + "it names no file", 3)
-    refusal("memory", ":memory:", NOT_OPENED + "it names no file", 3)
+    expect_end("tables in memory", (0, b"", b"bsp_office: :memory:: new book\n"), [*RUN, ":memory:"])
     expect("no file is made", [], [str(it) for it in pathlib.Path().glob("*:*")])
     shutil.copy("office.db", "one.db")
     os.link("one.db", "two.db")

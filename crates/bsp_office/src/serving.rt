@@ -1,4 +1,5 @@
-//! The commands `run` and `serve`: an office over a book in memory, or over one that a file keeps.
+//! The commands `run` and `serve`: an office over a book in memory, over one in tables in memory, or over one that a file
+//! keeps.
 
 ghost use Rattle.std.specs.Prelude.{◌≡◌, true, false};
 ghost use Rattle.bsp_store.specs.Faults.{is_refusal};
@@ -203,6 +204,12 @@ fn serve_opened<S: Alter + Drop>(
     }
 }
 
+/// Serves at a place, over an empty book in tables in memory.
+fn serve_tables(rt: &HostRuntime, place: &Place, token: Token, name: &str) -> Result<(), u8> {
+    let opened = SqlBook::open_memory(rt.alloc());
+    serve_opened(rt, place, token, name, opened)
+}
+
 /// Serves at a place, over the book that a file keeps.
 fn serve_file<T: Start>(
     rt: &HostRuntime,
@@ -216,6 +223,9 @@ fn serve_file<T: Start>(
     serve_opened(rt, place, token, file, opened)
 }
 
+/// The name that SQLite has for tables in memory.
+const IN_MEMORY: &str = ":memory:";
+
 /// A book in a file is opened with `Wary`: a commit does not rest on what a torn write leaves.
 fn serve_at(
     rt: &HostRuntime,
@@ -226,6 +236,7 @@ fn serve_at(
     let token = token_from(rt, token)?;
     match book {
         BookSource::Memory => serve_book(rt, place, token, ListBook::new(rt.alloc())),
+        BookSource::File(file) if *file == IN_MEMORY => serve_tables(rt, place, token, file),
         BookSource::File(file) => serve_file(rt, place, token, file, Wary),
     }
 }

@@ -1,5 +1,6 @@
 //! The calls of texts that are records or files.
 
+use crate::desk::{run, run_many};
 use crate::explanations::{show_first_fault, show_hot_fault, show_hot_reason};
 use crate::fault::{Answered, Fault};
 use crate::output::{Output, say};
@@ -94,6 +95,8 @@ pub fn answer(page: &Page<'_>, case: &str, out: &mut Output) -> Answered {
     match word {
         "write" => write(page, rest, out),
         "reader" => calls(page, rest, out),
+        "run" => run(page.alloc(), rest, out),
+        "run-many" => run_many(page.alloc(), rest, out),
         "fit"
         | "code"
         | "hot-record"

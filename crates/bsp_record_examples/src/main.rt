@@ -1,10 +1,11 @@
-//! Worked examples of the fields and records of RET and HOT files, of commission, memos and reports. It reads a page of
+//! Worked examples of the fields and records of RET and HOT files, of commission, memos and reports, and of runs of requests. It reads a page of
 //! cases from standard input, makes the call that each case names, and writes the page with what the calls gave.
 //! The page says how a case is written. The status is 1 where a line is no case.
 #![tactic(auto)]
 
 mod answers;
 mod days;
+mod desk;
 mod explanations;
 mod fault;
 mod fields;
