@@ -54,7 +54,7 @@ build opening
 
 for rows in 10000 100000; do
   mkdir "$work/$rows"
-  python3 - "$rows" "$work/$rows/book.db" "$top/crates/bsp_store_schema/src/made.rt" <<'MAKE'
+  python3 - "$rows" "$work/$rows/book.db" "$top/crates/bsp_store_base/src/made.rt" <<'MAKE'
 import re
 import sqlite3
 import sys

@@ -1,12 +1,12 @@
 -- Lemmas on the table of all codes.
-use Rattle.std.proofs.Common.{◌≡◌, ℕ, Bool, true, false, List, [], ◌∷◌, ◌++◌, Option, Some, None, option_map, is_some, map, cond, ◌||◌, ap, ◌∙◌, sym, refl}
+use Rattle.std.proofs.Common.{◌≡◌, ℕ, ◌+◌, ◌<◌, length, get_or, drop, Bool, true, false, List, [], ◌∷◌, ◌++◌, Option, Some, None, option_map, is_some, map, cond, ◌||◌, ap, ◌∙◌, sym, refl}
 use Rattle.std.specs.Borrow.{Bor}
 use Rattle.std.specs.List.{find, flat_map, list_any}
-use Rattle.std.specs.Option.{option_copied}
+use Rattle.std.specs.Option.{option_copied, option_or}
 use Rattle.std.specs.Str.{bytes_eq}
-use Rattle.std.proofs.lemmas.List.{map-append}
+use Rattle.std.proofs.lemmas.List.{drop_more, map-append}
 use Rattle.std.proofs.lemmas.List.Concat.{flat_map-append}
-use Rattle.std.proofs.lemmas.List.Folds.{flat_map-map}
+use Rattle.std.proofs.lemmas.List.Folds.{find-append, flat_map-map}
 use Rattle.bsp_codes.specs.Codes.{all_codes, is_code}
 use Rattle.bsp_codes.specs.Table.{Said, entry_named, table, requests, heads, files, verdicts, plans, stocks, memos, documents, periods, hot_files, books}
 
@@ -57,6 +57,22 @@ found_in {A} said part parts code r found make =
     read : (x : Option (Bor A)) → option_map (λ row. said row.now) x ≡ option_map said (option_copied x)
     read None = refl
     read (Some row) = refl
+
+-- the first that passes, in parts of which it is in none before a place
+module _ {A P : Type 0} (p : A → Bool) (part : P → List A) (parts : List P) (i : ℕ) (d : P) (r : Option (Bor A)) (within : i < length parts) (found : option_copied r ≡ find p (part (get_or parts i d)))
+    (before : find p (flat_map part (drop i parts)) ≡ find p (flat_map part parts)) where
+  here_or_behind : find p (flat_map part parts) ≡ option_or (option_copied r) (find p (flat_map part (drop (i + 1) parts)))
+  here_or_behind =
+      sym before
+      ∙ ap (λ (l : List P). find p (flat_map part l)) (drop_more parts i d within)
+      ∙ find-append p (part (get_or parts i d)) (flat_map part (drop (i + 1) parts))
+      ∙ ap (λ (o : Option A). option_or o (find p (flat_map part (drop (i + 1) parts)))) (sym found)
+
+  pub found_here : (row : Bor A) → r ≡ Some row → Some row.now ≡ find p (flat_map part parts)
+  found_here row is = sym (here_or_behind ∙ ap (λ (o : Option (Bor A)). option_or (option_copied o) (find p (flat_map part (drop (i + 1) parts)))) is)
+
+  pub found_behind : r ≡ None → find p (flat_map part (drop (i + 1) parts)) ≡ find p (flat_map part parts)
+  found_behind is = sym (here_or_behind ∙ ap (λ (o : Option (Bor A)). option_or (option_copied o) (find p (flat_map part (drop (i + 1) parts)))) is)
 
 -- lines of rows that make a list
 pub lines_of_parts : {A P S : Type 0} (line : S → List ℕ) (said : A → S) (part : P → List A) (parts : List P) → flat_map (λ p. flat_map (λ row. line (said row)) (part p)) parts ≡ flat_map line (flat_map (λ p. map said (part p)) parts)

@@ -37,14 +37,28 @@ pub(crate) fn parts() -> [&'static [Row]; 11]
     ]
 }
 
+/// The first row of a code in one part.
+fn row_in_part(rows: &'static [Row], code: &str) -> Option<&'static Row>
+    ensures { option_copied result ≡ find (λ row. bytes_eq row.0.now code.now) rows.now }
+{
+    for row in rows {
+        if row.0 == code {
+            return Some(row);
+        }
+    }
+    None
+}
+
 /// The first row of a code.
 fn row_in(parts: &[&'static [Row]], code: &str) -> Option<&'static Row>
     ensures { option_copied result ≡ find (λ row. bytes_eq row.0.now code.now) (flat_map (λ part. part.now) parts.now) }
 {
-    parts
-        .iter()
-        .flat_map(|part| part.iter())
-        .find(|row| row.0 == code)
+    for rows in parts {
+        if let Some(row) = row_in_part(rows, code) {
+            return Some(row);
+        }
+    }
+    None
 }
 
 /// The row of a code.

@@ -82,7 +82,16 @@ fn push_rows(text: &mut Vec<u8>, rows: &[Row]) -> Result<(), AllocError>
     Ok(())
 }
 
-#[tactic(auto, using(crate::proofs::TableLemmas::codes_are))]
+/// Appends a line for each row of some parts.
+fn push_table(text: &mut Vec<u8>, parts: &[&[Row]]) -> Result<(), AllocError>
+    ensures { OnOk result (text.new.items ≡ text.old.items ++ flat_map (λ part. flat_map (λ row. said_line (said_in row)) part.now) parts.now) }
+{
+    for rows in parts {
+        push_rows(text, rows)?;
+    }
+    Ok(())
+}
+
 /// The list of all codes: a line for each, which begins with it, in the order of `docs/CODES.md`.
 ///
 /// # Errors
@@ -93,8 +102,6 @@ pub fn listing(alloc: Global) -> Result<Vec<u8>, AllocError>
     ensures codes { map (λ s. s.code) table ≡ all_codes }
 {
     let mut text = Vec::new(alloc);
-    for rows in parts() {
-        push_rows(&mut text, rows)?;
-    }
+    push_table(&mut text, &parts())?;
     Ok(text)
 }

@@ -1,14 +1,14 @@
 -- What a response, or none, leaves of a turn: how it ends, and the reads that brought no byte.
 use Rattle.std.proofs.Common.{◌≡◌, ◌≢◌, ◌⊎◌, inl, inr, ℕ, ◌+◌, ◌≤◌, ◌==◌, ◌||◌, Bool, true, false, List, Option, None, Some, Result, Ok, Err, IfOk, refl, sym, ◌∙◌, subst, arith}
 use Rattle.std.proofs.lemmas.Bool.{eqb-false}
-use Rattle.bsp_connection.specs.Exchanges.{Meaning}
+use Rattle.bsp_peer.specs.Exchanges.{Meaning}
 use Rattle.bsp_connection.specs.Responding.{IsStopped, behind}
 use Rattle.bsp_connection.specs.declared.end.End.{End}
 use Rattle.bsp_connection.specs.declared.end.End.TheVariants.{Clean, Cut}
 use Rattle.bsp_connection.specs.declared.end.ServeFault.{ServeFault}
-use Rattle.bsp_connection.specs.declared.passing.Short.{Short}
-use Rattle.bsp_connection.specs.declared.passing.Short.TheVariants as short
-use Rattle.bsp_connection.specs.declared.sending.WriteFault.{WriteFault}
+use Rattle.bsp_peer.specs.declared.passing.Short.{Short}
+use Rattle.bsp_peer.specs.declared.passing.Short.TheVariants as short
+use Rattle.bsp_peer.specs.declared.sending.WriteFault.{WriteFault}
 
 -- where the turn ends the connection with the input, this holds
 abbrev pub AtInputEnd : Type 0 → Result (Option End) ServeFault → Type 0

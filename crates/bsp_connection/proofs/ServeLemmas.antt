@@ -6,7 +6,7 @@ use Rattle.std.specs.Io.KnownBytes.{Appends}
 use Rattle.std.proofs.KnownBytes.{Appends-trans}
 use Rattle.bsp_connection.specs.Conversations.{Conversation, IsBegun, IsRun, KeepsOpen, at_start, connection}
 use Rattle.bsp_connection.specs.Ends.{IsInputEnd, served_until}
-use Rattle.bsp_connection.specs.Exchanges.{Exchange, Meaning}
+use Rattle.bsp_peer.specs.Exchanges.{Exchange, Meaning}
 use Rattle.bsp_connection.specs.Serving.{Reaches, Serves}
 use Rattle.bsp_connection.specs.Serving.Lasts.{keeps, closes, waits}
 use Rattle.bsp_connection.specs.Turns.{ClosesBy, IsInterim, IsTurn, KeepsBy}

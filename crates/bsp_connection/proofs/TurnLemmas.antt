@@ -8,8 +8,8 @@ use Rattle.std.specs.Option.{option_map}
 use Rattle.std.proofs.KnownBytes.{Appends-trans, Keeps-refl}
 use Rattle.httparse.specs.Grammar.{RequestHead}
 use Rattle.httparse.specs.Spans.{span_bytes}
-use Rattle.bsp_connection.specs.declared.passing.Short.{Short}
-use Rattle.bsp_connection.specs.declared.passing.Short.TheVariants as short
+use Rattle.bsp_peer.specs.declared.passing.Short.{Short}
+use Rattle.bsp_peer.specs.declared.passing.Short.TheVariants as short
 use Rattle.bsp_heads.proofs.ScanLemmas.{head_len-more, head_len-le}
 use Rattle.bsp_heads.specs.Fields.{token_of}
 use Rattle.bsp_heads.specs.Head.{AreParts, IsHead, Refuses, headers_of, judgement}
@@ -19,20 +19,20 @@ use Rattle.bsp_heads.specs.declared.fault.Refused.{Refused}
 use Rattle.bsp_heads.specs.declared.parts.HeadParts.{HeadParts}
 use Rattle.bsp_heads.specs.declared.parts.Wanted.{Wanted}
 use Rattle.bsp_heads.specs.Responses.{ReplyText, refusal_reply, response}
-use Rattle.bsp_connection.specs.Arrivals.{IsAsked}
+use Rattle.bsp_peer.specs.Arrivals.{IsAsked}
 use Rattle.bsp_connection.specs.Conversations.{AnswersMessage, HasHead, HasMessage, IsBegun, connection}
 use Rattle.bsp_connection.specs.Conversations.Closes.{refused, unroomed, answered}
-use Rattle.bsp_connection.specs.Exchanges.{Exchange, Meaning, RequestText, answer_text, interim, request_of, used}
+use Rattle.bsp_peer.specs.Exchanges.{Exchange, Meaning, RequestText, answer_text, interim, request_of, used}
 use Rattle.bsp_connection.specs.Responding.{IsResponded, IsStopped}
 use Rattle.bsp_connection.specs.Turns.{ClosesBy, IsTurn, KeepsBy}
 use Rattle.bsp_connection.specs.declared.end.End.{End}
 use Rattle.bsp_connection.specs.declared.end.End.TheVariants.{Clean, Cut, Closed}
 use Rattle.bsp_connection.specs.declared.end.ServeFault.{ServeFault}
 use Rattle.bsp_connection.specs.declared.end.ServeFault.TheVariants.{Read, Write, Memory}
-use Rattle.bsp_connection.specs.declared.service.Answer.{Answer}
-use Rattle.bsp_connection.specs.declared.service.BodyUse.{BodyUse}
-use Rattle.bsp_connection.specs.declared.service.BodyUse.TheVariants.{Ignored}
-use Rattle.bsp_connection.specs.declared.service.Message.{Message}
+use Rattle.bsp_peer.specs.declared.service.Answer.{Answer}
+use Rattle.bsp_peer.specs.declared.service.BodyUse.{BodyUse}
+use Rattle.bsp_peer.specs.declared.service.BodyUse.TheVariants.{Ignored}
+use Rattle.bsp_peer.specs.declared.service.Message.{Message}
 
 -- ---- what was received
 

@@ -1,12 +1,9 @@
 -- What the contracts of a connection cite.
-pub mod Bodies
-pub mod Exchanges
-pub mod Taken
-pub mod Arrivals
 pub mod Responding
 pub mod Ends
 pub mod Conversations
 pub mod Turns
 pub mod Serving
-pub mod Noted
 pub mod Reads
+pub use Rattle.bsp_peer.specs.Exchanges
+pub use Rattle.bsp_peer.specs.declared.service.BodyUse

@@ -1,15 +1,16 @@
 -- How a connection goes on behind a response.
 use Rattle.std.specs.Prelude.{◌≡◌, ℕ, Bool, true, false, List, Option, Some, None, Result, Ok, Err}
 use Rattle.std.specs.Io.KnownBytes.{Keeps}
-use Rattle.bsp_connection.specs.declared.passing.Short.{Short}
-use Rattle.bsp_connection.specs.declared.passing.Short.TheVariants as short
+use Rattle.bsp_peer.specs.declared.passing.Short.{Short}
+use Rattle.bsp_peer.specs.declared.passing.Short.TheVariants as short
 use Rattle.bsp_heads.specs.Responses.{response}
-use Rattle.bsp_connection.specs.Exchanges.{IsWritten, Meaning}
+use Rattle.bsp_peer.specs.Written.{IsWritten}
+use Rattle.bsp_peer.specs.Exchanges.{Meaning}
 use Rattle.bsp_connection.specs.declared.end.End.{End}
 use Rattle.bsp_connection.specs.declared.end.End.TheVariants.{Cut, Closed}
 use Rattle.bsp_connection.specs.declared.end.ServeFault.{ServeFault}
 use Rattle.bsp_connection.specs.declared.end.ServeFault.TheVariants.{Read, Write}
-use Rattle.bsp_connection.specs.declared.sending.WriteFault.{WriteFault}
+use Rattle.bsp_peer.specs.declared.sending.WriteFault.{WriteFault}
 
 abbrev pub behind : Bool → Result (Unit {0}) WriteFault → Result (Option End) ServeFault
 behind true (Ok u) = Ok (Some Closed)

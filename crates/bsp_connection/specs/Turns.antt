@@ -3,7 +3,7 @@ use Rattle.std.specs.Prelude.{◌≡◌, ℕ, ◌+◌, ◌⊎◌, List, [], ◌+
 use Rattle.std.specs.Io.KnownBytes.{Appends}
 use Rattle.httparse.specs.Grammar.{RequestHead}
 use Rattle.bsp_heads.specs.declared.parts.Wanted.{Wanted}
-use Rattle.bsp_connection.specs.Exchanges.{Exchange, Meaning, interim}
+use Rattle.bsp_peer.specs.Exchanges.{Exchange, Meaning, interim}
 use Rattle.bsp_connection.specs.Conversations.{Closes, HasHead, IsBegun, KeepsOpen, connection}
 use Rattle.bsp_connection.specs.declared.end.End.{End}
 use Rattle.bsp_connection.specs.declared.end.End.TheVariants.{Clean, Cut, Closed}

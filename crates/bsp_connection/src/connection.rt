@@ -7,10 +7,8 @@ ghost use Rattle.bsp_connection.specs.Reads.{failed_by_reads, most_empty};
 ghost use Rattle.bsp_connection.specs.Serving.{Serves};
 
 use crate::end::{ServeFault, Served};
-use crate::noted::Noted;
-use crate::room::Room;
-use crate::service::Service;
 use crate::turn::turn;
+use bsp_peer::{Noted, Room, Service};
 use std::alloc::Global;
 use std::io::{Read, Write};
 

@@ -3,33 +3,18 @@
 //! [`serve`] cuts the input into messages, has each answered, and writes the responses, as `docs/HTTP.md` has it.
 //! What it reads, what the service is asked and what is written are one relation, `Conversation` of `specs/`.
 //!
-//! Below it, [`Received`] has the bytes that the peer sent and that are not yet used, in one buffer of a fixed size.
-//! [`pass`] passes a body on to a [`BodySink`] as its bytes come: dropped, kept whole or read as a RET file there.
+//! Below it, `bsp_peer` has what comes from the peer and goes to it. What the callers of [`serve`] need of it is given
+//! here too.
 #![tactic(auto)]
 
-mod arriving;
-mod asking;
 mod connection;
 mod end;
-mod kept;
-mod noted;
-mod passing;
-mod received;
 mod responding;
-mod ret_body;
-mod room;
-mod sending;
-mod service;
-mod sink;
 mod turn;
 
+pub use bsp_peer::{
+    Answer, BodySink, BodyUse, CAPACITY, IgnoredBody, KeptBody, Message, Noted, ReadFault,
+    Received, RetBody, Service, Short, WriteFault, pass, read_from, send,
+};
 pub use connection::{MESSAGE_LIMIT, serve};
 pub use end::{End, ServeFault, Served};
-pub use kept::KeptBody;
-pub use noted::Noted;
-pub use passing::{Short, pass};
-pub use received::{CAPACITY, ReadFault, Received, read_from};
-pub use ret_body::RetBody;
-pub use sending::{WriteFault, send};
-pub use service::{Answer, BodyUse, Message, Service};
-pub use sink::{BodySink, IgnoredBody};

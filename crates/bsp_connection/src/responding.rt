@@ -2,16 +2,14 @@
 
 ghost use Rattle.std.specs.Prelude.{◌≡◌, ◌≤◌, Bool, true, Err};
 ghost use Rattle.bsp_heads.specs.Responses.{refusal_reply, response};
-ghost use Rattle.bsp_connection.specs.Exchanges.{answer_text};
-ghost use Rattle.bsp_connection.specs.Reads.{failed_by_reads, failed_by_short, most_empty_of_short, most_empty_of_turn};
+ghost use Rattle.bsp_peer.specs.Exchanges.{answer_text};
+ghost use Rattle.bsp_peer.specs.Reads.{failed_by_short, most_empty_of_short};
+ghost use Rattle.bsp_connection.specs.Reads.{failed_by_reads, most_empty_of_turn};
 ghost use Rattle.bsp_connection.specs.Responding.{IsResponded, IsStopped, behind};
 
-use crate::Short;
 use crate::end::{End, ServeFault};
-use crate::noted::Noted;
-use crate::sending::{WriteFault, send_response};
-use crate::service::{Answer, Message, Service};
 use bsp_heads::{Refused, refusal};
+use bsp_peer::{Answer, Message, Noted, Service, Short, WriteFault, send_response};
 use std::io::Write;
 
 /// How the connection goes on behind a response, by whether the response closes it.

@@ -6,19 +6,14 @@ ghost use Rattle.std.specs.Io.KnownBytes.{Consumes, IsAtEnd, Keeps};
 ghost use Rattle.httparse.specs.Spans.{IsWithin, span_bytes};
 ghost use Rattle.bsp_heads.specs.Head.{AreParts};
 ghost use Rattle.bsp_heads.specs.Scan.{head_len};
-ghost use Rattle.bsp_connection.specs.Exchanges.{interim};
+ghost use Rattle.bsp_peer.specs.Exchanges.{interim};
 ghost use Rattle.bsp_connection.specs.Reads.{failed_by_reads, most_empty_of_turn};
 ghost use Rattle.bsp_connection.specs.Turns.{IsTurn};
 
-use crate::arriving::{Arrived, await_head};
-use crate::asking::{Place, ask};
 use crate::end::{End, ServeFault};
-use crate::noted::Noted;
 use crate::responding::{refuse, respond, stop};
-use crate::room::Room;
-use crate::sending::{send, send_on};
-use crate::service::{Message, Service};
 use bsp_heads::{HeadFault, HeadParts, Refused, interim, read_head};
+use bsp_peer::{Arrived, Message, Noted, Place, Room, Service, ask, await_head, send, send_on};
 use std::io::{Read, Write};
 
 /// The messages that were answered before the last that a connection may have.

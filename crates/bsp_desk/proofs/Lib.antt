@@ -6,16 +6,6 @@ pub mod Reach
 pub mod Alike
 pub mod BooksAlike
 pub mod ListsRead
-pub mod OwnRows
-pub mod AirlineRows
-pub mod PeriodRows
-pub mod Posted
-pub mod FewTallies
-pub mod PeriodSums
-pub mod Shown
 pub mod HotReplies
-pub mod DocumentRows
-pub mod NumberOrder
-pub mod StockRows
 pub mod Outliving
 pub use Rattle.bsp_desk_writes.proofs.RequestsRead

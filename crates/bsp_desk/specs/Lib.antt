@@ -1,4 +1,4 @@
--- How requests are read and answered, what a run of them is, and what reports add up and look up.
+-- How requests are read and answered, and what a run of them is.
 pub mod Calls
 pub mod Callers
 pub mod Reading
@@ -8,9 +8,6 @@ pub mod Runs
 pub mod Laws
 pub mod Books
 pub mod HotReplies
-pub mod Sums
-pub mod Documents
-pub mod Stock
 pub mod Stops
 pub use Rattle.bsp_book.specs.Calls as BookCalls
 pub use Rattle.bsp_desk_writes.specs.Contents

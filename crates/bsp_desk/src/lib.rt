@@ -3,8 +3,8 @@
 //! The rules are those of `docs/DESK.md`, and `bsp_office_spec` defines them. Each request is one transaction of the
 //! book: its reply is made before the commit, so a refusal and a 503 B01 leave the rows as they were.
 //!
-//! `bsp_desk_writes` serves the requests that change the book. Those that show what is in it, and change nothing, are
-//! served here: the settlement of a period, an agent's statement, its sums in a period, its documents and its stock,
+//! `bsp_desk_writes` serves the requests that change the book. `bsp_desk_reads` serves those that show what is in it, and
+//! change nothing: the settlement of a period, an agent's statement, its sums in a period, its documents and its stock,
 //! and an airline's HOT file.
 #![tactic(auto)]
 
@@ -12,16 +12,10 @@ mod agent;
 mod airline;
 mod caller;
 mod desk;
-mod documents;
-mod hot_files;
 mod laws;
 mod office;
-mod periods;
 mod request;
 mod serve;
-mod settlements;
-mod statements;
-mod stocks;
 mod token;
 mod transaction;
 

@@ -13,17 +13,17 @@ use Rattle.bsp_ret.specs.declared.model.RetFault.{RetFault}
 use Rattle.bsp_ret.proofs.LawLemmas.{law}
 use Rattle.bsp_rows.specs.Transaction.{Transaction}
 use Rattle.bsp_rows.specs.Writing.{HaveContents}
-use Rattle.bsp_rules.specs.declared.verdict.Reporter.{Reporter}
-use Rattle.bsp_rules.specs.declared.verdict.Reporter.TheVariants.{Office, Agent}
-use Rattle.bsp_rules.specs.declared.verdict.Verdict.{Verdict}
+use Rattle.bsp_rows.specs.Reporter.{Reporter}
+use Rattle.bsp_rows.specs.Reporter.TheVariants.{Office, Agent}
+use Rattle.bsp_rows.specs.Verdict.{Verdict}
 use Rattle.bsp_rows.specs.Rows.{Rows}
 use Rattle.bsp_rows.specs.Sound.{Sound}
 use Rattle.bsp_rows.proofs.MapLemmas.{same_Some}
 use Rattle.bsp_office_spec.specs.Requests.{FileRead, IsFileOf}
 use Rattle.bsp_office_spec.specs.Step.{rows_filed}
-use Rattle.bsp_desk_writes.specs.Judged.{AreJudged, owner_of, verdicts_of}
+use Rattle.bsp_desk_sales.specs.Judged.{AreJudged, owner_of, verdicts_of}
 use Rattle.bsp_desk_writes.specs.Reported.{ServesFile}
-use Rattle.bsp_desk_writes.proofs.FileLemmas.{one_list}
+use Rattle.bsp_desk_sales.proofs.FileLemmas.{one_list}
 
 module _ {B : Type 0} (m : Meaning B Rows) (old new : B) where
   -- nothing is answered

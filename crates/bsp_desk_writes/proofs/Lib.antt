@@ -1,10 +1,6 @@
 -- Lemmas of this crate.
-pub mod FactLemmas
-pub mod VerdictLemmas
-pub mod FileLemmas
 pub mod AnswerLemmas
 pub mod PlanLemmas
-pub mod RangeLemmas
 pub mod EachLemmas
 pub mod BillLemmas
 pub mod MemoLemmas

@@ -24,7 +24,7 @@ use Rattle.bsp_rows.specs.Changes.{each}
 use Rattle.bsp_rows.specs.Rows.{Rows}
 use Rattle.bsp_rows.specs.Sound.{Sound}
 use Rattle.bsp_rows.specs.Writes.{after_request, change_or_fault, is_held, plan_left, request_answer}
-use Rattle.bsp_desk_writes.specs.After.{office_after}
+use Rattle.bsp_desk_sales.specs.After.{office_after}
 use Rattle.bsp_office_spec.specs.Answers.{is_done}
 use Rattle.bsp_office_spec.specs.Ledger.{review_of}
 use Rattle.bsp_office_spec.specs.Requests.{IsBeyondMemory, IsInMemory, IsPlanOf, PlanRead}

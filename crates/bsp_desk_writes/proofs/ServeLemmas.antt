@@ -12,7 +12,7 @@ use Rattle.bsp_messages.specs.declared.answer.Answer.TheVariants as message
 use Rattle.bsp_messages.specs.declared.refusal.RequestRefusal.TheVariants as refusal
 use Rattle.bsp_rows.specs.Rows.{Rows, agent_token, memo_at, memo_key}
 use Rattle.bsp_rows.specs.declared.keys.MemoKey.{MemoKey}
-use Rattle.bsp_desk_writes.specs.Serves.{Serves}
+use Rattle.bsp_desk_sales.specs.Serves.{Serves}
 use Rattle.bsp_office_spec.specs.AirlineLedger.{airline_ledger_of, issuing, new_memo}
 use Rattle.bsp_office_spec.specs.Answers.{Answer}
 use Rattle.bsp_office_spec.specs.Answers.Answer.{Refused}

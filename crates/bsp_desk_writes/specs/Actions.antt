@@ -11,7 +11,7 @@ use Rattle.bsp_rows.specs.Part.{agent_part, airline_part}
 use Rattle.bsp_rows.specs.Rows.{Rows, memo_at}
 use Rattle.bsp_rows.specs.Sound.{Sound}
 use Rattle.bsp_rows.specs.declared.keys.MemoKey.{MemoKey}
-use Rattle.bsp_desk_writes.specs.Serves.{Serves}
+use Rattle.bsp_desk_sales.specs.Serves.{Serves}
 use Rattle.bsp_office_spec.specs.Answers.{Answer, is_done}
 use Rattle.bsp_office_spec.specs.Ledger.{memo_answer}
 use Rattle.bsp_office_spec.specs.Step.{with_action}

@@ -13,7 +13,7 @@ use Rattle.bsp_messages.specs.declared.refusal.RequestRefusal.TheVariants as ref
 use Rattle.bsp_rows.specs.Laws.{issued_count}
 use Rattle.bsp_rows.specs.Rows.{Rows, memo_at, memo_key}
 use Rattle.bsp_rows.specs.Writes.{IsFree, with_memo}
-use Rattle.bsp_desk_writes.specs.Serves.{Serves}
+use Rattle.bsp_desk_sales.specs.Serves.{Serves}
 use Rattle.bsp_office_spec.specs.AirlineLedger.{airline_ledger_of, issuing}
 use Rattle.bsp_office_spec.specs.Answers.{Answer, is_done}
 use Rattle.bsp_office_spec.specs.Answers.Answer.{Changed, Refused}

@@ -1,14 +1,9 @@
 -- What the requests that change a book are answered, and what they make of the rows.
-pub mod Counted
-pub mod Judged
 pub mod Reported
-pub mod Replies
 pub mod Billings
 pub mod Answered
 pub mod Actions
 pub mod Issues
-pub mod After
-pub mod Serves
 pub mod Contents
 pub use Rattle.bsp_office_spec.specs.AirlineLedger
 pub use Rattle.bsp_office_spec.specs.AirlineView
@@ -22,3 +17,8 @@ pub use Rattle.bsp_office_spec.specs.Step
 pub use Rattle.bsp_office_spec.specs.Texts
 pub use Rattle.bsp_office_spec.specs.Unmarked
 pub use Rattle.bsp_office_spec.specs.View
+pub use Rattle.bsp_desk_sales.specs.After
+pub use Rattle.bsp_desk_sales.specs.Counted
+pub use Rattle.bsp_desk_sales.specs.Judged
+pub use Rattle.bsp_desk_sales.specs.Replies
+pub use Rattle.bsp_desk_sales.specs.Serves

@@ -4,9 +4,9 @@ use Rattle.bsp_book.specs.Calls.{Meaning}
 use Rattle.bsp_book.specs.declared.fault.BookFault.{BookFault}
 use Rattle.bsp_messages.specs.declared.answer.Answer.{Answer}
 use Rattle.bsp_rows.specs.Rows.{Rows}
-use Rattle.bsp_rules.specs.declared.verdict.Reporter.{Reporter}
-use Rattle.bsp_rules.specs.declared.verdict.Reporter.TheVariants.{Office, Agent}
-use Rattle.bsp_desk_writes.specs.Serves.{ServesAgent, ServesOffice}
+use Rattle.bsp_rows.specs.Reporter.{Reporter}
+use Rattle.bsp_rows.specs.Reporter.TheVariants.{Office, Agent}
+use Rattle.bsp_desk_sales.specs.Serves.{ServesAgent, ServesOffice}
 use Rattle.bsp_office_spec.specs.Requests.{FileRead}
 use Rattle.bsp_office_spec.specs.Requests.AgentRequest.{AgentFile}
 use Rattle.bsp_office_spec.specs.Requests.OfficeRequest.{OfficeFile}

@@ -3,7 +3,7 @@
 ghost use Rattle.std.specs.Prelude.{◌≡◌, IfOk, OnOk, false};
 ghost use Rattle.bsp_book.specs.Calls.{FallsBack, Faults, Keeps, LeavesLast, Shows};
 ghost use Rattle.bsp_messages.specs.Bodies.{body_of, document_form, named_memo_form, reduction_form};
-ghost use Rattle.bsp_desk_writes.specs.Serves.{EndsOnFault, ServesAgent, ServesAirline};
+ghost use Rattle.bsp_desk_sales.specs.Serves.{EndsOnFault, ServesAgent, ServesAirline};
 ghost use Rattle.bsp_office_spec.specs.AirlineLedger.{issue_key};
 ghost use Rattle.bsp_office_spec.specs.Ledger.{memo_named};
 ghost use Rattle.bsp_office_spec.specs.Requests.AgentRequest.{AgreeMemo, DisputeMemo};

@@ -4,16 +4,16 @@ ghost use Rattle.std.specs.Prelude.{◌≡◌, false, Some, ⊤};
 ghost use Rattle.bsp_book.specs.Calls.{Makes};
 ghost use Rattle.bsp_desk_writes.specs.Billings.{IsAsRead, with_billings, with_closed_memo};
 ghost use Rattle.bsp_messages.specs.Bodies.{body_of, period_form};
-ghost use Rattle.bsp_desk_writes.specs.Serves.{EndsOnFault, Finds, ServesOffice};
+ghost use Rattle.bsp_desk_sales.specs.Serves.{EndsOnFault, Finds, ServesOffice};
 ghost use Rattle.bsp_office_spec.specs.Answers.{is_done};
 ghost use Rattle.bsp_office_spec.specs.Ledger.{review_of};
 ghost use Rattle.bsp_office_spec.specs.Step.{outcome_answer};
 ghost use Rattle.bsp_office_spec.specs.Requests.OfficeRequest.{ClosePeriod};
 
-use crate::bodies::unread;
 use crate::plan::plan_answer;
 use bsp_book::{Book, BookFault};
 use bsp_calendar::{PlanFault, Terms};
+use bsp_desk_sales::unread;
 use bsp_memos::{Memo, billed_now};
 use bsp_messages::{Answer, read_period};
 use bsp_rows::{Change, Day, MemoKey, Memos, PeriodCode};

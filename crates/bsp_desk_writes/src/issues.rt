@@ -4,7 +4,7 @@ ghost use Rattle.std.specs.Prelude.{◌≡◌, Some, false};
 ghost use Rattle.bsp_book.specs.Calls.{FallsBack, Faults, LeavesLast};
 ghost use Rattle.bsp_messages.specs.Bodies.{body_of, issue_form};
 ghost use Rattle.bsp_rows.specs.Verdicts.{limit_of};
-ghost use Rattle.bsp_desk_writes.specs.Serves.{EndsOnFault, Serves, ServesAirline};
+ghost use Rattle.bsp_desk_sales.specs.Serves.{EndsOnFault, Serves, ServesAirline};
 ghost use Rattle.bsp_office_spec.specs.Requests.AirlineRequest.{IssueMemo};
 ghost use Rattle.bsp_desk_writes.specs.Issues.{Adds, ServesIssue, placed, placing};
 

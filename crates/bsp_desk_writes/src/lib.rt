@@ -1,5 +1,5 @@
-//! The requests that change a book: RET files, memos, and the office's plan, registrations, stock and closes.
-//! The lists of memos are here too.
+//! The requests that change a book: RET files, memos, and the office's plan and closes. The lists of memos are here too.
+//! Transactions, registrations and stock are those of `bsp_desk_sales`.
 //!
 //! Each function serves one request in the open transaction of a book, and answers it as `bsp_office_spec` defines
 //! over the rows. A change is written where it is done. A refusal and a held change leave the rows as they were. A call
@@ -7,35 +7,23 @@
 //!
 //! `specs/` has the words of the contracts: what each part of a request answers, which rows it leaves, and how it ends with
 //! a fault. It also says how a call and its content are read as a request.
-//!
-//! Each transaction of a RET file is judged over the rows that those before it left. What is accepted joins the rows.
 #![tactic(auto)]
 
 mod action;
 mod actions;
-mod bodies;
-mod callers;
 mod closes;
 mod content;
-mod facts;
 mod issues;
-mod judging;
-mod keeping;
 mod memo_bodies;
-mod memory;
 mod plan;
 mod report;
 mod shown;
-mod stock;
 
 pub use actions::{agree, dispute, reduce, uphold, withdraw};
-pub use bsp_office_spec::hot_rows_keep_rules;
-pub use callers::{register_agent, register_airline};
+pub use bsp_desk_sales::{allot, give_up, register_agent, register_airline, withdraw_range};
 pub use closes::close;
 pub use content::{Content, contents_are_read};
 pub use issues::issue;
-pub use memory::give_up;
 pub use plan::{publish, set_day};
 pub use report::{report_of_agent, report_of_office};
 pub use shown::{agent_memos, airline_memos};
-pub use stock::{allot, withdraw_range};

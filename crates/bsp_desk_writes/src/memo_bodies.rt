@@ -4,8 +4,8 @@ ghost use Rattle.std.specs.Prelude.{◌≡◌, IfOk, OnOk, false};
 ghost use Rattle.bsp_book.specs.Calls.{FallsBack, Faults, Keeps, LeavesLast};
 ghost use Rattle.bsp_desk_writes.specs.Answered.{IsMalformed};
 
-use crate::memory::give_up;
 use bsp_book::{Book, BookFault};
+use bsp_desk_sales::give_up;
 use bsp_messages::{Answer, BodyFault, RequestRefusal};
 
 /// The answer to a body that was not read.

@@ -3,16 +3,15 @@
 ghost use Rattle.std.specs.Prelude.{◌≡◌, false};
 ghost use Rattle.bsp_calendar.specs.History.Request.{Publish, SetDay};
 ghost use Rattle.bsp_messages.specs.Bodies.{body_of, day_form};
-ghost use Rattle.bsp_desk_writes.specs.Serves.{EndsOnFault, ServesOffice};
+ghost use Rattle.bsp_desk_sales.specs.Serves.{EndsOnFault, ServesOffice};
 ghost use Rattle.bsp_office_spec.specs.Requests.{IsPlanOf, PlanRead};
 ghost use Rattle.bsp_office_spec.specs.Requests.OfficeRequest.{PublishPlan, SetBusinessDay};
 ghost use Rattle.bsp_office_spec.specs.Step.{outcome_answer};
 ghost use Rattle.bsp_office_spec.specs.Texts.{Says};
 
-use crate::bodies::unread;
-use crate::memory::give_up;
 use bsp_book::{Book, BookFault};
 use bsp_calendar::{PlanFault, read_plan};
+use bsp_desk_sales::{give_up, unread};
 use bsp_messages::{Answer, RequestRefusal, read_day};
 use bsp_rows::Change;
 use std::alloc::Global;

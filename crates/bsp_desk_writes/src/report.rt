@@ -4,23 +4,21 @@ ghost use Rattle.std.specs.Prelude.{◌≡◌, ◌≢◌, Err, IfOk, List, Ok, f
 ghost use Rattle.bsp_ret.specs.Reading.{no_memory};
 ghost use Rattle.bsp_rows.specs.Transaction.{Transaction};
 ghost use Rattle.bsp_rows.specs.Writing.{HaveContents};
-ghost use Rattle.bsp_rules.specs.declared.verdict.Reporter.{Reporter};
-ghost use Rattle.bsp_rules.specs.declared.verdict.Reporter.TheVariants.{Agent, Office};
+ghost use Rattle.bsp_rows.specs.Reporter.{Reporter};
+ghost use Rattle.bsp_rows.specs.Reporter.TheVariants.{Agent, Office};
 ghost use Rattle.bsp_desk_writes.specs.Contents.{IsFileIn};
-ghost use Rattle.bsp_desk_writes.specs.Serves.{EndsOnFault, ServesAgent, ServesOffice};
+ghost use Rattle.bsp_desk_sales.specs.Serves.{EndsOnFault, ServesAgent, ServesOffice};
 ghost use Rattle.bsp_office_spec.specs.Requests.{FileRead, IsFileOf};
 ghost use Rattle.bsp_office_spec.specs.Requests.AgentRequest.{AgentFile};
 ghost use Rattle.bsp_office_spec.specs.Requests.OfficeRequest.{OfficeFile};
 ghost use Rattle.bsp_desk_writes.specs.Reported.{ServesFile};
 
 use crate::content::Content;
-use crate::judging::judge_all;
-use crate::memory::give_up;
 use bsp_book::{Book, BookFault};
+use bsp_desk_sales::{Reporter, give_up, judge_all};
 use bsp_messages::Answer;
 use bsp_ret::{FaultCode, RetFault, RetFile, read_ret};
 use bsp_rows::AgentCode;
-use bsp_rules::Reporter;
 use std::alloc::Global;
 
 /// The verdicts on a file. Room for all of them is made first.

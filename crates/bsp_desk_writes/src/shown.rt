@@ -2,13 +2,13 @@
 
 ghost use Rattle.std.specs.Prelude.{◌≡◌, IfOk};
 ghost use Rattle.bsp_book.specs.Calls.{FallsBack, Faults, LeavesLast};
-ghost use Rattle.bsp_desk_writes.specs.Serves.{EndsOnFault, Serves, ServesAgent, ServesAirline};
+ghost use Rattle.bsp_desk_sales.specs.Serves.{EndsOnFault, Serves, ServesAgent, ServesAirline};
 ghost use Rattle.bsp_office_spec.specs.Requests.AgentRequest.{AskMemos};
 ghost use Rattle.bsp_office_spec.specs.Requests.AirlineRequest.{AskIssuedMemos};
 ghost use Rattle.bsp_desk_writes.specs.Answered.{listed};
 
-use crate::memory::give_up;
 use bsp_book::{Book, BookFault};
+use bsp_desk_sales::give_up;
 use bsp_memos::{Memo, MemoFields};
 use bsp_messages::Answer;
 use bsp_rows::{AgentCode, AirlineCode, Memos};

@@ -4,25 +4,23 @@ ghost use Rattle.std.specs.List.{AllPairs};
 ghost use Rattle.std.specs.List.Sorted.{IsPermutation};
 ghost use Rattle.bsp_rules.specs.declared.rows.Item.{Item as ItemRow};
 ghost use Rattle.bsp_memos.specs.declared.fields.MemoFields.{MemoFields as MemoRow};
-ghost use Rattle.bsp_hot.specs.Part.{HaveOnePart};
+ghost use Rattle.bsp_hot_documents.specs.Part.{HaveOnePart};
 ghost use Rattle.std.specs.Prelude.{◌≡◌, [], ℕ, List, All, Some, None, IfOk, MatchOption, map};
 ghost use Rattle.bsp_calendar.specs.Published.{closed_period};
 ghost use Rattle.bsp_hot_check.specs.Hot.{records_of};
-ghost use Rattle.bsp_hot.specs.Sorting.{entry_of, IsRow};
+ghost use Rattle.bsp_hot_documents.specs.Sorting.{entry_of, IsRow};
 ghost use Rattle.bsp_calendar.specs.declared.entries.Period.{Period as ClosedPeriod};
 ghost use Rattle.bsp_calendar.specs.declared.entries.Terms.{Terms as PublishedTerms};
-ghost use Rattle.bsp_hot.specs.Rows.{entries};
-ghost use Rattle.bsp_hot.specs.Files.{file_of, form_of, IsWritten, AnswersOver};
-ghost use Rattle.bsp_hot.specs.Sound.{AreApart, AreInBounds, KeepRules, IsHotFileOver};
+ghost use Rattle.bsp_hot_documents.specs.Rows.{entries};
+ghost use Rattle.bsp_hot_documents.specs.Files.{file_of, form_of, IsWritten, AnswersOver};
+ghost use Rattle.bsp_hot_documents.specs.Sound.{AreApart, AreInBounds, KeepRules, IsHotFileOver};
 ghost use Rattle.bsp_hot.specs.WrittenText.{IsTextOf, AreFactsOf};
 
-use crate::fault::HotFault;
-use crate::offices::FileFacts;
-use crate::output::{LINE, Output};
-use crate::rows::{Row, rows_in_order};
+use crate::offices::{FileFacts, push_offices};
 use bsp_calendar::{Currency, Period, Plan};
 use bsp_fields::{AirlineCode, PeriodCode};
 use bsp_hot_check::FileForm;
+use bsp_hot_documents::{HotFault, LINE, Output, Row, rows_in_order};
 use bsp_memos::Memo;
 use bsp_postings::Tally;
 use bsp_rules::Item;
@@ -70,7 +68,7 @@ fn write_file(mut out: Output, file: &FileFacts, rows: &[Row]) -> Result<Vec<u8>
 {
     out.push_file_header(file.airline, &file.period, &file.currency)?;
     out.push_period_header(&file.period)?;
-    let offices = out.push_offices(file, rows)?;
+    let offices = push_offices(&mut out, file, rows)?;
     out.push_period_totals(file.period.code, offices.count, offices.sums)?;
     out.push_file_totals(file.airline, offices.sums)?;
     Ok(out.text)

@@ -35,3 +35,5 @@ pub mod UnmarkedItems
 pub mod UnmarkedAgent
 pub mod UnmarkedInRuns
 pub mod UnmarkedAirline
+pub use Rattle.bsp_calendar.proofs.ListLemmas
+pub use Rattle.bsp_calendar.proofs.ListedLemmas

@@ -18,3 +18,7 @@ pub mod Writes
 pub mod MapTables
 pub mod SecondLemmas
 pub mod ReadBack
+pub mod SchemaLemmas
+pub mod Texts
+pub mod Ordered
+pub mod MakingLemmas

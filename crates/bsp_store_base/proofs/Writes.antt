@@ -14,7 +14,7 @@ use Rattle.sqlite.specs.declared.error.Error.{Error}
 use Rattle.sqlite.specs.State.{HasCleanDisk, Survives, CommitsBy, Executes}
 use Rattle.sqlite.specs.Held.{Held, state}
 use Rattle.bsp_store_base.specs.Calls.{Changes, GivesUp}
-use Rattle.bsp_store_schema.specs.Schema.{our_schema}
+use Rattle.bsp_store_base.specs.Schema.{our_schema}
 use Rattle.bsp_store_base.specs.Content.{Content}
 
 -- a column is what a parameter is

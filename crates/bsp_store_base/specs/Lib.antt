@@ -10,4 +10,6 @@ pub mod Content
 pub mod Calls
 pub mod Forms
 pub mod Shows
-pub use Rattle.bsp_store_schema.specs.Schema
+pub mod Schema
+pub mod Order
+pub mod Made

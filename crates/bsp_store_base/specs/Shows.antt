@@ -14,7 +14,7 @@ use Rattle.sqlite_resolve.specs.declared.error.CompileError.{CompileError}
 use Rattle.sqlite_schema.specs.declared.command.Command.TheVariants.{Select}
 use Rattle.sqlite_sql.specs.Program.{overlay}
 use Rattle.sqlite_sql.specs.Query.{IsAnswer, Query}
-use Rattle.bsp_store_schema.specs.Schema.{our_schema}
+use Rattle.bsp_store_base.specs.Schema.{our_schema}
 use Rattle.bsp_store_base.specs.Content.{Content, form, width_of}
 use Rattle.bsp_store_base.specs.Forms.{IsFormed}
 use Rattle.bsp_store_base.specs.Kept.{KeepsRows, Part, Reads, Spares, columns_of}

@@ -1,17 +1,32 @@
-//! What the tables of a book's store keep, what one statement makes of them, and the columns of a row read.
+//! The tables of a book's store: they are made, a store is tested for them, and what they keep. What one statement makes
+//! of them, and the columns of a row read.
+//!
+//! [`make_tables`] makes the fourteen tables in a store that [`is_bare`]. [`is_ours`] tests that a store has these tables
+//! and nothing else, column by column, so that a caller knows the schema that its statements are read by. [`reopen`]
+//! gives a connection back of which the order of the rows is known too.
 #![tactic(auto)]
 
 mod airlines;
 mod digits;
+mod indexes;
+mod made;
+mod openings;
+mod plain;
 mod reading;
+mod schema;
+mod tables;
 mod taxes;
 mod tickets;
 
 pub use airlines::{AirlineEntry, place_of};
 pub use digits::{agent_digits, airline_digits, number_digits, period_digits};
+pub use made::{is_bare, make_tables};
+pub use openings::{open_in_order, reopen};
 pub use reading::{
     agent_at, airline_at, amount_at, below_at, day_at, int_at, is_null, number_at, period_at,
     token_at,
 };
+pub use schema::is_ours;
+pub use tables::is_our_table;
 pub use taxes::ItemTax;
 pub use tickets::{TicketKey, second_related};

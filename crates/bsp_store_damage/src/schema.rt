@@ -3,8 +3,8 @@
 use crate::damage::Damage;
 use crate::end::End;
 use crate::tables::{TABLES, Table};
+use bsp_store_base::is_our_table;
 use bsp_store_open::OpenFault;
-use bsp_store_schema::is_our_table;
 use sqlite_items::Items;
 use sqlite_schema::schema::{Index, Schema, Table as StoredTable, View};
 use sqlite_value::value::Bytes;

@@ -18,7 +18,7 @@ use Rattle.bsp_rows.specs.Tally.{Tally}
 use Rattle.bsp_rows.specs.Days.{day_number}
 use Rattle.bsp_rows.specs.declared.keys.ItemKey.{ItemKey}
 use Rattle.bsp_rows.specs.declared.keys.TallyKey.{TallyKey}
-use Rattle.bsp_store_schema.specs.Schema.{item_tax_table, meta_table, tally_tax_table}
+use Rattle.bsp_store_base.specs.Schema.{item_tax_table, meta_table, tally_tax_table}
 use Rattle.bsp_store_base.specs.Columns.{Meta, agent_text, airline_text, count, flag, item_row, item_tax_row, meta_row, meta_rows, number_text, period_text, tally_row, tally_tax_row}
 use Rattle.bsp_store_base.specs.Kept.{KeepsTable, columns_of}
 use Rattle.bsp_store_base.proofs.Alone.{alone}

@@ -12,7 +12,7 @@ use Rattle.sqlite_catalog.proofs.LayoutLemmas.{laid_out}
 use Rattle.sqlite.specs.Held.{Held, state}
 use Rattle.sqlite.specs.State.{HasCleanDisk, IsLive, Opens}
 use Rattle.sqlite.specs.Steps.{IsFresh}
-use Rattle.bsp_store_schema.specs.Order.{IsInOrder}
+use Rattle.bsp_store_base.specs.Order.{IsInOrder}
 use Rattle.bsp_store_open.specs.Opening.{IsOrdered}
 use Rattle.bsp_store_migration.specs.Migrating.{AreAllInOrder, AreOrdered}
 

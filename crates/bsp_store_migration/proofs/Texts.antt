@@ -21,7 +21,7 @@ use Rattle.sqlite.specs.declared.error.Error.{Error}
 use Rattle.sqlite.specs.Held.{Held, state}
 use Rattle.sqlite.specs.Listing.{understood}
 use Rattle.sqlite.specs.State.{HasCleanDisk, KeepsCommit, State}
-use Rattle.bsp_store_schema.specs.Schema as schema
+use Rattle.bsp_store_base.specs.Schema as schema
 use Rattle.bsp_store_base.specs.Kept.{Spares, columns_of}
 use Rattle.bsp_store_migration.specs.Old.{old_schema, old_tables}
 use Rattle.bsp_store_migration.specs.Statements.{AreMade, At, Goes, HasSeconds, HasTaxes, IsAt, Keyed, untaxed_item, untaxed_tally, with_version}

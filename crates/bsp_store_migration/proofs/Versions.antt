@@ -19,8 +19,8 @@ use Rattle.bsp_rows.specs.Item.{Item}
 use Rattle.bsp_rows.specs.Tally.{Tally}
 use Rattle.bsp_rows.specs.Rows.{item_cmp}
 use Rattle.bsp_rows.specs.Tallies.{tally_cmp}
-use Rattle.bsp_store_schema.specs.Order.{IsInOrder, table_trees}
-use Rattle.bsp_store_schema.specs.Schema.{item_tax_table, meta_table, our_schema, tally_tax_table}
+use Rattle.bsp_store_base.specs.Order.{IsInOrder, table_trees}
+use Rattle.bsp_store_base.specs.Schema.{item_tax_table, meta_table, our_schema, tally_tax_table}
 use Rattle.bsp_store_base.specs.Columns.{item_tax_row, placed, tally_tax_row}
 use Rattle.bsp_store_base.specs.Content.{Content, form, width_of}
 use Rattle.bsp_store_base.specs.Kept.{KeepsTable, Part, Spares, columns_of}

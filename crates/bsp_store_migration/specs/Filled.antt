@@ -12,8 +12,8 @@ use Rattle.bsp_rows.specs.Item.{Item}
 use Rattle.bsp_rows.specs.Tally.{Tally}
 use Rattle.bsp_rows.specs.declared.keys.ItemKey.{ItemKey}
 use Rattle.bsp_rows.specs.declared.keys.TallyKey.{TallyKey}
-use Rattle.bsp_store_schema.specs.Order.{AreInOrder, IsInOrder}
-use Rattle.bsp_store_schema.specs.Schema.{meta_table, our_schema}
+use Rattle.bsp_store_base.specs.Order.{AreInOrder, IsInOrder}
+use Rattle.bsp_store_base.specs.Schema.{meta_table, our_schema}
 use Rattle.bsp_store_base.specs.Columns.{count}
 use Rattle.bsp_store_base.specs.Content.{Content, form, meta_part, width_of}
 use Rattle.bsp_store_base.specs.Kept.{Form, KeepsRows, Part, columns_of}

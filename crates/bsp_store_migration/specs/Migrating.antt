@@ -12,7 +12,7 @@ use Rattle.bsp_book.specs.Rows.{Rows}
 use Rattle.bsp_book.specs.Sound.{Sound}
 use Rattle.bsp_book.specs.Listed.{meaning as listed}
 use Rattle.bsp_book.specs.declared.list.ListBook.{ListBook}
-use Rattle.bsp_store_schema.specs.Order.{IsInOrder}
+use Rattle.bsp_store_base.specs.Order.{IsInOrder}
 use Rattle.bsp_store_load.specs.Schema.{our_schema}
 use Rattle.bsp_store_load.specs.Kept.{KeepsRows, Reads, columns_of}
 use Rattle.bsp_store_load.specs.Columns.{count, version as our_version}

@@ -3,7 +3,7 @@ use Rattle.std.specs.Prelude.{ℕ, ◌+◌, List, ◌++◌, codes, take}
 use Rattle.sqlite_schema.specs.declared.schema.Table.{Table}
 use Rattle.sqlite_schema.specs.declared.schema.Index.{Index}
 use Rattle.sqlite_schema.specs.declared.schema.Schema.{Schema}
-use Rattle.bsp_store_schema.specs.Schema.{key_index, our_indexes, our_tables, schema_of}
+use Rattle.bsp_store_base.specs.Schema.{key_index, our_indexes, our_tables, schema_of}
 use Rattle.bsp_store_migration.specs.declared.version.OldVersion.{OldVersion}
 use Rattle.bsp_store_migration.specs.declared.version.OldVersion.TheVariants.{First, Second}
 

@@ -12,7 +12,7 @@ use Rattle.sqlite_rules.specs.Cast.{cast_row}
 use Rattle.sqlite.specs.Effect.{IsDatabase}
 use Rattle.sqlite.specs.Held.{Held, state}
 use Rattle.sqlite.specs.State.{HasCleanDisk, State}
-use Rattle.bsp_store_schema.specs.Schema.{commission_tax_table, item_table, item_tax_table, meta_table, our_schema, second_related_table, tally_table, tally_tax_table}
+use Rattle.bsp_store_base.specs.Schema.{commission_tax_table, item_table, item_tax_table, meta_table, our_schema, second_related_table, tally_table, tally_tax_table}
 use Rattle.bsp_store_base.specs.Columns.{count, version}
 use Rattle.bsp_store_base.specs.Kept.{columns_of}
 use Rattle.bsp_store_migration.specs.Old.{old_schema, old_tables}

@@ -1,10 +1,10 @@
 //! The older versions of the tables, and which of them a schema is.
 
 ghost use Rattle.std.specs.Prelude.{◌≡◌, ◌↔◌, ◌+◌, ◌<◌, ◌≤◌, ◌++◌, codes, drop, length, map, pos, slice_get, take, IsTrue, MatchOption, Some};
-ghost use Rattle.bsp_store_schema.specs.Schema.{our_tables};
+ghost use Rattle.bsp_store_base.specs.Schema.{our_tables};
 ghost use Rattle.bsp_store_migration.specs.Old.{index_of, old_number, old_schema, table_count};
 
-use bsp_store_schema::is_our_table;
+use bsp_store_base::is_our_table;
 use sqlite_schema::schema::{Index, Schema, Table};
 
 /// A version of the tables before that of this program.

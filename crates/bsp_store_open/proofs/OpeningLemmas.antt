@@ -17,7 +17,7 @@ use Rattle.bsp_store_load.specs.MemoryRowsTables.{rows_of}
 use Rattle.bsp_store_load.specs.Tables.{Tables}
 use Rattle.bsp_book.specs.Listed.{Holds as ListHolds}
 use Rattle.bsp_book.specs.declared.list.ListBook.{ListBook}
-use Rattle.bsp_store_schema.specs.Order.{AreInOrder, IsInOrder}
+use Rattle.bsp_store_base.specs.Order.{AreInOrder, IsInOrder}
 use Rattle.bsp_store_load.specs.Schema.{our_schema}
 use Rattle.bsp_store_load.specs.Kept.{AreTreesOf, Keeps, KeepsRows, KeepsTable, Part, Reads, Spares, columns_of}
 use Rattle.bsp_store_load.specs.Columns.{Meta, count, meta_row, meta_rows, version}

@@ -14,7 +14,7 @@ use Rattle.bsp_book.specs.Rows.{Rows, no_rows}
 use Rattle.bsp_book.specs.Sound.{Sound}
 use Rattle.bsp_book.specs.Listed.{meaning as listed}
 use Rattle.bsp_book.specs.declared.list.ListBook.{ListBook}
-use Rattle.bsp_store_schema.specs.Order.{AreInOrder}
+use Rattle.bsp_store_base.specs.Order.{AreInOrder}
 use Rattle.bsp_store_load.specs.Schema.{our_schema}
 use Rattle.bsp_store_load.specs.Kept.{IsOutside, KeepsRows, Reads, HasContents, columns_of}
 use Rattle.bsp_store_load.specs.Columns.{count, version}

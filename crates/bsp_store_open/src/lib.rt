@@ -13,11 +13,11 @@ mod opening;
 mod reading;
 mod tables;
 
+pub use bsp_store_base::{is_bare, is_ours, open_in_order};
 pub use bsp_store_load::{
     formed_agent, formed_airline, formed_closed, formed_day, formed_item, formed_memo,
     formed_period, formed_plan, formed_range,
 };
-pub use bsp_store_schema::{is_bare, is_ours, open_in_order};
 pub use fault::OpenFault;
 pub use opening::{again, empty_list, expect_sound, kept_list};
 pub use reading::{plan_rows, refusal, tallies, tally_taxes};

@@ -12,8 +12,8 @@ ghost use Rattle.bsp_store_open.specs.Opening.{HasNoBook, IsAtRest, IsOrdered, I
 use crate::fault::OpenFault;
 use crate::tables::kept_tables;
 use bsp_book::ListBook;
+use bsp_store_base::reopen;
 use bsp_store_load::{Tables, has_nothing};
-use bsp_store_schema::reopen;
 use sqlite::{Alter, Connection, Error, ErrorCode};
 use std::alloc::Global;
 

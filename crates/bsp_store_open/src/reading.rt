@@ -10,11 +10,11 @@ ghost use Rattle.bsp_store_open.specs.Faults.{is_refusal, refusal_for};
 ghost use Rattle.bsp_store_open.specs.Opening.{ArePlanRows, Finds, HasNoBook, IsAskedVersion, IsOfVersion, IsRefusalOf, Reports};
 
 use crate::fault::{OpenFault, fault_of};
+use bsp_store_base::is_ours;
 use bsp_store_load::{
     PlanRows, VERSION, all_airlines, all_commission_taxes, all_meta, all_periods, all_rates,
     all_tallies, all_tally_taxes, all_terms, read_version,
 };
-use bsp_store_schema::is_ours;
 use sqlite::{Alter, Connection, Error as StoreError, Row};
 
 /// Refuses a store that has other tables than a book. A query says nothing of the tables after it on a disk that gave

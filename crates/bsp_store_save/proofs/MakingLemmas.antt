@@ -17,8 +17,8 @@ use Rattle.bsp_rows.specs.declared.keys.ItemKey.{ItemKey}
 use Rattle.bsp_rows.specs.declared.keys.TallyKey.{TallyKey}
 use Rattle.bsp_memory_rows.specs.Lookups.{has_rows}
 use Rattle.bsp_memory_rows.proofs.DerivedLemmas.{no_totals}
-use Rattle.bsp_store_schema.specs.Made.{HasNoRows}
-use Rattle.bsp_store_schema.specs.Schema.{our_schema}
+use Rattle.bsp_store_base.specs.Made.{HasNoRows}
+use Rattle.bsp_store_base.specs.Schema.{our_schema}
 use Rattle.bsp_store_base.specs.Airlines.{airline_entries, unplaced}
 use Rattle.bsp_store_base.specs.Seconds.{second_entry, seconds_of}
 use Rattle.bsp_store_base.proofs.SecondLemmas.{entries-seconds_of}

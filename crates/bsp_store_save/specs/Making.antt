@@ -2,7 +2,7 @@
 use Rattle.std.specs.Prelude.{◌≡◌}
 use Rattle.sqlite.specs.Effect.{Database, IsDatabase}
 use Rattle.bsp_rows.specs.Rows.{no_rows}
-use Rattle.bsp_store_schema.specs.Schema.{our_schema}
+use Rattle.bsp_store_base.specs.Schema.{our_schema}
 use Rattle.bsp_store_load.specs.Contents.{KeepsBook}
 
 -- the book's tables and nothing else, with the rows of an empty book

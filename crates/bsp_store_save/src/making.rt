@@ -4,13 +4,13 @@ ghost use Rattle.std.specs.Prelude.{◌≡◌, false, OnOk};
 ghost use Rattle.sqlite.specs.Held.{state};
 ghost use Rattle.sqlite.specs.State.{HasCleanDisk, Survives};
 ghost use Rattle.bsp_rows.specs.Rows.{no_rows};
-ghost use Rattle.bsp_store_schema.specs.Schema.{no_schema};
+ghost use Rattle.bsp_store_base.specs.Schema.{no_schema};
 ghost use Rattle.bsp_store_load.specs.Formed.{IsBook};
 ghost use Rattle.bsp_store_save.specs.Making.{IsNewBook};
 
 use bsp_rows::Day;
+use bsp_store_base::make_tables;
 use bsp_store_plan::add_first_meta;
-use bsp_store_schema::make_tables;
 use sqlite::{Alter, Connection, Error, Transaction};
 
 /// Makes the tables and the row of `meta` in a transaction, which stays open.

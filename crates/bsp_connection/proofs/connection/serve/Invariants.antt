@@ -1,6 +1,6 @@
 use Rattle.std.proofs.Common.{◌≡◌, ◌≢◌, true, ℕ, ◌≤◌, List}
 use Rattle.std.specs.Io.KnownBytes.{Appends, Consumes}
-use Rattle.bsp_connection.specs.Exchanges.{Exchange}
+use Rattle.bsp_peer.specs.Exchanges.{Exchange}
 use Rattle.bsp_connection.proofs.ServeLemmas.{Runs}
 use Rattle.bsp_connection.proofs.connection.serve.Given as goal
 

@@ -1,6 +1,6 @@
 use Rattle.std.proofs.Common.{subst, true}
 use Rattle.bsp_heads.specs.Responses.{ReplyText, response}
-use Rattle.bsp_connection.specs.Exchanges.{IsWritten}
+use Rattle.bsp_peer.specs.Written.{IsWritten}
 use Rattle.bsp_connection.proofs.responding.refuse.Goals as goal
 
 pub returns-clause-responded : goal.returns-clause-responded

@@ -4,7 +4,7 @@ use Rattle.std.proofs.lemmas.Bool.{lt-leb}
 use Rattle.std.proofs.lemmas.List.{length-take-le}
 use Rattle.bsp_heads.proofs.ScanLemmas.{head_len-le}
 use Rattle.bsp_heads.specs.Head.{AreParts, Refuses}
-use Rattle.bsp_connection.specs.Exchanges.{interim}
+use Rattle.bsp_peer.specs.Exchanges.{interim}
 use Rattle.bsp_connection.specs.Reads.{most_empty_of_turn}
 use Rattle.bsp_connection.proofs.EndLemmas.{no_read, responded_end, responded_last}
 use Rattle.bsp_connection.proofs.TurnLemmas.{after_front, refused_head, unwritten}

@@ -3,8 +3,9 @@ use Rattle.std.specs.Option.{option_map}
 use Rattle.std.proofs.lemmas.List.{length-take-le}
 use Rattle.httparse.specs.Spans.{span_bytes}
 use Rattle.bsp_heads.proofs.ScanLemmas.{head_len-le}
-use Rattle.bsp_connection.specs.Arrivals.{IsAsked}
-use Rattle.bsp_connection.specs.Reads.{most_empty_of_short, most_empty_of_turn}
+use Rattle.bsp_peer.specs.Arrivals.{IsAsked}
+use Rattle.bsp_peer.specs.Reads.{most_empty_of_short}
+use Rattle.bsp_connection.specs.Reads.{most_empty_of_turn}
 use Rattle.bsp_connection.proofs.EndLemmas.{at_most, none_more, not_last, responded_end, responded_last, stopped_end, stopped_last}
 use Rattle.bsp_connection.proofs.TurnLemmas.{asked, replied, stopped}
 use Rattle.bsp_connection.proofs.turn.answer_message.Goals as goal

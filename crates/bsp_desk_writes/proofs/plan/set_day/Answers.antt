@@ -1,7 +1,7 @@
 use Rattle.std.proofs.Common.{Option, Some, sym, subst}
 use Rattle.bsp_rows.specs.CivilDay.{CivilDay}
 use Rattle.bsp_rows.specs.Rows.{Rows}
-use Rattle.bsp_desk_writes.specs.After.{office_after}
+use Rattle.bsp_desk_sales.specs.After.{office_after}
 use Rattle.bsp_office_spec.specs.Requests.OfficeRequest.{SetBusinessDay}
 use Rattle.bsp_office_spec.specs.Step.{office_answer}
 use Rattle.bsp_office_spec.specs.Texts.{Says}

@@ -1,7 +1,7 @@
 -- A store that is not broken is open, and the rollback left what was committed.
 use Rattle.std.proofs.Common.{Ok, inr, sym, ◌∙◌, arith}
 use Rattle.sqlite_rules.proofs.ViewLemmas.{still_quiet}
-use Rattle.bsp_store_schema.proofs.Ordered.{reopened_trees}
+use Rattle.bsp_store_base.proofs.Ordered.{reopened_trees}
 use Rattle.bsp_store_open.proofs.OpeningLemmas.{still_clean}
 use Rattle.bsp_store_migration.proofs.OrderLemmas.{ours_in_order}
 use Rattle.bsp_store_migration.proofs.openings.again_ordered.Goals as goal

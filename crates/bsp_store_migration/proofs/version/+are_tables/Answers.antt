@@ -1,5 +1,5 @@
 -- The first table is at its place.
-use Rattle.bsp_store_schema.specs.Schema.{our_tables}
+use Rattle.bsp_store_base.specs.Schema.{our_tables}
 use Rattle.bsp_store_migration.proofs.Schemas.{from_place}
 use Rattle.bsp_store_migration.proofs.version.+are_tables.Goals as goal
 

@@ -1,0 +1,134 @@
+-- The text of the tables makes them in a store that has nothing, one statement after the other.
+use Rattle.std.proofs.Common.{◌≡◌, ℕ, zero, suc, List, [], ◌∷◌, ◌++◌, append-nil, drop, fold, length, take, inl, inr, false, true, None, Ok, Err, Result, OnOk, Some, refl, sym, ap, subst, subst₂, ◌∙◌}
+use Rattle.std.specs.Prelude.{nat_lt}
+use Rattle.std.specs.List.{AllByRecursion}
+use Rattle.std.proofs.lemmas.Bool.{cases_Bool}
+use Rattle.sqlite_value.specs.Order.{Row}
+use Rattle.sqlite_trees.specs.Tree.{Trees}
+use Rattle.sqlite_trees.specs.declared.store.Store.{Ghosts}
+use Rattle.sqlite_schema.specs.declared.schema.Schema.{Schema}
+use Rattle.sqlite_schema.specs.declared.schema.Table.{Table}
+use Rattle.sqlite_schema.specs.declared.command.Command.{Command}
+use Rattle.sqlite_schema.specs.declared.command.Command.TheVariants.{CreateTable}
+use Rattle.sqlite_resolve.specs.Compile.{table_defined_by}
+use Rattle.sqlite_catalog.specs.Change.{KeepsRows, created, next_tree}
+use Rattle.sqlite_tied.specs.Compute.{everything}
+use Rattle.sqlite.specs.Batch.{ExecutesAllInside, RunInTurn, Step, first_len}
+use Rattle.sqlite.specs.Clock.{timed}
+use Rattle.sqlite.specs.declared.error.Error.{Error}
+use Rattle.sqlite.specs.Does.{MakesSequence, MakesTable, Tally, lacks_sequence, no_rows}
+use Rattle.sqlite.specs.Effect.{Database}
+use Rattle.sqlite.specs.Held.{Held, state}
+use Rattle.sqlite.specs.Listing.{understood}
+use Rattle.sqlite.specs.Rows.{Gives, Then}
+use Rattle.sqlite.specs.State.{ExecutesIn, HasCleanDisk, Runs, State, Writes, shows_rows, text_of}
+use Rattle.sqlite.proofs.Callers.{IsPlain, command_of, statement_of, through}
+use Rattle.bsp_store_base.specs.Made.{HasNoRows}
+use Rattle.bsp_store_base.specs.Schema.{no_schema, our_schema, our_tables}
+use Rattle.bsp_store_base.specs.declared.made.TheConstants.{TABLES}
+use Rattle.bsp_store_base.proofs.SchemaLemmas.{made_is_our_schema}
+
+-- ---- one statement of a text
+
+module _ (sql : List ℕ) (params : Row) (old new : State) (schema : Schema) (has : old.now.schema ≡ schema) (command : Command) (is : command_of (understood schema sql) ≡ command)
+    (plain : IsPlain (understood schema sql)) where
+  -- a statement of a text means what it means by itself
+  ran_as : (count : ℕ) → ExecutesIn true sql params old new (Ok count) → Runs old new None command (statement_of sql (understood schema sql)) params count
+  unfolding ExecutesIn
+  ran_as count h =
+      let known = sym h.1.is ∙ ap (λ s. understood s sql) has in
+      let bare = subst IsPlain (sym known) plain in
+      let ran : Runs old new h.0.returning h.0.command (text_of sql h.0) (timed params h.0.formats h.1.now) count = elim (cases_Bool (shows_rows true h.0)) [
+        | inl shows ↦ absurd (let e = (rw shows at h.2).0 in cc)
+        | inr runs ↦ rw runs at h.2
+      ] in
+      subst₂ (λ k t. Runs old new None k t params count) (ap command_of known ∙ is) (ap (statement_of sql) known) (rw (bare.0, bare.1, append-nil params) at ran)
+
+still_empty : (old new : Trees) (tables : List Table) → KeepsRows tables old new → AllByRecursion (λ (t : Table). old t.tree ≡ []) tables → AllByRecursion (λ (t : Table). new t.tree ≡ []) tables
+still_empty old new [] keeps empty = tt
+still_empty old new (t ∷ ts) keeps empty = (keeps.0 ∙ empty.0, still_empty old new ts keeps.1 empty.1)
+
+and_last : (P : Table → Type 0) (ts : List Table) (t : Table) → AllByRecursion P ts → P t → AllByRecursion P (ts ++ t ∷ [])
+and_last P [] t all last = (last, tt)
+and_last P (x ∷ ts) t all last = (all.0, and_last P ts t all.1 last)
+
+same_value : {B E : Type 0} {a b : B} → ◌≡◌ {A = Result B E} (Ok a) (Ok b) → a ≡ b
+same_value e = cc
+
+-- CREATE TABLE adds its table, which has no row, and leaves the others without rows
+creates : (schema : Schema) (sql : List ℕ) (table : Table) → command_of (understood schema sql) ≡ CreateTable → IsPlain (understood schema sql)
+    → table_defined_by (statement_of sql (understood schema sql)) ≡ Ok table → lacks_sequence (created schema table) ≡ false
+    → (old new : State) (count : ℕ) → ExecutesIn true sql [] old new (Ok count) → HasNoRows schema old.now → HasNoRows (created schema table) new.now
+creates schema sql table is plain defined uncounted old new count h has =
+    let text = statement_of sql (understood schema sql) in
+    let w : Writes old new None CreateTable text [] count = ran_as sql [] old new schema has.schema CreateTable is plain count h in
+    let all = through (Then (MakesTable text old.now) MakesSequence) (λ after. Gives (no_rows false, after)) _ w.changed in
+    let first = through (MakesTable text old.now) MakesSequence _ all.1 in
+    let made = first.1 in
+    let both : Ok made.table ≡ Ok table = sym made.defined ∙ defined in
+    let same : made.table ≡ table = cc in
+    let after : first.0.schema ≡ created schema table = made.is ∙ ap (λ s. created s made.table) has.schema ∙ ap (created schema) same in
+    let counted : lacks_sequence first.0.schema ≡ false = ap lacks_sequence after ∙ uncounted in
+    let now : new.now ≡ first.0 = ap (λ (p : Tally × Database). p.1) (same_value all.2) ∙ same_value (rw counted at first.2) in
+    let keeps : KeepsRows schema.tables old.now.trees first.0.trees = subst (λ (s : Schema). KeepsRows s.tables old.now.trees first.0.trees) has.schema made.others in
+    let last : first.0.trees (next_tree schema) ≡ [] = subst (λ s. first.0.trees (next_tree s) ≡ []) has.schema made.empty in
+    subst (HasNoRows (created schema table)) (sym now) (record {
+      schema = after;
+      empty = and_last (λ (t : Table). first.0.trees t.tree ≡ []) schema.tables (record table { tree = next_tree schema }) (still_empty old.now.trees first.0.trees schema.tables keeps has.empty) last;
+    })
+
+-- ---- the statements one after the other
+
+-- the first statement of a text makes the table
+record Makes (schema : Schema) (text : List ℕ) (table : Table) : Type 0 where
+  some : nat_lt 0 (length text) ≡ true
+  is : command_of (understood schema (take (first_len text) text)) ≡ CreateTable
+  plain : IsPlain (understood schema (take (first_len text) text))
+  defined : table_defined_by (statement_of (take (first_len text) text) (understood schema (take (first_len text) text))) ≡ Ok table
+  uncounted : lacks_sequence (created schema table) ≡ false
+
+-- each statement makes one of the tables, which gets its tree by it
+abbrev MakeAll : Schema → List ℕ → List Table → Type 0
+MakeAll schema text [] = text ≡ []
+MakeAll schema text (t ∷ ts) = Makes schema text (record t { tree = 0 }) × MakeAll (created schema (record t { tree = 0 })) (drop (first_len text) text) ts
+
+module _ {S : Type 0} (g : Ghosts S) (held : ℕ) where
+  -- the first statement of a text has run, and then the others
+  record Turned (text : List ℕ) (old new : Held S) (done : Unit {0}) : Type 0 where
+    mid : Held S
+    count : ℕ
+    most : ℕ
+    first : Step g (take (first_len text) text) old mid (Ok count)
+    rest : RunInTurn g (Some held) most (drop (first_len text) text) mid new (Ok done)
+
+  turned : (most : ℕ) (text : List ℕ) → nat_lt 0 (length text) ≡ true → (old new : Held S) (done : Unit {0}) → RunInTurn g (Some held) most text old new (Ok done) → Turned text old new done
+  turned most [] some old new done ran = absurd (cc some)
+  turned zero (b ∷ more) some old new done ran = absurd ran
+  turned (suc most) (b ∷ more) some old new done (inl failed) = absurd (let no = failed.1 in cc)
+  turned (suc most) (b ∷ more) some old new done (inr went) = record { mid = went.0; count = went.1; most = most; first = went.2; rest = went.3 }
+
+  ended : (most : ℕ) (text : List ℕ) → text ≡ [] → (old new : Held S) (done : Unit {0}) → RunInTurn g (Some held) most text old new (Ok done) → new ≡ old
+  ended most [] none old new done ran = ran.1
+  ended most (b ∷ more) none old new done ran = absurd (cc none)
+
+  all_made : (ts : List Table) (schema : Schema) (text : List ℕ) → MakeAll schema text ts → (most : ℕ) (old new : Held S) (done : Unit {0}) → RunInTurn g (Some held) most text old new (Ok done)
+      → HasNoRows schema (state g old).now → HasNoRows (fold (λ made t. created made (record t { tree = 0 })) schema ts) (state g new).now
+  all_made [] schema text none most old new done ran has = subst (λ h. HasNoRows schema (state g h).now) (sym (ended most text none old new done ran)) has
+  all_made (t ∷ ts) schema text make most old new done ran has =
+      let one = make.0 in
+      let it = turned most text one.some old new done ran in
+      all_made ts (created schema (record t { tree = 0 })) (drop (first_len text) text) make.1 it.most it.mid new done it.rest
+      (creates schema (take (first_len text) text) (record t { tree = 0 }) one.is one.plain one.defined one.uncounted (state g old) (state g it.mid) it.count it.first.runs has)
+
+-- ---- the text of the tables
+
+tables_make : MakeAll no_schema TABLES.now our_tables
+unfolding understood everything
+tables_make = (record { some = refl; is = refl; plain = (refl, refl); defined = refl; uncounted = refl }, (record { some = refl; is = refl; plain = (refl, refl); defined = refl; uncounted = refl }, (record { some = refl; is = refl; plain = (refl, refl); defined = refl; uncounted = refl }, (record { some = refl; is = refl; plain = (refl, refl); defined = refl; uncounted = refl }, (record { some = refl; is = refl; plain = (refl, refl); defined = refl; uncounted = refl }, (record { some = refl; is = refl; plain = (refl, refl); defined = refl; uncounted = refl }, (record { some = refl; is = refl; plain = (refl, refl); defined = refl; uncounted = refl }, (record { some = refl; is = refl; plain = (refl, refl); defined = refl; uncounted = refl }, (record { some = refl; is = refl; plain = (refl, refl); defined = refl; uncounted = refl }, (record { some = refl; is = refl; plain = (refl, refl); defined = refl; uncounted = refl }, (record { some = refl; is = refl; plain = (refl, refl); defined = refl; uncounted = refl }, (record { some = refl; is = refl; plain = (refl, refl); defined = refl; uncounted = refl }, (record { some = refl; is = refl; plain = (refl, refl); defined = refl; uncounted = refl }, (record { some = refl; is = refl; plain = (refl, refl); defined = refl; uncounted = refl }, refl))))))))))))))
+
+pub tables_made : {S : Type 0} (g : Ghosts S) (old new : Held S) (r : Result (Unit {0}) Error) → (HasCleanDisk (state g new) → ExecutesAllInside g 0 TABLES.now old new r)
+    → OnOk r (HasCleanDisk (state g new) → (state g old).now.schema ≡ no_schema → HasNoRows our_schema (state g new).now)
+unfolding ExecutesAllInside
+tables_made g old new (Err e) ran = tt
+tables_made g old new (Ok done) ran = λ clean bare.
+    subst (λ s. HasNoRows s (state g new).now) made_is_our_schema (all_made g 0 our_tables no_schema TABLES.now tables_make (length TABLES.now) old new done (ran clean) (record { schema = bare; empty = tt }))

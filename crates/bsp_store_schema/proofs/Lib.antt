@@ -1,4 +1,0 @@
-pub mod SchemaLemmas
-pub mod Texts
-pub mod Ordered
-pub mod MakingLemmas

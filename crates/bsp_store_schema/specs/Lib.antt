@@ -1,3 +1,0 @@
-pub mod Schema
-pub mod Order
-pub mod Made
