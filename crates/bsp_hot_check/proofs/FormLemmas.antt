@@ -1,6 +1,7 @@
 -- The form of a file as far as its records stand. BFH01 is the same in each form, and the form stays as it is behind it.
 use Rattle.std.proofs.Common.{◌≡◌, ℕ, suc, ◌+◌, Bool, true, false, List, [], ◌∷◌, ◌++◌, length, Option, Some, ◌⊎◌, refl, sym, ap, subst, ◌∙◌, arith, inl, inr, length-append}
 use Rattle.std.specs.Str.{bytes_eq}
+use Rattle.std.proofs.lemmas.Option.{none-some}
 use Rattle.bsp_records.specs.Columns.{columns, is_wide}
 use Rattle.bsp_records.specs.Fields.{spells}
 use Rattle.bsp_hot_records.specs.declared.form.FileForm.{FileForm}
@@ -61,7 +62,7 @@ kept test at x next e same = ap (λ (y : Standing). y.heading) (sym (allowed_is 
 
 kept_by_part : (at next : Standing) (place : Place) (heading : Option JudgedHeading) (y : PartOf) → part_step at place heading y ≡ Some next → next.heading ≡ at.heading
 kept_by_part at next (InDocument x) (Some h) y e = kept _ at _ next e refl
-kept_by_part at next _ _ y e = absurd cc
+kept_by_part at next _ _ y e = absurd (none-some next e)
 
 heading_kept : (at next : Standing) (r : JudgedRecord) → is_at Start at.place ≡ false → step at r ≡ Some next → next.heading ≡ at.heading
 unfolding step

@@ -1,7 +1,7 @@
 -- An item as far as its records stand.
 use Rattle.std.proofs.Common.{◌≡◌, ◌<◌, ◌==◌, Option, ℕ, ℤ, Bool, true, false, not, List, [], ◌∷◌, ◌++◌, Some, None, refl, sym, ap, append_assoc, eqb-true}
 use Rattle.std.specs.Prelude.{nat_lt}
-use Rattle.std.proofs.lemmas.Bool.{eq-eqb, and_from, and_parts, lt-ltb, ltb-true}
+use Rattle.std.proofs.lemmas.Bool.{eq-eqb, and_from, and_parts, lt-ltb, ltb-true, false≢true}
 use Rattle.bsp_hot_records.specs.declared.code.DocumentCode.{DocumentCode}
 use Rattle.bsp_hot_records.specs.declared.code.DocumentCode.TheVariants.{Tktt, Rfnd, Canx, Adma, Acma}
 use Rattle.bsp_hot_records.specs.declared.form.FileForm.{FileForm}
@@ -268,7 +268,7 @@ next_part form airline (ticket_charged a c) (related r) h = (ticket_related a c 
 next_part form airline (ticket_related a c (one r)) (related s) h =
     let parts = and_parts (nat_lt (number_in r.number) (number_in s.number)) (s.airline == airline) h in
     (ticket_related a c (two r s), next_ticket_second form airline a c r s (eqb-true s.airline airline parts.1) (ltb-true (number_in r.number) (number_in s.number) parts.0))
-next_part form airline (ticket_related a c (two r s)) (related x) h = absurd cc
+next_part form airline (ticket_related a c (two r s)) (related x) h = absurd (false≢true h)
 next_part form airline (ticket_charged a c) (cash paid) h = (whole (sale a c (cash_only paid)), next_sale_cash form airline a c paid)
 next_part form airline (ticket_charged a c) (credit card) h = (whole (sale a c (credit_only card)), next_sale_credit form airline a c card)
 next_part form airline (ticket_related a c r) (cash paid) h = (ticket_paid a c r (cash_only paid), next_paid_cash form airline a c r paid)
@@ -288,15 +288,15 @@ next_part form airline credited (amounts a) h = (credited_amounts a, next_credit
 next_part form airline (credited_amounts a) (cash paid) h = (whole (credit_memo a paid), next_credited_cash form airline a paid)
 next_part form airline (whole (sale a c (cash_only paid))) (credit card) h = (whole (sale a c (cash_and_credit paid card)), next_sale_both form airline a c paid card)
 next_part form airline (whole (refund a c r (cash_only paid))) (credit card) h = (whole (refund a c r (cash_and_credit paid card)), next_refund_both form airline a c r paid card)
-next_part form airline (whole (sale a c (credit_only card))) (amounts b) h = absurd cc
-next_part form airline (whole (sale a c (cash_and_credit paid card))) (amounts b) h = absurd cc
-next_part form airline (whole (exchanged a c r forms ex)) (amounts b) h = absurd cc
-next_part form airline (whole (refund a c r (credit_only card))) (amounts b) h = absurd cc
-next_part form airline (whole (refund a c r (cash_and_credit paid card))) (amounts b) h = absurd cc
-next_part form airline (whole cancellation) (amounts b) h = absurd cc
-next_part form airline (whole (debit_memo a paid)) (amounts b) h = absurd cc
-next_part form airline (whole (credit_memo a paid)) (amounts b) h = absurd cc
-next_part form airline _ _ h = absurd cc
+next_part form airline (whole (sale a c (credit_only card))) (amounts b) h = absurd (false≢true h)
+next_part form airline (whole (sale a c (cash_and_credit paid card))) (amounts b) h = absurd (false≢true h)
+next_part form airline (whole (exchanged a c r forms ex)) (amounts b) h = absurd (false≢true h)
+next_part form airline (whole (refund a c r (credit_only card))) (amounts b) h = absurd (false≢true h)
+next_part form airline (whole (refund a c r (cash_and_credit paid card))) (amounts b) h = absurd (false≢true h)
+next_part form airline (whole cancellation) (amounts b) h = absurd (false≢true h)
+next_part form airline (whole (debit_memo a paid)) (amounts b) h = absurd (false≢true h)
+next_part form airline (whole (credit_memo a paid)) (amounts b) h = absurd (false≢true h)
+next_part form airline _ _ h = absurd (false≢true h)
 
 -- ---- whole items
 
@@ -331,10 +331,10 @@ is_whole (credit_memo a paid) = refl
 
 pub whole_body : (g : PartialItem) → is_complete_progress (progress_of g) ≡ true → (body : Body) × (g ≡ whole body)
 whole_body (whole body) h = (body, refl)
-whole_body (ticket_paid a c r (cash_only paid)) h = absurd cc
-whole_body (ticket_paid a c r (credit_only card)) h = absurd cc
-whole_body (ticket_paid a c r (cash_and_credit paid card)) h = absurd cc
-whole_body _ h = absurd cc
+whole_body (ticket_paid a c r (cash_only paid)) h = absurd (false≢true h)
+whole_body (ticket_paid a c r (credit_only card)) h = absurd (false≢true h)
+whole_body (ticket_paid a c r (cash_and_credit paid card)) h = absurd (false≢true h)
+whole_body _ h = absurd (false≢true h)
 
 pub first_code : (c : DocumentCode) → code_of (first c) ≡ c
 first_code Tktt = refl

@@ -2,7 +2,8 @@
 use Rattle.std.proofs.Common.{◌≡◌, ℕ, ◌+◌, ℤ, Bool, true, false, List, [], ◌∷◌, ◌++◌, length, Option, Some, None, refl, sym, ap, subst, ◌∙◌, eqb-true}
 use Rattle.std.specs.List.{find}
 use Rattle.std.specs.Option.{is_none}
-use Rattle.std.proofs.lemmas.Bool.{and_parts}
+use Rattle.std.proofs.lemmas.Bool.{and_parts, false≢true}
+use Rattle.std.proofs.lemmas.Option.{none-some}
 use Rattle.std.proofs.lemmas.Bool.Decides.{Decides-int_eq}
 use Rattle.std.proofs.lemmas.Slice.Eq.{bytes_eq-Decides}
 use Rattle.bsp_hot_records.specs.declared.code.DocumentCode.{DocumentCode}
@@ -58,7 +59,7 @@ same_code Rfnd Rfnd h = refl
 same_code Canx Canx h = refl
 same_code Adma Adma h = refl
 same_code Acma Acma h = refl
-same_code _ _ h = absurd cc
+same_code _ _ h = absurd (false≢true h)
 
 next_is : (o : Option DocumentCode) (c : DocumentCode) → is_next o c ≡ true → o ≡ Some c
 next_is None c h = absurd cc
@@ -221,5 +222,5 @@ taken (in_item f agent items d g) (code_totals agent2 c t) at sound e = code_tak
 taken (totalled f agent items done before) (code_totals agent2 c t) at sound e = code_taken_next f agent items done before agent2 c t at sound e
 taken (totalled f agent items done before) (office_totals agent2 t) at sound e = office_totals_taken f agent items done before agent2 t at sound e
 taken (closed f) (file_totals airline records t) at sound e = file_totals_taken f airline records t at sound e
-taken (ended f) (file_header h) at sound e = absurd cc
-taken _ _ at sound e = absurd cc
+taken (ended f) (file_header h) at sound e = absurd (none-some at e)
+taken _ _ at sound e = absurd (none-some at e)
