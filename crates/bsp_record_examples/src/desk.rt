@@ -33,18 +33,20 @@ fn requests_of<'t>(
     Ok(requests)
 }
 
-/// Asks requests of a desk in one run.
-fn ask(desk: &mut Desk<ListBook>, asked: &[Request<'_>]) -> Result<Vec<Reply>, Fault> {
-    desk.run(asked).map_err(|_| Fault::Memory)
+/// A desk over an empty book.
+fn new_desk(alloc: Global) -> Option<Desk<ListBook>> {
+    let Some(office) = Token::read(OFFICE) else {
+        return None;
+    };
+    Desk::open(alloc, ListBook::new(alloc), office).ok()
 }
 
-/// The replies of a desk over an empty book.
-fn replies_to(alloc: Global, asked: &[Request<'_>]) -> Result<Vec<Reply>, Fault> {
-    let office = Token::read(OFFICE).ok_or(Fault::Field)?;
-    match Desk::open(alloc, ListBook::new(alloc), office) {
-        Ok(mut desk) => ask(&mut desk, asked),
-        Err(_) => Err(Fault::Memory),
-    }
+/// The replies of a desk over an empty book to requests in one run.
+fn replies_to(alloc: Global, asked: &[Request<'_>]) -> Option<Vec<Reply>> {
+    let Some(mut desk) = new_desk(alloc) else {
+        return None;
+    };
+    desk.run(asked).ok()
 }
 
 /// The routes of requests.
@@ -58,11 +60,9 @@ fn show_reply(reply: &Reply, out: &mut Output) {
     out.characters(reply.body.as_bytes());
 }
 
-/// Asks requests in a run.
-pub fn run(alloc: Global, texts: &str, out: &mut Output) -> Answered {
-    let routes = routes(alloc)?;
-    let asked = requests_of(alloc, &routes, texts)?;
-    for (at, reply) in replies_to(alloc, &asked)?.iter().enumerate() {
+/// Appends replies, with `; ` between them.
+fn show_each(replies: &[Reply], out: &mut Output) -> Answered {
+    for (at, reply) in replies.iter().enumerate() {
         out.push(if at > 0 { "; " } else { "" });
         show_reply(reply, out);
     }
@@ -87,11 +87,54 @@ fn show_alike(replies: &[Reply], out: &mut Output) -> Answered {
     Ok(())
 }
 
+/// How the replies of a run are shown.
+#[derive(Clone, Copy)]
+enum Shown {
+    /// Each of them.
+    Each,
+    /// Their number and the first, where all are the same.
+    Alike,
+}
+
+/// Appends what a desk over an empty book replies to requests in one run.
+fn ask(alloc: Global, asked: &[Request<'_>], shown: Shown, out: &mut Output) -> Answered {
+    let Some(replies) = replies_to(alloc, asked) else {
+        return Err(Fault::Memory);
+    };
+    match shown {
+        Shown::Each => show_each(&replies, out),
+        Shown::Alike => show_alike(&replies, out),
+    }
+}
+
+/// Asks requests in one run; `; ` is between them.
+fn ask_each(alloc: Global, routes: &Routes, texts: &str, out: &mut Output) -> Answered {
+    let asked = requests_of(alloc, routes, texts)?;
+    ask(alloc, &asked, Shown::Each, out)
+}
+
+/// Asks a request so many times in one run.
+fn ask_again(
+    alloc: Global,
+    routes: &Routes,
+    count: usize,
+    text: &str,
+    out: &mut Output,
+) -> Answered {
+    let asked = vec![in alloc; request_of(routes, text); count]?;
+    ask(alloc, &asked, Shown::Alike, out)
+}
+
+/// Asks requests in a run.
+pub fn run(alloc: Global, texts: &str, out: &mut Output) -> Answered {
+    let routes = routes(alloc)?;
+    ask_each(alloc, &routes, texts, out)
+}
+
 /// Asks one request so many times in one run, and appends the first reply, where all are the same.
 pub fn run_many(alloc: Global, text: &str, out: &mut Output) -> Answered {
     let (count, text) = first_word(text);
     let count = number(count)?;
     let routes = routes(alloc)?;
-    let asked = vec![in alloc; request_of(&routes, text); count]?;
-    show_alike(&replies_to(alloc, &asked)?, out)
+    ask_again(alloc, &routes, count, text, out)
 }

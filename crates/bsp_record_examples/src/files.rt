@@ -7,7 +7,7 @@ use crate::output::{Output, say};
 use crate::page::Page;
 use crate::reader::calls;
 use crate::records::{show_code, show_first, show_fit, show_record};
-use crate::reports::{show_hot_file, show_settlement, show_statement};
+use crate::reports::show_report;
 use crate::ret::{Way, show_bytes, show_ranges, show_same_pieces, show_whole, write};
 use crate::texts::{line_of, text_of};
 use crate::transactions::{Question, show_paid, show_transaction};
@@ -75,9 +75,7 @@ fn call_headed(alloc: Global, word: &str, head: &str, text: &[u8], out: &mut Out
         "group-with-exchange" => {
             show_transaction(alloc, Question::IsGroupWith(amount(head)?), text, out)
         }
-        "statement" => show_statement(alloc, head, text, out),
-        "settlement" => show_settlement(alloc, head, text, out),
-        "hot-file" => show_hot_file(alloc, head, text, out),
+        "statement" | "settlement" | "hot-file" => show_report(alloc, word, head, text, out),
         _ => call_line(word, head, line_of(text)?, out),
     }
 }
@@ -89,6 +87,39 @@ fn answer_headed(page: &Page<'_>, word: &str, rest: &str, out: &mut Output) -> A
     call_headed(page.alloc(), word, head, &text, out)
 }
 
+/// The words of calls on a text that have a word before it.
+const HEADED: [&str; 10] = [
+    "fit",
+    "code",
+    "hot-record",
+    "hot-reason",
+    "hot-reason-2",
+    "hot-explain",
+    "group-with-exchange",
+    "statement",
+    "settlement",
+    "hot-file",
+];
+
+/// Whether the call of a word has a word before its text.
+fn is_headed(word: &str) -> bool {
+    for headed in HEADED {
+        if headed == word {
+            return true;
+        }
+    }
+    false
+}
+
+/// Makes the call of a word on the text that parts make.
+fn answer_parts(page: &Page<'_>, word: &str, parts: &str, out: &mut Output) -> Answered {
+    if is_headed(word) {
+        return answer_headed(page, word, parts, out);
+    }
+    let text = text_of(page, parts)?;
+    call_text(page.alloc(), word, &text, out)
+}
+
 /// Makes the call of a case on records and files.
 pub fn answer(page: &Page<'_>, case: &str, out: &mut Output) -> Answered {
     let (word, rest) = first_word(case);
@@ -97,16 +128,6 @@ pub fn answer(page: &Page<'_>, case: &str, out: &mut Output) -> Answered {
         "reader" => calls(page, rest, out),
         "run" => run(page.alloc(), rest, out),
         "run-many" => run_many(page.alloc(), rest, out),
-        "fit"
-        | "code"
-        | "hot-record"
-        | "hot-reason"
-        | "hot-reason-2"
-        | "hot-explain"
-        | "group-with-exchange"
-        | "statement"
-        | "settlement"
-        | "hot-file" => answer_headed(page, word, rest, out),
-        _ => call_text(page.alloc(), word, &text_of(page, rest)?, out),
+        _ => answer_parts(page, word, rest, out),
     }
 }

@@ -53,15 +53,18 @@ fn entries(alloc: Global) -> Result<PlanText, Fault> {
     })
 }
 
-/// A plan in which the period is closed.
-fn closed_plan(alloc: Global) -> Result<Plan, Fault> {
-    let (period, day) = (PeriodCode::read(PERIOD)?, Day::read_text(b"2024-01-16")?);
+/// Publishes entries, and closes the period.
+fn close(plan: &mut Plan, entries: &PlanText) -> Answered {
+    plan.extend(entries)?;
+    plan.set_day(Day::read_text(b"2024-01-16")?)?;
+    plan.close_next(PeriodCode::read(PERIOD)?)?;
+    Ok(())
+}
+
+/// Publishes the entries, and closes the period.
+fn publish_and_close(alloc: Global, plan: &mut Plan) -> Answered {
     let entries = entries(alloc)?;
-    let mut plan = Plan::empty(alloc);
-    plan.extend(&entries)?;
-    plan.set_day(day)?;
-    plan.close_next(period)?;
-    Ok(plan)
+    close(plan, &entries)
 }
 
 /// A transaction as it was accepted in the period.
@@ -108,18 +111,22 @@ struct Rows {
     memos: [Memo; 1],
 }
 
+/// The transactions of the RET file that a text is, as items.
+fn items_of(alloc: Global, text: &[u8]) -> Result<Vec<Item>, Fault> {
+    match read_ret(alloc, text) {
+        Ok(file) => all_of(alloc, &file),
+        Err(fault) => Err(Fault::from(fault)),
+    }
+}
+
 impl Rows {
-    /// Those of the RET file that a text is.
+    /// Those of the RET file that a text is. The plan is empty.
     fn of(alloc: Global, text: &[u8]) -> Result<Rows, Fault> {
         let memo = memo_of(Words::of(MEMO))?.ok_or(Fault::Field)?;
-        let items = match read_ret(alloc, text) {
-            Ok(file) => all_of(alloc, &file)?,
-            Err(fault) => return Err(Fault::from(fault)),
-        };
         Ok(Rows {
-            plan: closed_plan(alloc)?,
-            items,
+            items: items_of(alloc, text)?,
             memos: [memo],
+            plan: Plan::empty(alloc),
         })
     }
 }
@@ -133,13 +140,12 @@ fn show_fault(fault: StatementFault, out: &mut Output) -> Answered {
     Ok(())
 }
 
-/// Writes the statement of an agent over the rows of a text.
-pub fn show_statement(alloc: Global, agent: &str, text: &[u8], out: &mut Output) -> Answered {
+/// Writes the statement of an agent over rows.
+fn show_statement(alloc: Global, agent: &str, rows: &Rows, out: &mut Output) -> Answered {
     let (agent, period) = (
         AgentCode::read(agent.as_bytes())?,
         PeriodCode::read(PERIOD)?,
     );
-    let rows = Rows::of(alloc, text)?;
     match statement(alloc, agent, period, &rows.items, &rows.memos, &rows.plan) {
         Ok(report) => out.push(report.as_str()),
         Err(fault) => return show_fault(fault, out),
@@ -147,10 +153,9 @@ pub fn show_statement(alloc: Global, agent: &str, text: &[u8], out: &mut Output)
     Ok(())
 }
 
-/// Writes the settlement of a period over the rows of a text.
-pub fn show_settlement(alloc: Global, period: &str, text: &[u8], out: &mut Output) -> Answered {
+/// Writes the settlement of a period over rows.
+fn show_settlement(alloc: Global, period: &str, rows: &Rows, out: &mut Output) -> Answered {
     let period = PeriodCode::read(period.as_bytes())?;
-    let rows = Rows::of(alloc, text)?;
     match settlement(alloc, period, &rows.items, &rows.memos, &rows.plan) {
         Ok(report) => out.push(report.text.as_str()),
         Err(fault) => return show_fault(fault, out),
@@ -158,17 +163,51 @@ pub fn show_settlement(alloc: Global, period: &str, text: &[u8], out: &mut Outpu
     Ok(())
 }
 
-/// Writes the HOT file of an airline over the rows of a text.
-pub fn show_hot_file(alloc: Global, airline: &str, text: &[u8], out: &mut Output) -> Answered {
+/// Writes the HOT file of an airline over rows.
+fn show_hot_file(alloc: Global, airline: &str, rows: &Rows, out: &mut Output) -> Answered {
     let (airline, period) = (
         AirlineCode::read(airline.as_bytes())?,
         PeriodCode::read(PERIOD)?,
     );
-    let rows = Rows::of(alloc, text)?;
     match write_hot(alloc, airline, period, &rows.items, &rows.memos, &rows.plan) {
         Ok(file) => out.characters(&file),
         Err(HotFault::NoMemory) => return Err(Fault::Memory),
         Err(fault) => out.push(fault.code()),
     }
     Ok(())
+}
+
+/// Writes the report of a word over rows, with the word before the text.
+fn show(alloc: Global, word: &str, head: &str, rows: &Rows, out: &mut Output) -> Answered {
+    match word {
+        "statement" => show_statement(alloc, head, rows, out),
+        "settlement" => show_settlement(alloc, head, rows, out),
+        _ => show_hot_file(alloc, head, rows, out),
+    }
+}
+
+/// Closes the period, and writes the report of a word.
+fn show_closed(
+    alloc: Global,
+    word: &str,
+    head: &str,
+    rows: &mut Rows,
+    out: &mut Output,
+) -> Answered {
+    publish_and_close(alloc, &mut rows.plan)?;
+    show(alloc, word, head, rows, out)
+}
+
+/// Writes the report of a word over the rows of a text.
+pub fn show_report(
+    alloc: Global,
+    word: &str,
+    head: &str,
+    text: &[u8],
+    out: &mut Output,
+) -> Answered {
+    match Rows::of(alloc, text) {
+        Ok(mut rows) => show_closed(alloc, word, head, &mut rows, out),
+        Err(fault) => Err(fault),
+    }
 }
