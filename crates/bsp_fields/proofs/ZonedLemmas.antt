@@ -1,5 +1,5 @@
 -- Lemmas on signed zoned decimals.
-use Rattle.std.proofs.Common.{◌≡◌, ℕ, zero, suc, ◌+◌, ◌-◌, ◌*◌, ◌/◌, ◌%◌, ◌^◌, ◌<◌, ◌≤◌, Bool, true, false, not, ◌||◌, List, [], ◌∷◌, ◌++◌, length, set, get_or, refl, sym, ap, ◌∙◌, arith, length-append, Ok, ℤ, pos, negsuc, subst, w64, to_z, of_z}
+use Rattle.std.proofs.Common.{◌≡◌, ℕ, zero, suc, ◌+◌, ◌-◌, ◌*◌, ◌/◌, ◌%◌, ◌^◌, ◌<◌, ◌≤◌, Bool, true, false, not, ◌||◌, List, [], ◌∷◌, ◌++◌, length, set, get_or, refl, sym, ap, ◌∙◌, arith, length-append, take, Ok, Err, ℤ, pos, negsuc, subst, w64, to_z, of_z}
 use Rattle.std.proofs.lemmas.Int.{to_z-of_z, fits_signed_from_abs}
 use Rattle.std.specs.Prelude.{unsigned_abs, ◌==◌}
 use Rattle.std.specs.Char.{is_ascii_digit}
@@ -15,7 +15,7 @@ use Rattle.bsp_fields.specs.Decimal.{number_of, fixed_digits, digits_reading}
 use Rattle.bsp_fields.specs.Zoned.{IsSpelling, all_but_last, last_character, is_plus, is_minus, last_digit, with_sign, zoned_value, zoned_reading, ending, ending_reading, spelling}
 use Rattle.bsp_fields.specs.declared.fault.FieldFault.{FieldFault}
 use Rattle.bsp_fields.specs.declared.fault.FieldFault.TheVariants.{Width, NotDigit, NotSign}
-use Rattle.bsp_fields.proofs.FirstFaultLemmas.{row_passed, value_told}
+use Rattle.bsp_fields.proofs.FirstFaultLemmas.{only_row_told, row_passed, value_told}
 use Rattle.bsp_fields.proofs.DecimalLemmas.{length-fixed_digits, digits-fixed_digits, number_of-fixed_digits, digits_reading-lt, fixed_digits-number_of}
 
 -- a text of digits and a last character reads as what they read as
@@ -28,6 +28,30 @@ reading-parts xs e w tens digit negative wide front_reads last_reads =
     let short : length xs ≡ w - 1 = omega arith in
     let last_is : get_or (xs ++ e ∷ []) (w - 1) 0 ≡ e = rw (← short) (get_or-append_seam xs e [] 0) in
     rw (long, eq-eqb w w refl, take_at xs (e ∷ []) (w - 1) short, d.0, last_is, t.0, value_told {F = FieldFault} (number_of xs) tens d.1, ap (λ p. p.0) same, ap (λ p. p.1) same) refl
+
+-- what a text of that width reads as: a fault of the characters in front, one of the last character, or a value
+pub reading-front : (text : List ℕ) (w : ℕ) (fault : FieldFault) → length text ≡ w → digits_reading (take (w - 1) text) ≡ Err fault → zoned_reading w text ≡ Err fault
+reading-front text w fault wide front =
+    let xs = take (w - 1) text in
+    let d = only_row_told (not (all_ascii_digits xs)) NotDigit (number_of xs) fault front in
+    rw (wide, eq-eqb w w refl, d.0) (ap (λ (f : FieldFault). Err f) d.1)
+
+pub reading-last : (text : List ℕ) (w tens : ℕ) (fault : FieldFault) → length text ≡ w → digits_reading (take (w - 1) text) ≡ Ok tens → ending_reading (get_or text (w - 1) 0) ≡ Err fault → zoned_reading w text ≡ Err fault
+reading-last text w tens fault wide front last =
+    let xs = take (w - 1) text in
+    let e = get_or text (w - 1) 0 in
+    let d = row_passed (not (all_ascii_digits xs)) NotDigit [] (number_of xs) tens front in
+    let t = only_row_told (not (is_plus e || is_minus e)) NotSign (is_minus e, last_digit e) fault last in
+    rw (wide, eq-eqb w w refl, d.0, t.0) (ap (λ (f : FieldFault). Err f) t.1)
+
+pub reading-ok : (text : List ℕ) (w tens digit : ℕ) (negative : Bool) → length text ≡ w → digits_reading (take (w - 1) text) ≡ Ok tens → ending_reading (get_or text (w - 1) 0) ≡ Ok (negative, digit) → zoned_reading w text ≡ Ok (with_sign negative (10 * tens + digit))
+reading-ok text w tens digit negative wide front last =
+    let xs = take (w - 1) text in
+    let e = get_or text (w - 1) 0 in
+    let d = row_passed (not (all_ascii_digits xs)) NotDigit [] (number_of xs) tens front in
+    let t = row_passed (not (is_plus e || is_minus e)) NotSign [] (is_minus e, last_digit e) (negative, digit) last in
+    let same = value_told {F = FieldFault} (is_minus e, last_digit e) (negative, digit) t.1 in
+    rw (wide, eq-eqb w w refl, d.0, t.0, value_told {F = FieldFault} (number_of xs) tens d.1, ap (λ p. p.0) same, ap (λ p. p.1) same) refl
 
 pub last_digit-lt : (c : ℕ) → last_digit c < 10
 last_digit-lt c = grind (arith, common_steps)
