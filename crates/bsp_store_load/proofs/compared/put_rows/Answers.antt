@@ -1,4 +1,5 @@
 use Rattle.std.proofs.Common.{◌∙◌, sym, ap, subst}
+use Rattle.std.proofs.lemmas.Bool.{both_ways}
 use Rattle.bsp_rows.specs.Rows.{Rows}
 use Rattle.bsp_memory_rows.specs.Tables.{rows_of}
 use Rattle.bsp_store_load.specs.Formed.{IsRegisteredAirline, OnEach}
@@ -17,7 +18,7 @@ pub returns-then-not-branch-clause-plan : goal.returns-then-not-branch-clause-pl
 returns-then-not-branch-clause-plan c = λ p tokens s formed are start none.
     let listed = airlines_are p tokens c.args.rows.now formed are c.deref.result.now c.deref.ensures.value c.in_ok-airlines.field-0 c.in_ok-airlines.ensures c.in-Some.airlines c.in-Some.is in
     let it = c.in_ok-put_plan.ensures.plan p tokens s formed are (c.deref-2.ensures.value ∙ listed) start in
-    absurd (cc (it.0, c.if-not-branch.true))
+    absurd (both_ways _ c.if-not-branch.true it.0)
 
 pub returns-clause-others : goal.returns-clause-others
 returns-clause-others c = both_alone (rows_of c.args.tables.now) (rows_of c.put_plan.new.tables) (rows_of c.put_tokens.new.tables) c.in_ok-put_plan.ensures.others c.in_ok-put_tokens.ensures.others

@@ -1,4 +1,5 @@
 use Rattle.std.proofs.Common.{sym, ◌∙◌}
+use Rattle.std.proofs.lemmas.Bool.{both_ways, false≢true}
 use Rattle.std.specs.Map.Iter.{deref_pair}
 use Rattle.std.proofs.lemmas.Map.Iter.{rest_more, rest_all}
 use Rattle.bsp_store_load.proofs.EntryLemmas.{all_left, ended, must_be, none_for, passed_over, taken}
@@ -24,7 +25,7 @@ pub returns-in_default-clause-same : goal.returns-in_default-clause-same
 returns-in_default-clause-same g c =
     let more = rest_more deref_pair c.loop-key.key-iterator c.next.new.self c.next.result (c.in-Some.key, c.in-Some.value) c.in-Some.is c.next.ensures.steps in
     let none = rest_all deref_pair c.loop-key.rest c.next-in-loop-key.new.self c.next-in-loop-key.result c.in_default.is c.next-in-loop-key.ensures.steps in (
-      λ t. absurd (cc t),
+      λ t. absurd (false≢true t),
       λ h. absurd (none_for g.T.EntryOf.entry_of c.args.own.now.entries c.args.entries.now.entries c.loop-key.key-iterator c.next.new.self (c.in-Some.key.now, c.in-Some.value.now) more c.loop-key.rest c.loop-key.invariant
           (sym c.has_entry.ensures ∙ c.if-not-has_entry.false) none h),
     )
@@ -33,14 +34,32 @@ pub returns-then-not-is_entry-clause-same : goal.returns-then-not-is_entry-claus
 returns-then-not-is_entry-clause-same g c =
     let more = rest_more deref_pair c.loop-key.key-iterator c.next.new.self c.next.result (c.in-Some.key, c.in-Some.value) c.in-Some.is c.next.ensures.steps in
     let first = rest_more deref_pair c.loop-key.rest c.next-in-loop-key.new.self c.next-in-loop-key.result (c.in-Some-next.own_key, c.in-Some-next.own_value) c.in-Some-next.is c.next-in-loop-key.ensures.steps in (
-      λ t. absurd (cc t),
+      λ t. absurd (false≢true t),
       λ h.
           let is = c.is_entry.ensures.1 (must_be g.T.EntryOf.entry_of c.args.own.now.entries c.args.entries.now.entries c.loop-key.key-iterator c.next.new.self (c.in-Some.key.now, c.in-Some.value.now) more c.loop-key.rest c.loop-key.invariant
           (sym c.has_entry.ensures ∙ c.if-not-has_entry.false) (c.in-Some-next.own_key.now, c.in-Some-next.own_value.now) c.next-in-loop-key.new.self first h) in
-          absurd (cc (is, c.if-not-is_entry.true)),
+          absurd (both_ways _ c.if-not-is_entry.true is),
     )
 
 pub returns-clause-same : goal.returns-clause-same
 returns-clause-same g c =
     ended g.T.EntryOf.entry_of c.args.own.now.entries c.args.entries.now.entries deref_pair c.loop-key.key-iterator c.loop-key.rest c.next-2.new.self c.next-2.result c.is_none.result
     (rest_all deref_pair c.loop-key.key-iterator c.next.new.self c.next.result c.in-None.is c.next.ensures.steps) c.loop-key.invariant c.next-2.ensures.steps c.is_none.ensures
+
+pub returns-in_default-clause-ordered : goal.returns-in_default-clause-ordered
+returns-in_default-clause-ordered g c = c.len-count.ensures.ordered
+
+pub returns-in_default-clause-own_ordered : goal.returns-in_default-clause-own_ordered
+returns-in_default-clause-own_ordered g c = c.iter-rest.ensures.ordered
+
+pub returns-then-not-is_entry-clause-ordered : goal.returns-then-not-is_entry-clause-ordered
+returns-then-not-is_entry-clause-ordered g c = c.len-count.ensures.ordered
+
+pub returns-then-not-is_entry-clause-own_ordered : goal.returns-then-not-is_entry-clause-own_ordered
+returns-then-not-is_entry-clause-own_ordered g c = c.iter-rest.ensures.ordered
+
+pub returns-clause-ordered : goal.returns-clause-ordered
+returns-clause-ordered g c = c.len-count.ensures.ordered
+
+pub returns-clause-own_ordered : goal.returns-clause-own_ordered
+returns-clause-own_ordered g c = c.iter-rest.ensures.ordered

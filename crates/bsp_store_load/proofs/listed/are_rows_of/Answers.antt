@@ -1,4 +1,5 @@
 use Rattle.std.proofs.Common.{sym, ap, ◌∙◌}
+use Rattle.std.proofs.lemmas.Bool.{false≢true}
 use Rattle.std.specs.List.{filter}
 use Rattle.std.specs.Map.Iter.{deref_pair}
 use Rattle.std.proofs.lemmas.Map.Iter.{rest_more, rest_all}
@@ -49,3 +50,18 @@ returns-then-not-is_row_of-clause-whole g c = λ all h.
     let next = next_left g.T.RowOf.row_of g.T.RowOf.has_row _ _ _ _ _ c.in-Some-split_first.ensures.cases.0
     (taken g.T.RowOf.row_of g.T.RowOf.has_row (λ e. g.H.Rule.holds c.args.rule.now e.0 e.1) c.loop-key.key-iterator c.next.new.self (c.in-Some.key.now, c.in-Some.value.now) _ more (sym c.holds.ensures ∙ c.if-not-holds.false) (c.loop-key.invariant.whole all h)) in
     not_false _ c.if-not-is_row_of.true (c.is_row_of.ensures.whole next.1.0 next.0)
+
+pub returns-in_default-clause-ordered : goal.returns-in_default-clause-ordered
+returns-in_default-clause-ordered g c = c.len-count.ensures.ordered
+
+pub returns-then-not-is_row_of-clause-ordered : goal.returns-then-not-is_row_of-clause-ordered
+returns-then-not-is_row_of-clause-ordered g c = c.len-count.ensures.ordered
+
+pub returns-clause-ordered : goal.returns-clause-ordered
+returns-clause-ordered g c = c.len-count.ensures.ordered
+
+pub returns-in_default-clause-same : goal.returns-in_default-clause-same
+returns-in_default-clause-same g c = λ t. absurd (false≢true t)
+
+pub returns-then-not-is_row_of-clause-same : goal.returns-then-not-is_row_of-clause-same
+returns-then-not-is_row_of-clause-same g c = λ t. absurd (false≢true t)

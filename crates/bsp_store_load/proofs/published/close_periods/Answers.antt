@@ -1,4 +1,5 @@
 use Rattle.std.proofs.Common.{refl}
+use Rattle.std.proofs.lemmas.Bool.{both_ways}
 use Rattle.bsp_memory_rows.specs.Tables.{rows_of}
 use Rattle.bsp_store_base.specs.Columns.{period_row}
 use Rattle.bsp_store_base.specs.Forms.{IsPeriod}
@@ -26,7 +27,7 @@ pub returns-then-not-branch-clause-entries : goal.returns-then-not-branch-clause
 returns-then-not-branch-clause-entries c = λ es may same.
     let gone = gone_on period_row closing (MayClose IsPeriod) es c.args.rows.now c.loop-row.row-index c.row-item.result (rows_of c.args.tables.now) (rows_of c.loop-row.tables) (rows_of c.close_period.new.tables) _
     same c.loop-row-test.true c.row-item.is (c.loop-row.invariant.entries es may same) c.in_ok-close_period.ensures.entry in
-    absurd (cc (gone.0, c.if-not-branch.true))
+    absurd (both_ways _ c.if-not-branch.true gone.0)
 
 pub returns-clause-entries : goal.returns-clause-entries
 returns-clause-entries c = λ es may same.

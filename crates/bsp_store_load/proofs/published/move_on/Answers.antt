@@ -1,4 +1,6 @@
-use Rattle.std.proofs.Common.{◌∷◌, ◌≡◌, ℕ, ◌<◌, List, map, length, take, true, false, is_err, ap, ◌∙◌, arith, rules, nat_cmp}
+use Rattle.std.proofs.Common.{◌∷◌, ◌≡◌, ℕ, ◌<◌, List, map, length, take, true, false, is_err, sym, ap, ◌∙◌, arith, rules, nat_cmp}
+use Rattle.std.proofs.lemmas.Bool.{both_ways}
+use Rattle.std.proofs.lemmas.Option.{none-some}
 use Rattle.std.specs.FinMap.{FinMap}
 use Rattle.bsp_rows.specs.History.{IsReached}
 use Rattle.bsp_rows.specs.History.Request.{Close, SetDay}
@@ -14,7 +16,7 @@ use Rattle.bsp_store_load.proofs.published.move_on.Goals as goal
 pub returns-in_default-clause-plan : goal.returns-in_default-clause-plan
 returns-in_default-clause-plan c = λ p tokens s formed are reached.
     let some = meta_read p tokens s formed c.args.rows.now are c.deref.result.now c.meta_in.result c.deref.ensures.value c.meta_in.ensures in
-    absurd (cc (some, c.in_default.is))
+    absurd (none-some _ (sym c.in_default.is ∙ some))
 
 pub returns-then-closed-periods-clause-plan : goal.returns-then-closed-periods-clause-plan
 returns-then-closed-periods-clause-plan c = λ p tokens s formed are reached.
@@ -29,7 +31,7 @@ returns-then-is_err-clause-plan c = λ p tokens s formed are reached.
     let meta = meta_is p tokens s formed c.args.rows.now are c.deref.result.now c.meta_in.result c.in-Some.day c.in-Some.closed c.deref.ensures.value c.meta_in.ensures c.in-Some.is in
     let told : c.in_ok-set_day.field-0 ≡ request_answer (SetDay c.in-Some.day) (rows_of c.args.tables.now) = search rules in
     let set : is_err c.in_ok-set_day.field-0 ≡ false = day_set p tokens s formed c.args.rows.now are (rows_of c.args.tables.now) reached c.in-Some.day c.in_ok-set_day.field-0 meta.0 told in
-    absurd (cc (c.is_err.ensures.value ∙ set, c.if-is_err.true))
+    absurd (both_ways _ (c.is_err.ensures.value ∙ set) c.if-is_err.true)
 
 pub returns-clause-plan : goal.returns-clause-plan
 returns-clause-plan c =

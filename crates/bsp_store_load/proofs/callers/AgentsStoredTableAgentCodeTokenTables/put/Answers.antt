@@ -1,4 +1,5 @@
 use Rattle.std.proofs.Common.{rules, ◌≡◌, refl, sym, ap, subst, ◌∙◌}
+use Rattle.std.proofs.lemmas.Bool.{both_ways}
 use Rattle.std.specs.FinMap.{get}
 use Rattle.sqlite.specs.Values.{bound}
 use Rattle.bsp_rows.specs.Writes.{with_agent_token}
@@ -23,7 +24,7 @@ returns-then-not-is_row-clause-entry c = λ e fits lacks is.
     let own = own_row agent_row c.args.row.now c.read_agent.result e some (c.in-Some.agent, c.in-Some.token) c.in-Some.is is in
     let texts : bound c.values.result ≡ agent_row (c.in-Some.agent, c.in-Some.token) = search rules in
     let fine = c.is_row.ensures.whole (own ∙ sym texts) (ap has_real is) in
-    absurd (cc (fine, c.if-not-is_row.true))
+    absurd (both_ways _ c.if-not-is_row.true fine)
 
 pub returns-then-is_some-clause-entry : goal.returns-then-is_some-clause-entry
 returns-then-is_some-clause-entry c = λ e fits lacks is.

@@ -1,4 +1,5 @@
 use Rattle.std.proofs.Common.{◌≡◌, ℕ, refl, sym, ap, subst, ◌∙◌}
+use Rattle.std.proofs.lemmas.Bool.{both_ways}
 use Rattle.std.specs.FinMap.{get}
 use Rattle.bsp_rows.specs.Rows.{range_of}
 use Rattle.bsp_rows.specs.Writes.{with_range}
@@ -21,7 +22,7 @@ returns-then-not-is_row-clause-entry c = λ e fits lacks is.
     let some = range_is c.args.row.now c.read_range.result e c.read_range.ensures fits is in
     let own = own_row stock_row c.args.row.now c.read_range.result e some (c.in-Some.key, c.in-Some.last) c.in-Some.is is in
     let fine = c.is_row.ensures.whole (own ∙ sym c.of.ensures ∙ sym c.values.ensures) (ap has_real is) in
-    absurd (cc (fine, c.if-not-is_row.true))
+    absurd (both_ways _ c.if-not-is_row.true fine)
 
 pub returns-then-is_some-clause-entry : goal.returns-then-is_some-clause-entry
 returns-then-is_some-clause-entry c = λ e fits lacks is.

@@ -1,4 +1,5 @@
 use Rattle.std.proofs.Common.{sym, ap, ◌∙◌}
+use Rattle.std.proofs.lemmas.Bool.{both_ways}
 use Rattle.std.specs.FinMap.{from_entries, get, insert}
 use Rattle.bsp_rows.specs.Rows.{item_cmp}
 use Rattle.bsp_rows.specs.declared.keys.ItemKey.{ItemKey}
@@ -19,7 +20,7 @@ returns-then-not-is_row-clause-entry c = λ e fits lacks is.
     let some = c.read_item_tax.ensures ∙ ap item_tax_in is ∙ item_tax_back e fits in
     let own = own_row tax_row c.args.row.now c.read_item_tax.result e some (c.in-Some.key, c.in-Some.tax) c.in-Some.is is in
     let fine = c.is_row.ensures.whole (own ∙ sym c.of.ensures ∙ sym c.values.ensures) (ap has_real is) in
-    absurd (cc (fine, c.if-not-is_row.true))
+    absurd (both_ways _ c.if-not-is_row.true fine)
 
 pub returns-clause-row : goal.returns-clause-row
 returns-clause-row c = λ done.

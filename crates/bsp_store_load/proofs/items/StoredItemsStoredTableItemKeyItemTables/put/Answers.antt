@@ -1,4 +1,5 @@
 use Rattle.std.proofs.Common.{◌≡◌, refl, sym, ap, subst, ◌∙◌}
+use Rattle.std.proofs.lemmas.Bool.{both_ways}
 use Rattle.std.specs.Prelude.{IfSome}
 use Rattle.std.specs.FinMap.{get}
 use Rattle.bsp_rows.specs.Item.{Item}
@@ -22,7 +23,7 @@ pub returns-then-not-is_row-clause-entry : goal.returns-then-not-is_row-clause-e
 returns-then-not-is_row-clause-entry c = λ e fits lacks is.
     let own = own_row item_row c.args.row.now c.read.result e (c.read.ensures.entry e fits is) (c.in-Some.key, c.in-Some.item) c.in-Some.is is in
     let fine = c.is_row.ensures.whole (own ∙ sym c.of.ensures ∙ sym c.values.ensures) (ap has_real is ∙ plain_item e) in
-    absurd (cc (fine, c.if-not-is_row.true))
+    absurd (both_ways _ c.if-not-is_row.true fine)
 
 pub add_item-requires : goal.add_item-requires
 add_item-requires c = (subst (λ o. IfSome o IsKeyed) c.in-Some.is c.read.ensures.keyed).numbered

@@ -1,4 +1,5 @@
 use Rattle.std.proofs.Common.{rules, ◌≡◌, refl, sym, ap, subst, ◌∙◌}
+use Rattle.std.proofs.lemmas.Bool.{both_ways}
 use Rattle.std.specs.FinMap.{get}
 use Rattle.sqlite.specs.Values.{bound}
 use Rattle.bsp_rows.specs.Rows.{memo_key}
@@ -24,7 +25,7 @@ returns-then-not-is_row-clause-entry c = λ e fits lacks is.
     let texts : bound c.values.result ≡ memo_row (c.of-key.result, c.in-Some.memo) = search rules in
     let own : c.args.row.now ≡ memo_row (c.of-key.result, c.in-Some.memo) = is ∙ (λ i. memo_row (sym (key ∙ ap memo_key same ∙ lacks.0) i, sym same i)) in
     let fine = c.is_row.ensures.whole (own ∙ sym texts) (ap has_real is ∙ plain_memo e) in
-    absurd (cc (fine, c.if-not-is_row.true))
+    absurd (both_ways _ c.if-not-is_row.true fine)
 
 pub returns-then-is_some-clause-entry : goal.returns-then-is_some-clause-entry
 returns-then-is_some-clause-entry c = λ e fits lacks is.

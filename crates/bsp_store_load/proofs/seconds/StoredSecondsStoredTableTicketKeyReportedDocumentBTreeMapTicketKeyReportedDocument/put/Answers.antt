@@ -1,4 +1,5 @@
 use Rattle.std.proofs.Common.{sym, ap, ◌∙◌}
+use Rattle.std.proofs.lemmas.Bool.{both_ways}
 use Rattle.std.specs.FinMap.{from_entries, get, insert}
 use Rattle.bsp_store_base.specs.Seconds.{ticket_cmp}
 use Rattle.bsp_store_base.specs.declared.tickets.TicketKey.{TicketKey}
@@ -19,7 +20,7 @@ returns-then-not-is_row-clause-entry c = λ e fits lacks is.
     let some = c.read_second.ensures ∙ ap second_row_in is ∙ second_back e fits.formed fits.checked in
     let own = own_row second_row c.args.row.now c.read_second.result e some (c.in-Some.key, c.in-Some.document) c.in-Some.is is in
     let fine = c.is_row.ensures.whole (own ∙ sym c.of.ensures ∙ sym c.values.ensures) (ap has_real is) in
-    absurd (cc (fine, c.if-not-is_row.true))
+    absurd (both_ways _ c.if-not-is_row.true fine)
 
 pub returns-clause-row : goal.returns-clause-row
 returns-clause-row c = λ done.
