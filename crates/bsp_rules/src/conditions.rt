@@ -2,6 +2,7 @@
 
 ghost use Rattle.std.specs.Prelude.{◌≡◌, nat_le, not};
 ghost use Rattle.std.specs.List.{list_any};
+ghost use Rattle.bsp_calendar.specs.DayOrder.{is_before};
 ghost use Rattle.bsp_rules.specs.Verdicts.{are_missing, has_ended, has_wrong_agent, has_wrong_check_digit, is_ended, is_missing, is_number_used, is_wrong, lacks_ticket, limit_of};
 
 use crate::facts::{Facts, OwnNumber, RelatedDocument};
@@ -38,6 +39,13 @@ pub(crate) fn has_wrong_check_digit(transaction: &Transaction) -> bool
             Some(document) => is_wrong(document),
             None => false,
         })
+}
+
+/// Whether the transaction is issued after the business day.
+pub(crate) fn is_not_yet_issued(transaction: &Transaction, plan: &Plan) -> bool
+    ensures { result ≡ is_before plan.now.day transaction.now.issued }
+{
+    plan.day().number() < transaction.issued.number()
 }
 
 pub(crate) fn is_number_used(code: TransactionCode, own: &OwnNumber) -> bool

@@ -8,8 +8,8 @@ ghost use Rattle.bsp_rules.specs.declared.verdict.Reporter.TheVariants.{Office};
 
 use crate::amounts::has_wrong_amounts;
 use crate::conditions::{
-    has_ended, has_wrong_agent, has_wrong_check_digit, is_at_limit, is_number_used,
-    is_out_of_stock, lacks_ticket,
+    has_ended, has_wrong_agent, has_wrong_check_digit, is_at_limit, is_not_yet_issued,
+    is_number_used, is_out_of_stock, lacks_ticket,
 };
 use crate::facts::Facts;
 use crate::tickets::disagrees_with_tickets;
@@ -53,8 +53,7 @@ fn check_number(transaction: &Transaction, facts: &Facts, plan: &Plan) -> Result
     ensures { result ≡ first_fault_or (take 4 (drop 3 (rows Office transaction.now facts.now plan.now))) (tt {0}) }
 {
     refuse_if(has_wrong_check_digit(transaction), Refusal::WrongCheckDigit)?;
-    let issued = transaction.issued.number();
-    refuse_if(plan.day().number() < issued, Refusal::NotYetIssued)?;
+    refuse_if(is_not_yet_issued(transaction, plan), Refusal::NotYetIssued)?;
     refuse_if(is_out_of_stock(facts), Refusal::NotInStock)?;
     refuse_if(
         is_number_used(transaction.code, &facts.own),

@@ -2,6 +2,7 @@
 
 ghost use Rattle.std.specs.Prelude.{◌≡◌};
 ghost use Rattle.std.specs.Option.{option_copied};
+ghost use Rattle.bsp_rules.specs.SameContent.{same_content};
 ghost use Rattle.bsp_rules.specs.Rows.{cancelled, held_item, held_period, is_living_relation, is_past, is_ticket, names, relates, ticket, used, used_elsewhere, used_in_closed_period};
 
 use crate::rows::Item;
@@ -9,11 +10,17 @@ use bsp_calendar::Plan;
 use bsp_fields::{AirlineCode, PeriodCode};
 use bsp_ret_records::{ReportedDocument, Transaction, TransactionCode};
 
+fn has_content(item: &Item, transaction: &Transaction) -> bool
+    ensures { result ≡ same_content item.now.transaction transaction.now }
+{
+    item.transaction == *transaction
+}
+
 /// The accepted transaction with the same content.
 fn held_item<'a>(transaction: &Transaction, items: &'a [Item]) -> Option<&'a Item>
     ensures { option_copied result ≡ held_item transaction.now items.now }
 {
-    items.iter().find(|item| item.transaction == *transaction)
+    items.iter().find(|item| has_content(item, transaction))
 }
 
 /// The period of the accepted transaction with the same content.

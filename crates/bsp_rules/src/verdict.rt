@@ -4,7 +4,8 @@ ghost use Rattle.std.specs.Prelude.{◌≡◌};
 ghost use Rattle.bsp_rules.specs.Refusals.{code_text};
 
 use bsp_fields::{AgentCode, PeriodCode};
-use thiserror::Error;
+use std::error::Error;
+use std::fmt;
 
 /// Who reports a transaction.
 #[derive(Clone, Copy, Debug, PartialEq, Eq)]
@@ -16,44 +17,32 @@ pub enum Reporter {
 }
 
 /// Why a transaction is refused, in the order in which it is judged.
-#[derive(Clone, Copy, Debug, PartialEq, Eq, Error)]
+#[derive(Clone, Copy, Debug, PartialEq, Eq)]
 pub enum Refusal {
     /// The agent is not registered, or another agent reports.
-    #[error("E02: the agent is not registered, or is not the one that reports")]
     WrongAgent,
     /// The airline is not in the plan.
-    #[error("E01: the airline is not in the plan")]
     UnknownAirline,
     /// A check digit of record 2 or 3 is wrong.
-    #[error("E03: a check digit is wrong")]
     WrongCheckDigit,
     /// It is issued after the business day.
-    #[error("E04: it is issued after the business day")]
     NotYetIssued,
     /// Its number is in no range of the agent.
-    #[error("E05: the number is not in the agent's stock")]
     NotInStock,
     /// Its number has been accepted: of a CANX, in a CANX.
-    #[error("E06: the number has been used")]
     NumberUsed,
     /// Its amounts or its commission are wrong by themselves or by the published rate.
-    #[error("E07: amounts or commission are wrong")]
     WrongAmounts,
     /// A related ticket is missing or of another airline; of a CANX, its number is another airline's.
-    #[error("E08: there is no such ticket of this airline")]
     NoTicket,
     /// A related ticket is cancelled or related to; of a CANX, its number's transaction is related to
     /// or lies in a closed period.
-    #[error("E09: the ticket is no longer open")]
     TicketEnded,
     /// Its amounts or its commission do not agree with the related ticket.
-    #[error("E12: amounts or commission do not agree with the ticket")]
     WrongAgainstTicket,
     /// There is no target period.
-    #[error("E10: there is no period to bill it in")]
     NoPeriod,
     /// Agent, airline and target hold as many accepted transactions as the documents limit.
-    #[error("E11: the documents limit is reached")]
     LimitReached,
 }
 
@@ -88,4 +77,33 @@ impl Refusal {
             Refusal::WrongAgainstTicket => "E12",
         }
     }
+
+    fn text(self) -> &'static str {
+        match self {
+            Refusal::WrongAgent => {
+                "E02: the agent is not registered, or is not the one that reports"
+            }
+            Refusal::UnknownAirline => "E01: the airline is not in the plan",
+            Refusal::WrongCheckDigit => "E03: a check digit is wrong",
+            Refusal::NotYetIssued => "E04: it is issued after the business day",
+            Refusal::NotInStock => "E05: the number is not in the agent's stock",
+            Refusal::NumberUsed => "E06: the number has been used",
+            Refusal::WrongAmounts => "E07: amounts or commission are wrong",
+            Refusal::NoTicket => "E08: there is no such ticket of this airline",
+            Refusal::TicketEnded => "E09: the ticket is no longer open",
+            Refusal::WrongAgainstTicket => {
+                "E12: amounts or commission do not agree with the ticket"
+            }
+            Refusal::NoPeriod => "E10: there is no period to bill it in",
+            Refusal::LimitReached => "E11: the documents limit is reached",
+        }
+    }
 }
+
+impl fmt::Display for Refusal {
+    fn fmt<W: fmt::Write>(&self, f: &mut fmt::Formatter<W>) -> fmt::Result {
+        f.write_str(self.text())
+    }
+}
+
+impl Error for Refusal {}
