@@ -13,7 +13,7 @@ use Rattle.json.proofs.Printed.Strings.{escape_byte_plain}
 use Rattle.serde_json.proofs.OnLiterals.{serde_json_on_literals}
 use Rattle.serde_json.specs.Data.{Data}
 use Rattle.serde_json.specs.View.{items_of}
-use Rattle.serde_json.specs.Written.{comma_if, compact_text, items_text}
+use Rattle.serde_json.specs.Written.{comma_if, compact_text, has_float, items_text}
 use Rattle.bsp_fields.specs.Decimal.{fixed_digits}
 use Rattle.bsp_rules.specs.declared.verdict.Refusal.{Refusal}
 use Rattle.bsp_rules.specs.declared.verdict.Refusal.TheVariants.{UnknownAirline, WrongAgent, WrongCheckDigit, NotYetIssued, NotInStock, NumberUsed, WrongAmounts, NoTicket, TicketEnded, NoPeriod, LimitReached, WrongAgainstTicket}
@@ -161,3 +161,8 @@ one_object_more f xs i x h =
 pub written_text : (written : Result (Vec ℕ) AllocError) (text front wanted : List ℕ) → IfOk written (λ item. item.items ≡ wanted) → IsOkAnd written (λ item. text ≡ front ++ item.items) → text ≡ front ++ wanted
 written_text (Ok item) text front wanted is pushed = pushed ∙ ap (λ (t : List ℕ). front ++ t) is
 written_text (Err e) text front wanted is pushed = absurd pushed
+
+-- the text of data without a float
+pub plain_text : {E : Type 0} (r : Result (Vec ℕ) E) (d shown : Data) → d ≡ shown → has_float shown ≡ false → IfOk r (λ b. has_float d ≡ false → b.items ≡ compact_text d) → IfOk r (λ b. b.items ≡ compact_text shown)
+plain_text (Ok b) d shown is plain text = text (ap has_float is ∙ plain) ∙ ap compact_text is
+plain_text (Err e) d shown is plain text = tt

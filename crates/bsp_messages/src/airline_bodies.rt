@@ -58,11 +58,21 @@ fn issue_in(value: &Value) -> Option<MemoIssue>
     if !has_members(value, 5) {
         return None;
     }
-    let agent = agent_at(value, "agent")?;
-    let amount = number_at(value, "amount")?;
-    let document = document_at(value, "document")?;
-    let kind = kind_at(value, "kind")?;
-    let reason = reason_at(value, "reason")?;
+    let Some(agent) = agent_at(value, "agent") else {
+        return None;
+    };
+    let Some(amount) = number_at(value, "amount") else {
+        return None;
+    };
+    let Some(document) = document_at(value, "document") else {
+        return None;
+    };
+    let Some(kind) = kind_at(value, "kind") else {
+        return None;
+    };
+    let Some(reason) = reason_at(value, "reason") else {
+        return None;
+    };
     Some(MemoIssue {
         agent,
         amount,
@@ -78,8 +88,12 @@ fn reduction_in(value: &Value) -> Option<Reduction>
     if !has_members(value, 2) {
         return None;
     }
-    let amount = number_at(value, "amount")?;
-    let document = document_at(value, "document")?;
+    let Some(amount) = number_at(value, "amount") else {
+        return None;
+    };
+    let Some(document) = document_at(value, "document") else {
+        return None;
+    };
     Some(Reduction { amount, document })
 }
 

@@ -26,8 +26,12 @@ fn named_memo_in(value: &Value) -> Option<NamedMemo>
     if !has_members(value, 2) {
         return None;
     }
-    let airline = airline_at(value, "airline")?;
-    let document = document_at(value, "document")?;
+    let Some(airline) = airline_at(value, "airline") else {
+        return None;
+    };
+    let Some(document) = document_at(value, "document") else {
+        return None;
+    };
     Some(NamedMemo { airline, document })
 }
 

@@ -1,14 +1,14 @@
 //! The objects of answers, as values of `serde_json` and as their texts.
 
-ghost use Rattle.std.specs.Prelude.{◌≡◌, ℕ, List, Some, IfOk, OnOk, codes};
-ghost use Rattle.serde_json.specs.Data.{boolean, no_members, number, object as whole, put, string, unsigned};
+ghost use Rattle.std.specs.Prelude.{◌≡◌, ℕ, List, Some, IfOk, OnOk, codes, false};
+ghost use Rattle.serde_json.specs.Data.{Data, boolean, no_members, number, object as whole, put, string, unsigned};
 ghost use Rattle.serde_json.specs.Find.{of_integer};
 ghost use Rattle.bsp_fields.specs.Decimal.{fixed_digits};
 ghost use Rattle.bsp_fields.specs.Days.{day_text};
 ghost use Rattle.bsp_fields.specs.Money.{money_text};
 ghost use Rattle.bsp_memos.specs.Texts.{kind_text, state_text as memo_state_text};
 ghost use Rattle.serde_json.specs.View.{members_view, view};
-ghost use Rattle.serde_json.specs.Written.{compact_text};
+ghost use Rattle.serde_json.specs.Written.{compact_text, has_float};
 ghost use Rattle.bsp_ret.specs.RetRecordsTexts.{code_text};
 ghost use Rattle.bsp_rules.specs.Amounts.{amount_or_zero, card_amount, commission_amount};
 ghost use Rattle.bsp_messages.specs.Answers.{state_text, billed_value, document_object, memo_object, period_object, range_object, record_object};
@@ -70,6 +70,13 @@ fn put_shown<D: Display>(
     )
 }
 
+/// The text of an object of these members, none of which is a float.
+fn object_text(alloc: Global, object: Map<String, Value>) -> Result<Vec<u8>, AllocError>
+    ensures { (shown : Data) → whole (members_view object.entries) ≡ shown → has_float shown ≡ false → IfOk result (λ text. text.items ≡ compact_text shown) }
+{
+    Value::Object(object).to_vec(alloc)
+}
+
 /// Puts the numbers of a range, and how many of them are used, into an object.
 fn put_range(
     alloc: Global,
@@ -84,20 +91,13 @@ fn put_range(
     Ok(())
 }
 
-/// `{"first":"..","last":"..","used":1}`.
-fn range_value(alloc: Global, shown: &RangeShown) -> Result<Value, AllocError>
-    ensures { IfOk result (λ value. view value ≡ range_object shown.now) }
-{
-    let mut object = Map::new(alloc);
-    put_range(alloc, &mut object, shown)?;
-    Ok(Value::Object(object))
-}
-
-/// The text of a range.
+/// The text of a range, `{"first":"..","last":"..","used":1}`.
 pub(crate) fn range_text(alloc: Global, shown: &RangeShown) -> Result<Vec<u8>, AllocError>
     ensures { IfOk result (λ text. text.items ≡ compact_text (range_object shown.now)) }
 {
-    range_value(alloc, shown)?.to_vec(alloc)
+    let mut object = Map::new(alloc);
+    put_range(alloc, &mut object, shown)?;
+    object_text(alloc, object)
 }
 
 /// The period in which a memo is billed, or null.
@@ -153,20 +153,13 @@ fn put_memo(
     put_terms(alloc, object, memo)
 }
 
-/// An object of a memo's fields.
-fn memo_value(alloc: Global, memo: &MemoFields) -> Result<Value, AllocError>
-    ensures { IfOk result (λ value. view value ≡ memo_object memo.now) }
-{
-    let mut object = Map::new(alloc);
-    put_memo(alloc, &mut object, memo)?;
-    Ok(Value::Object(object))
-}
-
 /// The text of a memo.
 pub(crate) fn memo_text(alloc: Global, memo: &MemoFields) -> Result<Vec<u8>, AllocError>
     ensures { IfOk result (λ text. text.items ≡ compact_text (memo_object memo.now)) }
 {
-    memo_value(alloc, memo)?.to_vec(alloc)
+    let mut object = Map::new(alloc);
+    put_memo(alloc, &mut object, memo)?;
+    object_text(alloc, object)
 }
 
 /// Puts the airline, the cash, the code and the commission of a transaction into an object.
@@ -219,21 +212,14 @@ fn put_state(
     Ok(())
 }
 
-/// An object of a document.
-fn document_value(alloc: Global, shown: &DocumentShown) -> Result<Value, AllocError>
-    ensures { IfOk result (λ value. view value ≡ document_object shown.now) }
-{
-    let mut object = Map::new(alloc);
-    put_sale(alloc, &mut object, &shown.item.transaction)?;
-    put_state(alloc, &mut object, shown)?;
-    Ok(Value::Object(object))
-}
-
 /// The text of a document.
 pub(crate) fn document_text(alloc: Global, shown: &DocumentShown) -> Result<Vec<u8>, AllocError>
     ensures { IfOk result (λ text. text.items ≡ compact_text (document_object shown.now)) }
 {
-    document_value(alloc, shown)?.to_vec(alloc)
+    let mut object = Map::new(alloc);
+    put_sale(alloc, &mut object, &shown.item.transaction)?;
+    put_state(alloc, &mut object, shown)?;
+    object_text(alloc, object)
 }
 
 /// Puts whether a period is closed, and its documents, into an object.
@@ -267,27 +253,19 @@ fn put_net(
     Ok(())
 }
 
-/// An object of a period.
-fn period_value(alloc: Global, shown: &PeriodShown) -> Result<Value, NoRoom>
-    ensures { IfOk result (λ value. view value ≡ period_object shown.now) }
-{
-    let mut object = Map::new(alloc);
-    put_counts(alloc, &mut object, shown)?;
-    put_net(alloc, &mut object, shown)?;
-    Ok(Value::Object(object))
-}
-
 /// The text of a period.
 pub(crate) fn period_text(alloc: Global, shown: &PeriodShown) -> Result<Vec<u8>, NoRoom>
     ensures { IfOk result (λ text. text.items ≡ compact_text (period_object shown.now)) }
 {
-    let value = period_value(alloc, shown)?;
-    Ok(value.to_vec(alloc)?)
+    let mut object = Map::new(alloc);
+    put_counts(alloc, &mut object, shown)?;
+    put_net(alloc, &mut object, shown)?;
+    Ok(object_text(alloc, object)?)
 }
 
-/// `{"code":"F05","record":3}`.
-fn record_value(alloc: Global, fault: RetFault) -> Result<Value, AllocError>
-    ensures { IfOk result (λ value. view value ≡ record_object fault.code fault.at) }
+/// The text of the fault of a RET file, `{"code":"F05","record":3}`.
+pub(crate) fn record_text(alloc: Global, fault: RetFault) -> Result<Vec<u8>, AllocError>
+    ensures { IfOk result (λ text. text.items ≡ compact_text (record_object fault.code fault.at)) }
 {
     let code = fault.code.text();
     let Ok(code) = str::from_utf8(&code) else {
@@ -296,12 +274,5 @@ fn record_value(alloc: Global, fault: RetFault) -> Result<Value, AllocError>
     let mut object = Map::new(alloc);
     put_text(alloc, &mut object, "code", code)?;
     put(alloc, &mut object, "record", Value::from(fault.at))?;
-    Ok(Value::Object(object))
-}
-
-/// The text of the fault of a RET file.
-pub(crate) fn record_text(alloc: Global, fault: RetFault) -> Result<Vec<u8>, AllocError>
-    ensures { IfOk result (λ text. text.items ≡ compact_text (record_object fault.code fault.at)) }
-{
-    record_value(alloc, fault)?.to_vec(alloc)
+    object_text(alloc, object)
 }

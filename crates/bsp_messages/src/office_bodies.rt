@@ -56,8 +56,12 @@ fn agent_registration_in(value: &Value) -> Option<AgentRegistration>
     if !has_members(value, 2) {
         return None;
     }
-    let agent = agent_at(value, "agent")?;
-    let token = token_at(value, "token")?;
+    let Some(agent) = agent_at(value, "agent") else {
+        return None;
+    };
+    let Some(token) = token_at(value, "token") else {
+        return None;
+    };
     Some(AgentRegistration { agent, token })
 }
 
@@ -67,8 +71,12 @@ fn airline_registration_in(value: &Value) -> Option<AirlineRegistration>
     if !has_members(value, 2) {
         return None;
     }
-    let airline = airline_at(value, "airline")?;
-    let token = token_at(value, "token")?;
+    let Some(airline) = airline_at(value, "airline") else {
+        return None;
+    };
+    let Some(token) = token_at(value, "token") else {
+        return None;
+    };
     Some(AirlineRegistration { airline, token })
 }
 
