@@ -1,4 +1,4 @@
-use Rattle.std.proofs.Common.{◌≡◌, Bool, cond, List, [], ◌∷◌, ◌++◌, map, sym, ap, ◌∙◌}
+use Rattle.std.proofs.Common.{◌≡◌, Bool, cond, List, [], ◌∷◌, ◌++◌, map, refl, sym, ap, ◌∙◌}
 use Rattle.std.specs.List.{filter}
 use Rattle.std.specs.Map.Iter.{deref_pair}
 use Rattle.std.proofs.lemmas.List.{append-nil}
@@ -33,3 +33,12 @@ returns-clause-found g c =
     ] in
     finish (g.T.Test.passes c.args.test.now) c.loop-key.found.items (front has c.loop-key.key-iterator) _ (entries_in has c.args.entries.now.entries) none c.loop-key.invariant
     (from_low g.K.Ord.cmp has (g.W.Window.low c.args.window.now) (g.met.W.Window.lowest c.args.window.now) (g.met.W.Window.together c.args.window.now) c.args.entries.now.entries c.range-key-items.ensures.ordered)
+
+pub loop-key-init : goal.loop-key-init
+loop-key-init g c = rw (c.new-found.ensures.items, c.into_iter-key-iterator.ensures.into_iter_gives, c.range-key-items.ensures.between tt, c.low.ensures) refl
+
+pub returns-clause-ordered : goal.returns-clause-ordered
+returns-clause-ordered g c = c.range-key-items.ensures.ordered
+
+pub returns-in_err-push-clause-ordered : goal.returns-in_err-push-clause-ordered
+returns-in_err-push-clause-ordered g c = c.range-key-items.ensures.ordered

@@ -60,3 +60,6 @@ returns g c =
     ∙ ap (λ es. filter_map here (entries_in has es)) (of_content total index index.map refl sorted)
     ∙ here_keys RP RK has (entries (content (entry_cmp RP RK) index))
     ∙ ap (λ (es : List ((g.row.P.Denot × g.row.K.Denot) × Unit {0})). map (λ e. e.0.1) (filter (λ e. has e.0) es)) (sym (entries-present total (content (entry_cmp RP RK) index)))
+
+pub loop-entry-init : goal.loop-entry-init
+loop-entry-init g c = rw (c.new-found.ensures.items, c.into_iter-entry-iterator.ensures.into_iter_gives, c.range-entry-items.ensures.between tt, c.map.ensures) refl
