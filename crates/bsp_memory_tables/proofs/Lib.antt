@@ -1,3 +1,4 @@
+pub mod FilterMapLemmas
 pub mod NumberOrder
 pub mod NumberLemmas
 pub mod PlaceOrders

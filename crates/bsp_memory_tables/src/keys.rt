@@ -10,7 +10,7 @@ use bsp_rows::{
 };
 
 /// A number that an item of an agent bears, as it was reported, and the item's key.
-#[derive(Clone, Copy, Debug, PartialEq, Eq, PartialOrd, Ord)]
+#[derive(Clone, Copy, PartialEq, Eq, PartialOrd, Ord)]
 pub struct NumberKey {
     pub agent: AgentCode,
     pub number: [u8; 10],
@@ -101,7 +101,7 @@ pub fn least_tally() -> TallyKey
 }
 
 /// The items of an agent.
-#[derive(Clone, Copy, Debug)]
+#[derive(Clone, Copy)]
 pub struct ItemsOf(pub AgentCode);
 
 impl Window<ItemKey> for ItemsOf {
@@ -127,7 +127,7 @@ impl Window<ItemKey> for ItemsOf {
 }
 
 /// The items of an agent that have a number of a range.
-#[derive(Clone, Copy, Debug)]
+#[derive(Clone, Copy)]
 pub struct ItemsWithin {
     pub agent: AgentCode,
     pub range: Range,
@@ -156,7 +156,7 @@ impl Window<ItemKey> for ItemsWithin {
 }
 
 /// The ranges of an agent.
-#[derive(Clone, Copy, Debug)]
+#[derive(Clone, Copy)]
 pub struct RangesOf(pub AgentCode);
 
 impl Window<RangeKey> for RangesOf {
@@ -181,7 +181,7 @@ impl Window<RangeKey> for RangesOf {
 }
 
 /// The memos of an airline.
-#[derive(Clone, Copy, Debug)]
+#[derive(Clone, Copy)]
 pub struct MemosOf(pub AirlineCode);
 
 impl Window<MemoKey> for MemosOf {
@@ -206,7 +206,7 @@ impl Window<MemoKey> for MemosOf {
 }
 
 /// The tallies of an agent.
-#[derive(Clone, Copy, Debug)]
+#[derive(Clone, Copy)]
 pub struct TalliesOf(pub AgentCode);
 
 impl Window<TallyKey> for TalliesOf {
@@ -232,7 +232,7 @@ impl Window<TallyKey> for TalliesOf {
 }
 
 /// An agent's items that bear a number, as it was reported.
-#[derive(Clone, Copy, Debug)]
+#[derive(Clone, Copy)]
 pub struct AtNumber {
     pub agent: AgentCode,
     pub number: [u8; 10],
