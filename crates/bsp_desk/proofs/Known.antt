@@ -1,6 +1,8 @@
 -- What a call of a known caller is answered, and of any other.
 use Rattle.std.proofs.Common.{◌≡◌, ℕ, Bool, true, false, cond, List, [], Option, Some, None, Result, Ok, Err, refl, sym, ap, subst, ◌∙◌}
-use Rattle.bsp_book.specs.Calls.{Keeps, Meaning}
+use Rattle.std.specs.Result.{result_ok}
+use Rattle.bsp_rows.specs.Codes.{agent_reading}
+use Rattle.bsp_book.specs.Calls.{Keeps, LooksUp, Meaning}
 use Rattle.bsp_book.specs.declared.fault.BookFault.{BookFault}
 use Rattle.bsp_messages.specs.Values.{airline_in}
 use Rattle.bsp_messages.specs.declared.answer.Answer.{Answer as Message}
@@ -31,6 +33,27 @@ own token_of given (Some other) rows caller e = go (is_token (token_of other row
     go : (b : Bool) → is_token (token_of other rows) given ≡ b → cond b (Some other) None ≡ Some caller → (Some other ≡ Some caller) × (is_token (token_of caller rows) given ≡ true)
     go true is k = let same : other ≡ caller = cc in (k, subst (λ c. is_token (token_of c rows) given ≡ true) same is)
     go false is k = absurd (cc)
+
+-- by the token that was found of the caller of a code
+known_by : (token_of : ℕ → Rows → Option (List ℕ)) (given : Option (List ℕ)) (o : Option ℕ) (caller : ℕ) (found : Option (List ℕ)) (b : Bool) (rows : Rows)
+    → o ≡ Some caller → is_token found given ≡ b → found ≡ token_of caller rows → cond b (Some caller) None ≡ if_own token_of given o rows
+known_by token_of given o caller found b rows named is of =
+    let held : is_token (token_of caller rows) given ≡ b = ap (λ (t : Option (List ℕ)). is_token t given) (sym of) ∙ is in
+    sym (ap (λ (x : Option ℕ). if_own token_of given x rows) named ∙ ap (λ (y : Bool). cond y (Some caller) None) held)
+
+pub agent_found : {B : Type 0} (m : Meaning B Rows) (old new : B) (given : Option (List ℕ)) (code : List ℕ) (agent : ℕ) (found : Option (List ℕ)) (b : Bool) → agent_reading code ≡ Ok agent
+    → is_token found given ≡ b → LooksUp m old new (Ok found) (λ t. t) (agent_token agent) → LooksUp m old new (Ok (cond b (Some agent) None)) (λ t. t) (known_agent given code)
+agent_found m old new given code agent found b reads is looked = record {
+  found = λ t now begun h. known_by agent_token given (agent_of code) agent found b now (ap result_ok reads) is (looked.found t now begun h);
+  ok = looked.ok;
+  fault = record {
+    trust = looked.fault.trust;
+    full = λ is. absurd (cc is);
+    failed = looked.fault.failed;
+    left = λ is. absurd (cc is);
+    dead = λ failed. let k = (looked.fault.dead failed).0 in absurd (cc k);
+  };
+}
 
 pub agent_answered : (given : Option (List ℕ)) (code : List ℕ) (call : AgentRequest) (rows : Rows) (agent : ℕ)
     → known_agent given code rows ≡ Some agent → asked_answer [] given (ByAgent code call) rows ≡ ledger_answer agent (ledger_of agent rows) call

@@ -1,5 +1,6 @@
 -- Lemmas of this crate.
 pub mod Known
+pub mod Transactions
 pub mod Fits
 pub mod Sent
 pub mod Reach
