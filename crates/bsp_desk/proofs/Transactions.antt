@@ -1,11 +1,14 @@
 -- What a call makes of a book in one transaction, by how far it came.
-use Rattle.std.proofs.Common.{◌≡◌, false, ℕ, List, Some, Ok, Err, refl}
-use Rattle.bsp_book.specs.Calls.{Begins, Commits as CommitsBook, FallsBack, Faults, LeavesEither, LeavesNow, Meaning, Stays}
+use Rattle.std.proofs.Common.{◌≡◌, false, ℕ, List, Result, Ok, Err, refl, sym, ◌∙◌}
+use Rattle.std.proofs.lemmas.Bool.{false≢true}
+use Rattle.bsp_book.specs.Calls.{Begins, Commits as CommitsBook, FallsBack, Faults, LeavesEither, LeavesLast, LeavesNow, Meaning, Stays}
 use Rattle.bsp_book.specs.declared.fault.BookFault.{BookFault}
 use Rattle.bsp_book.specs.declared.fault.BookFault.TheVariants.{NoRoom, Failed}
+use Rattle.bsp_messages.specs.declared.answer.Answer.{Answer as Message}
 use Rattle.bsp_messages.specs.declared.reply.Reply.{Reply}
 use Rattle.bsp_rows.specs.Rows.{Rows}
-use Rattle.bsp_desk.specs.Steps.{Commits, EndsRequest, EndsUnsent, Sends, left_by}
+use Rattle.bsp_desk_writes.specs.Serves.{EndsOnFault}
+use Rattle.bsp_desk.specs.Steps.{Commits, EndsRequest, EndsUnsent, Sends, ServesRequest, left_by}
 use Rattle.bsp_desk.specs.declared.request.Request.{Request}
 
 module _ {B : Type 0} (m : Meaning B Rows) (wider : (book : B) (a b : Rows) → m.leaves book a a → m.leaves book a b) (request : Request) (office : List ℕ) (old begun : B) where
@@ -77,3 +80,14 @@ module _ {B : Type 0} (m : Meaning B Rows) (wider : (book : B) (a b : Rows) → 
           left = λ is. absurd (cc is);
           dead = λ failed. let k = (alive.dead failed).0 in absurd (cc k);
         }
+
+-- what was served is given up
+pub gives_up : {B : Type 0} (m : Meaning B Rows) (request : Request) (office : List ℕ) (old mid new : B) (message : Message) (result : Result Reply BookFault) → m.has_failed old ≡ false →
+    ServesRequest m old mid request office (Ok message) → EndsOnFault m old mid {T = Message} (Ok message) → Faults m mid new (FallsBack m mid new) (LeavesLast m mid new) result → EndsUnsent m old new request result
+gives_up m request office old mid new message result works serves served fault = record {
+  trust = λ t. served.trust (fault.trust t);
+  full = λ is reading read t now last sound h. fault.full is (left_by office now reading) last (serves reading read (fault.trust t) now last sound h).1;
+  failed = fault.failed;
+  left = λ is open_ reading read t now last sound h. fault.left is served.failed (left_by office now reading) last (serves reading read (fault.trust t) now last sound h).1;
+  dead = λ failed. absurd (false≢true (sym works ∙ failed));
+}
