@@ -34,19 +34,19 @@ header_named form other n line h Bfh01 wide sequence digits letters_are fields s
   fields = fields;
   says = says;
 }
-header_named form other n line h Bch02 wide sequence digits letters_are fields says = absurd cc
-header_named form other n line h Boh03 wide sequence digits letters_are fields says = absurd cc
-header_named form other n line h Bkt06 wide sequence digits letters_are fields says = absurd cc
-header_named form other n line h Bks24 wide sequence digits letters_are fields says = absurd cc
-header_named form other n line h Bks30 wide sequence digits letters_are fields says = absurd cc
-header_named form other n line h Bks39 wide sequence digits letters_are fields says = absurd cc
-header_named form other n line h Bks42 wide sequence digits letters_are fields says = absurd cc
-header_named form other n line h Bks45 wide sequence digits letters_are fields says = absurd cc
-header_named form other n line h Bkp84 wide sequence digits letters_are fields says = absurd cc
-header_named form other n line h Bot93 wide sequence digits letters_are fields says = absurd cc
-header_named form other n line h Bot94 wide sequence digits letters_are fields says = absurd cc
-header_named form other n line h Bct95 wide sequence digits letters_are fields says = absurd cc
-header_named form other n line h Bft99 wide sequence digits letters_are fields says = absurd cc
+header_named form other n line h Bch02 _ _ _ _ _ says = absurd cc
+header_named form other n line h Boh03 _ _ _ _ _ says = absurd cc
+header_named form other n line h Bkt06 _ _ _ _ _ says = absurd cc
+header_named form other n line h Bks24 _ _ _ _ _ says = absurd cc
+header_named form other n line h Bks30 _ _ _ _ _ says = absurd cc
+header_named form other n line h Bks39 _ _ _ _ _ says = absurd cc
+header_named form other n line h Bks42 _ _ _ _ _ says = absurd cc
+header_named form other n line h Bks45 _ _ _ _ _ says = absurd cc
+header_named form other n line h Bkp84 _ _ _ _ _ says = absurd cc
+header_named form other n line h Bot93 _ _ _ _ _ says = absurd cc
+header_named form other n line h Bot94 _ _ _ _ _ says = absurd cc
+header_named form other n line h Bct95 _ _ _ _ _ says = absurd cc
+header_named form other n line h Bft99 _ _ _ _ _ says = absurd cc
 
 header_in : (form other : FileForm) (n : ℕ) (line : List ℕ) (h : Heading) → IsRecord form n line (file_header h) → IsRecord other n line (file_header h)
 header_in form other n line h is = header_named form other n line h is.name is.wide is.sequence is.digits is.letters_are is.fields is.says
@@ -55,7 +55,7 @@ header_in form other n line h is = header_named form other n line h is.name is.w
 
 allowed_is : (test : Bool) (x y : Standing) → allowed test x ≡ Some y → x ≡ y
 allowed_is true x y e = cc
-allowed_is false x y e = absurd cc
+allowed_is false x y e = absurd (none-some y e)
 
 kept : (test : Bool) (at x next : Standing) → allowed test x ≡ Some next → x.heading ≡ at.heading → next.heading ≡ at.heading
 kept test at x next e same = ap (λ (y : Standing). y.heading) (sym (allowed_is test x next e)) ∙ same
@@ -125,15 +125,15 @@ record IsHeader (r : Record) : Type 0 where
 first_record : (e : Draft) (r : Record) → Next nothing r e → IsHeader r
 unfolding step
 first_record e (file_header h) next = record { heading = h; is = refl }
-first_record e (period_header period days) next = let none = next.stands in absurd (cc none)
-first_record e (office_header agent period currency) next = let none = next.stands in absurd (cc none)
-first_record e (transaction_header n airline) next = let none = next.stands in absurd (cc none)
-first_record e (document n agent c d) next = let none = next.stands in absurd (cc none)
-first_record e (part n x) next = let none = next.stands in absurd (cc none)
-first_record e (code_totals agent c totals) next = let none = next.stands in absurd (cc none)
-first_record e (office_totals agent totals) next = let none = next.stands in absurd (cc none)
-first_record e (period_totals period offices totals) next = let none = next.stands in absurd (cc none)
-first_record e (file_totals airline records totals) next = let none = next.stands in absurd (cc none)
+first_record e (period_header period days) next = absurd (none-some (standing_of e) next.stands)
+first_record e (office_header agent period currency) next = absurd (none-some (standing_of e) next.stands)
+first_record e (transaction_header n airline) next = absurd (none-some (standing_of e) next.stands)
+first_record e (document n agent c d) next = absurd (none-some (standing_of e) next.stands)
+first_record e (part n x) next = absurd (none-some (standing_of e) next.stands)
+first_record e (code_totals agent c totals) next = absurd (none-some (standing_of e) next.stands)
+first_record e (office_totals agent totals) next = absurd (none-some (standing_of e) next.stands)
+first_record e (period_totals period offices totals) next = absurd (none-some (standing_of e) next.stands)
+first_record e (file_totals airline records totals) next = absurd (none-some (standing_of e) next.stands)
 
 first_in : (form other : FileForm) (e : Draft) (n : ℕ) (line : List ℕ) (r : Record) → Next nothing r e → IsRecord form n line r → IsRecord other n line r
 first_in form other e n line r next is =

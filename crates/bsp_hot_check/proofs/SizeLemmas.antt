@@ -1,5 +1,6 @@
 -- Sums fit the program's numbers.
 use Rattle.std.proofs.Common.{◌≡◌, ℕ, ◌+◌, Bool, true, false, Option, Some, None, IfSome, refl, subst, arith}
+use Rattle.std.proofs.lemmas.Option.{none-some}
 use Rattle.bsp_hot_records.specs.declared.code.DocumentCode.{DocumentCode}
 use Rattle.bsp_hot_records.specs.declared.code.DocumentCode.TheVariants.{Tktt, Rfnd, Canx, Adma, Acma}
 use Rattle.bsp_hot_records.specs.declared.totals.Sums.{Sums}
@@ -74,12 +75,12 @@ small_counted at x s h one = record {
 
 by_allowed : (test : Bool) (at x next : Standing) → allowed test x ≡ Some next → IsSmallNext at x → IsSmallNext at next
 by_allowed true at x next e g = let k : x ≡ next = cc in subst (IsSmallNext at) k g
-by_allowed false at x next e g = absurd cc
+by_allowed false at x next e g = absurd (none-some next e)
 
 small_next_part : (at next : Standing) (place : Place) (heading : Option Heading) (y : PartOf) → IsSmall at → IsSmallPart y.part → part_step at place heading y ≡ Some next → IsSmallNext at next
 small_next_part at next (InDocument x) (Some heading) y h one e =
     by_allowed _ at (counted at (progress_behind heading.form x y.part) (judged_sums y.part)) next e (record { records = refl; small = small_counted at (progress_behind heading.form x y.part) (judged_sums y.part) h (small_part y.part one) })
-small_next_part at next _ _ y h one e = absurd cc
+small_next_part at next _ _ y h one e = absurd (none-some next e)
 
 small_next : (at next : Standing) (r : Record) → IsSmall at → IsSmallRecord r → step at r ≡ Some next → IsSmallNext at next
 unfolding step

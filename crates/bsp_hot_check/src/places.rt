@@ -142,7 +142,6 @@ impl Stage {
 
 /// Adds to sums what a record of a document adds. EX is in no total.
 #[inline]
-#[tactic(auto, using(crate::proofs::PartLemmas::adds_cash, crate::proofs::PartLemmas::adds_credit, crate::proofs::PartLemmas::adds_commission, crate::proofs::PartLemmas::adds_tax, bsp_hot_records::proofs::SumLemmas::none_right))]
 pub(crate) fn add_part(sums: &mut Sums, part: &Part)
     requires small { AreSmall (2 ^ 63) sums.old }
     requires part { IsSmallPart part.now }
