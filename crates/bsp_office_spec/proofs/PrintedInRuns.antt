@@ -1,6 +1,6 @@
 -- What a run sends of a report prints the nets of the ledgers in the end.
 use Rattle.std.proofs.Common.{◌≡◌, ℕ, Bool, true, false, cond, List, ◌∷◌, Option, Some, None, refl, sym, ap, subst, ◌∙◌}
-use Rattle.std.proofs.lemmas.Bool.{both_ways}
+use Rattle.std.proofs.lemmas.Bool.{both_ways, false≢true}
 use Rattle.bsp_rows.specs.Published.{closed_period, is_taxed}
 use Rattle.bsp_rows.specs.Period.{Period}
 use Rattle.bsp_rows.specs.Rows.{Rows, agent_token, airline_token}
@@ -51,20 +51,20 @@ module _ (office : List ℕ) (rows new : Rows) (exchanges : List Exchange) (run 
   end_sound = run_sound office rows exchanges new run fits s
 
   settlement_printed : (period : List ℕ) (wanted : Option ℕ) → Printed new (ByOffice (AskSettlement period)) (settlement_answer wanted rows)
-  settlement_printed period None = λ h. absurd (cc h)
+  settlement_printed period None = λ h. absurd (false≢true h)
   settlement_printed period (Some code) = by (closed_period rows.published code) refl where
     by : (found : Option Period) → closed_period rows.published code ≡ found → Printed new (ByOffice (AskSettlement period)) (settlement_shown found rows)
-    by None is = λ h. absurd (cc h)
+    by None is = λ h. absurd (false≢true h)
     by (Some q) is = λ h m says.
         let same = (reports_stay office rows exchanges new code q run fits s is).0 ∙ ap (λ (found : Option Period). settlement_shown found rows) is in
         let later = subst (λ (x : Answer). Says x m) (sym same) says in
         subst (λ (n : ℕ). PrintsNets n new (text_of m)) (sym (closed_code rows.published code q is)) (settlements_print new code q m end_sound (still code q is) later)
 
   statement_printed : (agent : ℕ) (name period : List ℕ) (wanted : Option ℕ) → Printed new (ByAgent name (AskStatement period)) (statement_answer agent (ledger_of agent rows) wanted)
-  statement_printed agent name period None = λ h. absurd (cc h)
+  statement_printed agent name period None = λ h. absurd (false≢true h)
   statement_printed agent name period (Some code) = by (closed_period rows.published code) refl where
     by : (found : Option Period) → closed_period rows.published code ≡ found → Printed new (ByAgent name (AskStatement period)) (statement_shown agent (ledger_of agent rows) found)
-    by None is = λ h. absurd (cc h)
+    by None is = λ h. absurd (false≢true h)
     by (Some q) is = λ h m says.
         let same = (reports_stay office rows exchanges new code q run fits s is).1 agent ∙ ap (statement_shown agent (ledger_of agent rows)) is in
         let later = subst (λ (x : Answer). Says x m) (sym same) says in
@@ -72,10 +72,10 @@ module _ (office : List ℕ) (rows new : Rows) (exchanges : List Exchange) (run 
         subst (λ (n : ℕ). PrintsTotal (is_taxed rows.published q) (ledger_net n (ledger_of agent new)) (text_of m)) (sym (closed_code rows.published code q is)) taxed
 
   hot_printed : (airline : ℕ) (name period : List ℕ) (wanted : Option ℕ) → Printed new (ByAirline name (AskHot period)) (hot_answer airline (airline_ledger_of airline rows) wanted)
-  hot_printed airline name period None = λ h. absurd (cc h)
+  hot_printed airline name period None = λ h. absurd (false≢true h)
   hot_printed airline name period (Some code) = by (closed_period rows.published code) refl where
     by : (found : Option Period) → closed_period rows.published code ≡ found → Printed new (ByAirline name (AskHot period)) (hot_shown airline (airline_ledger_of airline rows) found)
-    by None is = λ h. absurd (cc h)
+    by None is = λ h. absurd (false≢true h)
     by (Some q) is = λ h m says ok.
         let same = (reports_stay office rows exchanges new code q run fits s is).2 airline ∙ ap (hot_shown airline (airline_ledger_of airline rows)) is in
         let later = subst (λ (x : Answer). Says x m) (sym same) says in
@@ -86,13 +86,13 @@ module _ (office : List ℕ) (rows new : Rows) (exchanges : List Exchange) (run 
   -- ---- any request
 
   agent_printed : (name period : List ℕ) (token : Option (List ℕ)) (r : Option ℕ) → Printed new (ByAgent name (AskStatement period)) (to_agent r token (AskStatement period) rows)
-  agent_printed name period token None = λ h. absurd (cc h)
+  agent_printed name period token None = λ h. absurd (false≢true h)
   agent_printed name period token (Some agent) =
       either new (ByAgent name (AskStatement period)) (statement_answer agent (ledger_of agent rows) (period_in period)) (is_token (agent_token agent rows) token) refl
       (statement_printed agent name period (period_in period))
 
   airline_printed : (name period : List ℕ) (token : Option (List ℕ)) (r : Option ℕ) → Printed new (ByAirline name (AskHot period)) (to_airline r token (AskHot period) rows)
-  airline_printed name period token None = λ h. absurd (cc h)
+  airline_printed name period token None = λ h. absurd (false≢true h)
   airline_printed name period token (Some airline) =
       either new (ByAirline name (AskHot period)) (hot_answer airline (airline_ledger_of airline rows) (period_in period)) (is_token (airline_token airline rows) token) refl
       (hot_printed airline name period (period_in period))
@@ -102,7 +102,7 @@ module _ (office : List ℕ) (rows new : Rows) (exchanges : List Exchange) (run 
       either new (ByOffice (AskSettlement period)) (settlement_answer (period_in period) rows) (is_token (Some office) token) refl (settlement_printed period (period_in period))
   asked_printed token (ByAgent name (AskStatement period)) = agent_printed name period token (agent_of name)
   asked_printed token (ByAirline name (AskHot period)) = airline_printed name period token (airline_in name)
-  asked_printed token asked = λ h. absurd (cc h)
+  asked_printed token asked = λ h. absurd (false≢true h)
 
 pub runs_print : RunsPrintNets
 runs_print office rows exchanges new run fits sound before after p answer m split at shown says =

@@ -1,6 +1,6 @@
 -- A report that a run has shown stays as it was shown.
 use Rattle.std.proofs.Common.{◌≡◌, ◌⊎◌, ℕ, Bool, true, false, cond, List, ◌∷◌, ◌++◌, Option, Some, None, refl, sym, ap, subst, ◌∙◌, inl, inr}
-use Rattle.std.proofs.lemmas.Bool.{both_ways}
+use Rattle.std.proofs.lemmas.Bool.{both_ways, false≢true}
 use Rattle.bsp_rows.specs.Published.{closed_period}
 use Rattle.bsp_rows.specs.Period.{Period}
 use Rattle.bsp_messages.specs.Values.{airline_in, period_in}
@@ -41,35 +41,35 @@ module _ (office : List ℕ) (rows new : Rows) (exchanges : List Exchange) (run 
   settlement_same period None h = refl
   settlement_same period (Some code) h = by (closed_period rows.published code) refl h where
     by : (found : Option Period) → closed_period rows.published code ≡ found → shows_report (ByOffice (AskSettlement period)) (settlement_shown found rows) ≡ true → settlement_answer (Some code) new ≡ settlement_answer (Some code) rows
-    by None is shown = absurd (cc shown)
+    by None is shown = absurd (false≢true shown)
     by (Some q) is shown = (reports_stay office rows exchanges new code q run fits s is).0
 
   statement_same : (agent : ℕ) (name period : List ℕ) (wanted : Option ℕ) → shows_report (ByAgent name (AskStatement period)) (statement_answer agent (ledger_of agent rows) wanted) ≡ true → statement_answer agent (ledger_of agent new) wanted ≡ statement_answer agent (ledger_of agent rows) wanted
   statement_same agent name period None h = refl
   statement_same agent name period (Some code) h = by (closed_period rows.published code) refl h where
     by : (found : Option Period) → closed_period rows.published code ≡ found → shows_report (ByAgent name (AskStatement period)) (statement_shown agent (ledger_of agent rows) found) ≡ true → statement_answer agent (ledger_of agent new) (Some code) ≡ statement_answer agent (ledger_of agent rows) (Some code)
-    by None is shown = absurd (cc shown)
+    by None is shown = absurd (false≢true shown)
     by (Some q) is shown = (reports_stay office rows exchanges new code q run fits s is).1 agent
 
   hot_same : (airline : ℕ) (name period : List ℕ) (wanted : Option ℕ) → shows_report (ByAirline name (AskHot period)) (hot_answer airline (airline_ledger_of airline rows) wanted) ≡ true → hot_answer airline (airline_ledger_of airline new) wanted ≡ hot_answer airline (airline_ledger_of airline rows) wanted
   hot_same airline name period None h = refl
   hot_same airline name period (Some code) h = by (closed_period rows.published code) refl h where
     by : (found : Option Period) → closed_period rows.published code ≡ found → shows_report (ByAirline name (AskHot period)) (hot_shown airline (airline_ledger_of airline rows) found) ≡ true → hot_answer airline (airline_ledger_of airline new) (Some code) ≡ hot_answer airline (airline_ledger_of airline rows) (Some code)
-    by None is shown = absurd (cc shown)
+    by None is shown = absurd (false≢true shown)
     by (Some q) is shown = (reports_stay office rows exchanges new code q run fits s is).2 airline
 
   -- ---- the request again
 
   agent_same : (name period : List ℕ) (token other : Option (List ℕ)) (r : Option ℕ) → shows_report (ByAgent name (AskStatement period)) (to_agent r token (AskStatement period) rows) ≡ true →
       Same (to_agent r token (AskStatement period) rows) (to_agent r other (AskStatement period) new)
-  agent_same name period token other None h = absurd (cc h)
+  agent_same name period token other None h = absurd (false≢true h)
   agent_same name period token other (Some agent) h =
       either (ByAgent name (AskStatement period)) (statement_answer agent (ledger_of agent rows) (period_in period)) (statement_answer agent (ledger_of agent new) (period_in period))
       (is_token (agent_token agent rows) token) (is_token (agent_token agent new) other) refl (statement_same agent name period (period_in period)) h
 
   airline_same : (name period : List ℕ) (token other : Option (List ℕ)) (r : Option ℕ) → shows_report (ByAirline name (AskHot period)) (to_airline r token (AskHot period) rows) ≡ true →
       Same (to_airline r token (AskHot period) rows) (to_airline r other (AskHot period) new)
-  airline_same name period token other None h = absurd (cc h)
+  airline_same name period token other None h = absurd (false≢true h)
   airline_same name period token other (Some airline) h =
       either (ByAirline name (AskHot period)) (hot_answer airline (airline_ledger_of airline rows) (period_in period)) (hot_answer airline (airline_ledger_of airline new) (period_in period))
       (is_token (airline_token airline rows) token) (is_token (airline_token airline new) other) refl (hot_same airline name period (period_in period)) h
@@ -80,7 +80,7 @@ module _ (office : List ℕ) (rows new : Rows) (exchanges : List Exchange) (run 
       (is_token (Some office) token) (is_token (Some office) other) refl (settlement_same period (period_in period)) h
   asked_same token other (ByAgent name (AskStatement period)) h = agent_same name period token other (agent_of name) h
   asked_same token other (ByAirline name (AskHot period)) h = airline_same name period token other (airline_in name) h
-  asked_same token other asked h = absurd (cc h)
+  asked_same token other asked h = absurd (false≢true h)
 
 pub runs_show : RunsShowTheSame
 runs_show office rows exchanges new run fits sound before between after p q shown answer split at is same there =

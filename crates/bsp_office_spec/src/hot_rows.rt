@@ -1,10 +1,11 @@
 //! HOT files over sound rows.
 
+ghost use Rattle.std.specs.Prelude.{IfSome};
 ghost use Rattle.std.specs.List.{All};
-ghost use Rattle.bsp_rows.specs.Stored.{InEach, IsStored, IsStoredTax};
+ghost use Rattle.bsp_rows.specs.Stored.{InEach, IsStored, IsStoredAmounts, IsStoredDocument, IsStoredTax};
 ghost use Rattle.bsp_office_spec.specs.HotRules.{HotFilesPass, IsTypedItem, IsTypedMemo, KeepRulesOfSound, SoundRowsKeepRules};
 
-use bsp_rows::{Item, Memo, MemoFields, Tax, Transaction};
+use bsp_rows::{Amounts, Item, Memo, MemoFields, ReportedDocument, Tax, Transaction};
 
 /// What the types of six tax places say of each.
 fn tax_places_fit(taxes: [Option<Tax>; 6])
@@ -13,14 +14,28 @@ fn tax_places_fit(taxes: [Option<Tax>; 6])
     let [_first, _second, _third, _fourth, _fifth, _sixth] = taxes;
 }
 
+/// What the types of two places for documents say of each.
+fn documents_fit(documents: [Option<ReportedDocument>; 2])
+    ensures { InEach IsStoredDocument documents }
+{
+    let [_first, _second] = documents;
+}
+
+/// What the types of amounts say of them, where there are any.
+fn amounts_fit(amounts: Option<Amounts>)
+    ensures { IfSome amounts IsStoredAmounts }
+{
+    if let Some(amounts) = amounts {
+        tax_places_fit(amounts.taxes);
+    }
+}
+
 /// What the types of a transaction's values say of them.
 fn transaction_fits(transaction: Transaction)
     ensures { IsStored transaction }
 {
-    let [_first, _second] = transaction.related;
-    if let Some(amounts) = transaction.amounts {
-        tax_places_fit(amounts.taxes);
-    }
+    documents_fit(transaction.related);
+    amounts_fit(transaction.amounts);
 }
 
 /// What the types of an item's values say of them.
