@@ -1,7 +1,7 @@
 -- What was read so far, by the last record.
 use Rattle.std.proofs.Common.{◌≡◌, ◌<◌, ◌≤◌, count_by, ℕ, suc, ◌+◌, Bool, true, List, [], ◌∷◌, ◌++◌, length, Option, Some, None, IfSome, IsSomeAnd, is_some, option_to_list, refl, sym, ap, subst, ◌∙◌, arith, append-nil, length-append}
 use Rattle.std.specs.List.{list_all}
-use Rattle.std.proofs.lemmas.Bool.{and_from, le-leb, ltb-true}
+use Rattle.std.proofs.lemmas.Bool.{and_from, false≢true, le-leb, ltb-true}
 use Rattle.std.proofs.lemmas.Grind.{flat_map-append}
 use Rattle.std.proofs.lemmas.List.Folds.{list_all-append}
 use Rattle.bsp_ret_records.specs.declared.codes.FormOfPayment.{FormOfPayment}
@@ -154,7 +154,7 @@ tktt_related related cash credit None b complete is exchanges = is ∙ no_relate
 tktt_related related cash credit (Some form) b complete is exchanges = is ∙ exchanges
 
 rfnd_related : (n : ℕ) (related second : Option (List ℕ)) (b : Bool) → may_pay Rfnd b ≡ true → is_some related ≡ b → AreRelated n related second → IsSomeAnd related (IsRecord 51 n related_fits)
-rfnd_related n None second b pays is fits = absurd cc
+rfnd_related n None second b pays is fits = absurd (false≢true (is ∙ pays))
 rfnd_related n (Some line) None b pays is fits = fits
 rfnd_related n (Some line) (Some second) b pays is fits = fits.0
 
@@ -189,7 +189,7 @@ form_group n Rfnd profile b end latest p complete =
     let second = rfnd_second profile p.second p.allowed in
     let exchange = rfnd_exchange p.exchange b p.exchanges in
     record { group = latest_group n Rfnd profile b end latest p; lines_are = p.lines_are; sale = p.stands; body = rw p.code_is (related, second, exchange, paid_group n Rfnd profile b end latest p complete) }
-form_group n Canx profile b end latest p complete = absurd (cc p.pays)
+form_group n Canx profile b end latest p complete = absurd (false≢true p.pays)
 
 -- in profile 001 it has one record 3 at most
 form_one : (n : ℕ) (code : TransactionCode) (profile : Profile) (b : Bool) (end : LastRecord) (latest : List (List ℕ)) → Paying n code profile b end latest → profile ≡ P001 → has_one_related latest ≡ true
@@ -220,7 +220,7 @@ no_latest profile n before d base none = record { base = base; groups = rw none 
 
 pub started : (l : LastRecord) (code : TransactionCode) (profile : Profile) (b : Bool) (only : Option ℕ) (n : ℕ) (before : List (List ℕ)) (d : Draft) → is_start l ≡ true → Read l code profile b only n before d → Read last.Start code profile b only n before d
 started last.Start code profile b only n before d h r = r
-started _ code profile b only n before d h r = absurd cc
+started _ code profile b only n before d h r = absurd (false≢true h)
 
 pub whole : (l : LastRecord) (code : TransactionCode) (profile : Profile) (b : Bool) (only : Option ℕ) (n : ℕ) (before : List (List ℕ)) (d : Draft) → is_complete l code b ≡ true → Read l code profile b only n before d → Whole profile n before d
 whole last.Header code profile b only n before d h r = no_latest profile n before d r.0 r.1
@@ -228,12 +228,12 @@ whole last.Sale Canx profile b only n before d h r = complete_canx profile n b b
 whole (last.Form Cash) code profile b only n before d h r = complete_form profile n code b (last.Form Cash) before d r.0 r.1 h
 whole (last.Form Credit) code profile b only n before d h r = complete_form profile n code b (last.Form Credit) before d r.0 r.1 h
 whole (last.Form Exchange) code profile b only n before d h r = complete_form profile n code b (last.Form Exchange) before d r.0 r.1 h
-whole last.Sale Tktt profile b only n before d h r = absurd cc
-whole last.Sale Rfnd profile b only n before d h r = absurd cc
-whole last.Start code profile b only n before d h r = absurd cc
-whole last.Related code profile b only n before d h r = absurd cc
-whole last.Amounts code profile b only n before d h r = absurd cc
-whole last.Trailer code profile b only n before d h r = absurd cc
+whole last.Sale Tktt profile b only n before d h r = absurd (false≢true h)
+whole last.Sale Rfnd profile b only n before d h r = absurd (false≢true h)
+whole last.Start code profile b only n before d h r = absurd (false≢true h)
+whole last.Related code profile b only n before d h r = absurd (false≢true h)
+whole last.Amounts code profile b only n before d h r = absurd (false≢true h)
+whole last.Trailer code profile b only n before d h r = absurd (false≢true h)
 
 -- ---- one more record 3
 
@@ -286,31 +286,31 @@ pub related_more : (l : LastRecord) (code : TransactionCode) (profile : Profile)
     → Read l code profile b only n before d → BaseOf profile before n d × RelatedMore n code profile b d.latest line
 related_more last.Sale Tktt profile b only n before d line h later is r = (r.0, first_more n Tktt profile b d.latest line r.1 refl is)
 related_more last.Sale Rfnd profile b only n before d line h later is r = (r.0, first_more n Rfnd profile b d.latest line r.1 refl is)
-related_more last.Sale Canx profile b only n before d line h later is r = absurd cc
+related_more last.Sale Canx profile b only n before d line h later is r = absurd (false≢true h)
 related_more last.Related Tktt P002 b (Some order) n before d line h later is r =
     (r.0, second_more n b order d.latest r.1.line r.1.second line r.1.sold r.1.only_is is later)
-related_more last.Related Tktt P002 b None n before d line h later is r = absurd cc
-related_more last.Related Tktt P001 b only n before d line h later is r = absurd cc
-related_more last.Related Rfnd profile b only n before d line h later is r = absurd cc
-related_more last.Related Canx profile b only n before d line h later is r = absurd cc
-related_more _ code profile b only n before d line h later is r = absurd cc
+related_more last.Related Tktt P002 b None n before d line h later is r = absurd (false≢true h)
+related_more last.Related Tktt P001 b only n before d line h later is r = absurd (false≢true h)
+related_more last.Related Rfnd profile b only n before d line h later is r = absurd (false≢true h)
+related_more last.Related Canx profile b only n before d line h later is r = absurd (false≢true h)
+related_more _ code profile b only n before d line h later is r = absurd (false≢true h)
 
 -- where a record 5 may stand
 pub awaiting : (l : LastRecord) (code : TransactionCode) (profile : Profile) (b : Bool) (only : Option ℕ) (n : ℕ) (before : List (List ℕ)) (d : Draft) → takes_amounts l code ≡ true → Read l code profile b only n before d
     → BaseOf profile before n d × (may_pay code b ≡ true) × (related : Option (List ℕ)) × (second : Option (List ℕ)) × Sold n code b related second d.latest × IsAllowed code profile second
 awaiting last.Sale Tktt profile b only n before d h r = (r.0, refl, None, None, r.1, tt)
-awaiting last.Sale Rfnd profile b only n before d h r = absurd cc
-awaiting last.Sale Canx profile b only n before d h r = absurd cc
+awaiting last.Sale Rfnd profile b only n before d h r = absurd (false≢true h)
+awaiting last.Sale Canx profile b only n before d h r = absurd (false≢true h)
 awaiting last.Related code profile b only n before d h r = (r.0, r.1.pays, Some r.1.line, r.1.second, r.1.sold, r.1.allowed)
-awaiting _ code profile b only n before d h r = absurd cc
+awaiting _ code profile b only n before d h r = absurd (false≢true h)
 
 -- where a record 8 may stand
 pub paying : (l : LastRecord) (code : TransactionCode) (profile : Profile) (b : Bool) (only : Option ℕ) (n : ℕ) (before : List (List ℕ)) (d : Draft) (form : Option FormOfPayment) → takes_form l code b form ≡ true → Read l code profile b only n before d
     → BaseOf profile before n d × Paying n code profile b l d.latest
 paying last.Amounts code profile b only n before d form h r = r
 paying (last.Form kind) code profile b only n before d form h r = r
-paying _ code profile b only n before d form h r = absurd cc
+paying _ code profile b only n before d form h r = absurd (false≢true h)
 
 pub ended : (l : LastRecord) (code : TransactionCode) (profile : Profile) (b : Bool) (only : Option ℕ) (n : ℕ) (before : List (List ℕ)) (d : Draft) → has_ended l ≡ true → Read l code profile b only n before d → Ret before (file_of d)
 ended last.Trailer code profile b only n before d h r = r
-ended _ code profile b only n before d h r = absurd cc
+ended _ code profile b only n before d h r = absurd (false≢true h)

@@ -45,7 +45,7 @@ pub struct RetFault {
 
 /// What a record says of the file and its transactions: its kind, the profile of a header, the code
 /// of a record 2, by what a record 3 is in order, and the form and the amount of a record 8.
-#[derive(Clone, Copy, Debug, PartialEq, Eq)]
+#[derive(Clone, Copy)]
 pub enum Record {
     /// Record 1.
     Header(Profile),
@@ -62,7 +62,7 @@ pub enum Record {
 }
 
 /// The kind of the last record.
-#[derive(Clone, Copy, Debug, PartialEq, Eq)]
+#[derive(Clone, Copy)]
 pub enum LastRecord {
     /// There is none.
     Start,
@@ -81,7 +81,7 @@ pub enum LastRecord {
 }
 
 /// The state of the records before a place.
-#[derive(Clone, Copy, Debug, PartialEq, Eq)]
+#[derive(Clone, Copy)]
 pub struct Standing {
     /// How many there are.
     pub records: usize,
