@@ -95,16 +95,6 @@ fn file_word<'a>(alloc: Global) -> Arg<'a>
         .required(true)
 }
 
-/// The word FILE of a command on a book.
-fn book_word<'a>(alloc: Global) -> Arg<'a>
-    ensures rule { rule_of result ≡ wanted_word (codes "FILE") }
-    ensures local { result.global ≡ false }
-{
-    Arg::new(alloc, "FILE")
-        .help("the file that keeps the book, which is not changed")
-        .required(true)
-}
-
 /// The word CODE, which may be absent.
 fn code_word<'a>(alloc: Global) -> Arg<'a>
     ensures rule { rule_of result ≡ new_rule (codes "CODE") }
@@ -207,7 +197,8 @@ fn push_audit<'a>(alloc: Global, commands: &mut Vec<Command<'a>>) -> Result<(), 
     ensures { OnOk result (shapes_in commands.new.items ≡ shapes_in commands.old.items ++ of_one (audit_app.top ∷ [])) }
 {
     let mut arguments = Vec::new(alloc);
-    push_argument(&mut arguments, book_word(alloc))?;
+    let book = file_word(alloc).help("the file that keeps the book, which is not changed");
+    push_argument(&mut arguments, book)?;
     push_command(
         alloc,
         commands,

@@ -257,12 +257,24 @@ fn setting_with<'a>(matches: &ArgMatches<'a>, earlier: Vec<&'a str>) -> Option<S
     requires { texts_in earlier.items ≡ values_in (codes "file") (rows_of (found_of matches.now)) }
     ensures { option_map setting_of result ≡ setting_in (rows_of (found_of matches.now)) }
 {
-    let plan = value_of(matches, "plan")?;
-    let day = day_given(matches)?;
-    let agent = agent_given(matches)?;
-    let range = range_given(matches)?;
-    let first = first_number(range)?;
-    let last = last_number(range)?;
+    let Some(plan) = value_of(matches, "plan") else {
+        return None;
+    };
+    let Some(day) = day_given(matches) else {
+        return None;
+    };
+    let Some(agent) = agent_given(matches) else {
+        return None;
+    };
+    let Some(range) = range_given(matches) else {
+        return None;
+    };
+    let Some(first) = first_number(range) else {
+        return None;
+    };
+    let Some(last) = last_number(range) else {
+        return None;
+    };
     Some(Setting {
         plan,
         day,
@@ -306,7 +318,9 @@ fn token_given<'a>(matches: &ArgMatches<'a>) -> Option<TokenSource<'a>>
     let file = value_of(matches, "token-file");
     match (given, file) {
         (Some(text), None) => {
-            let token = Token::read(text.as_bytes())?;
+            let Some(token) = Token::read(text.as_bytes()) else {
+                return None;
+            };
             Some(TokenSource::Given(token))
         }
         (None, Some(file)) if file != "-" => Some(TokenSource::File(file)),
