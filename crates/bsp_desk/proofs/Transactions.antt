@@ -1,14 +1,14 @@
 -- What a call makes of a book in one transaction, by how far it came.
 use Rattle.std.proofs.Common.{◌≡◌, false, ℕ, List, Result, Ok, Err, refl, sym, ◌∙◌}
 use Rattle.std.proofs.lemmas.Bool.{false≢true}
-use Rattle.bsp_book.specs.Calls.{Begins, Commits as CommitsBook, FallsBack, Faults, LeavesEither, LeavesLast, LeavesNow, Meaning, Stays}
+use Rattle.bsp_book.specs.Calls.{Begins, FallsBack, Faults, LeavesEither, LeavesLast, LeavesNow, Meaning, Stays}
 use Rattle.bsp_book.specs.declared.fault.BookFault.{BookFault}
 use Rattle.bsp_book.specs.declared.fault.BookFault.TheVariants.{NoRoom, Failed}
 use Rattle.bsp_messages.specs.declared.answer.Answer.{Answer as Message}
 use Rattle.bsp_messages.specs.declared.reply.Reply.{Reply}
 use Rattle.bsp_rows.specs.Rows.{Rows}
 use Rattle.bsp_desk_writes.specs.Serves.{EndsOnFault}
-use Rattle.bsp_desk.specs.Steps.{Commits, EndsRequest, EndsUnsent, Sends, ServesRequest, left_by}
+use Rattle.bsp_desk.specs.Steps.{EndsRequest, EndsUnsent, Sends, ServesRequest, left_by}
 use Rattle.bsp_desk.specs.declared.request.Request.{Request}
 
 module _ {B : Type 0} (m : Meaning B Rows) (wider : (book : B) (a b : Rows) → m.leaves book a a → m.leaves book a b) (request : Request) (office : List ℕ) (old begun : B) where
@@ -64,22 +64,6 @@ module _ {B : Type 0} (m : Meaning B Rows) (wider : (book : B) (a b : Rows) → 
         left = λ is open_ reading read t rows sound h. fault.left refl replied.failed (left_by office rows reading) rows (sends reading read (fault.trust t) rows rows sound (begins rows h)).1;
         dead = λ failed. let k = (alive.dead failed).0 in absurd (cc k);
       }
-
-      -- the transaction is committed
-      module _ {U : Type 0} (y : U) (fault : Faults m sent new (FallsBack m sent new) (LeavesEither m sent new) (Ok y)) where
-        pub committed : CommitsBook m sent new → Commits m old new request office (Ok reply)
-        committed commits = λ reading read t rows sound h.
-            let kept = sends reading read (fault.trust t) rows rows sound (begins rows h) in
-            (kept.0, commits (left_by office rows reading) rows kept.1)
-
-        pub ended : EndsRequest m old new request office (Ok reply)
-        ended = record {
-          trust = λ t. alive.trust (replied.trust (fault.trust t));
-          full = λ is. absurd (cc is);
-          failed = fault.failed;
-          left = λ is. absurd (cc is);
-          dead = λ failed. let k = (alive.dead failed).0 in absurd (cc k);
-        }
 
 -- what was served is given up
 pub gives_up : {B : Type 0} (m : Meaning B Rows) (request : Request) (office : List ℕ) (old mid new : B) (message : Message) (result : Result Reply BookFault) → m.has_failed old ≡ false →

@@ -1,6 +1,6 @@
 use Rattle.std.proofs.lemmas.Result.{err_from_is_err_and}
 use Rattle.bsp_desk.specs.Callers.{calling}
-use Rattle.bsp_desk.proofs.Transactions.{unbegun, unsent, uncommitted, committed, ended}
+use Rattle.bsp_desk.proofs.Transactions.{unbegun, unsent, uncommitted}
 use Rattle.bsp_desk.proofs.transaction.answer_call.Goals as goal
 
 pub returns-in_err-begin-clause-fault : goal.returns-in_err-begin-clause-fault
@@ -17,11 +17,3 @@ pub returns-in_err-commit-clause-fault : goal.returns-in_err-commit-clause-fault
 returns-in_err-commit-clause-fault g c =
     let p = err_from_is_err_and c.from_residual-in_err-commit.result c.from_residual-in_err-commit.ensures.1 in
     rw (p.1, p.2) (uncommitted g.B.Book.means g.met.B.Book.wider (calling c.args.token c.args.call.now c.args.content.now) c.args.office.now c.args.book.now c.begin.new.self c.in_ok-begin.field-0 c.in_ok-begin.ensures.ok c.in_ok-begin.ensures.fault c.reply_within.new.book c.commit.new.self c.in_ok-reply.reply c.in_ok-reply.ensures.sent c.in_ok-reply.ensures.fault c.in_err-commit.field-0.0 c.in_err-commit.ensures.fault)
-
-pub returns-clause-kept : goal.returns-clause-kept
-returns-clause-kept g c =
-    committed g.B.Book.means g.met.B.Book.wider (calling c.args.token c.args.call.now c.args.content.now) c.args.office.now c.args.book.now c.begin.new.self c.in_ok-begin.field-0 c.in_ok-begin.ensures.ok c.in_ok-begin.ensures.fault c.reply_within.new.book c.commit.new.self c.in_ok-reply.reply c.in_ok-reply.ensures.sent c.in_ok-reply.ensures.fault c.in_ok-commit.field-0 c.in_ok-commit.ensures.fault c.in_ok-commit.ensures.ok
-
-pub returns-clause-fault : goal.returns-clause-fault
-returns-clause-fault g c =
-    ended g.B.Book.means g.met.B.Book.wider (calling c.args.token c.args.call.now c.args.content.now) c.args.office.now c.args.book.now c.begin.new.self c.in_ok-begin.field-0 c.in_ok-begin.ensures.ok c.in_ok-begin.ensures.fault c.reply_within.new.book c.commit.new.self c.in_ok-reply.reply c.in_ok-reply.ensures.sent c.in_ok-reply.ensures.fault c.in_ok-commit.field-0 c.in_ok-commit.ensures.fault

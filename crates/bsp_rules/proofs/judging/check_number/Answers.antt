@@ -5,18 +5,6 @@ use Rattle.bsp_rules.specs.declared.verdict.Reporter.TheVariants.{Office}
 use Rattle.bsp_rules.proofs.RowLemmas.{told_first, passed_first}
 use Rattle.bsp_rules.proofs.judging.check_number.Goals as goal
 
-pub returns : goal.returns
-returns c =
-    let rs = take 4 (drop 3 (rows Office c.args.transaction.now c.args.facts.now c.args.plan.now)) in
-    let digits = rw c.has_wrong_check_digit.ensures at c.in_ok-refuse_if.ensures in
-    let issued = rw c.is_not_yet_issued.ensures at c.in_ok-refuse_if-2.ensures in
-    let stock = rw c.is_out_of_stock.ensures at c.in_ok-refuse_if-3.ensures in
-    let number = rw c.is_number_used.ensures at c.refuse_if-4.ensures in
-    number
-    ∙ sym (passed_first (take 1 rs) (drop 1 rs) (tt {0}) digits
-    ∙ passed_first (take 1 (drop 1 rs)) (drop 2 rs) (tt {0}) issued
-    ∙ passed_first (take 1 (drop 2 rs)) (drop 3 rs) (tt {0}) stock)
-
 pub returns-in_err-refuse_if : goal.returns-in_err-refuse_if
 returns-in_err-refuse_if c =
     let rs = take 4 (drop 3 (rows Office c.args.transaction.now c.args.facts.now c.args.plan.now)) in
@@ -31,15 +19,3 @@ returns-in_err-refuse_if-2 c =
     let issued = rw c.is_not_yet_issued.ensures at c.in_err-refuse_if-2.ensures in
     let q = err_from_is_err_and c.from_residual-in_err-refuse_if-2.result c.from_residual-in_err-refuse_if-2.ensures.1 in
     rw (q.1, q.2) (sym (passed_first (take 1 rs) (drop 1 rs) (tt {0}) digits ∙ told_first (take 1 (drop 1 rs)) (drop 2 rs) (tt {0}) _ issued))
-
-pub returns-in_err-refuse_if-3 : goal.returns-in_err-refuse_if-3
-returns-in_err-refuse_if-3 c =
-    let rs = take 4 (drop 3 (rows Office c.args.transaction.now c.args.facts.now c.args.plan.now)) in
-    let digits = rw c.has_wrong_check_digit.ensures at c.in_ok-refuse_if.ensures in
-    let issued = rw c.is_not_yet_issued.ensures at c.in_ok-refuse_if-2.ensures in
-    let stock = rw c.is_out_of_stock.ensures at c.in_err-refuse_if-3.ensures in
-    let q = err_from_is_err_and c.from_residual-in_err-refuse_if-3.result c.from_residual-in_err-refuse_if-3.ensures.1 in
-    rw (q.1, q.2)
-    (sym (passed_first (take 1 rs) (drop 1 rs) (tt {0}) digits
-    ∙ passed_first (take 1 (drop 1 rs)) (drop 2 rs) (tt {0}) issued
-    ∙ told_first (take 1 (drop 2 rs)) (drop 3 rs) (tt {0}) _ stock))
