@@ -14,7 +14,7 @@ use sqlite::{Alter, Connection, Error, Row};
 use sqlite_value::value::ValueRef;
 
 /// The row of a rate of commission at its place.
-#[derive(Clone, Copy)]
+#[derive(Clone, Copy, Debug)]
 pub struct RateRow {
     airline: [u8; 3],
     begins: i64,
