@@ -53,12 +53,6 @@ pub record IsWanted (w : Wanted) (request : Request) : Type 0 where
   pub call : asking_text request.call ≡ asking.Call w.call
   pub content : IsGiven w.given request.content
 
--- requests one by one
-abbrev pub AreWanted : List Wanted → List Request → Type 0
-AreWanted [] [] = Unit {0}
-AreWanted (w ∷ ws) (request ∷ requests) = IsWanted w request × AreWanted ws requests
-AreWanted _ _ = ⊥
-
 -- the desk of an office over a book in memory answers the request so
 pub record IsAnswered (office : List ℕ) (old : ListBook) (w : Wanted) (reply : Reply) (new : ListBook) : Type 0 where
   pub request : Request

@@ -1,22 +1,20 @@
 -- Why a RET file is not judged.
-use Rattle.std.specs.Prelude.{◌≡◌, ◌⊎◌, ◌++◌, ◌∷◌, ℕ, true, List, Some, None, get_or, length}
-use Rattle.std.specs.List.{All, FoldsTo}
+use Rattle.std.specs.Prelude.{◌≡◌, ◌⊎◌, ℕ, true, List, Some, None}
+use Rattle.std.specs.List.{FoldsTo}
 use Rattle.bsp_ret.specs.Lines.{lines}
 use Rattle.bsp_ret.specs.Reading.{no_memory}
 use Rattle.bsp_ret.specs.Table.{first_fault}
 use Rattle.bsp_ret.specs.declared.model.RetFault.{RetFault}
 use Rattle.bsp_messages.specs.declared.reply.Reply.{Reply}
-use Rattle.bsp_messages.specs.declared.status.Status.TheVariants as status
 use Rattle.bsp_rows.specs.Rows.{no_rows}
 use Rattle.bsp_book.specs.Listed.{meaning}
 use Rattle.bsp_book.specs.declared.list.ListBook.{ListBook}
 use Rattle.bsp_desk.specs.Replies.{is_refusal}
-use Rattle.bsp_judge.specs.Asked.{IsAnswered, Passes, Reports, SetupTexts, Wanted, all_steps, office_requests, step_request}
+use Rattle.bsp_judge.specs.Asked.{IsAnswered, Passes, Reports, SetupTexts, Wanted, office_requests, step_request}
 use Rattle.bsp_judge.specs.Turns.{StopsAt}
 use Rattle.bsp_judge.specs.declared.setup.JudgeFault.{JudgeFault}
 use Rattle.bsp_judge.specs.declared.setup.JudgeFault.TheVariants.{Setup, Earlier, File, Memory}
 use Rattle.bsp_judge.specs.declared.setup.Step.{Step}
-use Rattle.bsp_judge.specs.declared.setup.Step.TheVariants as step
 
 -- ---- a file
 
@@ -46,29 +44,12 @@ pub record IsRefusal (office : List ℕ) (old : ListBook) (w : Wanted) (reply : 
   pub answered : IsAnswered office old w reply new
   pub refused : is_refusal reply.status ≡ true
 
--- the replies to the steps are 200
-abbrev pub AreTaken : List Reply → Type 0
-AreTaken replies = All (λ (reply : Reply). reply.status ≡ status.Ok) replies
-
--- those before one are, and that one refuses its step
-abbrev pub IsRefusedFirst : List Reply → Step → Reply → Type 0
-IsRefusedFirst replies of reply =
-    (before : List Reply) × (rest : List Reply) × (replies ≡ before ++ reply ∷ rest) × AreTaken before × (of ≡ get_or all_steps (length before) step.Plan)
-    × (is_refusal reply.status ≡ true)
-
-abbrev pub IsFirstRefused : List Reply → JudgeFault → Type 0
-IsFirstRefused replies (Setup at reply) = IsRefusedFirst replies at reply
-IsFirstRefused replies Memory = Unit {0}
-IsFirstRefused replies (Earlier place fault) = ⊥
-IsFirstRefused replies (File fault) = ⊥
-
--- the requests before one pass, and that one is refused, at its step
-abbrev pub IsRunRefused : List ℕ → ListBook → List Wanted → JudgeFault → Type 0
-IsRunRefused office start wanted (Setup at reply) =
-    (place : ℕ) × StopsAt (Passes office) (λ before w. (after : ListBook) × IsRefusal office before w reply after) start wanted place × (at ≡ get_or all_steps place step.Plan)
-IsRunRefused office start wanted Memory = Unit {0}
-IsRunRefused office start wanted (Earlier place fault) = ⊥
-IsRunRefused office start wanted (File fault) = ⊥
+-- that is the fault of the step
+abbrev pub IsStepRefused : List ℕ → ListBook → Step → Wanted → ListBook → JudgeFault → Type 0
+IsStepRefused office old of w new (Setup at reply) = (at ≡ of) × IsRefusal office old w reply new
+IsStepRefused office old of w new Memory = Unit {0}
+IsStepRefused office old of w new (Earlier place fault) = ⊥
+IsStepRefused office old of w new (File fault) = ⊥
 
 -- the steps before it pass, and the request of the step is refused
 abbrev pub IsRefusedAt : List ℕ → List ℕ → SetupTexts → ListBook → Step → Reply → Type 0

@@ -1,12 +1,12 @@
 //! What a desk is asked in a trial.
 
-ghost use Rattle.std.specs.Prelude.{◌≡◌, ◌++◌, List, ℕ, IfErr, IfOk, OnOk, length};
+ghost use Rattle.std.specs.Prelude.{◌≡◌, ◌++◌, List, ℕ, IfErr, IfOk, OnOk};
 ghost use Rattle.std.specs.List.{FoldsTo};
 ghost use Rattle.bsp_ret.specs.Lines.{lines};
 ghost use Rattle.bsp_ret.specs.Ret.{Ret};
 ghost use Rattle.bsp_desk.specs.Calls.{office_text};
-ghost use Rattle.bsp_judge.specs.Asked.{AreWanted, IsAnswered, IsWanted, Passes, Reports, Wanted, agent_body, by_office, day_body, office_requests, report, setup_texts, step_call, stock_body};
-ghost use Rattle.bsp_judge.specs.Unjudged.{AreTaken, IsEarlierFault, IsFirstRefused, IsRefusedIn, IsRetFaultOf, IsRunRefused};
+ghost use Rattle.bsp_judge.specs.Asked.{IsAnswered, Passes, Reports, agent_body, by_office, day_body, office_requests, report, setup_texts, step_body, step_call, step_request, stock_body};
+ghost use Rattle.bsp_judge.specs.Unjudged.{IsEarlierFault, IsRefusedIn, IsRetFaultOf, IsStepRefused};
 ghost use Rattle.bsp_judge.specs.Plans.{texts_of};
 
 use crate::lines::push_fields;
@@ -17,8 +17,30 @@ use bsp_ret::{FaultCode, RetFault, RetFile, read_ret};
 use bsp_routes::{AgentCall, Call, OfficeCall};
 use std::alloc::{AllocError, Global};
 
-/// What the office asks for in a trial, in this order.
-const STEPS: [Step; 4] = [Step::Plan, Step::Day, Step::Agent, Step::Stock];
+/// Asks the desk for the office. A 503 is want of memory, and any other reply than 200 the fault of the step.
+fn by_office(
+    desk: &mut Desk<ListBook>,
+    step: Step,
+    office: &Token,
+    call: OfficeCall<&[u8]>,
+    body: &[u8],
+) -> Result<(), JudgeFault>
+    ensures passed { OnOk result (Passes desk.old.office desk.old.book (by_office office.now (office_text call.entry) body.now) desk.new.book) }
+    ensures refused { IfErr result (IsStepRefused desk.old.office desk.old.book step (by_office office.now (office_text call.entry) body.now) desk.new.book) }
+    ensures office { desk.new.office ≡ desk.old.office }
+{
+    let token = office.as_bytes();
+    let reply = desk.answer(&Request {
+        token: Some(token),
+        call: Asking::Call(Call::Office(call)),
+        content: Content::Bytes(body),
+    });
+    match reply.status {
+        Status::Ok => Ok(()),
+        Status::ServiceUnavailable => Err(JudgeFault::Memory),
+        _ => Err(JudgeFault::Setup(step, reply)),
+    }
+}
 
 #[tactic(auto, unfolding(crate::specs::Asked::day_body))]
 fn day_body(alloc: Global, day: Day) -> Result<Vec<u8>, AllocError>
@@ -75,44 +97,40 @@ fn step_call(step: Step) -> OfficeCall<&'static [u8]>
     }
 }
 
-/// The request of a step, with this body.
-fn step_request<'r>(office: &'r Token, step: Step, body: &'r [u8]) -> Request<'r>
-    ensures { IsWanted (by_office office.now (step_call step) body.now) result }
+/// The body of the request of a step.
+fn step_body(
+    alloc: Global,
+    token: &Token,
+    setup: &Setup<'_>,
+    step: Step,
+) -> Result<Vec<u8>, AllocError>
+    ensures { IfOk result (λ body. body.items ≡ step_body token.now (setup_texts setup.now) step) }
 {
-    Request {
-        token: Some(office.as_bytes()),
-        call: Asking::Call(Call::Office(step_call(step))),
-        content: Content::Bytes(body),
+    match step {
+        Step::Plan => Vec::from_slice(alloc, setup.plan),
+        Step::Day => day_body(alloc, setup.day),
+        Step::Agent => agent_body(alloc, setup.agent, token),
+        Step::Stock => stock_body(alloc, setup),
     }
 }
 
-/// The fault of the first reply that is not 200, of replies to the steps. A 503 is want of memory, and any other that of
-/// its step.
-fn taken(mut replies: Vec<Reply>) -> Result<(), JudgeFault>
-    requires { length replies.items ≡ 4 }
-    ensures taken { OnOk result (AreTaken replies.items) }
-    ensures refused { IfErr result (IsFirstRefused replies.items) }
-{
-    let Some(at) = replies.iter().position(|reply| reply.status != Status::Ok) else {
-        return Ok(());
-    };
-    let reply = replies.swap_remove(at);
-    if reply.status == Status::ServiceUnavailable {
-        return Err(JudgeFault::Memory);
-    }
-    Err(JudgeFault::Setup(STEPS[at], reply))
-}
-
-/// Asks the desk for the steps in one run.
-fn ask(desk: &mut Desk<ListBook>, requests: &[Request<'_>; 4]) -> Result<(), JudgeFault>
-    ensures passed { OnOk result ((wanted : List Wanted) → AreWanted wanted requests.now → FoldsTo (Passes desk.old.office) desk.old.book wanted desk.new.book) }
-    ensures refused { IfErr result (λ fault. (wanted : List Wanted) → AreWanted wanted requests.now → IsRunRefused desk.old.office desk.old.book wanted fault) }
+/// Asks the desk for a step.
+fn ask_step(
+    alloc: Global,
+    desk: &mut Desk<ListBook>,
+    office: &Token,
+    token: &Token,
+    setup: &Setup<'_>,
+    step: Step,
+) -> Result<(), JudgeFault>
+    ensures passed { OnOk result (Passes desk.old.office desk.old.book (step_request office.now token.now (setup_texts setup.now) step) desk.new.book) }
+    ensures refused { IfErr result (IsStepRefused desk.old.office desk.old.book step (step_request office.now token.now (setup_texts setup.now) step) desk.new.book) }
     ensures office { desk.new.office ≡ desk.old.office }
 {
-    match desk.run(requests) {
-        Ok(replies) => taken(replies),
-        Err(_) => Err(JudgeFault::Memory),
-    }
+    let Ok(body) = step_body(alloc, token, setup, step) else {
+        return Err(JudgeFault::Memory);
+    };
+    by_office(desk, step, office, step_call(step), &body)
 }
 
 /// Publishes the plan, sets the day, registers the agent and allots its numbers.
@@ -128,24 +146,10 @@ pub(crate) fn set_up(
     ensures refused { IfErr result (IsRefusedIn office.now token.now (setup_texts setup.now) desk.old.book) }
     ensures office { desk.new.office ≡ desk.old.office }
 {
-    let Ok(day) = day_body(alloc, setup.day) else {
-        return Err(JudgeFault::Memory);
-    };
-    let Ok(agent) = agent_body(alloc, setup.agent, token) else {
-        return Err(JudgeFault::Memory);
-    };
-    let Ok(stock) = stock_body(alloc, setup) else {
-        return Err(JudgeFault::Memory);
-    };
-    ask(
-        desk,
-        &[
-            step_request(office, Step::Plan, setup.plan),
-            step_request(office, Step::Day, &day),
-            step_request(office, Step::Agent, &agent),
-            step_request(office, Step::Stock, &stock),
-        ],
-    )
+    for step in [Step::Plan, Step::Day, Step::Agent, Step::Stock] {
+        ask_step(alloc, desk, office, token, setup, step)?;
+    }
+    Ok(())
 }
 
 /// Posts a RET file for the agent.
