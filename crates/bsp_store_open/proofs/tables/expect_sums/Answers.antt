@@ -6,8 +6,7 @@ use Rattle.bsp_store_load.specs.Loading.{HasRows}
 use Rattle.bsp_store_open.specs.Faults.{is_refusal}
 use Rattle.bsp_store_open.specs.Loaded.{OtherTallies}
 use Rattle.bsp_store_open.specs.Opening.{Misses}
-use Rattle.bsp_store_open.specs.declared.fault.OpenFault.TheVariants.{Damaged}
-use Rattle.bsp_store_open.proofs.OpeningLemmas.{both, if_err, missed_after, misses_more, on_ok, passed_on, none_done, spares_both}
+use Rattle.bsp_store_open.proofs.OpeningLemmas.{both, if_err, missed_after, misses_more, on_ok, passed_on}
 use Rattle.bsp_store_open.proofs.tables.expect_sums.Goals as goal
 
 pub returns-in_err-expect_tallies-clause-missed : goal.returns-in_err-expect_tallies-clause-missed
@@ -24,18 +23,3 @@ returns-clause-missed g c =
     if_err _ _ c.expect_tally_taxes.result c.expect_tally_taxes.ensures.missed (λ fault missed refused.
     misses_more g.S.Store c.args.conn.now c.expect_tally_taxes.new.conn (λ trees. first trees × OtherTallies now trees) (OtherTallies now)
     (missed_after g.S.Store c.args.conn.now c.expect_tallies.new.conn c.expect_tally_taxes.new.conn first (OtherTallies now) c.in_ok-expect_tallies.ensures.found c.expect_tally_taxes.ensures.spares (missed refused)) (λ trees found. found.1))
-
-pub returns-in_err-expect_tallies-clause-found : goal.returns-in_err-expect_tallies-clause-found
-returns-in_err-expect_tallies-clause-found g c = none_done _ _ c.from_residual.ensures.0
-
-pub returns-in_err-expect_tallies-clause-fault : goal.returns-in_err-expect_tallies-clause-fault
-returns-in_err-expect_tallies-clause-fault g c = passed_on (λ fault. is_refusal fault ≡ true → fault ≡ Damaged) _ _ c.from_residual.ensures.1 c.in_err-expect_tallies.ensures.fault
-
-pub returns-in_err-expect_tallies-clause-spares : goal.returns-in_err-expect_tallies-clause-spares
-returns-in_err-expect_tallies-clause-spares g c = c.in_err-expect_tallies.ensures.spares
-
-pub returns-clause-fault : goal.returns-clause-fault
-returns-clause-fault g c = c.expect_tally_taxes.ensures.fault
-
-pub returns-clause-spares : goal.returns-clause-spares
-returns-clause-spares g c = spares_both g.S.Store _ _ _ c.in_ok-expect_tallies.ensures.spares c.expect_tally_taxes.ensures.spares

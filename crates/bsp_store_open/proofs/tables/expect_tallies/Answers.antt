@@ -4,7 +4,7 @@ use Rattle.bsp_store_open.specs.Faults.{is_refusal}
 use Rattle.bsp_store_open.specs.Loaded.{OtherTallies}
 use Rattle.bsp_store_open.specs.Opening.{Misses}
 use Rattle.bsp_store_open.specs.declared.fault.OpenFault.TheVariants.{Damaged}
-use Rattle.bsp_store_open.proofs.OpeningLemmas.{passed_on, none_done}
+use Rattle.bsp_store_open.proofs.OpeningLemmas.{passed_on}
 use Rattle.bsp_store_open.proofs.tables.expect_tallies.Goals as goal
 
 pub returns-in_err-rows-clause-missed : goal.returns-in_err-rows-clause-missed
@@ -13,9 +13,3 @@ returns-in_err-rows-clause-missed g c =
 
 pub returns-in_err-rows-clause-fault : goal.returns-in_err-rows-clause-fault
 returns-in_err-rows-clause-fault g c = passed_on (λ fault. is_refusal fault ≡ true → fault ≡ Damaged) _ _ c.from_residual.ensures.1 (λ refused. (c.in_err-rows.ensures.refused refused).0)
-
-pub returns-in_err-rows-clause-found : goal.returns-in_err-rows-clause-found
-returns-in_err-rows-clause-found g c = none_done _ _ c.from_residual.ensures.0
-
-pub returns-in_err-rows-clause-spares : goal.returns-in_err-rows-clause-spares
-returns-in_err-rows-clause-spares g c = c.in_err-rows.ensures.spares

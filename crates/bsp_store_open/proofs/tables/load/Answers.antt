@@ -1,11 +1,11 @@
-use Rattle.std.proofs.Common.{◌≡◌, true, subst, refl}
+use Rattle.std.proofs.Common.{◌≡◌, true, subst}
 use Rattle.sqlite.specs.Held.{state}
 use Rattle.bsp_store_load.specs.Loading.{IsLoaded, LeavesRow}
 use Rattle.bsp_store_open.specs.Faults.{is_refusal}
 use Rattle.bsp_store_open.specs.Opening.{Misses}
 use Rattle.bsp_store_open.specs.declared.fault.OpenFault.TheVariants.{Damaged}
 use Rattle.bsp_store_open.proofs.LoadedLemmas.{none_left, one_left}
-use Rattle.bsp_store_open.proofs.OpeningLemmas.{passed_on, weaker, none_done}
+use Rattle.bsp_store_open.proofs.OpeningLemmas.{passed_on, weaker}
 use Rattle.bsp_store_open.proofs.tables.load.Goals as goal
 
 pub returns-in_err-left-clause-missed : goal.returns-in_err-left-clause-missed
@@ -26,36 +26,3 @@ returns-then-is_some-clause-missed g c = λ refused clean ours.
 pub returns-clause-found : goal.returns-clause-found
 returns-clause-found g c =
     weaker g.S.Store _ _ _ _ (λ trees. subst (IsLoaded g.T.StoredTable.part g.T.StoredTable.row_of g.T.StoredTable.with_entry (g.T.StoredTable.fits c.args.table.now) g.T.StoredTable.lacks g.T.StoredTable.rows_in trees (g.T.StoredTable.whole c.args.memory.now) (g.T.StoredTable.whole c.load_rows.new.memory)) (none_left c.in_ok-left.left c.is_some.result c.is_some.ensures c.if-is_some.false)) c.in_ok-left.ensures.found
-
-pub returns-in_err-left-clause-derived : goal.returns-in_err-left-clause-derived
-returns-in_err-left-clause-derived g c = none_done _ _ c.from_residual.ensures.0
-
-pub returns-in_err-left-clause-found : goal.returns-in_err-left-clause-found
-returns-in_err-left-clause-found g c = none_done _ _ c.from_residual.ensures.0
-
-pub returns-in_err-left-clause-spares : goal.returns-in_err-left-clause-spares
-returns-in_err-left-clause-spares g c = c.in_err-left.ensures.spares
-
-pub returns-then-is_some-clause-derived : goal.returns-then-is_some-clause-derived
-returns-then-is_some-clause-derived g c = tt
-
-pub returns-then-is_some-clause-found : goal.returns-then-is_some-clause-found
-returns-then-is_some-clause-found g c = tt
-
-pub returns-then-is_some-clause-fault : goal.returns-then-is_some-clause-fault
-returns-then-is_some-clause-fault g c = λ refused. refl
-
-pub returns-then-is_some-clause-spares : goal.returns-then-is_some-clause-spares
-returns-then-is_some-clause-spares g c = c.in_ok-left.ensures.spares
-
-pub returns-clause-derived : goal.returns-clause-derived
-returns-clause-derived g c = c.in_ok-left.ensures.derived
-
-pub returns-clause-missed : goal.returns-clause-missed
-returns-clause-missed g c = tt
-
-pub returns-clause-fault : goal.returns-clause-fault
-returns-clause-fault g c = tt
-
-pub returns-clause-spares : goal.returns-clause-spares
-returns-clause-spares g c = c.in_ok-left.ensures.spares

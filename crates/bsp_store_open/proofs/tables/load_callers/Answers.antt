@@ -6,8 +6,7 @@ use Rattle.bsp_store_open.specs.Faults.{is_refusal}
 use Rattle.bsp_store_open.specs.Loaded.{HasNoCallers, NoFormed}
 use Rattle.bsp_store_open.specs.Opening.{Misses}
 use Rattle.bsp_store_open.proofs.LoadedLemmas.{callers_loaded, no_agents_loaded, no_ranges_loaded}
-use Rattle.bsp_store_open.specs.declared.fault.OpenFault.TheVariants.{Damaged}
-use Rattle.bsp_store_open.proofs.OpeningLemmas.{both, if_err, missed_after, misses_more, on_ok, passed_on, weaker, none_done}
+use Rattle.bsp_store_open.proofs.OpeningLemmas.{both, if_err, missed_after, misses_more, on_ok, passed_on, weaker}
 use Rattle.bsp_store_open.proofs.tables.load_callers.Goals as goal
 
 pub returns-in_err-load-clause-missed : goal.returns-in_err-load-clause-missed
@@ -32,15 +31,3 @@ returns-clause-missed g c =
     if_err _ _ c.load-2.result c.load-2.ensures.missed (λ fault missed refused.
     misses_more g.S.Store c.args.conn.now c.load-2.new.conn (λ trees. Loads agents_loader trees zero one None × Leaves ranges_loader trees one two) (λ trees. HasNoCallers zero → NoFormed trees)
     (missed_after g.S.Store c.args.conn.now c.load.new.conn c.load-2.new.conn (λ trees. Loads agents_loader trees zero one None) (λ trees. Leaves ranges_loader trees one two) c.in_ok-load.ensures.found c.load-2.ensures.spares (missed refused)) (λ trees found none. no_ranges_loaded trees zero one two none found.0 found.1))
-
-pub returns-in_err-load-clause-whole : goal.returns-in_err-load-clause-whole
-returns-in_err-load-clause-whole g c = none_done _ _ c.from_residual.ensures.0
-
-pub returns-in_err-load-clause-found : goal.returns-in_err-load-clause-found
-returns-in_err-load-clause-found g c = none_done _ _ c.from_residual.ensures.0
-
-pub returns-in_err-load-clause-fault : goal.returns-in_err-load-clause-fault
-returns-in_err-load-clause-fault g c = passed_on (λ fault. is_refusal fault ≡ true → fault ≡ Damaged) _ _ c.from_residual.ensures.1 c.in_err-load.ensures.fault
-
-pub returns-in_err-load-clause-spares : goal.returns-in_err-load-clause-spares
-returns-in_err-load-clause-spares g c = c.in_err-load.ensures.spares

@@ -7,8 +7,7 @@ use Rattle.bsp_store_open.specs.Faults.{is_refusal}
 use Rattle.bsp_store_open.specs.Loaded.{AreItemsLoaded, HasNoSales, NoRight}
 use Rattle.bsp_store_open.specs.Opening.{Misses}
 use Rattle.bsp_store_open.proofs.LoadedLemmas.{no_memos_loaded, sales_loaded}
-use Rattle.bsp_store_open.specs.declared.fault.OpenFault.TheVariants.{Damaged}
-use Rattle.bsp_store_open.proofs.OpeningLemmas.{both, if_err, missed_after, misses_more, on_ok, passed_on, weaker, none_done}
+use Rattle.bsp_store_open.proofs.OpeningLemmas.{both, if_err, missed_after, misses_more, on_ok, passed_on, weaker}
 use Rattle.bsp_store_open.proofs.tables.load_sales.Goals as goal
 
 pub returns-in_err-load_items-clause-missed : goal.returns-in_err-load_items-clause-missed
@@ -32,15 +31,3 @@ returns-clause-missed g c =
     misses_more g.S.Store c.args.conn.now c.load.new.conn (λ trees. items trees × Leaves memos_loader trees one two) (λ trees. HasNoSales zero → NoRight trees)
     (missed_after g.S.Store c.args.conn.now c.load_items.new.conn c.load.new.conn items (λ trees. Leaves memos_loader trees one two) c.in_ok-load_items.ensures.found c.load.ensures.spares (missed refused))
     (λ trees found none. no_memos_loaded trees zero one two none (found.0 none) found.1))
-
-pub returns-in_err-load_items-clause-whole : goal.returns-in_err-load_items-clause-whole
-returns-in_err-load_items-clause-whole g c = none_done _ _ c.from_residual.ensures.0
-
-pub returns-in_err-load_items-clause-found : goal.returns-in_err-load_items-clause-found
-returns-in_err-load_items-clause-found g c = none_done _ _ c.from_residual.ensures.0
-
-pub returns-in_err-load_items-clause-fault : goal.returns-in_err-load_items-clause-fault
-returns-in_err-load_items-clause-fault g c = passed_on (λ fault. is_refusal fault ≡ true → fault ≡ Damaged) _ _ c.from_residual.ensures.1 c.in_err-load_items.ensures.fault
-
-pub returns-in_err-load_items-clause-spares : goal.returns-in_err-load_items-clause-spares
-returns-in_err-load_items-clause-spares g c = c.in_err-load_items.ensures.spares

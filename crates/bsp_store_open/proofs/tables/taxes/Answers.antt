@@ -7,8 +7,6 @@ use Rattle.bsp_store_open.specs.Faults.{is_refusal}
 use Rattle.bsp_store_open.specs.Loaded.{NoFormed}
 use Rattle.bsp_store_open.specs.Opening.{Misses}
 use Rattle.bsp_store_open.proofs.LoadedLemmas.{no_taxes_read, taxes_read}
-use Rattle.std.proofs.lemmas.Result.{IfOk-from_err}
-use Rattle.bsp_store_open.specs.declared.fault.OpenFault.TheVariants.{Damaged}
 use Rattle.bsp_store_open.proofs.OpeningLemmas.{misses_more, passed_on, weaker}
 use Rattle.bsp_store_open.proofs.tables.taxes.Goals as goal
 
@@ -24,21 +22,3 @@ returns-clause-found g c =
     let zero = from_entries {R = item_cmp} c.new-taxes.result.entries in
     let one = from_entries {R = item_cmp} c.load.new.memory.entries in
     weaker g.S.Store _ _ _ _ (λ trees loads. taxes_read trees zero one (ap (from_entries {R = item_cmp}) c.new-taxes.ensures.empty) loads) c.in_ok-load.ensures.found
-
-pub returns-in_err-load-clause-found : goal.returns-in_err-load-clause-found
-returns-in_err-load-clause-found g c = IfOk-from_err _ _ c.from_residual.ensures.0
-
-pub returns-in_err-load-clause-fault : goal.returns-in_err-load-clause-fault
-returns-in_err-load-clause-fault g c = passed_on (λ fault. is_refusal fault ≡ true → fault ≡ Damaged) _ _ c.from_residual.ensures.1 c.in_err-load.ensures.fault
-
-pub returns-in_err-load-clause-spares : goal.returns-in_err-load-clause-spares
-returns-in_err-load-clause-spares g c = c.in_err-load.ensures.spares
-
-pub returns-clause-missed : goal.returns-clause-missed
-returns-clause-missed g c = tt
-
-pub returns-clause-fault : goal.returns-clause-fault
-returns-clause-fault g c = tt
-
-pub returns-clause-spares : goal.returns-clause-spares
-returns-clause-spares g c = c.in_ok-load.ensures.spares
