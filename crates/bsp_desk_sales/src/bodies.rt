@@ -1,8 +1,9 @@
 //! The answer to a body that is not read.
 
-ghost use Rattle.std.specs.Prelude.{◌≡◌, false, IfOk};
+ghost use Rattle.std.specs.Prelude.{◌≡◌, false, IfOk, OnErr};
 ghost use Rattle.bsp_book.specs.Calls.{FallsBack, Faults, LeavesLast};
 ghost use Rattle.bsp_desk_sales.specs.Replies.{IsMalformed};
+ghost use Rattle.bsp_messages.specs.declared.fault.BodyFault.TheVariants.{NoRoom};
 
 use crate::memory::give_up;
 use bsp_book::{Book, BookFault};
@@ -12,10 +13,11 @@ use bsp_messages::{Answer, BodyFault, RequestRefusal};
 ///
 /// # Errors
 ///
-/// `NoRoom` where an allocation was refused, or `Failed`.
+/// Of a fault for want of memory alone: `NoRoom`, or `Failed`.
 pub fn unread<B: Book>(book: &mut B, fault: BodyFault) -> Result<Answer, BookFault>
     requires { B.means.has_failed book.old ≡ false }
     ensures malformed { IfOk result (λ answer. IsMalformed book.old book.new fault answer) }
+    ensures given_up { OnErr result (fault ≡ NoRoom) }
     ensures fault { Faults B.means book.old book.new (FallsBack B.means book.old book.new) (LeavesLast B.means book.old book.new) result }
 {
     match fault {
