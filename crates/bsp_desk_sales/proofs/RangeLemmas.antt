@@ -6,13 +6,13 @@ use Rattle.std.proofs.lemmas.Bool.{and_from, and_parts, both_ways, eq-eqb, eqb-t
 use Rattle.bsp_office_spec.proofs.ListLemmas.{contains_filter}
 use Rattle.bsp_office_spec.proofs.ListedLemmas.{any_contains, contains_any}
 use Rattle.bsp_rows.specs.Change.TheVariants.{Done, Held}
-use Rattle.bsp_messages.specs.declared.answer.Answer.TheVariants as message
+use Rattle.bsp_messages.specs.declared.office_bodies.StockChange.{StockChange}
+use Rattle.bsp_messages.specs.declared.answer.Answer.{Answer as Message}
 use Rattle.bsp_messages.specs.declared.refusal.RequestRefusal.TheVariants as refusal
-use Rattle.bsp_messages.specs.declared.refusal.StockFault.TheVariants.{FirstAfterLast, NotRegistered, MeetsRange}
+use Rattle.bsp_messages.specs.declared.refusal.StockFault.TheVariants.{FirstAfterLast, NotRegistered, MeetsRange, NoSuchRange, RangeUsed}
 use Rattle.bsp_rows.specs.Range.{Range}
-use Rattle.bsp_rows.specs.Rows.{Rows, has_meeting, meets, range_at, range_key, range_of, ranges_of}
+use Rattle.bsp_rows.specs.Rows.{Rows, has_meeting, is_used_in, meets, range_at, range_key, range_of, ranges_of}
 use Rattle.bsp_rows.specs.Sound.{Sound}
-use Rattle.bsp_rows.specs.Writes.{with_range}
 use Rattle.bsp_rows.specs.declared.keys.RangeKey.{RangeKey}
 use Rattle.bsp_rows.proofs.KeyOrders.{range_exact, range_total}
 use Rattle.bsp_rows.proofs.MapLemmas.{get_entry}
@@ -21,7 +21,7 @@ use Rattle.bsp_desk_sales.specs.After.{office_after, office_left}
 use Rattle.bsp_office_spec.specs.Answers.{Answer}
 use Rattle.bsp_office_spec.specs.Answers.Answer.{Changed, Refused}
 use Rattle.bsp_office_spec.specs.Requests.{OfficeRequest}
-use Rattle.bsp_office_spec.specs.Requests.OfficeRequest.{AllotRange}
+use Rattle.bsp_office_spec.specs.Requests.OfficeRequest.{AllotRange, WithdrawRange}
 use Rattle.bsp_office_spec.specs.Step.{has_range, is_last, is_out_of_order, is_registered, office_answer}
 use Rattle.bsp_office_spec.specs.Texts.{Says}
 use Rattle.bsp_desk_sales.specs.Replies.{is_same_range}
@@ -75,21 +75,39 @@ free_key rows agent range s order apart = free_by rows agent range (range_at (ra
 pub in_order : (range : Range) → is_out_of_order range ≡ false → range.first ≤ range.last
 in_order range h = ltb-false range.last range.first h
 
--- ---- an allotment that is done
+-- ---- what is answered
 
-abbrev pub asked : ℕ → Range → OfficeRequest
-asked agent range = AllotRange (Some (record { agent = record { code = Some agent }; range = range }))
+module _ (P : Rows → Type 0) (rows : Rows) where
+  said : (request : OfficeRequest) (answer : Answer) (message : Message) → office_answer request rows ≡ answer → Says answer message → P (office_left request answer rows) →
+      Says (office_answer request rows) message × P (office_after request rows)
+  said request answer message is says h =
+      let Q : Answer → Type 0 = λ a. Says a message × P (office_left request a rows) in
+      subst Q (sym is) (says, h)
 
-abbrev answer_by : Bool → Bool → Bool → Bool → Answer
-answer_by out known held meeting =
+-- by whether the range is out of order, the agent is registered and has it, and another one meets it
+abbrev pub allot_by : Bool → Bool → Bool → Bool → Answer
+allot_by out known held meeting =
     if out then Refused (refusal.Stock FirstAfterLast)
     else (if not known then Refused (refusal.Stock NotRegistered)
     else (if held then Changed Held
     else (if meeting then Refused (refusal.Stock MeetsRange) else Changed Done)))
 
-pub allotted_served : (P : Rows → Type 0) (rows : Rows) (agent : ℕ) (range : Range) → is_out_of_order range ≡ false → is_registered agent rows ≡ true → has_range agent range rows ≡ false → has_meeting range rows ≡ false →
-    P (with_range agent range rows) → Says (office_answer (asked agent range) rows) (message.Changed Done) × P (office_after (asked agent range) rows)
-allotted_served P rows agent range order known held meeting h =
-    let is : office_answer (asked agent range) rows ≡ Changed Done = λ i. answer_by (order i) (known i) (held i) (meeting i) in
-    let Q : Answer → Type 0 = λ a. Says a (message.Changed Done) × P (office_left (asked agent range) a rows) in
-    subst Q (sym is) (refl, h)
+-- and whether a number of it is used
+abbrev pub withdraw_by : Bool → Bool → Bool → Bool → Answer
+withdraw_by out known held used =
+    if out then Refused (refusal.Stock FirstAfterLast)
+    else (if not known then Refused (refusal.Stock NotRegistered)
+    else (if not held then Refused (refusal.Stock NoSuchRange)
+    else (if used then Refused (refusal.Stock RangeUsed) else Changed Done)))
+
+module _ (P : Rows → Type 0) (rows : Rows) (agent : ℕ) (range : Range) (order : is_out_of_order range ≡ false) (known held : Bool) (registered : is_registered agent rows ≡ known) (has : has_range agent range rows ≡ held) where
+  abbrev change : StockChange
+  change = record { agent = record { code = Some agent }; range = range }
+
+  pub allot_said : (meeting : Bool) (message : Message) → has_meeting range rows ≡ meeting → let answer = allot_by false known held meeting in Says answer message → P (office_left (AllotRange (Some change)) answer rows) →
+      Says (office_answer (AllotRange (Some change)) rows) message × P (office_after (AllotRange (Some change)) rows)
+  allot_said meeting message meets' says h = said P rows (AllotRange (Some change)) (allot_by false known held meeting) message (λ i. allot_by (order i) (registered i) (has i) (meets' i)) says h
+
+  pub withdraw_said : (used : Bool) (message : Message) → is_used_in agent range rows ≡ used → let answer = withdraw_by false known held used in Says answer message → P (office_left (WithdrawRange (Some change)) answer rows) →
+      Says (office_answer (WithdrawRange (Some change)) rows) message × P (office_after (WithdrawRange (Some change)) rows)
+  withdraw_said used message uses says h = said P rows (WithdrawRange (Some change)) (withdraw_by false known held used) message (λ i. withdraw_by (order i) (registered i) (has i) (uses i)) says h

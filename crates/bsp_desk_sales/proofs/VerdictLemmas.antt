@@ -1,5 +1,5 @@
 -- The verdict on one transaction, and the rows after it.
-use Rattle.std.proofs.Common.{◌≡◌, ℕ, true, Some, None, IfSome, Ok, refl, sym, ap, subst, ◌∙◌}
+use Rattle.std.proofs.Common.{◌≡◌, ℕ, true, Some, IfSome, Ok, refl, sym, ap, subst, ◌∙◌}
 use Rattle.bsp_rows.specs.Published.{Published}
 use Rattle.bsp_rows.specs.Codes.{document_reading}
 use Rattle.bsp_rows.specs.Decimal.{fixed_digits, number_of}
@@ -9,7 +9,6 @@ use Rattle.bsp_rules.specs.Tax.{accepted_item}
 use Rattle.bsp_rules.specs.Verdicts.{verdict_on}
 use Rattle.bsp_rules.specs.declared.facts.Facts.{Facts}
 use Rattle.bsp_rules.specs.declared.rows.Item.{Item}
-use Rattle.bsp_rules.specs.declared.verdict.Refusal.TheVariants.{WrongAgent}
 use Rattle.bsp_rules.specs.declared.verdict.Reporter.{Reporter}
 use Rattle.bsp_rules.specs.declared.verdict.Reporter.TheVariants.{Office, Agent}
 use Rattle.bsp_rules.specs.declared.verdict.Verdict.{Verdict}
@@ -96,15 +95,3 @@ module _ (who : Reporter) (rows : Rows) (t : Transaction) where
 
           pub key_free : HasFreeKey (item_of agent t f p v) rows
           key_free = free_by v refl
-
--- ---- a transaction that bears no agent
-
-no_verdict : (w : Reporter) (rows : Rows) (t : Transaction) → owner_of w t ≡ None → verdict_of w rows t ≡ verdict.Refused WrongAgent
-no_verdict Office rows t none = ap (λ r. office_verdict_for r rows t) none
-no_verdict (Agent b) rows t none = absurd (cc none)
-
-pub no_rows : (who : Reporter) (rows : Rows) (t : Transaction) → owner_of who t ≡ None → rows_next who t rows ≡ rows
-no_rows who rows t none = ap (λ v. rows_judged (owner_of who) t v rows) (no_verdict who rows t none)
-
-pub judged_wrong : (who : Reporter) (rows : Rows) (t : Transaction) → owner_of who t ≡ None → Sound rows → IsJudged who t rows (verdict.Refused WrongAgent)
-judged_wrong who rows t none s = record { is = sym (no_verdict who rows t none); sound = subst Sound (sym (no_rows who rows t none)) s }

@@ -74,33 +74,37 @@ fn commission_remark(
     )
 }
 
-/// An amount that has the sign of the other kind of transaction.
-fn sign_fault(
-    alloc: Global,
-    code: TransactionCode,
-    name: &str,
-    amount: i64,
-) -> Result<Option<String>, NoRoom> {
-    let (is_right, rule) = match code {
-        TransactionCode::Rfnd => (amount <= 0, "no amount of a refund is above zero"),
-        TransactionCode::Tktt | TransactionCode::Canx => {
-            (amount >= 0, "no amount of a sale is below zero")
-        }
-    };
-    if is_right {
-        return Ok(None);
+/// Whether an amount has the sign of the other kind of transaction.
+fn has_wrong_sign(code: TransactionCode, amount: i64) -> bool {
+    match code {
+        TransactionCode::Rfnd => amount > 0,
+        TransactionCode::Tktt | TransactionCode::Canx => amount < 0,
     }
-    let amount = write_money(alloc, amount as i128)?;
-    let amount = amount.as_str();
-    Ok(Some(format!(in alloc; "{name} is {amount}, and {rule}")?))
 }
 
-/// The first amount with a wrong sign.
-fn sign_remark(
-    alloc: Global,
-    transaction: &Transaction,
-    amounts: &Amounts,
-) -> Result<Option<String>, NoRoom> {
+/// Which sign the amounts have.
+fn sign_rule(code: TransactionCode) -> &'static str {
+    match code {
+        TransactionCode::Rfnd => "no amount of a refund is above zero",
+        TransactionCode::Tktt | TransactionCode::Canx => "no amount of a sale is below zero",
+    }
+}
+
+/// The first tax with a wrong sign.
+fn wrong_tax(code: TransactionCode, amounts: &Amounts) -> Option<i64> {
+    for tax in &amounts.taxes {
+        if let Some(tax) = tax {
+            let amount = tax.amount.get();
+            if has_wrong_sign(code, amount) {
+                return Some(amount);
+            }
+        }
+    }
+    None
+}
+
+/// The first amount with a wrong sign, and its name.
+fn wrong_amount(transaction: &Transaction, amounts: &Amounts) -> Option<(&'static str, i64)> {
     let named = [
         ("the fare", amounts.fare.get()),
         ("the commission", amounts.commission.get()),
@@ -109,18 +113,37 @@ fn sign_remark(
         ("EX", amount_or_zero(transaction.exchange)),
     ];
     for (name, amount) in named {
-        if let Some(text) = sign_fault(alloc, transaction.code, name, amount)? {
-            return Ok(Some(text));
+        if has_wrong_sign(transaction.code, amount) {
+            return Some((name, amount));
         }
     }
-    for tax in &amounts.taxes {
-        if let Some(tax) = tax {
-            if let Some(text) = sign_fault(alloc, transaction.code, "a tax", tax.amount.get())? {
-                return Ok(Some(text));
-            }
-        }
+    let amount = wrong_tax(transaction.code, amounts)?;
+    Some(("a tax", amount))
+}
+
+/// An amount with a wrong sign, and the rule.
+fn sign_fault(
+    alloc: Global,
+    code: TransactionCode,
+    name: &str,
+    amount: i64,
+) -> Result<String, NoRoom> {
+    let rule = sign_rule(code);
+    let amount = write_money(alloc, amount as i128)?;
+    let amount = amount.as_str();
+    Ok(format!(in alloc; "{name} is {amount}, and {rule}")?)
+}
+
+/// The first amount with a wrong sign.
+fn sign_remark(
+    alloc: Global,
+    transaction: &Transaction,
+    amounts: &Amounts,
+) -> Result<Option<String>, NoRoom> {
+    match wrong_amount(transaction, amounts) {
+        Some((name, amount)) => Ok(Some(sign_fault(alloc, transaction.code, name, amount)?)),
+        None => Ok(None),
     }
-    Ok(None)
 }
 
 /// A rate above the published one, or the commission of a sale without EX that is not its rate's.

@@ -14,7 +14,7 @@ use Rattle.sqlite_schema.specs.declared.schema.Constraint.TheVariants.{Datatype,
 use Rattle.sqlite_catalog.specs.Listing.{IsSound}
 use Rattle.sqlite.specs.declared.error.Error.{Error}
 use Rattle.sqlite.specs.Held.{Held, state}
-use Rattle.sqlite.specs.State.{HasCleanDisk, State}
+use Rattle.sqlite.specs.State.{HasCleanDisk, KeepsCommit, State}
 use Rattle.bsp_rows.specs.Item.{Item}
 use Rattle.bsp_rows.specs.Tally.{Tally}
 use Rattle.bsp_rows.specs.Rows.{item_cmp}
@@ -237,3 +237,29 @@ fills_first g version old mid new (Ok u) is first taxes second seconds = λ begu
     let mid_disk = (second halfway).earlier disk in
     let old_disk = (first at).earlier mid_disk in
     subst (λ v. Fills v (state g old) (state g new)) (sym is) (as_first (state g old) (state g mid) (state g new) (start old_disk) (taxes at mid_disk) (seconds halfway disk))
+
+pub begun_at : {S : Type 0} (g : Ghosts S) (version of : OldVersion) (old : Held S) → version ≡ of → IsBegun g version old → IsAt g (old_schema of) old
+begun_at g version of old is begun = λ disk. at_begun of (state g old) (subst (λ v. IsBegun g v old) is begun disk)
+
+module _ {S : Type 0} (g : Ghosts S) (version : OldVersion) (old mid new : Held S) (is : version ≡ First) (taxes : IsAt g (old_schema First) old → HasCleanDisk (state g mid) → Goes (old_schema Second) HasTaxes (state g old) (state g mid))
+    (second : IsAt g (old_schema Second) mid → Spares g mid new) (begun : IsBegun g version old) where
+  at_first : IsAt g (old_schema First) old
+  at_first = begun_at g version First old is begun
+
+  halfway : IsAt g (old_schema Second) mid
+  halfway disk = (taxes at_first disk).at
+
+  -- both steps leave to a stop no more than there was
+  pub spares_first : (IsAt g (old_schema First) old → Spares g old mid) → Spares g old new
+  spares_first first =
+      let a = first at_first in
+      let b = second halfway in
+      record { earlier = λ clean. a.earlier (b.earlier clean); leaves = λ clean db may. a.leaves (b.earlier clean) db (b.leaves clean db may) }
+
+  -- and both keep what was committed
+  pub keeps_first : (IsAt g (old_schema First) old → HasCleanDisk (state g mid) → KeepsCommit (state g old) (state g mid)) → (IsAt g (old_schema Second) mid → HasCleanDisk (state g new) → KeepsCommit (state g mid) (state g new))
+      → HasCleanDisk (state g new) → KeepsCommit (state g old) (state g new)
+  keeps_first one two disk =
+      let a = one at_first ((second halfway).earlier disk) in
+      let b = two halfway disk in
+      record { was_open = λ is. a.was_open (b.was_open is); committed = λ is. b.committed is ∙ a.committed (b.was_open is) }

@@ -1,6 +1,8 @@
 -- From one table to the next, as they are put into memory.
 use Rattle.std.proofs.Common.{◌≡◌, ℕ, List, Bool, true, false, Option, Some, None, is_some, refl, sym, ap, subst, ◌∙◌, IsPermutation, map, nat_cmp}
 use Rattle.std.specs.List.{AllByRecursion}
+use Rattle.std.proofs.lemmas.Bool.{false≢true}
+use Rattle.std.proofs.lemmas.Option.{none-some}
 use Rattle.std.specs.FinMap.{FinMap, empty, entries}
 use Rattle.sqlite_trees.specs.Tree.{Trees}
 use Rattle.bsp_book.specs.Rows.{Rows, item_cmp, no_rows}
@@ -39,10 +41,10 @@ use Rattle.bsp_store_open.proofs.OpeningLemmas.{not_other}
 -- all rows were put, or one was left
 pub none_left : {X : Type 0} (o : Option X) (b : Bool) → b ≡ is_some o → b ≡ false → o ≡ None
 none_left None b is none = refl
-none_left (Some x) b is none = absurd (cc (is, none))
+none_left (Some x) b is none = absurd (false≢true (sym none ∙ is))
 
 pub one_left : {X : Type 0} (o : Option X) (b : Bool) → b ≡ is_some o → b ≡ true → (x : X) × (o ≡ Some x)
-one_left None b is some = absurd (cc (is, some))
+one_left None b is some = absurd (false≢true (sym is ∙ some))
 one_left (Some x) b is some = (x, refl)
 
 -- ---- agents and ranges
@@ -72,10 +74,10 @@ module _ (trees : Trees) (zero one two : Rows) (none : HasNoCallers zero) where
         }
 
     pub no_ranges_loaded : Leaves ranges_loader trees one two → NoFormed trees
-    no_ranges_loaded ranges c formed keeps = cc (whole_here ranges_loader trees one two (Some ranges.0) ranges.1 no_ranges c formed keeps formed.ranges).0
+    no_ranges_loaded ranges c formed keeps = none-some _ (sym (whole_here ranges_loader trees one two (Some ranges.0) ranges.1 no_ranges c formed keeps formed.ranges).0)
 
   pub no_agents_loaded : Leaves agents_loader trees zero one → NoFormed trees
-  no_agents_loaded agents c formed keeps = cc (whole_here agents_loader trees zero one (Some agents.0) agents.1 none.agents c formed keeps formed.agents).0
+  no_agents_loaded agents c formed keeps = none-some _ (sym (whole_here agents_loader trees zero one (Some agents.0) agents.1 none.agents c formed keeps formed.agents).0)
 
 -- ---- what the tables beside that of items keep
 
@@ -87,7 +89,7 @@ module _ (trees : Trees) (zero one : FinMap item_cmp ItemTax) (none : zero ≡ e
   }
 
   pub no_taxes_read : Leaves taxes_loader trees zero one → NoFormed trees
-  no_taxes_read taxes c formed keeps = cc (whole_here taxes_loader trees zero one (Some taxes.0) taxes.1 none c formed keeps (taxes_formed c.item_taxes formed.item_taxes)).0
+  no_taxes_read taxes c formed keeps = none-some _ (sym (whole_here taxes_loader trees zero one (Some taxes.0) taxes.1 none c formed keeps (taxes_formed c.item_taxes formed.item_taxes)).0)
 
 module _ (trees : Trees) (zero one : FinMap ticket_cmp ReportedDocument) (none : zero ≡ empty) where
   pub seconds_read : Loads seconds_loader trees zero one None → AreSecondsRead trees one
@@ -97,7 +99,7 @@ module _ (trees : Trees) (zero one : FinMap ticket_cmp ReportedDocument) (none :
   }
 
   pub no_seconds_read : Leaves seconds_loader trees zero one → NoRight trees
-  no_seconds_read seconds c formed right keeps = cc (whole_here seconds_loader trees zero one (Some seconds.0) seconds.1 none c formed keeps right.fit).0
+  no_seconds_read seconds c formed right keeps = none-some _ (sym (whole_here seconds_loader trees zero one (Some seconds.0) seconds.1 none c formed keeps right.fit).0)
 
 -- ---- items
 
@@ -133,7 +135,7 @@ module _ (trees : Trees) (zero one : Rows) (none : HasNoSales zero) (taxes : Fin
         })
 
   pub no_items_loaded : Leaves (items_loader taxes seconds) trees zero one → NoRight trees
-  no_items_loaded items c formed right keeps = cc (whole_here (items_loader taxes seconds) trees zero one (Some items.0) items.1 none.items c formed keeps (items_fit c formed right keeps)).0
+  no_items_loaded items c formed right keeps = none-some _ (sym (whole_here (items_loader taxes seconds) trees zero one (Some items.0) items.1 none.items c formed keeps (items_fit c formed right keeps)).0)
 
 -- ---- items and memos
 
@@ -159,7 +161,7 @@ module _ (trees : Trees) (zero one two : Rows) (none : HasNoSales zero) (items :
       }
 
   pub no_memos_loaded : Leaves memos_loader trees one two → NoRight trees
-  no_memos_loaded memos c formed right keeps = cc (whole_here memos_loader trees one two (Some memos.0) memos.1 no_memos c formed keeps (memos_may (entries c.memos) formed.memos right.memos)).0
+  no_memos_loaded memos c formed right keeps = none-some _ (sym (whole_here memos_loader trees one two (Some memos.0) memos.1 no_memos c formed keeps (memos_may (entries c.memos) formed.memos right.memos)).0)
 
 -- ---- all tables
 

@@ -1,6 +1,7 @@
 -- From the rows that an opening read to what the tables keep.
 use Rattle.std.proofs.Common.{◌≡◌, ℕ, List, [], ◌∷◌, length, map, None, false, Result, Ok, Err, IfOk, OnOk, IsTrue, IsPermutation, inl, refl, sym, ap, subst, ◌∙◌, arith}
-use Rattle.std.specs.Prelude.{IfErr, IsErrAnd, IsOkAnd, MatchResult, true}
+use Rattle.std.specs.Prelude.{IfErr, IsErr, IsErrAnd, IsOkAnd, MatchResult, is_ok, true}
+use Rattle.std.proofs.lemmas.Bool.{false≢true, true≢false}
 use Rattle.std.specs.List.{AllByRecursion}
 use Rattle.std.proofs.lemmas.List.Sorted.{IsPermutation-sym}
 use Rattle.sqlite_value.specs.Order.{Row, column}
@@ -11,6 +12,7 @@ use Rattle.sqlite_trees.specs.declared.store.Store.{Ghosts}
 use Rattle.sqlite.specs.Effect.{Database}
 use Rattle.sqlite.specs.Held.{Held, state}
 use Rattle.sqlite.specs.State.{HasCleanDisk, IsLive}
+use Rattle.sqlite.specs.declared.error.Error.{Error as StoreError}
 use Rattle.bsp_book.specs.Rows.{Rows}
 use Rattle.bsp_book.specs.Sound.{Sound}
 use Rattle.bsp_store_load.specs.MemoryRowsTables.{rows_of}
@@ -28,7 +30,7 @@ use Rattle.bsp_store_load.specs.Forms.{IsFormed}
 use Rattle.bsp_store_load.specs.Loading.{HasRows}
 use Rattle.bsp_store_load.specs.Shows.{AreAllOf}
 use Rattle.bsp_store_load.specs.Stored.{AreCommitted}
-use Rattle.bsp_store_open.specs.Faults.{is_refusal}
+use Rattle.bsp_store_open.specs.Faults.{IsFaultOf, is_refusal}
 use Rattle.bsp_store_open.specs.declared.fault.OpenFault.{OpenFault}
 use Rattle.bsp_store_open.specs.declared.fault.OpenFault.TheVariants.{NoRoom}
 use Rattle.bsp_store_open.specs.Loaded.{IsAllLoaded}
@@ -43,6 +45,16 @@ use Rattle.bsp_store_load.proofs.TallyLemmas.{content_is}
 pub passed_on : {X E : Type 0} (P : E → Type 0) (r : Result X E) (e : E) → IsErrAnd r (λ f. f ≡ e) → P e → IfErr r P
 passed_on P (Ok x) e is p = tt
 passed_on P (Err f) e is p = subst P (sym is) p
+
+-- an error of the store is no refusal
+pub no_refusal : {X : Type 0} (Q : OpenFault → Type 0) (r : Result X OpenFault) (error : StoreError) → IsErrAnd r (λ f. IsFaultOf error f) → IfErr r (λ f. is_refusal f ≡ true → Q f)
+no_refusal Q (Ok x) error is = tt
+no_refusal Q (Err f) error is = λ refused. absurd (false≢true (sym is.refuses ∙ refused))
+
+-- an error has no value
+pub none_done : {X E : Type 0} (P : Type 0) (r : Result X E) → IsErr r → OnOk r P
+none_done P (Ok x) is = absurd (true≢false (sym is))
+none_done P (Err e) is = tt
 
 pub on_ok : {X E : Type 0} (P Q : Type 0) (r : Result X E) → OnOk r P → (P → Q) → OnOk r Q
 on_ok P Q (Ok x) it so = so it
@@ -74,6 +86,13 @@ module _ {U V E : Type 0} (x : V) where
   pub given_err : (test : Result U E) (r : Result V E) → MatchResult test (λ u. r ≡ Ok x) (λ e. r ≡ Err e) → (Q : E → Type 0) → IfErr test Q → IfErr r Q
   given_err (Ok u) r is Q it = subst (λ q. IfErr q Q) (sym is) tt
   given_err (Err e) r is Q it = subst (λ q. IfErr q Q) (sym is) it
+
+  -- what is made of the value where it is given, or the fault
+  pub over_given : {W : Type 0} (test : Result U E) (r : Result V E) (made : Result W E) → MatchResult test (λ u. r ≡ Ok x) (λ e. r ≡ Err e) → (A : W → Type 0) → MatchResult r (λ y. y ≡ x → IsOkAnd made A) (λ e. made ≡ Err e) → MatchResult test (λ u. IsOkAnd made A) (λ e. made ≡ Err e)
+  over_given (Ok u) (Ok y) made is A so = let same : y ≡ x = cc is in so same
+  over_given (Ok u) (Err e) made is A so = absurd (false≢true (ap is_ok is))
+  over_given (Err e) (Ok y) made is A so = absurd (true≢false (ap is_ok is))
+  over_given (Err e) (Err f) made is A so = let same : f ≡ e = cc is in subst (λ q. made ≡ Err q) same so
 
 -- one that is made of it there
 module _ {U V E : Type 0} (A : V → Type 0) where
@@ -142,7 +161,7 @@ module _ {S : Type 0} (g : Ghosts S) where
 -- to be out of memory is no refusal
 pub never_refused : {X : Type 0} (Q : Type 0) (r : Result X OpenFault) → IsErrAnd r (λ f. f ≡ NoRoom) → IfErr r (λ f. is_refusal f ≡ true → Q)
 never_refused Q (Ok x) is = tt
-never_refused Q (Err f) is = λ refused. absurd (cc (ap is_refusal is, refused))
+never_refused Q (Err f) is = λ refused. absurd (false≢true (sym (ap is_refusal is) ∙ refused))
 
 -- a book's first row of `meta` has the version of its tables
 pub other_version : {S : Type 0} (g : Ghosts S) (fault : OpenFault) (old new : Held S) (read : List Row) → Finds g old new (λ trees. AreAllOf meta_part trees read) → (IsOfVersion read → ⊥) → Reports fault read → HasNoBook g fault old new

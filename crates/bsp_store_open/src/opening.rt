@@ -10,6 +10,7 @@ ghost use Rattle.bsp_store_open.specs.Faults.{is_refusal};
 ghost use Rattle.bsp_store_open.specs.Opening.{HasNoBook, IsAtRest, IsOrdered, IsRead, LeavesCommitted, Reopens};
 
 use crate::fault::OpenFault;
+use crate::given::unless_fault;
 use crate::tables::kept_tables;
 use bsp_book::ListBook;
 use bsp_store_base::reopen;
@@ -68,8 +69,8 @@ fn list_over(
     requires { OnOk tested (AreListed tables) }
     ensures { MatchResult tested (λ _. IsOkAnd result (λ list. (list.tables ≡ tables) × listed.holds list (rows_of tables) None)) (λ fault. result ≡ Err fault) }
 {
-    match tested {
-        Ok(()) => Ok(ListBook::over(alloc, tables)),
+    match unless_fault(tested, tables) {
+        Ok(tables) => Ok(ListBook::over(alloc, tables)),
         Err(fault) => Err(fault),
     }
 }

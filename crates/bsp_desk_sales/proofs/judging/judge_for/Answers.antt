@@ -1,8 +1,10 @@
 use Rattle.std.proofs.Common.{Some, Option, ap, sym, subst, ◌∙◌}
 use Rattle.std.specs.Prelude.{IfSome}
+use Rattle.std.proofs.lemmas.Result.{err_from_is_err_and}
 use Rattle.bsp_rows.specs.Rows.{HasNumberKey, Rows}
 use Rattle.bsp_rules.specs.declared.rows.Item.{Item}
 use Rattle.bsp_desk_sales.specs.Judged.{HasFreeKey, rows_with}
+use Rattle.bsp_desk_sales.proofs.LookUps.{call_faulted, over_sound}
 use Rattle.bsp_desk_sales.proofs.VerdictLemmas.{item_numbered, judged, key_free, next_rows, rows_kept, verdict_read}
 use Rattle.bsp_desk_sales.proofs.judging.judge_for.Goals as goal
 
@@ -29,3 +31,13 @@ returns-clause-judged g c = λ trust now last sound holds.
     let S : Rows → Type 0 = λ rows. g.B.Book.means.holds c.keep_accepted.new.book rows (Some last) in
     let left = ap (λ (o : Option Item). rows_with o now) c.accepted-item.ensures ∙ (rows_kept agent now t f p found.0 again v ∙ next_rows who now t agent c.requires.own v is) in
     (judged who now t agent c.requires.own v is c.reads_back.ensures sound c.requires.group, subst S left after)
+
+pub returns-in_err-facts-clause-judged : goal.returns-in_err-facts-clause-judged
+returns-in_err-facts-clause-judged g c =
+    let p = err_from_is_err_and c.from_residual.result c.from_residual.ensures.1 in
+    rw (p.1) tt
+
+pub returns-in_err-facts-clause-fault : goal.returns-in_err-facts-clause-fault
+returns-in_err-facts-clause-fault g c =
+    let p = err_from_is_err_and c.from_residual.result c.from_residual.ensures.1 in
+    rw (p.1, p.2) (over_sound (call_faulted _ c.in_err-facts.ensures.fault))

@@ -1,4 +1,5 @@
-use Rattle.std.proofs.Common.{◌≡◌, true, sym, subst}
+use Rattle.std.proofs.Common.{◌≡◌, true, sym, subst, ◌∙◌}
+use Rattle.std.proofs.lemmas.Bool.{false≢true}
 use Rattle.bsp_store_load.specs.Contents.{content_now}
 use Rattle.bsp_store_load.specs.MemoryRowsTables.{rows_of}
 use Rattle.bsp_store_load.specs.Tables.{Tables}
@@ -27,7 +28,7 @@ returns-in_err-expect_numbered-clause-stop g c = spared g.S.Store c.args.version
 
 pub returns-in_err-begin-clause-refused : goal.returns-in_err-begin-clause-refused
 returns-in_err-begin-clause-refused g c =
-    passed_on (λ fault. is_refusal fault ≡ true → HasNoOldBook g.S.Store c.args.version fault c.args.conn.now c.begin.new.conn) _ _ c.from_residual-in_err-begin.ensures.1 (λ refused. absurd (cc (refused, c.in_err-begin.ensures.refused)))
+    passed_on (λ fault. is_refusal fault ≡ true → HasNoOldBook g.S.Store c.args.version fault c.args.conn.now c.begin.new.conn) _ _ c.from_residual-in_err-begin.ensures.1 (λ refused. absurd (false≢true (sym c.in_err-begin.ensures.refused ∙ refused)))
 
 pub returns-in_err-begin-clause-stop : goal.returns-in_err-begin-clause-stop
 returns-in_err-begin-clause-stop g c =
@@ -47,7 +48,7 @@ returns-in_err-tables-clause-stop g c =
 
 pub returns-in_err-commit-clause-refused : goal.returns-in_err-commit-clause-refused
 returns-in_err-commit-clause-refused g c =
-    passed_on (λ fault. is_refusal fault ≡ true → HasNoOldBook g.S.Store c.args.version fault c.args.conn.now c.commit.new.conn) _ _ c.from_residual-in_err-commit.ensures.1 (λ refused. absurd (cc (refused, c.in_err-commit.ensures.refused)))
+    passed_on (λ fault. is_refusal fault ≡ true → HasNoOldBook g.S.Store c.args.version fault c.args.conn.now c.commit.new.conn) _ _ c.from_residual-in_err-commit.ensures.1 (λ refused. absurd (false≢true (sym c.in_err-commit.ensures.refused ∙ refused)))
 
 pub returns-in_err-commit-clause-stop : goal.returns-in_err-commit-clause-stop
 returns-in_err-commit-clause-stop g c =

@@ -1,4 +1,5 @@
-use Rattle.std.proofs.Common.{◌≡◌, List, true, subst}
+use Rattle.std.proofs.Common.{◌≡◌, List, true, sym, subst, ◌∙◌}
+use Rattle.std.proofs.lemmas.Bool.{false≢true}
 use Rattle.sqlite_value.specs.Order.{Row}
 use Rattle.bsp_store_migration.specs.Old.{old_number}
 use Rattle.bsp_store_open.specs.Faults.{is_refusal}
@@ -9,7 +10,7 @@ use Rattle.bsp_store_migration.proofs.number.expect_numbered.Goals as goal
 
 pub returns-in_err-rows-clause-refused : goal.returns-in_err-rows-clause-refused
 returns-in_err-rows-clause-refused g c =
-    passed_on (λ fault. is_refusal fault ≡ true → HasNoOldBook g.S.Store c.args.version fault c.args.conn.now c.old_meta.new.conn) _ _ c.from_residual.ensures.1 (λ refused. absurd (cc (refused, c.in_err-rows.ensures.refused)))
+    passed_on (λ fault. is_refusal fault ≡ true → HasNoOldBook g.S.Store c.args.version fault c.args.conn.now c.old_meta.new.conn) _ _ c.from_residual.ensures.1 (λ refused. absurd (false≢true (sym c.in_err-rows.ensures.refused ∙ refused)))
 
 pub returns-in_err-rows-clause-spares : goal.returns-in_err-rows-clause-spares
 returns-in_err-rows-clause-spares g c = c.in_err-rows.ensures.spares c.args.version c.requires

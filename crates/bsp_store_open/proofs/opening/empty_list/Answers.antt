@@ -22,3 +22,12 @@ returns-in-Ok-clause-read g c =
     made_ok (λ (list : ListBook). (list.tables ≡ c.in-Ok.tables) × listed.holds list (rows_of c.in-Ok.tables) None) c.expect_empty-tested.result c.list_over.result c.list_over.ensures (IsAtRest g.S.Store now × (rows_of c.in-Ok.tables ≡ no_rows))
     (on_both _ _ c.expect_empty-tested.result c.expect_empty-tested.ensures.rest c.expect_empty-tested.ensures.none) (λ (list : ListBook). IsOrdered g.S.Store c.args.conn.now → IsRead g.S.Store c.args.conn.now now list no_rows)
     (λ list is test order. tables_read g.S.Store c.args.conn.now now order c.in-Ok.tables c.in-Ok.ensures.committed c.in-Ok.ensures.found list no_rows is.0 is.1 test.1 no_rows_sound c.in-Ok.ensures.formed test.0 (λ db is may. g.met.S.Store.settled now.store db is may))
+
+pub returns-in-Ok-clause-spares : goal.returns-in-Ok-clause-spares
+returns-in-Ok-clause-spares g c = c.in-Ok.ensures.spares
+
+pub returns-in-Err-clause-read : goal.returns-in-Err-clause-read
+returns-in-Err-clause-read g c = tt
+
+pub returns-in-Err-clause-spares : goal.returns-in-Err-clause-spares
+returns-in-Err-clause-spares g c = c.in-Err.ensures.spares

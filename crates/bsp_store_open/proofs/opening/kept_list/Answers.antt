@@ -30,3 +30,15 @@ pub returns-in-Ok-clause-refused : goal.returns-in-Ok-clause-refused
 returns-in-Ok-clause-refused g c =
     made_err (λ (list : ListBook). (list.tables ≡ c.in-Ok.tables) × listed.holds list (rows_of c.in-Ok.tables) None) c.expect_kept-tested.result c.list_over.result c.list_over.ensures (λ fault. is_refusal fault ≡ true → HasNoBook g.S.Store fault c.args.conn.now c.kept_tables.new.conn)
     (if_err _ _ c.expect_kept-tested.result c.expect_kept-tested.ensures.refused (λ fault no refused clean ours. not_sound _ _ c.in-Ok.tables (c.in-Ok.ensures.found.found clean) (no refused)))
+
+pub returns-in-Ok-clause-spares : goal.returns-in-Ok-clause-spares
+returns-in-Ok-clause-spares g c = c.in-Ok.ensures.spares
+
+pub returns-in-Err-clause-read : goal.returns-in-Err-clause-read
+returns-in-Err-clause-read g c = tt
+
+pub returns-in-Err-clause-refused : goal.returns-in-Err-clause-refused
+returns-in-Err-clause-refused g c = c.in-Err.ensures.refused
+
+pub returns-in-Err-clause-spares : goal.returns-in-Err-clause-spares
+returns-in-Err-clause-spares g c = c.in-Err.ensures.spares

@@ -1,7 +1,8 @@
 use Rattle.std.proofs.Common.{◌≡◌, true, sym, subst}
+use Rattle.std.proofs.lemmas.Result.{IfOk-from_err}
 use Rattle.bsp_store_open.specs.Faults.{is_refusal}
 use Rattle.bsp_store_open.specs.Opening.{HasNoBook, IsOfVersion, Reports}
-use Rattle.bsp_store_open.proofs.OpeningLemmas.{both, no_book_before, other_version, passed_on, weaker}
+use Rattle.bsp_store_open.proofs.OpeningLemmas.{both, no_book_before, other_version, passed_on, spares_both, weaker}
 use Rattle.bsp_store_open.proofs.reading.plan_rows.Goals as goal
 
 pub returns-clause-found : goal.returns-clause-found
@@ -60,3 +61,72 @@ returns-in_err-expect_version-clause-refused g c = passed_on (λ fault. is_refus
 
 pub returns-clause-version : goal.returns-clause-version
 returns-clause-version g c = subst IsOfVersion c.deref.ensures.value c.in_ok-expect_version.ensures.ok
+
+pub returns-in_err-meta-clause-found : goal.returns-in_err-meta-clause-found
+returns-in_err-meta-clause-found g c = IfOk-from_err _ _ c.from_residual.ensures.0
+
+pub returns-in_err-meta-clause-version : goal.returns-in_err-meta-clause-version
+returns-in_err-meta-clause-version g c = IfOk-from_err _ _ c.from_residual.ensures.0
+
+pub returns-in_err-meta-clause-spares : goal.returns-in_err-meta-clause-spares
+returns-in_err-meta-clause-spares g c = c.in_err-meta.ensures.spares
+
+pub returns-in_err-terms-clause-found : goal.returns-in_err-terms-clause-found
+returns-in_err-terms-clause-found g c = IfOk-from_err _ _ c.from_residual-in_err-terms.ensures.0
+
+pub returns-in_err-terms-clause-version : goal.returns-in_err-terms-clause-version
+returns-in_err-terms-clause-version g c = IfOk-from_err _ _ c.from_residual-in_err-terms.ensures.0
+
+pub returns-in_err-terms-clause-spares : goal.returns-in_err-terms-clause-spares
+returns-in_err-terms-clause-spares g c = spares_both g.S.Store _ _ _ c.in_ok-meta.ensures.spares c.in_err-terms.ensures.spares
+
+pub returns-in_err-airlines-clause-found : goal.returns-in_err-airlines-clause-found
+returns-in_err-airlines-clause-found g c = IfOk-from_err _ _ c.from_residual-in_err-airlines.ensures.0
+
+pub returns-in_err-airlines-clause-version : goal.returns-in_err-airlines-clause-version
+returns-in_err-airlines-clause-version g c = IfOk-from_err _ _ c.from_residual-in_err-airlines.ensures.0
+
+pub returns-in_err-airlines-clause-spares : goal.returns-in_err-airlines-clause-spares
+returns-in_err-airlines-clause-spares g c = spares_both g.S.Store _ _ _ (spares_both g.S.Store _ _ _ c.in_ok-meta.ensures.spares c.in_ok-terms.ensures.spares) c.in_err-airlines.ensures.spares
+
+pub returns-in_err-rates-clause-found : goal.returns-in_err-rates-clause-found
+returns-in_err-rates-clause-found g c = IfOk-from_err _ _ c.from_residual-in_err-rates.ensures.0
+
+pub returns-in_err-rates-clause-version : goal.returns-in_err-rates-clause-version
+returns-in_err-rates-clause-version g c = IfOk-from_err _ _ c.from_residual-in_err-rates.ensures.0
+
+pub returns-in_err-rates-clause-spares : goal.returns-in_err-rates-clause-spares
+returns-in_err-rates-clause-spares g c = spares_both g.S.Store _ _ _ (spares_both g.S.Store _ _ _ (spares_both g.S.Store _ _ _ c.in_ok-meta.ensures.spares c.in_ok-terms.ensures.spares) c.in_ok-airlines.ensures.spares) c.in_err-rates.ensures.spares
+
+pub returns-in_err-periods-clause-found : goal.returns-in_err-periods-clause-found
+returns-in_err-periods-clause-found g c = IfOk-from_err _ _ c.from_residual-in_err-periods.ensures.0
+
+pub returns-in_err-periods-clause-version : goal.returns-in_err-periods-clause-version
+returns-in_err-periods-clause-version g c = IfOk-from_err _ _ c.from_residual-in_err-periods.ensures.0
+
+pub returns-in_err-periods-clause-spares : goal.returns-in_err-periods-clause-spares
+returns-in_err-periods-clause-spares g c = spares_both g.S.Store _ _ _ (spares_both g.S.Store _ _ _ (spares_both g.S.Store _ _ _ (spares_both g.S.Store _ _ _ c.in_ok-meta.ensures.spares c.in_ok-terms.ensures.spares) c.in_ok-airlines.ensures.spares) c.in_ok-rates.ensures.spares) c.in_err-periods.ensures.spares
+
+pub returns-in_err-commission_taxes-clause-found : goal.returns-in_err-commission_taxes-clause-found
+returns-in_err-commission_taxes-clause-found g c = IfOk-from_err _ _ c.from_residual-in_err-commission_taxes.ensures.0
+
+pub returns-in_err-commission_taxes-clause-version : goal.returns-in_err-commission_taxes-clause-version
+returns-in_err-commission_taxes-clause-version g c = IfOk-from_err _ _ c.from_residual-in_err-commission_taxes.ensures.0
+
+pub returns-in_err-commission_taxes-clause-spares : goal.returns-in_err-commission_taxes-clause-spares
+returns-in_err-commission_taxes-clause-spares g c = spares_both g.S.Store _ _ _ (spares_both g.S.Store _ _ _ (spares_both g.S.Store _ _ _ (spares_both g.S.Store _ _ _ (spares_both g.S.Store _ _ _ c.in_ok-meta.ensures.spares c.in_ok-terms.ensures.spares) c.in_ok-airlines.ensures.spares) c.in_ok-rates.ensures.spares) c.in_ok-periods.ensures.spares) c.in_err-commission_taxes.ensures.spares
+
+pub returns-in_err-expect_version-clause-found : goal.returns-in_err-expect_version-clause-found
+returns-in_err-expect_version-clause-found g c = IfOk-from_err _ _ c.from_residual-in_err-expect_version.ensures.0
+
+pub returns-in_err-expect_version-clause-version : goal.returns-in_err-expect_version-clause-version
+returns-in_err-expect_version-clause-version g c = IfOk-from_err _ _ c.from_residual-in_err-expect_version.ensures.0
+
+pub returns-in_err-expect_version-clause-spares : goal.returns-in_err-expect_version-clause-spares
+returns-in_err-expect_version-clause-spares g c = c.in_ok-meta.ensures.spares
+
+pub returns-clause-spares : goal.returns-clause-spares
+returns-clause-spares g c = spares_both g.S.Store _ _ _ (spares_both g.S.Store _ _ _ (spares_both g.S.Store _ _ _ (spares_both g.S.Store _ _ _ (spares_both g.S.Store _ _ _ c.in_ok-meta.ensures.spares c.in_ok-terms.ensures.spares) c.in_ok-airlines.ensures.spares) c.in_ok-rates.ensures.spares) c.in_ok-periods.ensures.spares) c.in_ok-commission_taxes.ensures.spares
+
+pub returns-clause-refused : goal.returns-clause-refused
+returns-clause-refused g c = tt

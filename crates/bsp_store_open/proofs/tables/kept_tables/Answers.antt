@@ -10,7 +10,7 @@ use Rattle.sqlite_trees.specs.Tree.{Trees}
 use Rattle.bsp_store_open.specs.Loaded.{IsAllLoaded, IsPlanned, KeepsNone}
 use Rattle.bsp_store_open.specs.Opening.{Finds, HasNoBook, Misses}
 use Rattle.bsp_store_open.proofs.LoadedLemmas.{shows_none}
-use Rattle.bsp_store_open.proofs.OpeningLemmas.{both, given_err, given_ok, if_both, if_err, missed_after, on_ok, weaker}
+use Rattle.bsp_store_open.proofs.OpeningLemmas.{both, given_err, given_ok, if_both, if_err, missed_after, on_ok, weaker, spares_both}
 use Rattle.bsp_store_open.proofs.tables.kept_tables.Goals as goal
 
 pub returns-in-Ok-clause-committed : goal.returns-in-Ok-clause-committed
@@ -38,3 +38,21 @@ returns-in-Ok-clause-refused g c =
     (λ fault it refused clean ours.
     let found = missed_after g.S.Store c.args.conn.now start later planned (λ trees. planned trees → KeepsNone trees) c.in-Ok.ensures.found c.load_all-loaded.ensures.spares (it.1 refused) clean ours in
     shows_none _ (rows_of c.in-Ok.tables) found.0 _ (it.0 refused) (found.1 found.0)))
+
+pub returns-in-Ok-clause-spares : goal.returns-in-Ok-clause-spares
+returns-in-Ok-clause-spares g c = spares_both g.S.Store _ _ _ c.in-Ok.ensures.spares c.load_all-loaded.ensures.spares
+
+pub returns-in-Err-clause-committed : goal.returns-in-Err-clause-committed
+returns-in-Err-clause-committed g c = tt
+
+pub returns-in-Err-clause-formed : goal.returns-in-Err-clause-formed
+returns-in-Err-clause-formed g c = tt
+
+pub returns-in-Err-clause-found : goal.returns-in-Err-clause-found
+returns-in-Err-clause-found g c = tt
+
+pub returns-in-Err-clause-refused : goal.returns-in-Err-clause-refused
+returns-in-Err-clause-refused g c = c.in-Err.ensures.refused
+
+pub returns-in-Err-clause-spares : goal.returns-in-Err-clause-spares
+returns-in-Err-clause-spares g c = c.in-Err.ensures.spares

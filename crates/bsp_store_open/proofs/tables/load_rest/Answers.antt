@@ -6,7 +6,8 @@ use Rattle.bsp_store_load.specs.Contents.{content_now}
 use Rattle.bsp_store_open.specs.Loaded.{AreCallersLoaded, AreSalesLoaded, HasNoCallers, HasNoSales, IsPlanned, KeepsNone, NoFormed, NoRight, OtherTallies}
 use Rattle.bsp_store_open.specs.Opening.{Misses}
 use Rattle.bsp_store_open.proofs.LoadedLemmas.{all_loaded, callers_none, right, sales_none, same_content}
-use Rattle.bsp_store_open.proofs.OpeningLemmas.{both, if_err, missed_after, misses_more, on_ok, passed_on, weaker}
+use Rattle.bsp_store_open.specs.declared.fault.OpenFault.TheVariants.{Damaged}
+use Rattle.bsp_store_open.proofs.OpeningLemmas.{both, if_err, missed_after, misses_more, on_ok, passed_on, weaker, none_done, spares_both}
 use Rattle.bsp_store_open.proofs.tables.load_rest.Goals as goal
 
 pub returns-in_err-load_callers-clause-missed : goal.returns-in_err-load_callers-clause-missed
@@ -49,3 +50,36 @@ returns-clause-missed g c =
     let callers = found.0.0 (callers_none trees zero planned) in
     found.1 d formed keeps
     (same_content trees zero planned one callers c.load_sales.new.tables (found.0.1 (sales_none trees zero planned one callers)) (c.in_ok-load_sales.ensures.whole (c.in_ok-load_callers.ensures.whole whole)).derived book d sound of formed keeps)))
+
+pub returns-in_err-load_callers-clause-whole : goal.returns-in_err-load_callers-clause-whole
+returns-in_err-load_callers-clause-whole g c = none_done _ _ c.from_residual.ensures.0
+
+pub returns-in_err-load_callers-clause-found : goal.returns-in_err-load_callers-clause-found
+returns-in_err-load_callers-clause-found g c = none_done _ _ c.from_residual.ensures.0
+
+pub returns-in_err-load_callers-clause-fault : goal.returns-in_err-load_callers-clause-fault
+returns-in_err-load_callers-clause-fault g c = passed_on (λ fault. is_refusal fault ≡ true → fault ≡ Damaged) _ _ c.from_residual.ensures.1 c.in_err-load_callers.ensures.fault
+
+pub returns-in_err-load_callers-clause-spares : goal.returns-in_err-load_callers-clause-spares
+returns-in_err-load_callers-clause-spares g c = c.in_err-load_callers.ensures.spares
+
+pub returns-in_err-load_sales-clause-whole : goal.returns-in_err-load_sales-clause-whole
+returns-in_err-load_sales-clause-whole g c = none_done _ _ c.from_residual-in_err-load_sales.ensures.0
+
+pub returns-in_err-load_sales-clause-found : goal.returns-in_err-load_sales-clause-found
+returns-in_err-load_sales-clause-found g c = none_done _ _ c.from_residual-in_err-load_sales.ensures.0
+
+pub returns-in_err-load_sales-clause-fault : goal.returns-in_err-load_sales-clause-fault
+returns-in_err-load_sales-clause-fault g c = passed_on (λ fault. is_refusal fault ≡ true → fault ≡ Damaged) _ _ c.from_residual-in_err-load_sales.ensures.1 c.in_err-load_sales.ensures.fault
+
+pub returns-in_err-load_sales-clause-spares : goal.returns-in_err-load_sales-clause-spares
+returns-in_err-load_sales-clause-spares g c = spares_both g.S.Store _ _ _ c.in_ok-load_callers.ensures.spares c.in_err-load_sales.ensures.spares
+
+pub returns-clause-whole : goal.returns-clause-whole
+returns-clause-whole g c = on_ok _ _ c.expect_sums.result c.expect_sums.ensures.found (λ last whole. c.in_ok-load_sales.ensures.whole (c.in_ok-load_callers.ensures.whole whole))
+
+pub returns-clause-fault : goal.returns-clause-fault
+returns-clause-fault g c = c.expect_sums.ensures.fault
+
+pub returns-clause-spares : goal.returns-clause-spares
+returns-clause-spares g c = spares_both g.S.Store _ _ _ (spares_both g.S.Store _ _ _ c.in_ok-load_callers.ensures.spares c.in_ok-load_sales.ensures.spares) c.expect_sums.ensures.spares

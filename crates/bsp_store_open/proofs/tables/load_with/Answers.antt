@@ -10,7 +10,8 @@ use Rattle.bsp_store_open.specs.Faults.{is_refusal}
 use Rattle.bsp_store_open.specs.Loaded.{AreItemsLoaded, AreSecondsRead, AreTaxesRead, HasNoSales, NoRight}
 use Rattle.bsp_store_open.specs.Opening.{Misses}
 use Rattle.bsp_store_open.proofs.LoadedLemmas.{items_loaded, no_items_loaded, others_beside}
-use Rattle.bsp_store_open.proofs.OpeningLemmas.{if_err, misses_more, on_ok, passed_on, weaker}
+use Rattle.bsp_store_open.specs.declared.fault.OpenFault.TheVariants.{Damaged}
+use Rattle.bsp_store_open.proofs.OpeningLemmas.{if_err, misses_more, on_ok, passed_on, weaker, none_done}
 use Rattle.bsp_store_open.proofs.tables.load_with.Goals as goal
 
 pub returns-in_err-load-clause-missed : goal.returns-in_err-load-clause-missed
@@ -40,3 +41,24 @@ returns-clause-missed g c =
     let one = rows_of c.load.new.memory in
     if_err _ _ c.expect_beside.result c.expect_beside.ensures.other (λ fault other refused clean ours read documents none.
     others_beside _ zero one none taxes seconds read documents (c.in_ok-load.ensures.found.found clean) other)
+
+pub returns-in_err-load-clause-whole : goal.returns-in_err-load-clause-whole
+returns-in_err-load-clause-whole g c = none_done _ _ c.from_residual.ensures.0
+
+pub returns-in_err-load-clause-found : goal.returns-in_err-load-clause-found
+returns-in_err-load-clause-found g c = none_done _ _ c.from_residual.ensures.0
+
+pub returns-in_err-load-clause-fault : goal.returns-in_err-load-clause-fault
+returns-in_err-load-clause-fault g c = passed_on (λ fault. is_refusal fault ≡ true → fault ≡ Damaged) _ _ c.from_residual.ensures.1 c.in_err-load.ensures.fault
+
+pub returns-in_err-load-clause-spares : goal.returns-in_err-load-clause-spares
+returns-in_err-load-clause-spares g c = c.in_err-load.ensures.spares
+
+pub returns-clause-whole : goal.returns-clause-whole
+returns-clause-whole g c = on_ok _ _ c.expect_beside.result c.expect_beside.ensures.same (λ beside whole. c.in_ok-load.ensures.derived whole)
+
+pub returns-clause-fault : goal.returns-clause-fault
+returns-clause-fault g c = if_err _ _ c.expect_beside.result c.expect_beside.ensures.fault (λ fault is refused. is)
+
+pub returns-clause-spares : goal.returns-clause-spares
+returns-clause-spares g c = c.in_ok-load.ensures.spares

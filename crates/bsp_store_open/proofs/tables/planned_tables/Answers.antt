@@ -2,6 +2,7 @@ use Rattle.std.proofs.Common.{◌≡◌, true, sym, subst}
 use Rattle.bsp_store_open.specs.Faults.{is_refusal}
 use Rattle.bsp_store_open.specs.Opening.{HasNoBook}
 use Rattle.bsp_store_open.proofs.LoadedLemmas.{no_plan}
+use Rattle.std.proofs.lemmas.Result.{IfOk-from_err}
 use Rattle.bsp_store_open.proofs.OpeningLemmas.{if_err, if_read, passed_on, weaker}
 use Rattle.bsp_store_open.proofs.tables.planned_tables.Goals as goal
 
@@ -28,3 +29,15 @@ returns-clause-found g c =
       alone = rw made at c.plan_tables.ensures.alone;
       only = rw made at c.plan_tables.ensures.plan;
     }) c.in_ok-rows.ensures.found)
+
+pub returns-in_err-rows-clause-whole : goal.returns-in_err-rows-clause-whole
+returns-in_err-rows-clause-whole g c = IfOk-from_err _ _ c.from_residual.ensures.0
+
+pub returns-in_err-rows-clause-found : goal.returns-in_err-rows-clause-found
+returns-in_err-rows-clause-found g c = IfOk-from_err _ _ c.from_residual.ensures.0
+
+pub returns-in_err-rows-clause-spares : goal.returns-in_err-rows-clause-spares
+returns-in_err-rows-clause-spares g c = c.in_err-rows.ensures.spares
+
+pub returns-clause-spares : goal.returns-clause-spares
+returns-clause-spares g c = c.in_ok-rows.ensures.spares
