@@ -1,7 +1,7 @@
 //! Why a command wrote no whole report.
 
 /// Why no whole report was written.
-#[derive(Clone, Copy, Debug, PartialEq, Eq, Drop)]
+#[derive(Clone, Copy, PartialEq, Eq, Drop)]
 pub enum Fault {
     /// A read failed.
     Read,

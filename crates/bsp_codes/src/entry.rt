@@ -14,7 +14,7 @@ pub(crate) type Row = (
 );
 
 /// What is said of a code. In its texts `docs/X.md` names a page, and words in `` ` `` are written as they are.
-#[derive(Clone, Copy, Debug)]
+#[derive(Clone, Copy)]
 pub struct Entry {
     /// The code.
     pub code: &'static str,

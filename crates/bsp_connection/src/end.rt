@@ -6,7 +6,7 @@ ghost use Rattle.bsp_connection.specs.Ends.{served_until};
 use thiserror::Error;
 
 /// How a connection ended.
-#[derive(Clone, Copy, Debug, PartialEq, Eq)]
+#[derive(Clone, Copy, PartialEq, Eq)]
 pub enum End {
     /// The input ended behind a message, or before the first.
     Clean,
@@ -31,7 +31,7 @@ pub enum ServeFault {
 }
 
 /// What was served of a connection.
-#[derive(Clone, Copy, Debug, PartialEq, Eq)]
+#[derive(Clone, Copy, PartialEq, Eq)]
 pub struct Served {
     /// How many messages were answered, refusals among them; interim responses are not counted.
     pub messages: usize,

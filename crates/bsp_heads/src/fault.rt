@@ -4,7 +4,7 @@
 ///
 /// The first that applies is answered. The order is: too large, malformed (no head, or not one
 /// `Host`), a transfer coding, and a length that is malformed, missing or too large.
-#[derive(Clone, Copy, Debug, PartialEq, Eq)]
+#[derive(Clone, Copy, PartialEq, Eq)]
 pub enum HeadFault {
     /// The text is no head of a request, or an HTTP/1.1 head has not exactly one `Host` (RFC 9112,
     /// 3.2). Or the head's `Content-Length` comes twice or is not made of digits (RFC 9110, 8.6).
@@ -22,7 +22,7 @@ pub enum HeadFault {
 }
 
 /// A refusal of a head, and the form of its answer.
-#[derive(Clone, Copy, Debug, PartialEq, Eq)]
+#[derive(Clone, Copy, PartialEq, Eq)]
 pub struct Refused {
     /// The first fault that applies.
     pub fault: HeadFault,

@@ -10,7 +10,7 @@ use bsp_routes::Methods;
 use std::marker::Model;
 
 /// What is answered to a request.
-#[derive(Clone, Copy, Debug, PartialEq, Eq)]
+#[derive(Clone, Copy, PartialEq, Eq)]
 pub struct Reply<'b> {
     /// The status.
     pub status: Status,

@@ -7,7 +7,7 @@ ghost use Rattle.bsp_heads.specs.Scan.{HasScanned, head_len_from};
 ///
 /// A line ends by LF or CR LF (RFC 9112, 2.2). Empty lines before the request line belong to the head, which
 /// ends with the first empty line after it.
-#[derive(Clone, Copy, Debug, PartialEq, Eq)]
+#[derive(Clone, Copy, PartialEq, Eq)]
 pub struct Scan {
     /// Whether a line that is not empty has ended.
     seen: bool,

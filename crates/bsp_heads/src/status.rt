@@ -6,7 +6,7 @@ ghost use Rattle.bsp_heads.specs.ResponseHeads.{code, phrase, media_type};
 use http::StatusCode;
 
 /// The status of a response (RFC 9110, section 15).
-#[derive(Clone, Copy, Debug, PartialEq, Eq)]
+#[derive(Clone, Copy, PartialEq, Eq)]
 pub enum Status {
     /// 200: the request is answered.
     Ok,
@@ -72,7 +72,7 @@ impl Status {
 }
 
 /// The media type of a body.
-#[derive(Clone, Copy, Debug, PartialEq, Eq)]
+#[derive(Clone, Copy, PartialEq, Eq)]
 pub enum Media {
     /// `application/json` (RFC 8259).
     Json,

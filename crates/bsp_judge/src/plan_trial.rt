@@ -11,7 +11,7 @@ use bsp_fields::Change;
 use std::alloc::Global;
 
 /// The first of some plan texts that is refused.
-#[derive(Clone, Copy, Debug, PartialEq, Eq, Drop)]
+#[derive(Clone, Copy, PartialEq, Eq, Drop)]
 pub struct PlanRefused {
     /// Its place among them, from 0.
     pub place: usize,

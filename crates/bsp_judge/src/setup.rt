@@ -22,7 +22,7 @@ pub struct Setup<'s> {
 }
 
 /// A request of the office in a trial.
-#[derive(Clone, Copy, Debug, PartialEq, Eq)]
+#[derive(Clone, Copy, PartialEq, Eq)]
 pub enum Step {
     /// Publish the plan.
     Plan,

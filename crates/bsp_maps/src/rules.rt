@@ -29,7 +29,7 @@ pub trait Test<V> {
 }
 
 /// Each value passes.
-#[derive(Clone, Copy, Debug)]
+#[derive(Clone, Copy)]
 pub struct Every;
 
 impl<V> Test<V> for Every {

@@ -9,7 +9,7 @@ ghost use Rattle.bsp_memory_tables.specs.Places.{agent_place, item_place, partie
 use bsp_rows::{AgentCode, AirlineCode, Item, Memo, MemoKey, PeriodCode, Tally, TallyKey};
 
 /// An airline and a period.
-#[derive(Clone, Copy, Debug, PartialEq, Eq, PartialOrd, Ord)]
+#[derive(Clone, Copy, PartialEq, Eq, PartialOrd, Ord)]
 pub struct AirlinePeriod {
     /// The airline.
     pub airline: AirlineCode,
@@ -18,7 +18,7 @@ pub struct AirlinePeriod {
 }
 
 /// An airline and an agent.
-#[derive(Clone, Copy, Debug, PartialEq, Eq, PartialOrd, Ord)]
+#[derive(Clone, Copy, PartialEq, Eq, PartialOrd, Ord)]
 pub struct Parties {
     /// The airline.
     pub airline: AirlineCode,

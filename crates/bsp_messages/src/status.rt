@@ -4,7 +4,7 @@ ghost use Rattle.std.specs.Prelude.{◌≡◌};
 ghost use Rattle.bsp_messages.specs.Statuses.{status_number, media_text};
 
 /// The status of an answer (RFC 9110, section 15).
-#[derive(Clone, Copy, Debug, PartialEq, Eq)]
+#[derive(Clone, Copy, PartialEq, Eq)]
 pub enum Status {
     /// 200: the request is answered.
     Ok,
@@ -43,7 +43,7 @@ impl Status {
 }
 
 /// The media type of a body.
-#[derive(Clone, Copy, Debug, PartialEq, Eq)]
+#[derive(Clone, Copy, PartialEq, Eq)]
 pub enum Media {
     /// `application/json` (RFC 8259).
     Json,

@@ -10,7 +10,7 @@ use std::alloc::Global;
 use std::borrow::CowSlice;
 
 /// What of a request's body is answered.
-#[derive(Clone, Copy, Debug, PartialEq, Eq)]
+#[derive(Clone, Copy, PartialEq, Eq)]
 pub enum BodyUse {
     /// Nothing: the body is read and dropped.
     Ignored,
@@ -21,7 +21,7 @@ pub enum BodyUse {
 }
 
 /// A request whose head was read.
-#[derive(Clone, Copy, Debug)]
+#[derive(Clone, Copy)]
 pub struct Message<'m> {
     /// The method (RFC 9110, section 9).
     pub method: &'m [u8],

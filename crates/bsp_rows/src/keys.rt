@@ -11,7 +11,7 @@ use bsp_ret_records::TransactionCode;
 use bsp_rules::{Item, Range};
 
 /// The key of a range: its agent and its first number.
-#[derive(Clone, Copy, Debug, PartialEq, Eq, PartialOrd, Ord, Drop)]
+#[derive(Clone, Copy, PartialEq, Eq, PartialOrd, Ord, Drop)]
 pub struct RangeKey {
     /// The agent whose stock it is.
     pub agent: AgentCode,
@@ -32,7 +32,7 @@ pub struct ItemKey {
 }
 
 /// The key of a memo: its airline and its document number.
-#[derive(Clone, Copy, Debug, PartialEq, Eq, PartialOrd, Ord, Drop)]
+#[derive(Clone, Copy, PartialEq, Eq, PartialOrd, Ord, Drop)]
 pub struct MemoKey {
     /// The airline that issued it.
     pub airline: AirlineCode,
@@ -41,7 +41,7 @@ pub struct MemoKey {
 }
 
 /// The key of a tally: its agent, its airline and its period.
-#[derive(Clone, Copy, Debug, PartialEq, Eq, PartialOrd, Ord, Drop)]
+#[derive(Clone, Copy, PartialEq, Eq, PartialOrd, Ord, Drop)]
 pub struct TallyKey {
     /// The agent.
     pub agent: AgentCode,

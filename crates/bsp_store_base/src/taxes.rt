@@ -6,7 +6,7 @@ ghost use Rattle.bsp_store_base.specs.Taxes.{tax_with};
 use bsp_rows::{Amount, Item};
 
 /// The tax on the commission of an item, and what was taken for it.
-#[derive(Clone, Copy, Debug, PartialEq, Eq, Drop)]
+#[derive(Clone, Copy, PartialEq, Eq, Drop)]
 pub struct ItemTax {
     /// The tax.
     pub tax: Amount,

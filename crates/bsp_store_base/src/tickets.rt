@@ -7,7 +7,7 @@ ghost use Rattle.bsp_store_base.specs.Seconds.{ticket_of};
 use bsp_rows::{AgentCode, DocNumber, ItemKey, ReportedDocument, Transaction};
 
 /// The key of a ticket: its agent and its number.
-#[derive(Clone, Copy, Debug, PartialEq, Eq, PartialOrd, Ord, Drop)]
+#[derive(Clone, Copy, PartialEq, Eq, PartialOrd, Ord, Drop)]
 pub struct TicketKey {
     /// The agent that it bears.
     pub agent: AgentCode,

@@ -19,7 +19,7 @@ use sqlite::{Alter, Connection, Error};
 use sqlite_value::value::ValueRef;
 
 /// What is written of a memo: its key and its other codes in digits, and the rest of its fields.
-#[derive(Clone, Copy, Debug)]
+#[derive(Clone, Copy)]
 pub struct MemoRow {
     airline: [u8; 3],
     number: [u8; 10],

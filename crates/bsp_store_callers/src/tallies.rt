@@ -16,7 +16,7 @@ use sqlite::{Alter, Connection, Error, Row};
 use sqlite_value::value::ValueRef;
 
 /// What is written of a tally: its key in digits, its counts and its sums, the tax apart.
-#[derive(Clone, Copy, Debug)]
+#[derive(Clone, Copy)]
 pub struct TallyRow {
     agent: [u8; 8],
     airline: [u8; 3],

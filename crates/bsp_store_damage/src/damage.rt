@@ -4,7 +4,7 @@ use crate::tables::Table;
 use std::fmt;
 
 /// Why a store is no sound book.
-#[derive(Debug, Drop)]
+#[derive(Drop)]
 pub enum Damage {
     /// A table, an index or another object that a book has not: what it is, and its name.
     Foreign(&'static str, String),

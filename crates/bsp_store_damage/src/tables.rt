@@ -5,7 +5,7 @@ use sqlite::Row;
 use std::fmt;
 
 /// A table of a book.
-#[derive(Clone, Copy, Debug, PartialEq, Eq)]
+#[derive(Clone, Copy, PartialEq, Eq)]
 pub enum Table {
     /// Version, business day and the count of closed periods.
     Meta,

@@ -18,7 +18,7 @@ use sqlite_value::value::ValueRef;
 
 /// What is written of the tax of an item: the item's key in digits, the tax in minor units, and the hundredths of a
 /// percent that were taken for it.
-#[derive(Clone, Copy, Debug)]
+#[derive(Clone, Copy)]
 pub struct ItemTaxRow {
     agent: [u8; 8],
     number: [u8; 10],

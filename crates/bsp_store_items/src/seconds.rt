@@ -17,7 +17,7 @@ use sqlite_value::value::ValueRef;
 
 /// What is written of the second related document of a ticket: the ticket's key and the document's airline in digits, and
 /// the document's number.
-#[derive(Clone, Copy, Debug)]
+#[derive(Clone, Copy)]
 pub struct SecondRow {
     agent: [u8; 8],
     number: [u8; 10],

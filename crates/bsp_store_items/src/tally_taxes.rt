@@ -16,7 +16,7 @@ use sqlite::{Alter, Connection, Error, Row};
 use sqlite_value::value::ValueRef;
 
 /// What is written of the tax of a tally: the tally's key in digits, and the tax in minor units.
-#[derive(Clone, Copy, Debug)]
+#[derive(Clone, Copy)]
 pub struct TallyTaxRow {
     agent: [u8; 8],
     airline: [u8; 3],

@@ -9,7 +9,7 @@ use bsp_store_callers::{AgentRow, RangeRow, agents_query, ranges_query, read_age
 use sqlite::Row;
 
 /// Tokens of agents.
-#[derive(Clone, Copy, Debug)]
+#[derive(Clone, Copy)]
 pub struct Agents;
 
 impl StoredTable<AgentCode, Token, Tables> for Agents {
@@ -66,7 +66,7 @@ impl StoredTable<AgentCode, Token, Tables> for Agents {
 }
 
 /// Ranges of stock.
-#[derive(Clone, Copy, Debug)]
+#[derive(Clone, Copy)]
 pub struct Ranges;
 
 impl StoredTable<RangeKey, DocNumber, Tables> for Ranges {

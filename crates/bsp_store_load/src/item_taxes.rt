@@ -17,7 +17,7 @@ use sqlite::Row;
 use std::collections::BTreeMap;
 
 /// The taxes of items by the keys of the items.
-#[derive(Clone, Copy, Debug)]
+#[derive(Clone, Copy)]
 pub struct StoredTaxes;
 
 impl StoredTable<ItemKey, ItemTax, BTreeMap<ItemKey, ItemTax>> for StoredTaxes {

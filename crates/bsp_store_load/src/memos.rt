@@ -9,7 +9,7 @@ use bsp_store_callers::{MemoRow, memos_query, read_memo};
 use sqlite::Row;
 
 /// Memos.
-#[derive(Clone, Copy, Debug)]
+#[derive(Clone, Copy)]
 pub struct StoredMemos;
 
 impl StoredTable<MemoKey, Memo, Tables> for StoredMemos {

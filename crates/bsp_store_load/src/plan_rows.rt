@@ -3,7 +3,7 @@
 use sqlite::Row;
 
 /// All rows of the plan's six tables, those of each in the order of its keys or of its places.
-#[derive(Debug, Drop)]
+#[derive(Drop)]
 pub struct PlanRows {
     /// Version, business day and the count of closed periods.
     pub meta: Vec<Row>,

@@ -17,7 +17,7 @@ use sqlite::Row;
 use std::collections::BTreeMap;
 
 /// The second related documents by their tickets.
-#[derive(Clone, Copy, Debug)]
+#[derive(Clone, Copy)]
 pub struct StoredSeconds;
 
 impl StoredTable<TicketKey, ReportedDocument, BTreeMap<TicketKey, ReportedDocument>>

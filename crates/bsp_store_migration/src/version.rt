@@ -8,7 +8,7 @@ use bsp_store_base::is_our_table;
 use sqlite_schema::schema::{Index, Schema, Table};
 
 /// A version of the tables before that of this program.
-#[derive(Clone, Copy, Debug, PartialEq, Eq, Drop)]
+#[derive(Clone, Copy, PartialEq, Eq, Drop)]
 pub enum OldVersion {
     /// Version 1: the first ten tables.
     First,

@@ -13,7 +13,7 @@ use sqlite::{Alter, Connection, Error, Row};
 use sqlite_value::value::ValueRef;
 
 /// The row of a tax on commission at its place.
-#[derive(Clone, Copy, Debug)]
+#[derive(Clone, Copy)]
 pub struct CommissionTaxRow {
     begins: i64,
     place: i64,

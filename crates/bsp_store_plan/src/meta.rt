@@ -21,7 +21,7 @@ pub const VERSION: i64 = 3;
 const ADD: &str = "INSERT INTO meta (id, version, day, closed) VALUES (?1, ?2, ?3, ?4)";
 
 /// The row of the business day and of how many periods are closed.
-#[derive(Clone, Copy, Debug)]
+#[derive(Clone, Copy)]
 pub struct MetaRow {
     day: i64,
     closed: i64,

@@ -14,7 +14,7 @@ use sqlite::{Alter, Connection, Error, Row};
 use sqlite_value::value::ValueRef;
 
 /// The row of a rate of commission at its place.
-#[derive(Clone, Copy, Debug)]
+#[derive(Clone, Copy)]
 pub struct RateRow {
     airline: [u8; 3],
     begins: i64,

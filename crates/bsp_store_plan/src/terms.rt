@@ -13,7 +13,7 @@ use sqlite::{Alter, Connection, Error, Row};
 use sqlite_value::value::ValueRef;
 
 /// The row of the terms of the market.
-#[derive(Clone, Copy, Debug)]
+#[derive(Clone, Copy)]
 pub struct TermsRow {
     currency: [u8; 3],
     review: i64,

@@ -103,7 +103,7 @@ pub enum Work<'a> {
 }
 
 /// Which value is out of its form. It is for people: no clause says which.
-#[derive(Clone, Copy, Debug, PartialEq, Eq)]
+#[derive(Clone, Copy, PartialEq, Eq)]
 pub enum Misfit {
     /// Neither `--token` nor `--token-file` is there.
     NoToken,
