@@ -49,7 +49,7 @@ impl fmt::Display for Summary {
 }
 
 /// Why an audit passes no book.
-#[derive(Debug, Drop)]
+#[derive(Drop)]
 pub enum AuditFault {
     /// The tables are not those of a book, or have rows that are not sound. (B02.) With what is at fault, as far as it is
     /// found.
