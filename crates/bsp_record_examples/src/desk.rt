@@ -20,15 +20,16 @@ fn request_of<'t>(routes: &Routes, text: &'t str) -> Request<'t> {
     }
 }
 
-/// The requests of a run; `; ` is between them.
-fn requests_of<'t>(
-    alloc: Global,
-    routes: &Routes,
-    texts: &'t str,
-) -> Result<Vec<Request<'t>>, Fault> {
+/// The requests of texts, so many times one after another; `; ` is between the texts.
+fn requests_of<'t>(alloc: Global, count: usize, texts: &'t str) -> Result<Vec<Request<'t>>, Fault> {
+    let Ok(routes) = Routes::new(alloc) else {
+        return Err(Fault::Memory);
+    };
     let mut requests = Vec::new(alloc);
-    for text in texts.split("; ") {
-        requests.push(request_of(routes, text))?;
+    for _ in 0..count {
+        for text in texts.split("; ") {
+            requests.push(request_of(&routes, text))?;
+        }
     }
     Ok(requests)
 }
@@ -49,92 +50,50 @@ fn replies_to(alloc: Global, asked: &[Request<'_>]) -> Option<Vec<Reply>> {
     desk.run(asked).ok()
 }
 
-/// The routes of requests.
-fn routes(alloc: Global) -> Result<Routes, Fault> {
-    Routes::new(alloc).map_err(|_| Fault::Memory)
-}
-
-/// Appends a reply.
-fn show_reply(reply: &Reply, out: &mut Output) {
-    say!(out, "{} ", reply.status.code());
-    out.characters(reply.body.as_bytes());
-}
-
-/// Appends replies, with `; ` between them.
-fn show_each(replies: &[Reply], out: &mut Output) -> Answered {
-    for (at, reply) in replies.iter().enumerate() {
-        out.push(if at > 0 { "; " } else { "" });
-        show_reply(reply, out);
-    }
-    Ok(())
-}
-
 /// Whether two replies are the same.
 fn is_same(one: &Reply, other: &Reply) -> bool {
     one.status == other.status && one.body.as_bytes() == other.body.as_bytes()
 }
 
-/// Appends how many replies there are, and the first; none of them may be another.
-fn show_alike(replies: &[Reply], out: &mut Output) -> Answered {
-    let Some((first, others)) = replies.split_first() else {
-        return Err(Fault::Field);
+/// Appends replies, of which the first is shown, with their number if it is not one.
+fn show_alike(replies: &[Reply], out: &mut Output) {
+    let Some(reply) = replies.first() else {
+        return;
     };
-    if !others.iter().all(|other| is_same(first, other)) {
-        return Err(Fault::Field);
+    if replies.len() > 1 {
+        say!(out, "{} times ", replies.len());
     }
-    say!(out, "{} times ", replies.len());
-    show_reply(first, out);
-    Ok(())
+    say!(out, "{} ", reply.status.code());
+    out.characters(reply.body.as_bytes());
 }
 
-/// How the replies of a run are shown.
-#[derive(Clone, Copy)]
-enum Shown {
-    /// Each of them.
-    Each,
-    /// Their number and the first, where all are the same.
-    Alike,
+/// Appends replies, with `; ` between them. Those that are the same, one after another, are shown once.
+fn show_replies(replies: &[Reply], out: &mut Output) {
+    let mut between = "";
+    for alike in replies.chunk_by(is_same) {
+        out.push(between);
+        show_alike(alike, out);
+        between = "; ";
+    }
 }
 
-/// Appends what a desk over an empty book replies to requests in one run.
-fn ask(alloc: Global, asked: &[Request<'_>], shown: Shown, out: &mut Output) -> Answered {
-    let Some(replies) = replies_to(alloc, asked) else {
+/// Asks requests so many times in one run; `; ` is between them.
+fn ask(alloc: Global, count: usize, texts: &str, out: &mut Output) -> Answered {
+    let asked = requests_of(alloc, count, texts)?;
+    let Some(replies) = replies_to(alloc, &asked) else {
         return Err(Fault::Memory);
     };
-    match shown {
-        Shown::Each => show_each(&replies, out),
-        Shown::Alike => show_alike(&replies, out),
-    }
-}
-
-/// Asks requests in one run; `; ` is between them.
-fn ask_each(alloc: Global, routes: &Routes, texts: &str, out: &mut Output) -> Answered {
-    let asked = requests_of(alloc, routes, texts)?;
-    ask(alloc, &asked, Shown::Each, out)
-}
-
-/// Asks a request so many times in one run.
-fn ask_again(
-    alloc: Global,
-    routes: &Routes,
-    count: usize,
-    text: &str,
-    out: &mut Output,
-) -> Answered {
-    let asked = vec![in alloc; request_of(routes, text); count]?;
-    ask(alloc, &asked, Shown::Alike, out)
+    show_replies(&replies, out);
+    Ok(())
 }
 
 /// Asks requests in a run.
 pub fn run(alloc: Global, texts: &str, out: &mut Output) -> Answered {
-    let routes = routes(alloc)?;
-    ask_each(alloc, &routes, texts, out)
+    ask(alloc, 1, texts, out)
 }
 
-/// Asks one request so many times in one run, and appends the first reply, where all are the same.
-pub fn run_many(alloc: Global, text: &str, out: &mut Output) -> Answered {
-    let (count, text) = first_word(text);
-    let count = number(count)?;
-    let routes = routes(alloc)?;
-    ask_again(alloc, &routes, count, text, out)
+/// Asks requests so many times in one run.
+pub fn run_many(alloc: Global, texts: &str, out: &mut Output) -> Answered {
+    let (count, texts) = first_word(texts);
+    ask(alloc, number(count)?, texts, out)
 }
