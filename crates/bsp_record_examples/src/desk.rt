@@ -20,18 +20,25 @@ fn request_of<'t>(routes: &Routes, text: &'t str) -> Request<'t> {
     }
 }
 
-/// The requests of texts, so many times one after another; `; ` is between the texts.
-fn requests_of<'t>(alloc: Global, count: usize, texts: &'t str) -> Result<Vec<Request<'t>>, Fault> {
-    let Ok(routes) = Routes::new(alloc) else {
-        return Err(Fault::Memory);
-    };
-    let mut requests = Vec::new(alloc);
-    for _ in 0..count {
-        for text in texts.split("; ") {
-            requests.push(request_of(&routes, text))?;
-        }
+/// Appends the requests of texts; `; ` is between them.
+fn push_requests<'t>(routes: &Routes, texts: &'t str, requests: &mut Vec<Request<'t>>) -> Answered {
+    for text in texts.split("; ") {
+        requests.push(request_of(routes, text))?;
     }
-    Ok(requests)
+    Ok(())
+}
+
+/// Appends the requests of texts so many times.
+fn push_repeated<'t>(
+    routes: &Routes,
+    count: usize,
+    texts: &'t str,
+    requests: &mut Vec<Request<'t>>,
+) -> Answered {
+    for _ in 0..count {
+        push_requests(routes, texts, requests)?;
+    }
+    Ok(())
 }
 
 /// A desk over an empty book.
@@ -42,12 +49,17 @@ fn new_desk(alloc: Global) -> Option<Desk<ListBook>> {
     Desk::open(alloc, ListBook::new(alloc), office).ok()
 }
 
+/// The replies of a desk to requests in one run.
+fn replies_of(mut desk: Desk<ListBook>, asked: &[Request<'_>]) -> Option<Vec<Reply>> {
+    desk.run(asked).ok()
+}
+
 /// The replies of a desk over an empty book to requests in one run.
 fn replies_to(alloc: Global, asked: &[Request<'_>]) -> Option<Vec<Reply>> {
-    let Some(mut desk) = new_desk(alloc) else {
-        return None;
-    };
-    desk.run(asked).ok()
+    match new_desk(alloc) {
+        Some(desk) => replies_of(desk, asked),
+        None => None,
+    }
 }
 
 /// Whether two replies are the same.
@@ -69,31 +81,38 @@ fn show_alike(replies: &[Reply], out: &mut Output) {
 
 /// Appends replies, with `; ` between them. Those that are the same, one after another, are shown once.
 fn show_replies(replies: &[Reply], out: &mut Output) {
-    let mut between = "";
-    for alike in replies.chunk_by(is_same) {
-        out.push(between);
+    for (at, alike) in replies.chunk_by(is_same).enumerate() {
+        out.push(if at > 0 { "; " } else { "" });
         show_alike(alike, out);
-        between = "; ";
     }
 }
 
+/// Asks requests in one run.
+fn ask(alloc: Global, asked: &[Request<'_>], out: &mut Output) -> Answered {
+    match replies_to(alloc, asked) {
+        Some(replies) => show_replies(&replies, out),
+        None => return Err(Fault::Memory),
+    }
+    Ok(())
+}
+
 /// Asks requests so many times in one run; `; ` is between them.
-fn ask(alloc: Global, count: usize, texts: &str, out: &mut Output) -> Answered {
-    let asked = requests_of(alloc, count, texts)?;
-    let Some(replies) = replies_to(alloc, &asked) else {
+fn ask_repeated(alloc: Global, count: usize, texts: &str, out: &mut Output) -> Answered {
+    let Ok(routes) = Routes::new(alloc) else {
         return Err(Fault::Memory);
     };
-    show_replies(&replies, out);
-    Ok(())
+    let mut asked = Vec::new(alloc);
+    push_repeated(&routes, count, texts, &mut asked)?;
+    ask(alloc, &asked, out)
 }
 
 /// Asks requests in a run.
 pub fn run(alloc: Global, texts: &str, out: &mut Output) -> Answered {
-    ask(alloc, 1, texts, out)
+    ask_repeated(alloc, 1, texts, out)
 }
 
 /// Asks requests so many times in one run.
 pub fn run_many(alloc: Global, texts: &str, out: &mut Output) -> Answered {
     let (count, texts) = first_word(texts);
-    ask(alloc, number(count)?, texts, out)
+    ask_repeated(alloc, number(count)?, texts, out)
 }
