@@ -1,12 +1,11 @@
 -- Lemmas on a plan with the entries of a text.
-use Rattle.std.proofs.Common.{◌≡◌, ℕ, ◌≤◌, ◌&&◌, ◌==◌, ◌||◌, not, Bool, true, false, List, [], ◌∷◌, ◌++◌, length, take, drop, map, refl, sym, ap, ◌∙◌, arith, Ok, Err, nat_eq}
-use Rattle.std.specs.Prelude.{Option, Some, Result}
+use Rattle.std.proofs.Common.{◌≡◌, ℕ, ◌≤◌, ◌&&◌, ◌==◌, Bool, true, false, List, ◌++◌, length, take, drop, map, refl, sym, ap, ◌∙◌, arith, Ok, Err, nat_eq}
+use Rattle.std.specs.Prelude.{Option, Some}
 use Rattle.std.specs.List.{list_all, list_any}
 use Rattle.std.proofs.lemmas.Bool.{or_left, or_right, or_from}
 use Rattle.std.proofs.lemmas.List.{length-append, take-append-le}
 use Rattle.std.proofs.lemmas.Cmp.{nat_eq_equiv}
 use Rattle.bsp_fields.specs.CivilDay.{CivilDay}
-use Rattle.bsp_fields.specs.FirstFault.{first_fault_or}
 use Rattle.bsp_calendar.specs.declared.entries.Terms.{Terms}
 use Rattle.bsp_calendar.proofs.KeyLemmas.{eqb_symm}
 use Rattle.bsp_calendar.proofs.PeriodLemmas.{IsStanding}
@@ -19,7 +18,6 @@ use Rattle.bsp_calendar.specs.declared.entries.CommissionTax.{CommissionTax}
 use Rattle.bsp_calendar.specs.declared.entries.Period.{Period}
 use Rattle.bsp_calendar.specs.declared.entries.PlanText.{PlanText}
 use Rattle.bsp_calendar.specs.declared.entries.Rate.{Rate}
-use Rattle.bsp_calendar.specs.declared.fault.PlanFault.{PlanFault}
 use Rattle.bsp_calendar.specs.declared.fault.PlanFault.TheVariants.{WrongKey, Differs, OutOfOrder, LateRate}
 
 -- an airline is among those each once where it is among all
@@ -29,17 +27,6 @@ among_once xs code =
     rw turned (any_once (λ (x : ℕ) (y : ℕ). x == y) nat_eq_equiv (λ (a : ℕ). a) xs code)
 
 -- ---- the table of faults
-
--- what a table of faults tells of one value it tells of another
-told_as : {V F : Type 0} (rows : List (Bool × F)) (value : V) (fault : F) → Err fault ≡ first_fault_or rows (tt {0}) → first_fault_or rows value ≡ Err fault
-told_as [] value fault told = absurd (cc told)
-told_as ((true, other) ∷ rows) value fault told = cc told
-told_as ((false, other) ∷ rows) value fault told = told_as rows value fault told
-
-passed_as : {V F : Type 0} (rows : List (Bool × F)) (value : V) → Ok (tt {0}) ≡ first_fault_or rows (tt {0}) → first_fault_or rows value ≡ Ok value
-passed_as [] value told = refl
-passed_as ((true, other) ∷ rows) value told = absurd (cc told)
-passed_as ((false, other) ∷ rows) value told = passed_as rows value told
 
 module _ (p : Published) (text : PlanText) where
   pub out_of_bounds : are_within_bounds text ≡ false → extended p text ≡ Err WrongKey
@@ -51,27 +38,17 @@ module _ (p : Published) (text : PlanText) where
   pub with_difference : are_within_bounds text ≡ true → have_airlines p text ≡ true → has_difference p text ≡ true → extended p text ≡ Err Differs
   with_difference b a h = rw (b, a, h) refl
 
+  pub not_in_order : are_within_bounds text ≡ true → have_airlines p text ≡ true → has_difference p text ≡ false → are_in_order (once same_period (p.periods ++ text.periods.items)) ≡ false → extended p text ≡ Err OutOfOrder
+  not_in_order b a d h = rw (b, a, d, h) refl
+
+  pub with_late_rate : are_within_bounds text ≡ true → have_airlines p text ≡ true → has_difference p text ≡ false → are_in_order (once same_period (p.periods ++ text.periods.items)) ≡ true → has_late_rate p text ≡ true → extended p text ≡ Err LateRate
+  with_late_rate b a d o h = rw (b, a, d, o, h) refl
+
+  pub with_late_tax : are_within_bounds text ≡ true → have_airlines p text ≡ true → has_difference p text ≡ false → are_in_order (once same_period (p.periods ++ text.periods.items)) ≡ true → has_late_rate p text ≡ false → has_late_tax p text ≡ true → extended p text ≡ Err LateRate
+  with_late_tax b a d o r h = rw (b, a, d, o, r, h) refl
+
   pub accepted : are_within_bounds text ≡ true → have_airlines p text ≡ true → has_difference p text ≡ false → are_in_order (once same_period (p.periods ++ text.periods.items)) ≡ true → has_late_rate p text ≡ false → has_late_tax p text ≡ false → extended p text ≡ Ok (with_entries p text)
   accepted b a d o r h = rw (b, a, d, o, r, h) refl
-
-  -- the faults of the periods in order, and of entries that do not begin after the business day
-  abbrev days_of : List Rate → List Period → List CommissionTax → List (Bool × PlanFault)
-  days_of rates periods taxes =
-      (not (are_in_order periods), OutOfOrder)
-      ∷ (list_any (λ r. is_up_to r.from p.day) (drop (length p.rates) rates) || list_any (has_begun p.day) (drop (length p.commission_taxes) taxes), LateRate)
-      ∷ []
-
-  abbrev days : List (Bool × PlanFault)
-  days = days_of (once same_rate (p.rates ++ text.rates.items)) (once same_period (p.periods ++ text.periods.items)) (once same_tax (p.commission_taxes ++ text.commission_taxes.items))
-
-  by_days : are_within_bounds text ≡ true → have_airlines p text ≡ true → has_difference p text ≡ false → extended p text ≡ first_fault_or days (with_entries p text)
-  by_days b a d = rw (b, a, d) refl
-
-  pub refused : are_within_bounds text ≡ true → have_airlines p text ≡ true → has_difference p text ≡ false → (fault : PlanFault) → Err fault ≡ first_fault_or days (tt {0}) → extended p text ≡ Err fault
-  refused b a d fault told = by_days b a d ∙ told_as days (with_entries p text) fault told
-
-  pub passed : are_within_bounds text ≡ true → have_airlines p text ≡ true → has_difference p text ≡ false → Ok (tt {0}) ≡ first_fault_or days (tt {0}) → extended p text ≡ Ok (with_entries p text)
-  passed b a d told = by_days b a d ∙ passed_as days (with_entries p text) told
 
   -- ---- each test, by what the code computed
 
@@ -104,9 +81,14 @@ module _ (p : Published) (text : PlanText) where
   no_difference rs qs ts rates periods taxes t r q x =
       or_from _ _ t (or_from _ _ (rw rates at r) (or_from _ _ (rw periods at q) (rw taxes at x)))
 
-  pub days_from : (rs rates : List Rate) (qs periods : List Period) (ts taxes : List CommissionTax) (judged : Result (Unit {0}) PlanFault) → rs ≡ text.rates.items → rates ≡ once same_rate (p.rates ++ rs) → qs ≡ text.periods.items → periods ≡ once same_period (p.periods ++ qs) → ts ≡ text.commission_taxes.items → taxes ≡ once same_tax (p.commission_taxes ++ ts) → judged ≡ first_fault_or (days_of rates periods taxes) (tt {0}) → judged ≡ first_fault_or days (tt {0})
-  days_from rs rates qs periods ts taxes judged rates_of rates_once periods_of periods_once taxes_of taxes_once told =
-      rw (rates_once, rates_of, periods_once, periods_of, taxes_once, taxes_of) at told
+  pub order_from : (qs list : List Period) (b : Bool) → qs ≡ text.periods.items → list ≡ once same_period (p.periods ++ qs) → b ≡ are_in_order list → are_in_order (once same_period (p.periods ++ text.periods.items)) ≡ b
+  order_from qs list b periods joined tested = sym (rw (joined, periods) at tested)
+
+  pub late_from : (rs list : List Rate) (known : ℕ) (b : Bool) → rs ≡ text.rates.items → list ≡ once same_rate (p.rates ++ rs) → known ≡ length p.rates → b ≡ list_any (λ r. is_up_to r.from p.day) (drop known list) → has_late_rate p text ≡ b
+  late_from rs list known b rates joined long tested = sym (rw (joined, rates, long) at tested)
+
+  pub late_tax_from : (ts list : List CommissionTax) (known : ℕ) (b : Bool) → ts ≡ text.commission_taxes.items → list ≡ once same_tax (p.commission_taxes ++ ts) → known ≡ length p.commission_taxes → b ≡ list_any (has_begun p.day) (drop known list) → has_late_tax p text ≡ b
+  late_tax_from ts list known b taxes joined long tested = sym (rw (joined, taxes, long) at tested)
 
 -- ---- the periods of the new plan
 

@@ -1,11 +1,9 @@
 //! The published plan, the business day and the closed periods.
 
-ghost use Rattle.std.specs.Prelude.{◌≡◌, ◌≤◌, ◌&&◌, ◌||◌, ◌⊎◌, not, false, Ok, Err, MatchResult, [], ◌∷◌, drop, length};
-ghost use Rattle.std.specs.List.{list_any};
-ghost use Rattle.bsp_fields.specs.FirstFault.{first_fault_or};
-ghost use Rattle.bsp_calendar.specs.DayOrder.{is_up_to, same_day};
-ghost use Rattle.bsp_calendar.specs.Published.{has_begun, is_closed, opening};
-ghost use Rattle.bsp_calendar.specs.Requests.{Answers, AnswersOrLacksMemory, are_in_order, are_within_bounds, closing, extended, has_terms, holds_already, is_empty, on_day, with_entries};
+ghost use Rattle.std.specs.Prelude.{◌≡◌, ◌≤◌, ◌&&◌, ◌⊎◌, false, Ok, Err, MatchResult, drop, length};
+ghost use Rattle.bsp_calendar.specs.DayOrder.{same_day};
+ghost use Rattle.bsp_calendar.specs.Published.{is_closed, opening};
+ghost use Rattle.bsp_calendar.specs.Requests.{Answers, AnswersOrLacksMemory, are_within_bounds, closing, extended, has_terms, holds_already, is_empty, on_day, with_entries};
 ghost use Rattle.bsp_calendar.specs.SoundPlan.{Continues, HasSameEntries, IsSoundPlan};
 ghost use Rattle.bsp_calendar.specs.Standing.{dated};
 
@@ -154,36 +152,6 @@ impl Plan {
             &lists.commission_taxes,
             &text.commission_taxes,
         )?;
-        let joined = Lists {
-            airlines,
-            rates,
-            periods,
-            commission_taxes,
-        };
-        self.check_days(&joined)?;
-        Ok(joined)
-    }
-
-    /// Whether the periods of lists with new entries are in order, and no new rate and no new tax on
-    /// commission begins on the business day or before, or the first fault of these.
-    fn check_days(&self, joined: &Lists) -> Result<(), PlanFault>
-        ensures { result ≡ first_fault_or
-            ((not (are_in_order joined.now.periods), PlanFault.OutOfOrder)
-            ∷ (
-              list_any (λ r. is_up_to r.from self.now.day) (drop (length self.now.rates) joined.now.rates)
-                  || list_any (has_begun self.now.day) (drop (length self.now.commission_taxes) joined.now.commission_taxes),
-              PlanFault.LateRate,
-            )
-            ∷ [])
-            tt }
-    {
-        let lists = &self.lists;
-        let Lists {
-            rates,
-            periods,
-            commission_taxes,
-            ..
-        } = joined;
         if !are_in_order(periods.list()) {
             return Err(PlanFault::OutOfOrder);
         }
@@ -194,7 +162,12 @@ impl Plan {
         if has_late_tax(commission_taxes.list(), known, self.day) {
             return Err(PlanFault::LateRate);
         }
-        Ok(())
+        Ok(Lists {
+            airlines,
+            rates,
+            periods,
+            commission_taxes,
+        })
     }
 
     /// Whether terms are published, and the lists have no entry that the plan has not.
