@@ -1,12 +1,11 @@
 -- What a reader of pieces knows of its bytes.
 use Rattle.std.proofs.Common.{◌≡◌, ℕ, ◌-◌, ◌≤◌, true, false, List, [], ◌++◌, length, take, drop, sym, ap, subst, ◌∙◌, arith, append_assoc, length-append, length-drop}
 use Rattle.std.proofs.lemmas.List.{take-append-le, take-append-drop}
-use Rattle.bsp_ret.specs.declared.model.RetFault.{RetFault}
 use Rattle.bsp_ret.specs.declared.model.Standing.{Standing}
 use Rattle.bsp_records.specs.Lines.{lines, has_end, IsRest, before_rest, IsWholeLines}
 use Rattle.bsp_ret.specs.Table.{standing, has_ended, first_fault}
 use Rattle.bsp_ret.specs.Standings.{fault_behind}
-use Rattle.bsp_ret.specs.Pieces.{IsClear, IsClearSoFar, IsFinal, Leaves, Fails, IsJudgedTo}
+use Rattle.bsp_ret.specs.Pieces.{IsClear, IsClearSoFar, Leaves, IsJudgedTo}
 use Rattle.bsp_records.proofs.CutLemmas.{lines_nil, IsRest-drop}
 use Rattle.bsp_records.proofs.RestLemmas.{rest_itself, before_itself, rest_of_rest, before_joined, whole_nothing, whole_joined, lines_empty}
 use Rattle.bsp_ret.proofs.LawLemmas.{is_first}
@@ -65,22 +64,6 @@ judged_more at then n old piece left within known leaves unended ended =
       clear = subst IsClear (sym all) still;
       nothing_behind = ended;
     }
-
--- a piece of which a line is at fault
-pub final_more : (at : Standing) (n : ℕ) (old piece : List ℕ) (fault : RetFault) → n ≤ length old → IsJudgedTo at old (drop n old) → Fails at (drop n (old ++ piece)) fault → IsFinal (old ++ piece) fault
-final_more at n old piece fault within known fails more =
-    let new = old ++ piece in
-    let rest = drop n new in
-    let front = before_rest old (drop n old) in
-    let rest_is : IsRest rest new = IsRest-drop new n (omega (arith, length-append old piece)) in
-    let whole : front ++ rest ≡ new =
-    ap (λ xs. xs ++ rest) (sym (before_piece old piece n within)) ∙ ap (λ xs. before_rest new rest ++ xs) rest_is.last ∙ take-append-drop (length new - length rest) new in
-    ap (λ xs. first_fault (lines (xs ++ more))) (sym whole)
-    ∙ ap (λ xs. first_fault (lines xs)) (append_assoc front rest more)
-    ∙ ap first_fault (known.whole (rest ++ more))
-    ∙ known.clear (lines (rest ++ more))
-    ∙ ap (λ (x : Standing). fault_behind x (lines (rest ++ more))) (sym known.stands)
-    ∙ fails more
 
 -- what the reader answers of it
 pub clear_so_far : (at : Standing) (bytes rest : List ℕ) → IsJudgedTo at bytes rest → IsClearSoFar bytes

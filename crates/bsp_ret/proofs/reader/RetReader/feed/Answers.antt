@@ -1,10 +1,10 @@
-use Rattle.std.proofs.Common.{◌≡◌, ◌-◌, ◌≤◌, ◌++◌, ◌∙◌, List, ℕ, Err, sym, ap, subst, drop, inl, inr, length, refl, arith, length-append, length-drop}
+use Rattle.std.proofs.Common.{◌≡◌, ◌-◌, ◌≤◌, ◌++◌, ◌∙◌, List, ℕ, Err, sym, ap, subst, drop, inl, length, refl, arith, length-append, length-drop}
 use Rattle.std.proofs.lemmas.Result.{err_from_is_err_and}
 use Rattle.bsp_ret.specs.declared.model.Progress.{Progress}
 use Rattle.bsp_ret.specs.declared.model.Progress.TheVariants.{Reading, Ended, Failed}
 use Rattle.bsp_ret.specs.declared.model.RetFault.{RetFault}
-use Rattle.bsp_ret.specs.Pieces.{Fed, Fails, IsJudgedTo, IsKnown, Leaves}
-use Rattle.bsp_ret.proofs.FeedLemmas.{judged_more, clear_so_far, final_more}
+use Rattle.bsp_ret.specs.Pieces.{Fed, IsJudgedTo, IsKnown, Leaves}
+use Rattle.bsp_ret.proofs.FeedLemmas.{judged_more, clear_so_far}
 use Rattle.bsp_ret.proofs.reader.RetReader.feed.Goals as goal
 
 -- how far a reader is, it is no other way
@@ -19,9 +19,6 @@ failed_not_reading p f one other = absurd (cc)
 
 ended_not_reading : {A : Type 0} (p : Progress) → p ≡ Ended → p ≡ Reading → A
 ended_not_reading p one other = absurd (cc)
-
-within_more : (n : ℕ) (old piece new : List ℕ) → n ≤ length old → new ≡ old ++ piece → n ≤ length new
-within_more n old piece new within is = rw is (omega (arith, length-append old piece))
 
 rest_is : (c : goal.After-at-in-Ok-1) → c.split_at.result.1.now ≡ drop c.self.inside.judged c.extend_from_slice.new.self.items
 rest_is c = c.split_at.ensures.back ∙ ap (drop c.self.inside.judged) c.deref.ensures.value
@@ -116,29 +113,3 @@ returns-in_err-extend_from_slice c =
       ok = λ is. tt;
       fault = λ is. inl (q.2, ap of_bytes c.in_err-extend_from_slice.ensures.items ∙ c.self.view_is);
     })
-
-pub returns-in-Err : goal.returns-in-Err
-returns-in-Err c =
-    let r = c.self.inside in
-    let p = c.args.self.now.progress in
-    let piece = c.args.piece.now in
-    let told = c.in-Err.fault in
-    let reading : p ≡ Reading = sym (ap (λ (f : Fed). f.progress) c.self.view_is) ∙ c.in-Reading.is in
-    let old : r.bytes.items ≡ c.args.self.now.bytes = ap (λ (f : Fed). f.bytes) c.self.view_is in
-    let grown : c.extend_from_slice.new.self.items ≡ r.bytes.items ++ piece = c.in_ok-extend_from_slice.ensures.items in
-    let rest : c.split_at.result.1.now ≡ drop r.judged (r.bytes.items ++ piece) = c.split_at.ensures.back ∙ ap (drop r.judged) (c.deref.ensures.value ∙ grown) in
-    let KnownBy : Progress → Type 0 = λ q. IsKnown q r.at r.bytes.items (drop r.judged r.bytes.items) in
-    let FailsOf : List ℕ → Type 0 = λ xs. Fails r.at xs told in
-    let final = final_more r.at r.judged r.bytes.items piece told c.self.invariant.0 (subst KnownBy c.in-Reading.is c.self.invariant.2) (subst FailsOf rest c.in-Err.ensures.fault) in
-    let of_bytes : List ℕ → Fed = λ xs. record { bytes = xs; progress = Failed told } in
-    record {
-      failed = λ fault is. failed_not_reading p fault is reading;
-      ended_none = λ is. ended_not_reading p is reading;
-      ended_some = λ is. ended_not_reading p is reading;
-      ok = λ is. tt;
-      fault = λ is. inr (ap of_bytes (grown ∙ ap (λ xs. xs ++ piece) old), rw (← old) final);
-    }
-
-pub invariant_of-self-in-Err : goal.invariant_of-self-in-Err
-invariant_of-self-in-Err c =
-    (within_more c.self.inside.judged c.self.inside.bytes.items c.args.piece.now c.extend_from_slice.new.self.items c.self.invariant.0 c.in_ok-extend_from_slice.ensures.items, c.self.invariant.1, tt)
