@@ -1,3 +1,2 @@
 -- Lemmas of this crate.
 pub mod TableLemmas
-pub mod TextLemmas
