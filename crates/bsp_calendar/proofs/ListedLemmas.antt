@@ -6,7 +6,7 @@ use Rattle.std.specs.Ordering.{eq_by_cmp, is_gt, is_lt}
 use Rattle.std.specs.declared.cmp.Ordering.{Ordering}
 use Rattle.std.specs.declared.cmp.Ordering.TheVariants.{Equal}
 use Rattle.std.proofs.lemmas.Cmp.{eq_by_cmp_equiv}
-use Rattle.std.specs.Prelude.{Option, Some, None, IsSome, Result, MatchResult}
+use Rattle.std.specs.Prelude.{Option, Some, None, IsSome, is_some, Result, MatchResult}
 use Rattle.std.proofs.lemmas.Bool.{both_ways, not_from_false, and_from, and_parts, and_left, false_from_ne_true, cases_order, not-true}
 use Rattle.std.proofs.lemmas.List.{append-nil, append_assoc, take_more, take-append-drop, get_or_default}
 use Rattle.std.proofs.lemmas.List.Elements.{filter-append, filter_agree, filter_passes, Contains-append_left, Contains-push_cases, Contains-push, Contains-get_or, All-weaker}
@@ -283,6 +283,10 @@ module _ {A K : Type 0} (eq : K → K → Bool) (laws : IsEquivalence eq) (key :
 
 -- ---- the entry with the last key that is not after a key
 
+placed_after : (after : Bool) (place : Option ℕ) → (after ≡ false → place ≡ None) → IsSome place → after ≡ true
+placed_after true place none some = refl
+placed_after false place none some = absurd (both_ways (is_some place) (ap is_some (none refl)) some)
+
 module _ {A K : Type 0} (compare : K → K → Ordering) (total : IsTotalOrder compare) (key : A → K) (entries : List A) (place : K → Option ℕ) (valid : A → Type 0) (h : IsListed (eq_by_cmp compare) key valid entries place) where
   place_some : (e : A) → Contains entries e → (o : Option ℕ) → IsPlaceOfKey (eq_by_cmp compare) key entries (key e) o → IsSome o
   place_some e (j, l, is) None none =
@@ -292,6 +296,12 @@ module _ {A K : Type 0} (compare : K → K → Ordering) (total : IsTotalOrder c
   -- the key of each entry has a place
   has_place : (e : A) → Contains entries e → IsSome (place (key e))
   has_place e in' = place_some e in' (place (key e)) (h.placed (key e))
+
+  -- where no key up to one has a place, each entry is after it
+  pub all_after : (k : K) → ((q : K) → is_gt (compare q k) ≡ false → place q ≡ None) → All (λ e. is_gt (compare (key e) k) ≡ true) entries
+  all_after k none j d l =
+      let e = get_or entries j d in
+      placed_after (is_gt (compare (key e) k)) (place (key e)) (none (key e)) (has_place e (Contains-get_or entries j d l))
 
   pub last_is : (k q : K) (i : ℕ) (e : A) → place q ≡ Some i → e ≡ get_or entries i e → is_gt (compare q k) ≡ false → ((s : K) → is_gt (compare s k) ≡ false → IsSome (place s) → is_lt (compare q s) ≡ false) → Contains entries e × (is_gt (compare (key e) k) ≡ false) × All (λ s. is_gt (compare (key s) k) ≡ false → is_lt (compare (key e) (key s)) ≡ false) entries
   last_is k q i e found at before last =

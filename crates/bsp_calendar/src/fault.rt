@@ -4,39 +4,31 @@ ghost use Rattle.std.specs.Prelude.{◌≡◌};
 ghost use Rattle.bsp_calendar.specs.Faults.{code_text};
 
 use std::alloc::{AllocError, AllocFailed};
-use thiserror::Error;
+use std::error::Error;
+use std::fmt;
 
 /// Why a plan text or a request on the plan is refused, in the order in which faults are answered.
 /// Where several apply, the first of this list is answered. Out of memory may be answered in place
 /// of any other but a number out of its bounds.
-#[derive(Clone, Copy, Debug, PartialEq, Eq, Error)]
+#[derive(Clone, Copy, Debug, PartialEq, Eq)]
 pub enum PlanFault {
     /// The bytes are no TOML text.
-    #[error("P01: the text is not TOML")]
     NotToml,
     /// A key is missing, unknown or has a wrong value, or a rate's airline is not published.
-    #[error("P02: a key is missing, unknown or wrong")]
     WrongKey,
     /// An entry differs from the published one of its key, or two entries of the text differ.
-    #[error("P08: an entry differs from what is published")]
     Differs,
     /// A period leaves a gap, overlaps another, or its days are not in order.
-    #[error("P03: the periods do not follow one another")]
     OutOfOrder,
     /// A new rate, or a new tax on commission, begins on a day that is not after the business day.
-    #[error("P05: a new rate or tax does not begin after the business day")]
     LateRate,
     /// The business day would go backwards.
-    #[error("P04: the business day would go backwards")]
     DayBackwards,
     /// The period is not the earliest that is not closed.
-    #[error("P06: the period is not the earliest unclosed one")]
     NotEarliest,
     /// The business day is not after the last day of the period.
-    #[error("P07: the period is not over")]
     NotOver,
     /// There was no memory.
-    #[error("P09: no memory")]
     NoMemory,
 }
 
@@ -57,7 +49,29 @@ impl PlanFault {
             PlanFault::NoMemory => "P09",
         }
     }
+
+    fn text(self) -> &'static str {
+        match self {
+            PlanFault::NotToml => "P01: the text is not TOML",
+            PlanFault::WrongKey => "P02: a key is missing, unknown or wrong",
+            PlanFault::Differs => "P08: an entry differs from what is published",
+            PlanFault::OutOfOrder => "P03: the periods do not follow one another",
+            PlanFault::LateRate => "P05: a new rate or tax does not begin after the business day",
+            PlanFault::DayBackwards => "P04: the business day would go backwards",
+            PlanFault::NotEarliest => "P06: the period is not the earliest unclosed one",
+            PlanFault::NotOver => "P07: the period is not over",
+            PlanFault::NoMemory => "P09: no memory",
+        }
+    }
 }
+
+impl fmt::Display for PlanFault {
+    fn fmt<W: fmt::Write>(&self, f: &mut fmt::Formatter<W>) -> fmt::Result {
+        f.write_str(self.text())
+    }
+}
+
+impl Error for PlanFault {}
 
 impl From<AllocError> for PlanFault {
     ghost use Rattle.std.specs.Prelude.{◌≡◌};

@@ -1,2 +1,3 @@
 -- Lemmas of this crate.
 pub mod TableLemmas
+pub mod TextLemmas

@@ -1,5 +1,5 @@
 -- Lemmas on tables of faults.
-use Rattle.std.proofs.Common.{◌≡◌, Bool, true, false, List, [], ◌∷◌, Ok, Err, refl}
+use Rattle.std.proofs.Common.{◌≡◌, Bool, true, false, List, [], ◌∷◌, ◌++◌, Ok, Err, refl}
 use Rattle.bsp_fields.specs.FirstFault.{first_fault_or}
 
 -- where there is a value, the first row does not apply, and the other rows give the value
@@ -23,3 +23,9 @@ value_told v x h = cc h
 pub only_row_told : {V F : Type 0} (test : Bool) (fault : F) (v : V) (e : F) → first_fault_or ((test, fault) ∷ []) v ≡ Err e → (test ≡ true) × (fault ≡ e)
 only_row_told true fault v e h = (refl, cc h)
 only_row_told false fault v e h = absurd (cc h)
+
+-- the fault of a table is that of each longer one
+pub rows_told : {V F : Type 0} (rows more : List (Bool × F)) (v : V) (e : F) → first_fault_or rows v ≡ Err e → first_fault_or (rows ++ more) v ≡ Err e
+rows_told [] more v e h = absurd (cc h)
+rows_told ((true, fault) ∷ rows) more v e h = h
+rows_told ((false, fault) ∷ rows) more v e h = rows_told rows more v e h

@@ -1,6 +1,6 @@
 -- Sums fit the program's numbers.
 use Rattle.std.proofs.Common.{◌≡◌, ◌<◌, ◌≤◌, ℕ, ◌+◌, ◌-◌, ◌*◌, ◌^◌, ℤ, ◌+ℤ◌, arith, to_z, of_z}
-use Rattle.std.specs.Int.{w128}
+use Rattle.std.specs.Int.{w64, w128}
 use Rattle.std.specs.Int.RustNames.{unsigned_abs}
 use Rattle.std.proofs.lemmas.Int.{ints, to_z-of_z, fits_signed_from_abs}
 use Rattle.bsp_hot_records.specs.declared.totals.Sums.{Sums}
@@ -13,6 +13,10 @@ abs_plus x y = omega (arith, ints)
 -- a number in the places of an `i128`
 pub stored : (z : ℤ) → unsigned_abs z < 2 ^ 127 → to_z w128 (of_z w128 z) ≡ z
 stored z h = to_z-of_z w128 z (fits_signed_from_abs w128 z h)
+
+-- an amount in the places of an `i64`
+pub amount_stored : (z : ℤ) → unsigned_abs z ≤ 99_999_999_999 → to_z w64 (of_z w64 z) ≡ z
+amount_stored z h = to_z-of_z w64 z (fits_signed_from_abs w64 z (omega arith))
 
 pub added : (x y : ℤ) → unsigned_abs x ≤ 2 ^ 63 * 10 ^ 11 → unsigned_abs y ≤ (2 ^ 63 - 1) * 10 ^ 11 → to_z w128 (of_z w128 (to_z w128 (of_z w128 x) +ℤ to_z w128 (of_z w128 y))) ≡ x +ℤ y
 added x y p q =

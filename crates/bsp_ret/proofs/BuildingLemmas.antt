@@ -1,6 +1,6 @@
 -- A text is read line by line, and its groups are cut from it.
 use Rattle.std.proofs.Common.{◌≡◌, true, false, ℕ, ℤ, pos, ◌+ℤ◌, List, [], ◌∷◌, ◌++◌, length, refl, sym, ap, subst, ◌∙◌, arith}
-use Rattle.std.specs.Prelude.{◌==◌, unsigned_abs}
+use Rattle.std.specs.Prelude.{◌==◌, FitsSigned, unsigned_abs}
 use Rattle.std.specs.Int.{w64}
 use Rattle.std.proofs.Common.{to_z, of_z, ◌≤◌, ◌+◌, ◌*◌, ◌^◌}
 use Rattle.std.proofs.Math.IntN.{+ℤ_idr}
@@ -74,3 +74,10 @@ added_sum x y p q =
     let small : unsigned_abs (x +ℤ y) ≤ unsigned_abs x + unsigned_abs y = omega (arith, ints) in
     let c = to_z-of_z w64 (x +ℤ y) (fits_signed_from_abs w64 (x +ℤ y) (omega (arith, small))) in
     rw (a, b) c
+
+pub added_fits : (x y : ℤ) → unsigned_abs x ≤ 3 * 10 ^ 11 → unsigned_abs y ≤ 99_999_999_999 → FitsSigned w64 (to_z w64 (of_z w64 x) +ℤ to_z w64 (of_z w64 y))
+added_fits x y p q =
+    let a = to_z-of_z w64 x (fits_signed_from_abs w64 x (omega arith)) in
+    let b = to_z-of_z w64 y (fits_signed_from_abs w64 y (omega arith)) in
+    let small : unsigned_abs (x +ℤ y) ≤ unsigned_abs x + unsigned_abs y = omega (arith, ints) in
+    rw (a, b) (fits_signed_from_abs w64 (x +ℤ y) (omega (arith, small)))

@@ -14,6 +14,7 @@ pub mod PartLemmas
 pub mod CountLemmas
 pub mod KeptLemmas
 pub mod DemandLemmas
+pub mod LoopLemmas
 pub mod ItemRuleLemmas
 pub mod PlanRuleLemmas
 pub mod AuditSteps

@@ -1,16 +1,20 @@
 -- The text of the tables makes them in a store that has nothing, one statement after the other.
-use Rattle.std.proofs.Common.{◌≡◌, ℕ, zero, suc, List, [], ◌∷◌, ◌++◌, append-nil, drop, fold, length, take, inl, inr, false, true, None, Ok, Err, Result, OnOk, Some, refl, sym, ap, subst, subst₂, ◌∙◌}
+use Rattle.std.proofs.Common.{◌≡◌, ℕ, zero, suc, List, [], ◌∷◌, ◌++◌, append-nil, drop, fold, length, take, inl, inr, false, true, None, Ok, Err, Option, Result, OnOk, Some, refl, sym, ap, subst, subst₂, ◌∙◌}
 use Rattle.std.specs.Prelude.{nat_lt}
 use Rattle.std.specs.List.{AllByRecursion}
 use Rattle.std.proofs.lemmas.Bool.{cases_Bool}
+use Rattle.std.proofs.lemmas.Option.{none-some, same_Some}
 use Rattle.sqlite_value.specs.Order.{Row}
 use Rattle.sqlite_trees.specs.Tree.{Trees}
 use Rattle.sqlite_trees.specs.declared.store.Store.{Ghosts}
 use Rattle.sqlite_schema.specs.declared.schema.Schema.{Schema}
 use Rattle.sqlite_schema.specs.declared.schema.Table.{Table}
 use Rattle.sqlite_schema.specs.declared.command.Command.{Command}
+use Rattle.sqlite_schema.specs.declared.command.Returning.{Returning}
 use Rattle.sqlite_schema.specs.declared.command.Command.TheVariants.{CreateTable}
 use Rattle.sqlite_resolve.specs.Compile.{table_defined_by}
+use Rattle.sqlite_resolve.specs.declared.compiled.Compiled.{Compiled}
+use Rattle.sqlite_resolve.specs.declared.error.CompileError.{CompileError}
 use Rattle.sqlite_catalog.specs.Change.{KeepsRows, created, next_tree}
 use Rattle.sqlite_tied.specs.Compute.{everything}
 use Rattle.sqlite.specs.Batch.{ExecutesAllInside, RunInTurn, Step, first_len}
@@ -79,12 +83,26 @@ creates schema sql table is plain defined uncounted old new count h has =
 
 -- ---- the statements one after the other
 
+-- what there is to know of a statement that makes a table, in one value
+abbrev Seen : Type 0
+Seen = Command × Option Returning × List (List ℕ) × Result Table CompileError
+
+abbrev makes : Table → Option Seen
+makes table = Some (CreateTable, None, [], Ok table)
+
+abbrev seen_of : List ℕ → Result Compiled CompileError → Option Seen
+seen_of sql (Ok c) = Some (c.command, c.returning, c.formats, table_defined_by (text_of sql c))
+seen_of sql (Err e) = None
+
+as_seen : (sql : List ℕ) (r : Result Compiled CompileError) (table : Table) → seen_of sql r ≡ makes table
+    → (command_of r ≡ CreateTable) × IsPlain r × (table_defined_by (statement_of sql r) ≡ Ok table)
+as_seen sql (Ok c) table is = let same = same_Some _ _ is in (ap (λ (s : Seen). s.0) same, (ap (λ (s : Seen). s.1) same, ap (λ (s : Seen). s.2) same), ap (λ (s : Seen). s.3) same)
+as_seen sql (Err e) table is = absurd (none-some _ is)
+
 -- the first statement of a text makes the table
 record Makes (schema : Schema) (text : List ℕ) (table : Table) : Type 0 where
   some : nat_lt 0 (length text) ≡ true
-  is : command_of (understood schema (take (first_len text) text)) ≡ CreateTable
-  plain : IsPlain (understood schema (take (first_len text) text))
-  defined : table_defined_by (statement_of (take (first_len text) text) (understood schema (take (first_len text) text))) ≡ Ok table
+  seen : seen_of (take (first_len text) text) (understood schema (take (first_len text) text)) ≡ makes table
   uncounted : lacks_sequence (created schema table) ≡ false
 
 -- each statement makes one of the tables, which gets its tree by it
@@ -116,15 +134,16 @@ module _ {S : Type 0} (g : Ghosts S) (held : ℕ) where
   all_made [] schema text none most old new done ran has = subst (λ h. HasNoRows schema (state g h).now) (sym (ended most text none old new done ran)) has
   all_made (t ∷ ts) schema text make most old new done ran has =
       let one = make.0 in
+      let found = as_seen _ _ _ one.seen in
       let it = turned most text one.some old new done ran in
       all_made ts (created schema (record t { tree = 0 })) (drop (first_len text) text) make.1 it.most it.mid new done it.rest
-      (creates schema (take (first_len text) text) (record t { tree = 0 }) one.is one.plain one.defined one.uncounted (state g old) (state g it.mid) it.count it.first.runs has)
+      (creates schema (take (first_len text) text) (record t { tree = 0 }) found.0 found.1 found.2 one.uncounted (state g old) (state g it.mid) it.count it.first.runs has)
 
 -- ---- the text of the tables
 
 tables_make : MakeAll no_schema TABLES.now our_tables
 unfolding understood everything
-tables_make = (record { some = refl; is = refl; plain = (refl, refl); defined = refl; uncounted = refl }, (record { some = refl; is = refl; plain = (refl, refl); defined = refl; uncounted = refl }, (record { some = refl; is = refl; plain = (refl, refl); defined = refl; uncounted = refl }, (record { some = refl; is = refl; plain = (refl, refl); defined = refl; uncounted = refl }, (record { some = refl; is = refl; plain = (refl, refl); defined = refl; uncounted = refl }, (record { some = refl; is = refl; plain = (refl, refl); defined = refl; uncounted = refl }, (record { some = refl; is = refl; plain = (refl, refl); defined = refl; uncounted = refl }, (record { some = refl; is = refl; plain = (refl, refl); defined = refl; uncounted = refl }, (record { some = refl; is = refl; plain = (refl, refl); defined = refl; uncounted = refl }, (record { some = refl; is = refl; plain = (refl, refl); defined = refl; uncounted = refl }, (record { some = refl; is = refl; plain = (refl, refl); defined = refl; uncounted = refl }, (record { some = refl; is = refl; plain = (refl, refl); defined = refl; uncounted = refl }, (record { some = refl; is = refl; plain = (refl, refl); defined = refl; uncounted = refl }, (record { some = refl; is = refl; plain = (refl, refl); defined = refl; uncounted = refl }, refl))))))))))))))
+tables_make = (record { some = refl; seen = refl; uncounted = refl }, (record { some = refl; seen = refl; uncounted = refl }, (record { some = refl; seen = refl; uncounted = refl }, (record { some = refl; seen = refl; uncounted = refl }, (record { some = refl; seen = refl; uncounted = refl }, (record { some = refl; seen = refl; uncounted = refl }, (record { some = refl; seen = refl; uncounted = refl }, (record { some = refl; seen = refl; uncounted = refl }, (record { some = refl; seen = refl; uncounted = refl }, (record { some = refl; seen = refl; uncounted = refl }, (record { some = refl; seen = refl; uncounted = refl }, (record { some = refl; seen = refl; uncounted = refl }, (record { some = refl; seen = refl; uncounted = refl }, (record { some = refl; seen = refl; uncounted = refl }, refl))))))))))))))
 
 pub tables_made : {S : Type 0} (g : Ghosts S) (old new : Held S) (r : Result (Unit {0}) Error) → (HasCleanDisk (state g new) → ExecutesAllInside g 0 TABLES.now old new r)
     → OnOk r (HasCleanDisk (state g new) → (state g old).now.schema ≡ no_schema → HasNoRows our_schema (state g new).now)

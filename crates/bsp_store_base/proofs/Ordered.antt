@@ -46,6 +46,15 @@ opened_in_order g store (Ok c) fresh ordered listed opens clean trees = λ disk 
     let ours : IsSound our_schema (g.view store).trees = subst (λ s. IsSound s (g.view store).trees) is_ours (subst (IsSound (state g c).now.schema) (trees disk) lists) in
     subst AreInOrder (sym (trees disk)) (tables_are_ordered (g.view store) (ordered sound) (listed sound) ours)
 
+-- a store that was rolled back, and is not broken, can be opened
+pub rolled_back_fresh : {S : Type 0} (g : Ghosts S) (before after : S)
+    → ((g.view after).is_open ≡ false → IsTrue (g.view after).is_broken) → (IsClean (g.view after) → (g.view after).is_broken ≡ false)
+    → IsUndone (g.view before) (g.view after) → (IsClean (g.view after) → IsTrue (g.view after).is_numbered) → IsClean (g.view after) → IsFresh (g.view after)
+rolled_back_fresh g before after shut sound undone numbered clean =
+    let is_open : IsTrue (g.view after).is_open = true_from_ne_false _ (λ closed. both_ways _ (sound clean) (shut closed)) in
+    let kept = undone.kept clean in
+    record { sound = sound clean; numbered = numbered clean; clean = (undone.undone is_open).0 ∙ sym (kept.committed is_open); unmarked = kept.marks is_open }
+
 -- the store of a connection was rolled back, and then opened again
 pub reopened_trees : {S E : Type 0} (g : Ghosts S) (before after : S) (r : Result (Held S) E)
     → ((g.view after).is_open ≡ false → IsTrue (g.view after).is_broken) → (IsClean (g.view after) → (g.view after).is_broken ≡ false)
@@ -69,3 +78,9 @@ pub reopened_clean : {S E : Type 0} (g : Ghosts S) (before after : S) (r : Resul
     → IfOk r (λ c. doubt (g.view after).is_clean ≤ doubt (state g c).is_clean) → IfOk r (λ c. doubt (g.view before).is_clean ≤ doubt (state g c).is_clean)
 reopened_clean g before after (Err e) quiet clean = tt
 reopened_clean g before after (Ok c) quiet clean = omega (arith, quiet.clean, clean)
+
+-- what is shielded stays so
+pub still_shielded : {S E : Type 0} (g : Ghosts S) (before after : S) (r : Result (Held S) E) → IsQuiet g.view g.faults g.recovers g.is_shielded before after
+    → IfOk r (λ c. g.is_shielded after → (state g c).IsShielded) → IfOk r (λ c. g.is_shielded before → (state g c).IsShielded)
+still_shielded g before after (Err e) quiet shield = tt
+still_shielded g before after (Ok c) quiet shield = λ h. shield (quiet.shield h)

@@ -1,5 +1,7 @@
-use Rattle.std.proofs.Common.{◌≡◌, ◌*◌, ◌^◌, ◌≤◌, ◌∙◌, sym, ap, inr, arith}
-use Rattle.std.specs.Prelude.{unsigned_abs}
+use Rattle.std.proofs.Common.{◌≡◌, ◌+◌, ◌*◌, ◌^◌, ◌<◌, ◌≤◌, ◌∙◌, ℕ, Err, refl, sym, ap, inl, inr, arith}
+use Rattle.std.proofs.lemmas.Result.{err_from_is_err_and}
+use Rattle.std.specs.Prelude.{Result, unsigned_abs}
+use Rattle.bsp_ret.specs.declared.model.RetFault.{RetFault}
 use Rattle.bsp_ret.specs.declared.model.Standing.{Standing}
 use Rattle.bsp_records.specs.Lines.{lines}
 use Rattle.bsp_records.proofs.RestLemmas.{lines_empty}
@@ -11,6 +13,43 @@ use Rattle.bsp_ret.proofs.Rows.{clean}
 use Rattle.bsp_ret.proofs.FewForms.{forms_up_to, few_forms, three_forms, kind_with}
 use Rattle.bsp_ret.proofs.LoopLemmas.{goes_on, fails, ends, lacks, fails_ended, fails_narrow}
 use Rattle.bsp_ret.proofs.reading.read.Goals as goal
+
+no_less : (n : ℕ) → 0 ≤ n
+no_less n = omega arith
+
+whole_room : (n : ℕ) → 0 + n ≤ n
+whole_room n = omega arith
+
+room_with : (records more after rest whole : ℕ) → more ≡ records + 1 → after < rest → records + rest ≤ whole → more + after ≤ whole
+room_with records more after rest whole is shorter room = omega arith
+
+few_small : (size forms : ℕ) → forms ≤ 3 → size ≤ forms * 10 ^ 11 → size ≤ 3 * 10 ^ 11
+few_small size forms most few = omega arith
+
+few_with : (size forms same : ℕ) → forms ≡ same → size ≤ same * 10 ^ 11 → size ≤ forms * 10 ^ 11
+few_with size forms same is few = rw is few
+
+same_fault : (r : Result (Unit {0}) RetFault) (a b : RetFault) → r ≡ Err a → r ≡ Err b → a ≡ b
+same_fault r a b is other = cc
+
+pub loop-rest-init : goal.loop-rest-init
+loop-rest-init c = record {
+  read = rw (c.start-at.ensures, c.new-building.ensures.nothing) refl;
+  read_to = c.new-building.ensures.read;
+  paid = c.new-building.ensures.paid;
+  few = rw c.new-building.ensures.none (no_less _);
+  counted = rw c.start-at.ensures (no_less _);
+  small = rw c.start-at.ensures (no_less _);
+  room = rw c.start-at.ensures (whole_room _);
+}
+
+pub loop-rest-smaller : goal.loop-rest-smaller
+loop-rest-smaller c = c.in-Some.ensures.first.shorter
+
+pub returns-in_err-add : goal.returns-in_err-add
+returns-in_err-add c =
+    let q = err_from_is_err_and c.from_residual.result c.from_residual.ensures.1 in
+    rw q.1 record { ok = tt; err = inl (q.2 ∙ same_fault c.add.result _ _ c.in_err-add.was (c.in_err-add.was ∙ c.in_err-add.ensures.err)) }
 
 pub returns-then-has_ended-clause-err : goal.returns-then-has_ended-clause-err
 returns-then-has_ended-clause-err c =
@@ -31,8 +70,7 @@ returns-in-Err-clause-err c =
 pub add-requires-clause-small : goal.add-requires-clause-small
 add-requires-clause-small c =
     let l = c.loop-rest in
-    let most = three_forms l.at.last in
-    omega (arith, most, l.invariant.few)
+    few_small (unsigned_abs l.building.paid) (forms_up_to l.at.last) (three_forms l.at.last) l.invariant.few
 
 pub loop-rest-preserved : goal.loop-rest-preserved
 loop-rest-preserved c =
@@ -47,10 +85,10 @@ loop-rest-preserved c =
       read = goes_on l.at c.with-at.result (draft_of l.building l.rest.now) (draft_of c.add.new.self after) (lines l.rest.now) (lines after) line (read_all (lines c.args.bytes.now)) c.in-Some.ensures.first.cut c.in-Ok.ensures.row stands c.in_ok-add.ensures.ok l.invariant.read;
       read_to = c.in_ok-add.ensures.read_on;
       paid = c.in_ok-add.ensures.paid;
-      few = omega (arith, few, kinds);
+      few = few_with (unsigned_abs c.add.new.self.paid) (forms_up_to c.with-at.result.last) (forms_up_to (kind next)) kinds few;
       counted = c.with-at.ensures.counted;
       small = c.with-at.ensures.small;
-      room = omega (arith, c.with-at.ensures.records, c.in-Some.ensures.first.shorter, l.invariant.room);
+      room = room_with l.at.records c.with-at.result.records _ _ _ c.with-at.ensures.records c.in-Some.ensures.first.shorter l.invariant.room;
     }
 
 pub returns-then-not-has_ended-clause-err : goal.returns-then-not-has_ended-clause-err

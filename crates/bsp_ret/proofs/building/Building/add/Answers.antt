@@ -1,10 +1,20 @@
-use Rattle.std.proofs.Common.{refl, sym, ap, ◌∙◌, arith}
+use Rattle.std.proofs.Common.{◌≡◌, ◌≤◌, ◌+◌, ◌+ℤ◌, ℕ, ℤ, Err, refl, sym, ap, ◌∙◌, arith}
 use Rattle.std.specs.Prelude.{unsigned_abs}
 use Rattle.std.proofs.lemmas.Int.{ints}
+use Rattle.std.proofs.lemmas.Result.{err_from_is_err_and}
 use Rattle.bsp_records.proofs.RestLemmas.{no_lines, one_line}
 use Rattle.bsp_ret.proofs.SaidLemmas.{paid_by, paid_said}
-use Rattle.bsp_ret.proofs.BuildingLemmas.{one_more, read_nothing, read_one, read_more, paid_nothing, paid_one, paid_more, same_more, added_sum}
+use Rattle.bsp_ret.proofs.BuildingLemmas.{one_more, read_nothing, read_one, read_more, paid_nothing, paid_one, paid_more, same_more, added_sum, added_fits}
 use Rattle.bsp_ret.proofs.building.Building.add.Goals as goal
+
+none_bound : (size : ℕ) → 0 ≤ size + 99_999_999_999
+none_bound size = omega arith
+
+same_bound : (size : ℕ) → size ≤ size + 99_999_999_999
+same_bound size = omega arith
+
+sum_bound : (x y sum : ℤ) → sum ≡ x +ℤ y → unsigned_abs y ≤ 99_999_999_999 → unsigned_abs sum ≤ unsigned_abs x + 99_999_999_999
+sum_bound x y sum is small = rw is (omega (arith, ints))
 
 pub returns-in-Header-clause-ok : goal.returns-in-Header-clause-ok
 returns-in-Header-clause-ok c =
@@ -93,5 +103,63 @@ returns-in_ok-close_latest-in-Trailer-clause-paid c = paid_nothing c.args.after.
 
 pub returns-in-Form-clause-bound : goal.returns-in-Form-clause-bound
 returns-in-Form-clause-bound c =
-    let sum = added_sum c.args.self.now.paid c.get.result c.requires.small c.get.ensures.bound in
-    omega (arith, ints, ap unsigned_abs sum, c.get.ensures.bound)
+    sum_bound c.args.self.now.paid c.get.result _ (added_sum c.args.self.now.paid c.get.result c.requires.small c.get.ensures.bound) c.get.ensures.bound
+
+pub overflow_add-self : goal.overflow_add-self
+overflow_add-self c = added_fits c.args.self.now.paid c.get.result c.requires.small c.get.ensures.bound
+
+pub returns-in-Header-clause-sum : goal.returns-in-Header-clause-sum
+returns-in-Header-clause-sum c = rw c.in-Header.is refl
+
+pub returns-in-Header-clause-bound : goal.returns-in-Header-clause-bound
+returns-in-Header-clause-bound c = none_bound (unsigned_abs c.args.self.now.paid)
+
+pub returns-in_ok-close_latest-in-Sale-clause-sum : goal.returns-in_ok-close_latest-in-Sale-clause-sum
+returns-in_ok-close_latest-in-Sale-clause-sum c = rw c.in-Sale.is refl
+
+pub returns-in_ok-close_latest-in-Sale-clause-bound : goal.returns-in_ok-close_latest-in-Sale-clause-bound
+returns-in_ok-close_latest-in-Sale-clause-bound c = none_bound (unsigned_abs c.args.self.now.paid)
+
+pub returns-in-Related-clause-sum : goal.returns-in-Related-clause-sum
+returns-in-Related-clause-sum c = rw c.in-Related.is refl
+
+pub returns-in-Related-clause-bound : goal.returns-in-Related-clause-bound
+returns-in-Related-clause-bound c = same_bound (unsigned_abs c.args.self.now.paid)
+
+pub returns-in-Amounts-clause-sum : goal.returns-in-Amounts-clause-sum
+returns-in-Amounts-clause-sum c = rw c.in-Amounts.is refl
+
+pub returns-in-Amounts-clause-bound : goal.returns-in-Amounts-clause-bound
+returns-in-Amounts-clause-bound c = same_bound (unsigned_abs c.args.self.now.paid)
+
+pub returns-in_ok-close_latest-in-Trailer-clause-sum : goal.returns-in_ok-close_latest-in-Trailer-clause-sum
+returns-in_ok-close_latest-in-Trailer-clause-sum c = rw c.in-Trailer.is refl
+
+pub returns-in_ok-close_latest-in-Trailer-clause-bound : goal.returns-in_ok-close_latest-in-Trailer-clause-bound
+returns-in_ok-close_latest-in-Trailer-clause-bound c = none_bound (unsigned_abs c.args.self.now.paid)
+
+pub returns-in_err-close_latest-in-Sale : goal.returns-in_err-close_latest-in-Sale
+returns-in_err-close_latest-in-Sale c =
+    let q = err_from_is_err_and c.from_residual.result c.from_residual.ensures.1 in
+    rw q.1
+    record {
+      ok = tt;
+      read_on = tt;
+      paid = tt;
+      sum = tt;
+      bound = tt;
+      err = ap Err q.2 ∙ c.in_err-close_latest-in-Sale.ensures.err;
+    }
+
+pub returns-in_err-close_latest-in-Trailer : goal.returns-in_err-close_latest-in-Trailer
+returns-in_err-close_latest-in-Trailer c =
+    let q = err_from_is_err_and c.from_residual-in_err-close_latest-in-Trailer.result c.from_residual-in_err-close_latest-in-Trailer.ensures.1 in
+    rw q.1
+    record {
+      ok = tt;
+      read_on = tt;
+      paid = tt;
+      sum = tt;
+      bound = tt;
+      err = ap Err q.2 ∙ c.in_err-close_latest-in-Trailer.ensures.err;
+    }

@@ -25,16 +25,67 @@ overflow_add-result-in-Form c =
     rw (as_stored at.records at.sum c.get.result c.requires.room c.requires.small c.get.ensures.bound)
     (sum_fits at.records at.sum c.get.result c.requires.room c.requires.small c.get.ensures.bound)
 
+-- the same sum, in the places of the program
+as_kept : (records : ℕ) (sum : ℤ) → records < 2 ^ 63 → unsigned_abs sum ≤ records * 10 ^ 11 → to_z w128 (of_z w128 sum) ≡ sum
+as_kept records sum room small = to_z-of_z w128 sum (fits_signed_from_abs w128 sum (omega arith))
+
+le_more : (a b : ℕ) → a ≤ b → a ≤ b + 1
+le_more a b h = omega arith
+
+le_both : (a b : ℕ) → a ≤ b → a + 1 ≤ b + 1
+le_both a b h = omega arith
+
+small_more : (records : ℕ) (sum : ℤ) → unsigned_abs sum ≤ records * 10 ^ 11 → unsigned_abs sum ≤ (records + 1) * 10 ^ 11
+small_more records sum small = omega arith
+
+small_with : (records : ℕ) (sum amount : ℤ) → unsigned_abs sum ≤ records * 10 ^ 11 → unsigned_abs amount ≤ 99_999_999_999 → unsigned_abs (sum +ℤ amount) ≤ (records + 1) * 10 ^ 11
+small_with records sum amount small bound = omega (arith, size_more sum amount)
+
 pub returns-in-Form : goal.returns-in-Form
 returns-in-Form c =
     let at = c.args.self in
     let stored = as_stored at.records at.sum c.get.result c.requires.room c.requires.small c.get.ensures.bound in
     let fits = to_z-of_z w128 (at.sum +ℤ c.get.result) (sum_fits at.records at.sum c.get.result c.requires.room c.requires.small c.get.ensures.bound) in
-    let small : unsigned_abs (at.sum +ℤ c.get.result) ≤ (at.records + 1) * 10 ^ 11 = omega (arith, size_more at.sum c.get.result, c.requires.small, c.get.ensures.bound) in
     rw (stored, fits)
     record {
       standing = rw (c.get.ensures.value, c.kind.ensures, c.in-Form.is) refl;
       records = refl;
-      counted = omega (arith, c.requires.counted);
-      small = small;
+      counted = le_more at.transactions at.records c.requires.counted;
+      small = small_with at.records at.sum c.get.result c.requires.small c.get.ensures.bound;
+    }
+
+pub returns-in-Header : goal.returns-in-Header
+returns-in-Header c =
+    let at = c.args.self in
+    let kept = as_kept at.records at.sum c.requires.room c.requires.small in
+    rw (kept, kept)
+    record {
+      standing = rw (c.kind.ensures, c.in-Header.is) refl;
+      records = refl;
+      counted = le_more at.transactions at.records c.requires.counted;
+      small = small_more at.records at.sum c.requires.small;
+    }
+
+pub returns-in-Sale : goal.returns-in-Sale
+returns-in-Sale c =
+    let at = c.args.self in
+    let kept = as_kept at.records at.sum c.requires.room c.requires.small in
+    rw (kept, kept)
+    record {
+      standing = rw (c.kind.ensures, c.in-Sale.is) refl;
+      records = refl;
+      counted = le_both at.transactions at.records c.requires.counted;
+      small = small_more at.records at.sum c.requires.small;
+    }
+
+pub returns-in-Related : goal.returns-in-Related
+returns-in-Related c =
+    let at = c.args.self in
+    let kept = as_kept at.records at.sum c.requires.room c.requires.small in
+    rw (kept, kept)
+    record {
+      standing = rw (c.only_with.ensures, c.kind.ensures, c.in-Related.is) refl;
+      records = refl;
+      counted = le_more at.transactions at.records c.requires.counted;
+      small = small_more at.records at.sum c.requires.small;
     }

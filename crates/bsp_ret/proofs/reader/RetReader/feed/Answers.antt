@@ -1,8 +1,24 @@
-use Rattle.std.proofs.Common.{◌≡◌, ◌-◌, ◌++◌, ◌∙◌, List, ℕ, sym, ap, subst, drop, length, refl, arith, length-drop}
+use Rattle.std.proofs.Common.{◌≡◌, ◌-◌, ◌≤◌, ◌++◌, ◌∙◌, List, ℕ, Err, sym, ap, subst, drop, inl, length, refl, arith, length-append, length-drop}
+use Rattle.std.proofs.lemmas.Result.{err_from_is_err_and}
 use Rattle.bsp_ret.specs.declared.model.Progress.{Progress}
+use Rattle.bsp_ret.specs.declared.model.Progress.TheVariants.{Reading, Ended, Failed}
+use Rattle.bsp_ret.specs.declared.model.RetFault.{RetFault}
 use Rattle.bsp_ret.specs.Pieces.{Fed, IsJudgedTo, IsKnown, Leaves}
 use Rattle.bsp_ret.proofs.FeedLemmas.{judged_more, clear_so_far}
 use Rattle.bsp_ret.proofs.reader.RetReader.feed.Goals as goal
+
+-- how far a reader is, it is no other way
+same_fault : (p : Progress) (f g : RetFault) → p ≡ Failed f → p ≡ Failed g → f ≡ g
+same_fault p f g one other = cc
+
+failed_not_ended : {A : Type 0} (p : Progress) (f : RetFault) → p ≡ Failed f → p ≡ Ended → A
+failed_not_ended p f one other = absurd (cc)
+
+failed_not_reading : {A : Type 0} (p : Progress) (f : RetFault) → p ≡ Failed f → p ≡ Reading → A
+failed_not_reading p f one other = absurd (cc)
+
+ended_not_reading : {A : Type 0} (p : Progress) → p ≡ Ended → p ≡ Reading → A
+ended_not_reading p one other = absurd (cc)
 
 rest_is : (c : goal.After-at-in-Ok-1) → c.split_at.result.1.now ≡ drop c.self.inside.judged c.extend_from_slice.new.self.items
 rest_is c = c.split_at.ensures.back ∙ ap (drop c.self.inside.judged) c.deref.ensures.value
@@ -46,7 +62,54 @@ invariant_of-self-in-Ok c =
       subst KnownBy (sym c.in-Reading.is) (subst JudgedOf behind known),
     )
 
-pub returns-in-Ok-clause-ok : goal.returns-in-Ok-clause-ok
-returns-in-Ok-clause-ok c = λ reading.
+pub returns-in-Ok : goal.returns-in-Ok
+returns-in-Ok c =
+    let p = c.args.self.now.progress in
+    let reading : p ≡ Reading = sym (ap (λ (f : Fed). f.progress) c.self.view_is) ∙ c.in-Reading.is in
     let bytes : c.self.inside.bytes.items ≡ c.args.self.now.bytes = ap (λ (f : Fed). f.bytes) c.self.view_is in
-    (rw (c.in_ok-extend_from_slice.ensures.items, c.in-Reading.is, ← bytes) refl, clear_so_far c.in-Ok.at c.extend_from_slice.new.self.items c.in-Ok.left.now (now_known c))
+    record {
+      failed = λ fault is. failed_not_reading p fault is reading;
+      ended_none = λ is. ended_not_reading p is reading;
+      ended_some = λ is. ended_not_reading p is reading;
+      ok = λ is. (rw (c.in_ok-extend_from_slice.ensures.items, c.in-Reading.is, ← bytes) refl, clear_so_far c.in-Ok.at c.extend_from_slice.new.self.items c.in-Ok.left.now (now_known c));
+      fault = λ is. tt;
+    }
+
+pub returns-in-Failed : goal.returns-in-Failed
+returns-in-Failed c =
+    let p = c.args.self.now.progress in
+    let told : p ≡ Failed c.in-Failed.fault = sym (ap (λ (f : Fed). f.progress) c.self.view_is) ∙ c.in-Failed.is in
+    record {
+      failed = λ fault is. (ap Err (same_fault p c.in-Failed.fault fault told is), refl);
+      ended_none = λ is. failed_not_ended p c.in-Failed.fault told is;
+      ended_some = λ is. failed_not_ended p c.in-Failed.fault told is;
+      ok = λ is. tt;
+      fault = λ is. failed_not_reading p c.in-Failed.fault told is;
+    }
+
+pub returns-in-Ended : goal.returns-in-Ended
+returns-in-Ended c =
+    let p = c.args.self.now.progress in
+    let ended : p ≡ Ended = sym (ap (λ (f : Fed). f.progress) c.self.view_is) ∙ c.in-Ended.is in
+    record {
+      failed = λ fault is. failed_not_ended p fault is ended;
+      ended_none = λ is. c.feed_behind.ensures.none;
+      ended_some = λ is. c.feed_behind.ensures.some;
+      ok = λ is. ended_not_reading p ended is;
+      fault = λ is. ended_not_reading p ended is;
+    }
+
+pub returns-in_err-extend_from_slice : goal.returns-in_err-extend_from_slice
+returns-in_err-extend_from_slice c =
+    let p = c.args.self.now.progress in
+    let reading : p ≡ Reading = sym (ap (λ (f : Fed). f.progress) c.self.view_is) ∙ c.in-Reading.is in
+    let of_bytes : List ℕ → Fed = λ xs. record { bytes = xs; progress = c.self.inside.progress } in
+    let q = err_from_is_err_and c.from_residual.result c.from_residual.ensures.1 in
+    rw q.1
+    (record {
+      failed = λ fault is. failed_not_reading p fault is reading;
+      ended_none = λ is. ended_not_reading p is reading;
+      ended_some = λ is. ended_not_reading p is reading;
+      ok = λ is. tt;
+      fault = λ is. inl (q.2, ap of_bytes c.in_err-extend_from_slice.ensures.items ∙ c.self.view_is);
+    })
