@@ -14,7 +14,7 @@ fn write_line(page: &Page<'_>, line: &str, out: &mut Output) -> Answered {
         fields::answer(page, line, out)?;
     }
     out.push("\n");
-    if out.is_short() {
+    if out.is_short {
         return Err(Fault::Memory);
     }
     Ok(())
@@ -22,7 +22,7 @@ fn write_line(page: &Page<'_>, line: &str, out: &mut Output) -> Answered {
 
 /// Writes the page with its answers, up to the first line that is no case, or for which memory was short.
 pub fn answer_page(page: &Page<'_>, out: &mut Output) -> Answered {
-    for line in page.text().lines() {
+    for line in page.text.lines() {
         write_line(page, line, out)?;
     }
     Ok(())

@@ -11,12 +11,12 @@ const OFFICE: &[u8] = b"officetoken00001";
 
 /// The request `POST /office/day TOKEN` and what is left of the words as its body.
 fn request_of<'t>(routes: &Routes, text: &'t str) -> Request<'t> {
-    let mut words = Words::of(text);
+    let mut words = Words { rest: text };
     let (method, target, token) = (words.bytes(), words.bytes(), words.bytes());
     Request {
         token: Some(token),
         call: routes.ask(method, target),
-        content: Content::Bytes(words.rest().as_bytes()),
+        content: Content::Bytes(words.rest.as_bytes()),
     }
 }
 
@@ -96,23 +96,14 @@ fn ask(alloc: Global, asked: &[Request<'_>], out: &mut Output) -> Answered {
     Ok(())
 }
 
-/// Asks requests so many times in one run; `; ` is between them.
-fn ask_repeated(alloc: Global, count: usize, texts: &str, out: &mut Output) -> Answered {
+/// Asks requests so many times in one run; the number is before them, and `; ` between them.
+pub fn run(alloc: Global, rest: &str, out: &mut Output) -> Answered {
+    let (count, texts) = first_word(rest);
+    let count = number(count)?;
     let Ok(routes) = Routes::new(alloc) else {
         return Err(Fault::Memory);
     };
     let mut asked = Vec::new(alloc);
     push_repeated(&routes, count, texts, &mut asked)?;
     ask(alloc, &asked, out)
-}
-
-/// Asks requests in a run.
-pub fn run(alloc: Global, texts: &str, out: &mut Output) -> Answered {
-    ask_repeated(alloc, 1, texts, out)
-}
-
-/// Asks requests so many times in one run.
-pub fn run_many(alloc: Global, texts: &str, out: &mut Output) -> Answered {
-    let (count, texts) = first_word(texts);
-    ask_repeated(alloc, number(count)?, texts, out)
 }

@@ -133,7 +133,7 @@ pub fn answer(page: &Page<'_>, case: &str, out: &mut Output) -> Answered {
         "total" => show_total(read_total(text), out),
         "total-of" => show_total(Total::new(number(rest)?), out),
         "no-room" => out.found(Ok(NoRoom)),
-        "money" => show_money(page.alloc(), rest, out),
+        "money" => show_money(page.alloc, rest, out),
         "tax" => show_tax(rest, out),
         _ => answer_codes(page, case, out),
     }

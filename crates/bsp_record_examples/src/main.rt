@@ -1,12 +1,12 @@
-//! Worked examples of the fields and records of RET and HOT files, of commission, memos and reports, and of runs of requests. It reads a page of
-//! cases from standard input, makes the call that each case names, and writes the page with what the calls gave.
-//! The page says how a case is written. The status is 1 where a line is no case.
+//! Worked examples of single calls: of fields and records, of RET files in pieces and written, of commission, memos
+//! and reports, and of runs of requests. It reads a page of cases from standard input, makes the call that each case
+//! names, and writes the page with what the calls gave. The page says how a case is written. The status is 1 where a
+//! line is no case.
 #![tactic(auto)]
 
 mod answers;
 mod days;
 mod desk;
-mod explanations;
 mod fault;
 mod fields;
 mod files;
@@ -18,6 +18,7 @@ mod reader;
 mod records;
 mod reports;
 mod ret;
+mod rules;
 mod texts;
 mod transactions;
 mod words;
@@ -32,10 +33,13 @@ use std::process::ExitCode;
 /// Reads the page and writes it with its answers, up to the first line that is no case.
 fn run(rt: &HostRuntime) -> Answered {
     let text = io::read_to_string(rt.alloc(), rt.stdin())?;
-    let page = Page::of(rt.alloc(), text.as_str());
+    let page = Page {
+        alloc: rt.alloc(),
+        text: text.as_str(),
+    };
     let mut out = Output::new(rt.alloc())?;
     let answered = answer_page(&page, &mut out);
-    rt.print(out.text())?;
+    rt.print(out.text.as_str())?;
     answered
 }
 

@@ -9,11 +9,13 @@ use std::fmt::Display;
 /// The bytes that take no further memory.
 const ROOM: usize = 65_536;
 
-/// What is printed, and whether memory was short for some of it.
+/// What is printed.
 #[derive(Drop)]
 pub struct Output {
-    text: String,
-    is_short: bool,
+    /// The text.
+    pub text: String,
+    /// Whether memory was short for some of it.
+    pub is_short: bool,
 }
 
 impl Output {
@@ -60,16 +62,6 @@ impl Output {
     pub fn answer(&mut self, is_so: bool) -> Answered {
         self.push(if is_so { "yes" } else { "no" });
         Ok(())
-    }
-
-    /// The text.
-    pub fn text(&self) -> &str {
-        self.text.as_str()
-    }
-
-    /// Whether memory was short.
-    pub fn is_short(&self) -> bool {
-        self.is_short
     }
 }
 

@@ -5,29 +5,16 @@ use crate::lines::Line;
 use crate::notation::push_record;
 use std::alloc::Global;
 
-/// A page, and what memory is taken from.
+/// A page.
 #[derive(Clone, Copy)]
 pub struct Page<'a> {
-    alloc: Global,
-    text: &'a str,
+    /// What memory is taken from.
+    pub alloc: Global,
+    /// The text of the page.
+    pub text: &'a str,
 }
 
-impl<'a> Page<'a> {
-    /// The page of that text.
-    pub fn of(alloc: Global, text: &'a str) -> Page<'a> {
-        Page { alloc, text }
-    }
-
-    /// What memory is taken from.
-    pub fn alloc(&self) -> Global {
-        self.alloc
-    }
-
-    /// The text of the page.
-    pub fn text(&self) -> &'a str {
-        self.text
-    }
-
+impl Page<'_> {
     /// Appends the record or the file of that name.
     pub fn push_named(&self, name: &str, text: &mut Vec<u8>) -> Answered {
         let before = text.len();

@@ -82,6 +82,6 @@ fn take_all(page: &Page<'_>, steps: &str, reader: &mut RetReader, out: &mut Outp
 
 /// Makes the calls of a new reader.
 pub fn calls(page: &Page<'_>, steps: &str, out: &mut Output) -> Answered {
-    let mut reader = RetReader::new(page.alloc());
+    let mut reader = RetReader::new(page.alloc);
     take_all(page, steps, &mut reader, out)
 }

@@ -1,10 +1,12 @@
 //! The calls of reports and HOT files over rows: the transactions of a RET file, all accepted in one closed period, and a
 //! debit memo that is billed in it.
 
-use crate::days::memo_of;
 use crate::fault::{Answered, Fault};
 use crate::output::Output;
-use crate::words::Words;
+use crate::page::Page;
+use crate::rules::memo_of;
+use crate::texts::text_of;
+use crate::words::{Words, first_word};
 use bsp_calendar::{Currency, Period, Plan, PlanText, Terms};
 use bsp_fields::{AgentCode, AirlineCode, Amount, Day, PeriodCode};
 use bsp_hot::{HotFault, write_hot};
@@ -122,7 +124,7 @@ fn items_of(alloc: Global, text: &[u8]) -> Result<Vec<Item>, Fault> {
 impl Rows {
     /// Those of the RET file that a text is. The plan is empty.
     fn of(alloc: Global, text: &[u8]) -> Result<Rows, Fault> {
-        let memo = memo_of(Words::of(MEMO))?.ok_or(Fault::Field)?;
+        let memo = memo_of(Words { rest: MEMO })?.ok_or(Fault::Field)?;
         Ok(Rows {
             items: items_of(alloc, text)?,
             memos: [memo],
@@ -199,15 +201,17 @@ fn show_closed(
 }
 
 /// Writes the report of a word over the rows of a text.
-pub fn show_report(
-    alloc: Global,
-    word: &str,
-    head: &str,
-    text: &[u8],
-    out: &mut Output,
-) -> Answered {
+fn show_report(alloc: Global, word: &str, head: &str, text: &[u8], out: &mut Output) -> Answered {
     match Rows::of(alloc, text) {
         Ok(mut rows) => show_closed(alloc, word, head, &mut rows, out),
         Err(fault) => Err(fault),
     }
+}
+
+/// Writes the report of a word over the rows of the text that parts make. The agent, the period or the airline is
+/// before the parts.
+pub fn report(page: &Page<'_>, word: &str, rest: &str, out: &mut Output) -> Answered {
+    let (head, parts) = first_word(rest);
+    let text = text_of(page, parts)?;
+    show_report(page.alloc, word, head, &text, out)
 }

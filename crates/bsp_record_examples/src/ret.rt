@@ -47,11 +47,6 @@ pub fn show(outcome: Outcome, out: &mut Output) -> Answered {
     Ok(())
 }
 
-/// Reads a text.
-pub fn show_whole(alloc: Global, text: &[u8], out: &mut Output) -> Answered {
-    show(counted(read_ret(alloc, text)), out)
-}
-
 /// What a reader gives that was fed to the end.
 fn read_fed(reader: &mut RetReader) -> Outcome {
     reader.finish()?;
@@ -80,51 +75,6 @@ pub fn show_bytes(alloc: Global, text: &[u8], out: &mut Output) -> Answered {
     show(read_bytes(alloc, text), out)
 }
 
-/// How a text is read, for each place in it.
-#[derive(Clone, Copy)]
-pub enum Way {
-    /// What is before the place, in one text.
-    Cut,
-    /// What is before the place, fed to a reader, and then nothing.
-    CutFed,
-    /// What is before the place and what is behind it, fed to a reader.
-    Pieces,
-}
-
-/// What is read of a text in that way at a place.
-fn read_at(alloc: Global, way: Way, text: &[u8], place: usize) -> Outcome {
-    let (front, back) = text.split_at(place.min(text.len()));
-    match way {
-        Way::Cut => counted(read_ret(alloc, front)),
-        Way::CutFed => read_pieces(alloc, front, b""),
-        Way::Pieces => read_pieces(alloc, front, back),
-    }
-}
-
-/// Writes that all places of a range have an outcome.
-fn show_range(first: usize, last: usize, outcome: Outcome, out: &mut Output) -> Answered {
-    say!(out, "\n    {first} to {last}: ");
-    show(outcome, out)
-}
-
-/// Reads a text at each place, and writes the ranges of places with one outcome.
-pub fn show_ranges(alloc: Global, way: Way, text: &[u8], out: &mut Output) -> Answered {
-    say!(out, "{} texts", text.len().saturating_add(1));
-    let mut first = 0;
-    let mut last = 0;
-    let mut current = read_at(alloc, way, text, 0);
-    for place in 1..=text.len() {
-        let outcome = read_at(alloc, way, text, place);
-        if outcome != current {
-            show_range(first, last, current, out)?;
-            first = place;
-            current = outcome;
-        }
-        last = place;
-    }
-    show_range(first, last, current, out)
-}
-
 /// The text that is written of the file that a call gave.
 fn written(alloc: Global, file: Result<RetFile<'_>, RetFault>) -> Result<Vec<u8>, Fault> {
     match file {
@@ -142,12 +92,13 @@ fn written_of_pieces(alloc: Global, front: &[u8], back: &[u8]) -> Result<Vec<u8>
     written(alloc, reader.file())
 }
 
-/// Of how many places of a text the file of the two pieces is written as `whole`.
-fn count_same(alloc: Global, text: &[u8], whole: &[u8]) -> Result<usize, Fault> {
+/// Of how many places of a text the file of the two pieces has these counts, and is written as `whole`.
+fn count_same(alloc: Global, text: &[u8], counts: Outcome, whole: &[u8]) -> Result<usize, Fault> {
     let mut same = 0_usize;
     for place in 0..=text.len() {
         let (front, back) = text.split_at(place.min(text.len()));
-        if written_of_pieces(alloc, front, back)?.as_slice() == whole {
+        let is_counted = read_pieces(alloc, front, back) == counts;
+        if is_counted && written_of_pieces(alloc, front, back)?.as_slice() == whole {
             same = same.saturating_add(1);
         }
     }
@@ -156,9 +107,10 @@ fn count_same(alloc: Global, text: &[u8], whole: &[u8]) -> Result<usize, Fault> 
 
 /// Cuts a RET file into two pieces at each of its places, and writes of how many the file of the reader is that of
 /// the whole text.
-pub fn show_same_pieces(alloc: Global, text: &[u8], out: &mut Output) -> Answered {
+pub fn show_pieces(alloc: Global, text: &[u8], out: &mut Output) -> Answered {
+    let counts = counted(read_ret(alloc, text));
     let whole = written(alloc, read_ret(alloc, text))?;
-    let same = count_same(alloc, text, &whole)?;
+    let same = count_same(alloc, text, counts, &whole)?;
     say!(
         out,
         "{} texts, {same} of the same file",
@@ -170,7 +122,7 @@ pub fn show_same_pieces(alloc: Global, text: &[u8], out: &mut Output) -> Answere
 /// The text that is written of the RET file that parts make.
 fn written_of(page: &Page<'_>, parts: &str) -> Result<Vec<u8>, Fault> {
     let text = text_of(page, parts)?;
-    written(page.alloc(), read_ret(page.alloc(), &text))
+    written(page.alloc, read_ret(page.alloc, &text))
 }
 
 /// Appends whether a text is the one that it has to be.

@@ -2,10 +2,12 @@
 
 use crate::fault::{Answered, Fault};
 use crate::output::{Output, say};
-use crate::words::shown;
+use crate::page::Page;
+use crate::texts::text_of;
+use crate::words::{amount, first_word, shown};
 use bsp_fields::Amount;
 use bsp_ret::{RetFile, read_ret, transaction};
-use bsp_ret_records::{Amounts, PaidSale, ReportedDocument, Sale, Transaction};
+use bsp_ret_records::{Amounts, ReportedDocument, Transaction};
 use bsp_ret_writer::is_group;
 use std::alloc::Global;
 
@@ -18,13 +20,6 @@ fn show_document(document: &ReportedDocument, out: &mut Output) {
         document.airline,
         document.check_digit
     );
-}
-
-/// Appends a record 2, but for the passenger.
-fn show_sale(sale: &Sale, out: &mut Output) {
-    say!(out, "{:?} {} ", sale.code, shown(&sale.agent));
-    show_document(&sale.document, out);
-    say!(out, " {}", sale.issued);
 }
 
 /// Appends the related documents.
@@ -69,70 +64,51 @@ fn show_forms(transaction: &Transaction, out: &mut Output) {
 }
 
 /// Appends the values of a transaction.
-fn show_values(transaction: &Transaction, out: &mut Output) -> Answered {
-    let sale = Sale {
-        code: transaction.code,
-        agent: transaction.agent,
-        document: transaction.document,
-        issued: transaction.issued,
-    };
-    show_sale(&sale, out);
-    say!(out, " {}", shown(transaction.passenger.trim_ascii_end()));
+fn show_values(transaction: &Transaction, out: &mut Output) {
+    let agent = shown(&transaction.agent);
+    let passenger = shown(transaction.passenger.trim_ascii_end());
+    say!(out, "{:?} {agent} ", transaction.code);
+    show_document(&transaction.document, out);
+    say!(out, " {} {passenger}", transaction.issued);
     show_related(&transaction.related, out);
     show_amounts(&transaction.amounts, out);
     show_forms(transaction, out);
-    Ok(())
 }
 
-/// The values of a transaction with this amount as its record 8 with EX.
-fn with_exchange(mut transaction: Transaction, amount: Amount) -> Transaction {
-    transaction.exchange = Some(amount);
-    transaction
-}
-
-/// What is shown of the first transaction of a file.
-#[derive(Clone, Copy)]
-pub enum Question {
-    /// Its values.
-    Values,
-    /// Whether they are those of a group.
-    IsGroup,
-    /// Whether they are with this amount as its record 8 with EX.
-    IsGroupWith(Amount),
-}
-
-/// Shows the first transaction of a file.
-fn show_first(file: &RetFile<'_>, what: Question, out: &mut Output) -> Answered {
-    let Some(found) = transaction(file, 0) else {
+/// Shows the first transaction of a file, with this amount as its record 8 with EX where there is one, and whether
+/// these are the values of a group.
+fn show_first(file: &RetFile<'_>, exchange: Option<Amount>, out: &mut Output) -> Answered {
+    let Some(mut found) = transaction(file, 0) else {
         return Err(Fault::File);
     };
-    match what {
-        Question::Values => show_values(&found, out),
-        Question::IsGroup => out.answer(is_group(&found)),
-        Question::IsGroupWith(amount) => out.answer(is_group(&with_exchange(found, amount))),
-    }
-}
-
-/// Shows the first transaction of the file that a text is.
-pub fn show_transaction(alloc: Global, what: Question, text: &[u8], out: &mut Output) -> Answered {
-    match read_ret(alloc, text) {
-        Ok(file) => show_first(&file, what, out),
-        Err(fault) => Err(Fault::from(fault)),
-    }
-}
-
-/// The first record 2 of a file, and what its transaction pays.
-fn first_sale(alloc: Global, text: &[u8]) -> Result<PaidSale, Fault> {
-    match read_ret(alloc, text) {
-        Ok(file) => file.sale(0).ok_or(Fault::File),
-        Err(fault) => Err(Fault::from(fault)),
-    }
-}
-
-/// Shows the first record 2 of a file and what its transaction pays.
-pub fn show_paid(alloc: Global, text: &[u8], out: &mut Output) -> Answered {
-    let found = first_sale(alloc, text)?;
-    show_sale(&found.sale, out);
-    say!(out, ", paid {}", found.paid);
+    found.exchange = exchange.or(found.exchange);
+    show_values(&found, out);
+    out.push(if is_group(&found) {
+        ", a group"
+    } else {
+        ", no group"
+    });
     Ok(())
+}
+
+/// Shows the first transaction of the file that a text is, with this amount as its record 8 with EX where there is
+/// one.
+pub fn show_transaction(
+    alloc: Global,
+    exchange: Option<Amount>,
+    text: &[u8],
+    out: &mut Output,
+) -> Answered {
+    match read_ret(alloc, text) {
+        Ok(file) => show_first(&file, exchange, out),
+        Err(fault) => Err(Fault::from(fault)),
+    }
+}
+
+/// Shows the first transaction of a file with an amount as its record 8 with EX; the amount is before the file.
+pub fn show_with_exchange(page: &Page<'_>, rest: &str, out: &mut Output) -> Answered {
+    let (units, parts) = first_word(rest);
+    let exchange = Some(amount(units)?);
+    let text = text_of(page, parts)?;
+    show_transaction(page.alloc, exchange, &text, out)
 }

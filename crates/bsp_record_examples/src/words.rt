@@ -32,15 +32,11 @@ pub fn shown(characters: &[u8]) -> &str {
 /// What is left of a case, word by word.
 #[derive(Clone, Copy)]
 pub struct Words<'t> {
-    rest: &'t str,
+    /// All that is left.
+    pub rest: &'t str,
 }
 
 impl<'t> Words<'t> {
-    /// The words of a text.
-    pub fn of(text: &'t str) -> Words<'t> {
-        Words { rest: text }
-    }
-
     /// The next word, and an empty one where there is none.
     pub fn word(&mut self) -> &'t str {
         let (word, rest) = first_word(self.rest);
@@ -51,10 +47,5 @@ impl<'t> Words<'t> {
     /// The characters of the next word.
     pub fn bytes(&mut self) -> &'t [u8] {
         self.word().as_bytes()
-    }
-
-    /// All that is left.
-    pub fn rest(self) -> &'t str {
-        self.rest
     }
 }
