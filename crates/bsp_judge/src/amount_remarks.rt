@@ -1,39 +1,34 @@
 //! Which amount of a refused transaction is wrong, and what it has to be. The words are for people.
 
+use crate::lines::push_fields;
 use crate::remarks::Known;
 use bsp_desk::ListBook;
-use bsp_fields::{NoRoom, write_money};
-use bsp_ret_records::{Amounts, Tax, Transaction, TransactionCode};
-use bsp_rules::{amount_or_zero, card_amount, commission};
+use bsp_fields::push_money;
+use bsp_ret_records::{Amounts, ReportedDocument, Tax, Transaction, TransactionCode};
+use bsp_rules::{Item, amount_or_zero, card_amount, commission};
+use itoa::Buffer;
 use std::alloc::{AllocError, Global};
 
-/// An amount beside the one that it has to agree with, both in minor units.
-fn beside(
-    alloc: Global,
-    what: &str,
-    found: i64,
-    other: &str,
-    wanted: i64,
-) -> Result<String, NoRoom> {
-    let found = write_money(alloc, found as i128)?;
-    let wanted = write_money(alloc, wanted as i128)?;
-    let (found, wanted) = (found.as_str(), wanted.as_str());
-    Ok(format!(in alloc; "{what} {found}, {other} {wanted}")?)
+/// Appends minor units as money.
+fn push_amount(text: &mut Vec<u8>, amount: i64) -> Result<(), AllocError> {
+    match push_money(text, amount) {
+        Ok(()) => Ok(()),
+        Err(_) => Err(AllocError),
+    }
 }
 
-/// Two amounts, where they differ.
-fn difference(
-    alloc: Global,
-    what: &str,
+/// Appends an amount beside the one that it has to agree with, both in minor units.
+fn push_beside(
+    text: &mut Vec<u8>,
+    what: &[&[u8]],
     found: i64,
-    other: &str,
+    other: &[u8],
     wanted: i64,
-) -> Result<Option<String>, NoRoom> {
-    if found == wanted {
-        Ok(None)
-    } else {
-        Ok(Some(beside(alloc, what, found, other, wanted)?))
-    }
+) -> Result<(), AllocError> {
+    push_fields(text, what)?;
+    push_amount(text, found)?;
+    push_fields(text, &[b", ", other, b" "])?;
+    push_amount(text, wanted)
 }
 
 /// Fare and taxes, in minor units.
@@ -55,23 +50,20 @@ fn paid(transaction: &Transaction) -> i64 {
 }
 
 /// The commission, where it is not that of its rate on a basis.
-fn commission_remark(
-    alloc: Global,
+fn push_commission(
+    text: &mut Vec<u8>,
     amounts: &Amounts,
-    of: &str,
+    of: &[u8],
     basis: i64,
-) -> Result<Option<String>, NoRoom> {
+) -> Result<(), AllocError> {
     if amounts.rate > 10_000 {
-        return Ok(None);
+        return Ok(());
     }
-    let wanted = commission(amounts.rate, basis);
-    difference(
-        alloc,
-        "the commission is",
-        amounts.commission.get(),
-        of,
-        wanted,
-    )
+    let (found, wanted) = (amounts.commission.get(), commission(amounts.rate, basis));
+    if found == wanted {
+        return Ok(());
+    }
+    push_beside(text, &[b"the commission is "], found, of, wanted)
 }
 
 /// Whether an amount has the sign of the other kind of transaction.
@@ -79,14 +71,6 @@ fn has_wrong_sign(code: TransactionCode, amount: i64) -> bool {
     match code {
         TransactionCode::Rfnd => amount > 0,
         TransactionCode::Tktt | TransactionCode::Canx => amount < 0,
-    }
-}
-
-/// Which sign the amounts have.
-fn sign_rule(code: TransactionCode) -> &'static str {
-    match code {
-        TransactionCode::Rfnd => "no amount of a refund is above zero",
-        TransactionCode::Tktt | TransactionCode::Canx => "no amount of a sale is below zero",
     }
 }
 
@@ -122,100 +106,85 @@ fn wrong_amount(transaction: &Transaction, amounts: &Amounts) -> Option<(&'stati
 }
 
 /// An amount with a wrong sign, and the rule.
-fn sign_fault(
-    alloc: Global,
+fn push_sign(
+    text: &mut Vec<u8>,
     code: TransactionCode,
     name: &str,
     amount: i64,
-) -> Result<String, NoRoom> {
-    let rule = sign_rule(code);
-    let amount = write_money(alloc, amount as i128)?;
-    let amount = amount.as_str();
-    Ok(format!(in alloc; "{name} is {amount}, and {rule}")?)
-}
-
-/// The first amount with a wrong sign.
-fn sign_remark(
-    alloc: Global,
-    transaction: &Transaction,
-    amounts: &Amounts,
-) -> Result<Option<String>, NoRoom> {
-    match wrong_amount(transaction, amounts) {
-        Some((name, amount)) => Ok(Some(sign_fault(alloc, transaction.code, name, amount)?)),
-        None => Ok(None),
-    }
+) -> Result<(), AllocError> {
+    push_fields(text, &[name.as_bytes(), b" is "])?;
+    push_amount(text, amount)?;
+    text.extend_from_slice(match code {
+        TransactionCode::Rfnd => b", and no amount of a refund is above zero",
+        TransactionCode::Tktt | TransactionCode::Canx => {
+            b", and no amount of a sale is below zero"
+        }
+    })
 }
 
 /// A rate above the published one, or the commission of a sale without EX that is not its rate's.
-fn rate_remark(
-    alloc: Global,
+fn push_rate(
+    text: &mut Vec<u8>,
     book: &ListBook,
     transaction: &Transaction,
     amounts: &Amounts,
-) -> Result<Option<String>, NoRoom> {
-    let (airline, issued, rate) = (
-        transaction.document.airline,
-        transaction.issued,
-        amounts.rate,
-    );
+) -> Result<(), AllocError> {
+    let (airline, issued) = (transaction.document.airline, transaction.issued);
     let published = book.tables().plan().rate(airline, issued);
-    if rate > published {
-        return Ok(Some(format!(in alloc;
-            "the rate is {rate}, and the published one of {airline} on {issued} is {published}"
-        )?));
+    if amounts.rate <= published {
+        return match transaction.exchange {
+            Some(_) => Ok(()),
+            None => push_commission(text, amounts, b"by rate and fare", amounts.fare.get()),
+        };
     }
-    if transaction.exchange.is_some() {
-        return Ok(None);
-    }
-    commission_remark(alloc, amounts, "by rate and fare", amounts.fare.get())
+    let (mut rate, mut most) = (Buffer::new(), Buffer::new());
+    let fields: [&[u8]; 8] = [
+        b"the rate is ",
+        rate.format(amounts.rate).as_bytes(),
+        b", and the published one of ",
+        &airline.digits(),
+        b" on ",
+        &issued.write_text(),
+        b" is ",
+        most.format(published).as_bytes(),
+    ];
+    push_fields(text, &fields)
 }
 
 /// Which amount is wrong by the transaction and the published rate alone.
-pub(crate) fn amounts_remark(
-    alloc: Global,
+pub(crate) fn push_amounts(
+    text: &mut Vec<u8>,
     book: &ListBook,
     transaction: &Transaction,
-) -> Result<Option<String>, NoRoom> {
+) -> Result<(), AllocError> {
     let Some(amounts) = &transaction.amounts else {
-        return Ok(None);
+        return Ok(());
     };
-    if let Some(text) = sign_remark(alloc, transaction, amounts)? {
-        return Ok(Some(text));
+    if let Some((name, amount)) = wrong_amount(transaction, amounts) {
+        return push_sign(text, transaction.code, name, amount);
     }
     let (gross, paid) = (gross(amounts), paid(transaction));
-    if let Some(text) = difference(alloc, "fare + taxes are", gross, "forms", paid)? {
-        return Ok(Some(text));
+    if gross != paid {
+        return push_beside(text, &[b"fare + taxes are "], gross, b"forms", paid);
     }
     match transaction.code {
-        TransactionCode::Tktt => rate_remark(alloc, book, transaction, amounts),
-        TransactionCode::Rfnd | TransactionCode::Canx => Ok(None),
+        TransactionCode::Tktt => push_rate(text, book, transaction, amounts),
+        TransactionCode::Rfnd | TransactionCode::Canx => Ok(()),
     }
 }
 
-/// The amounts of the tickets that a transaction names.
-fn tickets_of(
-    alloc: Global,
-    known: &Known<'_>,
-    transaction: &Transaction,
-) -> Result<Vec<Amounts>, AllocError> {
-    let items = known
-        .book
-        .tables()
-        .items_bearing(alloc, known.setup.agent, transaction)?;
-    let mut tickets = Vec::new(alloc);
-    for document in &transaction.related {
-        if let Some(document) = document {
-            for item in &items {
-                let ticket = &item.transaction;
-                if ticket.document.number == document.number {
-                    if let Some(amounts) = ticket.amounts {
-                        tickets.push(amounts)?;
-                    }
-                }
-            }
+/// The amounts of the ticket that a transaction names in a place.
+fn ticket_in<'i>(items: &'i [Item], place: &Option<ReportedDocument>) -> Option<&'i Amounts> {
+    let Some(document) = place else {
+        return None;
+    };
+    for item in items {
+        let ticket = &item.transaction;
+        if ticket.document.number == document.number && ticket.amounts.is_some() {
+            return ticket.amounts.as_ref();
         }
     }
-    Ok(tickets)
+    None
 }
 
 /// The amount of a tax with a code, 0 where there is none.
@@ -230,94 +199,94 @@ fn tax_with(code: &[u8; 2], taxes: &[Option<Tax>; 6]) -> i64 {
     0
 }
 
-/// A tax of a refund that is more than the ticket's.
-fn taxes_remark(
-    alloc: Global,
-    ticket: &Amounts,
-    amounts: &Amounts,
-) -> Result<Option<String>, NoRoom> {
+/// The first tax of a refund that is more than the ticket's, and that of the ticket.
+fn greater_tax(ticket: &Amounts, amounts: &Amounts) -> Option<(Tax, i64)> {
     for tax in &amounts.taxes {
         if let Some(tax) = tax {
-            let (amount, of_ticket) = (tax.amount.get(), tax_with(&tax.code, &ticket.taxes));
-            if amount.unsigned_abs() > of_ticket.unsigned_abs() {
-                let code = match str::from_utf8(&tax.code) {
-                    Ok(code) => code,
-                    Err(_) => "",
-                };
-                let what = format!(in alloc; "the tax {code} is")?;
-                let text = beside(
-                    alloc,
-                    what.as_str(),
-                    amount,
-                    "that of the ticket",
-                    of_ticket,
-                )?;
-                return Ok(Some(text));
+            let of_ticket = tax_with(&tax.code, &ticket.taxes);
+            if tax.amount.get().unsigned_abs() > of_ticket.unsigned_abs() {
+                return Some((*tax, of_ticket));
             }
         }
     }
-    Ok(None)
+    None
+}
+
+/// A rate that is not that of the ticket, or the commission of a refund that is not its rate's.
+fn push_refund_rate(
+    text: &mut Vec<u8>,
+    ticket: &Amounts,
+    amounts: &Amounts,
+) -> Result<(), AllocError> {
+    if amounts.rate == ticket.rate {
+        return push_commission(text, amounts, b"by rate and fare", amounts.fare.get());
+    }
+    let (mut rate, mut wanted) = (Buffer::new(), Buffer::new());
+    let fields: [&[u8]; 4] = [
+        b"the rate is ",
+        rate.format(amounts.rate).as_bytes(),
+        b", that of the ticket ",
+        wanted.format(ticket.rate).as_bytes(),
+    ];
+    push_fields(text, &fields)
 }
 
 /// Which amount of a refund does not agree with its ticket.
-fn refund_remark(
-    alloc: Global,
-    ticket: &Amounts,
-    amounts: &Amounts,
-) -> Result<Option<String>, NoRoom> {
+fn push_refund(text: &mut Vec<u8>, ticket: &Amounts, amounts: &Amounts) -> Result<(), AllocError> {
+    let other = b"that of the ticket";
     let (fare, of_ticket) = (amounts.fare.get(), ticket.fare.get());
     if fare.unsigned_abs() > of_ticket.unsigned_abs() {
-        let text = beside(alloc, "the fare is", fare, "that of the ticket", of_ticket)?;
-        return Ok(Some(text));
+        return push_beside(text, &[b"the fare is "], fare, other, of_ticket);
     }
-    if let Some(text) = taxes_remark(alloc, ticket, amounts)? {
-        return Ok(Some(text));
+    if let Some((tax, of_ticket)) = greater_tax(ticket, amounts) {
+        let what: [&[u8]; 3] = [b"the tax ", &tax.code, b" is "];
+        return push_beside(text, &what, tax.amount.get(), other, of_ticket);
     }
-    let (rate, wanted) = (amounts.rate, ticket.rate);
-    if rate != wanted {
-        return Ok(Some(format!(in alloc; "the rate is {rate}, that of the ticket {wanted}")?));
-    }
-    commission_remark(alloc, amounts, "by rate and fare", fare)
+    push_refund_rate(text, ticket, amounts)
 }
 
 /// Which amount of an exchange does not agree with its tickets.
-fn exchange_remark(
-    alloc: Global,
+fn push_exchange(
+    text: &mut Vec<u8>,
     transaction: &Transaction,
-    tickets: &[Amounts],
+    items: &[Item],
     amounts: &Amounts,
-) -> Result<Option<String>, NoRoom> {
+) -> Result<(), AllocError> {
     let (mut value, mut fares) = (0_i64, 0_i64);
-    for ticket in tickets {
-        value = value.saturating_add(gross(ticket));
-        fares = fares.saturating_add(ticket.fare.get());
+    for place in &transaction.related {
+        if let Some(ticket) = ticket_in(items, place) {
+            value = value.saturating_add(gross(ticket));
+            fares = fares.saturating_add(ticket.fare.get());
+        }
     }
     let given = amount_or_zero(transaction.exchange);
-    let of = "fare + taxes of the tickets are";
-    if let Some(text) = difference(alloc, "EX is", given, of, value)? {
-        return Ok(Some(text));
+    if given != value {
+        let other = b"fare + taxes of the tickets are";
+        return push_beside(text, &[b"EX is "], given, other, value);
     }
     let above = amounts.fare.get().saturating_sub(fares);
     let basis = if above < 0 { 0 } else { above };
-    commission_remark(alloc, amounts, "by rate and difference of the fares", basis)
+    push_commission(text, amounts, b"by rate and difference of the fares", basis)
 }
 
 /// Which amount does not agree with the tickets.
-pub(crate) fn tickets_remark(
+pub(crate) fn push_against_tickets(
     alloc: Global,
+    text: &mut Vec<u8>,
     known: &Known<'_>,
     transaction: &Transaction,
-) -> Result<Option<String>, NoRoom> {
+) -> Result<(), AllocError> {
     let Some(amounts) = &transaction.amounts else {
-        return Ok(None);
+        return Ok(());
     };
-    let tickets = tickets_of(alloc, known, transaction)?;
+    let tables = known.book.tables();
+    let items = tables.items_bearing(alloc, known.setup.agent, transaction)?;
     match transaction.code {
-        TransactionCode::Tktt => exchange_remark(alloc, transaction, &tickets, amounts),
-        TransactionCode::Rfnd => match tickets.first() {
-            Some(ticket) => refund_remark(alloc, ticket, amounts),
-            None => Ok(None),
+        TransactionCode::Tktt => push_exchange(text, transaction, &items, amounts),
+        TransactionCode::Rfnd => match ticket_in(&items, &transaction.related[0]) {
+            Some(ticket) => push_refund(text, ticket, amounts),
+            None => Ok(()),
         },
-        TransactionCode::Canx => Ok(None),
+        TransactionCode::Canx => Ok(()),
     }
 }

@@ -1,8 +1,10 @@
 //! The first key of a plan text that is missing, unknown or wrong: P02.
 
+use crate::lines::push_fields;
 use bsp_calendar::Currency;
 use bsp_fields::{AirlineCode, Day, PeriodCode};
-use std::alloc::{AllocError, Global};
+use itoa::Buffer;
+use std::alloc::AllocError;
 use toml::{Table, Value};
 
 /// The form of a value.
@@ -128,121 +130,153 @@ impl Form {
     }
 }
 
+/// What is wrong with a table.
+#[derive(Clone, Copy)]
+enum TableFault<'t> {
+    NoTable,
+    Unknown(&'t str),
+    Missing(Key),
+    Wrong(Key),
+}
+
 /// Whether a key is one of these.
 fn is_among(keys: &[Key], name: &str) -> bool {
     keys.iter().any(|key| key.name == name)
 }
 
 /// What is wrong with the value at a key, if anything is.
-fn key_fault(alloc: Global, table: &Table, key: Key) -> Result<Option<String>, AllocError> {
-    let (name, wanted) = (key.name, key.form.wanted());
-    match table.get(name) {
-        Some(value) if key.form.fits(value) => Ok(None),
-        Some(_) => Ok(Some(format!(in alloc; "{name} is wrong: it is {wanted}")?)),
-        None => Ok(Some(format!(in alloc; "{name} is missing: it is {wanted}")?)),
+fn key_fault(table: &Table, key: Key) -> Option<TableFault<'static>> {
+    match table.get(key.name) {
+        Some(value) if key.form.fits(value) => None,
+        Some(_) => Some(TableFault::Wrong(key)),
+        None => Some(TableFault::Missing(key)),
     }
 }
 
 /// What is wrong with the first of some keys that is not in its form.
-fn keys_fault(alloc: Global, table: &Table, keys: &[Key]) -> Result<Option<String>, AllocError> {
+fn keys_fault(table: &Table, keys: &[Key]) -> Option<TableFault<'static>> {
     for key in keys {
-        if let Some(text) = key_fault(alloc, table, *key)? {
-            return Ok(Some(text));
+        if let Some(fault) = key_fault(table, *key) {
+            return Some(fault);
         }
     }
-    Ok(None)
+    None
 }
 
 /// The first key of a table that is none of these.
-fn unknown_key(
-    alloc: Global,
-    table: &Table,
-    keys: &[Key],
-    lists: &[&str],
-) -> Result<Option<String>, AllocError> {
+fn unknown_key<'t>(table: &'t Table, keys: &[Key], lists: &[&str]) -> Option<&'t str> {
     for name in table.keys() {
         let name = name.as_str();
         if !is_among(keys, name) && !lists.iter().any(|list| *list == name) {
-            return Ok(Some(format!(in alloc; "{name} is unknown")?));
+            return Some(name);
         }
     }
-    Ok(None)
+    None
 }
 
-/// What is wrong with a table of a list.
-fn table_fault(alloc: Global, value: &Value, keys: &[Key]) -> Result<Option<String>, AllocError> {
-    let Some(table) = value.as_table() else {
-        return Ok(Some(format!(in alloc; "it is no table")?));
-    };
-    match unknown_key(alloc, table, keys, &[])? {
-        Some(text) => Ok(Some(text)),
-        None => keys_fault(alloc, table, keys),
+/// What is wrong with the keys of a table, the lists apart.
+fn table_fault<'t>(table: &'t Table, keys: &[Key], lists: &[&str]) -> Option<TableFault<'t>> {
+    match unknown_key(table, keys, lists) {
+        Some(name) => Some(TableFault::Unknown(name)),
+        None => keys_fault(table, keys),
     }
 }
 
-/// What is wrong with the first table of a list at a key that is at fault.
-fn list_fault(
-    alloc: Global,
+/// What is wrong with an item of a list.
+fn item_fault<'t>(value: &'t Value, keys: &[Key]) -> Option<TableFault<'t>> {
+    match value.as_table() {
+        Some(table) => table_fault(table, keys, &[]),
+        None => Some(TableFault::NoTable),
+    }
+}
+
+/// Appends what is wrong with a table.
+fn push_fault(out: &mut Vec<u8>, fault: TableFault<'_>) -> Result<(), AllocError> {
+    match fault {
+        TableFault::NoTable => out.extend_from_slice(b"it is no table"),
+        TableFault::Unknown(name) => push_fields(out, &[name.as_bytes(), b" is unknown"]),
+        TableFault::Missing(key) => {
+            let wanted = key.form.wanted().as_bytes();
+            push_fields(out, &[key.name.as_bytes(), b" is missing: it is ", wanted])
+        }
+        TableFault::Wrong(key) => {
+            let wanted = key.form.wanted().as_bytes();
+            push_fields(out, &[key.name.as_bytes(), b" is wrong: it is ", wanted])
+        }
+    }
+}
+
+/// Appends what is wrong with the first item of a list that is at fault.
+fn push_items(
+    out: &mut Vec<u8>,
+    name: &str,
+    list: &[Value],
+    keys: &[Key],
+) -> Result<(), AllocError> {
+    for (index, item) in list.iter().enumerate() {
+        if let Some(fault) = item_fault(item, keys) {
+            let mut number = Buffer::new();
+            let number = number.format(index as u64 + 1).as_bytes();
+            push_fields(out, &[name.as_bytes(), b" ", number, b": "])?;
+            return push_fault(out, fault);
+        }
+    }
+    Ok(())
+}
+
+/// Appends what is wrong with the list at a key, if it is there.
+fn push_list(
+    out: &mut Vec<u8>,
     document: &Table,
     name: &str,
     keys: &[Key],
-) -> Result<Option<String>, AllocError> {
+) -> Result<(), AllocError> {
     let Some(value) = document.get(name) else {
-        return Ok(None);
+        return Ok(());
     };
-    let Some(list) = value.as_array() else {
-        return Ok(Some(format!(in alloc;
-            "{name} is no list: above each of its tables is [[{name}]]"
-        )?));
-    };
-    for (index, item) in list.iter().enumerate() {
-        if let Some(text) = table_fault(alloc, item, keys)? {
-            let number = index as u64 + 1;
-            let text = text.as_str();
-            return Ok(Some(format!(in alloc; "{name} {number}: {text}")?));
+    match value.as_array() {
+        Some(list) => push_items(out, name, list, keys),
+        None => {
+            let name = name.as_bytes();
+            let middle = b" is no list: above each of its tables is [[";
+            push_fields(out, &[name, middle, name, b"]]"])
         }
     }
-    Ok(None)
 }
 
-/// What is wrong with the list of airlines.
-fn airlines_fault(alloc: Global, document: &Table) -> Result<Option<String>, AllocError> {
+/// Appends what is wrong with the list of airlines, if it is there.
+fn push_airlines(out: &mut Vec<u8>, document: &Table) -> Result<(), AllocError> {
     let Some(value) = document.get("airline") else {
-        return Ok(None);
+        return Ok(());
     };
     let Some(list) = value.as_array() else {
-        return Ok(Some(format!(in alloc; "airline is no list: it is [\"125\", \"220\"]")?));
+        return out.extend_from_slice(b"airline is no list: it is [\"125\", \"220\"]");
     };
     if list.iter().all(|item| Form::Airline.fits(item)) {
-        return Ok(None);
+        return Ok(());
     }
-    Ok(Some(format!(in alloc; "airline: each item is three digits in quotes")?))
+    out.extend_from_slice(b"airline: each item is three digits in quotes")
 }
 
-/// What is wrong with the first list at fault.
-fn lists_fault(alloc: Global, document: &Table) -> Result<Option<String>, AllocError> {
-    if let Some(text) = airlines_fault(alloc, document)? {
-        return Ok(Some(text));
+/// Appends what is wrong with the first list at fault.
+fn push_lists(out: &mut Vec<u8>, document: &Table) -> Result<(), AllocError> {
+    push_airlines(out, document)?;
+    if out.is_empty() {
+        push_list(out, document, "rate", &RATE)?;
     }
-    if let Some(text) = list_fault(alloc, document, "rate", &RATE)? {
-        return Ok(Some(text));
+    if out.is_empty() {
+        push_list(out, document, "period", &PERIOD)?;
     }
-    if let Some(text) = list_fault(alloc, document, "period", &PERIOD)? {
-        return Ok(Some(text));
+    if out.is_empty() {
+        push_list(out, document, "commission_tax", &TAX)?;
     }
-    list_fault(alloc, document, "commission_tax", &TAX)
+    Ok(())
 }
 
-/// What is wrong with the first key of a plan text that is missing, unknown or wrong.
-pub(crate) fn document_fault(
-    alloc: Global,
-    document: &Table,
-) -> Result<Option<String>, AllocError> {
-    if let Some(text) = unknown_key(alloc, document, &TERMS, &LISTS)? {
-        return Ok(Some(text));
+/// Appends what is wrong with the first key of a plan text that is missing, unknown or wrong.
+pub(crate) fn push_document_fault(out: &mut Vec<u8>, document: &Table) -> Result<(), AllocError> {
+    match table_fault(document, &TERMS, &LISTS) {
+        Some(fault) => push_fault(out, fault),
+        None => push_lists(out, document),
     }
-    if let Some(text) = keys_fault(alloc, document, &TERMS)? {
-        return Ok(Some(text));
-    }
-    lists_fault(alloc, document)
 }

@@ -1,8 +1,10 @@
 //! Why a plan text is refused: the line or the key at fault, or the two entries that disagree. The words are for people.
 
-use crate::plan_keys::document_fault;
+use crate::lines::push_fields;
+use crate::plan_keys::push_document_fault;
 use crate::plan_trial::{PlanRefused, publish_all};
 use bsp_calendar::{CommissionTax, Period, Plan, PlanFault, PlanText, Rate, Terms, read_plan};
+use itoa::Buffer;
 use std::alloc::{AllocError, Global};
 
 /// The number of the line of a text in which a place is.
@@ -13,152 +15,150 @@ fn line_at(text: &[u8], place: usize) -> usize {
 }
 
 /// Why the bytes are no TOML text.
-fn toml_reason(alloc: Global, text: &[u8]) -> Result<Option<String>, AllocError> {
-    match toml::table_from_slice(alloc, text) {
-        Ok(_) => Ok(None),
-        Err(error) => {
-            if error.is_memory() {
-                return Err(AllocError);
-            }
-            let said = error.message();
-            match error.span() {
-                Some(span) => {
-                    let line = line_at(text, span.start);
-                    Ok(Some(format!(in alloc; "line {line}: {said}")?))
-                }
-                None => Ok(Some(format!(in alloc; "{said}")?)),
-            }
-        }
+fn push_toml_fault(alloc: Global, out: &mut Vec<u8>, text: &[u8]) -> Result<(), AllocError> {
+    let Err(error) = toml::table_from_slice(alloc, text) else {
+        return Ok(());
+    };
+    if error.is_memory() {
+        return Err(AllocError);
     }
+    if let Some(span) = error.span() {
+        let mut line = Buffer::new();
+        let line = line.format(line_at(text, span.start)).as_bytes();
+        push_fields(out, &[b"line ", line, b": "])?;
+    }
+    out.extend_from_slice(error.message().as_bytes())
 }
 
 /// The first rate of an airline that neither the plan nor the text has.
-fn airline_reason(
-    alloc: Global,
-    plan: &Plan,
-    read: &PlanText,
-) -> Result<Option<String>, AllocError> {
+fn push_unknown_airline(out: &mut Vec<u8>, plan: &Plan, read: &PlanText) -> Result<(), AllocError> {
     for rate in &read.rates {
         let airline = rate.airline;
         if !plan.has_airline(airline) && !read.airlines.iter().any(|it| *it == airline) {
-            return Ok(Some(format!(in alloc;
-                "a rate is of {airline}, which is in neither the text nor the plan"
-            )?));
+            let end = b", which is in neither the text nor the plan";
+            return push_fields(out, &[b"a rate is of ", &airline.digits(), end]);
         }
     }
-    Ok(None)
+    Ok(())
 }
 
 /// Which key of a TOML text is at fault, or the airline of a rate.
-fn key_reason(alloc: Global, plan: &Plan, text: &[u8]) -> Result<Option<String>, AllocError> {
+fn push_key(alloc: Global, out: &mut Vec<u8>, plan: &Plan, text: &[u8]) -> Result<(), AllocError> {
     match read_plan(alloc, text) {
-        Ok(read) => return airline_reason(alloc, plan, &read),
+        Ok(read) => return push_unknown_airline(out, plan, &read),
         Err(PlanFault::NoMemory) => return Err(AllocError),
         Err(_) => {}
     }
     match toml::table_from_slice(alloc, text) {
-        Ok(document) => document_fault(alloc, &document),
-        Err(error) => {
-            if error.is_memory() {
-                return Err(AllocError);
-            }
-            Ok(None)
-        }
+        Ok(document) => push_document_fault(out, &document),
+        Err(error) if error.is_memory() => Err(AllocError),
+        Err(_) => Ok(()),
     }
 }
 
 /// Terms that differ from those that are published.
-fn terms_reason(
-    alloc: Global,
-    published: Option<Terms>,
-    terms: Terms,
-) -> Result<Option<String>, AllocError> {
-    match published {
-        Some(old) if old != terms => {
-            let what = if old.currency != terms.currency {
-                "currency"
-            } else if old.review_days != terms.review_days {
-                "review_days"
-            } else {
-                "documents_limit"
-            };
-            Ok(Some(format!(in alloc; "{what} differs from what is published")?))
-        }
-        _ => Ok(None),
-    }
+fn push_terms(out: &mut Vec<u8>, published: Option<Terms>, terms: Terms) -> Result<(), AllocError> {
+    let Some(old) = published else {
+        return Ok(());
+    };
+    let what = if old.currency != terms.currency {
+        "currency"
+    } else if old.review_days != terms.review_days {
+        "review_days"
+    } else if old.documents_limit != terms.documents_limit {
+        "documents_limit"
+    } else {
+        return Ok(());
+    };
+    push_fields(out, &[what.as_bytes(), b" differs from what is published"])
+}
+
+/// The first of some rates with the key of this one that differs from it.
+fn other_rate<'k>(known: &'k [Rate], rate: &Rate) -> Option<&'k Rate> {
+    known.iter().find(|it| {
+        it.airline == rate.airline && it.from == rate.from && it.hundredths != rate.hundredths
+    })
 }
 
 /// The first rate that differs from one of these with its key.
-fn rate_reason(alloc: Global, known: &[Rate], more: &[Rate]) -> Result<Option<String>, AllocError> {
+fn push_rates(out: &mut Vec<u8>, known: &[Rate], more: &[Rate]) -> Result<(), AllocError> {
     for rate in more {
-        for other in known {
-            let (airline, from) = (rate.airline, rate.from);
-            if other.airline == airline
-                && other.from == from
-                && other.hundredths != rate.hundredths
-            {
-                let (here, there) = (rate.hundredths, other.hundredths);
-                return Ok(Some(format!(in alloc;
-                    "the rate of {airline} from {from} is {here} here and {there} before"
-                )?));
-            }
+        if let Some(other) = other_rate(known, rate) {
+            let (mut here, mut there) = (Buffer::new(), Buffer::new());
+            let fields: [&[u8]; 9] = [
+                b"the rate of ",
+                &rate.airline.digits(),
+                b" from ",
+                &rate.from.write_text(),
+                b" is ",
+                here.format(rate.hundredths).as_bytes(),
+                b" here and ",
+                there.format(other.hundredths).as_bytes(),
+                b" before",
+            ];
+            return push_fields(out, &fields);
         }
     }
-    Ok(None)
+    Ok(())
+}
+
+/// The first of some periods with the code of this one that differs from it.
+fn other_period<'k>(known: &'k [Period], period: &Period) -> Option<&'k Period> {
+    known
+        .iter()
+        .find(|it| it.code == period.code && *it != period)
 }
 
 /// The first period that differs from one of these with its code.
-fn period_reason(
-    alloc: Global,
-    known: &[Period],
-    more: &[Period],
-) -> Result<Option<String>, AllocError> {
+fn push_periods(out: &mut Vec<u8>, known: &[Period], more: &[Period]) -> Result<(), AllocError> {
     for period in more {
-        for other in known {
-            if other.code == period.code && other != period {
-                let (code, first, last) = (period.code, period.first, period.last);
-                let (old_first, old_last) = (other.first, other.last);
-                return Ok(Some(format!(in alloc;
-                    "period {code} is {first} to {last} here and {old_first} to {old_last} before"
-                )?));
-            }
+        if let Some(other) = other_period(known, period) {
+            let fields: [&[u8]; 11] = [
+                b"period ",
+                &period.code.digits(),
+                b" is ",
+                &period.first.write_text(),
+                b" to ",
+                &period.last.write_text(),
+                b" here and ",
+                &other.first.write_text(),
+                b" to ",
+                &other.last.write_text(),
+                b" before",
+            ];
+            return push_fields(out, &fields);
         }
     }
-    Ok(None)
+    Ok(())
+}
+
+/// The first of some taxes of the day of this one that differs from it.
+fn other_tax<'k>(known: &'k [CommissionTax], tax: &CommissionTax) -> Option<&'k CommissionTax> {
+    known.iter().find(|it| it.from == tax.from && it.hundredths != tax.hundredths)
 }
 
 /// The first tax that differs from one of these with its day.
-fn tax_reason(
-    alloc: Global,
+fn push_taxes(
+    out: &mut Vec<u8>,
     known: &[CommissionTax],
     more: &[CommissionTax],
-) -> Result<Option<String>, AllocError> {
+) -> Result<(), AllocError> {
     for tax in more {
-        for other in known {
-            if other.from == tax.from && other.hundredths != tax.hundredths {
-                let (from, here, there) = (tax.from, tax.hundredths, other.hundredths);
-                return Ok(Some(format!(in alloc;
-                    "the commission_tax from {from} is {here} here and {there} before"
-                )?));
-            }
+        if let Some(other) = other_tax(known, tax) {
+            let (mut here, mut there) = (Buffer::new(), Buffer::new());
+            let fields: [&[u8]; 7] = [
+                b"the commission_tax from ",
+                &tax.from.write_text(),
+                b" is ",
+                here.format(tax.hundredths).as_bytes(),
+                b" here and ",
+                there.format(other.hundredths).as_bytes(),
+                b" before",
+            ];
+            return push_fields(out, &fields);
         }
     }
-    Ok(None)
-}
-
-/// The first two entries of these lists that have one key and differ.
-fn entries_reason(
-    alloc: Global,
-    known: &PlanLists<'_>,
-    read: &PlanText,
-) -> Result<Option<String>, AllocError> {
-    if let Some(text) = rate_reason(alloc, known.rates, &read.rates)? {
-        return Ok(Some(text));
-    }
-    if let Some(text) = period_reason(alloc, known.periods, &read.periods)? {
-        return Ok(Some(text));
-    }
-    tax_reason(alloc, known.commission_taxes, &read.commission_taxes)
+    Ok(())
 }
 
 /// Lists of entries that are known.
@@ -169,114 +169,190 @@ struct PlanLists<'p> {
     commission_taxes: &'p [CommissionTax],
 }
 
-/// Which entry differs from a published one, or from another of the text.
-fn difference_reason(
-    alloc: Global,
-    plan: &Plan,
+/// The first two entries of these lists that have one key and differ, where nothing was said before.
+fn push_entries(
+    out: &mut Vec<u8>,
+    known: &PlanLists<'_>,
     read: &PlanText,
-) -> Result<Option<String>, AllocError> {
-    if let Some(text) = terms_reason(alloc, plan.terms(), read.terms)? {
-        return Ok(Some(text));
+) -> Result<(), AllocError> {
+    if out.is_empty() {
+        push_rates(out, known.rates, &read.rates)?;
     }
+    if out.is_empty() {
+        push_periods(out, known.periods, &read.periods)?;
+    }
+    if out.is_empty() {
+        push_taxes(out, known.commission_taxes, &read.commission_taxes)?;
+    }
+    Ok(())
+}
+
+/// Which entry differs from a published one, or from another of the text.
+fn push_difference(out: &mut Vec<u8>, plan: &Plan, read: &PlanText) -> Result<(), AllocError> {
+    push_terms(out, plan.terms(), read.terms)?;
     let published = PlanLists {
         rates: plan.rates(),
         periods: plan.periods(),
         commission_taxes: plan.commission_taxes(),
     };
-    if let Some(text) = entries_reason(alloc, &published, read)? {
-        return Ok(Some(text));
-    }
+    push_entries(out, &published, read)?;
     let own = PlanLists {
         rates: &read.rates,
         periods: &read.periods,
         commission_taxes: &read.commission_taxes,
     };
-    entries_reason(alloc, &own, read)
+    push_entries(out, &own, read)
 }
 
-/// What is wrong with the days of a period behind one.
-fn days_reason(
-    alloc: Global,
-    before: Option<Period>,
-    period: &Period,
-) -> Result<Option<String>, AllocError> {
-    let (code, first, last, remit) = (period.code, period.first, period.last, period.remittance);
+/// What is wrong with the days of a period.
+fn push_own_days(out: &mut Vec<u8>, period: &Period) -> Result<(), AllocError> {
+    let (first, last) = (period.first, period.last);
+    let code = period.code.digits();
     if first.number() > last.number() {
-        return Ok(Some(format!(in alloc; "period {code} is from {first} to {last}")?));
+        let (first, last) = (first.write_text(), last.write_text());
+        return push_fields(
+            out,
+            &[b"period ", &code, b" is from ", &first, b" to ", &last],
+        );
     }
-    if last.number() >= remit.number() {
-        return Ok(Some(format!(in alloc; "period {code} ends {last}, and its remit is {remit}")?));
+    let remit = period.remittance;
+    if last.number() < remit.number() {
+        return Ok(());
     }
-    match before {
-        Some(before) if before.last.number() + 1 != first.number() => {
-            let (other, end) = (before.code, before.last);
-            Ok(Some(format!(in alloc;
-                "period {code} begins {first}, and period {other} before it ends {end}"
-            )?))
-        }
-        _ => Ok(None),
+    let fields: [&[u8]; 6] = [
+        b"period ",
+        &code,
+        b" ends ",
+        &last.write_text(),
+        b", and its remit is ",
+        &remit.write_text(),
+    ];
+    push_fields(out, &fields)
+}
+
+/// A period that does not begin on the day after the one before it.
+fn push_gap(out: &mut Vec<u8>, before: Option<Period>, period: &Period) -> Result<(), AllocError> {
+    let Some(before) = before else {
+        return Ok(());
+    };
+    if before.last.number() + 1 == period.first.number() {
+        return Ok(());
     }
+    let fields: [&[u8]; 8] = [
+        b"period ",
+        &period.code.digits(),
+        b" begins ",
+        &period.first.write_text(),
+        b", and period ",
+        &before.code.digits(),
+        b" before it ends ",
+        &before.last.write_text(),
+    ];
+    push_fields(out, &fields)
 }
 
 /// Which period does not follow the one before it.
-fn order_reason(alloc: Global, plan: &Plan, read: &PlanText) -> Result<Option<String>, AllocError> {
+fn push_order(out: &mut Vec<u8>, plan: &Plan, read: &PlanText) -> Result<(), AllocError> {
     let mut before = plan.periods().last().copied();
     for period in &read.periods {
-        if plan.period(period.code).is_some() {
-            continue;
+        if out.is_empty() && plan.period(period.code).is_none() {
+            push_own_days(out, period)?;
+            if out.is_empty() {
+                push_gap(out, before, period)?;
+            }
+            before = Some(*period);
         }
-        if let Some(text) = days_reason(alloc, before, period)? {
-            return Ok(Some(text));
-        }
-        before = Some(*period);
     }
-    Ok(None)
+    Ok(())
+}
+
+/// Which new rate begins too early.
+fn push_late_rate(out: &mut Vec<u8>, plan: &Plan, rates: &[Rate]) -> Result<(), AllocError> {
+    let day = plan.day();
+    for rate in rates {
+        if rate.from.number() <= day.number() {
+            let fields: [&[u8]; 6] = [
+                b"a rate of ",
+                &rate.airline.digits(),
+                b" begins ",
+                &rate.from.write_text(),
+                b", and the business day is ",
+                &day.write_text(),
+            ];
+            return push_fields(out, &fields);
+        }
+    }
+    Ok(())
+}
+
+/// Which new tax begins too early.
+fn push_late_tax(
+    out: &mut Vec<u8>,
+    plan: &Plan,
+    taxes: &[CommissionTax],
+) -> Result<(), AllocError> {
+    let day = plan.day();
+    for tax in taxes {
+        if tax.from.number() <= day.number() {
+            let fields: [&[u8]; 4] = [
+                b"a commission_tax begins ",
+                &tax.from.write_text(),
+                b", and the business day is ",
+                &day.write_text(),
+            ];
+            return push_fields(out, &fields);
+        }
+    }
+    Ok(())
 }
 
 /// Which new rate or tax begins too early.
-fn late_reason(alloc: Global, plan: &Plan, read: &PlanText) -> Result<Option<String>, AllocError> {
-    let day = plan.day();
-    for rate in &read.rates {
-        if rate.from.number() <= day.number() {
-            let (airline, from) = (rate.airline, rate.from);
-            return Ok(Some(format!(in alloc;
-                "a rate of {airline} begins {from}, and the business day is {day}"
-            )?));
-        }
+fn push_late(out: &mut Vec<u8>, plan: &Plan, read: &PlanText) -> Result<(), AllocError> {
+    push_late_rate(out, plan, &read.rates)?;
+    if out.is_empty() {
+        push_late_tax(out, plan, &read.commission_taxes)?;
     }
-    for tax in &read.commission_taxes {
-        if tax.from.number() <= day.number() {
-            let from = tax.from;
-            return Ok(Some(format!(in alloc;
-                "a commission_tax begins {from}, and the business day is {day}"
-            )?));
-        }
-    }
-    Ok(None)
+    Ok(())
 }
 
 /// Which entries of a text disagree.
-fn disagreement(
+fn push_disagreement(
     alloc: Global,
+    out: &mut Vec<u8>,
     plan: &Plan,
     text: &[u8],
     fault: PlanFault,
-) -> Result<Option<String>, AllocError> {
+) -> Result<(), AllocError> {
     let read = match read_plan(alloc, text) {
         Ok(read) => read,
         Err(PlanFault::NoMemory) => return Err(AllocError),
-        Err(_) => return Ok(None),
+        Err(_) => return Ok(()),
     };
     match fault {
-        PlanFault::Differs => difference_reason(alloc, plan, &read),
-        PlanFault::OutOfOrder => order_reason(alloc, plan, &read),
-        PlanFault::LateRate => late_reason(alloc, plan, &read),
-        _ => Ok(None),
+        PlanFault::Differs => push_difference(out, plan, &read),
+        PlanFault::OutOfOrder => push_order(out, plan, &read),
+        PlanFault::LateRate => push_late(out, plan, &read),
+        _ => Ok(()),
+    }
+}
+
+/// Appends why a text is refused over a plan, as far as it is known.
+fn push_reason(
+    alloc: Global,
+    out: &mut Vec<u8>,
+    plan: &Plan,
+    text: &[u8],
+    fault: PlanFault,
+) -> Result<(), AllocError> {
+    match fault {
+        PlanFault::NotToml => push_toml_fault(alloc, out, text),
+        PlanFault::WrongKey => push_key(alloc, out, plan, text),
+        fault => push_disagreement(alloc, out, plan, text, fault),
     }
 }
 
 /// Why one of some plan texts is refused, of which the last comes after those published before: the line or the key at
-/// fault, or the two entries that disagree. None where nothing more is known of the fault. The words are for people.
+/// fault, or the two entries that disagree. It is empty where nothing more is known of the fault. The words are for people.
 ///
 /// # Errors
 ///
@@ -286,7 +362,7 @@ pub fn refusal_reason(
     published: &[Vec<u8>],
     text: &[u8],
     refused: PlanRefused,
-) -> Result<Option<String>, AllocError> {
+) -> Result<Vec<u8>, AllocError> {
     let before = &published[..refused.place.min(published.len())];
     // Those before it are published, so only memory can be short.
     let Ok(plan) = publish_all(alloc, before) else {
@@ -296,9 +372,7 @@ pub fn refusal_reason(
         Some(earlier) => earlier.as_slice(),
         None => text,
     };
-    match refused.fault {
-        PlanFault::NotToml => toml_reason(alloc, text),
-        PlanFault::WrongKey => key_reason(alloc, &plan, text),
-        fault => disagreement(alloc, &plan, text, fault),
-    }
+    let mut out = Vec::new(alloc);
+    push_reason(alloc, &mut out, &plan, text, refused.fault)?;
+    Ok(out)
 }

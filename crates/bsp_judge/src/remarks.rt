@@ -1,13 +1,15 @@
 //! What is said beside the verdict of a transaction that is refused. The words are for people.
 
-use crate::amount_remarks::{amounts_remark, tickets_remark};
+use crate::amount_remarks::{push_against_tickets, push_amounts};
+use crate::lines::push_fields;
 use crate::setup::Setup;
 use bsp_desk::ListBook;
-use bsp_fields::{DocNumber, NoRoom, write_digits};
+use bsp_fields::{DocNumber, write_digits};
 use bsp_ret::{RetFile, transaction};
 use bsp_ret_records::{ReportedDocument, Transaction, TransactionCode};
 use bsp_rules::{Refusal, Verdict};
-use std::alloc::Global;
+use itoa::Buffer;
+use std::alloc::{AllocError, Global};
 
 /// What a file is judged over, and the book that its desk leaves.
 #[derive(Clone, Copy)]
@@ -16,184 +18,213 @@ pub(crate) struct Known<'k> {
     pub(crate) book: &'k ListBook,
 }
 
-/// The digits of a text of digits.
-fn shown(digits: &[u8]) -> &str {
-    match str::from_utf8(digits) {
-        Ok(text) => text,
-        Err(_) => "",
+/// The number of a document whose check digit is wrong.
+fn wrong_digit(document: &ReportedDocument) -> Option<DocNumber> {
+    let number = DocNumber::read_unchecked(&document.number).ok()?;
+    if number.check_digit() == document.check_digit {
+        None
+    } else {
+        Some(number)
     }
 }
 
-/// Which check digit is wrong.
-fn digit_remark(alloc: Global, document: &ReportedDocument) -> Result<Option<String>, NoRoom> {
-    let Ok(number) = DocNumber::read_unchecked(&document.number) else {
-        return Ok(None);
-    };
-    let right = number.check_digit();
-    if right == document.check_digit {
-        return Ok(None);
-    }
-    Ok(Some(format!(in alloc; "the check digit of {number} is {right}")?))
-}
-
-/// Which of the documents of a transaction has a wrong check digit.
-fn digits_remark(alloc: Global, transaction: &Transaction) -> Result<Option<String>, NoRoom> {
-    if let Some(text) = digit_remark(alloc, &transaction.document)? {
-        return Ok(Some(text));
+/// The first number of a transaction whose check digit is wrong.
+fn first_wrong_digit(transaction: &Transaction) -> Option<DocNumber> {
+    if let Some(number) = wrong_digit(&transaction.document) {
+        return Some(number);
     }
     for document in &transaction.related {
         if let Some(document) = document {
-            if let Some(text) = digit_remark(alloc, document)? {
-                return Ok(Some(text));
+            if let Some(number) = wrong_digit(document) {
+                return Some(number);
             }
         }
     }
-    Ok(None)
+    None
+}
+
+/// Which check digit is wrong.
+fn push_digit(text: &mut Vec<u8>, transaction: &Transaction) -> Result<(), AllocError> {
+    let Some(number) = first_wrong_digit(transaction) else {
+        return Ok(());
+    };
+    let mut right = Buffer::new();
+    let right = right.format(number.check_digit()).as_bytes();
+    push_fields(
+        text,
+        &[b"the check digit of ", &number.digits(), b" is ", right],
+    )
 }
 
 /// Whose transaction it is, and who reports it.
-fn agent_remark(
-    alloc: Global,
+fn push_agents(
+    text: &mut Vec<u8>,
     transaction: &Transaction,
     setup: &Setup<'_>,
-) -> Result<String, NoRoom> {
-    let (agent, reporter) = (shown(&transaction.agent), setup.agent);
-    Ok(format!(in alloc; "record 2 has the agent {agent}, and {reporter} reports")?)
+) -> Result<(), AllocError> {
+    let fields: [&[u8]; 5] = [
+        b"record 2 has the agent ",
+        &transaction.agent,
+        b", and ",
+        &setup.agent.digits(),
+        b" reports",
+    ];
+    push_fields(text, &fields)
 }
 
 /// The day of issue beside the business day.
-fn day_remark(
-    alloc: Global,
+fn push_days(
+    text: &mut Vec<u8>,
     transaction: &Transaction,
     setup: &Setup<'_>,
-) -> Result<String, NoRoom> {
-    let (issued, day) = (transaction.issued, setup.day);
-    Ok(format!(in alloc; "it is issued {issued}, after the business day {day}")?)
+) -> Result<(), AllocError> {
+    let fields: [&[u8]; 4] = [
+        b"it is issued ",
+        &transaction.issued.write_text(),
+        b", after the business day ",
+        &setup.day.write_text(),
+    ];
+    push_fields(text, &fields)
 }
 
 /// The number beside the agent's range.
-fn stock_remark(
-    alloc: Global,
+fn push_range(
+    text: &mut Vec<u8>,
     transaction: &Transaction,
     setup: &Setup<'_>,
-) -> Result<String, NoRoom> {
-    let number = shown(&transaction.document.number);
-    let (first, last) = (setup.first, setup.last);
-    Ok(format!(in alloc; "{number} is not in the range {first}-{last}")?)
+) -> Result<(), AllocError> {
+    let fields: [&[u8]; 5] = [
+        &transaction.document.number,
+        b" is not in the range ",
+        &setup.first.digits(),
+        b"-",
+        &setup.last.digits(),
+    ];
+    push_fields(text, &fields)
 }
 
 /// What became of the number.
-fn number_remark(alloc: Global, transaction: &Transaction) -> Result<String, NoRoom> {
-    let number = shown(&transaction.document.number);
-    if transaction.code == TransactionCode::Canx {
-        Ok(format!(in alloc; "{number} was cancelled before")?)
-    } else {
-        Ok(format!(in alloc; "{number} was accepted before, with other content")?)
-    }
+fn push_number(text: &mut Vec<u8>, transaction: &Transaction) -> Result<(), AllocError> {
+    let became: &[u8] = match transaction.code {
+        TransactionCode::Canx => b" was cancelled before",
+        TransactionCode::Tktt | TransactionCode::Rfnd => {
+            b" was accepted before, with other content"
+        }
+    };
+    push_fields(text, &[&transaction.document.number, became])
 }
 
 /// Which ticket was not reported.
-fn ticket_remark(alloc: Global, transaction: &Transaction) -> Result<String, NoRoom> {
-    let own = shown(&transaction.document.number);
+fn push_missing(text: &mut Vec<u8>, transaction: &Transaction) -> Result<(), AllocError> {
     match &transaction.related {
         [Some(first), Some(second)] => {
-            let (first, second) = (shown(&first.number), shown(&second.number));
-            Ok(format!(in alloc;
-                "{first} or {second} is no ticket of its airline that was reported before"
-            )?)
+            let end = b" is no ticket of its airline that was reported before";
+            push_fields(text, &[&first.number, b" or ", &second.number, end])
         }
         [Some(first), None] => {
-            let (first, airline) = (shown(&first.number), first.airline);
-            Ok(format!(in alloc; "no ticket {first} of {airline} was reported before")?)
+            let fields: [&[u8]; 5] = [
+                b"no ticket ",
+                &first.number,
+                b" of ",
+                &first.airline.digits(),
+                b" was reported before",
+            ];
+            push_fields(text, &fields)
         }
-        _ => Ok(format!(in alloc; "{own} was accepted for another airline")?),
+        _ => {
+            let end = b" was accepted for another airline";
+            push_fields(text, &[&transaction.document.number, end])
+        }
     }
 }
 
 /// Which ticket has ended.
-fn ended_remark(alloc: Global, transaction: &Transaction) -> Result<String, NoRoom> {
-    let own = shown(&transaction.document.number);
+fn push_ended(text: &mut Vec<u8>, transaction: &Transaction) -> Result<(), AllocError> {
+    let end = b" is cancelled, or was refunded or exchanged";
     match &transaction.related {
         [Some(first), Some(second)] => {
-            let (first, second) = (shown(&first.number), shown(&second.number));
-            Ok(format!(in alloc; "{first} or {second} is cancelled, or was refunded or exchanged")?)
+            push_fields(text, &[&first.number, b" or ", &second.number, end])
         }
-        [Some(first), None] => {
-            let first = shown(&first.number);
-            Ok(format!(in alloc; "{first} is cancelled, or was refunded or exchanged")?)
+        [Some(first), None] => push_fields(text, &[&first.number, end]),
+        _ => {
+            let end = b" was refunded or exchanged";
+            push_fields(text, &[&transaction.document.number, end])
         }
-        _ => Ok(format!(in alloc; "{own} was refunded or exchanged")?),
     }
 }
 
 /// The day of issue beside the last day of the plan's periods.
-fn period_remark(
-    alloc: Global,
+fn push_last_day(
+    text: &mut Vec<u8>,
     transaction: &Transaction,
     book: &ListBook,
-) -> Result<String, NoRoom> {
-    let issued = transaction.issued;
-    match book.tables().plan().periods().last() {
-        Some(period) => {
-            let last = period.last;
-            Ok(format!(in alloc; "it is issued {issued}, and the last period ends {last}")?)
-        }
-        None => Ok(format!(in alloc; "the plan has no period")?),
-    }
+) -> Result<(), AllocError> {
+    let Some(period) = book.tables().plan().periods().last() else {
+        return text.extend_from_slice(b"the plan has no period");
+    };
+    let fields: [&[u8]; 4] = [
+        b"it is issued ",
+        &transaction.issued.write_text(),
+        b", and the last period ends ",
+        &period.last.write_text(),
+    ];
+    push_fields(text, &fields)
 }
 
-/// What is known of a refusal, beside its code.
-fn remark(
+/// An airline that is not in the plan.
+fn push_airline(text: &mut Vec<u8>, transaction: &Transaction) -> Result<(), AllocError> {
+    let airline = transaction.document.airline.digits();
+    push_fields(text, &[b"the airline ", &airline, b" is not in the plan"])
+}
+
+/// Appends what is known of a refusal, beside its code, if anything is.
+fn push_known(
     alloc: Global,
+    text: &mut Vec<u8>,
     known: &Known<'_>,
     transaction: &Transaction,
     refusal: Refusal,
-) -> Result<Option<String>, NoRoom> {
+) -> Result<(), AllocError> {
     let (setup, book) = (known.setup, known.book);
-    let text = match refusal {
-        Refusal::WrongCheckDigit => return digits_remark(alloc, transaction),
-        Refusal::WrongAmounts => return amounts_remark(alloc, book, transaction),
-        Refusal::WrongAgainstTicket => return tickets_remark(alloc, known, transaction),
-        Refusal::LimitReached => return Ok(None),
-        Refusal::UnknownAirline => {
-            let airline = transaction.document.airline;
-            format!(in alloc; "the airline {airline} is not in the plan")?
-        }
-        Refusal::WrongAgent => agent_remark(alloc, transaction, setup)?,
-        Refusal::NotYetIssued => day_remark(alloc, transaction, setup)?,
-        Refusal::NotInStock => stock_remark(alloc, transaction, setup)?,
-        Refusal::NumberUsed => number_remark(alloc, transaction)?,
-        Refusal::NoTicket => ticket_remark(alloc, transaction)?,
-        Refusal::TicketEnded => ended_remark(alloc, transaction)?,
-        Refusal::NoPeriod => period_remark(alloc, transaction, book)?,
-    };
-    Ok(Some(text))
+    match refusal {
+        Refusal::UnknownAirline => push_airline(text, transaction),
+        Refusal::WrongAgent => push_agents(text, transaction, setup),
+        Refusal::WrongCheckDigit => push_digit(text, transaction),
+        Refusal::NotYetIssued => push_days(text, transaction, setup),
+        Refusal::NotInStock => push_range(text, transaction, setup),
+        Refusal::NumberUsed => push_number(text, transaction),
+        Refusal::WrongAmounts => push_amounts(text, book, transaction),
+        Refusal::NoTicket => push_missing(text, transaction),
+        Refusal::TicketEnded => push_ended(text, transaction),
+        Refusal::NoPeriod => push_last_day(text, transaction, book),
+        Refusal::LimitReached => Ok(()),
+        Refusal::WrongAgainstTicket => push_against_tickets(alloc, text, known, transaction),
+    }
 }
 
-/// Appends the line of a refusal.
+/// Appends a refusal as it is displayed.
+fn push_refusal(alloc: Global, text: &mut Vec<u8>, refusal: Refusal) -> Result<(), AllocError> {
+    let shown = format!(in alloc; "{refusal}")?;
+    text.extend_from_slice(shown.as_bytes())
+}
+
+/// Appends the line of a refusal, of which this is known.
 fn push_remark(
     alloc: Global,
     text: &mut Vec<u8>,
     number: u64,
     refusal: Refusal,
-    said: Option<String>,
-) -> Result<(), NoRoom> {
+    known: &[u8],
+) -> Result<(), AllocError> {
     let number: [u8; 6] = write_digits(number);
-    text.extend_from_slice(&number)?;
-    text.extend_from_slice(b" ")?;
-    match said {
-        Some(said) => {
-            text.extend_from_slice(refusal.code().as_bytes())?;
-            text.extend_from_slice(b": ")?;
-            text.extend_from_slice(said.as_bytes())?;
-        }
-        None => {
-            let said = format!(in alloc; "{refusal}")?;
-            text.extend_from_slice(said.as_bytes())?;
-        }
+    push_fields(text, &[&number, b" "])?;
+    if known.is_empty() {
+        push_refusal(alloc, text, refusal)?;
+    } else {
+        push_fields(text, &[refusal.code().as_bytes(), b": "])?;
+        text.extend_from_slice(known)?;
     }
-    text.extend_from_slice(b"\n")?;
-    Ok(())
+    text.extend_from_slice(b"\n")
 }
 
 /// A line for each transaction of a file that is refused.
@@ -202,13 +233,14 @@ pub(crate) fn remarks_on(
     known: &Known<'_>,
     file: &RetFile<'_>,
     verdicts: &[Verdict],
-) -> Result<Vec<u8>, NoRoom> {
-    let mut text = Vec::new(alloc);
+) -> Result<Vec<u8>, AllocError> {
+    let (mut text, mut remark) = (Vec::new(alloc), Vec::new(alloc));
     for (index, verdict) in verdicts.iter().enumerate() {
         if let Verdict::Refused(refusal) = verdict {
             if let Some(found) = transaction(file, index) {
-                let said = remark(alloc, known, &found, *refusal)?;
-                push_remark(alloc, &mut text, index as u64 + 1, *refusal, said)?;
+                remark.clear();
+                push_known(alloc, &mut remark, known, &found, *refusal)?;
+                push_remark(alloc, &mut text, index as u64 + 1, *refusal, &remark)?;
             }
         }
     }

@@ -1,6 +1,6 @@
 //! The command `plan`: what a plan text publishes, or why it is refused.
 
-use crate::remarks::say_reason;
+use crate::remarks::say_known;
 use crate::whole_files::{all_bytes, bytes_of, printed, short_of_memory};
 use bsp_check::{DONE, REFUSED};
 use bsp_judge::{PlanRefused, refusal_reason, try_plan};
@@ -20,8 +20,7 @@ fn report_refused(
         return short_of_memory(rt);
     };
     match refusal_reason(rt.alloc(), published, text, refused) {
-        Ok(Some(reason)) => say_reason(rt, file, reason.as_str()),
-        Ok(None) => {}
+        Ok(reason) => say_known(rt, file, &reason),
         Err(_) => return short_of_memory(rt),
     }
     printed(rt, line.as_bytes(), REFUSED)

@@ -49,6 +49,15 @@ pub(crate) fn say_reason(rt: &HostRuntime, place: &str, reason: &str) {
     say(rt, named(place), &reason);
 }
 
+/// Says what is wrong with a FILE, if anything is known of it.
+pub(crate) fn say_known(rt: &HostRuntime, file: &str, reason: &[u8]) {
+    if let Ok(text) = str::from_utf8(reason) {
+        if !text.is_empty() {
+            say_reason(rt, file, text);
+        }
+    }
+}
+
 /// Says some lines.
 pub(crate) fn say_lines(rt: &HostRuntime, lines: &[u8]) {
     if let Ok(text) = str::from_utf8(lines) {
