@@ -351,6 +351,26 @@ fn push_reason(
     }
 }
 
+/// Appends why one of some plan texts is refused, as far as it is known.
+fn push_refusal(
+    alloc: Global,
+    out: &mut Vec<u8>,
+    published: &[Vec<u8>],
+    text: &[u8],
+    refused: PlanRefused,
+) -> Result<(), AllocError> {
+    let before = &published[..refused.place.min(published.len())];
+    // Those before it are published, so only memory can be short.
+    let Ok(plan) = publish_all(alloc, before) else {
+        return Err(AllocError);
+    };
+    let text = match published.get(refused.place) {
+        Some(earlier) => earlier.as_slice(),
+        None => text,
+    };
+    push_reason(alloc, out, &plan, text, refused.fault)
+}
+
 /// Why one of some plan texts is refused, of which the last comes after those published before: the line or the key at
 /// fault, or the two entries that disagree. It is empty where nothing more is known of the fault. The words are for people.
 ///
@@ -363,16 +383,7 @@ pub fn refusal_reason(
     text: &[u8],
     refused: PlanRefused,
 ) -> Result<Vec<u8>, AllocError> {
-    let before = &published[..refused.place.min(published.len())];
-    // Those before it are published, so only memory can be short.
-    let Ok(plan) = publish_all(alloc, before) else {
-        return Err(AllocError);
-    };
-    let text = match published.get(refused.place) {
-        Some(earlier) => earlier.as_slice(),
-        None => text,
-    };
     let mut out = Vec::new(alloc);
-    push_reason(alloc, &mut out, &plan, text, refused.fault)?;
+    push_refusal(alloc, &mut out, published, text, refused)?;
     Ok(out)
 }
