@@ -140,28 +140,36 @@ pub fn explain_hot(text: &[u8], fault: RecordFault) -> Explanation
     }
 }
 
-/// Writes the letters and the digits of a name, as `BKS24`.
-fn write_name<W: fmt::Write>(f: &mut fmt::Formatter<W>, name: RecordName) -> fmt::Result {
-    let (letters, digits) = (name.letters(), name.digits());
-    for character in letters.iter().chain(&digits) {
-        f.write_char(char::from(*character))?;
+/// Writes the letters and the digits of a name, as ` (BKS24)`, where there is one.
+fn write_name<W: fmt::Write>(f: &mut fmt::Formatter<W>, name: Option<RecordName>) -> fmt::Result {
+    let Some(name) = name else {
+        return Ok(());
+    };
+    let ([a, b, c], [tens, ones]) = (name.letters(), name.digits());
+    write!(
+        f,
+        " ({}{}{}{}{})",
+        a as char, b as char, c as char, tens as char, ones as char
+    )
+}
+
+/// Writes the columns at fault, where it is not the whole record.
+fn write_columns<W: fmt::Write>(
+    f: &mut fmt::Formatter<W>,
+    columns: Option<(u8, u8)>,
+) -> fmt::Result {
+    match columns {
+        Some((first, last)) if first == last => write!(f, ", column {first}"),
+        Some((first, last)) => write!(f, ", columns {first}-{last}"),
+        None => Ok(()),
     }
-    Ok(())
 }
 
 impl fmt::Display for Explanation {
     fn fmt<W: fmt::Write>(&self, f: &mut fmt::Formatter<W>) -> fmt::Result {
         write!(f, "record {}", self.record)?;
-        if let Some(name) = self.name {
-            f.write_str(" (")?;
-            write_name(f, name)?;
-            f.write_str(")")?;
-        }
-        match self.reason.columns() {
-            Some((first, last)) if first == last => write!(f, ", column {first}")?,
-            Some((first, last)) => write!(f, ", columns {first}-{last}")?,
-            None => {}
-        }
+        write_name(f, self.name)?;
+        write_columns(f, self.reason.columns())?;
         write!(f, ": {}", self.reason)
     }
 }

@@ -6,11 +6,10 @@ ghost use Rattle.bsp_explain.specs.Fields.{field_fits, all_fit, first_unfit, is_
 
 use crate::form::Form;
 use crate::name::Name;
-use thiserror::Error;
+use std::fmt;
 
 /// A field of a record of 136 characters. It is displayed as one that is not in its form.
-#[derive(Clone, Copy, Debug, Error)]
-#[error("{name} {form}")]
+#[derive(Clone, Copy)]
 pub struct Field {
     /// Its first column, counted from 1.
     pub first: u8,
@@ -45,6 +44,12 @@ impl Field {
     {
         let text = &line[self.first as usize - 1..self.last as usize];
         self.form.fits(text)
+    }
+}
+
+impl fmt::Display for Field {
+    fn fmt<W: fmt::Write>(&self, f: &mut fmt::Formatter<W>) -> fmt::Result {
+        write!(f, "{} {}", self.name, self.form)
     }
 }
 

@@ -7,12 +7,11 @@ use bsp_records::{
     all_digits, all_letters, all_letters_or_digits, all_spaces, is_amount, is_record_day, is_total,
     spells_at_most, tax_code,
 };
-use std::error::Error;
 use std::fmt;
 
 /// The form that the characters of a field have to have. It is displayed as what is wrong with a field
 /// that is not in it.
-#[derive(Clone, Copy, Debug)]
+#[derive(Clone, Copy)]
 pub enum Form {
     /// `1`, the identifier of a header.
     HeaderMark,
@@ -139,5 +138,3 @@ impl fmt::Display for Form {
         }
     }
 }
-
-impl Error for Form {}

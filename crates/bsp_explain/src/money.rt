@@ -4,7 +4,7 @@ use std::fmt;
 
 /// A sum in minor units, hundredths of the currency. It is displayed as units, a point and two
 /// digits, with a minus in front below zero.
-#[derive(Clone, Copy, Debug)]
+#[derive(Clone, Copy)]
 pub struct Money {
     /// The minor units.
     pub units: i128,

@@ -1,10 +1,9 @@
 //! The names of fields.
 
-use std::error::Error;
 use std::fmt;
 
 /// What a field is. It is displayed as people name it.
-#[derive(Clone, Copy, Debug)]
+#[derive(Clone, Copy)]
 pub enum Name {
     /// The kind of a record of a RET file.
     Identifier,
@@ -169,5 +168,3 @@ impl fmt::Display for Name {
         }
     }
 }
-
-impl Error for Name {}

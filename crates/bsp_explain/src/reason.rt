@@ -5,26 +5,33 @@ ghost use Rattle.bsp_explain.specs.Reasons.{columns_of};
 
 use crate::field::Field;
 use crate::money::Money;
-use thiserror::Error;
+use std::fmt;
 
 /// Why a line may have another width, or another character, than it shows. It is for people.
-#[derive(Clone, Copy, Debug, Error)]
+#[derive(Clone, Copy)]
 pub enum Cause {
     /// Nothing is known of it.
-    #[error("")]
     Unknown,
     /// The text begins with the byte order mark of UTF-8, which an editor wrote.
-    #[error(": it begins with a byte order mark, so save it as plain text")]
     Mark,
     /// It has a character of UTF-8 that is two bytes or more.
-    #[error(": it has a letter with an accent, or another character of two bytes or more")]
     Wide,
 }
 
+impl Cause {
+    fn text(self) -> &'static str {
+        match self {
+            Cause::Unknown => "",
+            Cause::Mark => ": it begins with a byte order mark, so save it as plain text",
+            Cause::Wide =>
+                ": it has a letter with an accent, or another character of two bytes or more",
+        }
+    }
+}
+
 /// What is wrong with a record. It is displayed without its columns, by the text beside it here.
-#[derive(Clone, Copy, Debug, Error)]
+#[derive(Clone, Copy)]
 pub enum Reason {
-    #[error("it has {width} characters, and not 136{cause}")]
     Width {
         /// How many it has.
         width: usize,
@@ -32,7 +39,6 @@ pub enum Reason {
         cause: Cause,
     },
     /// A character is outside 0x20 to 0x7E.
-    #[error("the character {character:#04x} is outside 0x20 to 0x7e{cause}")]
     Character {
         /// Its column, counted from 1.
         column: u8,
@@ -42,25 +48,18 @@ pub enum Reason {
         cause: Cause,
     },
     /// A field is not in its form.
-    #[error("{0}")]
     Unfit(Field),
     /// No record after a header has this identifier.
-    #[error("no record after the header begins with `{0}`")]
     Identifier(char),
     /// The transaction number is not this one, which comes next.
-    #[error("the transaction number is not {0:06}")]
     TransactionNumber(usize),
     /// The record with this identifier may not follow those before it.
-    #[error("a record `{0}` is not allowed here")]
     Place(char),
     /// The second of two records 3 does not come behind the first, by its airline and its document.
-    #[error("the related document does not come after the one before it")]
     RelatedOrder,
     /// The record 8, or its form of payment, may not follow those before it.
-    #[error("a record `8`, or this form of payment, is not allowed here")]
     Payment,
     /// A trailer states another number of records, header and trailer included.
-    #[error("the trailer states {stated} records, and there are {counted}")]
     RecordCount {
         /// What the trailer states.
         stated: u64,
@@ -68,7 +67,6 @@ pub enum Reason {
         counted: usize,
     },
     /// A trailer states another number of transactions.
-    #[error("the trailer states {stated} transactions, and there are {counted}")]
     TransactionCount {
         /// What the trailer states.
         stated: u64,
@@ -76,34 +74,24 @@ pub enum Reason {
         counted: usize,
     },
     /// A trailer states another sum of all forms of payment.
-    #[error("the trailer states the sum {stated}, and it is {summed}")]
     Sum {
         /// What the trailer states.
         stated: Money,
         /// What the amounts add up to.
         summed: Money,
     },
-    #[error("the file ends without a trailer")]
     NoTrailer,
-    #[error("a line follows the trailer")]
     AfterTrailer,
-    #[error("out of memory")]
     NoMemory,
     /// The sequence number of a HOT record is not this one.
-    #[error("the sequence number is not {0:08}")]
     SequenceNumber(usize),
-    #[error("no record has these digits in its name")]
     NameDigits,
     /// The letters of a HOT record are not those of the name with its digits.
-    #[error("the letters are not those of the name with these digits")]
     NameLetters,
     /// A HOT record is in its form, and does not go on from those before it.
-    #[error("the record is not allowed here, or a number or a total in it differs")]
     Unexpected,
     /// A HOT file ends too early.
-    #[error("the file ends before this record")]
     Missing,
-    #[error("the record has no such fault")]
     NotFound,
 }
 
@@ -126,6 +114,66 @@ impl Reason {
             Reason::NameDigits => Some((12, 13)),
             Reason::NameLetters => Some((1, 3)),
             _ => None,
+        }
+    }
+
+    /// What is displayed of a reason that shows no value.
+    fn text(self) -> &'static str {
+        match self {
+            Reason::RelatedOrder => "the related document does not come after the one before it",
+            Reason::Payment => "a record `8`, or this form of payment, is not allowed here",
+            Reason::NoTrailer => "the file ends without a trailer",
+            Reason::AfterTrailer => "a line follows the trailer",
+            Reason::NoMemory => "out of memory",
+            Reason::NameDigits => "no record has these digits in its name",
+            Reason::NameLetters => "the letters are not those of the name with these digits",
+            Reason::Unexpected =>
+                "the record is not allowed here, or a number or a total in it differs",
+            Reason::Missing => "the file ends before this record",
+            // (`NotFound`: `fmt` displays all others)
+            _ => "the record has no such fault",
+        }
+    }
+}
+
+impl fmt::Display for Reason {
+    fn fmt<W: fmt::Write>(&self, f: &mut fmt::Formatter<W>) -> fmt::Result {
+        match *self {
+            Reason::Width { width, cause } => write!(
+                f,
+                "it has {width} characters, and not 136{}",
+                cause.text()
+            ),
+            Reason::Character {
+                character,
+                cause,
+                ..
+            } => write!(
+                f,
+                "the character {character:#04x} is outside 0x20 to 0x7e{}",
+                cause.text()
+            ),
+            Reason::Unfit(field) => field.fmt(f),
+            Reason::Identifier(first) => write!(
+                f,
+                "no record after the header begins with `{first}`"
+            ),
+            Reason::TransactionNumber(next) => write!(f, "the transaction number is not {next:06}"),
+            Reason::Place(first) => write!(f, "a record `{first}` is not allowed here"),
+            Reason::RecordCount { stated, counted } => write!(
+                f,
+                "the trailer states {stated} records, and there are {counted}"
+            ),
+            Reason::TransactionCount { stated, counted } => write!(
+                f,
+                "the trailer states {stated} transactions, and there are {counted}"
+            ),
+            Reason::Sum { stated, summed } => write!(
+                f,
+                "the trailer states the sum {stated}, and it is {summed}"
+            ),
+            Reason::SequenceNumber(next) => write!(f, "the sequence number is not {next:08}"),
+            _ => f.write_str(self.text()),
         }
     }
 }
