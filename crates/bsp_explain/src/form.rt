@@ -53,7 +53,7 @@ pub enum Form {
 fn is_transaction_code(text: &[u8]) -> bool
     ensures { result ≡ is_transaction_code text.now }
 {
-    matches!(text, b"TKTT" | b"RFND" | b"CANX")
+    text == b"TKTT".as_slice() || text == b"RFND".as_slice() || text == b"CANX".as_slice()
 }
 
 /// Whether a text is the code of a document or of a memo.
