@@ -1,6 +1,5 @@
 use Rattle.std.proofs.Common.{List, ℕ, length, refl, ap, subst}
 use Rattle.std.specs.Prelude.{Err}
-use Rattle.std.proofs.KnownBytes.{Keeps-refl}
 use Rattle.bsp_check.specs.RetReport.{IsRetReport}
 use Rattle.bsp_check.specs.Verdicts.{verdict_status, IsExplained, IsRetExplanation}
 use Rattle.bsp_check.proofs.Faults.{not_read, not_write, passed_fault}
@@ -18,14 +17,11 @@ returns-in_err-all g c =
       write_cause = λ write. absurd (failed.fault (ap Err (passed_fault _ _ _ passed write)));
     }
 
-pub returns-in_default : goal.returns-in_default
-returns-in_default g c =
-    let all = c.in_ok-all.all.items in
-    record {
-      answer = (all, c.in_ok-all.ensures.whole.0, within_one (length all) c.args.limit c.in_ok-all.ensures.limit, Keeps-refl _, tt);
-      read_cause = λ other. absurd (not_read _ _ refl tt other);
-      write_cause = λ other. absurd (not_write _ _ refl tt other);
-    }
+pub returns-in_default-clause-read_cause : goal.returns-in_default-clause-read_cause
+returns-in_default-clause-read_cause g c = λ other. absurd (not_read _ _ refl tt other)
+
+pub returns-in_default-clause-write_cause : goal.returns-in_default-clause-write_cause
+returns-in_default-clause-write_cause g c = λ other. absurd (not_write _ _ refl tt other)
 
 pub returns-clause-answer : goal.returns-clause-answer
 returns-clause-answer g c =
