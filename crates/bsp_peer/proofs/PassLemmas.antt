@@ -1,10 +1,9 @@
 -- Bytes that were held, bytes that were read behind them, and the body in both.
-use Rattle.std.proofs.Common.{◌≡◌, ◌≢◌, ◌⊎◌, inl, inr, ℕ, ◌+◌, ◌-◌, ◌<◌, ◌≤◌, Bool, true, false, List, [], ◌∷◌, ◌++◌, length, take, drop, min, nat_lt, Option, Err, refl, sym, ap, ◌∙◌, arith, subst, append_assoc, append-nil, length-append, zero-add}
+use Rattle.std.proofs.Common.{◌≡◌, ◌≢◌, ◌⊎◌, inl, inr, ℕ, ◌+◌, ◌-◌, ◌<◌, ◌≤◌, Bool, true, false, List, [], ◌∷◌, ◌++◌, length, take, drop, min, nat_lt, Option, Err, refl, sym, ap, ◌∙◌, arith, subst, append_assoc, append-nil, length-append}
 use Rattle.std.proofs.lemmas.Bool.{ltb-true, ltb-false}
 use Rattle.std.proofs.lemmas.List.{take-append-drop, take-append-le, length-drop, take_all, drop_all, length-take-le, drop-drop, drop-append-le, take_min}
 use Rattle.std.specs.Io.KnownBytes.{Consumes}
-use Rattle.std.specs.Prelude.{Result, Ok}
-use Rattle.std.proofs.KnownBytes.{Consumes-nil, Consumes-trans}
+use Rattle.std.proofs.KnownBytes.{Consumes-trans}
 use Rattle.bsp_peer.specs.declared.passing.Short.{Short}
 use Rattle.bsp_peer.specs.declared.passing.Short.TheVariants.{Cut, Read, NoRoom}
 use Rattle.bsp_peer.specs.Bodies.{IsPassed, IsCut, IsRefused, Passed, HasMore, PassedRest}
@@ -136,28 +135,3 @@ refused_held old new chunk held head body have is none kept some =
       at_once = inl refl;
       has_front = kept [] none;
     } in subst (λ (l : List ℕ). IsRefused new body chunk l []) (held_part held head body have is) told
-
--- ---- numbers of bytes, and a result without fault
-
--- nothing is passed yet
-pub nothing_passed : (a : Option (List ℕ)) (rest : ℕ) (has : List ℕ → Type 0) → (got : List ℕ) × Consumes a a got × (length got + rest ≡ rest) × HasMore has has got
-nothing_passed a rest has = ([], Consumes-nil a, zero-add rest, λ before had. subst has (sym (append-nil before)) had)
-
-pub same_number : (n : ℕ) → n ≤ n
-same_number n = omega arith
-
-pub same_bound : (n most : ℕ) → n ≤ most → n ≤ most + 0
-same_bound n most within = omega arith
-
-pub less_left : (left count : ℕ) → 0 < count → 0 < left → left - count < left
-less_left left count some more = omega arith
-
-pub all_passed : (count left rest : ℕ) → count + left ≡ rest → left ≤ 0 → count ≡ rest
-all_passed count left rest both none = omega arith
-
-abbrev IsGiven : Result (Unit {0}) Short → Type 0
-IsGiven (Ok none) = Unit {0}
-IsGiven (Err short) = ⊥
-
-pub ok_not_short : (short : Short) (r : Result (Unit {0}) Short) → r ≡ Ok tt → r ≡ Err short → ⊥
-ok_not_short short r is other = subst IsGiven (sym is ∙ other) tt

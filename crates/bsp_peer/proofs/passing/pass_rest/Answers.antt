@@ -1,9 +1,9 @@
-use Rattle.std.proofs.Common.{◌≡◌, ◌∙◌, ◌≤◌, ◌<◌, ◌+◌, ◌++◌, ℕ, List, length, take, arith, refl, subst}
+use Rattle.std.proofs.Common.{◌≡◌, ◌∙◌, ◌≤◌, ◌<◌, ◌+◌, ◌++◌, ℕ, List, length, take, arith, subst}
 use Rattle.std.proofs.KnownBytes.{Consumes-trans}
 use Rattle.std.proofs.lemmas.List.{length-append, length-take-le}
 use Rattle.std.proofs.lemmas.Grind.{common_steps}
 use Rattle.bsp_peer.specs.Bodies.{HasMore}
-use Rattle.bsp_peer.proofs.PassLemmas.{front_piece, more_taken, refused_piece, nothing_passed, same_number, same_bound, less_left, all_passed, ok_not_short}
+use Rattle.bsp_peer.proofs.PassLemmas.{front_piece, more_taken, refused_piece}
 use Rattle.bsp_peer.proofs.passing.pass_rest.Goals as goal
 
 pub returns-in_default-clause-read : goal.returns-in_default-clause-read
@@ -43,28 +43,4 @@ more-preserved g c =
       );
       failed = failed ∙ c.more.invariant.failed;
       empty = omega (arith, empty, c.more.invariant.empty);
-    }
-
-pub more-init : goal.more-init
-more-init g c = record {
-  long = refl;
-  read = nothing_passed _ c.args.rest (g.S.BodySink.has c.args.sink.now);
-  failed = refl;
-  empty = same_number _;
-}
-
-pub more-smaller : goal.more-smaller
-more-smaller g c = less_left c.more.left c.in_ok-count.count c.in_ok-count.ensures.bound.0 c.more-test.true
-
-pub returns : goal.returns
-returns g c =
-    let inv = c.more.invariant in
-    let read = inv.read in
-    record {
-      read = (read.0, read.1, (all_passed (length read.0) c.more.left c.args.rest read.2 c.more-test.false, read.3));
-      len = inv.long;
-      end = λ other. absurd (ok_not_short _ _ refl other);
-      memory = λ other. absurd (ok_not_short _ _ refl other);
-      failed = inv.failed;
-      empty = same_bound _ _ inv.empty;
     }
