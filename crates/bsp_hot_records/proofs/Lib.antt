@@ -3,3 +3,4 @@ pub mod NumberLemmas
 pub mod SizeLemmas
 pub mod SumLemmas
 pub mod ReadingLemmas
+pub mod TestLemmas

@@ -19,13 +19,18 @@ use bsp_records::{all_digits, all_letters_or_digits, all_spaces, number_of, taxe
 pub(crate) fn code_of(text: &[u8]) -> Option<DocumentCode>
     ensures { result ≡ code_of text.now }
 {
-    match text {
-        b"TKTT" => Some(DocumentCode::Tktt),
-        b"RFND" => Some(DocumentCode::Rfnd),
-        b"CANX" => Some(DocumentCode::Canx),
-        b"ADMA" => Some(DocumentCode::Adma),
-        b"ACMA" => Some(DocumentCode::Acma),
-        _ => None,
+    if text == b"TKTT".as_slice() {
+        Some(DocumentCode::Tktt)
+    } else if text == b"RFND".as_slice() {
+        Some(DocumentCode::Rfnd)
+    } else if text == b"CANX".as_slice() {
+        Some(DocumentCode::Canx)
+    } else if text == b"ADMA".as_slice() {
+        Some(DocumentCode::Adma)
+    } else if text == b"ACMA".as_slice() {
+        Some(DocumentCode::Acma)
+    } else {
+        None
     }
 }
 
@@ -193,11 +198,21 @@ pub(crate) fn totals_in(text: &[u8], tax: i128) -> Option<Totals>
     ensures value { IfSome result (λ totals. totals ≡ totals_of text.now tax) }
     ensures none { IfNone result (totals_fit text.now ≡ false) }
 {
-    let documents = count_in(&text[..8])?;
-    let cash = total_in(&text[8..23])?;
-    let credit = total_in(&text[23..38])?;
-    let commission = total_in(&text[38..53])?;
-    let net = total_in(&text[53..68])?;
+    let Some(documents) = count_in(&text[..8]) else {
+        return None;
+    };
+    let Some(cash) = total_in(&text[8..23]) else {
+        return None;
+    };
+    let Some(credit) = total_in(&text[23..38]) else {
+        return None;
+    };
+    let Some(commission) = total_in(&text[38..53]) else {
+        return None;
+    };
+    let Some(net) = total_in(&text[53..68]) else {
+        return None;
+    };
     Some(Totals {
         sums: Sums {
             documents,

@@ -24,7 +24,9 @@ pub fn read_record(form: FileForm, number: usize, line: &[u8]) -> Option<Record>
     if !spells(number, &line[3..11]) {
         return None;
     }
-    let name = RecordName::of(&line[11..13])?;
+    let Some(name) = RecordName::of(&line[11..13]) else {
+        return None;
+    };
     if !name.has_letters(&line[..3]) {
         return None;
     }

@@ -24,12 +24,18 @@ fn file_header(line: &[u8]) -> Option<Record>
     ensures value { (form : FileForm) → result ≡ judged_if form RecordName.Bfh01 line.now }
     ensures small { IfSome result IsSmallRecord }
 {
-    let airline = airline_in(&line[13..16])?;
-    let period = period_in(&line[16..21])?;
+    let Some(airline) = airline_in(&line[13..16]) else {
+        return None;
+    };
+    let Some(period) = period_in(&line[16..21]) else {
+        return None;
+    };
     if !(is_record_day(&line[21..27]) && all_letters(&line[27..30])) {
         return None;
     }
-    let form = FileForm::of(&line[30..37])?;
+    let Some(form) = FileForm::of(&line[30..37]) else {
+        return None;
+    };
     if !all_spaces(&line[37..136]) {
         return None;
     }
@@ -47,7 +53,9 @@ fn period_header(line: &[u8]) -> Option<Record>
     ensures value { (form : FileForm) → result ≡ judged_if form RecordName.Bch02 line.now }
     ensures small { IfSome result IsSmallRecord }
 {
-    let period = period_in(&line[13..18])?;
+    let Some(period) = period_in(&line[13..18]) else {
+        return None;
+    };
     let fits = is_record_day(&line[18..24])
         && is_record_day(&line[24..30])
         && is_record_day(&line[30..36])
@@ -64,8 +72,12 @@ fn office_header(line: &[u8]) -> Option<Record>
     ensures value { (form : FileForm) → result ≡ judged_if form RecordName.Boh03 line.now }
     ensures small { IfSome result IsSmallRecord }
 {
-    let agent = AgentDigits::read(&line[13..21])?;
-    let period = period_in(&line[21..26])?;
+    let Some(agent) = AgentDigits::read(&line[13..21]) else {
+        return None;
+    };
+    let Some(period) = period_in(&line[21..26]) else {
+        return None;
+    };
     if !(all_letters(&line[26..29]) && all_spaces(&line[29..136])) {
         return None;
     }
@@ -83,8 +95,12 @@ fn transaction_header(line: &[u8]) -> Option<Record>
     ensures value { (form : FileForm) → result ≡ judged_if form RecordName.Bkt06 line.now }
     ensures small { IfSome result IsSmallRecord }
 {
-    let transaction = count_in(&line[13..21])?;
-    let airline = airline_in(&line[21..24])?;
+    let Some(transaction) = count_in(&line[13..21]) else {
+        return None;
+    };
+    let Some(airline) = airline_in(&line[21..24]) else {
+        return None;
+    };
     if !all_spaces(&line[24..136]) {
         return None;
     }
@@ -101,15 +117,21 @@ fn document(line: &[u8]) -> Option<Record>
     ensures value { (form : FileForm) → result ≡ judged_if form RecordName.Bks24 line.now }
     ensures small { IfSome result IsSmallRecord }
 {
-    let transaction = count_in(&line[13..21])?;
+    let Some(transaction) = count_in(&line[13..21]) else {
+        return None;
+    };
     if !is_record_day(&line[21..27]) {
         return None;
     }
-    let number = document_number_in(&line[27..37])?;
+    let Some(number) = document_number_in(&line[27..37]) else {
+        return None;
+    };
     if !all_digits(&line[37..38]) {
         return None;
     }
-    let code = code_of(&line[38..42])?;
+    let Some(code) = code_of(&line[38..42]) else {
+        return None;
+    };
     let agent = AgentDigits::read(&line[42..50])?;
     if !all_spaces(&line[99..136]) {
         return None;
@@ -129,7 +151,9 @@ fn amounts(line: &[u8]) -> Option<Record>
     ensures value { (form : FileForm) → result ≡ judged_if form RecordName.Bks30 line.now }
     ensures small { IfSome result IsSmallRecord }
 {
-    let transaction = count_in(&line[13..21])?;
+    let Some(transaction) = count_in(&line[13..21]) else {
+        return None;
+    };
     let fits = is_amount(&line[21..32]) && tax_places_fit(line) && all_spaces(&line[110..136]);
     if !fits {
         return None;
@@ -147,11 +171,15 @@ fn commission(line: &[u8]) -> Option<Record>
     ensures value { (form : FileForm) → result ≡ judged_if form RecordName.Bks39 line.now }
     ensures small { IfSome result IsSmallRecord }
 {
-    let transaction = count_in(&line[13..21])?;
+    let Some(transaction) = count_in(&line[13..21]) else {
+        return None;
+    };
     if !spells_at_most(10_000, &line[21..26]) {
         return None;
     }
-    let amount = amount_in(&line[26..37])?;
+    let Some(amount) = amount_in(&line[26..37]) else {
+        return None;
+    };
     if !all_spaces(&line[37..136]) {
         return None;
     }
@@ -168,11 +196,15 @@ fn commission_tax(line: &[u8]) -> Option<Record>
     ensures value { (form : FileForm) → result ≡ judged_if form RecordName.Bks42 line.now }
     ensures small { IfSome result IsSmallRecord }
 {
-    let transaction = count_in(&line[13..21])?;
+    let Some(transaction) = count_in(&line[13..21]) else {
+        return None;
+    };
     if !spells_at_most(10_000, &line[21..26]) {
         return None;
     }
-    let tax = amount_in(&line[26..37])?;
+    let Some(tax) = amount_in(&line[26..37]) else {
+        return None;
+    };
     if !all_spaces(&line[37..136]) {
         return None;
     }
@@ -189,8 +221,12 @@ fn related(line: &[u8]) -> Option<Record>
     ensures value { (form : FileForm) → result ≡ judged_if form RecordName.Bks45 line.now }
     ensures small { IfSome result IsSmallRecord }
 {
-    let transaction = count_in(&line[13..21])?;
-    let airline = airline_in(&line[21..24])?;
+    let Some(transaction) = count_in(&line[13..21]) else {
+        return None;
+    };
+    let Some(airline) = airline_in(&line[21..24]) else {
+        return None;
+    };
     let number = number_in(&line[24..34])?;
     if !(all_digits(&line[34..35]) && all_spaces(&line[35..136])) {
         return None;
@@ -208,11 +244,15 @@ fn payment(line: &[u8]) -> Option<Record>
     ensures value { (form : FileForm) → result ≡ judged_if form RecordName.Bkp84 line.now }
     ensures small { IfSome result IsSmallRecord }
 {
-    let transaction = count_in(&line[13..21])?;
+    let Some(transaction) = count_in(&line[13..21]) else {
+        return None;
+    };
     if !form_fits(&line[21..23], &line[34..36]) {
         return None;
     }
-    let amount = amount_in(&line[23..34])?;
+    let Some(amount) = amount_in(&line[23..34]) else {
+        return None;
+    };
     if !all_spaces(&line[36..136]) {
         return None;
     }
@@ -230,10 +270,18 @@ fn code_totals(form: FileForm, line: &[u8]) -> Option<Record>
     ensures value { result ≡ judged_if form RecordName.Bot93 line.now }
     ensures small { IfSome result IsSmallRecord }
 {
-    let agent = AgentDigits::read(&line[13..21])?;
-    let code = code_of(&line[21..25])?;
-    let tax = tax_in(form, 94, line)?;
-    let totals = totals_in(&line[25..93], tax)?;
+    let Some(agent) = AgentDigits::read(&line[13..21]) else {
+        return None;
+    };
+    let Some(code) = code_of(&line[21..25]) else {
+        return None;
+    };
+    let Some(tax) = tax_in(form, 94, line) else {
+        return None;
+    };
+    let Some(totals) = totals_in(&line[25..93], tax) else {
+        return None;
+    };
     Some(Record::CodeTotals(CodeTotals {
         agent,
         code,
@@ -247,9 +295,15 @@ fn office_totals(form: FileForm, line: &[u8]) -> Option<Record>
     ensures value { result ≡ judged_if form RecordName.Bot94 line.now }
     ensures small { IfSome result IsSmallRecord }
 {
-    let agent = AgentDigits::read(&line[13..21])?;
-    let tax = tax_in(form, 90, line)?;
-    let totals = totals_in(&line[21..89], tax)?;
+    let Some(agent) = AgentDigits::read(&line[13..21]) else {
+        return None;
+    };
+    let Some(tax) = tax_in(form, 90, line) else {
+        return None;
+    };
+    let Some(totals) = totals_in(&line[21..89], tax) else {
+        return None;
+    };
     Some(Record::OfficeTotals(OfficeTotals { agent, totals }))
 }
 
@@ -259,10 +313,18 @@ fn period_totals(form: FileForm, line: &[u8]) -> Option<Record>
     ensures value { result ≡ judged_if form RecordName.Bct95 line.now }
     ensures small { IfSome result IsSmallRecord }
 {
-    let period = period_in(&line[13..18])?;
-    let offices = count_in(&line[18..26])?;
-    let tax = tax_in(form, 95, line)?;
-    let totals = totals_in(&line[26..94], tax)?;
+    let Some(period) = period_in(&line[13..18]) else {
+        return None;
+    };
+    let Some(offices) = count_in(&line[18..26]) else {
+        return None;
+    };
+    let Some(tax) = tax_in(form, 95, line) else {
+        return None;
+    };
+    let Some(totals) = totals_in(&line[26..94], tax) else {
+        return None;
+    };
     Some(Record::PeriodTotals(PeriodTotals {
         period,
         offices,
@@ -276,10 +338,18 @@ fn file_totals(form: FileForm, line: &[u8]) -> Option<Record>
     ensures value { result ≡ judged_if form RecordName.Bft99 line.now }
     ensures small { IfSome result IsSmallRecord }
 {
-    let airline = airline_in(&line[13..16])?;
-    let records = count_in(&line[16..24])?;
-    let tax = tax_in(form, 93, line)?;
-    let totals = totals_in(&line[24..92], tax)?;
+    let Some(airline) = airline_in(&line[13..16]) else {
+        return None;
+    };
+    let Some(records) = count_in(&line[16..24]) else {
+        return None;
+    };
+    let Some(tax) = tax_in(form, 93, line) else {
+        return None;
+    };
+    let Some(totals) = totals_in(&line[24..92], tax) else {
+        return None;
+    };
     Some(Record::FileTotals(FileTotals {
         airline,
         records,

@@ -6,29 +6,29 @@ use Rattle.std.proofs.Math.Bool.{and-false}
 use Rattle.bsp_hot_records.specs.Records.{record_of, fields_fit}
 use Rattle.bsp_hot_records.proofs.records.period_totals.Goals as goal
 
-pub returns-in_err-period : goal.returns-in_err-period
+pub returns-in_default : goal.returns-in_default
 unfolding record_of fields_fit
-returns-in_err-period c = record { value = rw (c.from_residual.ensures, c.in_err-period.ensures.none) refl; small = rw c.from_residual.ensures tt }
+returns-in_default c = record { value = rw (c.in_default.ensures.none) refl; small = tt }
 
-pub returns-in_err-offices : goal.returns-in_err-offices
+pub returns-in_default-count_in : goal.returns-in_default-count_in
 unfolding record_of fields_fit
-returns-in_err-offices c = record { value = rw (c.from_residual-in_err-offices.ensures, c.in_ok-period.ensures.fits, c.in_err-offices.ensures.none) refl; small = rw c.from_residual-in_err-offices.ensures tt }
+returns-in_default-count_in c = record { value = rw (c.in-Some.ensures.fits, c.in_default-count_in.ensures.none) refl; small = tt }
 
-pub returns-in_err-tax : goal.returns-in_err-tax
+pub returns-in_default-tax_in : goal.returns-in_default-tax_in
 unfolding record_of fields_fit
-returns-in_err-tax c = record { value = rw (c.from_residual-in_err-tax.ensures, c.in_ok-period.ensures.fits, c.in_ok-offices.ensures.fits, c.in_err-tax.ensures.none, and-false _) refl; small = rw c.from_residual-in_err-tax.ensures tt }
+returns-in_default-tax_in c = record { value = rw (c.in-Some.ensures.fits, c.in-Some-count_in.ensures.fits, c.in_default-tax_in.ensures.none, and-false _) refl; small = tt }
 
-pub returns-in_err-totals : goal.returns-in_err-totals
+pub returns-in_default-totals_in : goal.returns-in_default-totals_in
 unfolding record_of fields_fit
-returns-in_err-totals c = record { value = rw (c.from_residual-in_err-totals.ensures, c.in_ok-period.ensures.fits, c.in_ok-offices.ensures.fits, c.in_err-totals.ensures.none) refl; small = rw c.from_residual-in_err-totals.ensures tt }
+returns-in_default-totals_in c = record { value = rw (c.in-Some.ensures.fits, c.in-Some-count_in.ensures.fits, c.in_default-totals_in.ensures.none) refl; small = tt }
 
 pub returns : goal.returns
 unfolding record_of fields_fit
 returns c =
-    let fits : FitsSigned w128 c.in_ok-tax.tax = search rules in
-    let same = to_z-of_z w128 c.in_ok-tax.tax fits in
+    let fits : FitsSigned w128 c.in-Some-tax_in.tax = search rules in
+    let same = to_z-of_z w128 c.in-Some-tax_in.tax fits in
     record {
       value =
-          rw (c.in_ok-period.ensures.fits, c.in_ok-offices.ensures.fits, c.in_ok-tax.ensures.fits, c.in_ok-totals.ensures.fits, c.in_ok-totals.ensures.value, same, c.in_ok-tax.ensures.value, c.in_ok-period.ensures.value, c.in_ok-offices.ensures.value) refl;
+          rw (c.in-Some.ensures.fits, c.in-Some-count_in.ensures.fits, c.in-Some-tax_in.ensures.fits, c.in-Some-totals_in.ensures.fits, c.in-Some-totals_in.ensures.value, same, c.in-Some-tax_in.ensures.value, c.in-Some.ensures.value, c.in-Some-count_in.ensures.value) refl;
       small = tt;
     }

@@ -2,14 +2,14 @@ use Rattle.std.proofs.Common.{refl}
 use Rattle.bsp_hot_records.specs.Records.{record_of, fields_fit}
 use Rattle.bsp_hot_records.proofs.records.related.Goals as goal
 
-pub returns-in_err-transaction : goal.returns-in_err-transaction
+pub returns-in_default : goal.returns-in_default
 unfolding record_of fields_fit
-returns-in_err-transaction c = record { value = λ form. rw (c.from_residual.ensures, c.in_err-transaction.ensures.none) refl; small = rw c.from_residual.ensures tt }
+returns-in_default c = record { value = λ form. rw (c.in_default.ensures.none) refl; small = tt }
 
-pub returns-in_err-airline : goal.returns-in_err-airline
+pub returns-in_default-airline_in : goal.returns-in_default-airline_in
 unfolding record_of fields_fit
-returns-in_err-airline c = record { value = λ form. rw (c.from_residual-in_err-airline.ensures, c.in_ok-transaction.ensures.fits, c.in_err-airline.ensures.none) refl; small = rw c.from_residual-in_err-airline.ensures tt }
+returns-in_default-airline_in c = record { value = λ form. rw (c.in-Some.ensures.fits, c.in_default-airline_in.ensures.none) refl; small = tt }
 
 pub returns-in_err-number : goal.returns-in_err-number
 unfolding record_of fields_fit
-returns-in_err-number c = record { value = λ form. rw (c.from_residual-in_err-number.ensures, c.in_ok-transaction.ensures.fits, c.in_ok-airline.ensures.fits, c.in_err-number.ensures.none) refl; small = rw c.from_residual-in_err-number.ensures tt }
+returns-in_err-number c = record { value = λ form. rw (c.from_residual.ensures, c.in-Some.ensures.fits, c.in-Some-airline_in.ensures.fits, c.in_err-number.ensures.none) refl; small = rw c.from_residual.ensures tt }

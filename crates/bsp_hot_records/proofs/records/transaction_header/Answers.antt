@@ -2,18 +2,18 @@ use Rattle.std.proofs.Common.{refl}
 use Rattle.bsp_hot_records.specs.Records.{record_of, fields_fit}
 use Rattle.bsp_hot_records.proofs.records.transaction_header.Goals as goal
 
-pub returns-in_err-transaction : goal.returns-in_err-transaction
+pub returns-in_default : goal.returns-in_default
 unfolding record_of fields_fit
-returns-in_err-transaction c = record { value = λ form. rw (c.from_residual.ensures, c.in_err-transaction.ensures.none) refl; small = rw c.from_residual.ensures tt }
+returns-in_default c = record { value = λ form. rw (c.in_default.ensures.none) refl; small = tt }
 
-pub returns-in_err-airline : goal.returns-in_err-airline
+pub returns-in_default-airline_in : goal.returns-in_default-airline_in
 unfolding record_of fields_fit
-returns-in_err-airline c = record { value = λ form. rw (c.from_residual-in_err-airline.ensures, c.in_ok-transaction.ensures.fits, c.in_err-airline.ensures.none) refl; small = rw c.from_residual-in_err-airline.ensures tt }
+returns-in_default-airline_in c = record { value = λ form. rw (c.in-Some.ensures.fits, c.in_default-airline_in.ensures.none) refl; small = tt }
 
 pub returns-then-not-all_spaces : goal.returns-then-not-all_spaces
 unfolding record_of fields_fit
-returns-then-not-all_spaces c = record { value = λ form. rw (c.in_ok-transaction.ensures.fits, c.in_ok-airline.ensures.fits, ← c.if-not-all_spaces.ensures) refl; small = tt }
+returns-then-not-all_spaces c = record { value = λ form. rw (c.in-Some.ensures.fits, c.in-Some-airline_in.ensures.fits, ← c.if-not-all_spaces.ensures) refl; small = tt }
 
 pub returns : goal.returns
 unfolding record_of fields_fit
-returns c = record { value = λ form. rw (c.in_ok-transaction.ensures.fits, c.in_ok-airline.ensures.fits, ← c.if-not-all_spaces.ensures, c.in_ok-transaction.ensures.value, c.in_ok-airline.ensures.value) refl; small = tt }
+returns c = record { value = λ form. rw (c.in-Some.ensures.fits, c.in-Some-airline_in.ensures.fits, ← c.if-not-all_spaces.ensures, c.in-Some.ensures.value, c.in-Some-airline_in.ensures.value) refl; small = tt }
