@@ -9,7 +9,7 @@ use std::marker::Model;
 
 /// An agent's eight digits as a HOT file has them, where the last one is not judged. A contract
 /// sees them as the number that they write.
-#[derive(Clone, Copy, Debug, PartialEq, Eq, PartialOrd, Ord)]
+#[derive(Clone, Copy, PartialEq, Eq, PartialOrd, Ord)]
 pub struct AgentDigits {
     number: u32,
 }
