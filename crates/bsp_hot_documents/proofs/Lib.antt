@@ -32,3 +32,4 @@ pub mod OneFile
 pub mod OtherRows
 pub use Rattle.bsp_ret.proofs.BodyLemmas
 pub use Rattle.bsp_ret.proofs.LawLemmas
+pub mod AddedRows

@@ -1,6 +1,7 @@
 //! The rows of a file, in their order.
 
-ghost use Rattle.std.specs.Prelude.{◌≡◌, All, IfOk, map};
+ghost use Rattle.std.specs.Prelude.{◌≡◌, ◌++◌, All, IfOk, map};
+ghost use Rattle.std.specs.List.{filter};
 ghost use Rattle.bsp_hot_documents.specs.Rows.{is_reported, is_billed, entries, row_entry, memo_entry};
 ghost use Rattle.bsp_hot_documents.specs.Files.{IsInOrder};
 ghost use Rattle.bsp_hot_documents.specs.Sorting.{entry_of, key_of, IsRow};
@@ -89,6 +90,48 @@ impl<'a> Row<'a> {
     }
 }
 
+/// With the rows of the items that an airline reports in a period.
+fn with_items<'a>(
+    mut rows: Vec<Row<'a>>,
+    airline: AirlineCode,
+    period: PeriodCode,
+    items: &'a [Item],
+) -> Result<Vec<Row<'a>>, AllocError>
+    requires { All IsRow rows.items }
+    ensures rows { IfOk result (λ all. All IsRow all.items) }
+    ensures entries { IfOk result (λ all. map entry_of all.items ≡ map entry_of rows.entry.items ++ map row_entry (filter (is_reported airline period) items.now)) }
+{
+    for item in items {
+        if is_reported(airline, period, item) {
+            let Ok(()) = rows.push(Row::of_item(item)) else {
+                return Err(AllocError);
+            };
+        }
+    }
+    Ok(rows)
+}
+
+/// With the rows of the memos of an airline that were billed in a period.
+fn with_memos<'a>(
+    mut rows: Vec<Row<'a>>,
+    airline: AirlineCode,
+    period: PeriodCode,
+    memos: &'a [Memo],
+) -> Result<Vec<Row<'a>>, AllocError>
+    requires { All IsRow rows.items }
+    ensures rows { IfOk result (λ all. All IsRow all.items) }
+    ensures entries { IfOk result (λ all. map entry_of all.items ≡ map entry_of rows.entry.items ++ map memo_entry (filter (is_billed airline period) memos.now)) }
+{
+    for memo in memos {
+        if is_billed(airline, period, memo) {
+            let Ok(()) = rows.push(Row::of_memo(memo)) else {
+                return Err(AllocError);
+            };
+        }
+    }
+    Ok(rows)
+}
+
 /// The rows of an airline and a period, as they were passed.
 fn rows_as_given<'a>(
     alloc: Global,
@@ -100,15 +143,8 @@ fn rows_as_given<'a>(
     ensures rows { IfOk result (λ rows. All IsRow rows.items) }
     ensures entries { IfOk result (λ rows. map entry_of rows.items ≡ entries airline period items.now memos.now) }
 {
-    let of_items = items
-        .iter()
-        .filter(|item| is_reported(airline, period, item))
-        .map(Row::of_item);
-    let of_memos = memos
-        .iter()
-        .filter(|memo| is_billed(airline, period, memo))
-        .map(Row::of_memo);
-    of_items.chain(of_memos).collect(alloc)
+    let rows = with_items(Vec::new(alloc), airline, period, items)?;
+    with_memos(rows, airline, period, memos)
 }
 
 /// The rows of an airline and a period, in the order of a file.
