@@ -17,7 +17,7 @@ use serde_json::Value;
 use std::alloc::Global;
 
 /// A memo that an airline issues: `agent`, `amount`, `document`, `kind`, `reason`.
-#[derive(Clone, Copy, PartialEq, Eq)]
+#[derive(Clone, Copy)]
 pub struct MemoIssue {
     /// The agent to which it is issued.
     pub agent: StatedAgent,
@@ -32,7 +32,7 @@ pub struct MemoIssue {
 }
 
 /// A memo's new amount: `amount`, `document`.
-#[derive(Clone, Copy, PartialEq, Eq)]
+#[derive(Clone, Copy)]
 pub struct Reduction {
     /// In minor units; nothing says that it is in range.
     pub amount: i64,

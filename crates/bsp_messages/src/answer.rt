@@ -10,7 +10,7 @@ use bsp_ret::RetFault;
 use bsp_rules::{Item, Range, Verdict};
 
 /// What became of a document.
-#[derive(Clone, Copy, PartialEq, Eq)]
+#[derive(Clone, Copy)]
 pub enum DocumentState {
     /// It is neither cancelled nor related to.
     Alive,
@@ -37,7 +37,7 @@ impl DocumentState {
 }
 
 /// A document of an agent: the TKTT or RFND of its number, else its CANX.
-#[derive(Clone, Copy, PartialEq, Eq)]
+#[derive(Clone, Copy)]
 pub struct DocumentShown {
     /// The transaction as it was accepted; an amount that it does not have is given as 0.
     pub item: Item,
@@ -46,7 +46,7 @@ pub struct DocumentShown {
 }
 
 /// A period of an agent.
-#[derive(Clone, Copy, PartialEq, Eq)]
+#[derive(Clone, Copy)]
 pub struct PeriodShown {
     /// Whether it is closed.
     pub closed: bool,
@@ -59,7 +59,7 @@ pub struct PeriodShown {
 }
 
 /// A range of an agent's stock.
-#[derive(Clone, Copy, PartialEq, Eq)]
+#[derive(Clone, Copy)]
 pub struct RangeShown {
     /// The range.
     pub range: Range,

@@ -12,7 +12,7 @@ use serde_json::Value;
 use std::alloc::Global;
 
 /// A memo as its agent names it: `airline`, `document`.
-#[derive(Clone, Copy, PartialEq, Eq)]
+#[derive(Clone, Copy)]
 pub struct NamedMemo {
     /// The airline that issued it.
     pub airline: AirlineCode,

@@ -33,7 +33,7 @@ pub struct AirlineRegistration {
 
 /// A range of documents that is allotted to an agent or withdrawn from it: `agent`, `first`, `last`.
 /// Nothing says that the first is not after the last.
-#[derive(Clone, Copy, PartialEq, Eq)]
+#[derive(Clone, Copy)]
 pub struct StockChange {
     /// The code of the agent, as it is stated.
     pub agent: StatedAgent,

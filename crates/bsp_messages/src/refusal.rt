@@ -9,7 +9,7 @@ use bsp_calendar::PlanFault;
 use bsp_memos::MemoFault;
 
 /// Why a change of an agent's stock is refused, in the order in which it is judged.
-#[derive(Clone, Copy, PartialEq, Eq)]
+#[derive(Clone, Copy)]
 pub enum StockFault {
     /// The first document is after the last: K01.
     FirstAfterLast,
@@ -24,7 +24,7 @@ pub enum StockFault {
 }
 
 /// Why a request is refused; its answer has a fixed text.
-#[derive(Clone, Copy, PartialEq, Eq)]
+#[derive(Clone, Copy)]
 pub enum RequestRefusal {
     /// The token is wrong, or the caller is unknown or has an invalid code: 403 N01.
     Forbidden,

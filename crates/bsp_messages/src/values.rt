@@ -6,7 +6,7 @@ ghost use Rattle.bsp_messages.specs.Values.{agent_in};
 use bsp_fields::{AgentCode, FieldFault};
 
 /// An agent's code of eight digits, as a body states it.
-#[derive(Clone, Copy, PartialEq, Eq)]
+#[derive(Clone, Copy)]
 pub struct StatedAgent {
     /// The code, and none where the eighth digit is not its check digit: nobody has such a code.
     pub code: Option<AgentCode>,
