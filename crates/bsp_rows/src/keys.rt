@@ -21,7 +21,7 @@ pub struct RangeKey {
 
 /// The key of an item: its agent, its number, and whether it is a CANX. So an agent has at most one TKTT
 /// or RFND and at most one CANX of a number, and the CANX comes second in order.
-#[derive(Clone, Copy, Debug, PartialEq, Eq, PartialOrd, Ord, Drop)]
+#[derive(Clone, Copy, PartialEq, Eq, PartialOrd, Ord, Drop)]
 pub struct ItemKey {
     /// The agent that it bears.
     pub agent: AgentCode,

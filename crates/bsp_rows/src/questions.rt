@@ -3,7 +3,7 @@
 use bsp_fields::{AgentCode, AirlineCode, PeriodCode};
 
 /// Which items.
-#[derive(Clone, Copy, PartialEq, Eq)]
+#[derive(Clone, Copy)]
 pub enum Items {
     /// Those of an agent.
     OfAgent(AgentCode),
@@ -14,7 +14,7 @@ pub enum Items {
 }
 
 /// Which memos.
-#[derive(Clone, Copy, PartialEq, Eq)]
+#[derive(Clone, Copy)]
 pub enum Memos {
     /// Those to an agent.
     OfAgent(AgentCode),
@@ -27,7 +27,7 @@ pub enum Memos {
 }
 
 /// Which tallies.
-#[derive(Clone, Copy, PartialEq, Eq)]
+#[derive(Clone, Copy)]
 pub enum Tallies {
     /// Those of an agent.
     OfAgent(AgentCode),

@@ -16,7 +16,7 @@ use bsp_rules::Item;
 use std::collections::BTreeMap;
 
 /// The key of a row that breaks a rule of the audit.
-#[derive(Clone, Copy, PartialEq, Eq)]
+#[derive(Clone, Copy)]
 pub enum Unsound {
     /// A range whose agent is not registered.
     Range(RangeKey),
