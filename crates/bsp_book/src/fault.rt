@@ -1,7 +1,7 @@
 //! Why a book did not answer.
 
 /// Why a call of a book gives no answer.
-#[derive(Clone, Copy, Debug, PartialEq, Eq)]
+#[derive(Clone, Copy)]
 pub enum BookFault {
     /// An allocation was refused, or a count or a sum of a tally does not fit its type. Nothing of the open
     /// transaction is left, and none is open. (B01.)

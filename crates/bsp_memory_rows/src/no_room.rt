@@ -3,7 +3,7 @@
 use std::alloc::AllocError;
 
 /// An allocation was refused, or a count or a sum does not fit its type.
-#[derive(Clone, Copy, Debug, PartialEq, Eq)]
+#[derive(Clone, Copy)]
 pub struct NoRoom;
 
 impl From<AllocError> for NoRoom {
