@@ -3,7 +3,7 @@
 ghost use Rattle.std.specs.Prelude.{◌≡◌, option_map};
 ghost use Rattle.bsp_rules.specs.Rows.{IsHeld};
 ghost use Rattle.bsp_rules.specs.Selected.{AreSelected};
-ghost use Rattle.bsp_rules.specs.FactsOf.{count_in, facts_in, own_number, related_document};
+ghost use Rattle.bsp_rules.specs.FactsOf.{count_in, counts, facts_in, own_number, related_document};
 
 use crate::facts::{Facts, OwnNumber, RelatedDocument};
 use crate::rows::{Item, Range};
@@ -50,6 +50,13 @@ fn related_document(items: &[Item], place: &Option<ReportedDocument>) -> Option<
     }
 }
 
+/// Whether an item is of the airline and the period.
+fn counts(airline: AirlineCode, period: PeriodCode, item: &Item) -> bool
+    ensures { result ≡ counts airline period item.now }
+{
+    item.transaction.document.airline == airline && item.period == period
+}
+
 /// How many items are of the airline and the period, if there is one.
 fn count_in(items: &[Item], airline: AirlineCode, period: Option<PeriodCode>) -> usize
     ensures { result ≡ count_in items.now airline period }
@@ -57,7 +64,7 @@ fn count_in(items: &[Item], airline: AirlineCode, period: Option<PeriodCode>) ->
     match period {
         Some(period) => items
             .iter()
-            .filter(|item| item.transaction.document.airline == airline && item.period == period)
+            .filter(|item| counts(airline, period, item))
             .count(),
         None => 0,
     }
