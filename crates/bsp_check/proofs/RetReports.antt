@@ -50,7 +50,3 @@ more_reported old text more groups index t below are has is =
 -- seven texts, each appended behind those before it
 pub joined_seven : (old a b c d e f g : List ℕ) → ((((((old ++ a) ++ b) ++ c) ++ d) ++ e) ++ f) ++ g ≡ old ++ concat (a ∷ b ∷ c ∷ d ∷ e ∷ f ∷ g ∷ [])
 joined_seven old a b c d e f g = simp (append_assoc, append-nil) refl
-
--- six
-pub joined_six : (old a b c d e f : List ℕ) → (((((old ++ a) ++ b) ++ c) ++ d) ++ e) ++ f ≡ old ++ concat (a ∷ b ∷ c ∷ d ∷ e ∷ f ∷ [])
-joined_six old a b c d e f = simp (append_assoc, append-nil) refl
