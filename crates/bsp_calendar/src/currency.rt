@@ -6,7 +6,7 @@ ghost use Rattle.bsp_calendar.specs.Letters.{currency_reading};
 use std::marker::Model;
 
 /// The code of a currency: three letters `A` to `Z` (ISO 4217). A contract sees it as the letters.
-#[derive(Clone, Copy, PartialEq, Eq)]
+#[derive(Clone, Copy, Debug, PartialEq, Eq)]
 pub struct Currency {
     letters: [u8; 3],
 }
@@ -29,9 +29,7 @@ impl Currency {
     pub fn read(text: &[u8]) -> Option<Currency>
         ensures { result ≡ currency_reading text.now }
     {
-        let Ok(letters) = <[u8; 3]>::try_from(text) else {
-            return None;
-        };
+        let letters = <[u8; 3]>::try_from(text).ok()?;
         if letters.iter().all(|letter| letter.is_ascii_uppercase()) {
             Some(Currency { letters })
         } else {
