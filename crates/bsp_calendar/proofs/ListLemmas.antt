@@ -7,7 +7,7 @@ use Rattle.std.proofs.lemmas.Bool.{cases_lt, lt-leb, le-leb}
 use Rattle.std.proofs.lemmas.List.{drop_more, drop_all}
 use Rattle.bsp_calendar.specs.Requests.{is_empty}
 use Rattle.std.proofs.lemmas.List.Elements.{All-filter, All-contains, All-contains_itself, Contains-get_or, filter_passes}
-use Rattle.std.proofs.lemmas.Option.{slice_get-get_or, slice_get_past}
+use Rattle.std.proofs.lemmas.Option.{none-some, same_Some, slice_get-get_or, slice_get_past}
 
 -- an element of a list that has a place
 pub with_item : {X P : Type 0} (xs : List X) (i : ℕ) → i < length xs → (X → P) → P
@@ -73,11 +73,11 @@ all_pass p xs h = list_all-from_AllPass p xs (λ k d l. h (get_or xs k d) (Conta
 
 -- what is found is an element that passes
 find_step : {X : Type 0} (p : X → Bool) (x : X) (xs : List X) (y : X) → (find p xs ≡ Some y → Contains xs y × (p y ≡ true)) → (b : Bool) → p x ≡ b → cond b (Some x) (find p xs) ≡ Some y → Contains (x ∷ xs) y × (p y ≡ true)
-find_step p x xs y rest true is h = let e : x ≡ y = cc in (rw e (contains_head y xs), rw (← e) is)
+find_step p x xs y rest true is h = let e : x ≡ y = same_Some x y h in (rw e (contains_head y xs), rw (← e) is)
 find_step p x xs y rest false is h = let r = rest h in (contains_tail x xs y r.0, r.1)
 
 pub find_contains : {X : Type 0} (p : X → Bool) (xs : List X) (y : X) → find p xs ≡ Some y → Contains xs y × (p y ≡ true)
-find_contains p [] y h = absurd (cc h)
+find_contains p [] y h = absurd (none-some y h)
 find_contains p (x ∷ xs) y h = find_step p x xs y (find_contains p xs y) (p x) refl h
 
 -- ---- a list beyond its first elements

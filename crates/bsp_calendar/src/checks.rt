@@ -112,15 +112,8 @@ fn has_begun(tax: &CommissionTax, day: Day) -> bool
     is_up_to(tax.from, day)
 }
 
-/// Whether one of the taxes on commission begins on a day or before.
-pub(crate) fn has_one_begun(taxes: &[CommissionTax], day: Day) -> bool
-    ensures { result ≡ list_any (has_begun day) taxes.now }
-{
-    taxes.iter().any(|tax| has_begun(tax, day))
-}
-
-/// Whether one of the taxes on commission beyond the known ones does not begin after a day.
-pub(crate) fn has_late_tax(taxes: &[CommissionTax], known: usize, day: Day) -> bool
+/// Whether one of the taxes on commission beyond the known ones begins on a day or before.
+pub(crate) fn has_tax_begun(taxes: &[CommissionTax], known: usize, day: Day) -> bool
     ensures { result ≡ list_any (has_begun day) (drop known taxes.now) }
 {
     taxes.iter().skip(known).any(|tax| has_begun(tax, day))

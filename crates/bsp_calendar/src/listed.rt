@@ -89,7 +89,9 @@ impl<K: Ord + Copy + Drop, E: Entry<K>> Listed<K, E> {
         ensures distinct { AllPairs (λ x y. same_key (eq_by_cmp K.cmp) E.key_of x y ≡ false) self.now }
         ensures all_valid { All E.valid self.now }
     {
-        let (_, place) = self.index.range(..=key).next_back()?;
+        let Some((_, place)) = self.index.range(..=key).next_back() else {
+            return None;
+        };
         Some(self.list[*place])
     }
 

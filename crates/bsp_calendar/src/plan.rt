@@ -13,8 +13,8 @@ mod periods;
 mod target;
 
 use crate::checks::{
-    are_in_order, are_within_bounds, differ_in_terms, has_late_rate, has_late_tax, has_none_beyond,
-    have_airlines,
+    are_in_order, are_within_bounds, differ_in_terms, has_late_rate, has_none_beyond,
+    has_tax_begun, have_airlines,
 };
 use crate::days::is_before;
 use crate::entries::{PlanText, Terms};
@@ -159,7 +159,7 @@ impl Plan {
             return Err(PlanFault::LateRate);
         }
         let known = lists.commission_taxes.list().len();
-        if has_late_tax(commission_taxes.list(), known, self.day) {
+        if has_tax_begun(commission_taxes.list(), known, self.day) {
             return Err(PlanFault::LateRate);
         }
         Ok(Lists {

@@ -11,7 +11,7 @@ use std::io::Read;
 use thiserror::Error;
 
 /// Why a body did not come whole.
-#[derive(Clone, Copy, Debug, PartialEq, Eq, Error)]
+#[derive(Clone, Copy, Debug, Error)]
 pub enum Short {
     /// The input ended before the body did.
     #[error("the input ended within a body")]

@@ -14,7 +14,7 @@ use thiserror::Error;
 pub const CAPACITY: usize = 16_384;
 
 /// A read from the peer failed.
-#[derive(Clone, Copy, Debug, PartialEq, Eq, Error)]
+#[derive(Clone, Copy, Debug, Error)]
 #[error("the peer's bytes could not be read")]
 pub struct ReadFault;
 

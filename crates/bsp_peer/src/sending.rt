@@ -10,7 +10,7 @@ use bsp_heads::{Reply, Response};
 use std::io::Write;
 
 /// A write failed, or took no byte.
-#[derive(Clone, Copy, PartialEq, Eq)]
+#[derive(Clone, Copy)]
 pub struct WriteFault;
 
 /// Writes the bytes. Where it fails, a first part of them was written. Once a call of the writer has failed, nothing

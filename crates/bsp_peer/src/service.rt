@@ -10,7 +10,7 @@ use std::alloc::Global;
 use std::borrow::CowSlice;
 
 /// What of a request's body is answered.
-#[derive(Clone, Copy, PartialEq, Eq)]
+#[derive(Clone, Copy)]
 pub enum BodyUse {
     /// Nothing: the body is read and dropped.
     Ignored,

@@ -29,7 +29,7 @@ pub trait BodySink {
 
 /// Drops a body, as that of a message without a route (RFC 9112, section 6.3, has it read all the
 /// same). It takes no memory.
-#[derive(Clone, Copy, PartialEq, Eq)]
+#[derive(Clone, Copy)]
 pub struct IgnoredBody;
 
 impl BodySink for IgnoredBody {

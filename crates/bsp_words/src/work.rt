@@ -14,7 +14,7 @@ use std::alloc::{AllocError, Global};
 use std::convert::AsStr;
 
 /// Where the office's token is.
-#[derive(Clone, Copy, PartialEq, Eq)]
+#[derive(Clone, Copy)]
 pub enum TokenSource<'a> {
     /// `--token T`: in the words.
     Given(Token),
@@ -23,7 +23,7 @@ pub enum TokenSource<'a> {
 }
 
 /// Where the book is.
-#[derive(Clone, Copy, PartialEq, Eq)]
+#[derive(Clone, Copy)]
 pub enum BookSource<'a> {
     /// In memory: it begins empty, and ends with the program.
     Memory,
@@ -103,7 +103,7 @@ pub enum Work<'a> {
 }
 
 /// Which value is out of its form. It is for people: no clause says which.
-#[derive(Clone, Copy, PartialEq, Eq)]
+#[derive(Clone, Copy)]
 pub enum Misfit {
     /// Neither `--token` nor `--token-file` is there.
     NoToken,
@@ -357,16 +357,11 @@ fn port_given(matches: &ArgMatches<'_>) -> Option<u16>
     matches.get_one::<u16>("port")
 }
 
-fn connections_given(matches: &ArgMatches<'_>) -> Option<u32>
-    ensures { result ≡ number_in 32 (codes "connections") (rows_of (found_of matches.now)) }
+/// The number that an argument gives.
+fn number_given(matches: &ArgMatches<'_>, id: &str) -> Option<u32>
+    ensures { result ≡ number_in 32 id.now (rows_of (found_of matches.now)) }
 {
-    matches.get_one::<u32>("connections")
-}
-
-fn timeout_given(matches: &ArgMatches<'_>) -> Option<u32>
-    ensures { result ≡ number_in 32 (codes "timeout") (rows_of (found_of matches.now)) }
-{
-    matches.get_one::<u32>("timeout")
+    matches.get_one::<u32>(id)
 }
 
 fn serve_given<'a>(matches: &ArgMatches<'a>) -> Option<Work<'a>>
@@ -375,10 +370,10 @@ fn serve_given<'a>(matches: &ArgMatches<'a>) -> Option<Work<'a>>
     let Some(port) = port_given(matches) else {
         return None;
     };
-    let Some(connections) = connections_given(matches) else {
+    let Some(connections) = number_given(matches, "connections") else {
         return None;
     };
-    let Some(timeout) = timeout_given(matches) else {
+    let Some(timeout) = number_given(matches, "timeout") else {
         return None;
     };
     let log = flag_given(matches, "log");

@@ -3,7 +3,7 @@
 ghost use Rattle.std.specs.Prelude.{◌≡◌, ◌≤◌};
 ghost use Rattle.bsp_calendar.specs.Published.{IsLatestRate, IsLatestTax, commission_tax_on, has_airline, is_taxed, rate_on};
 
-use crate::checks::has_one_begun;
+use crate::checks::has_tax_begun;
 use crate::entries::{Period, Terms};
 use crate::keys::{has_airline, rate_key};
 use crate::plan::Plan;
@@ -41,7 +41,7 @@ impl Plan {
     pub fn is_taxed(&self, period: &Period) -> bool
         ensures { result ≡ is_taxed self.now period.now }
     {
-        has_one_begun(self.lists.commission_taxes.list(), period.last)
+        has_tax_begun(self.lists.commission_taxes.list(), 0, period.last)
     }
 
     /// Whether the airline is published.

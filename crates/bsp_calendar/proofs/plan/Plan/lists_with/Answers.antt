@@ -89,8 +89,8 @@ returns-then-has_late_rate-clause-lists c =
     let late : has_late_rate p text ≡ true = late_from p text c.deref-3.result.now c.list-2.result.now (length c.list-3.result.now) true c.deref-3.ensures.value (c.list-2.ensures ∙ c.in_ok-rates.ensures.0) (ap length c.list-3.ensures) c.if-has_late_rate.ensures in
     rw (← c.self.view_is) (inr (with_late_rate p text bounds have none order late))
 
-pub returns-then-has_late_tax-clause-lists : goal.returns-then-has_late_tax-clause-lists
-returns-then-has_late_tax-clause-lists c =
+pub returns-then-has_tax_begun-clause-lists : goal.returns-then-has_tax_begun-clause-lists
+returns-then-has_tax_begun-clause-lists c =
     let i = c.self.inside in
     let p = plan_of i.terms i.lists.airlines i.lists.rates i.lists.periods i.lists.commission_taxes i.day i.closed in
     let text = c.args.text.now in
@@ -99,7 +99,7 @@ returns-then-has_late_tax-clause-lists c =
     let none : has_difference p text ≡ false = no_difference p text c.deref-3.result.now c.deref-4.result.now c.deref-5.result.now c.deref-3.ensures.value c.deref-4.ensures.value c.deref-5.ensures.value (sym c.if-differ_in_terms.ensures) c.in_ok-rates.ensures.1 c.in_ok-periods.ensures.1 c.in_ok-commission_taxes.ensures.1 in
     let order : are_in_order (once same_period (p.periods ++ text.periods.items)) ≡ true = order_from p text c.deref-4.result.now c.list.result.now true c.deref-4.ensures.value (c.list.ensures ∙ c.in_ok-periods.ensures.0) c.if-not-are_in_order.ensures in
     let late : has_late_rate p text ≡ false = late_from p text c.deref-3.result.now c.list-2.result.now (length c.list-3.result.now) false c.deref-3.ensures.value (c.list-2.ensures ∙ c.in_ok-rates.ensures.0) (ap length c.list-3.ensures) c.if-has_late_rate.ensures in
-    let late_tax : has_late_tax p text ≡ true = late_tax_from p text c.deref-5.result.now c.list-4.result.now (length c.list-known.result.now) true c.deref-5.ensures.value (c.list-4.ensures ∙ c.in_ok-commission_taxes.ensures.0) (ap length c.list-known.ensures) c.if-has_late_tax.ensures in
+    let late_tax : has_late_tax p text ≡ true = late_tax_from p text c.deref-5.result.now c.list-4.result.now (length c.list-known.result.now) true c.deref-5.ensures.value (c.list-4.ensures ∙ c.in_ok-commission_taxes.ensures.0) (ap length c.list-known.ensures) c.if-has_tax_begun.ensures in
     rw (← c.self.view_is) (inr (with_late_tax p text bounds have none order late late_tax))
 
 pub returns-clause-lists : goal.returns-clause-lists
@@ -112,7 +112,7 @@ returns-clause-lists c =
     let none : has_difference p text ≡ false = no_difference p text c.deref-3.result.now c.deref-4.result.now c.deref-5.result.now c.deref-3.ensures.value c.deref-4.ensures.value c.deref-5.ensures.value (sym c.if-differ_in_terms.ensures) c.in_ok-rates.ensures.1 c.in_ok-periods.ensures.1 c.in_ok-commission_taxes.ensures.1 in
     let order : are_in_order (once same_period (p.periods ++ text.periods.items)) ≡ true = order_from p text c.deref-4.result.now c.list.result.now true c.deref-4.ensures.value (c.list.ensures ∙ c.in_ok-periods.ensures.0) c.if-not-are_in_order.ensures in
     let late : has_late_rate p text ≡ false = late_from p text c.deref-3.result.now c.list-2.result.now (length c.list-3.result.now) false c.deref-3.ensures.value (c.list-2.ensures ∙ c.in_ok-rates.ensures.0) (ap length c.list-3.ensures) c.if-has_late_rate.ensures in
-    let late_tax : has_late_tax p text ≡ false = late_tax_from p text c.deref-5.result.now c.list-4.result.now (length c.list-known.result.now) false c.deref-5.ensures.value (c.list-4.ensures ∙ c.in_ok-commission_taxes.ensures.0) (ap length c.list-known.ensures) c.if-has_late_tax.ensures in
+    let late_tax : has_late_tax p text ≡ false = late_tax_from p text c.deref-5.result.now c.list-4.result.now (length c.list-known.result.now) false c.deref-5.ensures.value (c.list-4.ensures ∙ c.in_ok-commission_taxes.ensures.0) (ap length c.list-known.ensures) c.if-has_tax_begun.ensures in
     rw (← c.self.view_is) (
       accepted p text bounds have none order late late_tax,
       (rw c.deref.ensures.value at c.in_ok-airlines.ensures),
