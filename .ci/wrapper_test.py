@@ -135,8 +135,9 @@ class Room:
             expect(f"{number.name}: neither rt nor the copy is left", [False], left)
 
 
-# a signal that this script was begun without is one for the scripts that it begins
-signal.signal(signal.SIGINT, signal.SIG_DFL)
+# a signal that this script was begun without, as under nohup, is one for the scripts that it begins
+for number in signal.SIGHUP, signal.SIGINT:
+    signal.signal(number, signal.SIG_DFL)
 for case in Room.sources, Room.two_calls_at_once, Room.not_built, Room.words_and_terminal, Room.signals:
     with tempfile.TemporaryDirectory() as folder:
         case(Room(pathlib.Path(folder) / case.__name__))
