@@ -1,11 +1,12 @@
 -- Lemmas on a plan with the entries of a text.
-use Rattle.std.proofs.Common.{◌≡◌, ℕ, ◌≤◌, ◌&&◌, ◌==◌, Bool, true, false, List, ◌++◌, length, take, drop, map, refl, sym, ap, ◌∙◌, arith, Ok, Err, nat_eq}
-use Rattle.std.specs.Prelude.{Option, Some}
+use Rattle.std.proofs.Common.{◌≡◌, ℕ, ◌≤◌, ◌&&◌, ◌||◌, ◌==◌, ◌⊎◌, inr, not, Bool, true, false, List, [], ◌∷◌, ◌++◌, length, take, drop, map, refl, sym, ap, ◌∙◌, arith, Ok, Err, nat_eq}
+use Rattle.std.specs.Prelude.{Option, Some, Result, MatchResult}
 use Rattle.std.specs.List.{list_all, list_any}
 use Rattle.std.proofs.lemmas.Bool.{or_left, or_right, or_from}
 use Rattle.std.proofs.lemmas.List.{length-append, take-append-le}
 use Rattle.std.proofs.lemmas.Cmp.{nat_eq_equiv}
 use Rattle.bsp_fields.specs.CivilDay.{CivilDay}
+use Rattle.bsp_fields.specs.FirstFault.{first_fault_or}
 use Rattle.bsp_calendar.specs.declared.entries.Terms.{Terms}
 use Rattle.bsp_calendar.proofs.KeyLemmas.{eqb_symm}
 use Rattle.bsp_calendar.proofs.PeriodLemmas.{IsStanding}
@@ -18,7 +19,8 @@ use Rattle.bsp_calendar.specs.declared.entries.CommissionTax.{CommissionTax}
 use Rattle.bsp_calendar.specs.declared.entries.Period.{Period}
 use Rattle.bsp_calendar.specs.declared.entries.PlanText.{PlanText}
 use Rattle.bsp_calendar.specs.declared.entries.Rate.{Rate}
-use Rattle.bsp_calendar.specs.declared.fault.PlanFault.TheVariants.{WrongKey, Differs, OutOfOrder, LateRate}
+use Rattle.bsp_calendar.specs.declared.fault.PlanFault.{PlanFault}
+use Rattle.bsp_calendar.specs.declared.fault.PlanFault.TheVariants.{WrongKey, Differs, OutOfOrder, LateRate, NoMemory}
 
 -- an airline is among those each once where it is among all
 pub among_once : (xs : List ℕ) (code : ℕ) → is_among code (once same_airline xs) ≡ is_among code xs
@@ -37,15 +39,6 @@ module _ (p : Published) (text : PlanText) where
 
   pub with_difference : are_within_bounds text ≡ true → have_airlines p text ≡ true → has_difference p text ≡ true → extended p text ≡ Err Differs
   with_difference b a h = rw (b, a, h) refl
-
-  pub not_in_order : are_within_bounds text ≡ true → have_airlines p text ≡ true → has_difference p text ≡ false → are_in_order (once same_period (p.periods ++ text.periods.items)) ≡ false → extended p text ≡ Err OutOfOrder
-  not_in_order b a d h = rw (b, a, d, h) refl
-
-  pub with_late_rate : are_within_bounds text ≡ true → have_airlines p text ≡ true → has_difference p text ≡ false → are_in_order (once same_period (p.periods ++ text.periods.items)) ≡ true → has_late_rate p text ≡ true → extended p text ≡ Err LateRate
-  with_late_rate b a d o h = rw (b, a, d, o, h) refl
-
-  pub with_late_tax : are_within_bounds text ≡ true → have_airlines p text ≡ true → has_difference p text ≡ false → are_in_order (once same_period (p.periods ++ text.periods.items)) ≡ true → has_late_rate p text ≡ false → has_late_tax p text ≡ true → extended p text ≡ Err LateRate
-  with_late_tax b a d o r h = rw (b, a, d, o, r, h) refl
 
   pub accepted : are_within_bounds text ≡ true → have_airlines p text ≡ true → has_difference p text ≡ false → are_in_order (once same_period (p.periods ++ text.periods.items)) ≡ true → has_late_rate p text ≡ false → has_late_tax p text ≡ false → extended p text ≡ Ok (with_entries p text)
   accepted b a d o r h = rw (b, a, d, o, r, h) refl
@@ -81,14 +74,36 @@ module _ (p : Published) (text : PlanText) where
   no_difference rs qs ts rates periods taxes t r q x =
       or_from _ _ t (or_from _ _ (rw rates at r) (or_from _ _ (rw periods at q) (rw taxes at x)))
 
-  pub order_from : (qs list : List Period) (b : Bool) → qs ≡ text.periods.items → list ≡ once same_period (p.periods ++ qs) → b ≡ are_in_order list → are_in_order (once same_period (p.periods ++ text.periods.items)) ≡ b
-  order_from qs list b periods joined tested = sym (rw (joined, periods) at tested)
+-- ---- the last two rows of the table, judged on the lists
 
-  pub late_from : (rs list : List Rate) (known : ℕ) (b : Bool) → rs ≡ text.rates.items → list ≡ once same_rate (p.rates ++ rs) → known ≡ length p.rates → b ≡ list_any (λ r. is_up_to r.from p.day) (drop known list) → has_late_rate p text ≡ b
-  late_from rs list known b rates joined long tested = sym (rw (joined, rates, long) at tested)
+-- what is told by rows over no value is told by them over any
+told_by_rows : {V : Type 0} (a b : Bool) (x y : PlanFault) (v : V) (r : Result (Unit {0}) PlanFault) → r ≡ first_fault_or ((a, x) ∷ (b, y) ∷ []) tt → MatchResult r (λ _. first_fault_or ((a, x) ∷ (b, y) ∷ []) v ≡ Ok v) (λ fault. first_fault_or ((a, x) ∷ (b, y) ∷ []) v ≡ Err fault)
+told_by_rows true b x y v r h = rw h refl
+told_by_rows false true x y v r h = rw h refl
+told_by_rows false false x y v r h = rw h refl
 
-  pub late_tax_from : (ts list : List CommissionTax) (known : ℕ) (b : Bool) → ts ≡ text.commission_taxes.items → list ≡ once same_tax (p.commission_taxes ++ ts) → known ≡ length p.commission_taxes → b ≡ list_any (has_begun p.day) (drop known list) → has_late_tax p text ≡ b
-  late_tax_from ts list known b taxes joined long tested = sym (rw (joined, taxes, long) at tested)
+-- what filling lists of these entries answers
+abbrev pub IsFilled : Published → PlanText → List ℕ → List Rate → List Period → List CommissionTax → Result (Unit {0}) PlanFault → Type 0
+IsFilled p text codes rs qs ts r =
+    MatchResult r
+    (λ _. (extended p text ≡ Ok (with_entries p text)) × (codes ≡ (with_entries p text).airlines) × (rs ≡ (with_entries p text).rates) × (qs ≡ (with_entries p text).periods) × (ts ≡ (with_entries p text).commission_taxes))
+    (λ fault. (fault ≡ NoMemory) ⊎ (extended p text ≡ Err fault))
+
+told_as : (p : Published) (text : PlanText) (codes : List ℕ) (rs : List Rate) (qs : List Period) (ts : List CommissionTax) (r : Result (Unit {0}) PlanFault) (rows : Result Published PlanFault) → extended p text ≡ rows → codes ≡ (with_entries p text).airlines → rs ≡ (with_entries p text).rates → qs ≡ (with_entries p text).periods → ts ≡ (with_entries p text).commission_taxes → MatchResult r (λ _. rows ≡ Ok (with_entries p text)) (λ fault. rows ≡ Err fault) → IsFilled p text codes rs qs ts r
+told_as p text codes rs qs ts (Ok u) rows same airlines rates periods taxes told = (same ∙ told, airlines, rates, periods, taxes)
+told_as p text codes rs qs ts (Err x) rows same airlines rates periods taxes told = inr (same ∙ told)
+
+-- lists that are filled from a text, by what their test told
+pub filled : (p : Published) (text : PlanText) (codes : List ℕ) (rs : List Rate) (qs : List Period) (ts : List CommissionTax) (r : Result (Unit {0}) PlanFault) → are_within_bounds text ≡ true → have_airlines p text ≡ true → has_difference p text ≡ false → codes ≡ once same_airline (p.airlines ++ text.airlines.items) → rs ≡ once same_rate (p.rates ++ text.rates.items) → qs ≡ once same_period (p.periods ++ text.periods.items) → ts ≡ once same_tax (p.commission_taxes ++ text.commission_taxes.items)
+    → r ≡ first_fault_or ((not (are_in_order qs), OutOfOrder) ∷ (list_any (λ rate. is_up_to rate.from p.day) (drop (length p.rates) rs) || list_any (has_begun p.day) (drop (length p.commission_taxes) ts), LateRate) ∷ []) tt
+    → IsFilled p text codes rs qs ts r
+filled p text codes rs qs ts r bounds have none airlines rates periods taxes told =
+    let unordered = not (are_in_order (once same_period (p.periods ++ text.periods.items))) in
+    let late = has_late_rate p text || has_late_tax p text in
+    let whole = with_entries p text in
+    let rows : extended p text ≡ first_fault_or ((unordered, OutOfOrder) ∷ (late, LateRate) ∷ []) whole = rw (bounds, have, none) refl in
+    told_as p text codes rs qs ts r (first_fault_or ((unordered, OutOfOrder) ∷ (late, LateRate) ∷ []) whole) rows airlines rates periods taxes
+    (told_by_rows unordered late OutOfOrder LateRate whole r (rw (rates, periods, taxes) at told))
 
 -- ---- the periods of the new plan
 

@@ -69,7 +69,7 @@ pub(crate) fn are_in_order(periods: &[Period]) -> bool
 fn have_days_in_order(periods: &[Period]) -> bool
     ensures { result ≡ list_all has_days_in_order periods.now }
 {
-    periods.iter().all(|period| has_days_in_order(period))
+    periods.iter().all(has_days_in_order)
 }
 
 /// Whether the days of a period are in order.
@@ -105,18 +105,11 @@ pub(crate) fn has_late_rate(rates: &[Rate], known: usize, day: Day) -> bool
         .any(|rate| is_up_to(rate.from, day))
 }
 
-/// Whether a tax on commission begins on a day or before.
-fn has_begun(tax: &CommissionTax, day: Day) -> bool
-    ensures { result ≡ has_begun day tax.now }
-{
-    is_up_to(tax.from, day)
-}
-
 /// Whether one of the taxes on commission beyond the known ones begins on a day or before.
 pub(crate) fn has_tax_begun(taxes: &[CommissionTax], known: usize, day: Day) -> bool
     ensures { result ≡ list_any (has_begun day) (drop known taxes.now) }
 {
-    taxes.iter().skip(known).any(|tax| has_begun(tax, day))
+    taxes.iter().skip(known).any(|tax| is_up_to(tax.from, day))
 }
 
 /// Whether a list has no entry beyond the known ones.

@@ -1,9 +1,11 @@
 //! The published plan, the business day and the closed periods.
 
-ghost use Rattle.std.specs.Prelude.{◌≡◌, ◌≤◌, ◌&&◌, ◌⊎◌, false, Ok, Err, MatchResult, drop, length};
-ghost use Rattle.bsp_calendar.specs.DayOrder.{same_day};
-ghost use Rattle.bsp_calendar.specs.Published.{is_closed, opening};
-ghost use Rattle.bsp_calendar.specs.Requests.{Answers, AnswersOrLacksMemory, are_within_bounds, closing, extended, has_terms, holds_already, is_empty, on_day, with_entries};
+ghost use Rattle.std.specs.Prelude.{◌≡◌, ◌≤◌, ◌&&◌, ◌||◌, ◌⊎◌, [], ◌∷◌, false, not, Ok, Err, MatchResult, drop, length};
+ghost use Rattle.std.specs.List.{list_any};
+ghost use Rattle.bsp_fields.specs.FirstFault.{first_fault_or};
+ghost use Rattle.bsp_calendar.specs.DayOrder.{is_up_to, same_day};
+ghost use Rattle.bsp_calendar.specs.Published.{has_begun, is_closed, opening};
+ghost use Rattle.bsp_calendar.specs.Requests.{Answers, AnswersOrLacksMemory, are_in_order, are_within_bounds, closing, extended, has_terms, holds_already, is_empty, on_day, with_entries};
 ghost use Rattle.bsp_calendar.specs.SoundPlan.{Continues, HasSameEntries, IsSoundPlan};
 ghost use Rattle.bsp_calendar.specs.Standing.{dated};
 
@@ -134,40 +136,57 @@ impl Plan {
             × (lists.commission_taxes ≡ (with_entries self.now text.now).commission_taxes))
             (λ fault. (fault ≡ PlanFault.NoMemory) ⊎ (extended self.now text.now ≡ Err fault)) }
     {
-        let lists = &self.lists;
+        let held = &self.lists;
         if !are_within_bounds(text) {
             return Err(PlanFault::WrongKey);
         }
-        let airlines = join_airlines(self.alloc, &lists.airlines, &text.airlines)?;
+        let airlines = join_airlines(self.alloc, &held.airlines, &text.airlines)?;
         if !have_airlines(&text.rates, &airlines) {
             return Err(PlanFault::WrongKey);
         }
         if differ_in_terms(self.terms, text.terms) {
             return Err(PlanFault::Differs);
         }
-        let rates = join_rates(self.alloc, &lists.rates, &text.rates)?;
-        let periods = join_periods(self.alloc, &lists.periods, &text.periods)?;
+        let rates = join_rates(self.alloc, &held.rates, &text.rates)?;
+        let periods = join_periods(self.alloc, &held.periods, &text.periods)?;
         let commission_taxes = join_taxes(
             self.alloc,
-            &lists.commission_taxes,
+            &held.commission_taxes,
             &text.commission_taxes,
         )?;
-        if !are_in_order(periods.list()) {
-            return Err(PlanFault::OutOfOrder);
-        }
-        if has_late_rate(rates.list(), lists.rates.list().len(), self.day) {
-            return Err(PlanFault::LateRate);
-        }
-        let known = lists.commission_taxes.list().len();
-        if has_tax_begun(commission_taxes.list(), known, self.day) {
-            return Err(PlanFault::LateRate);
-        }
-        Ok(Lists {
+        let lists = Lists {
             airlines,
             rates,
             periods,
             commission_taxes,
-        })
+        };
+        self.check_new(&lists)?;
+        Ok(lists)
+    }
+
+    /// Judges the periods of further lists, and the rates and taxes that the plan has not.
+    fn check_new(&self, lists: &Lists) -> Result<(), PlanFault>
+        ensures { result ≡ first_fault_or
+            ((not (are_in_order lists.now.periods), PlanFault.OutOfOrder)
+            ∷ (
+              list_any (λ r. is_up_to r.from self.now.day) (drop (length self.now.rates) lists.now.rates)
+                  || list_any (has_begun self.now.day) (drop (length self.now.commission_taxes) lists.now.commission_taxes),
+              PlanFault.LateRate,
+            )
+            ∷ []) tt }
+    {
+        let held = &self.lists;
+        if !are_in_order(lists.periods.list()) {
+            return Err(PlanFault::OutOfOrder);
+        }
+        if has_late_rate(lists.rates.list(), held.rates.list().len(), self.day) {
+            return Err(PlanFault::LateRate);
+        }
+        let known = held.commission_taxes.list().len();
+        if has_tax_begun(lists.commission_taxes.list(), known, self.day) {
+            return Err(PlanFault::LateRate);
+        }
+        Ok(())
     }
 
     /// Whether terms are published, and the lists have no entry that the plan has not.

@@ -21,7 +21,7 @@ fn items<F: Form>(alloc: Global, list: &Array) -> Result<Vec<F::Read>, PlanFault
         let Some(item) = F::read(value) else {
             return Err(PlanFault::WrongKey);
         };
-        items.push(item).map_err(|_| PlanFault::NoMemory)?;
+        items.push(item)?;
     }
     Ok(items)
 }
