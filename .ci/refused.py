@@ -1,6 +1,6 @@
 #!/usr/bin/env python3
 """Runs the built programs with their first allocation refused, then with their second, and so on until a run refuses none:
-- bsp_record_examples on a page with each call of fields, records and reports over rows that takes memory, and a run of requests. A call then answers as with ample
+- bsp_record_examples on a page with each call of fields, RET files and reports over rows that takes memory, and a run of requests. A call then answers as with ample
   memory, or names the lack of memory; the same case after it answers as with ample memory.
 - bsp_office on words and files. It ends as with ample memory, or with status 3, no output and the line that memory was short.
 - its command `run`, which is sent each request of some conversations twice; these have each request of docs/ROUTES.md.
@@ -44,8 +44,6 @@ SHORT = re.compile(rb"bsp_office: .*out of memory\n")
 NOTES = re.compile(rb"(bsp_office: (\S+\.db: (new book|day .*)|[A-Z]+ /\S* 503 B01 14)\n)*")
 # how a call names the lack of memory
 LACKS = re.compile(rb"F10|NoRoom|out of memory|503 \{\"code\":\"B01\"\}|standard input or output failed")
-# what a reader of a RET file prints in front of a call that it makes again
-AGAIN = re.compile(rb"F10 record \d+, again ")
 JUDGE = "judge --plan plan.toml --day 2024-01-05 --agent 12345675 --stock 1300000000-1300000099"
 WORDS = ["check v1.ret", "check kinds.ret", "check two.ret", "check sum.ret", "hotcheck v3.hot", "hotcheck taxed.hot", "hotcheck short.hot", "--help", "--version",
          "check --help", "", "check", "report v1.ret", "check --unknown", "hotcheck v3.hot v3.hot", "check --quiet sum.ret",
@@ -113,13 +111,6 @@ def is_same(ample, found):
 # ---- pages of cases
 
 
-def is_short(line, wanted):
-    """The line names the lack of memory, or it is the one that is wanted, but for a call of a reader made twice."""
-    if AGAIN.search(line):
-        return AGAIN.sub(b"", line) == wanted
-    return LACKS.search(line) is not None
-
-
 def is_page(ample, found, _number):
     """The page is the same, but for one line at most that names the lack of memory; or it ends there, by status 1."""
     lines, wanted = found.out.splitlines(), ample.out.splitlines()
@@ -127,7 +118,7 @@ def is_page(ample, found, _number):
         return LACKS.search(found.err) is not None and wanted[:max(len(lines) - 1, 0)] == lines[:-1]
     others = [(line, it) for line, it in zip(lines, wanted) if line != it]
     is_whole = found.status == 0 and not found.err and len(lines) == len(wanted)
-    return is_whole and len(others) <= 1 and all(is_short(line, it) for line, it in others)
+    return is_whole and len(others) <= 1 and all(LACKS.search(line) for line, _ in others)
 
 
 def pages():

@@ -547,7 +547,7 @@ def requests():
 
 CALLS = office.TOP / "crates" / "bsp_record_examples" / "out" / "bsp_record_examples"
 # the calls on a RET file, and those of reports over its transactions
-READS = "bytes MOST", "reader feed MOST; finish; file", "write MOST; MOST"
+READS = "reader bytes MOST; finish; file", "reader feed MOST; finish; file", "write MOST; MOST"
 REPORTS = f"statement {AGENT} MOST", "settlement 24011 MOST", "hot-file 125 MOST"
 MANY_REQUESTS = f"run 20000 GET /agents/{AGENT}/stock {AGENT_TOKEN}"
 
@@ -573,7 +573,7 @@ def calls():
         return
     *reads, statement, settlement, hot, replies = answers_in([*READS, *REPORTS, MANY_REQUESTS], ended.stdout.decode())
     found = f"records {3 * count + 2}, transactions {count}, sum {23_500 * count}"
-    office.expect("calls on a RET file", [found, f"done; done; {found}", f"the same, {len(text)} bytes"], reads)
+    office.expect("calls on a RET file", [f"done; done; {found}", f"done; done; {found}", f"the same, {len(text)} bytes"], reads)
     office.expect("a run of many requests", '20000 times 403 {"code":"N01"}', replies)
     net = money(22_500 * count + 5_000)
     office.expect("the statement over rows", True, statement.endswith(f" {net}"))

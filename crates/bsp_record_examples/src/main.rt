@@ -1,11 +1,10 @@
-//! Worked examples of single calls: of fields and records, of RET files in pieces and written, of commission, memos
-//! and reports, and of runs of requests. It reads a page of cases from standard input, makes the call that each case
+//! Worked examples of single calls: of fields, of RET files in pieces and written, of reports over rows, and of runs
+//! of requests. It reads a page of cases from standard input, makes the call that each case
 //! names, and writes the page with what the calls gave. The page says how a case is written. The status is 1 where a
 //! line is no case.
 #![tactic(auto)]
 
 mod answers;
-mod days;
 mod desk;
 mod fault;
 mod fields;
@@ -15,12 +14,9 @@ mod notation;
 mod output;
 mod page;
 mod reader;
-mod records;
 mod reports;
 mod ret;
-mod rules;
 mod texts;
-mod transactions;
 mod words;
 
 use answers::answer_page;

@@ -53,15 +53,9 @@ impl Output {
         Ok(())
     }
 
-    /// Appends the name of a fault.
+    /// Appends the name of a fault, and how it is displayed.
     pub fn fault(&mut self, fault: FieldFault) {
-        self.say(format_args!("{fault:?}"));
-    }
-
-    /// Appends whether something is so.
-    pub fn answer(&mut self, is_so: bool) -> Answered {
-        self.push(if is_so { "yes" } else { "no" });
-        Ok(())
+        self.say(format_args!("{fault:?}, {fault}"));
     }
 }
 

@@ -1,80 +1,70 @@
 //! The calls of a reader of a RET file that comes in pieces, one after another.
 
 use crate::fault::{Answered, Fault};
-use crate::output::{Output, say};
+use crate::output::Output;
 use crate::page::Page;
-use crate::ret::{Counts, counted, show};
+use crate::ret::{Outcome, counted, show};
 use crate::texts::text_of;
 use crate::words::first_word;
 use bsp_ret::{FaultCode, RetFault, RetReader};
 
-/// What a call of a reader gives: the counts of its file, or nothing.
-type Made = Result<Option<Counts>, RetFault>;
-
-/// A call of a reader.
-#[derive(Clone, Copy)]
-enum Call<'a> {
-    /// Feeds a piece.
-    Feed(&'a [u8]),
-    /// Ends the text.
-    Finish,
-    /// Asks for the file.
-    File,
-}
-
-/// Makes a call of a reader.
-fn make(reader: &mut RetReader, call: Call<'_>) -> Made {
-    match call {
-        Call::Feed(piece) => reader.feed(piece)?,
-        Call::Finish => reader.finish()?,
-        Call::File => return Ok(Some(counted(reader.file())?)),
-    }
-    Ok(None)
-}
-
-/// Appends what a call gave.
-fn show_made(made: Made, out: &mut Output) -> Answered {
-    match made {
-        Ok(None) => {
-            out.push("done");
-            Ok(())
-        }
-        Ok(Some(counts)) => show(Ok(counts), out),
-        Err(fault) => show(Err(fault), out),
+/// Feeds a piece; where memory was short, feeds it again.
+fn feed(reader: &mut RetReader, piece: &[u8]) -> Result<(), RetFault> {
+    let fed = reader.feed(piece);
+    match fed {
+        Err(fault) if fault.code == FaultCode::F10 => reader.feed(piece),
+        _ => fed,
     }
 }
 
-/// Makes a call, and appends what it gave; where memory was short, makes it again.
-fn answer(reader: &mut RetReader, call: Call<'_>, out: &mut Output) -> Answered {
-    let made = make(reader, call);
-    match made {
-        Err(fault) if fault.code == FaultCode::F10 => {
-            say!(out, "{fault}, again ");
-            show_made(make(reader, call), out)
-        }
-        _ => show_made(made, out),
+/// Feeds a text byte by byte.
+fn feed_bytes(reader: &mut RetReader, text: &[u8]) -> Result<(), RetFault> {
+    for byte in text {
+        feed(reader, &[*byte])?;
+    }
+    Ok(())
+}
+
+/// The counts of a reader's file; where memory was short, asks for it again.
+fn file_of(reader: &RetReader) -> Outcome {
+    let outcome = counted(reader.file());
+    match outcome {
+        Err(fault) if fault.code == FaultCode::F10 => counted(reader.file()),
+        _ => outcome,
     }
 }
 
-/// Makes the call that a text says: `feed V1`, `finish` or `file`.
-fn take(page: &Page<'_>, step: &str, reader: &mut RetReader, out: &mut Output) -> Answered {
-    let (word, parts) = first_word(step);
+/// Appends what a call gave that gives no value.
+fn show_done(done: Result<(), RetFault>, out: &mut Output) -> Answered {
+    match done {
+        Ok(()) => out.push("done"),
+        Err(fault) => out.say(fault),
+    }
+    Ok(())
+}
+
+/// Makes the call of a word, and appends what it gave.
+fn make(reader: &mut RetReader, word: &str, text: &[u8], out: &mut Output) -> Answered {
     match word {
-        "feed" => answer(reader, Call::Feed(&text_of(page, parts)?), out),
-        "finish" => answer(reader, Call::Finish, out),
-        "file" => answer(reader, Call::File, out),
+        "feed" => show_done(feed(reader, text), out),
+        "bytes" => show_done(feed_bytes(reader, text), out),
+        "finish" => show_done(reader.finish(), out),
+        "file" => show(file_of(reader), out),
         _ => Err(Fault::Word),
     }
 }
 
+/// Makes the call that a text says: `feed V1`, `bytes V1`, `finish` or `file`.
+fn take(page: &Page<'_>, step: &str, reader: &mut RetReader, out: &mut Output) -> Answered {
+    let (word, parts) = first_word(step);
+    let text = text_of(page, parts)?;
+    make(reader, word, &text, out)
+}
+
 /// Makes the calls of a reader; `; ` is between them.
 fn take_all(page: &Page<'_>, steps: &str, reader: &mut RetReader, out: &mut Output) -> Answered {
-    let mut is_first = true;
-    for step in steps.split("; ") {
-        if !is_first {
-            out.push("; ");
-        }
-        is_first = false;
+    for (at, step) in steps.split("; ").enumerate() {
+        out.push(if at > 0 { "; " } else { "" });
         take(page, step, reader, out)?;
     }
     Ok(())

@@ -4,13 +4,12 @@
 use crate::fault::{Answered, Fault};
 use crate::output::Output;
 use crate::page::Page;
-use crate::rules::memo_of;
 use crate::texts::text_of;
-use crate::words::{Words, first_word};
+use crate::words::first_word;
 use bsp_calendar::{Currency, Period, Plan, PlanText, Terms};
-use bsp_fields::{AgentCode, AirlineCode, Amount, Day, PeriodCode};
+use bsp_fields::{AgentCode, AirlineCode, Amount, Day, DocNumber, PeriodCode};
 use bsp_hot::{HotFault, write_hot};
-use bsp_memos::Memo;
+use bsp_memos::{Memo, MemoFields, MemoKind, MemoState, Reason};
 use bsp_ret::{RetFile, read_ret, transaction};
 use bsp_ret_records::Transaction;
 use bsp_rules::Item;
@@ -19,9 +18,6 @@ use std::alloc::Global;
 
 /// The period in which the transactions are accepted.
 const PERIOD: &[u8] = b"24011";
-
-/// The memo, as a case of `memo` states it.
-const MEMO: &str = "ADMA agreed 24011 5000 5000";
 
 /// The period with its days.
 fn period() -> Result<Period, Fault> {
@@ -35,8 +31,11 @@ fn period() -> Result<Period, Fault> {
 
 /// The currency and the limits of the market.
 fn terms() -> Result<Terms, Fault> {
+    let Some(currency) = Currency::read(b"EUR") else {
+        return Err(Fault::Field);
+    };
     Ok(Terms {
-        currency: Currency::read(b"EUR").ok_or(Fault::Field)?,
+        currency,
         review_days: 14,
         documents_limit: 1_000_000,
     })
@@ -105,6 +104,26 @@ fn all_of<T: OfPlace + Drop>(alloc: Global, file: &RetFile<'_>) -> Result<Vec<T>
     Ok(all)
 }
 
+/// The fields of a debit memo of 50.00, which is agreed and billed in the period.
+fn memo_fields() -> Result<MemoFields, Fault> {
+    let Some(reason) = Reason::read(b"fare") else {
+        return Err(Fault::Field);
+    };
+    let amount = Amount::new(5_000)?;
+    Ok(MemoFields {
+        airline: AirlineCode::read(b"125")?,
+        document: DocNumber::read_unchecked(b"6000000001")?,
+        agent: AgentCode::read(b"12345675")?,
+        kind: MemoKind::Debit,
+        amount,
+        issued_amount: amount,
+        reason,
+        issued: Day::first(),
+        state: MemoState::Agreed,
+        billed: Some(PeriodCode::read(PERIOD)?),
+    })
+}
+
 /// The rows that reports are over.
 #[derive(Drop)]
 struct Rows {
@@ -124,7 +143,9 @@ fn items_of(alloc: Global, text: &[u8]) -> Result<Vec<Item>, Fault> {
 impl Rows {
     /// Those of the RET file that a text is. The plan is empty.
     fn of(alloc: Global, text: &[u8]) -> Result<Rows, Fault> {
-        let memo = memo_of(Words { rest: MEMO })?.ok_or(Fault::Field)?;
+        let Some(memo) = Memo::restore(memo_fields()?) else {
+            return Err(Fault::Field);
+        };
         Ok(Rows {
             items: items_of(alloc, text)?,
             memos: [memo],
@@ -184,7 +205,8 @@ fn show(alloc: Global, word: &str, head: &str, rows: &Rows, out: &mut Output) ->
     match word {
         "statement" => show_statement(alloc, head, rows, out),
         "settlement" => show_settlement(alloc, head, rows, out),
-        _ => show_hot_file(alloc, head, rows, out),
+        "hot-file" => show_hot_file(alloc, head, rows, out),
+        _ => Err(Fault::Word),
     }
 }
 

@@ -9,7 +9,7 @@ use bsp_ret_writer::write_ret;
 use std::alloc::Global;
 
 /// The numbers of records and transactions of a RET file, and its sum in minor units.
-#[derive(Clone, Copy, PartialEq)]
+#[derive(Clone, Copy)]
 pub struct Counts {
     records: usize,
     transactions: usize,
@@ -47,34 +47,6 @@ pub fn show(outcome: Outcome, out: &mut Output) -> Answered {
     Ok(())
 }
 
-/// What a reader gives that was fed to the end.
-fn read_fed(reader: &mut RetReader) -> Outcome {
-    reader.finish()?;
-    counted(reader.file())
-}
-
-/// What is read of two pieces.
-fn read_pieces(alloc: Global, front: &[u8], back: &[u8]) -> Outcome {
-    let mut reader = RetReader::new(alloc);
-    reader.feed(front)?;
-    reader.feed(back)?;
-    read_fed(&mut reader)
-}
-
-/// What is read of a text byte by byte.
-fn read_bytes(alloc: Global, text: &[u8]) -> Outcome {
-    let mut reader = RetReader::new(alloc);
-    for byte in text {
-        reader.feed(&[*byte])?;
-    }
-    read_fed(&mut reader)
-}
-
-/// Feeds a text byte by byte.
-pub fn show_bytes(alloc: Global, text: &[u8], out: &mut Output) -> Answered {
-    show(read_bytes(alloc, text), out)
-}
-
 /// The text that is written of the file that a call gave.
 fn written(alloc: Global, file: Result<RetFile<'_>, RetFault>) -> Result<Vec<u8>, Fault> {
     match file {
@@ -83,22 +55,28 @@ fn written(alloc: Global, file: Result<RetFile<'_>, RetFault>) -> Result<Vec<u8>
     }
 }
 
+/// Feeds two pieces, and ends the text.
+fn feed_both(reader: &mut RetReader, front: &[u8], back: &[u8]) -> Result<(), RetFault> {
+    reader.feed(front)?;
+    reader.feed(back)?;
+    reader.finish()
+}
+
 /// The text that is written of the RET file that a reader gives of two pieces.
 fn written_of_pieces(alloc: Global, front: &[u8], back: &[u8]) -> Result<Vec<u8>, Fault> {
     let mut reader = RetReader::new(alloc);
-    reader.feed(front)?;
-    reader.feed(back)?;
-    reader.finish()?;
-    written(alloc, reader.file())
+    match feed_both(&mut reader, front, back) {
+        Ok(()) => written(alloc, reader.file()),
+        Err(fault) => Err(Fault::from(fault)),
+    }
 }
 
-/// Of how many places of a text the file of the two pieces has these counts, and is written as `whole`.
-fn count_same(alloc: Global, text: &[u8], counts: Outcome, whole: &[u8]) -> Result<usize, Fault> {
+/// Of how many places of a text the file of the two pieces is written as `whole`.
+fn count_same(alloc: Global, text: &[u8], whole: &[u8]) -> Result<usize, Fault> {
     let mut same = 0_usize;
     for place in 0..=text.len() {
         let (front, back) = text.split_at(place.min(text.len()));
-        let is_counted = read_pieces(alloc, front, back) == counts;
-        if is_counted && written_of_pieces(alloc, front, back)?.as_slice() == whole {
+        if written_of_pieces(alloc, front, back)?.as_slice() == whole {
             same = same.saturating_add(1);
         }
     }
@@ -107,16 +85,21 @@ fn count_same(alloc: Global, text: &[u8], counts: Outcome, whole: &[u8]) -> Resu
 
 /// Cuts a RET file into two pieces at each of its places, and writes of how many the file of the reader is that of
 /// the whole text.
-pub fn show_pieces(alloc: Global, text: &[u8], out: &mut Output) -> Answered {
-    let counts = counted(read_ret(alloc, text));
+fn show_pieces(alloc: Global, text: &[u8], out: &mut Output) -> Answered {
     let whole = written(alloc, read_ret(alloc, text))?;
-    let same = count_same(alloc, text, counts, &whole)?;
+    let same = count_same(alloc, text, &whole)?;
     say!(
         out,
         "{} texts, {same} of the same file",
         text.len().saturating_add(1)
     );
     Ok(())
+}
+
+/// Cuts the text that parts make.
+pub fn pieces(page: &Page<'_>, parts: &str, out: &mut Output) -> Answered {
+    let text = text_of(page, parts)?;
+    show_pieces(page.alloc, &text, out)
 }
 
 /// The text that is written of the RET file that parts make.

@@ -3,21 +3,8 @@
 use crate::fault::{Answered, Fault};
 use crate::page::Page;
 use crate::words::{first_word, number};
-use bsp_records::first_line;
 use std::alloc::Global;
 use std::mem;
-
-/// Appends the characters between quotation marks.
-fn push_quoted(quoted: &str, text: &mut Vec<u8>) -> Answered {
-    let Some(opened) = quoted.strip_prefix("\"") else {
-        return Err(Fault::Word);
-    };
-    let Some(characters) = opened.strip_suffix("\"") else {
-        return Err(Fault::Word);
-    };
-    text.extend_from_slice(characters.as_bytes())?;
-    Ok(())
-}
 
 /// Puts CR before each LF.
 fn end_by_crlf(alloc: Global, text: &mut Vec<u8>) -> Answered {
@@ -44,7 +31,6 @@ fn apply(page: &Page<'_>, part: &str, text: &mut Vec<u8>) -> Answered {
     let (word, rest) = first_word(part);
     match word {
         "crlf" => end_by_crlf(page.alloc, text),
-        "add" => push_quoted(rest, text),
         "cut" => {
             text.truncate(number(rest)?);
             Ok(())
@@ -66,13 +52,4 @@ pub fn text_of(page: &Page<'_>, parts: &str) -> Result<Vec<u8>, Fault> {
     let mut text = Vec::new(page.alloc);
     apply_all(page, parts, &mut text)?;
     Ok(text)
-}
-
-/// The first line of a text.
-pub fn line_of(text: &[u8]) -> Result<&[u8], Fault> {
-    if text.is_empty() {
-        return Err(Fault::Text);
-    }
-    let (line, _) = first_line(text);
-    Ok(line)
 }

@@ -1,7 +1,6 @@
 //! Words and numbers of a case.
 
 use crate::fault::Fault;
-use bsp_fields::Amount;
 use std::num::ParseIntError;
 use std::str;
 use std::str::FromStr;
@@ -17,11 +16,6 @@ pub fn first_word(text: &str) -> (&str, &str) {
 /// The number that a word is.
 pub fn number<N: FromStr<Err = ParseIntError>>(word: &str) -> Result<N, Fault> {
     word.parse::<N>().map_err(|_| Fault::Field)
-}
-
-/// The amount of minor units that a word is.
-pub fn amount(word: &str) -> Result<Amount, Fault> {
-    Ok(Amount::new(number(word)?)?)
 }
 
 /// The characters that a call gave.
