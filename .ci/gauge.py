@@ -12,15 +12,20 @@ import subprocess
 import sys
 import tempfile
 
+# the seconds from the beginning to the first check, and between two checks
+FIRST = 60
 APART = 600
 EXAMPLE = "start_lib"
 
 
 def seconds(kit):
-    """The processor seconds of a check of the example; none where it is not proved."""
+    """The processor seconds of a check of the example; none where it is missing or not proved."""
+    example = kit / "rattle/examples" / EXAMPLE
+    if not example.is_dir():
+        return None
     with tempfile.TemporaryDirectory() as folder:
         crate = pathlib.Path(folder, "crates", EXAMPLE)
-        shutil.copytree(kit / "rattle/examples" / EXAMPLE, crate, ignore=shutil.ignore_patterns("BUILD.bazel", "out"))
+        shutil.copytree(example, crate, ignore=shutil.ignore_patterns("BUILD.bazel", "out"))
         pathlib.Path(folder, ".git").mkdir()
         pathlib.Path(folder, "crates.txt").write_text(f"{EXAMPLE}:\n", encoding="utf-8")
         check = subprocess.Popen(["rt", "check", "--jobs", "1"], cwd=crate, stdin=subprocess.DEVNULL,
@@ -42,7 +47,7 @@ def main(words):
     kit = pathlib.Path(subprocess.run(["rt", "doc"], capture_output=True, text=True).stdout.strip()).parent
     command = subprocess.Popen(words)
     found = []
-    while (status := ended(command, 60 if not found else APART)) is None:
+    while (status := ended(command, APART if found else FIRST)) is None:
         found.append(seconds(kit))
     times = [it for it in found if it]
     if times:
