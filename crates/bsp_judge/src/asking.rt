@@ -1,6 +1,6 @@
 //! What a desk is asked in a trial.
 
-ghost use Rattle.std.specs.Prelude.{◌≡◌, ◌++◌, List, ℕ, IfErr, IfOk, OnOk, true};
+ghost use Rattle.std.specs.Prelude.{◌≡◌, ◌++◌, List, ℕ, IfErr, IfOk, OnOk};
 ghost use Rattle.std.specs.List.{FoldsTo};
 ghost use Rattle.bsp_ret.specs.Lines.{lines};
 ghost use Rattle.bsp_ret.specs.Ret.{Ret};
@@ -171,14 +171,6 @@ pub(crate) fn post(
     })
 }
 
-/// Posts a RET file for the agent. It says whether the desk answers by 200.
-fn passes(desk: &mut Desk<ListBook>, token: &Token, agent: AgentCode, file: &RetFile<'_>) -> bool
-    ensures passed { result ≡ true → (text : List ℕ) → Ret (lines text) file.now → Passes desk.old.office desk.old.book (report token.now agent text) desk.new.book }
-    ensures office { desk.new.office ≡ desk.old.office }
-{
-    post(desk, token, agent, file).status == Status::Ok
-}
-
 /// Posts an earlier file. It answers its first fault, or F10 where memory was short.
 fn post_text(
     alloc: Global,
@@ -191,17 +183,18 @@ fn post_text(
     ensures fault { IfErr result (IsRetFaultOf text.now) }
     ensures office { desk.new.office ≡ desk.old.office }
 {
-    match read_ret(alloc, text) {
-        Ok(file) => {
-            if passes(desk, token, agent, &file) {
-                return Ok(());
-            }
-            Err(RetFault {
-                code: FaultCode::F10,
-                at: 0,
-            })
-        }
-        Err(fault) => Err(fault),
+    let file = match read_ret(alloc, text) {
+        Ok(file) => file,
+        Err(fault) => return Err(fault),
+    };
+    let reply = post(desk, token, agent, &file);
+    if reply.status == Status::Ok {
+        Ok(())
+    } else {
+        Err(RetFault {
+            code: FaultCode::F10,
+            at: 0,
+        })
     }
 }
 

@@ -1,9 +1,10 @@
 //! The first key of a plan text that is missing, unknown or wrong: P02.
 
+use crate::lines::push_fields;
 use bsp_calendar::Currency;
 use bsp_fields::{AirlineCode, Day, PeriodCode};
+use itoa::Buffer;
 use std::alloc::AllocError;
-use std::fmt;
 use toml::{Table, Value};
 
 /// The form of a value.
@@ -138,29 +139,9 @@ enum TableFault<'t> {
     Wrong(Key),
 }
 
-impl fmt::Display for TableFault<'_> {
-    fn fmt<W: fmt::Write>(&self, f: &mut fmt::Formatter<W>) -> fmt::Result {
-        match self {
-            TableFault::NoTable => f.write_str("it is no table"),
-            TableFault::Unknown(name) => write!(f, "{name} is unknown"),
-            TableFault::Missing(key) => {
-                write!(f, "{} is missing: it is {}", key.name, key.form.wanted())
-            }
-            TableFault::Wrong(key) => {
-                write!(f, "{} is wrong: it is {}", key.name, key.form.wanted())
-            }
-        }
-    }
-}
-
-/// Whether a key is one of these, or has a list.
-fn is_known(name: &str, keys: &[Key], lists: &[&str]) -> bool {
-    for key in keys {
-        if key.name == name {
-            return true;
-        }
-    }
-    lists.contains(&name)
+/// Whether a key is one of these.
+fn is_among(keys: &[Key], name: &str) -> bool {
+    keys.iter().any(|key| key.name == name)
 }
 
 /// What is wrong with the value at a key, if anything is.
@@ -186,7 +167,7 @@ fn keys_fault(table: &Table, keys: &[Key]) -> Option<TableFault<'static>> {
 fn unknown_key<'t>(table: &'t Table, keys: &[Key], lists: &[&str]) -> Option<&'t str> {
     for name in table.keys() {
         let name = name.as_str();
-        if !is_known(name, keys, lists) {
+        if !is_among(keys, name) && !lists.iter().any(|list| *list == name) {
             return Some(name);
         }
     }
@@ -209,77 +190,93 @@ fn item_fault<'t>(value: &'t Value, keys: &[Key]) -> Option<TableFault<'t>> {
     }
 }
 
+/// Appends what is wrong with a table.
+fn push_fault(out: &mut Vec<u8>, fault: TableFault<'_>) -> Result<(), AllocError> {
+    match fault {
+        TableFault::NoTable => out.extend_from_slice(b"it is no table"),
+        TableFault::Unknown(name) => push_fields(out, &[name.as_bytes(), b" is unknown"]),
+        TableFault::Missing(key) => {
+            let wanted = key.form.wanted().as_bytes();
+            push_fields(out, &[key.name.as_bytes(), b" is missing: it is ", wanted])
+        }
+        TableFault::Wrong(key) => {
+            let wanted = key.form.wanted().as_bytes();
+            push_fields(out, &[key.name.as_bytes(), b" is wrong: it is ", wanted])
+        }
+    }
+}
+
 /// Appends what is wrong with the first item of a list that is at fault.
 fn push_items(
-    out: &mut String,
+    out: &mut Vec<u8>,
     name: &str,
     list: &[Value],
     keys: &[Key],
 ) -> Result<(), AllocError> {
     for (index, item) in list.iter().enumerate() {
         if let Some(fault) = item_fault(item, keys) {
-            return write!(out, "{name} {}: {fault}", index as u64 + 1);
+            let mut number = Buffer::new();
+            let number = number.format(index as u64 + 1).as_bytes();
+            push_fields(out, &[name.as_bytes(), b" ", number, b": "])?;
+            return push_fault(out, fault);
         }
     }
     Ok(())
 }
 
-/// Appends what is wrong with the list at a key, if it is there and nothing was said before.
+/// Appends what is wrong with the list at a key, if it is there.
 fn push_list(
-    out: &mut String,
+    out: &mut Vec<u8>,
     document: &Table,
     name: &str,
     keys: &[Key],
 ) -> Result<(), AllocError> {
-    if !out.is_empty() {
-        return Ok(());
-    }
     let Some(value) = document.get(name) else {
         return Ok(());
     };
     match value.as_array() {
         Some(list) => push_items(out, name, list, keys),
-        None => write!(
-            out,
-            "{name} is no list: above each of its tables is [[{name}]]"
-        ),
-    }
-}
-
-/// Whether each item of a list is in the form of an airline.
-fn are_airlines(list: &[Value]) -> bool {
-    for item in list {
-        if !Form::Airline.fits(item) {
-            return false;
+        None => {
+            let name = name.as_bytes();
+            let middle = b" is no list: above each of its tables is [[";
+            push_fields(out, &[name, middle, name, b"]]"])
         }
     }
-    true
 }
 
 /// Appends what is wrong with the list of airlines, if it is there.
-fn push_airlines(out: &mut String, document: &Table) -> Result<(), AllocError> {
+fn push_airlines(out: &mut Vec<u8>, document: &Table) -> Result<(), AllocError> {
     let Some(value) = document.get("airline") else {
         return Ok(());
     };
-    match value.as_array() {
-        Some(list) if are_airlines(list) => Ok(()),
-        Some(_) => out.push_str("airline: each item is three digits in quotes"),
-        None => out.push_str("airline is no list: it is [\"125\", \"220\"]"),
+    let Some(list) = value.as_array() else {
+        return out.extend_from_slice(b"airline is no list: it is [\"125\", \"220\"]");
+    };
+    if list.iter().all(|item| Form::Airline.fits(item)) {
+        return Ok(());
     }
+    out.extend_from_slice(b"airline: each item is three digits in quotes")
 }
 
 /// Appends what is wrong with the first list at fault.
-fn push_lists(out: &mut String, document: &Table) -> Result<(), AllocError> {
+fn push_lists(out: &mut Vec<u8>, document: &Table) -> Result<(), AllocError> {
     push_airlines(out, document)?;
-    push_list(out, document, "rate", &RATE)?;
-    push_list(out, document, "period", &PERIOD)?;
-    push_list(out, document, "commission_tax", &TAX)
+    if out.is_empty() {
+        push_list(out, document, "rate", &RATE)?;
+    }
+    if out.is_empty() {
+        push_list(out, document, "period", &PERIOD)?;
+    }
+    if out.is_empty() {
+        push_list(out, document, "commission_tax", &TAX)?;
+    }
+    Ok(())
 }
 
 /// Appends what is wrong with the first key of a plan text that is missing, unknown or wrong.
-pub(crate) fn push_document_fault(out: &mut String, document: &Table) -> Result<(), AllocError> {
+pub(crate) fn push_document_fault(out: &mut Vec<u8>, document: &Table) -> Result<(), AllocError> {
     match table_fault(document, &TERMS, &LISTS) {
-        Some(fault) => write!(out, "{fault}"),
+        Some(fault) => push_fault(out, fault),
         None => push_lists(out, document),
     }
 }

@@ -1,8 +1,10 @@
 //! Why a plan text is refused: the line or the key at fault, or the two entries that disagree. The words are for people.
 
+use crate::lines::push_fields;
 use crate::plan_keys::push_document_fault;
 use crate::plan_trial::{PlanRefused, publish_all};
 use bsp_calendar::{CommissionTax, Period, Plan, PlanFault, PlanText, Rate, Terms, read_plan};
+use itoa::Buffer;
 use std::alloc::{AllocError, Global};
 
 /// The number of the line of a text in which a place is.
@@ -13,139 +15,147 @@ fn line_at(text: &[u8], place: usize) -> usize {
 }
 
 /// Why the bytes are no TOML text.
-fn push_toml_fault(
-    out: &mut String,
-    text: &[u8],
-    error: &toml::de::Error,
-) -> Result<(), AllocError> {
+fn push_toml_fault(alloc: Global, out: &mut Vec<u8>, text: &[u8]) -> Result<(), AllocError> {
+    let Err(error) = toml::table_from_slice(alloc, text) else {
+        return Ok(());
+    };
     if error.is_memory() {
         return Err(AllocError);
     }
-    let message = error.message();
-    match error.span() {
-        Some(span) => write!(out, "line {}: {message}", line_at(text, span.start)),
-        None => out.push_str(message),
+    if let Some(span) = error.span() {
+        let mut line = Buffer::new();
+        let line = line.format(line_at(text, span.start)).as_bytes();
+        push_fields(out, &[b"line ", line, b": "])?;
     }
-}
-
-/// Why a text says no plan: it is no TOML text, or a key of it is at fault.
-fn push_text_fault(alloc: Global, out: &mut String, text: &[u8]) -> Result<(), AllocError> {
-    match toml::table_from_slice(alloc, text) {
-        Ok(document) => push_document_fault(out, &document),
-        Err(error) => push_toml_fault(out, text, &error),
-    }
+    out.extend_from_slice(error.message().as_bytes())
 }
 
 /// The first rate of an airline that neither the plan nor the text has.
-fn push_unknown_airline(out: &mut String, plan: &Plan, read: &PlanText) -> Result<(), AllocError> {
+fn push_unknown_airline(out: &mut Vec<u8>, plan: &Plan, read: &PlanText) -> Result<(), AllocError> {
     for rate in &read.rates {
         let airline = rate.airline;
-        if !plan.has_airline(airline) && !read.airlines.contains(&airline) {
-            return write!(
-                out,
-                "a rate is of {airline}, which is in neither the text nor the plan"
-            );
+        if !plan.has_airline(airline) && !read.airlines.iter().any(|it| *it == airline) {
+            let end = b", which is in neither the text nor the plan";
+            return push_fields(out, &[b"a rate is of ", &airline.digits(), end]);
         }
     }
     Ok(())
 }
 
-/// The first of some terms that differs.
-fn other_term(old: Terms, terms: Terms) -> Option<&'static str> {
-    if old.currency != terms.currency {
-        return Some("currency");
+/// Which key of a TOML text is at fault, or the airline of a rate.
+fn push_key(alloc: Global, out: &mut Vec<u8>, plan: &Plan, text: &[u8]) -> Result<(), AllocError> {
+    match read_plan(alloc, text) {
+        Ok(read) => return push_unknown_airline(out, plan, &read),
+        Err(PlanFault::NoMemory) => return Err(AllocError),
+        Err(_) => {}
     }
-    if old.review_days != terms.review_days {
-        return Some("review_days");
+    match toml::table_from_slice(alloc, text) {
+        Ok(document) => push_document_fault(out, &document),
+        Err(error) if error.is_memory() => Err(AllocError),
+        Err(_) => Ok(()),
     }
-    if old.documents_limit != terms.documents_limit {
-        return Some("documents_limit");
-    }
-    None
 }
 
 /// Terms that differ from those that are published.
-fn push_terms(out: &mut String, published: Option<Terms>, terms: Terms) -> Result<(), AllocError> {
+fn push_terms(out: &mut Vec<u8>, published: Option<Terms>, terms: Terms) -> Result<(), AllocError> {
     let Some(old) = published else {
         return Ok(());
     };
-    match other_term(old, terms) {
-        Some(name) => write!(out, "{name} differs from what is published"),
-        None => Ok(()),
-    }
+    let what = if old.currency != terms.currency {
+        "currency"
+    } else if old.review_days != terms.review_days {
+        "review_days"
+    } else if old.documents_limit != terms.documents_limit {
+        "documents_limit"
+    } else {
+        return Ok(());
+    };
+    push_fields(out, &[what.as_bytes(), b" differs from what is published"])
 }
 
-/// An entry of which a plan has one for each key.
-trait Entry {
-    /// Whether another has its key, and differs from it.
-    fn differs(&self, other: &Self) -> bool;
-
-    /// Appends what it says here, and what another said before.
-    fn push_beside(&self, other: &Self, out: &mut String) -> Result<(), AllocError>;
+/// The first of some rates with the key of this one that differs from it.
+fn other_rate<'k>(known: &'k [Rate], rate: &Rate) -> Option<&'k Rate> {
+    known.iter().find(|it| {
+        it.airline == rate.airline && it.from == rate.from && it.hundredths != rate.hundredths
+    })
 }
 
-impl Entry for Rate {
-    fn differs(&self, other: &Rate) -> bool {
-        self.airline == other.airline
-            && self.from == other.from
-            && self.hundredths != other.hundredths
-    }
-
-    fn push_beside(&self, other: &Rate, out: &mut String) -> Result<(), AllocError> {
-        write!(
-            out,
-            "the rate of {} from {} is {} here and {} before",
-            self.airline, self.from, self.hundredths, other.hundredths
-        )
-    }
-}
-
-impl Entry for Period {
-    fn differs(&self, other: &Period) -> bool {
-        self.code == other.code && self != other
-    }
-
-    fn push_beside(&self, other: &Period, out: &mut String) -> Result<(), AllocError> {
-        write!(
-            out,
-            "period {} is {} to {} here and {} to {} before",
-            self.code, self.first, self.last, other.first, other.last
-        )
-    }
-}
-
-impl Entry for CommissionTax {
-    fn differs(&self, other: &CommissionTax) -> bool {
-        self.from == other.from && self.hundredths != other.hundredths
-    }
-
-    fn push_beside(&self, other: &CommissionTax, out: &mut String) -> Result<(), AllocError> {
-        write!(
-            out,
-            "the commission_tax from {} is {} here and {} before",
-            self.from, self.hundredths, other.hundredths
-        )
-    }
-}
-
-/// The first of some entries with the key of this one that differs from it.
-fn other_entry<'k, E: Entry>(known: &'k [E], entry: &E) -> Option<&'k E> {
-    for it in known {
-        if entry.differs(it) {
-            return Some(it);
+/// The first rate that differs from one of these with its key.
+fn push_rates(out: &mut Vec<u8>, known: &[Rate], more: &[Rate]) -> Result<(), AllocError> {
+    for rate in more {
+        if let Some(other) = other_rate(known, rate) {
+            let (mut here, mut there) = (Buffer::new(), Buffer::new());
+            let fields: [&[u8]; 9] = [
+                b"the rate of ",
+                &rate.airline.digits(),
+                b" from ",
+                &rate.from.write_text(),
+                b" is ",
+                here.format(rate.hundredths).as_bytes(),
+                b" here and ",
+                there.format(other.hundredths).as_bytes(),
+                b" before",
+            ];
+            return push_fields(out, &fields);
         }
     }
-    None
+    Ok(())
 }
 
-/// The first entry that differs from one of these with its key, where nothing was said before.
-fn push_other<E: Entry>(out: &mut String, known: &[E], more: &[E]) -> Result<(), AllocError> {
-    if !out.is_empty() {
-        return Ok(());
+/// The first of some periods with the code of this one that differs from it.
+fn other_period<'k>(known: &'k [Period], period: &Period) -> Option<&'k Period> {
+    known
+        .iter()
+        .find(|it| it.code == period.code && *it != period)
+}
+
+/// The first period that differs from one of these with its code.
+fn push_periods(out: &mut Vec<u8>, known: &[Period], more: &[Period]) -> Result<(), AllocError> {
+    for period in more {
+        if let Some(other) = other_period(known, period) {
+            let fields: [&[u8]; 11] = [
+                b"period ",
+                &period.code.digits(),
+                b" is ",
+                &period.first.write_text(),
+                b" to ",
+                &period.last.write_text(),
+                b" here and ",
+                &other.first.write_text(),
+                b" to ",
+                &other.last.write_text(),
+                b" before",
+            ];
+            return push_fields(out, &fields);
+        }
     }
-    for entry in more {
-        if let Some(other) = other_entry(known, entry) {
-            return entry.push_beside(other, out);
+    Ok(())
+}
+
+/// The first of some taxes of the day of this one that differs from it.
+fn other_tax<'k>(known: &'k [CommissionTax], tax: &CommissionTax) -> Option<&'k CommissionTax> {
+    known.iter().find(|it| it.from == tax.from && it.hundredths != tax.hundredths)
+}
+
+/// The first tax that differs from one of these with its day.
+fn push_taxes(
+    out: &mut Vec<u8>,
+    known: &[CommissionTax],
+    more: &[CommissionTax],
+) -> Result<(), AllocError> {
+    for tax in more {
+        if let Some(other) = other_tax(known, tax) {
+            let (mut here, mut there) = (Buffer::new(), Buffer::new());
+            let fields: [&[u8]; 7] = [
+                b"the commission_tax from ",
+                &tax.from.write_text(),
+                b" is ",
+                here.format(tax.hundredths).as_bytes(),
+                b" here and ",
+                there.format(other.hundredths).as_bytes(),
+                b" before",
+            ];
+            return push_fields(out, &fields);
         }
     }
     Ok(())
@@ -161,17 +171,24 @@ struct PlanLists<'p> {
 
 /// The first two entries of these lists that have one key and differ, where nothing was said before.
 fn push_entries(
-    out: &mut String,
+    out: &mut Vec<u8>,
     known: &PlanLists<'_>,
     read: &PlanText,
 ) -> Result<(), AllocError> {
-    push_other(out, known.rates, &read.rates)?;
-    push_other(out, known.periods, &read.periods)?;
-    push_other(out, known.commission_taxes, &read.commission_taxes)
+    if out.is_empty() {
+        push_rates(out, known.rates, &read.rates)?;
+    }
+    if out.is_empty() {
+        push_periods(out, known.periods, &read.periods)?;
+    }
+    if out.is_empty() {
+        push_taxes(out, known.commission_taxes, &read.commission_taxes)?;
+    }
+    Ok(())
 }
 
 /// Which entry differs from a published one, or from another of the text.
-fn push_difference(out: &mut String, plan: &Plan, read: &PlanText) -> Result<(), AllocError> {
+fn push_difference(out: &mut Vec<u8>, plan: &Plan, read: &PlanText) -> Result<(), AllocError> {
     push_terms(out, plan.terms(), read.terms)?;
     let published = PlanLists {
         rates: plan.rates(),
@@ -188,55 +205,61 @@ fn push_difference(out: &mut String, plan: &Plan, read: &PlanText) -> Result<(),
 }
 
 /// What is wrong with the days of a period.
-fn push_own_days(out: &mut String, period: &Period) -> Result<(), AllocError> {
-    let (code, first, last) = (period.code, period.first, period.last);
+fn push_own_days(out: &mut Vec<u8>, period: &Period) -> Result<(), AllocError> {
+    let (first, last) = (period.first, period.last);
+    let code = period.code.digits();
     if first.number() > last.number() {
-        return write!(out, "period {code} is from {first} to {last}");
+        let (first, last) = (first.write_text(), last.write_text());
+        return push_fields(
+            out,
+            &[b"period ", &code, b" is from ", &first, b" to ", &last],
+        );
     }
     let remit = period.remittance;
     if last.number() < remit.number() {
         return Ok(());
     }
-    write!(out, "period {code} ends {last}, and its remit is {remit}")
+    let fields: [&[u8]; 6] = [
+        b"period ",
+        &code,
+        b" ends ",
+        &last.write_text(),
+        b", and its remit is ",
+        &remit.write_text(),
+    ];
+    push_fields(out, &fields)
 }
 
 /// A period that does not begin on the day after the one before it.
-fn push_gap(out: &mut String, before: Option<Period>, period: &Period) -> Result<(), AllocError> {
+fn push_gap(out: &mut Vec<u8>, before: Option<Period>, period: &Period) -> Result<(), AllocError> {
     let Some(before) = before else {
         return Ok(());
     };
-    let (earlier, end) = (before.code, before.last);
-    let (code, first) = (period.code, period.first);
-    if end.number() + 1 == first.number() {
+    if before.last.number() + 1 == period.first.number() {
         return Ok(());
     }
-    write!(
-        out,
-        "period {code} begins {first}, and period {earlier} before it ends {end}"
-    )
-}
-
-/// What is wrong with a new period behind the one before it, where nothing was said before.
-fn push_period(
-    out: &mut String,
-    before: Option<Period>,
-    period: &Period,
-) -> Result<(), AllocError> {
-    if out.is_empty() {
-        push_own_days(out, period)?;
-    }
-    if out.is_empty() {
-        return push_gap(out, before, period);
-    }
-    Ok(())
+    let fields: [&[u8]; 8] = [
+        b"period ",
+        &period.code.digits(),
+        b" begins ",
+        &period.first.write_text(),
+        b", and period ",
+        &before.code.digits(),
+        b" before it ends ",
+        &before.last.write_text(),
+    ];
+    push_fields(out, &fields)
 }
 
 /// Which period does not follow the one before it.
-fn push_order(out: &mut String, plan: &Plan, read: &PlanText) -> Result<(), AllocError> {
+fn push_order(out: &mut Vec<u8>, plan: &Plan, read: &PlanText) -> Result<(), AllocError> {
     let mut before = plan.periods().last().copied();
     for period in &read.periods {
-        if plan.period(period.code).is_none() {
-            push_period(out, before, period)?;
+        if out.is_empty() && plan.period(period.code).is_none() {
+            push_own_days(out, period)?;
+            if out.is_empty() {
+                push_gap(out, before, period)?;
+            }
             before = Some(*period);
         }
     }
@@ -244,56 +267,71 @@ fn push_order(out: &mut String, plan: &Plan, read: &PlanText) -> Result<(), Allo
 }
 
 /// Which new rate begins too early.
-fn push_late_rate(out: &mut String, plan: &Plan, rates: &[Rate]) -> Result<(), AllocError> {
+fn push_late_rate(out: &mut Vec<u8>, plan: &Plan, rates: &[Rate]) -> Result<(), AllocError> {
     let day = plan.day();
     for rate in rates {
         if rate.from.number() <= day.number() {
-            return write!(
-                out,
-                "a rate of {} begins {}, and the business day is {day}",
-                rate.airline, rate.from
-            );
+            let fields: [&[u8]; 6] = [
+                b"a rate of ",
+                &rate.airline.digits(),
+                b" begins ",
+                &rate.from.write_text(),
+                b", and the business day is ",
+                &day.write_text(),
+            ];
+            return push_fields(out, &fields);
         }
     }
     Ok(())
 }
 
 /// Which new tax begins too early.
-fn push_late_tax(out: &mut String, plan: &Plan, taxes: &[CommissionTax]) -> Result<(), AllocError> {
+fn push_late_tax(
+    out: &mut Vec<u8>,
+    plan: &Plan,
+    taxes: &[CommissionTax],
+) -> Result<(), AllocError> {
     let day = plan.day();
     for tax in taxes {
         if tax.from.number() <= day.number() {
-            return write!(
-                out,
-                "a commission_tax begins {}, and the business day is {day}",
-                tax.from
-            );
+            let fields: [&[u8]; 4] = [
+                b"a commission_tax begins ",
+                &tax.from.write_text(),
+                b", and the business day is ",
+                &day.write_text(),
+            ];
+            return push_fields(out, &fields);
         }
     }
     Ok(())
 }
 
 /// Which new rate or tax begins too early.
-fn push_late(out: &mut String, plan: &Plan, read: &PlanText) -> Result<(), AllocError> {
+fn push_late(out: &mut Vec<u8>, plan: &Plan, read: &PlanText) -> Result<(), AllocError> {
     push_late_rate(out, plan, &read.rates)?;
-    if !out.is_empty() {
-        return Ok(());
+    if out.is_empty() {
+        push_late_tax(out, plan, &read.commission_taxes)?;
     }
-    push_late_tax(out, plan, &read.commission_taxes)
+    Ok(())
 }
 
-/// Why a text that says a plan is refused: the airline of a rate, or entries that disagree.
+/// Which entries of a text disagree.
 fn push_disagreement(
-    out: &mut String,
+    alloc: Global,
+    out: &mut Vec<u8>,
     plan: &Plan,
-    read: &PlanText,
+    text: &[u8],
     fault: PlanFault,
 ) -> Result<(), AllocError> {
+    let read = match read_plan(alloc, text) {
+        Ok(read) => read,
+        Err(PlanFault::NoMemory) => return Err(AllocError),
+        Err(_) => return Ok(()),
+    };
     match fault {
-        PlanFault::WrongKey => push_unknown_airline(out, plan, read),
-        PlanFault::Differs => push_difference(out, plan, read),
-        PlanFault::OutOfOrder => push_order(out, plan, read),
-        PlanFault::LateRate => push_late(out, plan, read),
+        PlanFault::Differs => push_difference(out, plan, &read),
+        PlanFault::OutOfOrder => push_order(out, plan, &read),
+        PlanFault::LateRate => push_late(out, plan, &read),
         _ => Ok(()),
     }
 }
@@ -301,37 +339,36 @@ fn push_disagreement(
 /// Appends why a text is refused over a plan, as far as it is known.
 fn push_reason(
     alloc: Global,
-    out: &mut String,
+    out: &mut Vec<u8>,
     plan: &Plan,
     text: &[u8],
     fault: PlanFault,
 ) -> Result<(), AllocError> {
-    match read_plan(alloc, text) {
-        Ok(read) => push_disagreement(out, plan, &read, fault),
-        Err(PlanFault::NoMemory) => Err(AllocError),
-        Err(_) => push_text_fault(alloc, out, text),
+    match fault {
+        PlanFault::NotToml => push_toml_fault(alloc, out, text),
+        PlanFault::WrongKey => push_key(alloc, out, plan, text),
+        fault => push_disagreement(alloc, out, plan, text, fault),
     }
 }
 
 /// Appends why one of some plan texts is refused, as far as it is known.
 fn push_refusal(
     alloc: Global,
-    out: &mut String,
+    out: &mut Vec<u8>,
     published: &[Vec<u8>],
     text: &[u8],
     refused: PlanRefused,
 ) -> Result<(), AllocError> {
     let before = &published[..refused.place.min(published.len())];
+    // Those before it are published, so only memory can be short.
+    let Ok(plan) = publish_all(alloc, before) else {
+        return Err(AllocError);
+    };
     let text = match published.get(refused.place) {
         Some(earlier) => earlier.as_slice(),
         None => text,
     };
-    let mut plan = Plan::empty(alloc);
-    match publish_all(alloc, &mut plan, before) {
-        Ok(()) => push_reason(alloc, out, &plan, text, refused.fault),
-        // Those before it are published, so only memory can be short.
-        Err(_) => Err(AllocError),
-    }
+    push_reason(alloc, out, &plan, text, refused.fault)
 }
 
 /// Why one of some plan texts is refused, of which the last comes after those published before: the line or the key at
@@ -346,7 +383,7 @@ pub fn refusal_reason(
     text: &[u8],
     refused: PlanRefused,
 ) -> Result<Vec<u8>, AllocError> {
-    let mut out = String::new(alloc);
+    let mut out = Vec::new(alloc);
     push_refusal(alloc, &mut out, published, text, refused)?;
-    Ok(out.into_bytes())
+    Ok(out)
 }

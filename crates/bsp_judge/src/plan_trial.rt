@@ -43,79 +43,38 @@ pub(crate) fn publish(alloc: Global, plan: &mut Plan, text: &[u8]) -> Result<Cha
     plan.extend(&read)
 }
 
-/// Publishes some texts in turn over a plan of nothing.
+/// The plan of some texts, which are published in turn.
 ///
 /// # Errors
 ///
 /// The first of them that is refused over the plan of those before it, or for which there was no memory.
-pub(crate) fn publish_all(
-    alloc: Global,
-    plan: &mut Plan,
-    texts: &[Vec<u8>],
-) -> Result<(), PlanRefused>
-    requires { plan.old ≡ opening }
-    ensures { MatchResult result (λ done. FoldsTo IsPublished opening (texts_of texts.now) plan.new) (IsRefused (texts_of texts.now)) }
+pub(crate) fn publish_all(alloc: Global, texts: &[Vec<u8>]) -> Result<Plan, PlanRefused>
+    ensures { MatchResult result (λ plan. FoldsTo IsPublished opening (texts_of texts.now) plan) (IsRefused (texts_of texts.now)) }
 {
+    let mut plan = Plan::empty(alloc);
     for (place, text) in texts.iter().enumerate() {
-        match publish(alloc, plan, text) {
+        match publish(alloc, &mut plan, text) {
             Ok(_) => {}
             Err(fault) => return Err(PlanRefused { place, fault }),
         }
     }
-    Ok(())
-}
-
-/// What a text publishes over a plan that was copied before, as lines.
-fn report_beside(
-    alloc: Global,
-    before: &Plan,
-    plan: &mut Plan,
-    text: &[u8],
-) -> Result<Vec<u8>, PlanFault>
-    requires { before.now ≡ plan.old }
-    ensures { MatchResult result (λ lines. IsReported plan.old text.now lines.items) (IsStopped plan.old text.now) }
-{
-    let change = match publish(alloc, plan, text) {
-        Ok(change) => change,
-        Err(fault) => return Err(fault),
-    };
-    match plan_lines(alloc, change, before, plan) {
-        Ok(lines) => Ok(lines),
-        Err(_) => Err(PlanFault::NoMemory),
-    }
+    Ok(plan)
 }
 
 /// What a text publishes over a plan, as lines.
 fn report_on(alloc: Global, plan: &mut Plan, text: &[u8]) -> Result<Vec<u8>, PlanFault>
     ensures { MatchResult result (λ lines. IsReported plan.old text.now lines.items) (IsStopped plan.old text.now) }
 {
-    match plan.copied() {
-        Ok(before) => report_beside(alloc, &before, plan, text),
-        Err(_) => Err(PlanFault::NoMemory),
-    }
-}
-
-/// What a text publishes over a plan of nothing and the texts published before.
-fn try_over(
-    alloc: Global,
-    plan: &mut Plan,
-    published: &[Vec<u8>],
-    text: &[u8],
-) -> Result<Vec<u8>, PlanRefused>
-    requires { plan.old ≡ opening }
-    ensures { MatchResult result (λ lines. (plan : Published) × FoldsTo IsPublished opening (texts_of published.now) plan × IsReported plan text.now lines.items)
-        (IsRefused (texts_of published.now ++ text.now ∷ [])) }
-{
-    match publish_all(alloc, plan, published) {
-        Ok(()) => {}
-        Err(refused) => return Err(refused),
-    }
-    match report_on(alloc, plan, text) {
+    let Ok(before) = plan.copied() else {
+        return Err(PlanFault::NoMemory);
+    };
+    let change = match publish(alloc, plan, text) {
+        Ok(change) => change,
+        Err(fault) => return Err(fault),
+    };
+    match plan_lines(alloc, change, &before, plan) {
         Ok(lines) => Ok(lines),
-        Err(fault) => Err(PlanRefused {
-            place: published.len(),
-            fault,
-        }),
+        Err(_) => Err(PlanFault::NoMemory),
     }
 }
 
@@ -130,6 +89,15 @@ pub fn try_plan(alloc: Global, published: &[Vec<u8>], text: &[u8]) -> Result<Vec
     ensures { MatchResult result (λ lines. (plan : Published) × FoldsTo IsPublished opening (texts_of published.now) plan × IsReported plan text.now lines.items)
         (IsRefused (texts_of published.now ++ text.now ∷ [])) }
 {
-    let mut plan = Plan::empty(alloc);
-    try_over(alloc, &mut plan, published, text)
+    let mut plan = match publish_all(alloc, published) {
+        Ok(plan) => plan,
+        Err(refused) => return Err(refused),
+    };
+    match report_on(alloc, &mut plan, text) {
+        Ok(lines) => Ok(lines),
+        Err(fault) => Err(PlanRefused {
+            place: published.len(),
+            fault,
+        }),
+    }
 }
