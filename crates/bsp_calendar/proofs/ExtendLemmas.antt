@@ -76,7 +76,7 @@ module _ (p : Published) (text : PlanText) where
 
 -- ---- the last two rows of the table, judged on the lists
 
--- what is told by rows over no value is told by them over any
+-- what rows answer over no value they answer over any
 told_by_rows : {V : Type 0} (a b : Bool) (x y : PlanFault) (v : V) (r : Result (Unit {0}) PlanFault) → r ≡ first_fault_or ((a, x) ∷ (b, y) ∷ []) tt → MatchResult r (λ _. first_fault_or ((a, x) ∷ (b, y) ∷ []) v ≡ Ok v) (λ fault. first_fault_or ((a, x) ∷ (b, y) ∷ []) v ≡ Err fault)
 told_by_rows true b x y v r h = rw h refl
 told_by_rows false true x y v r h = rw h refl
@@ -93,7 +93,7 @@ told_as : (p : Published) (text : PlanText) (codes : List ℕ) (rs : List Rate) 
 told_as p text codes rs qs ts (Ok u) rows same airlines rates periods taxes told = (same ∙ told, airlines, rates, periods, taxes)
 told_as p text codes rs qs ts (Err x) rows same airlines rates periods taxes told = inr (same ∙ told)
 
--- lists that are filled from a text, by what their test told
+-- lists that are filled from a text, by what their test answers
 pub filled : (p : Published) (text : PlanText) (codes : List ℕ) (rs : List Rate) (qs : List Period) (ts : List CommissionTax) (r : Result (Unit {0}) PlanFault) → are_within_bounds text ≡ true → have_airlines p text ≡ true → has_difference p text ≡ false → codes ≡ once same_airline (p.airlines ++ text.airlines.items) → rs ≡ once same_rate (p.rates ++ text.rates.items) → qs ≡ once same_period (p.periods ++ text.periods.items) → ts ≡ once same_tax (p.commission_taxes ++ text.commission_taxes.items)
     → r ≡ first_fault_or ((not (are_in_order qs), OutOfOrder) ∷ (list_any (λ rate. is_up_to rate.from p.day) (drop (length p.rates) rs) || list_any (has_begun p.day) (drop (length p.commission_taxes) ts), LateRate) ∷ []) tt
     → IsFilled p text codes rs qs ts r
