@@ -1,5 +1,5 @@
 -- From the rows that an opening read to what the tables keep.
-use Rattle.std.proofs.Common.{◌≡◌, ℕ, List, [], ◌∷◌, length, map, None, false, Result, Ok, Err, IfOk, OnOk, IsTrue, IsPermutation, inl, refl, sym, ap, subst, ◌∙◌, arith}
+use Rattle.std.proofs.Common.{◌≡◌, ◌⊎◌, ℕ, List, [], ◌∷◌, length, map, None, false, Result, Ok, Err, IfOk, OnOk, IsTrue, IsPermutation, inl, inr, refl, sym, ap, subst, ◌∙◌, arith}
 use Rattle.std.specs.Prelude.{IfErr, IsErr, IsErrAnd, IsOkAnd, MatchResult, is_ok, true}
 use Rattle.std.proofs.lemmas.Bool.{false≢true, true≢false}
 use Rattle.std.specs.List.{AllByRecursion}
@@ -32,7 +32,7 @@ use Rattle.bsp_store_load.specs.Shows.{AreAllOf}
 use Rattle.bsp_store_load.specs.Stored.{AreCommitted}
 use Rattle.bsp_store_open.specs.Faults.{IsFaultOf, is_refusal}
 use Rattle.bsp_store_open.specs.declared.fault.OpenFault.{OpenFault}
-use Rattle.bsp_store_open.specs.declared.fault.OpenFault.TheVariants.{NoRoom}
+use Rattle.bsp_store_open.specs.declared.fault.OpenFault.TheVariants.{Damaged, NoRoom}
 use Rattle.bsp_store_open.specs.Loaded.{IsAllLoaded}
 use Rattle.bsp_store_open.specs.Opening.{Finds, HasNoBook, IsAtRest, IsNoBook, IsOfOther, IsOfVersion, IsOrdered, IsRead, KeepsAtRest, LeavesCommitted, Misses, Reopens, Reports, SparesStore}
 use Rattle.bsp_store_load.proofs.FormedContent.{formed_content}
@@ -162,6 +162,11 @@ module _ {S : Type 0} (g : Ghosts S) where
 pub never_refused : {X : Type 0} (Q : Type 0) (r : Result X OpenFault) → IsErrAnd r (λ f. f ≡ NoRoom) → IfErr r (λ f. is_refusal f ≡ true → Q)
 never_refused Q (Ok x) is = tt
 never_refused Q (Err f) is = λ refused. absurd (false≢true (sym (ap is_refusal is) ∙ refused))
+
+-- rows that are refused, though there is memory, are not sound
+pub unsound_if_refused : (fault : OpenFault) (P : Type 0) → (fault ≡ NoRoom) ⊎ ((fault ≡ Damaged) × P) → is_refusal fault ≡ true → (fault ≡ Damaged) × P
+unsound_if_refused fault P (inl room) refused = absurd (false≢true (sym (ap is_refusal room) ∙ refused))
+unsound_if_refused fault P (inr unsound) refused = unsound
 
 -- a book's first row of `meta` has the version of its tables
 pub other_version : {S : Type 0} (g : Ghosts S) (fault : OpenFault) (old new : Held S) (read : List Row) → Finds g old new (λ trees. AreAllOf meta_part trees read) → (IsOfVersion read → ⊥) → Reports fault read → HasNoBook g fault old new

@@ -38,7 +38,7 @@ fn expect_rest<S: Alter>(conn: &Connection<S>) -> Result<(), OpenFault>
 /// `Damaged`, where the rows are not sound. `NoRoom`, where an allocation is refused.
 pub fn expect_sound(alloc: Global, tables: &Tables) -> Result<(), OpenFault>
     ensures sound { OnOk result (Sound (rows_of tables.now)) }
-    ensures refused { IfErr result (λ fault. is_refusal fault ≡ true → (fault ≡ OpenFault.Damaged) × ¬ Sound (rows_of tables.now)) }
+    ensures refused { IfErr result (λ fault. (fault ≡ OpenFault.NoRoom) ⊎ ((fault ≡ OpenFault.Damaged) × ¬ Sound (rows_of tables.now))) }
 {
     if !tables.are_sound(alloc)? {
         return Err(OpenFault::Damaged);
