@@ -7,14 +7,12 @@ right. The script names what differs, and ends with status 1 if anything does.""
 import re
 import sys
 
-from office import TOP
+from office import TOP, crates
 
 
 def uses():
     """The crates of crates.txt, each with those of this repository that it uses."""
-    lines = (it.split("#")[0].strip() for it in (TOP / "crates.txt").read_text(encoding="utf-8").splitlines())
-    pairs = (it.split(":", 1) for it in lines if it)
-    found = {name.split()[0]: used.split() for name, used in pairs}
+    found = crates()
     return {name: [it for it in used if it in found] for name, used in found.items()}
 
 

@@ -30,6 +30,16 @@ def program():
     return path
 
 
+def crates():
+    """The crates of crates.txt, each with the libraries that it uses."""
+    found = {}
+    for line in (TOP / "crates.txt").read_text(encoding="utf-8").splitlines():
+        name, colon, used = line.partition("#")[0].partition(":")
+        if colon:
+            found[name.split()[0]] = used.split()
+    return found
+
+
 def sample(name):
     """The bytes of a file of samples/."""
     return (TOP / "samples" / name).read_bytes()

@@ -4,21 +4,11 @@ by the //! lines of its files, or the first /// where there are none, and by cra
 
 usage: .ci/readmes.py [--write]
 """
-import pathlib
 import re
 import sys
 
-TOP = pathlib.Path(__file__).resolve().parents[1]
-
-
-def crate_lines():
-    """The crates of this repository, each with what it is built on."""
-    found = {}
-    for line in (TOP / "crates.txt").read_text().splitlines():
-        name, colon, below = line.partition("#")[0].partition(":")
-        if colon:
-            found[name.split()[0]] = below.split()
-    return found
+import office
+from office import TOP
 
 
 def said(path):
@@ -68,7 +58,7 @@ def readme(name, crates):
 
 
 def main():
-    crates, wrong = crate_lines(), []
+    crates, wrong = office.crates(), []
     for name in crates:
         path, wanted = TOP / "crates" / name / "README.md", readme(name, crates)
         if "--write" in sys.argv[1:]:

@@ -9,7 +9,7 @@ import fnmatch
 import re
 import sys
 
-from office import TOP
+from office import TOP, crates
 
 ROW = re.compile(r"^\| `(bsp_\w+)` \| (.+?) \| .+? \|(.*?)\|(.*?)\|$", re.M)
 CONDITION = re.compile(r"^\| `(bsp_\w+)` \| ([^|]+) \| [^|]+ \|$", re.M)
@@ -80,16 +80,15 @@ def differences(rows, conditions, crate):
 def unnamed(text):
     """The crates that the text does not name."""
     names = [it for it in CODE.findall(text) if it.startswith("bsp_")]
-    crates = re.findall(r"^(bsp_\w+)", (TOP / "crates.txt").read_text(encoding="utf-8"), re.M)
-    return [f"docs/REFUSALS.md: {it} is not named" for it in crates if not any(fnmatch.fnmatch(it, name) for name in names)]
+    return [f"docs/REFUSALS.md: {it} is not named" for it in crates() if not any(fnmatch.fnmatch(it, name) for name in names)]
 
 
 def main():
     text = (TOP / "docs" / "REFUSALS.md").read_text(encoding="utf-8")
     rows, conditions = ROW.findall(text), CONDITION.findall(text)
-    crates = sorted({it[0] for it in rows + conditions})
-    found = unnamed(text) + [it for crate in crates for it in differences(rows, conditions, crate)]
-    print("\n".join(found) or f"refusals: {sum(len(CODE.findall(it[1])) for it in rows)} calls of {len(crates)} crates")
+    tables = sorted({it[0] for it in rows + conditions})
+    found = unnamed(text) + [it for crate in tables for it in differences(rows, conditions, crate)]
+    print("\n".join(found) or f"refusals: {sum(len(CODE.findall(it[1])) for it in rows)} calls of {len(tables)} crates")
     sys.exit(bool(found))
 
 
