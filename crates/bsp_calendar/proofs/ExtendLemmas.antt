@@ -77,10 +77,10 @@ module _ (p : Published) (text : PlanText) where
 -- ---- the last two rows of the table, judged on the lists
 
 -- what rows answer over no value they answer over any
-told_by_rows : {V : Type 0} (a b : Bool) (x y : PlanFault) (v : V) (r : Result (Unit {0}) PlanFault) → r ≡ first_fault_or ((a, x) ∷ (b, y) ∷ []) tt → MatchResult r (λ _. first_fault_or ((a, x) ∷ (b, y) ∷ []) v ≡ Ok v) (λ fault. first_fault_or ((a, x) ∷ (b, y) ∷ []) v ≡ Err fault)
-told_by_rows true b x y v r h = rw h refl
-told_by_rows false true x y v r h = rw h refl
-told_by_rows false false x y v r h = rw h refl
+rows_answer : {V : Type 0} (a b : Bool) (x y : PlanFault) (v : V) (r : Result (Unit {0}) PlanFault) → r ≡ first_fault_or ((a, x) ∷ (b, y) ∷ []) tt → MatchResult r (λ _. first_fault_or ((a, x) ∷ (b, y) ∷ []) v ≡ Ok v) (λ fault. first_fault_or ((a, x) ∷ (b, y) ∷ []) v ≡ Err fault)
+rows_answer true b x y v r h = rw h refl
+rows_answer false true x y v r h = rw h refl
+rows_answer false false x y v r h = rw h refl
 
 -- what filling lists of these entries answers
 abbrev pub IsFilled : Published → PlanText → List ℕ → List Rate → List Period → List CommissionTax → Result (Unit {0}) PlanFault → Type 0
@@ -89,21 +89,21 @@ IsFilled p text codes rs qs ts r =
     (λ _. (extended p text ≡ Ok (with_entries p text)) × (codes ≡ (with_entries p text).airlines) × (rs ≡ (with_entries p text).rates) × (qs ≡ (with_entries p text).periods) × (ts ≡ (with_entries p text).commission_taxes))
     (λ fault. (fault ≡ NoMemory) ⊎ (extended p text ≡ Err fault))
 
-told_as : (p : Published) (text : PlanText) (codes : List ℕ) (rs : List Rate) (qs : List Period) (ts : List CommissionTax) (r : Result (Unit {0}) PlanFault) (rows : Result Published PlanFault) → extended p text ≡ rows → codes ≡ (with_entries p text).airlines → rs ≡ (with_entries p text).rates → qs ≡ (with_entries p text).periods → ts ≡ (with_entries p text).commission_taxes → MatchResult r (λ _. rows ≡ Ok (with_entries p text)) (λ fault. rows ≡ Err fault) → IsFilled p text codes rs qs ts r
-told_as p text codes rs qs ts (Ok u) rows same airlines rates periods taxes told = (same ∙ told, airlines, rates, periods, taxes)
-told_as p text codes rs qs ts (Err x) rows same airlines rates periods taxes told = inr (same ∙ told)
+answered_as : (p : Published) (text : PlanText) (codes : List ℕ) (rs : List Rate) (qs : List Period) (ts : List CommissionTax) (r : Result (Unit {0}) PlanFault) (rows : Result Published PlanFault) → extended p text ≡ rows → codes ≡ (with_entries p text).airlines → rs ≡ (with_entries p text).rates → qs ≡ (with_entries p text).periods → ts ≡ (with_entries p text).commission_taxes → MatchResult r (λ _. rows ≡ Ok (with_entries p text)) (λ fault. rows ≡ Err fault) → IsFilled p text codes rs qs ts r
+answered_as p text codes rs qs ts (Ok u) rows same airlines rates periods taxes answer = (same ∙ answer, airlines, rates, periods, taxes)
+answered_as p text codes rs qs ts (Err x) rows same airlines rates periods taxes answer = inr (same ∙ answer)
 
 -- lists that are filled from a text, by what their test answers
 pub filled : (p : Published) (text : PlanText) (codes : List ℕ) (rs : List Rate) (qs : List Period) (ts : List CommissionTax) (r : Result (Unit {0}) PlanFault) → are_within_bounds text ≡ true → have_airlines p text ≡ true → has_difference p text ≡ false → codes ≡ once same_airline (p.airlines ++ text.airlines.items) → rs ≡ once same_rate (p.rates ++ text.rates.items) → qs ≡ once same_period (p.periods ++ text.periods.items) → ts ≡ once same_tax (p.commission_taxes ++ text.commission_taxes.items)
     → r ≡ first_fault_or ((not (are_in_order qs), OutOfOrder) ∷ (list_any (λ rate. is_up_to rate.from p.day) (drop (length p.rates) rs) || list_any (has_begun p.day) (drop (length p.commission_taxes) ts), LateRate) ∷ []) tt
     → IsFilled p text codes rs qs ts r
-filled p text codes rs qs ts r bounds have none airlines rates periods taxes told =
+filled p text codes rs qs ts r bounds have none airlines rates periods taxes answer =
     let unordered = not (are_in_order (once same_period (p.periods ++ text.periods.items))) in
     let late = has_late_rate p text || has_late_tax p text in
     let whole = with_entries p text in
     let rows : extended p text ≡ first_fault_or ((unordered, OutOfOrder) ∷ (late, LateRate) ∷ []) whole = rw (bounds, have, none) refl in
-    told_as p text codes rs qs ts r (first_fault_or ((unordered, OutOfOrder) ∷ (late, LateRate) ∷ []) whole) rows airlines rates periods taxes
-    (told_by_rows unordered late OutOfOrder LateRate whole r (rw (rates, periods, taxes) at told))
+    answered_as p text codes rs qs ts r (first_fault_or ((unordered, OutOfOrder) ∷ (late, LateRate) ∷ []) whole) rows airlines rates periods taxes
+    (rows_answer unordered late OutOfOrder LateRate whole r (rw (rates, periods, taxes) at answer))
 
 -- ---- the periods of the new plan
 

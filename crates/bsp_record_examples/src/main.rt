@@ -1,7 +1,6 @@
 //! Worked examples of single calls: of fields, of RET files in pieces and written, of reports over rows, and of runs
-//! of requests. It reads a page of cases from standard input, makes the call that each case
-//! names, and writes the page with what the calls gave. The page says how a case is written. The status is 1 where a
-//! line is no case.
+//! of requests. It reads a page of cases from standard input, makes the call that each case names, and writes the page
+//! with what the calls gave. The page says how a case is written. The status is 1 where a line is no case.
 #![tactic(auto)]
 
 mod answers;
