@@ -47,9 +47,11 @@ def tried(words):
 
 def below(names, known):
     """These crates, and all that they use."""
-    found = set(names)
-    for it in names:
-        found |= below([used for used in known[it] if used in known], known)
+    found, left = set(), list(names)
+    while left:
+        if (it := left.pop()) not in found:
+            found.add(it)
+            left += [used for used in known[it] if used in known]
     return found
 
 
