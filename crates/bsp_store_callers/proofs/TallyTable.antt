@@ -6,7 +6,6 @@ use Rattle.sqlite_value.specs.declared.value.Value.TheVariants.{Null}
 use Rattle.sqlite_value.specs.declared.keys.Collation.TheVariants.{Binary}
 use Rattle.sqlite_value.specs.declared.keys.Key.{Key}
 use Rattle.sqlite_value.specs.Keys.{ascending}
-use Rattle.sqlite_value.specs.Order.{Row}
 use Rattle.sqlite_sql.specs.Term.{Term, col, holds}
 use Rattle.sqlite_schema.specs.declared.command.Command.TheVariants.{Select}
 use Rattle.sqlite_schema.specs.declared.schema.Column.{Column}
@@ -15,8 +14,8 @@ use Rattle.sqlite.specs.Listing.{understood, reads_listing}
 use Rattle.sqlite.proofs.Callers.{IsPlain, command_of}
 use Rattle.bsp_store_base.specs.Simple.{simple}
 use Rattle.bsp_store_base.specs.Schema.{our_schema, tally_table, tally_columns}
-use Rattle.bsp_store_base.specs.Columns.{agent_text, airline_text, period_text, tally_row}
-use Rattle.bsp_store_base.proofs.Keys.{code_is, three_columns}
+use Rattle.bsp_store_base.specs.Columns.{tally_row}
+use Rattle.bsp_store_base.proofs.Keys.{code_is, tally_key_row, three_columns}
 use Rattle.bsp_store_base.proofs.MapTables.{MapTable, change, deletion, insertion}
 use Rattle.bsp_store_base.proofs.Values.{cast_int, cast_same}
 use Rattle.bsp_store_base.proofs.Writes.{key_project, key_test, no_work}
@@ -27,14 +26,10 @@ use Rattle.bsp_rows.proofs.KeyOrders.{tally_total, tally_exact}
 
 -- ---- the table
 
--- the parameters of a key
-abbrev pub key_row : TallyKey → Row
-key_row key = agent_text key.agent ∷ airline_text key.airline ∷ period_text key.period ∷ []
-
 abbrev pub Entry : Type 0
 Entry = TallyKey × Tally
 
-pub is_of : (key : TallyKey) (e : Entry) → list_all (holds (key_row key ∷ (Null ∷ tally_row e) ∷ [])) (key_test 3) ≡ eq_by_cmp tally_cmp key e.0
+pub is_of : (key : TallyKey) (e : Entry) → list_all (holds (tally_key_row key ∷ (Null ∷ tally_row e) ∷ [])) (key_test 3) ≡ eq_by_cmp tally_cmp key e.0
 is_of key e =
     three_columns _ _ _ (nat_cmp key.agent e.0.agent) (nat_cmp key.airline e.0.airline) (nat_cmp key.period e.0.period)
     (code_is 8 e.0.agent key.agent) (code_is 3 e.0.airline key.airline) (code_is 5 e.0.period key.period)
@@ -46,7 +41,7 @@ tally_map = record {
   of = λ c. c.tallies;
   with = λ m c. record c { tallies = m };
   row_of = tally_row;
-  key_of = key_row;
+  key_of = tally_key_row;
   test = key_test 3;
   project = key_project 3 11;
   total = tally_total;

@@ -16,11 +16,10 @@ use Rattle.sqlite.proofs.Callers.{IsPlain, command_of}
 use Rattle.bsp_store_base.specs.Simple.{simple}
 use Rattle.bsp_store_base.specs.Schema.{our_schema, tally_tax_table, tally_tax_columns}
 use Rattle.bsp_store_base.specs.Columns.{tally_tax_row}
-use Rattle.bsp_store_base.proofs.Keys.{code_is, three_columns}
+use Rattle.bsp_store_base.proofs.Keys.{code_is, tally_key_row, three_columns}
 use Rattle.bsp_store_base.proofs.MapTables.{MapTable, change, deletion, insertion}
 use Rattle.bsp_store_base.proofs.Values.{cast_int, cast_same}
 use Rattle.bsp_store_base.proofs.Writes.{key_project, key_test, no_work}
-use Rattle.bsp_store_callers.proofs.TallyTable.{key_row}
 use Rattle.bsp_rows.specs.Tally.{Tally}
 use Rattle.bsp_rows.specs.declared.keys.TallyKey.{TallyKey}
 use Rattle.bsp_rows.specs.Tallies.{tally_cmp}
@@ -28,7 +27,7 @@ use Rattle.bsp_rows.proofs.KeyOrders.{tally_total, tally_exact}
 
 -- ---- the table
 
-pub same_key : (key : TallyKey) (e : TallyKey × Tally) → list_all (holds (key_row key ∷ (Null ∷ tally_tax_row e) ∷ [])) (key_test 3) ≡ eq_by_cmp tally_cmp key e.0
+pub same_key : (key : TallyKey) (e : TallyKey × Tally) → list_all (holds (tally_key_row key ∷ (Null ∷ tally_tax_row e) ∷ [])) (key_test 3) ≡ eq_by_cmp tally_cmp key e.0
 same_key key e =
     three_columns _ _ _ (nat_cmp key.agent e.0.agent) (nat_cmp key.airline e.0.airline) (nat_cmp key.period e.0.period)
     (code_is 8 e.0.agent key.agent) (code_is 3 e.0.airline key.airline) (code_is 5 e.0.period key.period)
@@ -40,7 +39,7 @@ tally_taxes_map = record {
   of = λ c. c.tally_taxes;
   with = λ m c. record c { tally_taxes = m };
   row_of = tally_tax_row;
-  key_of = key_row;
+  key_of = tally_key_row;
   test = key_test 3;
   project = key_project 3 4;
   total = tally_total;
