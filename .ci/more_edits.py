@@ -23,9 +23,7 @@ BY_NAME = "only because a proof file names"
 def edits_of(word):
     """The edits of a crate, or the one that CRATE/NAME names."""
     crate, _, name = word.partition("/")
-    if not (found := sorted((TOP / "crates" / crate / "more-edits").glob(f"{name or '*'}.edit"))) and name:
-        sys.exit(f"there is no edit {word}")
-    return found
+    return sorted((TOP / "crates" / crate / "more-edits").glob(f"{name or '*'}.edit"))
 
 
 def changed(commit):
@@ -36,13 +34,18 @@ def changed(commit):
 
 
 def tried(words):
-    """The edits that the command line asks for."""
-    named, step = words or sorted(crates()), slice(None)
-    if words[:1] == ["--changed"] and len(words) == 2:
-        named = changed(words[1])
-    elif words[:1] == ["--tenth"] and len(words) == 2:
-        named, step = sorted(crates()), slice(int(words[1]) % 10, None, 10)
-    return [edit for it in named for edit in edits_of(it)][step]
+    """The edits that the command line asks for; ends the script where a word names none."""
+    match words:
+        case ["--changed", commit]:
+            return [edit for it in changed(commit) for edit in edits_of(it)]
+        case []:
+            return [edit for it in sorted(crates()) for edit in edits_of(it)]
+        case ["--tenth", number] if number.isdecimal():
+            return tried([])[int(number) % 10::10]
+    for it in words:
+        if not edits_of(it):
+            sys.exit(f"{it} names no edit")
+    return [edit for it in words for edit in edits_of(it)]
 
 
 def below(names, known):
