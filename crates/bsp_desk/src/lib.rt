@@ -19,10 +19,10 @@ mod serve;
 mod token;
 mod transaction;
 
-pub use bsp_book::{Book, BookFault, ListBook};
+pub use bsp_book::{Book, BookFault};
 pub use bsp_desk_writes::Content;
 pub use bsp_messages::{Body, Media, Reply, RequestRefusal, Status};
-pub use bsp_routes::{Asking, BodyKind, Route, Routes};
+pub use bsp_routes::{Asking, BodyKind, Route};
 pub use bsp_rows::Token;
 pub use desk::Desk;
 pub use laws::{books_reply_alike, hot_replies_pass, replies_are_alike, requests_are_read};

@@ -10,7 +10,8 @@ ghost use Rattle.bsp_http.specs.Messages.{at_desk};
 use crate::journal::Journal;
 use crate::office::Office;
 use bsp_connection::{Noted, ServeFault, Served};
-use bsp_desk::{Book, Desk, Routes};
+use bsp_desk::{Book, Desk};
+use bsp_routes::Routes;
 use std::alloc::Global;
 use std::io::{Read, Write};
 

@@ -12,8 +12,8 @@ mod office;
 mod replies;
 
 pub use bsp_connection::{End, Message, Noted, ServeFault, Served};
-pub use bsp_desk::Routes;
 pub use bsp_heads::{Reply, Status};
+pub use bsp_routes::Routes;
 pub use connection::serve;
 pub use journal::{Journal, NoJournal};
 pub use laws::{messages_are_read, messages_are_run};

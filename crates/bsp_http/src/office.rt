@@ -7,9 +7,10 @@ ghost use Rattle.bsp_http.specs.Messages.{at_desk, content_of, use_by};
 use crate::journal::Journal;
 use crate::replies::{answer_with, no_room_reply};
 use bsp_connection::{Answer, BodyUse, Message, Service};
-use bsp_desk::{Asking, BodyKind, Book, Content, Desk, Request, Route, Routes};
+use bsp_desk::{Asking, BodyKind, Book, Content, Desk, Request, Route};
 use bsp_heads::Reply;
 use bsp_ret::{RetFault, RetFile};
+use bsp_routes::Routes;
 
 /// Answers messages at the office's desk, by the office's routes.
 #[derive(Drop)]

@@ -2,7 +2,7 @@
 
 use crate::lines::push_fields;
 use crate::remarks::Known;
-use bsp_desk::ListBook;
+use bsp_book::ListBook;
 use bsp_fields::push_money;
 use bsp_ret_records::{Amounts, ReportedDocument, Tax, Transaction, TransactionCode};
 use bsp_rules::{Item, amount_or_zero, card_amount, commission};

@@ -11,7 +11,8 @@ ghost use Rattle.bsp_judge.specs.Plans.{texts_of};
 
 use crate::lines::push_fields;
 use crate::setup::{JudgeFault, Setup, Step};
-use bsp_desk::{Asking, Content, Desk, ListBook, Reply, Request, Status, Token};
+use bsp_book::ListBook;
+use bsp_desk::{Asking, Content, Desk, Reply, Request, Status, Token};
 use bsp_fields::{AgentCode, Day};
 use bsp_ret::{FaultCode, RetFault, RetFile, read_ret};
 use bsp_routes::{AgentCall, Call, OfficeCall};

@@ -8,7 +8,7 @@ ghost use Rattle.bsp_book.specs.Listed.{meaning};
 ghost use Rattle.bsp_judge.specs.Judged.{owed};
 
 use crate::setup::JudgeFault;
-use bsp_desk::ListBook;
+use bsp_book::ListBook;
 use bsp_fields::AgentCode;
 use bsp_postings::Tally;
 use bsp_rows::Tallies;

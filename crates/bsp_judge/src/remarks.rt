@@ -3,7 +3,7 @@
 use crate::amount_remarks::{push_against_tickets, push_amounts};
 use crate::lines::push_fields;
 use crate::setup::Setup;
-use bsp_desk::ListBook;
+use bsp_book::ListBook;
 use bsp_fields::{DocNumber, write_digits};
 use bsp_ret::{RetFile, transaction};
 use bsp_ret_records::{ReportedDocument, Transaction, TransactionCode};

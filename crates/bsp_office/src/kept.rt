@@ -1,6 +1,6 @@
 //! What the program says of a book.
 
-use bsp_desk::ListBook;
+use bsp_book::ListBook;
 use bsp_fields::Day;
 use bsp_store::SqlBook;
 use sqlite::{Alter, Error};

@@ -3,7 +3,9 @@
 use crate::fault::{Answered, Fault};
 use crate::output::{Output, say};
 use crate::words::{Words, first_word, number};
-use bsp_desk::{Content, Desk, ListBook, Reply, Request, Routes, Token};
+use bsp_book::ListBook;
+use bsp_desk::{Content, Desk, Reply, Request, Token};
+use bsp_routes::Routes;
 use std::alloc::Global;
 
 /// The office's token.
