@@ -1,17 +1,12 @@
 -- What a command has that is filled from a list of arguments or of commands.
-use Rattle.std.proofs.Common.{◌≡◌, ◌∙◌, ◌++◌, Bool, List, [], ◌∷◌, ap, append_assoc, refl, sym, false}
+use Rattle.std.proofs.Common.{◌≡◌, ◌∙◌, ◌++◌, ◌+◌, ◌<◌, ◌≤◌, ℕ, Bool, List, [], ◌∷◌, ap, append_assoc, get_or, length, map, refl, sym, take, false}
 use Rattle.std.specs.Prelude.{Result, Ok, Err, IfOk, IsOkAnd, OnOk}
-use Rattle.std.proofs.lemmas.List.{map_push}
+use Rattle.std.proofs.lemmas.List.{map_push, take_all, take_more}
 use Rattle.clap.specs.Words.{AddsArg, AddsInTurn, AddsSubcommand, App, Rule, Shape, app_of, rule_of, shape_of, with_rule, with_subcommand}
 use Rattle.clap.specs.declared.builder.arg.Arg.{Arg}
 use Rattle.clap.specs.declared.builder.command.Command.{Command}
 use Rattle.clap.specs.declared.builder.command.Command.TheViews.{out-Command as fields_of}
-use Rattle.bsp_words.specs.Filling.{of_one, rules_in, shapes_in, with_rules}
-
--- a command with a subcommand of each shape, in turn
-abbrev pub with_subcommands : App → List Shape → App
-with_subcommands a [] = a
-with_subcommands a (s ∷ ss) = with_subcommands (with_subcommand a s) ss
+use Rattle.bsp_words.specs.Filling.{of_one, rules_in, shapes_in, with_rules, with_subcommands}
 
 -- what a command is that was given arguments of these rules
 takes_rules : (old new : Command) (arguments : List Arg) (rules : List Rule) → (fields_of old).has_globals ≡ false → rules_in arguments ≡ of_one rules → AddsInTurn AddsArg old arguments new → (app_of new ≡ with_rules (app_of old) rules) × ((fields_of new).has_globals ≡ false)
@@ -40,19 +35,20 @@ takes_shapes old new (c ∷ cs) (s ∷ ss) same adds =
     let step = adds.1 in
     takes_shapes adds.0 new cs ss others adds.2 ∙ ap (λ x. with_subcommands x ss) (step.shape local ∙ ap (with_subcommand (app_of old)) first)
 
--- a list that grew twice
-pub grown : {A : Type 0} (old mid new first last : List A) → mid ≡ old ++ first → new ≡ mid ++ last → new ≡ old ++ (first ++ last)
-grown old mid new first last before after = rw (after, before) (append_assoc old first last)
+-- a list with the entries of the rows before a place, and that of the row there
+pub one_more : {X Y : Type 0} (f : X → Y) (xs : List X) (i : ℕ) (x : X) (old before now : List (Y × Bool)) → i < length xs → before ≡ old ++ of_one (map f (take i xs)) → now ≡ before ++ of_one (f (get_or xs i x) ∷ []) → now ≡ old ++ of_one (map f (take (i + 1) xs))
+one_more f xs i x old before now within was added = rw (added, was, take_more xs i x within, map_push, map_push, append_assoc) refl
 
--- the same, where a call did not fail that made it grow the second time
-pub grown_on_ok : {A U E : Type 0} (r : Result U E) (old mid new first last : List A) → mid ≡ old ++ first → OnOk r (new ≡ mid ++ last) → OnOk r (new ≡ old ++ (first ++ last))
-grown_on_ok (Ok u) old mid new first last before after = grown old mid new first last before after
-grown_on_ok (Err e) old mid new first last before after = tt
+-- and with those of all rows
+pub all_of : {X Y : Type 0} (f : X → Y) (xs : List X) (i : ℕ) (old now : List (Y × Bool)) → length xs ≤ i → now ≡ old ++ of_one (map f (take i xs)) → now ≡ old ++ of_one (map f xs)
+all_of f xs i old now past was = was ∙ ap (λ l. old ++ of_one (map f l)) (take_all i xs past)
 
--- a list to which an argument was added
-pub argument_added : {U E : Type 0} (r : Result U E) (old new : List Arg) (a : Arg) → a.global ≡ false → OnOk r (new ≡ old ++ a ∷ []) → OnOk r (rules_in new ≡ rules_in old ++ of_one (rule_of a ∷ []))
-argument_added (Ok u) old new a local pushed = rw (pushed, map_push, local) refl
-argument_added (Err e) old new a local pushed = tt
+-- a list to which an argument was added that one command alone takes
+pub argument_added : {U E : Type 0} (r : Result U E) (old new : List Arg) (a : Arg) (rule : Rule) → rule_of a ≡ rule → a.global ≡ false → OnOk r (new ≡ old ++ a ∷ []) → OnOk r (rules_in new ≡ rules_in old ++ of_one (rule ∷ []))
+argument_added (Ok u) old new a rule is local pushed =
+    let pair : ◌≡◌ {A = Rule × Bool} (rule_of a, a.global) (rule, false) = ap (λ r. (r, a.global)) is ∙ ap (λ b. (rule, b)) local in
+    rw (pushed, map_push) (ap (λ (p : Rule × Bool). rules_in old ++ p ∷ []) pair)
+argument_added (Err e) old new a rule is local pushed = tt
 
 -- a list that a command of these rules was added to
 pub command_added : {E F U : Type 0} (base : Command) (start : App) (arguments : List Arg) (rules : List Rule) (made : Result Command E) (r : Result U F) (old new : List Command) → (fields_of base).has_globals ≡ false → app_of base ≡ start → rules_in arguments ≡ of_one rules → IfOk made (AddsInTurn AddsArg base arguments) → OnOk r (IsOkAnd made (λ x. new ≡ old ++ x ∷ [])) → OnOk r (shapes_in new ≡ shapes_in old ++ of_one ((with_rules start rules).top ∷ []))

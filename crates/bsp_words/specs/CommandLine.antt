@@ -5,11 +5,12 @@ use Rattle.std.specs.Option.{option_map_or}
 use Rattle.std.specs.Result.{result_ok}
 use Rattle.std.specs.Str.{bytes_eq}
 use Rattle.std.specs.Str.Parse.{digits_value, without_leading_plus}
-use Rattle.clap.specs.Words.{App, HasKind, Row, all_of, Rule, Shape, Text, fault_of, first_of, new_app, new_rule, one_of, subcommand_of, with_rule, with_subcommand}
+use Rattle.clap.specs.Words.{App, HasKind, Row, all_of, Rule, Shape, Text, fault_of, first_of, new_app, new_rule, one_of, subcommand_of, with_rule}
 use Rattle.clap.specs.Simple.{on_top}
 use Rattle.clap.specs.ValueTests.{is_numeral}
 use Rattle.clap.specs.declared.builder.action.ArgAction.TheVariants.{Append, SetTrue}
 use Rattle.clap.specs.declared.builder.value_parser.ValueParser.TheVariants.{Signed}
+use Rattle.bsp_words.specs.Filling.{with_subcommands}
 use Rattle.bsp_fields.specs.CivilDay.{CivilDay}
 use Rattle.bsp_fields.specs.Codes.{agent_reading, code_reading}
 use Rattle.bsp_fields.specs.Days.{text_reading}
@@ -107,23 +108,21 @@ serve_app = with_limits (with_db (with_tokens (with_rule (new_app (codes "serve"
 abbrev pub needs_subcommand : Shape → Shape
 needs_subcommand s = record s { has_version = true; subcommand_required = true; disable_help_subcommand = true }
 
+-- the commands, in the order of the help
+abbrev pub office_shapes : List Shape
+office_shapes =
+    (file_app (codes "check")).top
+    ∷ (file_app (codes "hotcheck")).top
+    ∷ judge_app.top
+    ∷ plan_app.top
+    ∷ explain_app.top
+    ∷ audit_app.top
+    ∷ run_app.top
+    ∷ serve_app.top
+    ∷ []
+
 abbrev pub office : App
-office =
-    with_subcommand
-    (with_subcommand
-    (with_subcommand
-    (with_subcommand
-    (with_subcommand
-    (with_subcommand
-    (with_subcommand
-    (with_subcommand (on_top needs_subcommand (new_app (codes "bsp_office"))) (file_app (codes "check")).top)
-    (file_app (codes "hotcheck")).top)
-    judge_app.top)
-    plan_app.top)
-    explain_app.top)
-    audit_app.top)
-    run_app.top)
-    serve_app.top
+office = with_subcommands (on_top needs_subcommand (new_app (codes "bsp_office"))) office_shapes
 
 -- ---- the work
 

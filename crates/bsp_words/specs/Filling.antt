@@ -1,6 +1,6 @@
 -- Lists of arguments and of commands, from which a command is filled.
 use Rattle.std.specs.Prelude.{Bool, List, [], ◌∷◌, map, false}
-use Rattle.clap.specs.Words.{App, Rule, Shape, rule_of, shape_of, with_rule}
+use Rattle.clap.specs.Words.{App, Rule, Shape, rule_of, shape_of, with_rule, with_subcommand}
 use Rattle.clap.specs.declared.builder.arg.Arg.{Arg}
 use Rattle.clap.specs.declared.builder.command.Command.{Command}
 use Rattle.clap.specs.declared.builder.command.Command.TheViews.{out-Command as fields_of}
@@ -21,3 +21,8 @@ of_one = map (λ x. (x, false))
 abbrev pub with_rules : App → List Rule → App
 with_rules a [] = a
 with_rules a (r ∷ rs) = with_rules (with_rule a r) rs
+
+-- a command with a subcommand of each shape, in turn
+abbrev pub with_subcommands : App → List Shape → App
+with_subcommands a [] = a
+with_subcommands a (s ∷ ss) = with_subcommands (with_subcommand a s) ss

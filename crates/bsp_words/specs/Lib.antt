@@ -1,3 +1,4 @@
 -- What the contracts of the words cite.
 pub mod CommandLine
+pub mod Commands
 pub mod Filling

@@ -2,6 +2,7 @@
 #![tactic(auto)]
 
 mod command_line;
+mod commands;
 mod work;
 
 pub use work::{BookSource, Misfit, Setting, TokenSource, WordsFault, Work, words};

@@ -1,7 +1,7 @@
 //! From the words of a command line to the work that they ask for.
 //!
-//! A further command is a variant of [`Work`], a function that adds its `Command`, and a function
-//! that makes its work of the values found. It also has a row in `push_commands` and in `work_in`.
+//! A further command is a row of `COMMANDS`, a variant of [`Work`], and a function that makes its work of the values
+//! found. It also has a row in `work_in`.
 
 ghost use Rattle.std.specs.Prelude.{◌≡◌, ◌<◌, IfOk, IfErr, IfSome, [], codes, map, option_map, length};
 ghost use Rattle.clap.specs.Words.{HasKind, fault_of, first_of, found_of, rows_of, subcommand_of, subcommand_rows_of};

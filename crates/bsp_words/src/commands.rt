@@ -1,0 +1,205 @@
+//! The commands of the program, each with its arguments.
+
+ghost use Rattle.std.specs.Prelude.{◌≡◌, map};
+ghost use Rattle.bsp_words.specs.CommandLine.{office_shapes};
+ghost use Rattle.bsp_words.specs.Commands.{shape_at};
+
+/// How an argument is given.
+#[derive(Clone, Copy)]
+pub(crate) enum Form {
+    /// The flag `--ID`.
+    Flag,
+    /// The option `--ID VALUE`, with the name of its value.
+    Named(&'static str),
+    /// Such an option that must be there.
+    Needed(&'static str),
+    /// Such an option that may come more than once.
+    Repeated(&'static str),
+    /// A word that must be there.
+    Word,
+    /// A word that may be absent.
+    OptionalWord,
+    /// The option that names the port.
+    Port,
+    /// The option that limits the connections.
+    Connections,
+    /// The option that limits the time for which a peer is waited for.
+    Timeout,
+}
+
+/// An argument of a command.
+#[derive(Clone, Copy)]
+pub(crate) struct Argument {
+    /// Its name.
+    pub(crate) id: &'static str,
+    pub(crate) form: Form,
+    pub(crate) help: &'static str,
+}
+
+/// A command.
+#[derive(Clone, Copy)]
+pub(crate) struct CommandRow {
+    pub(crate) name: &'static str,
+    pub(crate) about: &'static str,
+    /// What comes behind its help.
+    pub(crate) example: &'static str,
+    pub(crate) arguments: &'static [Argument],
+}
+
+const QUIET: Argument = Argument {
+    id: "quiet",
+    form: Form::Flag,
+    help: "says nothing of the file on standard error",
+};
+
+const FILE: Argument = Argument {
+    id: "FILE",
+    form: Form::Word,
+    help: "the file, or - for standard input",
+};
+
+const BOOK: Argument = Argument {
+    id: "FILE",
+    form: Form::Word,
+    help: "the file that keeps the book, which is not changed",
+};
+
+const TOKEN: Argument = Argument {
+    id: "token",
+    form: Form::Named("T"),
+    help: "the office's token, of 16 to 64 letters and digits",
+};
+
+const TOKEN_FILE: Argument = Argument {
+    id: "token-file",
+    form: Form::Named("FILE"),
+    help: "a file whose first line is the token: other users of the machine do not see it",
+};
+
+const DB: Argument = Argument {
+    id: "db",
+    form: Form::Named("FILE"),
+    help: "the file that keeps the book, made where it is not there; without it the book is in memory",
+};
+
+static COMMANDS: [CommandRow; 8] = [
+    CommandRow {
+        name: "check",
+        about: "Reads a RET file and prints its transactions and their sum, or its first fault. \
+        It looks at the form alone: for verdicts see the command judge",
+        example: "Example: bsp_office check samples/sale.ret",
+        arguments: &[QUIET, FILE],
+    },
+    CommandRow {
+        name: "hotcheck",
+        about: "Reads a HOT file and prints its totals, or its first record at fault",
+        example: "Example: bsp_office hotcheck 125.hot",
+        arguments: &[QUIET, FILE],
+    },
+    CommandRow {
+        name: "judge",
+        about: "Prints the verdicts that an office would give on an agent's RET file, and its net",
+        example: "Example: bsp_office judge --plan samples/plan.toml --day 2024-01-05 --agent 12345675 \
+        --stock 1300000000-1300000099 samples/sale.ret",
+        arguments: &[
+            Argument {
+                id: "plan",
+                form: Form::Needed("PLAN"),
+                help: "the published plan text",
+            },
+            Argument {
+                id: "day",
+                form: Form::Needed("DAY"),
+                help: "the business day, as 2024-01-05",
+            },
+            Argument {
+                id: "agent",
+                form: Form::Needed("A"),
+                help: "the agent, eight digits",
+            },
+            Argument {
+                id: "stock",
+                form: Form::Needed("FIRST-LAST"),
+                help: "the range of its numbers, as 1300000000-1300000099",
+            },
+            Argument {
+                id: "file",
+                form: Form::Repeated("EARLIER"),
+                help: "a RET file reported before, the earliest first",
+            },
+            FILE,
+        ],
+    },
+    CommandRow {
+        name: "plan",
+        about: "Tries a plan text: prints what it publishes, or why it is refused",
+        example: "Example: bsp_office plan --after samples/plan.toml next-month.toml",
+        arguments: &[
+            Argument {
+                id: "after",
+                form: Form::Repeated("PUBLISHED"),
+                help: "a text published before, the earliest first",
+            },
+            FILE,
+        ],
+    },
+    CommandRow {
+        name: "explain",
+        about: "Explains a code: what it means, when it comes, and what to do",
+        example: "Example: bsp_office explain E07",
+        arguments: &[Argument {
+            id: "CODE",
+            form: Form::OptionalWord,
+            help: "a letter and two digits; without it all codes are listed",
+        }],
+    },
+    CommandRow {
+        name: "audit",
+        about: "Reads the book in a file and prints what it has, or what is wrong with it",
+        example: "Example: bsp_office audit office.db",
+        arguments: &[BOOK],
+    },
+    CommandRow {
+        name: "run",
+        about: "Serves one connection of HTTP on standard input and output",
+        example: "Example: bsp_office run --token-file office.token --db office.db",
+        arguments: &[TOKEN, TOKEN_FILE, DB],
+    },
+    CommandRow {
+        name: "serve",
+        about: "Serves HTTP on a port of 127.0.0.1, one connection after the other",
+        example: "Example: bsp_office serve --port 8080 --token-file office.token --db office.db",
+        arguments: &[
+            Argument {
+                id: "port",
+                form: Form::Port,
+                help: "the port, from 1 to 65535",
+            },
+            TOKEN,
+            TOKEN_FILE,
+            DB,
+            Argument {
+                id: "connections",
+                form: Form::Connections,
+                help: "how many connections to serve, from 1 to 1000000",
+            },
+            Argument {
+                id: "timeout",
+                form: Form::Timeout,
+                help: "how many seconds to wait for a peer, from 1 to 3600; with 0 without end",
+            },
+            Argument {
+                id: "log",
+                form: Form::Flag,
+                help: "prints a line for each reply on standard error",
+            },
+        ],
+    },
+];
+
+/// The commands, in the order of the program's help.
+pub(crate) fn commands() -> &'static [CommandRow]
+    ensures { map shape_at result.now ≡ office_shapes }
+{
+    &COMMANDS
+}
