@@ -1,28 +1,18 @@
 -- Lemmas on the table of all codes.
 use Rattle.std.proofs.Common.{◌≡◌, ℕ, ◌+◌, ◌<◌, length, get_or, drop, Bool, true, false, List, [], ◌∷◌, ◌++◌, Option, Some, None, option_map, is_some, map, cond, ◌||◌, ap, ◌∙◌, sym, refl}
-use Rattle.std.specs.Borrow.{Bor}
 use Rattle.std.specs.List.{find, flat_map, list_any}
-use Rattle.std.specs.Option.{option_copied, option_or}
+use Rattle.std.specs.Option.{option_or}
 use Rattle.std.specs.Str.{bytes_eq}
-use Rattle.std.proofs.lemmas.List.{drop_more, map-append}
+use Rattle.std.proofs.lemmas.List.{drop_more}
 use Rattle.std.proofs.lemmas.List.Concat.{flat_map-append}
 use Rattle.std.proofs.lemmas.List.Folds.{find-append, flat_map-map}
 use Rattle.bsp_codes.specs.Codes.{all_codes, is_code}
-use Rattle.bsp_codes.specs.Table.{Said, entry_named, table, requests, heads, files, verdicts, plans, stocks, memos, documents, periods, hot_files, books}
+use Rattle.bsp_codes.specs.Table.{Said, entry_named, table}
 
 -- the codes of the table
 pub codes_are : map (λ (s : Said). s.code) table ≡ all_codes
-unfolding table requests heads files verdicts plans stocks memos documents periods hot_files books all_codes
+unfolding table all_codes
 codes_are = refl
-
-find_map : {A B : Type 0} (p : B → Bool) (f : A → B) (xs : List A) → option_map f (find (λ x. p (f x)) xs) ≡ find p (map f xs)
-find_map p f [] = refl
-find_map p f (x ∷ xs) =
-    elim (p (f x)) as (λ b. option_map f (cond b (Some x) (find (λ y. p (f y)) xs)) ≡ cond b (Some (f x)) (find p (map f xs))) [ true ↦ refl | false ↦ find_map p f xs ]
-
-map_parts : {A B C : Type 0} (f : B → C) (g : A → List B) (xs : List A) → map f (flat_map g xs) ≡ flat_map (λ x. map f (g x)) xs
-map_parts f g [] = refl
-map_parts f g (x ∷ xs) = map-append f (g x) (flat_map g xs) ∙ ap (λ rest. map f (g x) ++ rest) (map_parts f g xs)
 
 found_any : {A : Type 0} (p : A → Bool) (xs : List A) → is_some (find p xs) ≡ list_any p xs
 found_any p [] = refl
@@ -45,34 +35,21 @@ known {A} said r code is =
     of_map None = refl
     of_map (Some a) = refl
 
--- what is found in rows that make the table
-pub found_in : {A P : Type 0} (said : A → Said) (part : P → List A) (parts : List P) (code : List ℕ) (r : Option (Bor A)) → option_copied r ≡ find (λ row. bytes_eq (said row).code code) (flat_map part parts)
-    → flat_map (λ p. map said (part p)) parts ≡ table → option_map (λ row. said row.now) r ≡ entry_named code
-found_in {A} said part parts code r found make =
-    read r
-    ∙ ap (option_map said) found
-    ∙ find_map (λ (s : Said). bytes_eq s.code code) said (flat_map part parts)
-    ∙ ap (find (λ (s : Said). bytes_eq s.code code)) (map_parts said part parts ∙ make)
-  where
-    read : (x : Option (Bor A)) → option_map (λ row. said row.now) x ≡ option_map said (option_copied x)
-    read None = refl
-    read (Some row) = refl
-
--- the first that passes, in parts of which it is in none before a place
-module _ {A P : Type 0} (p : A → Bool) (part : P → List A) (parts : List P) (i : ℕ) (d : P) (r : Option (Bor A)) (within : i < length parts) (found : option_copied r ≡ find p (part (get_or parts i d)))
+-- what is found in the part at a place, if nothing is in those before it
+module _ {A P S : Type 0} (p : S → Bool) (said : A → S) (part : P → List S) (parts : List P) (i : ℕ) (d : P) (r : Option A) (within : i < length parts) (found : option_map said r ≡ find p (part (get_or parts i d)))
     (before : find p (flat_map part (drop i parts)) ≡ find p (flat_map part parts)) where
-  here_or_behind : find p (flat_map part parts) ≡ option_or (option_copied r) (find p (flat_map part (drop (i + 1) parts)))
+  here_or_behind : find p (flat_map part parts) ≡ option_or (option_map said r) (find p (flat_map part (drop (i + 1) parts)))
   here_or_behind =
       sym before
       ∙ ap (λ (l : List P). find p (flat_map part l)) (drop_more parts i d within)
       ∙ find-append p (part (get_or parts i d)) (flat_map part (drop (i + 1) parts))
-      ∙ ap (λ (o : Option A). option_or o (find p (flat_map part (drop (i + 1) parts)))) (sym found)
+      ∙ ap (λ (o : Option S). option_or o (find p (flat_map part (drop (i + 1) parts)))) (sym found)
 
-  pub found_here : (row : Bor A) → r ≡ Some row → Some row.now ≡ find p (flat_map part parts)
-  found_here row is = sym (here_or_behind ∙ ap (λ (o : Option (Bor A)). option_or (option_copied o) (find p (flat_map part (drop (i + 1) parts)))) is)
+  pub found_here : (a : A) → r ≡ Some a → option_map said (Some a) ≡ find p (flat_map part parts)
+  found_here a is = sym (here_or_behind ∙ ap (λ (o : Option A). option_or (option_map said o) (find p (flat_map part (drop (i + 1) parts)))) is)
 
   pub found_behind : r ≡ None → find p (flat_map part (drop (i + 1) parts)) ≡ find p (flat_map part parts)
-  found_behind is = sym (here_or_behind ∙ ap (λ (o : Option (Bor A)). option_or (option_copied o) (find p (flat_map part (drop (i + 1) parts)))) is)
+  found_behind is = sym (here_or_behind ∙ ap (λ (o : Option A). option_or (option_map said o) (find p (flat_map part (drop (i + 1) parts)))) is)
 
 -- lines of rows that make a list
 pub lines_of_parts : {A P S : Type 0} (line : S → List ℕ) (said : A → S) (part : P → List A) (parts : List P) → flat_map (λ p. flat_map (λ row. line (said row)) (part p)) parts ≡ flat_map line (flat_map (λ p. map said (part p)) parts)

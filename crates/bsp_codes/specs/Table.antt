@@ -38,42 +38,12 @@ Text = record { now : List ℕ }
 abbrev pub said_at : Text × Text × Text × Text × record { now : List Text } → Said
 said_at row = record { code = row.0.now; status = row.1.now; meaning = row.2.now; remedy = row.3.now; causes = map (λ text. text.now) row.4.now }
 
-unfoldable pub requests : List Said
-requests = map said_at REQUESTS
-
-unfoldable pub heads : List Said
-heads = map said_at HEADS
-
-unfoldable pub files : List Said
-files = map said_at FILES
-
-unfoldable pub verdicts : List Said
-verdicts = map said_at VERDICTS
-
-unfoldable pub plans : List Said
-plans = map said_at PLANS
-
-unfoldable pub stocks : List Said
-stocks = map said_at STOCKS
-
-unfoldable pub memos : List Said
-memos = map said_at MEMOS
-
-unfoldable pub documents : List Said
-documents = map said_at DOCUMENTS
-
-unfoldable pub periods : List Said
-periods = map said_at PERIODS
-
-unfoldable pub hot_files : List Said
-hot_files = map said_at HOT_FILES
-
-unfoldable pub books : List Said
-books = map said_at BOOKS
-
 -- in the order of docs/CODES.md
 unfoldable pub table : List Said
-table = requests ++ (heads ++ (files ++ (verdicts ++ (plans ++ (stocks ++ (memos ++ (documents ++ (periods ++ (hot_files ++ books)))))))))
+table =
+    map
+    said_at
+    (REQUESTS ++ (HEADS ++ (FILES ++ (VERDICTS ++ (PLANS ++ (STOCKS ++ (MEMOS ++ (DOCUMENTS ++ (PERIODS ++ (HOT_FILES ++ BOOKS))))))))))
 
 -- what is said of the code, if it is one
 abbrev pub entry_named : List ℕ → Option Said

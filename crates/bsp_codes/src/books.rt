@@ -1,12 +1,9 @@
 //! The codes of the book.
 
-ghost use Rattle.std.specs.Prelude.{◌≡◌, map};
-ghost use Rattle.bsp_codes.specs.Table.{said_in, books};
-
 use crate::entry::Row;
 
 /// The codes `B`.
-const BOOKS: [Row; 4] = [
+pub(crate) const BOOKS: [Row; 4] = [
     (
         "B01",
         "503",
@@ -36,11 +33,3 @@ const BOOKS: [Row; 4] = [
         &[],
     ),
 ];
-
-#[tactic(auto, unfolding(crate::specs::Table::books))]
-/// The rows of the codes `B`.
-pub(crate) fn books() -> &'static [Row]
-    ensures { map said_in result.now ≡ books }
-{
-    &BOOKS
-}

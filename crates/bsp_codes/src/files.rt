@@ -1,12 +1,9 @@
 //! The codes of RET files.
 
-ghost use Rattle.std.specs.Prelude.{◌≡◌, map};
-ghost use Rattle.bsp_codes.specs.Table.{said_in, files};
-
 use crate::entry::Row;
 
 /// The codes `F`.
-const FILES: [Row; 10] = [
+pub(crate) const FILES: [Row; 10] = [
     (
         "F01",
         "422",
@@ -98,11 +95,3 @@ const FILES: [Row; 10] = [
         &[],
     ),
 ];
-
-#[tactic(auto, unfolding(crate::specs::Table::files))]
-/// The rows of the codes `F`.
-pub(crate) fn files() -> &'static [Row]
-    ensures { map said_in result.now ≡ files }
-{
-    &FILES
-}

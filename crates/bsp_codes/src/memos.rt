@@ -1,12 +1,9 @@
 //! The codes of memos.
 
-ghost use Rattle.std.specs.Prelude.{◌≡◌, map};
-ghost use Rattle.bsp_codes.specs.Table.{said_in, memos};
-
 use crate::entry::Row;
 
 /// The codes `M`.
-const MEMOS: [Row; 8] = [
+pub(crate) const MEMOS: [Row; 8] = [
     (
         "M01",
         "404",
@@ -64,11 +61,3 @@ const MEMOS: [Row; 8] = [
         &[],
     ),
 ];
-
-#[tactic(auto, unfolding(crate::specs::Table::memos))]
-/// The rows of the codes `M`.
-pub(crate) fn memos() -> &'static [Row]
-    ensures { map said_in result.now ≡ memos }
-{
-    &MEMOS
-}

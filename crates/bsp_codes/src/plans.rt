@@ -1,12 +1,9 @@
 //! The codes of the plan, the business day and closes.
 
-ghost use Rattle.std.specs.Prelude.{◌≡◌, map};
-ghost use Rattle.bsp_codes.specs.Table.{said_in, plans};
-
 use crate::entry::Row;
 
 /// The codes `P`.
-const PLANS: [Row; 9] = [
+pub(crate) const PLANS: [Row; 9] = [
     (
         "P01",
         "400",
@@ -82,11 +79,3 @@ const PLANS: [Row; 9] = [
         &[],
     ),
 ];
-
-#[tactic(auto, unfolding(crate::specs::Table::plans))]
-/// The rows of the codes `P`.
-pub(crate) fn plans() -> &'static [Row]
-    ensures { map said_in result.now ≡ plans }
-{
-    &PLANS
-}

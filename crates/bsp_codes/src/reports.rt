@@ -1,12 +1,9 @@
 //! The codes of what is asked for.
 
-ghost use Rattle.std.specs.Prelude.{◌≡◌, map};
-ghost use Rattle.bsp_codes.specs.Table.{said_in, documents, hot_files, periods};
-
 use crate::entry::Row;
 
 /// The codes `D`.
-const DOCUMENTS: [Row; 1] = [(
+pub(crate) const DOCUMENTS: [Row; 1] = [(
     "D01",
     "404",
     "You have no accepted transaction of this number",
@@ -14,16 +11,8 @@ const DOCUMENTS: [Row; 1] = [(
     &[],
 )];
 
-#[tactic(auto, unfolding(crate::specs::Table::documents))]
-/// The rows of the codes `D`.
-pub(crate) fn documents() -> &'static [Row]
-    ensures { map said_in result.now ≡ documents }
-{
-    &DOCUMENTS
-}
-
 /// The codes `S`.
-const PERIODS: [Row; 2] = [
+pub(crate) const PERIODS: [Row; 2] = [
     (
         "S01",
         "409",
@@ -40,16 +29,8 @@ const PERIODS: [Row; 2] = [
     ),
 ];
 
-#[tactic(auto, unfolding(crate::specs::Table::periods))]
-/// The rows of the codes `S`.
-pub(crate) fn periods() -> &'static [Row]
-    ensures { map said_in result.now ≡ periods }
-{
-    &PERIODS
-}
-
 /// The codes `H`.
-const HOT_FILES: [Row; 4] = [
+pub(crate) const HOT_FILES: [Row; 4] = [
     (
         "H01",
         "409",
@@ -79,11 +60,3 @@ const HOT_FILES: [Row; 4] = [
         &[],
     ),
 ];
-
-#[tactic(auto, unfolding(crate::specs::Table::hot_files))]
-/// The rows of the codes `H`.
-pub(crate) fn hot_files() -> &'static [Row]
-    ensures { map said_in result.now ≡ hot_files }
-{
-    &HOT_FILES
-}

@@ -1,12 +1,9 @@
 //! The codes of requests.
 
-ghost use Rattle.std.specs.Prelude.{◌≡◌, map};
-ghost use Rattle.bsp_codes.specs.Table.{said_in, heads, requests};
-
 use crate::entry::Row;
 
 /// The codes `N`.
-const REQUESTS: [Row; 6] = [
+pub(crate) const REQUESTS: [Row; 6] = [
     (
         "N01",
         "403",
@@ -73,16 +70,8 @@ const REQUESTS: [Row; 6] = [
     ),
 ];
 
-#[tactic(auto, unfolding(crate::specs::Table::requests))]
-/// The rows of the codes `N`.
-pub(crate) fn requests() -> &'static [Row]
-    ensures { map said_in result.now ≡ requests }
-{
-    &REQUESTS
-}
-
 /// The codes `T`.
-const HEADS: [Row; 5] = [
+pub(crate) const HEADS: [Row; 5] = [
     (
         "T01",
         "400",
@@ -119,11 +108,3 @@ const HEADS: [Row; 5] = [
         &[],
     ),
 ];
-
-#[tactic(auto, unfolding(crate::specs::Table::heads))]
-/// The rows of the codes `T`.
-pub(crate) fn heads() -> &'static [Row]
-    ensures { map said_in result.now ≡ heads }
-{
-    &HEADS
-}

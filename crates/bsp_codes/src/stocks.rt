@@ -1,12 +1,9 @@
 //! The codes of stock.
 
-ghost use Rattle.std.specs.Prelude.{◌≡◌, map};
-ghost use Rattle.bsp_codes.specs.Table.{said_in, stocks};
-
 use crate::entry::Row;
 
 /// The codes `K`.
-const STOCKS: [Row; 5] = [
+pub(crate) const STOCKS: [Row; 5] = [
     (
         "K01",
         "409",
@@ -43,11 +40,3 @@ const STOCKS: [Row; 5] = [
         &[],
     ),
 ];
-
-#[tactic(auto, unfolding(crate::specs::Table::stocks))]
-/// The rows of the codes `K`.
-pub(crate) fn stocks() -> &'static [Row]
-    ensures { map said_in result.now ≡ stocks }
-{
-    &STOCKS
-}

@@ -10,13 +10,13 @@ use crate::entry::{Entry, Row};
 use crate::table::{entry_of, parts};
 use std::alloc::{AllocError, Global};
 
-/// Appends three texts, one after another.
-fn push_parts(text: &mut Vec<u8>, first: &str, middle: &str, last: &str) -> Result<(), AllocError>
-    ensures { OnOk result (text.new.items ≡ text.old.items ++ (first.now ++ (middle.now ++ last.now))) }
+/// Appends some texts, one after another.
+fn push_all(text: &mut Vec<u8>, parts: &[&str]) -> Result<(), AllocError>
+    ensures { OnOk result (text.new.items ≡ text.old.items ++ flat_map (λ part. part.now) parts.now) }
 {
-    text.extend_from_slice(first.as_bytes())?;
-    text.extend_from_slice(middle.as_bytes())?;
-    text.extend_from_slice(last.as_bytes())?;
+    for part in parts {
+        text.extend_from_slice(part.as_bytes())?;
+    }
     Ok(())
 }
 
@@ -25,9 +25,9 @@ fn push_status(text: &mut Vec<u8>, status: &str) -> Result<(), AllocError>
     ensures { OnOk result (text.new.items ≡ text.old.items ++ status_text status.now) }
 {
     if status.is_empty() {
-        push_parts(text, "", "", "\n")
+        push_all(text, &["\n"])
     } else {
-        push_parts(text, " (status ", status, ")\n")
+        push_all(text, &[" (status ", status, ")\n"])
     }
 }
 
@@ -36,7 +36,7 @@ fn push_causes(text: &mut Vec<u8>, causes: &[&str]) -> Result<(), AllocError>
     ensures { OnOk result (text.new.items ≡ text.old.items ++ flat_map (λ cause. cause_text cause.now) causes.now) }
 {
     for cause in causes {
-        push_parts(text, "- ", cause, ".\n")?;
+        push_all(text, &["- ", cause, ".\n"])?;
     }
     Ok(())
 }
@@ -47,10 +47,11 @@ fn push_entry(text: &mut Vec<u8>, entry: &Entry) -> Result<(), AllocError>
     ensures { OnOk result (text.new.items ≡ text.old.items ++ said_text (said_by entry.now)) }
 {
     push_status(text, entry.status)?;
-    push_parts(text, "", entry.meaning, ".\n")?;
-    push_parts(text, "What to do: ", entry.remedy, ".\n")?;
-    push_causes(text, entry.causes)?;
-    Ok(())
+    push_all(
+        text,
+        &[entry.meaning, ".\nWhat to do: ", entry.remedy, ".\n"],
+    )?;
+    push_causes(text, entry.causes)
 }
 
 /// What a code means, when it comes and what to do: some lines, of which the first begins with the code. None of a text
@@ -75,19 +76,8 @@ pub fn explanation(alloc: Global, code: &str) -> Result<Option<Vec<u8>>, AllocEr
 fn push_rows(text: &mut Vec<u8>, rows: &[Row]) -> Result<(), AllocError>
     ensures { OnOk result (text.new.items ≡ text.old.items ++ flat_map (λ row. said_line (said_in row)) rows.now) }
 {
-    for (code, _, meaning, _, _) in rows {
-        push_parts(text, code, " ", meaning)?;
-        text.push(b'\n')?;
-    }
-    Ok(())
-}
-
-/// Appends a line for each row of some parts.
-fn push_table(text: &mut Vec<u8>, parts: &[&[Row]]) -> Result<(), AllocError>
-    ensures { OnOk result (text.new.items ≡ text.old.items ++ flat_map (λ part. flat_map (λ row. said_line (said_in row)) part.now) parts.now) }
-{
-    for rows in parts {
-        push_rows(text, rows)?;
+    for &(code, _, meaning, _, _) in rows {
+        push_all(text, &[code, " ", meaning, "\n"])?;
     }
     Ok(())
 }
@@ -101,7 +91,10 @@ pub fn listing(alloc: Global) -> Result<Vec<u8>, AllocError>
     ensures lines { IfOk result (λ text. text.items ≡ flat_map said_line table) }
     ensures codes { map (λ s. s.code) table ≡ all_codes }
 {
+    let parts: &[&[Row]] = &parts();
     let mut text = Vec::new(alloc);
-    push_table(&mut text, &parts())?;
+    for rows in parts {
+        push_rows(&mut text, rows)?;
+    }
     Ok(text)
 }

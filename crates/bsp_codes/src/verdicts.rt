@@ -1,12 +1,9 @@
 //! The codes of verdicts on transactions.
 
-ghost use Rattle.std.specs.Prelude.{◌≡◌, map};
-ghost use Rattle.bsp_codes.specs.Table.{said_in, verdicts};
-
 use crate::entry::Row;
 
 /// The codes `E`.
-const VERDICTS: [Row; 12] = [
+pub(crate) const VERDICTS: [Row; 12] = [
     (
         "E01",
         "",
@@ -106,11 +103,3 @@ const VERDICTS: [Row; 12] = [
         ],
     ),
 ];
-
-#[tactic(auto, unfolding(crate::specs::Table::verdicts))]
-/// The rows of the codes `E`.
-pub(crate) fn verdicts() -> &'static [Row]
-    ensures { map said_in result.now ≡ verdicts }
-{
-    &VERDICTS
-}
