@@ -6,7 +6,7 @@ reply has to be the same, byte for byte; in the end all that shows the rows is a
 The line at the end has the numbers of the answers. A difference is printed with what was sent; the same seed sends the same
 again.
 
-usage: .ci/markets.py PROGRAM [MARKETS [SEED]]     (by default 12 markets, from the seed 1 on)
+usage: .ci/markets.py PROGRAM [MARKETS [SEED]]     (by default 40 markets, from the seed 1 on)
 """
 import collections
 import dataclasses
@@ -380,7 +380,7 @@ class Market:
 
 def main():
     program = office.program()
-    markets, seed = (int(it) for it in (*sys.argv[2:4], *("12", "1")[len(sys.argv[2:4]):]))
+    markets, seed = (int(it) for it in (*sys.argv[2:4], *("40", "1")[len(sys.argv[2:4]):]))
     counts = collections.Counter()
     for at in range(seed, seed + markets):
         market = Market(program, at, counts)
