@@ -89,9 +89,9 @@ names_one a words needs none =
     let stop = (walk b.top.rules (names_of b) nothing_held given).stopped in
     at_level b.top (names_of b) nothing_held given (is_some (entered b stop)) (entered_fault b stop) needs none
 
-out_of_form : (sub : Option (Text × List Row)) → is_some sub ≡ true → None ≡ work_from sub → (p : Text × List Row) × (sub ≡ Some p) × (work_in p.0 p.1 ≡ None)
-out_of_form (Some p) some none = (p, refl, sym none)
-out_of_form None some none = cc
+out_of_form : (words : List Text) (sub : Option (Text × List Row)) → is_some sub ≡ true → None ≡ work_from words sub → (p : Text × List Row) × (sub ≡ Some p) × (work_in words p.0 p.1 ≡ None)
+out_of_form words (Some p) some none = (p, refl, sym none)
+out_of_form words None some none = cc
 
 -- the command line is of the form for which `clap` says what it finds, and why it fails
 simple : is_simple office ≡ true
@@ -109,11 +109,11 @@ refused_words a words (Ok m) same kinds = tt
 refused_words a words (Err e) same kinds = (rw same at kinds) simple_and_free
 
 -- the answer to words without fault, by the work that is found in them
-pub work_answers : (words : List Text) (work : Work) → fault_of office words ≡ [] → Some (work_of work) ≡ work_from (subcommand_of office words) → AnswersWords words (Ok work)
+pub work_answers : (words : List Text) (work : Work) → fault_of office words ≡ [] → Some (work_of work) ≡ work_from words (subcommand_of office words) → AnswersWords words (Ok work)
 work_answers words work none is = (none, sym is)
 
-pub none_answers : (words : List Text) (misfit : Misfit) → fault_of office words ≡ [] → None ≡ work_from (subcommand_of office words) → AnswersWords words (Err (OutOfForm misfit))
-none_answers words misfit none is = (none, out_of_form _ (names_one office words refl none) is)
+pub none_answers : (words : List Text) (misfit : Misfit) → fault_of office words ≡ [] → None ≡ work_from words (subcommand_of office words) → AnswersWords words (Err (OutOfForm misfit))
+none_answers words misfit none is = (none, out_of_form words _ (names_one office words refl none) is)
 
 -- ---- values of an option that may come more than once
 

@@ -1,3 +1,4 @@
 -- Lemmas of this crate.
 pub mod CommandLines
 pub mod FillingLemmas
+pub mod OrderLemmas

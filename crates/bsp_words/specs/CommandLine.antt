@@ -1,5 +1,5 @@
 -- The command line of the office, and the work that its words ask for.
-use Rattle.std.specs.Prelude.{◌≡◌, ℕ, ◌^◌, ◌&&◌, pos, nat_lt, Bool, List, [], ◌∷◌, Option, Some, None, Result, Ok, Err, true, false, codes, if◌then◌else◌, option_map, option_and_then, unwrap_or, map, take, drop, length, get_or, ◌==◌}
+use Rattle.std.specs.Prelude.{◌≡◌, ℕ, ◌^◌, ◌&&◌, pos, nat_lt, Bool, List, [], ◌∷◌, Option, Some, None, Result, Ok, Err, true, false, codes, if◌then◌else◌, option_map, option_and_then, unwrap_or, map, take, drop, length, get_or, ◌==◌, ◌||◌, is_some}
 use Rattle.std.specs.Borrow.{Bor}
 use Rattle.std.specs.Option.{option_map_or}
 use Rattle.std.specs.Result.{result_ok}
@@ -20,7 +20,11 @@ use Rattle.bsp_words.specs.declared.work.BookSource.TheVariants as kept
 use Rattle.bsp_words.specs.declared.work.TokenSource.{TokenSource}
 use Rattle.bsp_words.specs.declared.work.TokenSource.TheVariants as source
 use Rattle.bsp_words.specs.declared.work.Work.{Work}
-use Rattle.bsp_words.specs.declared.work.Work.TheVariants.{Audit, Check, Explain, Hotcheck, Judge, Plan, Run, Serve}
+use Rattle.bsp_words.specs.declared.work.Work.TheVariants.{Audit, Body, Check, Explain, Hotcheck, Judge, Plan, PlanOf, Run, Serve}
+use Rattle.bsp_words.specs.Order.{in_order, marks_in}
+use Rattle.bsp_words.specs.declared.work.Earlier.{Earlier}
+use Rattle.bsp_words.specs.declared.work.Range.{Range}
+use Rattle.bsp_words.specs.declared.setting.Lists.{Lists}
 use Rattle.bsp_words.specs.declared.work.Setting.{Setting}
 use Rattle.bsp_words.specs.declared.work.WordsFault.{WordsFault}
 use Rattle.bsp_words.specs.declared.work.WordsFault.TheVariants.{Refused, OutOfForm, NoRoom}
@@ -35,11 +39,16 @@ wanted_word id = record (new_rule id) { required = true }
 abbrev pub flag_rule : Text → Rule
 flag_rule id = record (new_rule id) { long = Some id; action = Some SetTrue }
 
--- a command with a FILE behind it, and --quiet: check FILE, hotcheck FILE
-abbrev pub file_app : Text → App
-file_app name = with_rule (with_rule (new_app name) (flag_rule (codes "quiet"))) (wanted_word (codes "FILE"))
+-- check FILE, and --quiet
+abbrev pub check_app : App
+check_app = with_rule (with_rule (new_app (codes "check")) (flag_rule (codes "quiet"))) (wanted_word (codes "FILE"))
 
--- a command with the FILE of a book behind it: audit FILE
+-- hotcheck FILE, with --quiet and --list
+abbrev pub hotcheck_app : App
+hotcheck_app =
+    with_rule (with_rule (with_rule (new_app (codes "hotcheck")) (flag_rule (codes "quiet"))) (flag_rule (codes "list"))) (wanted_word (codes "FILE"))
+
+-- audit FILE, the file of a book
 abbrev pub audit_app : App
 audit_app = with_rule (new_app (codes "audit")) (wanted_word (codes "FILE"))
 
@@ -55,22 +64,38 @@ needed_option id = record (named_option id) { required = true }
 abbrev pub repeated_option : Text → Rule
 repeated_option id = record (named_option id) { action = Some Append }
 
+-- which must be there, and may come more than once
+abbrev pub some_option : Text → Rule
+some_option id = record (repeated_option id) { required = true }
+
 -- explain CODE, and explain alone
 abbrev pub explain_app : App
 explain_app = with_rule (new_app (codes "explain")) (new_rule (codes "CODE"))
 
--- plan FILE, and the texts published before
+-- plan FILE with the texts published before and the business day, or plan --of BOOK
 abbrev pub plan_app : App
-plan_app = with_rule (with_rule (new_app (codes "plan")) (repeated_option (codes "after"))) (wanted_word (codes "FILE"))
+plan_app =
+    with_rule
+    (with_rule (with_rule (with_rule (new_app (codes "plan")) (repeated_option (codes "after"))) (named_option (codes "day"))) (named_option (codes "of")))
+    (new_rule (codes "FILE"))
+
+-- body REQUEST FILE
+abbrev pub body_app : App
+body_app = with_rule (with_rule (new_app (codes "body")) (wanted_word (codes "REQUEST"))) (wanted_word (codes "FILE"))
 
 -- --plan PLAN, --day DAY, --agent A and --stock FIRST-LAST
 abbrev pub with_setting : App → App
 with_setting a =
-    with_rule (with_rule (with_rule (with_rule a (needed_option (codes "plan"))) (needed_option (codes "day"))) (needed_option (codes "agent"))) (needed_option (codes "stock"))
+    with_rule (with_rule (with_rule (with_rule a (some_option (codes "plan"))) (needed_option (codes "day"))) (needed_option (codes "agent"))) (some_option (codes "stock"))
 
--- judge FILE, what it is judged over, and the files reported before
+-- --file EARLIER, --closed PERIOD and --statement PERIOD
+abbrev pub with_earlier : App → App
+with_earlier a =
+    with_rule (with_rule (with_rule a (repeated_option (codes "file"))) (repeated_option (codes "closed"))) (named_option (codes "statement"))
+
+-- judge FILE, what it is judged over, and what comes before it
 abbrev pub judge_app : App
-judge_app = with_rule (with_rule (with_setting (new_app (codes "judge"))) (repeated_option (codes "file"))) (wanted_word (codes "FILE"))
+judge_app = with_rule (with_earlier (with_setting (new_app (codes "judge")))) (wanted_word (codes "FILE"))
 
 -- and the value is a number from the least to the most
 abbrev pub number_option : Text → ℕ → ℕ → Rule
@@ -111,10 +136,11 @@ needs_subcommand s = record s { has_version = true; subcommand_required = true; 
 -- the commands, in the order of the help
 abbrev pub office_shapes : List Shape
 office_shapes =
-    (file_app (codes "check")).top
-    ∷ (file_app (codes "hotcheck")).top
+    check_app.top
+    ∷ hotcheck_app.top
     ∷ judge_app.top
     ∷ plan_app.top
+    ∷ body_app.top
     ∷ explain_app.top
     ∷ audit_app.top
     ∷ run_app.top
@@ -144,37 +170,51 @@ abbrev pub book_of : BookSource → AskedBook
 book_of kept.Memory = in_memory
 book_of (kept.File file) = stored_in file.now
 
--- what a file is judged over: the plan text, the business day, the agent, its numbers, and the files reported before
-pub record AskedSetting : Type 0 where
-  pub plan : Text
-  pub day : CivilDay
-  pub agent : ℕ
-  pub first : ℕ
-  pub last : ℕ
-  pub earlier : List Text
-
 abbrev pub texts_in : List (Bor Text) → List Text
 texts_in = map (λ text. text.now)
 
+-- what a file is judged over: the plan texts, the business day, the agent, its ranges, what comes before, and whose statement is printed
+pub record AskedSetting : Type 0 where
+  pub plans : List Text
+  pub day : CivilDay
+  pub agent : ℕ
+  pub stock : List Range
+  pub files : List Text
+  pub earlier : List Earlier
+  pub statement : Option ℕ
+
 abbrev pub setting_of : Setting → AskedSetting
-setting_of s = record { plan = s.plan.now; day = s.day; agent = s.agent; first = s.first; last = s.last; earlier = texts_in s.earlier.items }
+setting_of s =
+    record {
+      plans = texts_in s.plans.items;
+      day = s.day;
+      agent = s.agent;
+      stock = s.stock.items;
+      files = texts_in s.files.items;
+      earlier = s.earlier.items;
+      statement = s.statement;
+    }
 
 -- a command with its values, as texts and numbers
 pub data AskedWork : Type 0 where
   judge : AskedSetting → Text → AskedWork
-  plan : Text → List Text → AskedWork
+  plan : Text → List Text → Option CivilDay → AskedWork
+  plan_of : Text → AskedWork
+  body : Text → Text → AskedWork
   explain : Option Text → AskedWork
   check : Text → Bool → AskedWork
-  hotcheck : Text → Bool → AskedWork
+  hotcheck : Text → Bool → Bool → AskedWork
   audit : Text → AskedWork
   run : AskedToken → AskedBook → AskedWork
   serve : ℕ → AskedToken → AskedBook → ℕ → ℕ → Bool → AskedWork
 
 abbrev pub work_of : Work → AskedWork
 work_of (Check file quiet) = check file.now quiet
-work_of (Hotcheck file quiet) = hotcheck file.now quiet
+work_of (Hotcheck file quiet list) = hotcheck file.now quiet list
 work_of (Judge setting file) = judge (setting_of setting) file.now
-work_of (Plan file published) = plan file.now (texts_in published.items)
+work_of (Plan file published day) = plan file.now (texts_in published.items) day
+work_of (PlanOf book) = plan_of book.now
+work_of (Body request file) = body request.now file.now
 work_of (Explain code) = explain (option_map (λ c. c.now) code)
 work_of (Audit file) = audit file.now
 work_of (Run token book) = run (token_of token) (book_of book)
@@ -189,23 +229,55 @@ abbrev pub check_work : List Row → Option AskedWork
 check_work rows = option_map (λ file. check file (is_set (codes "quiet") rows)) (first_of (codes "FILE") rows)
 
 abbrev pub hotcheck_work : List Row → Option AskedWork
-hotcheck_work rows = option_map (λ file. hotcheck file (is_set (codes "quiet") rows)) (first_of (codes "FILE") rows)
+hotcheck_work rows =
+    option_map (λ file. hotcheck file (is_set (codes "quiet") rows) (is_set (codes "list") rows)) (first_of (codes "FILE") rows)
 
 -- the values of an option that may come more than once
 abbrev pub values_in : Text → List Row → List Text
 values_in id rows = unwrap_or (all_of id rows) []
 
-abbrev pub plan_work : List Row → Option AskedWork
-plan_work rows = option_map (λ file. plan file (values_in (codes "after") rows)) (first_of (codes "FILE") rows)
+-- each text is read, or nothing is
+abbrev pub all_read : {X : Type 0} → (Text → Option X) → List Text → Option (List X)
+all_read read [] = Some []
+all_read read (text ∷ texts) = option_and_then (λ x. option_map (λ xs. x ∷ xs) (all_read read texts)) (read text)
+
+-- what is read of a text, if there is one
+abbrev pub read_if_any : {X : Type 0} → (Text → Option X) → Option Text → Option (Option X)
+read_if_any read None = Some None
+read_if_any read (Some text) = option_map Some (read text)
 
 abbrev pub explain_work : List Row → Option AskedWork
 explain_work rows = Some (explain (first_of (codes "CODE") rows))
 
-abbrev pub day_in : List Row → Option CivilDay
-day_in rows = option_and_then (λ text. result_ok (text_reading text)) (first_of (codes "day") rows)
+abbrev pub body_work : List Row → Option AskedWork
+body_work rows = option_and_then (λ request. option_map (body request) (first_of (codes "FILE") rows)) (first_of (codes "REQUEST") rows)
 
-abbrev pub agent_in : List Row → Option ℕ
-agent_in rows = option_and_then (λ text. result_ok (agent_reading text)) (first_of (codes "agent") rows)
+abbrev pub day_of : Text → Option CivilDay
+day_of text = result_ok (text_reading text)
+
+abbrev pub agent_of : Text → Option ℕ
+agent_of text = result_ok (agent_reading text)
+
+abbrev pub period_of : Text → Option ℕ
+period_of text = result_ok (code_reading 5 text)
+
+-- a text over those published before, on its day
+abbrev pub plan_text_work : Text → List Row → Option AskedWork
+plan_text_work file rows = option_map (plan file (values_in (codes "after") rows)) (read_if_any day_of (first_of (codes "day") rows))
+
+-- the plan of a book. No text was published before, there is no day, and no file is called -
+abbrev pub plan_of_work : Text → List Row → Option AskedWork
+plan_of_work book rows =
+    if bytes_eq book (codes "-") || is_some (all_of (codes "after") rows) || is_some (first_of (codes "day") rows) then None else Some (plan_of book)
+
+-- exactly one of the file and the book is there
+abbrev pub plan_from : Option Text → Option Text → List Row → Option AskedWork
+plan_from (Some file) None rows = plan_text_work file rows
+plan_from None (Some book) rows = plan_of_work book rows
+plan_from _ _ rows = None
+
+abbrev pub plan_work : List Row → Option AskedWork
+plan_work rows = plan_from (first_of (codes "FILE") rows) (first_of (codes "of") rows) rows
 
 -- ten digits, a minus, and ten digits
 abbrev pub first_number : Text → Option ℕ
@@ -217,26 +289,47 @@ last_number text = result_ok (code_reading 10 (drop 11 text))
 abbrev pub is_range : Text → Bool
 is_range text = (length text == 21) && (get_or text 10 0 == 45)
 
-abbrev pub range_text : List Row → Option Text
-range_text rows = option_and_then (λ text. if is_range text then Some text else None) (first_of (codes "stock") rows)
+abbrev pub range_of : Text → Option Range
+range_of text =
+    if is_range text then option_and_then (λ first. option_map (λ last. record { first = first; last = last }) (last_number text)) (first_number text)
+    else None
 
-abbrev pub setting_in : List Row → Option AskedSetting
-setting_in rows =
-    option_and_then (λ plan.
+-- the files and the closes in the order of the words
+abbrev pub earlier_in : List Text → List Row → Option (List Earlier)
+earlier_in words rows = option_map (in_order (marks_in words)) (all_read period_of (values_in (codes "closed") rows))
+
+-- the lists of a setting
+pub record AskedLists : Type 0 where
+  pub plans : List Text
+  pub stock : List Range
+  pub files : List Text
+  pub earlier : List Earlier
+
+abbrev pub lists_of : Lists → AskedLists
+lists_of l = record { plans = texts_in l.plans.items; stock = l.stock.items; files = texts_in l.files.items; earlier = l.earlier.items }
+
+abbrev pub setting_from : AskedLists → List Row → Option AskedSetting
+setting_from lists rows =
     option_and_then (λ day.
     option_and_then (λ agent.
-    option_and_then (λ stock.
-    option_and_then (λ first.
-    option_map (λ last. record { plan = plan; day = day; agent = agent; first = first; last = last; earlier = values_in (codes "file") rows })
-    (last_number stock))
-    (first_number stock))
-    (range_text rows))
-    (agent_in rows))
-    (day_in rows))
-    (first_of (codes "plan") rows)
+    option_map (λ statement.
+    record { plans = lists.plans; day = day; agent = agent; stock = lists.stock; files = lists.files; earlier = lists.earlier; statement = statement })
+    (read_if_any period_of (first_of (codes "statement") rows)))
+    (option_and_then agent_of (first_of (codes "agent") rows)))
+    (option_and_then day_of (first_of (codes "day") rows))
 
-abbrev pub judge_work : List Row → Option AskedWork
-judge_work rows = option_and_then (λ file. option_map (λ setting. judge setting file) (setting_in rows)) (first_of (codes "FILE") rows)
+abbrev pub lists_in : List Text → List Row → Option AskedLists
+lists_in words rows =
+    option_and_then (λ stock.
+    option_map (λ earlier. record { plans = values_in (codes "plan") rows; stock = stock; files = values_in (codes "file") rows; earlier = earlier })
+    (earlier_in words rows))
+    (all_read range_of (values_in (codes "stock") rows))
+
+abbrev pub setting_in : List Text → List Row → Option AskedSetting
+setting_in words rows = option_and_then (λ lists. setting_from lists rows) (lists_in words rows)
+
+abbrev pub judge_work : List Text → List Row → Option AskedWork
+judge_work words rows = option_and_then (λ file. option_map (λ setting. judge setting file) (setting_in words rows)) (first_of (codes "FILE") rows)
 
 -- no file of a book is called -
 abbrev pub audit_of : Text → Option AskedWork
@@ -284,29 +377,30 @@ serve_work rows =
     (number_in 32 (codes "connections") rows))
     (number_in 16 (codes "port") rows)
 
--- the work on files that need no book
-unfoldable pub trial_in : Text → List Row → Option AskedWork
-trial_in name rows =
-    if bytes_eq name (codes "judge") then judge_work rows
+-- the work on files that need no office
+unfoldable pub trial_in : List Text → Text → List Row → Option AskedWork
+trial_in words name rows =
+    if bytes_eq name (codes "judge") then judge_work words rows
     else if bytes_eq name (codes "plan") then plan_work rows
+    else if bytes_eq name (codes "body") then body_work rows
     else if bytes_eq name (codes "explain") then explain_work rows
     else None
 
-unfoldable pub work_in : Text → List Row → Option AskedWork
-work_in name rows =
+unfoldable pub work_in : List Text → Text → List Row → Option AskedWork
+work_in words name rows =
     if bytes_eq name (codes "check") then check_work rows
     else if bytes_eq name (codes "hotcheck") then hotcheck_work rows
     else if bytes_eq name (codes "audit") then audit_work rows
     else if bytes_eq name (codes "run") then run_work rows
     else if bytes_eq name (codes "serve") then serve_work rows
-    else trial_in name rows
+    else trial_in words name rows
 
-abbrev pub work_from : Option (Text × List Row) → Option AskedWork
-work_from = option_and_then (λ p. work_in p.0 p.1)
+abbrev pub work_from : List Text → Option (Text × List Row) → Option AskedWork
+work_from words = option_and_then (λ p. work_in words p.0 p.1)
 
 -- the work that is asked for by what `clap` finds in the words
 abbrev pub asked : List Text → Option AskedWork
-asked words = work_from (subcommand_of office words)
+asked words = work_from words (subcommand_of office words)
 
 -- ---- the answer to the words
 
@@ -317,4 +411,4 @@ AnswersWords words (Ok work) = (fault_of office words ≡ []) × (asked words �
 AnswersWords words (Err (Refused e)) = HasKind (fault_of office words) e
 AnswersWords words (Err NoRoom) = Unit {0}
 AnswersWords words (Err (OutOfForm misfit)) =
-    (fault_of office words ≡ []) × ((p : Text × List Row) × (subcommand_of office words ≡ Some p) × (work_in p.0 p.1 ≡ None))
+    (fault_of office words ≡ []) × ((p : Text × List Row) × (subcommand_of office words ≡ Some p) × (work_in words p.0 p.1 ≡ None))

@@ -1,7 +1,7 @@
 -- The commands of the program by their rows.
 use Rattle.std.specs.Prelude.{map}
 use Rattle.clap.specs.Words.{Rule, Shape, Text, new_app, new_rule}
-use Rattle.bsp_words.specs.CommandLine.{connections_rule, flag_rule, named_option, needed_option, port_rule, repeated_option, timeout_rule, wanted_word}
+use Rattle.bsp_words.specs.CommandLine.{connections_rule, flag_rule, named_option, needed_option, port_rule, repeated_option, some_option, timeout_rule, wanted_word}
 use Rattle.bsp_words.specs.Filling.{with_rules}
 use Rattle.bsp_words.specs.declared.commands.Argument.{Argument}
 use Rattle.bsp_words.specs.declared.commands.Form.{Form}
@@ -14,6 +14,7 @@ rule_by id form.Flag = flag_rule id
 rule_by id (form.Named value) = named_option id
 rule_by id (form.Needed value) = needed_option id
 rule_by id (form.Repeated value) = repeated_option id
+rule_by id (form.Some value) = some_option id
 rule_by id form.Word = wanted_word id
 rule_by id form.OptionalWord = new_rule id
 rule_by id form.Port = port_rule

@@ -2,3 +2,4 @@
 pub mod CommandLine
 pub mod Commands
 pub mod Filling
+pub mod Order

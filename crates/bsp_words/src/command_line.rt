@@ -2,7 +2,7 @@
 
 ghost use Rattle.std.specs.Prelude.{◌≡◌, ◌++◌, ◌∷◌, [], IfOk, IsOkAnd, OnOk, false, map};
 ghost use Rattle.clap.specs.Words.{app_of, new_rule, rule_of};
-ghost use Rattle.bsp_words.specs.CommandLine.{connections_rule, flag_rule, named_option, needed_option, office, port_rule, repeated_option, timeout_rule};
+ghost use Rattle.bsp_words.specs.CommandLine.{connections_rule, flag_rule, named_option, needed_option, office, port_rule, repeated_option, some_option, timeout_rule};
 ghost use Rattle.bsp_words.specs.Commands.{rule_at, shape_at};
 ghost use Rattle.bsp_words.specs.Filling.{of_one, rules_in, shapes_in};
 
@@ -46,6 +46,14 @@ fn repeated<'a>(alloc: Global, id: &'a str, value: &'a str, help: &'a str) -> Ar
     ensures local { result.global ≡ false }
 {
     option(alloc, id, value, help).action(ArgAction::Append)
+}
+
+/// The option `--ID VALUE`, which must be there, and may come more than once.
+fn some<'a>(alloc: Global, id: &'a str, value: &'a str, help: &'a str) -> Arg<'a>
+    ensures rule { rule_of result ≡ some_option id.entry.now }
+    ensures local { result.global ≡ false }
+{
+    repeated(alloc, id, value, help).required(true)
 }
 
 fn port_option<'a>(alloc: Global, help: &'a str) -> Arg<'a>
@@ -93,6 +101,7 @@ fn argument<'a>(alloc: Global, row: &Argument) -> Arg<'a>
         Form::Named(value) => option(alloc, row.id, value, row.help),
         Form::Needed(value) => needed(alloc, row.id, value, row.help),
         Form::Repeated(value) => repeated(alloc, row.id, value, row.help),
+        Form::Some(value) => some(alloc, row.id, value, row.help),
         Form::Word => word(alloc, row.id, row.help).required(true),
         Form::OptionalWord => word(alloc, row.id, row.help),
         Form::Port => port_option(alloc, row.help),

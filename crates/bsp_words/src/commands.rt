@@ -15,6 +15,8 @@ pub(crate) enum Form {
     Needed(&'static str),
     /// Such an option that may come more than once.
     Repeated(&'static str),
+    /// Such an option that must be there, and may come more than once.
+    Some(&'static str),
     /// A word that must be there.
     Word,
     /// A word that may be absent.
@@ -41,7 +43,7 @@ pub(crate) struct Argument {
 pub(crate) struct CommandRow {
     pub(crate) name: &'static str,
     pub(crate) about: &'static str,
-    /// What comes behind its help.
+    /// What follows its help.
     pub(crate) example: &'static str,
     pub(crate) arguments: &'static [Argument],
 }
@@ -82,7 +84,7 @@ const DB: Argument = Argument {
     help: "the file that keeps the book, made where it is not there; without it the book is in memory",
 };
 
-static COMMANDS: [CommandRow; 8] = [
+static COMMANDS: [CommandRow; 9] = [
     CommandRow {
         name: "check",
         about: "Reads a RET file and prints its transactions and their sum, or its first fault. \
@@ -93,8 +95,16 @@ static COMMANDS: [CommandRow; 8] = [
     CommandRow {
         name: "hotcheck",
         about: "Reads a HOT file and prints its totals, or its first record at fault",
-        example: "Example: bsp_office hotcheck 125.hot",
-        arguments: &[QUIET, FILE],
+        example: "Example: bsp_office hotcheck --list 125.hot",
+        arguments: &[
+            QUIET,
+            Argument {
+                id: "list",
+                form: Form::Flag,
+                help: "prints a line for each document and memo, and the totals of each agent, too",
+            },
+            FILE,
+        ],
     },
     CommandRow {
         name: "judge",
@@ -104,8 +114,8 @@ static COMMANDS: [CommandRow; 8] = [
         arguments: &[
             Argument {
                 id: "plan",
-                form: Form::Needed("PLAN"),
-                help: "the published plan text",
+                form: Form::Some("PLAN"),
+                help: "a published plan text, the earliest first",
             },
             Argument {
                 id: "day",
@@ -119,13 +129,23 @@ static COMMANDS: [CommandRow; 8] = [
             },
             Argument {
                 id: "stock",
-                form: Form::Needed("FIRST-LAST"),
-                help: "the range of its numbers, as 1300000000-1300000099",
+                form: Form::Some("FIRST-LAST"),
+                help: "a range of its numbers, as 1300000000-1300000099",
             },
             Argument {
                 id: "file",
                 form: Form::Repeated("EARLIER"),
                 help: "a RET file reported before, the earliest first",
+            },
+            Argument {
+                id: "closed",
+                form: Form::Repeated("PERIOD"),
+                help: "a period that the office closed after the earlier files before it",
+            },
+            Argument {
+                id: "statement",
+                form: Form::Named("PERIOD"),
+                help: "prints the agent's statement of this period, as if it were closed now, too",
             },
             FILE,
         ],
@@ -140,6 +160,33 @@ static COMMANDS: [CommandRow; 8] = [
                 form: Form::Repeated("PUBLISHED"),
                 help: "a text published before, the earliest first",
             },
+            Argument {
+                id: "day",
+                form: Form::Named("DAY"),
+                help: "the business day on which the text is published; without it 2000-01-01",
+            },
+            Argument {
+                id: "of",
+                form: Form::Named("BOOK"),
+                help: "prints the plan of the book in this file instead, as a text; the book is not changed",
+            },
+            Argument {
+                id: "FILE",
+                form: Form::OptionalWord,
+                help: "the file, or - for standard input; it is there unless --of is",
+            },
+        ],
+    },
+    CommandRow {
+        name: "body",
+        about: "Tries the body of a request without an office: prints OK, or the code of the refusal",
+        example: "Example: bsp_office body 'POST /office/day' day.json",
+        arguments: &[
+            Argument {
+                id: "REQUEST",
+                form: Form::Word,
+                help: "the method and the target in one word, as 'POST /office/day'",
+            },
             FILE,
         ],
     },
@@ -150,7 +197,7 @@ static COMMANDS: [CommandRow; 8] = [
         arguments: &[Argument {
             id: "CODE",
             form: Form::OptionalWord,
-            help: "a letter and two digits; without it all codes are listed",
+            help: "a letter and two digits, as E07; without it all codes are listed",
         }],
     },
     CommandRow {

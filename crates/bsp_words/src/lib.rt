@@ -3,6 +3,10 @@
 
 mod command_line;
 mod commands;
+mod order;
+mod plan;
+mod setting;
+mod values;
 mod work;
 
-pub use work::{BookSource, Misfit, Setting, TokenSource, WordsFault, Work, words};
+pub use work::{BookSource, Earlier, Misfit, Range, Setting, TokenSource, WordsFault, Work, words};

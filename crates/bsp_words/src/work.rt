@@ -3,12 +3,15 @@
 //! A further command is a row of `COMMANDS`, a variant of [`Work`], and a function that makes its work of the values
 //! found. It also has a row in `work_in`.
 
-ghost use Rattle.std.specs.Prelude.{◌≡◌, ◌<◌, IfOk, IfErr, IfSome, [], codes, map, option_map, length};
-ghost use Rattle.clap.specs.Words.{HasKind, fault_of, first_of, found_of, rows_of, subcommand_of, subcommand_rows_of};
-ghost use Rattle.bsp_words.specs.CommandLine.{AnswersWords, agent_in, asked_book, asked_token, audit_work, book_of, check_work, day_in, explain_work, first_number, hotcheck_work, is_range, is_set, judge_work, last_number, number_in, office, plan_work, range_text, run_work, serve_work, setting_in, setting_of, texts_in, token_of, trial_in, values_in, work_from, work_in, work_of};
+ghost use Rattle.std.specs.Prelude.{◌≡◌, IfOk, IfErr, [], map, option_map};
+ghost use Rattle.clap.specs.Words.{HasKind, fault_of, found_of, rows_of, subcommand_of, subcommand_rows_of};
+ghost use Rattle.bsp_words.specs.CommandLine.{AnswersWords, asked_book, asked_token, audit_work, body_work, book_of, check_work, explain_work, hotcheck_work, office, run_work, serve_work, token_of, trial_in, work_from, work_in, work_of};
 
 use crate::command_line::office_command;
-use bsp_fields::{AgentCode, Day, DocNumber, Token};
+use crate::plan::{plan_given, plan_misfit};
+use crate::setting::{judge_given, setting_misfit};
+use crate::values::{flag_given, number_given, port_given, value_of};
+use bsp_fields::{AgentCode, Day, DocNumber, PeriodCode, Token};
 use clap::{ArgMatches, Error};
 use std::alloc::{AllocError, Global};
 use std::convert::AsStr;
@@ -31,21 +34,39 @@ pub enum BookSource<'a> {
     File(&'a str),
 }
 
+/// A range of document numbers. Nothing says that the first is not after the last.
+#[derive(Clone, Copy)]
+pub struct Range {
+    pub first: DocNumber,
+    pub last: DocNumber,
+}
+
+/// What comes before the file that is judged.
+#[derive(Clone, Copy)]
+pub enum Earlier {
+    /// `--file EARLIER`: the agent reports the next of the files.
+    File,
+    /// `--closed PERIOD`: the office closes this period.
+    Closed(PeriodCode),
+}
+
 /// What a RET file is judged over.
 #[derive(Drop)]
 pub struct Setting<'a> {
-    /// `--plan PLAN`: the file of the plan text.
-    pub plan: &'a str,
+    /// `--plan PLAN`: the files of the plan texts, the earliest first. There is one at least.
+    pub plans: Vec<&'a str>,
     /// `--day DAY`: the business day.
     pub day: Day,
     /// `--agent A`: the agent that reports.
     pub agent: AgentCode,
-    /// `--stock FIRST-LAST`: the first number of its range.
-    pub first: DocNumber,
-    /// The last number. Nothing says that the first is not after it.
-    pub last: DocNumber,
+    /// `--stock FIRST-LAST`: its ranges. There is one at least.
+    pub stock: Vec<Range>,
     /// `--file EARLIER`: the RET files that it reported before, the earliest first.
-    pub earlier: Vec<&'a str>,
+    pub files: Vec<&'a str>,
+    /// These files and `--closed PERIOD`, in the order of the words.
+    pub earlier: Vec<Earlier>,
+    /// `--statement PERIOD`: the period of the statement that is printed, if one is.
+    pub statement: Option<PeriodCode>,
 }
 
 /// What the program is asked to do: one variant for each command, with its FILE and its options.
@@ -62,6 +83,8 @@ pub enum Work<'a> {
         file: &'a str,
         /// As of `Check`.
         quiet: bool,
+        /// `--list`: to print a line for each document and memo, too.
+        list: bool,
     },
     /// `judge FILE`: to print the verdicts on a RET file. The FILE `-` is standard input.
     Judge {
@@ -73,6 +96,18 @@ pub enum Work<'a> {
         file: &'a str,
         /// `--after PUBLISHED`: the files of the texts published before, the earliest first.
         published: Vec<&'a str>,
+        /// `--day DAY`: the business day on which the text is published.
+        day: Option<Day>,
+    },
+    /// `plan --of BOOK`: to print the plan of the book that a file keeps. The BOOK `-` is out of form.
+    PlanOf {
+        book: &'a str,
+    },
+    /// `body REQUEST FILE`: to try the body of a request. The FILE `-` is standard input.
+    Body {
+        /// Its method and its target, as `POST /office/day`.
+        request: &'a str,
+        file: &'a str,
     },
     /// `explain CODE`: to explain a code, and without one to list all codes.
     Explain {
@@ -113,12 +148,18 @@ pub enum Misfit {
     Token,
     /// A file is called `-`.
     Minus,
-    /// The day of `judge` is none of the calendar.
+    /// The day is none of the calendar.
     Day,
     /// The agent is not eight digits with their check digit.
     Agent,
-    /// The range is not two numbers of ten digits with a minus between them.
+    /// A range is not two numbers of ten digits with a minus between them.
     Stock,
+    /// A period is not five digits.
+    Period,
+    /// `plan` has no FILE, and no `--of`.
+    NoPlan,
+    /// `plan` has a FILE and `--of`, or `--after` or `--day` beside `--of`.
+    TwoPlans,
 }
 
 /// Why the words ask for no work.
@@ -127,39 +168,11 @@ pub enum WordsFault {
     /// `clap` refuses the words, or was refused memory; a request for help is reported so too.
     Refused(Error),
     /// `clap` takes the words, and a value in them is out of its form. It is the token, which
-    /// exactly one of the two options gives, or the file of the book, of `audit` too. Or it is the day, the agent or the
-    /// range of `judge`.
+    /// exactly one of the two options gives, or the file of the book, of `audit` too. Or it is a day, the agent, a
+    /// range or a period of `judge`, or of `plan` its day, or the FILE, which is there unless `--of` is.
     OutOfForm(Misfit),
     /// An allocation was refused.
     NoRoom,
-}
-
-/// The first value of an argument.
-fn value_of<'a>(matches: &ArgMatches<'a>, id: &str) -> Option<&'a str>
-    ensures { option_map (λ s. s.now) result ≡ first_of id.now (rows_of (found_of matches.now)) }
-{
-    matches.get_str(id)
-}
-
-/// Whether a flag is there.
-fn flag_given(matches: &ArgMatches<'_>, id: &str) -> bool
-    ensures { result ≡ is_set id.now (rows_of (found_of matches.now)) }
-{
-    matches!(value_of(matches, id), Some("true"))
-}
-
-/// The values of an argument that may come more than once.
-fn values_of<'a>(
-    alloc: Global,
-    matches: &ArgMatches<'a>,
-    id: &str,
-) -> Result<Vec<&'a str>, AllocError>
-    ensures { IfOk result (λ values. texts_in values.items ≡ values_in id.now (rows_of (found_of matches.now))) }
-{
-    match matches.get_strs(id) {
-        Some(values) => Vec::from_slice(alloc, values),
-        None => Ok(Vec::new(alloc)),
-    }
 }
 
 fn check_given<'a>(matches: &ArgMatches<'a>) -> Option<Work<'a>>
@@ -179,19 +192,8 @@ fn hotcheck_given<'a>(matches: &ArgMatches<'a>) -> Option<Work<'a>>
         return None;
     };
     let quiet = flag_given(matches, "quiet");
-    Some(Work::Hotcheck { file, quiet })
-}
-
-fn plan_given<'a>(alloc: Global, matches: &ArgMatches<'a>) -> Result<Option<Work<'a>>, AllocError>
-    ensures { IfOk result (λ work. option_map work_of work ≡ plan_work (rows_of (found_of matches.now))) }
-{
-    let Some(file) = value_of(matches, "FILE") else {
-        return Ok(None);
-    };
-    match values_of(alloc, matches, "after") {
-        Ok(published) => Ok(Some(Work::Plan { file, published })),
-        Err(error) => Err(error),
-    }
+    let list = flag_given(matches, "list");
+    Some(Work::Hotcheck { file, quiet, list })
 }
 
 fn explain_given<'a>(matches: &ArgMatches<'a>) -> Option<Work<'a>>
@@ -201,104 +203,16 @@ fn explain_given<'a>(matches: &ArgMatches<'a>) -> Option<Work<'a>>
     Some(Work::Explain { code })
 }
 
-fn day_given(matches: &ArgMatches<'_>) -> Option<Day>
-    ensures { result ≡ day_in (rows_of (found_of matches.now)) }
+fn body_given<'a>(matches: &ArgMatches<'a>) -> Option<Work<'a>>
+    ensures { option_map work_of result ≡ body_work (rows_of (found_of matches.now)) }
 {
-    let Some(text) = value_of(matches, "day") else {
+    let Some(request) = value_of(matches, "REQUEST") else {
         return None;
     };
-    Day::read_text(text.as_bytes()).ok()
-}
-
-fn agent_given(matches: &ArgMatches<'_>) -> Option<AgentCode>
-    ensures { result ≡ agent_in (rows_of (found_of matches.now)) }
-{
-    let Some(text) = value_of(matches, "agent") else {
-        return None;
-    };
-    AgentCode::read(text.as_bytes()).ok()
-}
-
-/// Whether a text has the width of a range, and a minus in its middle.
-fn is_range(text: &[u8]) -> bool
-    ensures range { result ≡ is_range text.now }
-{
-    text.len() == 21 && text[10] == b'-'
-}
-
-/// The text of the range, if it has that width.
-fn range_given<'a>(matches: &ArgMatches<'a>) -> Option<&'a [u8]>
-    ensures range { option_map (λ text. text.now) result ≡ range_text (rows_of (found_of matches.now)) }
-    ensures wide { IfSome result (λ text. length text.now ≡ 21) }
-{
-    let Some(text) = value_of(matches, "stock") else {
-        return None;
-    };
-    let text = text.as_bytes();
-    if is_range(text) { Some(text) } else { None }
-}
-
-fn first_number(text: &[u8]) -> Option<DocNumber>
-    requires { length text.now ≡ 21 }
-    ensures { result ≡ first_number text.now }
-{
-    DocNumber::read_unchecked(&text[..10]).ok()
-}
-
-fn last_number(text: &[u8]) -> Option<DocNumber>
-    requires { length text.now ≡ 21 }
-    ensures { result ≡ last_number text.now }
-{
-    DocNumber::read_unchecked(&text[11..]).ok()
-}
-
-/// The setting, where each of its values is in its form.
-fn setting_with<'a>(matches: &ArgMatches<'a>, earlier: Vec<&'a str>) -> Option<Setting<'a>>
-    requires { texts_in earlier.items ≡ values_in (codes "file") (rows_of (found_of matches.now)) }
-    ensures { option_map setting_of result ≡ setting_in (rows_of (found_of matches.now)) }
-{
-    let Some(plan) = value_of(matches, "plan") else {
-        return None;
-    };
-    let Some(day) = day_given(matches) else {
-        return None;
-    };
-    let Some(agent) = agent_given(matches) else {
-        return None;
-    };
-    let Some(range) = range_given(matches) else {
-        return None;
-    };
-    let Some(first) = first_number(range) else {
-        return None;
-    };
-    let Some(last) = last_number(range) else {
-        return None;
-    };
-    Some(Setting {
-        plan,
-        day,
-        agent,
-        first,
-        last,
-        earlier,
-    })
-}
-
-fn judge_given<'a>(alloc: Global, matches: &ArgMatches<'a>) -> Result<Option<Work<'a>>, AllocError>
-    ensures { IfOk result (λ work. option_map work_of work ≡ judge_work (rows_of (found_of matches.now))) }
-{
     let Some(file) = value_of(matches, "FILE") else {
-        return Ok(None);
+        return None;
     };
-    let earlier = match values_of(alloc, matches, "file") {
-        Ok(earlier) => earlier,
-        Err(error) => return Err(error),
-    };
-    match setting_with(matches, earlier) {
-        Some(setting) => Ok(Some(Work::Judge { setting, file })),
-        None => Ok(None),
-    }
+    Some(Work::Body { request, file })
 }
 
 fn audit_given<'a>(matches: &ArgMatches<'a>) -> Option<Work<'a>>
@@ -351,19 +265,6 @@ fn run_given<'a>(matches: &ArgMatches<'a>) -> Option<Work<'a>>
     Some(Work::Run { token, book })
 }
 
-fn port_given(matches: &ArgMatches<'_>) -> Option<u16>
-    ensures { result ≡ number_in 16 (codes "port") (rows_of (found_of matches.now)) }
-{
-    matches.get_one::<u16>("port")
-}
-
-/// The number that an argument gives.
-fn number_given(matches: &ArgMatches<'_>, id: &str) -> Option<u32>
-    ensures { result ≡ number_in 32 id.now (rows_of (found_of matches.now)) }
-{
-    matches.get_one::<u32>(id)
-}
-
 fn serve_given<'a>(matches: &ArgMatches<'a>) -> Option<Work<'a>>
     ensures { option_map work_of result ≡ serve_work (rows_of (found_of matches.now)) }
 {
@@ -393,30 +294,33 @@ fn serve_given<'a>(matches: &ArgMatches<'a>) -> Option<Work<'a>>
     })
 }
 
-/// The work of a command on files that need no book.
+/// The work of a command on files that need no office.
 #[tactic(auto, unfolding(crate::specs::CommandLine::trial_in))]
-fn trial_given<'a>(
+fn trial_given<'a, S: AsStr>(
     alloc: Global,
+    words: &[S],
     name: &str,
     matches: &ArgMatches<'a>,
 ) -> Result<Option<Work<'a>>, AllocError>
-    ensures { IfOk result (λ work. option_map work_of work ≡ trial_in name.now (rows_of (found_of matches.now))) }
+    ensures { IfOk result (λ work. option_map work_of work ≡ trial_in (map S.text words.now) name.now (rows_of (found_of matches.now))) }
 {
     match name {
-        "judge" => judge_given(alloc, matches),
+        "judge" => judge_given(alloc, words, matches),
         "plan" => plan_given(alloc, matches),
+        "body" => Ok(body_given(matches)),
         "explain" => Ok(explain_given(matches)),
         _ => Ok(None),
     }
 }
 
 #[tactic(auto, unfolding(crate::specs::CommandLine::work_in))]
-fn work_given<'a>(
+fn work_given<'a, S: AsStr>(
     alloc: Global,
+    words: &[S],
     name: &str,
     matches: &ArgMatches<'a>,
 ) -> Result<Option<Work<'a>>, AllocError>
-    ensures { IfOk result (λ work. option_map work_of work ≡ work_in name.now (rows_of (found_of matches.now))) }
+    ensures { IfOk result (λ work. option_map work_of work ≡ work_in (map S.text words.now) name.now (rows_of (found_of matches.now))) }
 {
     match name {
         "check" => Ok(check_given(matches)),
@@ -424,17 +328,21 @@ fn work_given<'a>(
         "audit" => Ok(audit_given(matches)),
         "run" => Ok(run_given(matches)),
         "serve" => Ok(serve_given(matches)),
-        _ => trial_given(alloc, name, matches),
+        _ => trial_given(alloc, words, name, matches),
     }
 }
 
-fn work_found<'a>(alloc: Global, matches: &ArgMatches<'a>) -> Result<Option<Work<'a>>, AllocError>
-    ensures { IfOk result (λ work. option_map work_of work ≡ work_from (subcommand_rows_of matches.now)) }
+fn work_found<'a, S: AsStr>(
+    alloc: Global,
+    words: &[S],
+    matches: &ArgMatches<'a>,
+) -> Result<Option<Work<'a>>, AllocError>
+    ensures { IfOk result (λ work. option_map work_of work ≡ work_from (map S.text words.now) (subcommand_rows_of matches.now)) }
 {
     let Some((name, inner)) = matches.subcommand() else {
         return Ok(None);
     };
-    work_given(alloc, name, inner)
+    work_given(alloc, words, name, inner)
 }
 
 /// Which value of `run` or `serve` is out of its form.
@@ -447,21 +355,11 @@ fn token_misfit(matches: &ArgMatches<'_>) -> Misfit {
     }
 }
 
-/// Which value of `judge` is out of its form.
-fn setting_misfit(matches: &ArgMatches<'_>) -> Misfit {
-    if day_given(matches).is_none() {
-        Misfit::Day
-    } else if agent_given(matches).is_none() {
-        Misfit::Agent
-    } else {
-        Misfit::Stock
-    }
-}
-
 /// Which value is out of its form.
 fn misfit_found(matches: &ArgMatches<'_>) -> Misfit {
     match matches.subcommand() {
         Some(("judge", inner)) => setting_misfit(inner),
+        Some(("plan", inner)) => plan_misfit(inner),
         Some(("run" | "serve", inner)) => token_misfit(inner),
         _ => Misfit::Minus,
     }
@@ -489,7 +387,7 @@ pub fn words<'a, S: AsStr>(alloc: Global, words: &'a [S]) -> Result<Work<'a>, Wo
     ensures { AnswersWords (map S.text words.entry.now) result }
 {
     match matches_found(alloc, words) {
-        Ok(matches) => match work_found(alloc, &matches) {
+        Ok(matches) => match work_found(alloc, words, &matches) {
             Ok(Some(work)) => Ok(work),
             Ok(None) => Err(WordsFault::OutOfForm(misfit_found(&matches))),
             Err(_) => Err(WordsFault::NoRoom),

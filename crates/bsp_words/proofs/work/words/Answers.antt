@@ -6,4 +6,4 @@ use Rattle.bsp_words.proofs.work.words.Goals as goal
 pub returns-in-Ok-None : goal.returns-in-Ok-None
 returns-in-Ok-None g c =
     none_answers (map g.S.AsStr.text c.args.words.now) c.misfit_found.result c.in-Ok.ensures.ok.0
-    (rw c.in-Ok-None.field-0-is at c.in-Ok-None.ensures ∙ ap work_from c.in-Ok.ensures.ok.1)
+    (rw c.in-Ok-None.field-0-is at c.in-Ok-None.ensures ∙ ap (work_from (map g.S.AsStr.text c.args.words.now)) c.in-Ok.ensures.ok.1)

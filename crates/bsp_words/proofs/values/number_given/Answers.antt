@@ -1,7 +1,7 @@
 use Rattle.std.specs.Str.Parse.{ExplainsUnsignedError, HasUnsignedDigitsIfOk, ParsesUnsigned}
 use Rattle.clap.specs.Words.{found_of}
 use Rattle.bsp_words.proofs.CommandLines.{found_number, one_read}
-use Rattle.bsp_words.proofs.work.number_given.Goals as goal
+use Rattle.bsp_words.proofs.values.number_given.Goals as goal
 
 pub returns : goal.returns
 returns c =

@@ -2,7 +2,7 @@ use Rattle.std.proofs.Common.{◌≡◌, ◌∙◌, ◌-◌, length, take, drop,
 use Rattle.std.specs.Result.{result_ok}
 use Rattle.std.proofs.lemmas.List.{length-drop, take_all}
 use Rattle.bsp_fields.specs.Codes.{code_reading}
-use Rattle.bsp_words.proofs.work.last_number.Goals as goal
+use Rattle.bsp_words.proofs.setting.last_number.Goals as goal
 
 pub returns : goal.returns
 returns c =

@@ -3,7 +3,7 @@ use Rattle.std.specs.Prelude.{option_map}
 use Rattle.clap.proofs.WalkLemmas.{raw_values-rows}
 use Rattle.clap.specs.Words.{found_of, matched_of, raw_values, rows_of}
 use Rattle.bsp_words.proofs.CommandLines.{no_values, values_from}
-use Rattle.bsp_words.proofs.work.values_of.Goals as goal
+use Rattle.bsp_words.proofs.values.values_of.Goals as goal
 
 pub returns-in-Some : goal.returns-in-Some
 returns-in-Some c =

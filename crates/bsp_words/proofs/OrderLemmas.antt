@@ -1,0 +1,28 @@
+-- The order of options among the words, and lists of values that are read.
+use Rattle.std.proofs.Common.{◌≡◌, ◌∙◌, ◌++◌, ◌+◌, ◌<◌, ℕ, List, [], ◌∷◌, Option, Some, None, ap, append_assoc, filter_map, get_or, length, map, option_map, refl, sym, take}
+use Rattle.std.specs.Prelude.{is_some}
+use Rattle.std.specs.Borrow.{Bor}
+use Rattle.std.proofs.lemmas.List.{map_push, take_more}
+use Rattle.std.proofs.lemmas.List.Elements.{filter_map-append}
+use Rattle.clap.specs.Words.{Text}
+use Rattle.bsp_words.specs.CommandLine.{all_read, texts_in}
+
+-- what is found of the items before a place, and of the one there
+pub found_more : {X Y Z : Type 0} (h : Y → Option Z) (f : X → Y) (xs : List X) (i : ℕ) (d : X) (found : List Z) → i < length xs → found ≡ filter_map h (map f (take i xs)) → filter_map h (map f (take (i + 1) xs)) ≡ found ++ filter_map h (f (get_or xs i d) ∷ [])
+found_more h f xs i d found within was = rw (take_more xs i d within, map_push, filter_map-append, was) refl
+
+-- the values that are read before a place, and what is read behind it
+pub read_one : {X : Type 0} (read : Text → Option X) (items : List X) (text : Bor Text) (x : X) (rest : List (Bor Text)) (whole : Option (List X)) → Some x ≡ read text.now → whole ≡ option_map (λ xs. items ++ xs) (all_read read (texts_in (text ∷ rest))) → whole ≡ option_map (λ xs. (items ++ x ∷ []) ++ xs) (all_read read (texts_in rest))
+read_one read items text x rest whole is was = was ∙ rw (← is) (go (all_read read (texts_in rest)))
+  where
+    go : (more : Option (List _)) → option_map (λ xs. items ++ xs) (option_map (λ xs. x ∷ xs) more) ≡ option_map (λ xs. (items ++ x ∷ []) ++ xs) more
+    go None = refl
+    go (Some xs) = ap Some (sym (append_assoc items (x ∷ []) xs))
+
+pub read_none : {X : Type 0} (read : Text → Option X) (items : List X) (text : Bor Text) (rest : List (Bor Text)) (whole : Option (List X)) → None ≡ read text.now → whole ≡ option_map (λ xs. items ++ xs) (all_read read (texts_in (text ∷ rest))) → None ≡ whole
+read_none read items text rest whole is was = sym (was ∙ rw (← is) refl)
+
+-- a value is there where there are some
+pub some_of : {X Y : Type 0} (f : X → Y) (o : Option X) (p : Option Y) → option_map f o ≡ p → is_some o ≡ is_some p
+some_of f None p is = ap is_some is
+some_of f (Some x) p is = ap is_some is

@@ -1,0 +1,82 @@
+//! The order in which the options `--file` and `--closed` come among the words.
+
+ghost use Rattle.std.specs.Prelude.{◌≡◌, ◌++◌, ◌∷◌, IfOk, List, drop, map};
+ghost use Rattle.bsp_words.specs.Order.{as_list, in_order, is_option, mark_of, marks_in};
+
+use crate::work::Earlier;
+use bsp_fields::PeriodCode;
+use std::alloc::{AllocError, Global};
+use std::convert::AsStr;
+
+/// Which of the two options a word is.
+#[derive(Clone, Copy)]
+pub(crate) enum Mark {
+    File,
+    Closed,
+}
+
+/// Whether a word is this option, alone or with its value after `=`.
+fn is_option(word: &[u8], alone: &[u8], valued: &[u8]) -> bool
+    ensures { result ≡ is_option word.now alone.now valued.now }
+{
+    word == alone || word.starts_with(valued)
+}
+
+/// Which of the two options a word is, if it is one.
+fn mark_of(word: &[u8]) -> Option<Mark>
+    ensures { result ≡ mark_of word.now }
+{
+    if is_option(word, b"--file", b"--file=") {
+        Some(Mark::File)
+    } else if is_option(word, b"--closed", b"--closed=") {
+        Some(Mark::Closed)
+    } else {
+        None
+    }
+}
+
+/// The options among the words, in their order.
+pub(crate) fn marks_in<S: AsStr>(alloc: Global, words: &[S]) -> Result<Vec<Mark>, AllocError>
+    ensures { IfOk result (λ marks. marks.items ≡ marks_in (map S.text words.now)) }
+{
+    let mut marks = Vec::new(alloc);
+    for word in words {
+        if let Some(mark) = mark_of(word.as_str().as_bytes()) {
+            marks.push(mark)?;
+        }
+    }
+    Ok(marks)
+}
+
+/// What comes next, and how many of the periods are then taken.
+fn next_of(closed: &[PeriodCode], taken: usize, mark: Mark) -> (Option<Earlier>, usize)
+    ensures { (marks : List Mark) → in_order (mark ∷ marks) (drop taken closed.now) ≡ as_list result.0 ++ in_order marks (drop result.1 closed.now) }
+{
+    match mark {
+        Mark::File => (Some(Earlier::File), taken),
+        Mark::Closed => match closed.get(taken) {
+            Some(period) => (Some(Earlier::Closed(*period)), taken + 1),
+            None => (None, taken),
+        },
+    }
+}
+
+/// The files and the periods in the order of the words.
+pub(crate) fn in_order(
+    alloc: Global,
+    marks: &[Mark],
+    closed: &[PeriodCode],
+) -> Result<Vec<Earlier>, AllocError>
+    ensures { IfOk result (λ earlier. earlier.items ≡ in_order marks.now closed.now) }
+{
+    let mut taken = 0;
+    let mut earlier = Vec::new(alloc);
+    for mark in marks {
+        let (next, now_taken) = next_of(closed, taken, *mark);
+        taken = now_taken;
+        if let Some(step) = next {
+            earlier.push(step)?;
+        }
+    }
+    Ok(earlier)
+}
