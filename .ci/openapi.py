@@ -1,25 +1,103 @@
 #!/usr/bin/env python3
-"""Validates docs/openapi.yaml with openapi-spec-validator; asks a new office its examples in the order
-of x-walk, and compares each reply, byte for byte; and asks each operation with a wrong token, and each path with
-another method. Exits with the number of cases that differ.
+"""Validates docs/openapi.yaml with the tools that the machine has; asks a new office its examples in the order of x-walk,
+and compares each reply, byte for byte; and asks each operation with a wrong token, and each path with another method. A
+client that is generated of it makes a month. Exits with the number of cases that differ.
 
 usage: .ci/openapi.py [PROGRAM]   (with no PROGRAM it takes the one that is built)
 """
 import json
+import pathlib
 import subprocess
 import sys
 import tempfile
 
+sys.dont_write_bytecode = True
 import office
 from office import TOP, expect
 
 try:
-    import openapi_spec_validator
     import yaml
 except ImportError as missing:
-    sys.exit(f"{missing}: docs/openapi.yaml is not tried (pip install pyyaml openapi-spec-validator)")
+    sys.exit(f"{missing}: docs/openapi.yaml is not tried (pip install pyyaml)")
 
+PAGE = TOP / "docs" / "openapi.yaml"
 TOKENS = {"office": "officetoken00001", "agent": "agenttoken000001", "airline": "airlinetoken0001"}
+
+# Each tool that validates: its name, words that end with 0 where the machine has it, and words that print what is wrong.
+BY_SCHEMA = """
+import json, sys, yaml, jsonschema
+schema = json.load(open("/usr/share/openapi-specification/schemas/v3.0/schema.json"))
+for fault in jsonschema.Draft4Validator(schema).iter_errors(yaml.safe_load(open(sys.argv[1]))):
+    print(list(fault.path), fault.message)
+"""
+BY_PERL = "print map { qq($_\\n) } @{JSON::Validator->new->schema($ARGV[0])->schema->errors}"
+BY_PYTHON = "import sys, yaml; openapi_spec_validator.validate(yaml.safe_load(open(sys.argv[1])))"
+TOOLS = [
+    ("libjson-validator-perl", ["perl", "-MJSON::Validator", "-e"], "1", BY_PERL),
+    ("openapi-specification and python3-jsonschema", ["/usr/bin/python3", "-W", "ignore", "-c"],
+     "import jsonschema, yaml; open('/usr/share/openapi-specification/schemas/v3.0/schema.json')", BY_SCHEMA),
+    ("openapi-spec-validator", [sys.executable, "-c"], "import openapi_spec_validator", f"import openapi_spec_validator; {BY_PYTHON}"),
+]
+
+MONTH = """\
+publishPlan 200
+  {"result":"done"}
+setDay not sent 400
+setDay 200
+  {"result":"done"}
+registerAgent 200
+  {"result":"done"}
+registerAirline 200
+  {"result":"done"}
+allotStock 200
+  {"result":"done"}
+reportAsAgent 200
+  {"results":[{"n":1,"period":"24011","verdict":"accepted"}]}
+reportAsAgent 200
+  {"results":[{"n":1,"period":"24011","verdict":"accepted"},{"n":2,"period":"24011","verdict":"accepted"},{"n":3,"period":"24011","verdict":"accepted"}]}
+reportAsAgent 422
+  {"code":"F01","record":1}
+getStock 200
+  {"ranges":[{"first":"1300000000","last":"1300000099","used":4}]}
+getDocument 200
+  {"airline":"125","cash":23500,"code":"TKTT","commission":1000,"credit":0,"issued":"2024-01-05","period":"24011","state":"exchanged"}
+issueMemo 200
+  {"result":"done"}
+listMemos 200
+  {"memos":[{"agent":"12345675","airline":"125","amount":5000,"billed":null,"document":"6000000001","issued":"2024-01-05","kind":"ADMA","reason":"fare","state":"open"}]}
+agreeToMemo 200
+  {"result":"done"}
+getStatement 409
+  {"code":"S01"}
+setDay 200
+  {"result":"done"}
+closePeriod 200
+  {"result":"done"}
+listIssuedMemos 200
+  {"memos":[{"agent":"12345675","airline":"125","amount":5000,"billed":"24011","document":"6000000001","issued":"2024-01-05","kind":"ADMA","reason":"fare","state":"agreed"}]}
+getPeriod 200
+  {"closed":true,"documents":4,"net":"322.50","period":"24011"}
+getStatement 200
+  STATEMENT 12345675 PERIOD 24011 REMIT 2024-02-15 EUR
+  AIR    DOCS            CASH          CREDIT      COMMISSION           MEMOS             NET
+  125       4          285.00            0.00           12.50           50.00          322.50
+  TOT       4          285.00            0.00           12.50           50.00          322.50
+getSettlement 200
+  SETTLEMENT PERIOD 24011 REMIT 2024-02-15 EUR
+  AGENT   12345675          322.50
+  TOTAL   AGENTS            322.50
+  AIRLINE 125               322.50
+  TOTAL   AIRLINES          322.50
+setDay 200
+  {"result":"done"}
+closePeriod 200
+  {"result":"done"}
+getSettlement 200
+  SETTLEMENT PERIOD 24012 REMIT 2024-02-29 EUR
+  TOTAL   AGENTS              0.00
+  TOTAL   AIRLINES            0.00
+getHot 200
+"""
 
 
 def compact(value):
@@ -104,16 +182,49 @@ def refusals(description, served):
         expect(f"{name} with another method", wanted, served.ask("PUT", target, "x" * 16))
 
 
+def has(words):
+    """Whether the words end with 0."""
+    try:
+        return subprocess.run(words, capture_output=True).returncode == 0
+    except OSError:
+        return False
+
+
+def validate():
+    """Loads the description with each tool that the machine has."""
+    for name, words, there, text in TOOLS:
+        if not has([*words, there]):
+            print(f"this machine has no {name}: it does not validate docs/openapi.yaml")
+            continue
+        ended = subprocess.run([*words, text, str(PAGE)], capture_output=True, text=True)
+        expect(f"docs/openapi.yaml by {name}", (0, "", ""), (ended.returncode, ended.stdout, ended.stderr[-2000:]))
+
+
+def month(program):
+    """Makes a month by a client that is generated of the description."""
+    if not has(["perl", "-MOpenAPI::Client", "-e", "1"]):
+        print("this machine has no libopenapi-client-perl: no client of docs/openapi.yaml makes a month")
+        return
+    with tempfile.TemporaryDirectory() as folder, office.Office(program, None, "--token", TOKENS["office"], seconds=10) as served:
+        hot = pathlib.Path(folder, "125.hot")
+        words = ["perl", TOP / ".ci" / "month.pl", PAGE, f"http://127.0.0.1:{served.port}", hot]
+        made = subprocess.run(words, capture_output=True, text=True, timeout=60)
+        expect("a month by a generated client", (0, MONTH, ""), (made.returncode, made.stdout, made.stderr))
+        checked = subprocess.run([program, "hotcheck", "--quiet", hot], capture_output=True)
+        expect("its HOT file", (0, b"OK records 36 documents 5 net 322.50\n"), (checked.returncode, checked.stdout))
+
+
 def main():
     program = office.program()
-    description = Description((TOP / "docs" / "openapi.yaml").read_text(encoding="utf-8"))
-    openapi_spec_validator.validate(description.whole)
+    description = Description(PAGE.read_text(encoding="utf-8"))
+    validate()
     asked = {place.split("/")[0] for place in description.whole["x-walk"]}
     expect("the operations that x-walk asks", sorted(description.operations), sorted(asked))
     served = office.Office(program, None, "--token", TOKENS["office"], "--connections", 1, seconds=10)
     walk(description, program, served)
     refusals(description, served)
     expect("the office's end", (0, "bsp_office: 1 connections served\n"), served.ended())
+    month(program)
     office.finish(f"docs/openapi.yaml: {len(description.whole['x-walk'])} examples are answered as it says")
 
 
