@@ -4,8 +4,8 @@ error. The head of that file says how it is written. Exits with the number of mi
 
 usage: .ci/mistakes.py [PROGRAM] [--texts|--write]   (with no PROGRAM it takes the one that is built)
 
---texts prints for each mistake its name, the command and what the program says, and compares nothing. --write records what
-the program says as what is wanted: whoever reads the difference judges it.
+--texts prints for each mistake its number and its name, and, indented, the command and what the program says; it compares
+nothing. --write records what the program says as what is wanted: whoever reads the difference judges it.
 """
 import concurrent.futures
 import json
@@ -178,9 +178,9 @@ def main():
         texts = list(pool.map(said, found))
     if OPTION == "--write":
         PAGE.write_text(written(head, found, texts), encoding="utf-8")
-    for mistake, text in zip(found, texts):
+    for number, (mistake, text) in enumerate(zip(found, texts), 1):
         if OPTION == "--texts":
-            print(f"{mistake.kind} {mistake.name}: {' '.join(mistake.command())}", *text, "", sep="\n  ")
+            print(f"{number} {mistake.kind} {mistake.name}\n  {shlex.join(mistake.command())}", *text, "", sep="\n  ")
         elif not OPTION:
             office.expect(f"{mistake.kind} {mistake.name}", mistake.wanted, text)
     office.finish(f"mistakes: {len(found)}, each answered as {PAGE.name} has it")
