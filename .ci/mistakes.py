@@ -183,7 +183,7 @@ def main():
             print(f"{number} {mistake.kind} {mistake.name}\n  {shlex.join(mistake.command())}", *text, "", sep="\n  ")
         elif not OPTION:
             office.expect(f"{mistake.kind} {mistake.name}", mistake.wanted, text)
-    office.finish(f"mistakes: {len(found)}, each answered as {PAGE.name} has it")
+    office.finish(f"mistakes: {len(found)}" if OPTION else f"mistakes: {len(found)}, each answered as {PAGE.name} has it")
 
 
 main()
