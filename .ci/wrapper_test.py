@@ -16,7 +16,10 @@ CRATES = "# the crates\nbsp_office: middle low clap # and not other\nlow: thiser
 NO_RT = "/usr/bin:/bin"
 MADE = "bsp_office-src middle-src low-src"
 OTHER = MADE.replace("low-src", "other")
-PROVED = [f"bsp_office: {crate} is proved, {at} of 3" for at, crate in enumerate(("low", "middle", "bsp_office"), 1)]
+FIRST = ("bsp_office: a first build proves every crate, in three quarters of an hour on four processors, or up to twice that on two. "
+         "For a first look without a proof, in about five minutes: ./bsp_office --unproved WORDS")
+PROVED = [FIRST, *(f"bsp_office: {crate} is proved, {at} of 3" for at, crate in enumerate(("low", "middle", "bsp_office"), 1))]
+UNPROVED = "bsp_office: this program is not proved; ./bsp_office without --unproved proves it first, in about an hour"
 RT = (TOP / ".ci" / "wrapper_rt.sh").read_text(encoding="utf-8")
 
 
@@ -49,11 +52,12 @@ class Room:
         out, err = it.communicate(given, timeout=60)
         return it.returncode, out.rstrip("\n"), err.splitlines()
 
-    def expect(self, what, made, builds, **how):
+    def expect(self, what, made, builds, unproved=False, **how):
         """Compares a call that prints what the program was made from, and whether it builds."""
         self.write("kit/calls", "")
-        expect(what, (0, made, PROVED if builds else []), self.call("made", **how))
-        expect(f"{what}: calls of rt", ["ci"] * builds, (self.folder / "kit/calls").read_text().split())
+        said, verb, words = ([UNPROVED], "try", ["--unproved", "made"]) if unproved else (PROVED * builds, "ci", ["made"])
+        expect(what, (0, made, said), self.call(*words, **how))
+        expect(f"{what}: calls of rt", [verb] * builds, (self.folder / "kit/calls").read_text().split())
 
     def sources(self):
         self.expect("the first call", MADE, True)
@@ -91,8 +95,8 @@ class Room:
         self.write("a tree/HANDLES", "Net")
         head = "bsp_office: the program is not built. Of the crate that failed first, rt says, but for what is proved:"
         said, log = ["== middle", "fn middle::second: no proof", "rt: middle NOT PROVED"], f"bsp_office: all of it is in {self.program}.log"
-        expect("not proved", (4, "", [PROVED[0], head, *said, log]), self.call("made", failing="middle"))
-        expect("rt stops", (4, "", [head, "why", log]), self.call("made", during="echo why; exit 2"))
+        expect("not proved", (4, "", [*PROVED[:2], head, *said, log]), self.call("made", failing="middle"))
+        expect("rt stops", (4, "", [FIRST, head, "why", log]), self.call("made", during="echo why; exit 2"))
         self.expect("mended", MADE, True)
         other = {"user": 65534, "group": 65534, "extra_groups": []} if os.getuid() == 0 else {}
         self.folder.parent.chmod(0o755)
@@ -112,7 +116,7 @@ class Room:
         ours, theirs = pty.openpty()
         it = self.start("made", stderr=theirs, during="sleep 1")
         expect("on a terminal", (f"{MADE}\n", None), it.communicate(timeout=60))
-        line = r"(\r\x1b\[Kbsp_office: \d of 3 crates are proved, \d+ s)+\r\x1b\[K"
+        line = re.escape(FIRST) + r"\r\n(\r\x1b\[Kbsp_office: \d of 3 crates are proved, \d+ s)+\r\x1b\[K"
         expect("one line, written over", True, bool(re.fullmatch(line, os.read(ours, 65536).decode())))
         (self.folder / "link").symlink_to(self.tree / "bsp_office")
         words = ["a b", "", "*", "a\nb", "--", "$HOME", "it's", '"', "\\"]
@@ -122,23 +126,61 @@ class Room:
             expect(f"words and input, {what}", (0, printed), self.call(*words, given="some text", script="link")[:2])
         expect("status", (3, "", []), self.call("status", "3"))
 
-    def signals(self):
+    def unproved(self):
+        """A program that is not proved: each call says so."""
+        stamp, kept = self.program.with_suffix(".stamp"), self.program.with_suffix(".unproved")
+        self.expect("unproved", MADE, True, unproved=True)
+        self.expect("unproved, kept", MADE, False, unproved=True)
+        expect("only this one", [True, False, False], [it.exists() for it in (kept, self.program, stamp)])
+        self.write("a tree/crates/low/src/one.rt", "other")
+        self.expect("unproved, a changed file", OTHER, True, unproved=True)
+        self.write("kit/KIT-ID", "two")
+        self.expect("unproved, another kit", OTHER, True, unproved=True)
+        expect("unproved, status", (3, "", [UNPROVED]), self.call("--unproved", "status", "3"))
+        words = ["a b", "", "--unproved", "$HOME"]
+        printed = "\n".join([str(self.folder), *(f"<{it}>" for it in words), "some text"])
+        expect("unproved, words and input", (0, printed, [UNPROVED]), self.call("--unproved", *words, given="some text"))
+        expect("nothing is left", [], os.listdir(self.folder / "temporary"))
+        self.expect("proved", OTHER, True)
+        expect("proved, and --unproved", (0, OTHER, []), self.call("--unproved", "made"))
+        self.write("a tree/HANDLES", "Net")
+        line = f"bsp_office: rt try compiled no program, and says in {kept}.log: no tool"
+        expect("no tool", (4, "", [line]), self.call("--unproved", "made", during="echo no tool; echo why; exit 2"))
+        self.expect("a tool", OTHER, True, unproved=True)
+        self.path = NO_RT
+        expect("unproved, no rt", (0, OTHER, [UNPROVED]), self.call("--unproved", "made"))
+        kept.unlink()
+        line = "and rt, which builds it, is not on the path: it comes with the Rattle toolchain kit whose version README.md gives"
+        expect("unproved, no rt and no program", (4, "", [f"bsp_office: the program is missing, {line}"]), self.call("--unproved", "made"))
+
+    def unproved_on_a_terminal(self):
+        ours, theirs = pty.openpty()
+        it = self.start("--unproved", "made", stderr=theirs, during="sleep 1")
+        expect("unproved, on a terminal", (f"{MADE}\n", None), it.communicate(timeout=60))
+        line = r"(\r\x1b\[Kbsp_office: compiling without a proof, which takes about five minutes, \d+ s)+\r\x1b\[K" + re.escape(UNPROVED) + r"\r\n"
+        expect("unproved, written over", True, bool(re.fullmatch(line, os.read(ours, 65536).decode())))
+
+    def signals(self, *words, said=f"{FIRST}\n"):
         process = self.folder / "kit/process"
         for number in signal.SIGHUP, signal.SIGINT, signal.SIGPIPE, signal.SIGTERM:
             self.write("kit/process", "")
-            it = self.start("made", during='echo $$ >"$kit/process"; exec sleep 60')
+            it = self.start(*words, "made", during='echo $$ >"$kit/process"; exec sleep 60')
             while it.poll() is None and not process.read_text().strip():
                 time.sleep(0.05)
             it.send_signal(number)
-            expect(number.name, ("", "", -number), (*it.communicate(timeout=60), it.returncode))
+            expect(number.name, ("", said, -number), (*it.communicate(timeout=60), it.returncode))
             left = [os.path.exists(f"/proc/{process.read_text().strip()}"), *os.listdir(self.folder / "temporary")]
             expect(f"{number.name}: neither rt nor the copy is left", [False], left)
+
+    def signals_unproved(self):
+        self.signals("--unproved", said="")
 
 
 # a signal that this script was begun without, as under nohup, is one for the scripts that it begins
 for number in signal.SIGHUP, signal.SIGINT:
     signal.signal(number, signal.SIG_DFL)
-for case in Room.sources, Room.two_calls_at_once, Room.not_built, Room.words_and_terminal, Room.signals:
+for case in (Room.sources, Room.two_calls_at_once, Room.not_built, Room.words_and_terminal, Room.signals,
+             Room.unproved, Room.unproved_on_a_terminal, Room.signals_unproved):
     with tempfile.TemporaryDirectory() as folder:
         case(Room(pathlib.Path(folder) / case.__name__))
 finish("bsp_office: the script that builds it is right in all cases")
