@@ -20,13 +20,14 @@ import tempfile
 import office
 from office import TOP, expect
 
-# curl, whose lines on standard error are written at once
+# curl, whose lines on standard error are written at once, before what it answers, as on a terminal
 CURL = """#!/bin/bash
-said=$(mktemp)
-{curl} "$@" 2>"$said"
+said=$(mktemp) answer=$(mktemp)
+{curl} "$@" >"$answer" 2>"$said"
 status=$?
 cat "$said" >&2
-rm "$said"
+cat "$answer"
+rm "$said" "$answer"
 exit $status
 """
 BLOCK = re.compile(r"^```console\n(.*?)^```$", re.MULTILINE | re.DOTALL)
