@@ -130,6 +130,8 @@ class Room:
         """A program that is not proved: each call says so."""
         stamp, kept = self.program.with_suffix(".stamp"), self.program.with_suffix(".unproved")
         self.expect("unproved", MADE, True, unproved=True)
+        for page in "README.md", "docs/COMMANDS.md":
+            expect(f"{page} shows the line", True, f"\n    {UNPROVED}\n" in (TOP / page).read_text(encoding="utf-8"))
         self.expect("unproved, kept", MADE, False, unproved=True)
         expect("only this one", [True, False, False], [it.exists() for it in (kept, self.program, stamp)])
         self.write("a tree/crates/low/src/one.rt", "other")
