@@ -1,0 +1,3 @@
+-- What the contracts of bodies' faults cite.
+pub mod Forms
+pub mod Faults

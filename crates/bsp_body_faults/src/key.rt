@@ -1,0 +1,87 @@
+//! The keys of JSON bodies.
+
+use std::fmt;
+
+/// A key of a JSON body. It is displayed in quotes.
+#[derive(Clone, Copy, PartialEq, Eq)]
+pub enum Key {
+    /// An agent's code.
+    Agent,
+    /// An airline's code.
+    Airline,
+    /// An amount in minor units.
+    Amount,
+    /// A business day.
+    Day,
+    /// A memo's number.
+    Document,
+    /// The first number of a range.
+    First,
+    /// The kind of a memo.
+    Kind,
+    /// The last number of a range.
+    Last,
+    /// A period's code.
+    Period,
+    /// A memo's reason.
+    Reason,
+    /// A caller's token.
+    Token,
+}
+
+impl Key {
+    /// The name of the key.
+    pub fn name(self) -> &'static str {
+        match self {
+            Key::Agent => "agent",
+            Key::Airline => "airline",
+            Key::Amount => "amount",
+            Key::Day => "day",
+            Key::Document => "document",
+            Key::First => "first",
+            Key::Kind => "kind",
+            Key::Last => "last",
+            Key::Period => "period",
+            Key::Reason => "reason",
+            Key::Token => "token",
+        }
+    }
+
+    /// A value in the form of the key, as JSON has it.
+    pub fn example(self) -> &'static str {
+        match self {
+            Key::Agent => "\"12345675\"",
+            Key::Airline => "\"125\"",
+            Key::Amount => "5000",
+            Key::Day => "\"2024-01-05\"",
+            Key::Document => "\"6000000001\"",
+            Key::First => "\"1300000000\"",
+            Key::Kind => "\"ADMA\"",
+            Key::Last => "\"1300000099\"",
+            Key::Period => "\"24011\"",
+            Key::Reason => "\"fare\"",
+            Key::Token => "\"16to64lettersanddigits\"",
+        }
+    }
+
+    /// How many characters a text of the key has, as people read it.
+    pub(crate) fn width(self) -> &'static str {
+        match self {
+            Key::Agent => "8",
+            Key::Airline => "3",
+            Key::Day | Key::Document | Key::First | Key::Last => "10",
+            Key::Kind => "4",
+            Key::Period => "5",
+            Key::Reason => "1 to 40",
+            Key::Token => "16 to 64",
+            // (`Amount` is no text)
+            _ => "0",
+        }
+    }
+}
+
+impl fmt::Display for Key {
+    fn fmt<W: fmt::Write>(&self, f: &mut fmt::Formatter<W>) -> fmt::Result {
+        write!(f, "\"{}\"", self.name())
+    }
+}
