@@ -2,7 +2,7 @@
 
 use std::fmt;
 
-/// A key of a JSON body. It is displayed in quotes.
+/// A key of a JSON body. It is displayed by its name.
 #[derive(Clone, Copy, PartialEq, Eq)]
 pub enum Key {
     /// An agent's code.
@@ -64,24 +64,41 @@ impl Key {
         }
     }
 
+    /// The form of a value of the key, as people read it.
+    pub(crate) fn form(self) -> &'static str {
+        match self {
+            Key::Agent => "eight digits",
+            Key::Airline => "three digits",
+            Key::Amount => "a whole number in minor units, as 5000 for 50.00",
+            Key::Day => "a day of the calendar from 2000 to 2099, as \"2024-01-05\"",
+            Key::Document | Key::First | Key::Last => "ten digits",
+            Key::Kind => "\"ADMA\" (debit) or \"ACMA\" (credit)",
+            Key::Period => "five digits",
+            Key::Reason => "1 to 40 characters from space to ~",
+            Key::Token => "16 to 64 letters A to Z, a to z and digits",
+        }
+    }
+
+    /// What comes before the form of a value of the key.
+    pub(crate) fn before_form(self) -> &'static str {
+        match self {
+            Key::Amount | Key::Day | Key::Kind => "",
+            _ => "a text of ",
+        }
+    }
+
     /// How many characters a text of the key has, as people read it.
     pub(crate) fn width(self) -> &'static str {
         match self {
-            Key::Agent => "8",
-            Key::Airline => "3",
-            Key::Day | Key::Document | Key::First | Key::Last => "10",
-            Key::Kind => "4",
-            Key::Period => "5",
             Key::Reason => "1 to 40",
             Key::Token => "16 to 64",
-            // (`Amount` is no text)
-            _ => "0",
+            _ => self.form(),
         }
     }
 }
 
 impl fmt::Display for Key {
     fn fmt<W: fmt::Write>(&self, f: &mut fmt::Formatter<W>) -> fmt::Result {
-        write!(f, "\"{}\"", self.name())
+        f.write_str(self.name())
     }
 }

@@ -4,8 +4,7 @@ use crate::form::JsonForm;
 use crate::json_fault::JsonCause;
 use crate::key::Key;
 use crate::kind::JsonKind;
-use crate::syntax::{Found, Place, found_at};
-use crate::value_fault::Shown;
+use crate::syntax::{Found, Place, bytes_before, found_after};
 use crate::values::{shown, value_fault};
 use bsp_fields::NoRoom;
 use serde_json::{Error, Map, Value};
@@ -14,25 +13,40 @@ use std::alloc::Global;
 /// The byte order mark of UTF-8.
 const MARK: &[u8] = b"\xEF\xBB\xBF";
 
+/// Whether the bytes are one JSON text, for which there is memory.
+fn is_json(alloc: Global, bytes: &[u8]) -> bool {
+    Value::from_slice(alloc, bytes).is_ok()
+}
+
+/// Why bytes are no JSON text, by the place that its reader has of the error.
+fn place_cause(alloc: Global, body: &[u8], place: Place) -> JsonCause {
+    let before = bytes_before(body, place);
+    let begins = body.iter().find(|byte| !byte.is_ascii_whitespace());
+    if begins == Some(&b'{') && before < body.len() && is_json(alloc, &body[..before]) {
+        return JsonCause::MoreFollows(place);
+    }
+    JsonCause::NotJson(place, found_after(body, before))
+}
+
 /// Why bytes are no JSON text, by the error of its reader.
-fn text_cause(body: &[u8], error: &Error) -> JsonCause {
+fn text_cause(alloc: Global, body: &[u8], error: &Error) -> JsonCause {
     if body.is_empty() {
         return JsonCause::Empty;
     }
     if body.starts_with(MARK) {
         return JsonCause::ByteOrderMark;
     }
+    if str::from_utf8(body).is_err() {
+        return JsonCause::NotUtf8;
+    }
     let place = Place {
         line: error.line(),
         column: error.column(),
     };
-    if str::from_utf8(body).is_err() {
-        return JsonCause::NotJson(place, Found::NotUtf8);
-    }
     if error.is_eof() {
         return JsonCause::NotJson(place, Found::End);
     }
-    JsonCause::NotJson(place, found_at(body, place))
+    place_cause(alloc, body, place)
 }
 
 /// The first key of an object that is none of the form.
@@ -46,18 +60,14 @@ fn unknown_key(form: JsonForm, members: &Map<String, Value>) -> Option<&str> {
     None
 }
 
-/// The first key of the form that an object lacks, and whether it lacks one more.
-fn missing_key(form: JsonForm, members: &Map<String, Value>) -> (Option<Key>, bool) {
-    let mut missing = None;
+/// The first key of the form that an object lacks.
+fn missing_key(form: JsonForm, members: &Map<String, Value>) -> Option<Key> {
     for key in form.keys() {
         if !members.contains_key(key.name()) {
-            if missing.is_some() {
-                return (missing, true);
-            }
-            missing = Some(*key);
+            return Some(*key);
         }
     }
-    (missing, false)
+    None
 }
 
 /// The first value of an object that is none of its key.
@@ -74,12 +84,10 @@ fn value_cause(form: JsonForm, members: &Map<String, Value>) -> Option<JsonCause
 
 /// Why an object is none of the form. None where nothing is found.
 fn object_cause(form: JsonForm, members: &Map<String, Value>) -> Option<JsonCause> {
-    let (missing, is_one_of_several) = missing_key(form, members);
     if let Some(name) = unknown_key(form, members) {
-        let meant = if is_one_of_several { None } else { missing };
-        return Some(JsonCause::UnknownKey(shown(name), meant));
+        return Some(JsonCause::UnknownKey(shown(name)));
     }
-    match missing {
+    match missing_key(form, members) {
         Some(key) => Some(JsonCause::Missing(key)),
         None => value_cause(form, members),
     }
@@ -102,6 +110,6 @@ pub(crate) fn json_cause(alloc: Global, form: JsonForm, body: &[u8]) -> Result<J
     match Value::from_slice(alloc, body) {
         Ok(value) => Ok(data_cause(form, &value)),
         Err(error) if error.is_memory() => Err(NoRoom),
-        Err(error) => Ok(text_cause(body, &error)),
+        Err(error) => Ok(text_cause(alloc, body, &error)),
     }
 }

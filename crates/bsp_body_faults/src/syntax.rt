@@ -16,13 +16,11 @@ pub struct Place {
 pub enum Found {
     /// The text ends.
     End,
-    /// A byte that is no UTF-8.
-    NotUtf8,
     /// A letter outside of quotes.
     Letter,
     /// A digit.
     Digit,
-    /// A text, or a quote with which it begins.
+    /// A quote, with which a text begins.
     Quote,
     /// A character from 0x21 to 0x7E, none of the above.
     Mark(u8),
@@ -46,18 +44,24 @@ impl Found {
     }
 }
 
-/// The byte at a place of a text.
-fn byte_at(text: &[u8], place: Place) -> Option<u8> {
-    let line = text
+/// How many bytes of a text are before a place. At most all.
+pub(crate) fn bytes_before(text: &[u8], place: Place) -> usize {
+    let mut before = 0usize;
+    for line in text
         .split(|byte| *byte == b'\n')
-        .nth(place.line.saturating_sub(1))?;
-    line.get(place.column.saturating_sub(1)).copied()
+        .take(place.line.saturating_sub(1))
+    {
+        before = before.saturating_add(line.len()).saturating_add(1);
+    }
+    before
+        .saturating_add(place.column.saturating_sub(1))
+        .min(text.len())
 }
 
-/// What is found at a place where a text is no JSON.
-pub(crate) fn found_at(text: &[u8], place: Place) -> Found {
-    match byte_at(text, place) {
-        Some(byte) => Found::of(byte),
+/// What is found behind so many bytes of a text, where it is no JSON.
+pub(crate) fn found_after(text: &[u8], before: usize) -> Found {
+    match text.get(before) {
+        Some(byte) => Found::of(*byte),
         None => Found::End,
     }
 }
@@ -65,5 +69,21 @@ pub(crate) fn found_at(text: &[u8], place: Place) -> Found {
 impl fmt::Display for Place {
     fn fmt<W: fmt::Write>(&self, f: &mut fmt::Formatter<W>) -> fmt::Result {
         write!(f, "line {}, column {}", self.line, self.column)
+    }
+}
+
+impl fmt::Display for Found {
+    fn fmt<W: fmt::Write>(&self, f: &mut fmt::Formatter<W>) -> fmt::Result {
+        match *self {
+            Found::End => f.write_str("no character"),
+            Found::Letter => f.write_str("a letter"),
+            Found::Digit => f.write_str("a digit"),
+            Found::Quote => f.write_str(
+                "a text that is not allowed there, or a line break, a tab or a wrong \\ in it",
+            ),
+            Found::Mark(mark) => write!(f, "{}", mark as char),
+            Found::Control(byte) => write!(f, "the character {byte:#04x}"),
+            Found::Wide => f.write_str("a character that is not ASCII"),
+        }
     }
 }

@@ -9,29 +9,25 @@ use bsp_messages::StatedAgent;
 use serde_json::{Number, Value};
 use std::fmt::InlineText;
 
-/// The front of a text of characters from 0x20 to 0x7E.
+/// Whether a character is shown: from 0x20 to 0x7E, and none that JSON writes in another way.
+fn is_shown(byte: u8) -> bool {
+    b' ' <= byte && byte <= b'~' && byte != b'"' && byte != b'\\'
+}
+
+/// A text that is shown, or its front.
 pub(crate) fn shown(text: &str) -> Option<Shown> {
-    if text.bytes().all(|byte| b' ' <= byte && byte <= b'~') {
+    if text.bytes().all(is_shown) {
         return Some(InlineText::of(text));
     }
     None
 }
 
-/// The number of the first character that is not from 0x20 to 0x7E, counted from 1. Else of the character after
-/// the last.
-fn first_unprintable(text: &str) -> usize {
-    let printable = text
-        .bytes()
-        .take_while(|byte| b' ' <= *byte && *byte <= b'~');
-    printable.count().saturating_add(1)
-}
-
-/// What is wrong with a text of digits.
-fn digits_fault(text: &str, width: usize) -> ValueFault {
+/// What is wrong with a text that is not in the form of a key that has texts of less than 16 characters.
+fn form_fault(text: &str) -> ValueFault {
     match shown(text) {
-        None => ValueFault::Character(first_unprintable(text)),
-        Some(_) if text.len() != width => ValueFault::Width(text.len()),
-        Some(front) => ValueFault::NotDigits(front),
+        None => ValueFault::Character,
+        Some(_) if text.len() > 15 => ValueFault::Width(text.len()),
+        Some(shown) => ValueFault::Text(shown),
     }
 }
 
@@ -49,55 +45,44 @@ fn has_day_form(text: &[u8]) -> bool {
 
 /// What is wrong with a text that is no day.
 fn day_fault(text: &str) -> ValueFault {
-    let bytes = text.as_bytes();
-    match shown(text) {
-        None => ValueFault::Character(first_unprintable(text)),
-        Some(_) if bytes.len() > 15 => ValueFault::Width(bytes.len()),
-        Some(front) if !has_day_form(bytes) => ValueFault::NotDayForm(front),
-        Some(front) if !bytes.starts_with(b"20") => ValueFault::OtherYear(front),
-        Some(front) => ValueFault::NotDay(front),
+    match form_fault(text) {
+        ValueFault::Text(shown) if has_day_form(text.as_bytes()) && text.starts_with("20") => {
+            ValueFault::NotDay(shown)
+        }
+        fault => fault,
     }
-}
-
-/// The number of the first character that is no letter and no digit, counted from 1.
-fn first_unfit(text: &str) -> usize {
-    let fit = text.bytes().take_while(|byte| byte.is_ascii_alphanumeric());
-    fit.count().saturating_add(1)
 }
 
 /// What is wrong with a text that is no token.
 fn token_fault(text: &str) -> ValueFault {
-    let number = first_unfit(text);
-    if number <= text.len() {
-        return ValueFault::Character(number);
+    if text.bytes().all(|byte| byte.is_ascii_alphanumeric()) {
+        return ValueFault::Width(text.len());
     }
-    ValueFault::Width(text.len())
+    ValueFault::Character
 }
 
 /// What is wrong with a text that is no reason.
 fn reason_fault(text: &str) -> ValueFault {
-    let number = first_unprintable(text);
-    if number <= text.len() {
-        return ValueFault::Character(number);
+    if text.bytes().all(|byte| b' ' <= byte && byte <= b'~') {
+        return ValueFault::Width(text.len());
     }
-    ValueFault::Width(text.len())
+    ValueFault::Character
 }
 
 /// What is wrong with a text as the value of a key, if anything.
 fn text_fault(key: Key, text: &str) -> Option<ValueFault> {
     let bytes = text.as_bytes();
     match key {
-        Key::Agent if StatedAgent::read(bytes).is_none() => Some(digits_fault(text, 8)),
-        Key::Airline if AirlineCode::read(bytes).is_err() => Some(digits_fault(text, 3)),
-        Key::Period if PeriodCode::read(bytes).is_err() => Some(digits_fault(text, 5)),
+        Key::Agent if StatedAgent::read(bytes).is_none() => Some(form_fault(text)),
+        Key::Airline if AirlineCode::read(bytes).is_err() => Some(form_fault(text)),
+        Key::Period if PeriodCode::read(bytes).is_err() => Some(form_fault(text)),
         Key::Document | Key::First | Key::Last if DocNumber::read_unchecked(bytes).is_err() => Some(
-            digits_fault(text, 10),
+            form_fault(text),
         ),
         Key::Day if Day::read_text(bytes).is_err() => Some(day_fault(text)),
-        Key::Kind if MemoKind::read(text).is_none() => Some(ValueFault::NotKind),
+        Key::Kind if MemoKind::read(text).is_none() => Some(form_fault(text)),
         Key::Reason if Reason::read(bytes).is_none() => Some(reason_fault(text)),
         Key::Token if Token::read(bytes).is_none() => Some(token_fault(text)),
-        Key::Amount => Some(ValueFault::Kind(JsonKind::Text)),
         _ => None,
     }
 }
@@ -110,7 +95,16 @@ fn number_fault(number: &Number) -> ValueFault {
     match number.as_f64() {
         Some(value) if value == 0.0 && value.is_sign_negative() => ValueFault::MinusZero,
         Some(value) if value.abs() >= 9223372036854775808.0 => ValueFault::TooLarge,
-        _ => ValueFault::NotWhole,
+        Some(value) => ValueFault::NotWhole(InlineText::of(value)),
+        None => ValueFault::Kind(JsonKind::Number),
+    }
+}
+
+/// What is wrong with a text in the place of an amount.
+fn quoted_fault(text: &str) -> ValueFault {
+    match shown(text) {
+        Some(shown) if text.len() <= 15 => ValueFault::Quoted(shown),
+        _ => ValueFault::Kind(JsonKind::Text),
     }
 }
 
@@ -121,7 +115,23 @@ fn amount_fault(value: &Value) -> Option<ValueFault> {
             Some(_) => None,
             None => Some(number_fault(number)),
         },
+        Value::String(text) => Some(quoted_fault(text.as_str())),
         other => Some(ValueFault::Kind(JsonKind::of(other))),
+    }
+}
+
+/// What is wrong with a number in the place of a text. One that is a value of the key, but for its quotes, is shown,
+/// unless the key is `token`.
+fn unquoted_fault(key: Key, number: &Number) -> ValueFault {
+    match number.as_u64() {
+        Some(whole) if whole < 1_000_000_000_000_000 && key != Key::Token => {
+            let digits = InlineText::of(whole);
+            match text_fault(key, digits.as_str()) {
+                None => ValueFault::Unquoted(digits),
+                Some(_) => ValueFault::Kind(JsonKind::Number),
+            }
+        }
+        _ => ValueFault::Kind(JsonKind::Number),
     }
 }
 
@@ -132,6 +142,7 @@ pub(crate) fn value_fault(key: Key, value: &Value) -> Option<ValueFault> {
     }
     match value {
         Value::String(text) => text_fault(key, text.as_str()),
+        Value::Number(number) => Some(unquoted_fault(key, number)),
         other => Some(ValueFault::Kind(JsonKind::of(other))),
     }
 }
