@@ -81,7 +81,9 @@ impl<'r, B: Book, J: Journal<B>> Service<Desk<B>> for Office<'r, J> {
             call,
             content: Content::Bytes(body),
         };
-        answer_with(desk.answer(&request), call)
+        let answer = answer_with(desk.answer(&request), call);
+        self.journal.note_body(call, body, &answer.reply());
+        answer
     }
 
     fn answer_file(
