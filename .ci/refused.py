@@ -23,6 +23,7 @@ import itertools
 import os
 import pathlib
 import re
+import shlex
 import shutil
 import sqlite3
 import subprocess
@@ -48,7 +49,9 @@ JUDGE = "judge --plan plan.toml --day 2024-01-05 --agent 12345675 --stock 130000
 WORDS = ["check v1.ret", "check kinds.ret", "check two.ret", "check sum.ret", "hotcheck v3.hot", "hotcheck taxed.hot", "hotcheck short.hot", "--help", "--version",
          "check --help", "", "check", "report v1.ret", "check --unknown", "hotcheck v3.hot v3.hot", "check --quiet sum.ret",
          "explain", "explain E07", "explain E99", "plan plan.toml", "plan taxed.toml --after plan.toml", "plan v1.ret",
-         f"{JUDGE} v1.ret", f"{JUDGE} --file v1.ret kinds.ret", f"{JUDGE} sum.ret"]
+         "body 'POST /office/day' day.json", "body 'POST /office/day' late.json", "body 'POST /office/day' none.json",
+         "body 'POST /office/stock/allot' range.json", "body 'POST /office/ret' sum.ret", "body 'POST /office/plan' v1.ret",
+         "body 'POST /x' v1.ret", f"{JUDGE} v1.ret", f"{JUDGE} --file v1.ret kinds.ret", f"{JUDGE} sum.ret"]
 CONVERSATIONS = ["05-sale", "11b-cancelled-in-one-file", "14-memos", "16-reports", "19-stock", "23b-malformed-bodies",
                  "38-reduced-memo", "50-commission-tax", "53b-exchange-of-two-cancelled", "callers-refused", "memo-actions"]
 # those of which the same is tried over a book in a file: the rows of the first are in all tables but that of memos
@@ -142,12 +145,14 @@ def words():
     hot, kinds = sample("no-documents.hot"), (TOP / "examples" / "files" / "kinds.ret").read_bytes()
     files = {"v1.ret": sample("sale.ret"), "kinds.ret": kinds, "v3.hot": hot, "short.hot": b"".join(hot.splitlines(True)[:3]),
              "sum.ret": kinds.replace(b"7551A", b"7552A"), "two.ret": sample("exchange-of-two.ret"),
-             "taxed.hot": sample("commission-tax.hot"), "plan.toml": sample("plan.toml"), "taxed.toml": sample("commission-tax.toml")}
+             "taxed.hot": sample("commission-tax.hot"), "plan.toml": sample("plan.toml"), "taxed.toml": sample("commission-tax.toml"),
+             "day.json": b'{"day":"2024-01-05"}', "late.json": b'{"day":"2024-02-30"}', "none.json": b'{"day":"2024-01-05"}}',
+             "range.json": b'{"agent":"12345670","first":"1300000000","last":"1300000099"}'}
     for name, text in files.items():
         pathlib.Path(name).write_bytes(text)
     for line in WORDS:
         judge = is_same_or_quiet if "--quiet" in line else is_same_or_failed
-        yield f"bsp_office {line}", each_refused(f"bsp_office {line}", lambda _, it=line: [PROGRAM, *it.split()], b"", judge)
+        yield f"bsp_office {line}", each_refused(f"bsp_office {line}", lambda _, it=line: [PROGRAM, *shlex.split(it)], b"", judge)
 
 
 # ---- conversations

@@ -13,38 +13,50 @@ use std::alloc::Global;
 /// The byte order mark of UTF-8.
 const MARK: &[u8] = b"\xEF\xBB\xBF";
 
-/// Whether the bytes are one JSON text, for which there is memory.
-fn is_json(alloc: Global, bytes: &[u8]) -> bool {
-    Value::from_slice(alloc, bytes).is_ok()
+/// Whether the bytes are one JSON text.
+fn is_json(alloc: Global, bytes: &[u8]) -> Result<bool, NoRoom> {
+    match Value::from_slice(alloc, bytes) {
+        Ok(_) => Ok(true),
+        Err(error) if error.is_memory() => Err(NoRoom),
+        Err(_) => Ok(false),
+    }
+}
+
+/// Whether the bytes before a place in a text are one JSON object.
+fn is_object_before(alloc: Global, body: &[u8], before: usize) -> Result<bool, NoRoom> {
+    let first = body.iter().find(|byte| !byte.is_ascii_whitespace());
+    if first == Some(&b'{') && before < body.len() {
+        return is_json(alloc, &body[..before]);
+    }
+    Ok(false)
 }
 
 /// Why bytes are no JSON text, by the place that its reader has of the error.
-fn place_cause(alloc: Global, body: &[u8], place: Place) -> JsonCause {
+fn place_cause(alloc: Global, body: &[u8], place: Place) -> Result<JsonCause, NoRoom> {
     let before = bytes_before(body, place);
-    let begins = body.iter().find(|byte| !byte.is_ascii_whitespace());
-    if begins == Some(&b'{') && before < body.len() && is_json(alloc, &body[..before]) {
-        return JsonCause::MoreFollows(place);
+    if is_object_before(alloc, body, before)? {
+        return Ok(JsonCause::MoreFollows(place));
     }
-    JsonCause::NotJson(place, found_after(body, before))
+    Ok(JsonCause::NotJson(place, found_after(body, before)))
 }
 
 /// Why bytes are no JSON text, by the error of its reader.
-fn text_cause(alloc: Global, body: &[u8], error: &Error) -> JsonCause {
+fn text_cause(alloc: Global, body: &[u8], error: &Error) -> Result<JsonCause, NoRoom> {
     if body.is_empty() {
-        return JsonCause::Empty;
+        return Ok(JsonCause::Empty);
     }
     if body.starts_with(MARK) {
-        return JsonCause::ByteOrderMark;
+        return Ok(JsonCause::ByteOrderMark);
     }
     if str::from_utf8(body).is_err() {
-        return JsonCause::NotUtf8;
+        return Ok(JsonCause::NotUtf8);
     }
     let place = Place {
         line: error.line(),
         column: error.column(),
     };
     if error.is_eof() {
-        return JsonCause::NotJson(place, Found::End);
+        return Ok(JsonCause::NotJson(place, Found::End));
     }
     place_cause(alloc, body, place)
 }
@@ -110,6 +122,6 @@ pub(crate) fn json_cause(alloc: Global, form: JsonForm, body: &[u8]) -> Result<J
     match Value::from_slice(alloc, body) {
         Ok(value) => Ok(data_cause(form, &value)),
         Err(error) if error.is_memory() => Err(NoRoom),
-        Err(error) => Ok(text_cause(alloc, body, &error)),
+        Err(error) => text_cause(alloc, body, &error),
     }
 }
