@@ -154,7 +154,7 @@ def code_of(reply):
 
 def opened():
     """An office with a plan, an agent and an airline, which logs each reply and ends with its one connection."""
-    it = office.Office(PROGRAM, None, "--token", OFFICE, "--log", "--connections", 1)
+    it = office.Office(PROGRAM, None, "--token", OFFICE, "--log", "--connections", 1, "--timeout", 0)
     plan = (TOP / "samples/plan.toml").read_bytes()
     for path, body in ("plan", plan), ("agents", json.dumps({"agent": AGENT, "token": AGENT_TOKEN})), \
             ("airlines", json.dumps({"airline": "125", "token": AIRLINE_TOKEN})):

@@ -55,7 +55,7 @@ impl fmt::Display for CheckDigitRemark {
         let code = self.code.as_str();
         write!(
             f,
-            "\"agent\": {code} has a wrong check digit: nobody has this code"
+            "agent is \"{code}\", whose check digit is wrong: nobody has this code"
         )
     }
 }
