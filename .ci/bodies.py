@@ -110,7 +110,7 @@ ROWS = [
     (ISSUE, memo(amount=None), "N04", f"amount is missing: it is {IS_AMOUNT}"),
     (ISSUE, memo(amount="5000"), "N04", f'amount is "5000" in quotes, and not {IS_AMOUNT}'),
     (ISSUE, memo(amount="5" * 16), "N04", f"amount is a text, and not {IS_AMOUNT}"),
-    (ISSUE, memo(amount=12.5), "N04", f"amount is 12.5, and not {IS_AMOUNT}"),
+    (ISSUE, memo(amount=12.5), "N04", f"amount has a point or an exponent, and is not {IS_AMOUNT}"),
     (ISSUE, memo(amount=0).replace(" 0,", " -0,"), "N04", f"amount is -0, and not {IS_AMOUNT}: write 0"),
     (ISSUE, memo(amount=2**63), "N04", "amount is not from -9223372036854775808 to 9223372036854775807, as 64 bits hold it"),
     (ISSUE, memo(amount=-2**63 - 1), "N04", "amount is not from -9223372036854775808 to 9223372036854775807, as 64 bits hold it"),
@@ -125,7 +125,7 @@ ROWS = [
     (ISSUE, memo(reason="tarif erroné"), "N04", "reason has a character that is not from space to ~"),
     (ISSUE, memo(reason={}), "N04", "reason is an object, and not a text of 1 to 40 characters from space to ~"),
     (UPHOLD, '{"document":"600000001"}', "N04", 'document is "600000001", and not ten digits'),
-    (REDUCE, '{"document":"6000000001","amount":5e3}', "N04", f"amount is 5000, and not {IS_AMOUNT}"),
+    (REDUCE, '{"document":"6000000001","amount":5e3}', "N04", f"amount has a point or an exponent, and is not {IS_AMOUNT}"),
     (REDUCE, '{"document":"6000000001","amount":-5}', "OK", None),
 ]
 

@@ -25,8 +25,8 @@ pub enum ValueFault {
     Width(usize),
     /// It is a text with a character that the key does not have.
     Character,
-    /// It is this number, which has a point or an exponent.
-    NotWhole(Shown),
+    /// It is a number with a point or an exponent.
+    NotWhole,
     /// It is `-0`.
     MinusZero,
     /// It is a number that does not fit 64 bits with a sign.
@@ -92,7 +92,11 @@ impl ValueFault {
             }
             ValueFault::Width(count) => write_width(f, key, count),
             ValueFault::Character => write_character(f, key),
-            ValueFault::NotWhole(text) => write!(f, "is {}, and not {}", text.as_str(), key.form()),
+            ValueFault::NotWhole => write!(
+                f,
+                "has a point or an exponent, and is not {}",
+                key.form()
+            ),
             ValueFault::MinusZero => write!(f, "is -0, and not {}: write 0", key.form()),
             ValueFault::TooLarge => f.write_str(
                 "is not from -9223372036854775808 to 9223372036854775807, as 64 bits hold it",

@@ -95,8 +95,7 @@ fn number_fault(number: &Number) -> ValueFault {
     match number.as_f64() {
         Some(value) if value == 0.0 && value.is_sign_negative() => ValueFault::MinusZero,
         Some(value) if value.abs() >= 9223372036854775808.0 => ValueFault::TooLarge,
-        Some(value) => ValueFault::NotWhole(InlineText::of(value)),
-        None => ValueFault::Kind(JsonKind::Number),
+        _ => ValueFault::NotWhole,
     }
 }
 
