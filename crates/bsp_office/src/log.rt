@@ -1,18 +1,36 @@
 //! What standard error says of an office that serves: its book, its replies and its connections.
 
 use crate::kept::Failing;
-use bsp_desk::{Book, Desk};
+use bsp_body_faults::{BodyFault, JsonFault, body_fault};
+use bsp_desk::{Asking, Book, Desk};
 use bsp_http::{Journal, Message, Reply, ServeFault, Served, Status};
 use std::alloc::{AllocError, Global};
+use std::cell::Cell;
 use std::fmt;
 use std::fmt::Display;
 
+/// The most bytes of a malformed body whose cause is sought: no body that is read needs as many.
+const MOST_SOUGHT: usize = 65_536;
+
 /// What standard error says.
-#[derive(Clone, Copy)]
+#[derive(Drop)]
 pub struct Log<'a> {
     rt: &'a HostRuntime,
     // Whether each reply has a line, or a 503 alone.
     whole: bool,
+    // Why the body of the request is malformed whose reply is noted next.
+    fault: Cell<Option<JsonFault>>,
+}
+
+/// Why a body is malformed. None where it is not, or where there is no memory for the cause.
+fn malformed(alloc: Global, asking: Asking<&[u8]>, body: &[u8]) -> Option<JsonFault> {
+    let Asking::Call(call) = asking else {
+        return None;
+    };
+    match body_fault(alloc, call, body) {
+        Ok(Some(BodyFault::Json(fault))) => Some(fault),
+        _ => None,
+    }
 }
 
 /// Appends bytes; those outside 0x21 to 0x7E as `\x0a`.
@@ -77,7 +95,11 @@ impl Display for Grouped {
 impl<'a> Log<'a> {
     /// A line for each reply, or for each 503 alone.
     pub(crate) fn new(rt: &'a HostRuntime, whole: bool) -> Log<'a> {
-        Log { rt, whole }
+        Log {
+            rt,
+            whole,
+            fault: Cell::new(None),
+        }
     }
 
     /// One line where a connection, counted from 0, ended by a failed read or write.
@@ -96,17 +118,26 @@ impl<'a> Log<'a> {
 }
 
 impl<B: Book + Failing> Journal<B> for Log<'_> {
-    /// One line. That of a 503 says with which error of the store the book failed.
+    /// Seeks the cause of a malformed body, for the line of its reply.
+    fn note_body(&self, asking: Asking<&[u8]>, body: &[u8], reply: &Reply<'_>) {
+        if self.whole && body.len() <= MOST_SOUGHT && code_in(reply.body) == "N04" {
+            self.fault.set(malformed(self.rt.alloc(), asking, body));
+        }
+    }
+
+    /// One line. That of a 503 says with which error of the store the book failed, that of an N04 why the body is malformed.
     fn note(&self, desk: &Desk<B>, message: Option<&Message<'_>>, reply: &Reply<'_>) {
         let refused = reply.status == Status::ServiceUnavailable;
         if !self.whole && !refused {
             return;
         }
+        let fault = self.fault.take();
         let Ok(line) = reply_line(self.rt.alloc(), message, reply) else {
             return;
         };
-        let _ = match desk.book().store_error() {
-            Some(cause) if refused => eprintln!(self.rt; "bsp_office: {line}: {cause}"),
+        let _ = match (desk.book().store_error(), fault) {
+            (Some(cause), _) if refused => eprintln!(self.rt; "bsp_office: {line}: {cause}"),
+            (_, Some(fault)) => eprintln!(self.rt; "bsp_office: {line}: {fault}"),
             _ => eprintln!(self.rt; "bsp_office: {line}"),
         };
     }

@@ -6,6 +6,7 @@
 #![tactic(auto)]
 
 mod audit;
+mod bodies;
 mod book_file;
 mod explaining;
 mod input;

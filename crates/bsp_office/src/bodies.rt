@@ -1,0 +1,115 @@
+//! The command `body`: whether the route of a request reads a body, or which fault it has.
+
+use crate::remarks::{say_known, say_remark};
+use crate::whole_files::{bytes_of, printed, short_of_memory};
+use bsp_body_faults::{BodyFault, BodyForm, body_fault, body_form, body_line, check_digit_remark};
+use bsp_calendar::PlanFault;
+use bsp_check::{DONE, REFUSED};
+use bsp_desk::Asking;
+use bsp_explain::explain_ret;
+use bsp_fields::NoRoom;
+use bsp_http::Routes;
+use bsp_judge::{PlanRefused, refusal_reason};
+use bsp_routes::{Call, Methods};
+
+/// Says what is to be known of a body that the route of a call reads.
+fn say_of_read(rt: &HostRuntime, call: Call<&[u8]>, file: &str, body: &[u8]) -> Result<(), NoRoom> {
+    if let Some(remark) = check_digit_remark(rt.alloc(), call, body)? {
+        say_remark(rt, file, &remark);
+    }
+    Ok(())
+}
+
+/// Says why a plan text is refused.
+fn say_plan(rt: &HostRuntime, file: &str, body: &[u8], fault: PlanFault) -> Result<(), NoRoom> {
+    let refused = PlanRefused { place: 0, fault };
+    let reason = refusal_reason(rt.alloc(), &[], body, refused)?;
+    say_known(rt, file, &reason);
+    Ok(())
+}
+
+/// Says why the route of a call refuses a body, or what is to be known of one that it reads.
+fn say_found(
+    rt: &HostRuntime,
+    call: Call<&[u8]>,
+    file: &str,
+    body: &[u8],
+    found: Option<BodyFault>,
+) -> Result<(), NoRoom> {
+    match found {
+        None => say_of_read(rt, call, file, body),
+        Some(BodyFault::Json(fault)) => {
+            say_remark(rt, file, &fault);
+            Ok(())
+        }
+        Some(BodyFault::Ret(fault)) => {
+            say_remark(rt, file, &explain_ret(body, fault));
+            Ok(())
+        }
+        Some(BodyFault::Plan(fault)) => say_plan(rt, file, body, fault),
+    }
+}
+
+/// Says what is wrong with the body of a call, if anything, and answers its line.
+fn line_of(
+    rt: &HostRuntime,
+    call: Call<&[u8]>,
+    file: &str,
+    body: &[u8],
+) -> Result<(Vec<u8>, u8), NoRoom> {
+    let found = body_fault(rt.alloc(), call, body)?;
+    let line = body_line(rt.alloc(), found)?;
+    say_found(rt, call, file, body, found)?;
+    Ok((line, if found.is_none() { DONE } else { REFUSED }))
+}
+
+/// Reports whether the route of a call reads a body, and answers the exit status.
+fn report_body(rt: &HostRuntime, call: Call<&[u8]>, file: &str, body: &[u8]) -> u8 {
+    match line_of(rt, call, file, body) {
+        Ok((line, status)) => printed(rt, &line, status),
+        Err(_) => short_of_memory(rt),
+    }
+}
+
+/// Reports on the body of a call, and answers the exit status. A call without a body ignores what comes.
+fn report_call(rt: &HostRuntime, request: &str, call: Call<&[u8]>, file: &str, body: &[u8]) -> u8 {
+    if body_form(call) == BodyForm::NoBody {
+        let _ = eprintln!(rt;
+            "bsp_office: {request}: it has no body: what comes with it is ignored"
+        );
+        return printed(rt, b"OK\n", DONE);
+    }
+    report_body(rt, call, file, body)
+}
+
+/// Reports that the path has other methods, and answers the exit status.
+fn report_method(rt: &HostRuntime, request: &str, methods: Methods) -> u8 {
+    let (allow, end) = (methods.allow(), if methods == Methods::GetAndPost { "s" } else { "" });
+    let _ = eprintln!(rt; "bsp_office: {request}: the path has the method{end} {allow}");
+    printed(rt, b"N03\n", REFUSED)
+}
+
+/// Reports that a request is none, and answers the exit status.
+fn report_route(rt: &HostRuntime, request: &str) -> u8 {
+    let _ = eprintln!(rt;
+        "bsp_office: {request}: it is no request: write one of docs/ROUTES.md, as 'POST /office/day'"
+    );
+    printed(rt, b"N02\n", REFUSED)
+}
+
+/// Reports whether the route of a request, METHOD TARGET, reads the body in a file, and answers the exit status.
+pub(crate) fn run_body(rt: &HostRuntime, request: &str, file: &str) -> u8 {
+    let body = match bytes_of(rt, file) {
+        Ok(body) => body,
+        Err(status) => return status,
+    };
+    let Ok(routes) = Routes::new(rt.alloc()) else {
+        return short_of_memory(rt);
+    };
+    let (method, target) = request.split_once(' ').unwrap_or((request, ""));
+    match routes.ask(method.as_bytes(), target.as_bytes()) {
+        Asking::Call(call) => report_call(rt, request, call, file, &body),
+        Asking::OtherMethod(methods) => report_method(rt, request, methods),
+        Asking::NoRoute => report_route(rt, request),
+    }
+}
