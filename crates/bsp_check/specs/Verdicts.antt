@@ -7,7 +7,7 @@ use Rattle.bsp_hot_check.specs.Hot.{IsFirstFault}
 use Rattle.bsp_explain.specs.declared.explanation.Explanation.{Explanation}
 use Rattle.bsp_explain.specs.Before.{counted, IsLine}
 use Rattle.bsp_explain.specs.RetReasons.{Says, is_reason_of}
-use Rattle.bsp_explain.specs.HotReasons.{SaysOfHot, file_form, record_name}
+use Rattle.bsp_hot_explain.specs.HotReasons.{SaysOfHot, file_form, record_name}
 use Rattle.bsp_check.specs.declared.fault.Fault.{Fault}
 use Rattle.bsp_check.specs.declared.verdict.Verdict.{Verdict}
 use Rattle.bsp_check.specs.declared.verdict.Verdict.TheVariants.{Passed, Refused}

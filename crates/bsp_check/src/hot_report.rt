@@ -6,9 +6,9 @@ ghost use Rattle.bsp_check.specs.Verdicts.{verdict_status, IsExplained, IsHotExp
 
 use crate::report::Report;
 use crate::verdict::Verdict;
-use bsp_explain::explain_hot;
 use bsp_fields::{NoRoom, write_money};
 use bsp_hot_check::{HotTotals, check_hot};
+use bsp_hot_explain::explain_hot;
 use std::alloc::Global;
 
 /// The line of a file with these totals.

@@ -11,12 +11,10 @@ use Rattle.bsp_ret.specs.declared.model.Record.{Record}
 use Rattle.bsp_ret.specs.declared.model.Record.TheVariants as said
 use Rattle.bsp_ret.specs.Said.{record_in}
 use Rattle.bsp_ret.specs.Table.{kind, kind_or_start, standing, has_ended, is_start, row_fault, or_later, fault_from, first_fault}
-use Rattle.bsp_hot_records.specs.declared.form.FileForm.{FileForm}
 use Rattle.bsp_explain.specs.declared.before.Before.{Before}
 use Rattle.bsp_explain.specs.Before.{counted, IsLine}
 use Rattle.bsp_explain.specs.declared.reason.Reason.{Reason}
 use Rattle.bsp_explain.specs.RetReasons.{Says, is_without, IsStandingOf}
-use Rattle.bsp_explain.specs.HotReasons.{SaysOfHot}
 use Rattle.bsp_explain.proofs.RowLemmas.{row_is}
 
 -- a row applies to a line of the rest, and the fault has its number
@@ -149,7 +147,3 @@ row_of_line ls rest f before found count left (inl line) first =
     rw count (fault_of_line ls f found first (line_from ls rest (f.at - 1) found left line))
 row_of_line ls rest f before found count left (inr empty) first =
     rw count (fault_after ls f found first (sym left ∙ empty))
-
-pub said_of_hot : (form : FileForm) (ls rest : List (List ℕ)) (n : ℕ) (line found : List ℕ) (r : Reason) → rest ≡ drop (n - 1) ls → IsLine (n - 1) ls line → IsLine 0 rest found → SaysOfHot form n found r → SaysOfHot form n line r
-said_of_hot form ls rest n line found r left is first said =
-    rw (← same_line ls rest (n - 1) line found left is first) said

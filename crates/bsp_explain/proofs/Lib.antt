@@ -3,9 +3,7 @@ pub mod Finding
 pub mod Cutting
 pub mod TaxLemmas
 pub mod RetLemmas
-pub mod HotLemmas
 pub mod RowLemmas
-pub mod HotRows
 pub mod TrailerLemmas
 pub mod BeforeLemmas
 pub mod FaultLemmas

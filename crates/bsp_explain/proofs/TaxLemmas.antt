@@ -7,7 +7,6 @@ use Rattle.std.proofs.lemmas.Bool.{cases_Bool}
 use Rattle.bsp_records.specs.Columns.{columns, is_letter_or_digit, is_space}
 use Rattle.bsp_records.specs.Fields.{is_amount}
 use Rattle.bsp_records.specs.Taxes.{tax_code, tax_places, taxes_fit}
-use Rattle.bsp_hot_records.specs.Records.{tax_places_fit}
 use Rattle.bsp_explain.specs.declared.field.Field.{Field}
 use Rattle.bsp_explain.specs.Fields.{fits, all_fit, first_unfit}
 use Rattle.bsp_explain.specs.TaxFields.{place_first, place_at, is_after_unused, code_before, used_place_fields, unused_place_fields, place_fields, places_from, tax_fields}
@@ -105,7 +104,7 @@ pub ret_taxes : (line : List ℕ) → all_fit line (tax_fields 19 line) ≡ taxe
 unfolding tax_fields
 ret_taxes line = places_fit_from 19 line 0 6 (omega arith) ∙ places_fit 0 (tax_places line)
 
--- and those of BKS30, 14 columns further on
+-- and those from column 33 on, 14 columns further on
 places_are : (line : List ℕ) → tax_places (columns 15 136 line) ≡ places_at 33 line 0 6
 places_are line =
     rw (
@@ -117,9 +116,9 @@ places_are line =
       cut line 15 136 84 96 98 110 (omega arith) (omega arith) (omega arith) (omega arith) (omega arith) (omega arith),
     ) refl
 
-pub hot_taxes : (line : List ℕ) → all_fit line (tax_fields 33 line) ≡ tax_places_fit line
-unfolding tax_fields tax_places_fit
-hot_taxes line =
+pub later_taxes : (line : List ℕ) → all_fit line (tax_fields 33 line) ≡ taxes_fit 0 (tax_places (columns 15 136 line))
+unfolding tax_fields
+later_taxes line =
     places_fit_from 33 line 0 6 (omega arith)
     ∙ places_fit 0 (places_at 33 line 0 6)
     ∙ ap (taxes_fit 0) (sym (places_are line))

@@ -2,8 +2,6 @@
 pub mod Fields
 pub mod TaxFields
 pub mod RetFields
-pub mod HotFields
 pub mod Reasons
 pub mod Before
 pub mod RetReasons
-pub mod HotReasons

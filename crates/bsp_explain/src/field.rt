@@ -22,9 +22,10 @@ pub struct Field {
 }
 
 /// A field by its columns, its form and its name.
+#[macro_export]
 macro_rules! field {
     ($first:expr, $last:expr, $form:expr, $name:expr) => {
-        crate::field::Field {
+        $crate::Field {
             first: $first,
             last: $last,
             form: $form,
@@ -54,7 +55,7 @@ impl fmt::Display for Field {
 }
 
 /// The first of these fields that is not in its form.
-pub(crate) fn first_unfit(line: &[u8], fields: &[Field]) -> Option<Field>
+pub fn first_unfit(line: &[u8], fields: &[Field]) -> Option<Field>
     requires wide { length line.now ≡ 136 }
     requires inside { list_all is_inside fields.now ≡ true }
     ensures first { result ≡ first_unfit line.now fields.now }

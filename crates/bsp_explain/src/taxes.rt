@@ -110,7 +110,7 @@ fn place_field(line: &[u8], start: u8, index: u8) -> Option<Field>
 
 /// The first field of the six places that is not in its form, where the first place begins in that
 /// column.
-pub(crate) fn tax_field(line: &[u8], start: u8) -> Option<Field>
+pub fn tax_field(line: &[u8], start: u8) -> Option<Field>
     requires wide { length line.now ≡ 136 }
     requires from { 1 ≤ start }
     requires to { start ≤ 33 }

@@ -3,11 +3,9 @@
 ghost use Rattle.std.specs.Prelude.{◌≡◌, ℕ, length, true, false, IfSome, IfNone};
 ghost use Rattle.std.specs.List.{list_all};
 ghost use Rattle.bsp_records.specs.Columns.{is_printable, is_wide};
-ghost use Rattle.bsp_hot_records.specs.declared.form.FileForm.{FileForm};
 ghost use Rattle.bsp_explain.specs.declared.before.Before.{Before};
 ghost use Rattle.bsp_explain.specs.Reasons.{SaysOfWidth};
 ghost use Rattle.bsp_explain.specs.RetReasons.{Says, is_reason_of};
-ghost use Rattle.bsp_explain.specs.HotReasons.{SaysOfHot};
 ghost use Rattle.bsp_ret.specs.declared.model.FaultCode.TheVariants.{F01};
 
 use crate::reason::{Cause, Reason};
@@ -53,10 +51,10 @@ fn cause_of(line: &[u8]) -> Cause {
 
 /// Why a line is no record of 136 characters from 0x20 to 0x7E.
 #[tactic(auto, unfolding(bsp_records::specs::Columns::is_wide))]
-pub(crate) fn width_reason(line: &[u8]) -> Option<Reason>
+pub fn width_reason(line: &[u8]) -> Option<Reason>
     ensures says { (n : ℕ) (before : Before) → IfSome result (Says n before line.now) }
     ensures row { IfSome result (λ reason. is_reason_of F01 reason ≡ true) }
-    ensures says_of_hot { (form : FileForm) (n : ℕ) → IfSome result (SaysOfHot form n line.now) }
+    ensures says_of_width { IfSome result (SaysOfWidth line.now) }
     ensures narrow { IfSome result (λ reason. is_wide line.now ≡ false) }
     ensures wide { IfNone result (is_wide line.now ≡ true) }
     ensures long { IfNone result (length line.now ≡ 136) }

@@ -3,7 +3,7 @@ use Rattle.bsp_ret.specs.Lines.{lines}
 use Rattle.bsp_hot_check.specs.Hot.{IsFirstFault}
 use Rattle.bsp_explain.specs.declared.explanation.Explanation.{Explanation}
 use Rattle.bsp_explain.specs.Before.{IsLine}
-use Rattle.bsp_explain.specs.HotReasons.{SaysOfHot, file_form, record_name}
+use Rattle.bsp_hot_explain.specs.HotReasons.{SaysOfHot, file_form, record_name}
 use Rattle.bsp_check.specs.Verdicts.{IsHotExplanation}
 use Rattle.bsp_check.proofs.hot_report.hot_report.Goals as goal
 

@@ -1,6 +1,6 @@
-use Rattle.bsp_explain.specs.HotFields.{rest_fields}
+use Rattle.bsp_hot_explain.specs.HotFields.{rest_fields}
 use Rattle.bsp_explain.proofs.Finding.{none_of_two, some_of_two}
-use Rattle.bsp_explain.proofs.hot_fields.totals_field.Goals as goal
+use Rattle.bsp_hot_explain.proofs.hot_fields.totals_field.Goals as goal
 
 pub returns-clause-none : goal.returns-clause-none
 returns-clause-none c =

@@ -1,8 +1,8 @@
 use Rattle.bsp_explain.specs.TaxFields.{tax_fields}
-use Rattle.bsp_explain.specs.HotFields.{fare_fields, fields_after_taxes}
+use Rattle.bsp_hot_explain.specs.HotFields.{fare_fields, fields_after_taxes}
 use Rattle.bsp_explain.proofs.Finding.{none_of_three, some_of_three}
-use Rattle.bsp_explain.proofs.HotLemmas.{amounts_is}
-use Rattle.bsp_explain.proofs.hot_fields.amounts_field.Goals as goal
+use Rattle.bsp_hot_explain.proofs.HotLemmas.{amounts_is}
+use Rattle.bsp_hot_explain.proofs.hot_fields.amounts_field.Goals as goal
 
 pub returns-clause-none : goal.returns-clause-none
 returns-clause-none c = λ form.

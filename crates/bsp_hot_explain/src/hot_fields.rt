@@ -5,12 +5,9 @@ ghost use Rattle.std.specs.List.{list_all};
 ghost use Rattle.bsp_hot_records.specs.declared.form.FileForm.{FileForm};
 ghost use Rattle.bsp_hot_records.specs.Records.{fields_fit};
 ghost use Rattle.bsp_explain.specs.Fields.{all_fit, first_unfit, is_inside, IsAtFault};
-ghost use Rattle.bsp_explain.specs.HotFields.{card_form, payment_fields, amounts_fields, rest_fields, hot_fields};
+ghost use Rattle.bsp_hot_explain.specs.HotFields.{card_form, payment_fields, amounts_fields, rest_fields, hot_fields};
 
-use crate::field::{Field, field, first_unfit};
-use crate::form::Form;
-use crate::name::Name;
-use crate::taxes::tax_field;
+use bsp_explain::{Field, Form, Name, field, first_unfit, tax_field};
 use bsp_hot_records::{FileForm, RecordName};
 
 /// BFH01.
@@ -136,7 +133,7 @@ const FILE_TOTALS: [Field; 7] = [
 ];
 
 /// The first field of BKS30.
-#[tactic(auto, using(crate::proofs::HotLemmas::hot_is, crate::proofs::Finding::first_of_three))]
+#[tactic(auto, using(crate::proofs::HotLemmas::hot_is, bsp_explain::proofs::Finding::first_of_three))]
 fn amounts_field(line: &[u8]) -> Option<Field>
     requires { length line.now ≡ 136 }
     ensures first { result ≡ first_unfit line.now (amounts_fields line.now) }
@@ -208,7 +205,7 @@ fn rest_field(form: FileForm, line: &[u8], first: u8) -> Option<Field>
 }
 
 /// The first field of totals: of these up to the net, and of those behind it from that column on.
-#[tactic(auto, using(crate::proofs::Finding::first_of_two))]
+#[tactic(auto, using(bsp_explain::proofs::Finding::first_of_two))]
 fn totals_field(form: FileForm, line: &[u8], fields: &[Field], behind: u8) -> Option<Field>
     requires wide { length line.now ≡ 136 }
     requires inside { list_all is_inside fields.now ≡ true }

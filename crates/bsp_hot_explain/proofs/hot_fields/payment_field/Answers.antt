@@ -9,9 +9,9 @@ use Rattle.bsp_explain.specs.declared.form.Form.TheVariants as form
 use Rattle.bsp_explain.specs.declared.name.Name.TheVariants as name
 use Rattle.bsp_explain.specs.declared.field.Field.{Field}
 use Rattle.bsp_explain.specs.Fields.{field, all_fit, first_unfit, IsAtFault}
-use Rattle.bsp_explain.specs.HotFields.{card_form, payment_fields}
-use Rattle.bsp_explain.proofs.HotLemmas.{payment_is}
-use Rattle.bsp_explain.proofs.hot_fields.payment_field.Goals as goal
+use Rattle.bsp_hot_explain.specs.HotFields.{card_form, payment_fields}
+use Rattle.bsp_hot_explain.proofs.HotLemmas.{payment_is}
+use Rattle.bsp_hot_explain.proofs.hot_fields.payment_field.Goals as goal
 
 -- the fields with that form of the card vendor
 abbrev fields_with : Form → List Field

@@ -11,7 +11,7 @@ use Rattle.bsp_hot_records.specs.Reading.{record_at}
 use Rattle.bsp_explain.specs.declared.reason.Reason.{Reason}
 use Rattle.bsp_explain.specs.declared.reason.Reason.TheVariants as reason
 use Rattle.bsp_explain.specs.Fields.{first_unfit, IsAtFault}
-use Rattle.bsp_explain.specs.HotFields.{hot_fields}
+use Rattle.bsp_hot_explain.specs.HotFields.{hot_fields}
 use Rattle.bsp_explain.specs.Reasons.{SaysOfWidth}
 
 -- the form that a line has as the first of a file, and form 1 where it has none

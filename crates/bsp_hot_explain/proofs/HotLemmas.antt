@@ -15,10 +15,10 @@ use Rattle.bsp_hot_records.specs.Records.{code_of, file_form_of, form_fits, tota
 use Rattle.bsp_explain.specs.declared.form.Form.TheVariants as form
 use Rattle.bsp_explain.specs.Fields.{fits, all_fit, is_document_code, is_file_form, is_form_of_payment}
 use Rattle.bsp_explain.specs.TaxFields.{tax_fields}
-use Rattle.bsp_explain.specs.HotFields.{fare_fields, fields_after_taxes, amounts_fields, card_form, payment_fields, rest_fields, hot_fields}
+use Rattle.bsp_hot_explain.specs.HotFields.{fare_fields, fields_after_taxes, amounts_fields, card_form, payment_fields, rest_fields, hot_fields}
 use Rattle.bsp_explain.proofs.Cutting.{cut}
 use Rattle.bsp_explain.proofs.Finding.{all_fit-append}
-use Rattle.bsp_explain.proofs.TaxLemmas.{hot_taxes}
+use Rattle.bsp_explain.proofs.TaxLemmas.{later_taxes}
 
 -- ---- tests in another order of brackets
 
@@ -36,6 +36,10 @@ and-6 a b c d e f = simp (and_assoc, and-true)
 
 and-7 : (a b c d e f g : Bool) → (a && b && c && d && e && f && g) ≡ (a && (b && (c && (d && (e && (f && (g && true)))))))
 and-7 a b c d e f g = simp (and_assoc, and-true)
+
+hot_taxes : (line : List ℕ) → all_fit line (tax_fields 33 line) ≡ tax_places_fit line
+unfolding tax_places_fit
+hot_taxes line = later_taxes line
 
 -- ---- parts of records
 

@@ -6,9 +6,9 @@ use Rattle.bsp_hot_records.specs.declared.name.RecordName.TheVariants.{Bfh01, Bc
 use Rattle.bsp_hot_records.specs.Records.{fields_fit}
 use Rattle.bsp_explain.specs.declared.field.Field.{Field}
 use Rattle.bsp_explain.specs.Fields.{all_fit, first_unfit, IsAtFault}
-use Rattle.bsp_explain.specs.HotFields.{hot_fields}
-use Rattle.bsp_explain.proofs.HotLemmas.{hot_is}
-use Rattle.bsp_explain.proofs.hot_fields.hot_field.Goals as goal
+use Rattle.bsp_hot_explain.specs.HotFields.{hot_fields}
+use Rattle.bsp_hot_explain.proofs.HotLemmas.{hot_is}
+use Rattle.bsp_hot_explain.proofs.hot_fields.hot_field.Goals as goal
 
 first_at : (form : FileForm) (name n : RecordName) (line : List ℕ) (r : Option Field) → name ≡ n → r ≡ first_unfit line (hot_fields form n line) → r ≡ first_unfit line (hot_fields form name line)
 first_at form name n line r is h = rw is h

@@ -2,9 +2,10 @@ use Rattle.std.proofs.Common.{◌≡◌, ◌-◌, drop, refl, sym, ap, subst, �
 use Rattle.bsp_records.specs.Lines.{lines}
 use Rattle.bsp_records.proofs.RestLemmas.{lines_empty}
 use Rattle.bsp_hot_records.specs.declared.form.FileForm.{FileForm}
-use Rattle.bsp_explain.specs.HotReasons.{SaysOfHot, file_form, record_name}
-use Rattle.bsp_explain.proofs.FaultLemmas.{not_empty, said_of_hot, same_line}
-use Rattle.bsp_explain.proofs.explanation.explain_hot.Goals as goal
+use Rattle.bsp_hot_explain.specs.HotReasons.{SaysOfHot, file_form, record_name}
+use Rattle.bsp_explain.proofs.FaultLemmas.{not_empty, same_line}
+use Rattle.bsp_hot_explain.proofs.HotRows.{said_of_hot}
+use Rattle.bsp_hot_explain.proofs.explanation.explain_hot.Goals as goal
 
 pub returns-then-is_empty : goal.returns-then-is_empty
 returns-then-is_empty c =

@@ -1,6 +1,6 @@
 use Rattle.std.proofs.Common.{◌≡◌, Bool, true, false, ◌&&◌, refl, sym, ◌∙◌, not}
 use Rattle.std.proofs.lemmas.Bool.{false≢true}
-use Rattle.bsp_explain.proofs.hot_reasons.named_reason.Goals as goal
+use Rattle.bsp_hot_explain.proofs.hot_reasons.named_reason.Goals as goal
 
 other : (b r : Bool) → r ≡ not b → r ≡ true → b ≡ false
 other true r is test = absurd (false≢true (sym is ∙ test))

@@ -8,9 +8,16 @@ use Rattle.bsp_hot_records.specs.Records.{name_of}
 use Rattle.bsp_hot_records.specs.Reading.{record_at}
 use Rattle.bsp_explain.specs.declared.reason.Reason.{Reason}
 use Rattle.bsp_explain.specs.declared.reason.Reason.TheVariants as reason
-use Rattle.bsp_explain.specs.HotReasons.{SaysOfNamed, SaysOfHot, named_fits}
-use Rattle.bsp_explain.proofs.HotRows.{narrow_record, other_number, no_name, unfit_record, fit_record}
-use Rattle.bsp_explain.proofs.hot_reasons.hot_reason.Goals as goal
+use Rattle.bsp_explain.specs.Reasons.{SaysOfWidth}
+use Rattle.bsp_hot_explain.specs.HotReasons.{SaysOfNamed, SaysOfHot, named_fits}
+use Rattle.bsp_hot_explain.proofs.HotRows.{narrow_record, other_number, no_name, unfit_record, fit_record}
+use Rattle.bsp_hot_explain.proofs.hot_reasons.hot_reason.Goals as goal
+
+-- what a reason says of a line's width
+says_wide : (form : FileForm) (n : ℕ) (line : List ℕ) (r : Reason) → SaysOfWidth line r → SaysOfHot form n line r
+says_wide form n line (reason.Width width cause) is = is
+says_wide form n line (reason.Character column c cause) is = is
+says_wide form n line _ is = absurd is
 
 -- what the reason for a line with that name says of the line
 says_named : (form : FileForm) (n : ℕ) (line : List ℕ) (name : RecordName) (r : Option Reason) → name_of (columns 12 13 line) ≡ Some name → IfSome r (λ reason. SaysOfNamed form name line reason × (named_fits form name line ≡ false)) → IfSome r (SaysOfHot form n line)
@@ -28,7 +35,7 @@ none_named form n line name None wide number is h = fit_record form n line name 
 none_named form n line name (Some _) wide number is h = tt
 
 pub returns-in-Some-clause-says : goal.returns-in-Some-clause-says
-returns-in-Some-clause-says c = c.in-Some.ensures.says_of_hot c.args.form c.args.number
+returns-in-Some-clause-says c = says_wide c.args.form c.args.number c.args.line.now c.in-Some.reason c.in-Some.ensures.says_of_width
 
 pub returns-in-Some-clause-refused : goal.returns-in-Some-clause-refused
 returns-in-Some-clause-refused c = narrow_record c.args.form c.args.number c.args.line.now c.in-Some.ensures.narrow

@@ -3,11 +3,10 @@
 ghost use Rattle.std.specs.Prelude.{◌≡◌, length, true, false, None, IfSome, IfNone, IsSome};
 ghost use Rattle.bsp_hot_records.specs.Records.{name_of, fields_fit};
 ghost use Rattle.bsp_hot_records.specs.Reading.{record_at};
-ghost use Rattle.bsp_explain.specs.HotReasons.{SaysOfNamed, SaysOfHot, named_fits, record_name};
+ghost use Rattle.bsp_hot_explain.specs.HotReasons.{SaysOfNamed, SaysOfHot, named_fits, record_name};
 
 use crate::hot_fields::hot_field;
-use crate::reason::Reason;
-use crate::width::width_reason;
+use bsp_explain::{Reason, width_reason};
 use bsp_hot_records::{FileForm, RecordName};
 use bsp_records::spells;
 

@@ -1,0 +1,3 @@
+-- Why the bodies meet their contracts.
+pub mod HotLemmas
+pub mod HotRows

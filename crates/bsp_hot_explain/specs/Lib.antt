@@ -1,0 +1,3 @@
+-- What the contracts of explanations of HOT files cite.
+pub mod HotFields
+pub mod HotReasons
