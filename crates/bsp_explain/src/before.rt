@@ -1,11 +1,11 @@
 //! What is counted before a record of a RET file, and the line of the record.
 
 ghost use Rattle.std.specs.Prelude.{◌≡◌, ◌+◌, ◌-◌, ◌≤◌, ◌<◌, ◌^◌, take, drop, unsigned_abs};
-ghost use Rattle.bsp_records.specs.Columns.{identifier};
 ghost use Rattle.bsp_records.specs.Lines.{lines};
 ghost use Rattle.bsp_ret.specs.Table.{paid};
 ghost use Rattle.bsp_explain.specs.Before.{added, counted};
 
+use crate::place::{Place, identifier};
 use bsp_fields::read_amount;
 use bsp_records::first_line;
 
@@ -16,13 +16,8 @@ pub struct Before {
     pub transactions: usize,
     /// The sum of all forms of payment, in minor units.
     pub sum: i128,
-}
-
-/// The first character of a line, 0 where it has none.
-fn identifier(line: &[u8]) -> u8
-    ensures { result ≡ identifier line.now }
-{
-    if line.is_empty() { 0 } else { line[0] }
+    /// What the records decide of the next one.
+    pub place: Place,
 }
 
 /// What a record adds to the sum of the forms of payment, in minor units.
@@ -50,13 +45,15 @@ impl Before {
         ensures small { unsigned_abs result.sum ≤ unsigned_abs self.sum + 10 ^ 11 }
     {
         let sum = self.sum + paid(line) as i128;
+        let place = self.place.after(line);
         if identifier(line) == b'2' {
             Before {
                 transactions: self.transactions + 1,
                 sum,
+                place,
             }
         } else {
-            Before { sum, ..self }
+            Before { sum, place, ..self }
         }
     }
 }
@@ -70,6 +67,7 @@ pub fn text_after(text: &[u8], skipped: usize) -> (Before, &[u8])
     let mut before = Before {
         transactions: 0,
         sum: 0,
+        place: Place::START,
     };
     let mut rest = text;
     let mut at = 0;
