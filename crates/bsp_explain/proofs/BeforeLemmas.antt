@@ -2,7 +2,6 @@
 use Rattle.std.proofs.Common.{◌≡◌, ℕ, pos, suc, ◌+◌, ◌-◌, ◌<◌, ◌≤◌, ◌⊎◌, Bool, true, false, List, [], ◌∷◌, length, take, drop, refl, ap, ◌∙◌, inl, inr, arith, cond, count_by, zero-add, length-drop}
 use Rattle.std.specs.Prelude.{◌+ℤ◌, ◌==◌, filter, if◌then◌else◌}
 use Rattle.std.proofs.lemmas.Bool.{cases_Bool}
-
 use Rattle.std.proofs.Math.IntN.{+ℤ_assoc, +ℤ_idr, +ℤ_idl}
 use Rattle.std.proofs.Math.Seq.{take-nil, drop-nil}
 use Rattle.std.proofs.lemmas.List.{length-take}
@@ -11,8 +10,8 @@ use Rattle.bsp_ret_records.specs.Records.{payment_amount, form_amount}
 use Rattle.bsp_ret.specs.Table.{is_sale, paid, total_paid}
 use Rattle.bsp_explain.specs.declared.before.Before.{Before}
 use Rattle.bsp_explain.specs.Before.{counted, added}
-use Rattle.bsp_explain.specs.declared.place.Place.{Place}
-use Rattle.bsp_explain.specs.Place.{code_in, is_one, of_last, place_after, placed, profile_in, start}
+use Rattle.bsp_fault_texts.specs.declared.place.Place.{Place}
+use Rattle.bsp_fault_texts.specs.Place.{code_in, is_one, of_last, place_after, placed, profile_in, start}
 
 -- a line that ends before column 20 pays nothing
 narrow : (text : List ℕ) → length text < 11 → (length text == 11) ≡ false

@@ -3,7 +3,7 @@ use Rattle.std.specs.Prelude.{◌≡◌, ℕ, ◌+◌, ◌+ℤ◌, List, ◌∷�
 use Rattle.std.specs.List.{count_by}
 use Rattle.bsp_ret.specs.Table.{is_sale, paid, total_paid}
 use Rattle.bsp_explain.specs.declared.before.Before.{Before}
-use Rattle.bsp_explain.specs.Place.{place_after, placed, start}
+use Rattle.bsp_fault_texts.specs.Place.{place_after, placed, start}
 
 -- the transactions, the sum of the forms of payment, and the place after the lines
 abbrev pub counted : List (List ℕ) → Before

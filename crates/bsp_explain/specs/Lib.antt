@@ -3,6 +3,5 @@ pub mod Fields
 pub mod TaxFields
 pub mod RetFields
 pub mod Reasons
-pub mod Place
 pub mod Before
 pub mod RetReasons

@@ -1,10 +1,10 @@
 -- What a reason says of a record of a RET file.
-use Rattle.std.specs.Prelude.{◌≡◌, ◌≢◌, ℕ, ◌+◌, ◌==◌, ◌&&◌, ◌||◌, Bool, true, false, not, List, [], Ok, Some, if◌then◌else◌}
+use Rattle.std.specs.Prelude.{◌≡◌, ◌≢◌, ℕ, ◌+◌, ◌==◌, ◌&&◌, ◌||◌, Bool, true, false, not, List, [], length, Ok, Some, if◌then◌else◌}
 use Rattle.bsp_fields.specs.Decimal.{number_of}
 use Rattle.bsp_fields.specs.Zoned.{zoned_reading}
 use Rattle.bsp_records.specs.Columns.{identifier, is_wide}
 use Rattle.bsp_records.specs.Fields.{spells}
-use Rattle.bsp_ret_records.specs.Records.{transaction_number, record_count, transaction_count, total, sale_fits, related_fits, amounts_fit, form_fits, trailer_fits}
+use Rattle.bsp_ret_records.specs.Records.{transaction_number, record_count, transaction_count, total, sale_fits, related_fits, amounts_fit, form_of, form_fits, trailer_fits}
 use Rattle.bsp_ret.specs.declared.model.FaultCode.{FaultCode}
 use Rattle.bsp_ret.specs.declared.model.FaultCode.TheVariants.{F01, F02, F03, F04, F05, F06, F07, F08, F09, F10}
 use Rattle.bsp_ret.specs.declared.model.Standing.{Standing}
@@ -60,16 +60,19 @@ Says n before line (reason.Unfit f) = IsAtFault line f × (first_unfit line (rec
 Says n before line (reason.Identifier c) = (identifier line ≡ c) × (has_number line ≡ false) × (c ≢ 90)
 Says n before line (reason.TransactionNumber wanted) =
     (wanted ≡ wanted_number line before.transactions) × (has_next_number before.transactions line ≡ false)
-Says n before line (reason.Place c) =
-    (identifier line ≡ c) × (has_next_number before.transactions line ≡ true) × (c ≢ 56)
+Says n before line (reason.Place c place) =
+    (identifier line ≡ c) × (has_next_number before.transactions line ≡ true) × (c ≢ 56) × (place ≡ before.place)
 Says n before line reason.RelatedOrder = (identifier line ≡ 51) × (related_fits line ≡ true)
-Says n before line reason.Payment = (identifier line ≡ 56) × (has_next_number before.transactions line ≡ true)
+Says n before line (reason.Payment form place) =
+    (identifier line ≡ 56) × (has_next_number before.transactions line ≡ true) × (form ≡ form_of line) × (place ≡ before.place)
 Says n before line (reason.RecordCount stated counted) =
     (stated ≡ number_of (record_count line)) × (counted ≡ n) × (stated ≢ counted)
 Says n before line (reason.TransactionCount stated counted) =
     (stated ≡ number_of (transaction_count line)) × (counted ≡ before.transactions) × (stated ≢ counted)
 Says n before line (reason.Sum stated summed) =
     (zoned_reading 15 (total line) ≡ Ok stated.units) × (summed.units ≡ before.sum) × (stated.units ≢ summed.units)
+Says n before line (reason.NoTrailer records counted) = (records ≡ n) × (counted ≡ before)
+Says n before line (reason.AfterTrailer width) = width ≡ length line
 Says n before line _ = Unit {0}
 
 -- the reason is one of that row of the fault table
@@ -79,16 +82,16 @@ is_reason_of F01 (reason.Character column c cause) = true
 is_reason_of F02 (reason.Unfit f) = true
 is_reason_of F03 (reason.Identifier c) = true
 is_reason_of F03 (reason.TransactionNumber wanted) = true
-is_reason_of F03 (reason.Place c) = true
-is_reason_of F03 reason.Payment = true
+is_reason_of F03 (reason.Place c place) = true
+is_reason_of F03 (reason.Payment form place) = true
 is_reason_of F04 (reason.Unfit f) = true
 is_reason_of F05 (reason.Unfit f) = true
 is_reason_of F05 reason.RelatedOrder = true
 is_reason_of F06 (reason.RecordCount stated counted) = true
 is_reason_of F06 (reason.TransactionCount stated counted) = true
 is_reason_of F07 (reason.Sum stated summed) = true
-is_reason_of F08 reason.NoTrailer = true
-is_reason_of F09 reason.AfterTrailer = true
+is_reason_of F08 (reason.NoTrailer records counted) = true
+is_reason_of F09 (reason.AfterTrailer width) = true
 is_reason_of F10 reason.NoMemory = true
 is_reason_of _ _ = false
 

@@ -5,7 +5,7 @@ ghost use Rattle.bsp_records.specs.Lines.{lines};
 ghost use Rattle.bsp_ret.specs.Table.{paid};
 ghost use Rattle.bsp_explain.specs.Before.{added, counted};
 
-use crate::place::{Place, identifier};
+use bsp_fault_texts::{Place, identifier};
 use bsp_fields::read_amount;
 use bsp_records::first_line;
 

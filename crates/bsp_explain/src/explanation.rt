@@ -7,8 +7,12 @@ ghost use Rattle.bsp_explain.specs.Before.{counted, IsLine};
 ghost use Rattle.bsp_explain.specs.RetReasons.{Says, is_reason_of, is_without};
 
 use crate::before::{Before, text_after};
+use crate::field::Field;
+use crate::form::Form;
+use crate::name::Name;
 use crate::reason::Reason;
 use crate::ret_reasons::ret_reason;
+use bsp_fault_texts::Characters;
 use bsp_hot_records::RecordName;
 use bsp_records::first_line;
 use bsp_ret::RetFault;
@@ -25,6 +29,14 @@ pub struct Explanation {
     pub name: Option<RecordName>,
     /// What is wrong with it.
     pub reason: Reason,
+    /// What the record has in the columns at fault, where that is shown.
+    pub found: Option<Characters>,
+}
+
+/// What a line has in the columns at fault.
+fn found_in(line: &[u8], reason: Reason) -> Option<Characters> {
+    let (first, last) = reason.columns()?;
+    Characters::between(line, first, last)
 }
 
 /// What is wrong with a line of a RET file, or that it has no such fault.
@@ -49,13 +61,16 @@ fn first_or_empty(text: &[u8]) -> &[u8]
     first_line(text).0
 }
 
-/// What is wrong with the line of a text whose number a fault has.
-fn text_reason(text: &[u8], fault: RetFault) -> Reason
-    ensures says { (line : List ℕ) → IsLine (fault.at - 1) (lines text.now) line → Says fault.at (counted (take (fault.at - 1) (lines text.now))) line result }
-    ensures explained { first_fault (lines text.now) ≡ Some fault → is_reason_of fault.code result ≡ true }
+/// What is wrong with the line of a text whose number a fault has, and what the line has there.
+fn text_reason(text: &[u8], fault: RetFault) -> (Reason, Option<Characters>)
+    ensures says { (line : List ℕ) → IsLine (fault.at - 1) (lines text.now) line → Says fault.at (counted (take (fault.at - 1) (lines text.now))) line result.0 }
+    ensures trailer { (records : ℕ) (before : Before) → result.0 ≡ Reason.NoTrailer records before → (records ≡ fault.at) × (before ≡ counted (take (fault.at - 1) (lines text.now))) }
+    ensures explained { first_fault (lines text.now) ≡ Some fault → is_reason_of fault.code result.0 ≡ true }
 {
     let (before, rest) = text_after(text, fault.at.saturating_sub(1));
-    line_reason(fault, first_or_empty(rest), before)
+    let line = first_or_empty(rest);
+    let reason = line_reason(fault, line, before);
+    (reason, found_in(line, reason))
 }
 
 /// Explains the first fault of the text of a RET file.
@@ -64,14 +79,17 @@ pub fn explain_ret(text: &[u8], fault: RetFault) -> Explanation
     ensures name { result.name ≡ None }
     // The reason is true of the line, after what is counted before it.
     ensures says { (line : List ℕ) → IsLine (fault.at - 1) (lines text.now) line → Says fault.at (counted (take (fault.at - 1) (lines text.now))) line result.reason }
+    // A trailer that is missing has to state what is counted in the lines.
+    ensures trailer { (records : ℕ) (before : Before) → result.reason ≡ Reason.NoTrailer records before → (records ≡ fault.at) × (before ≡ counted (take (fault.at - 1) (lines text.now))) }
     // The fault that the reader answers for the text has a reason of its row.
     ensures explained { first_fault (lines text.now) ≡ Some fault → is_reason_of fault.code result.reason ≡ true }
 {
-    let reason = text_reason(text, fault);
+    let (reason, found) = text_reason(text, fault);
     Explanation {
         record: fault.at,
         name: None,
         reason,
+        found,
     }
 }
 
@@ -100,11 +118,67 @@ fn write_columns<W: fmt::Write>(
     }
 }
 
+/// Writes a field that is not in its form, with its characters.
+fn write_field<W: fmt::Write>(
+    f: &mut fmt::Formatter<W>,
+    field: Field,
+    found: Characters,
+) -> fmt::Result {
+    let name = field.name;
+    let width = field.last.saturating_sub(field.first).saturating_add(1);
+    match (field.form, name) {
+        (Form::Digits, _) if width == 1 => write!(f, "{name} {found} is not a digit"),
+        (Form::Digits, _) => write!(f, "{name} {found} is not {width} digits"),
+        (Form::Letters, _) => write!(f, "{name} {found} is not {width} capital letters"),
+        (Form::LettersOrDigits, Name::CardVendor) => write!(
+            f,
+            "{name} {found} is not 2 digits or capital letters, as `VI`: with CC comes the card"
+        ),
+        (Form::LettersOrDigits, _) => write!(
+            f,
+            "{name} {found} is not {width} digits or capital letters"
+        ),
+        (Form::HeaderMark, _) if found.has_any(b"B") => write!(
+            f,
+            "{name} {found} is not `1`: a HOT file begins so, and `hotcheck` reads it"
+        ),
+        (Form::Spaces, Name::CardVendor) => write!(
+            f,
+            "{name} {found} is not spaces: only a record 8 with CC has a card"
+        ),
+        (Form::Spaces, _) => write!(
+            f,
+            "only spaces may be here, and column {} begins {found}",
+            found.first
+        ),
+        (form, _) => write!(f, "{name} {found} {form}"),
+    }
+}
+
+impl Explanation {
+    /// Writes what is wrong with the record, with the characters that show it.
+    fn write_reason<W: fmt::Write>(&self, f: &mut fmt::Formatter<W>) -> fmt::Result {
+        match (self.reason, self.found) {
+            (Reason::Unfit(field), Some(found)) => write_field(f, field, found),
+            (Reason::TransactionNumber(next), Some(found)) => write!(
+                f,
+                "the transaction number {found} is not {next:06}: a record 2 has the next number, and records 3, 5 and 8 have that of their record 2"
+            ),
+            (Reason::RelatedOrder, Some(found)) => write!(
+                f,
+                "the related document {found} is not above that of the record 3 before it, by airline and number: exchange the two, or take out the second"
+            ),
+            (reason, _) => write!(f, "{reason}"),
+        }
+    }
+}
+
 impl fmt::Display for Explanation {
     fn fmt<W: fmt::Write>(&self, f: &mut fmt::Formatter<W>) -> fmt::Result {
         write!(f, "record {}", self.record)?;
         write_name(f, self.name)?;
         write_columns(f, self.reason.columns())?;
-        write!(f, ": {}", self.reason)
+        f.write_str(": ")?;
+        self.write_reason(f)
     }
 }

@@ -107,7 +107,7 @@ impl Form {
     /// What is wrong with a field that is not in the form, without the number that it is up to.
     fn text(self) -> &'static str {
         match self {
-            Form::HeaderMark => "is not `1`",
+            Form::HeaderMark => "is not `1`: a file begins with its header",
             Form::Profile => "is neither `001` nor `002`",
             Form::Production => "is not `PROD`",
             Form::ProductionProfile => "is not `PROD001` or `PROD002`",
@@ -116,15 +116,20 @@ impl Form {
                 "has a character that is neither a digit nor a letter from A to Z",
             Form::Digits => "has a character that is not a digit",
             Form::AtMost(_) => "is not a number in digits up to",
-            Form::Day => "is not a day YYMMDD of the years 2000 to 2099",
-            Form::Amount => "is not a signed zoned decimal",
-            Form::Total => "is not a signed zoned decimal",
-            Form::TransactionCode => "is not TKTT, RFND or CANX",
+            Form::Day =>
+                "is not a day YYMMDD of the years 2000 to 2099: 5 January 2024 is `240105`",
+            Form::Amount =>
+                "is not ten digits and a last character with digit and sign: 200.00 is `0000002000{`, and -200.00 is `0000002000}`",
+            Form::Total =>
+                "is not 14 digits and a last character with digit and sign: 200.00 is `00000000002000{`, and -200.00 is `00000000002000}`",
+            Form::TransactionCode => "is not TKTT (sale), RFND (refund) or CANX (cancellation)",
             Form::DocumentCode => "is not TKTT, RFND, CANX, ADMA or ACMA",
-            Form::FormOfPayment => "is not CA, CC or EX",
-            Form::Above(_) => "has a code that is not above the one before it",
+            Form::FormOfPayment => "is not CA (cash), CC (card) or EX (exchange)",
+            Form::Above(_) =>
+                "has a code that does not come after the one before it: codes rise, and each comes once",
             Form::Spaces => "has a character that is not a space",
-            Form::Unused => "is used after an unused one",
+            Form::Unused =>
+                "is used after an unused one: used places come first, and an unused one is 13 spaces",
         }
     }
 }
@@ -133,6 +138,7 @@ impl fmt::Display for Form {
     fn fmt<W: fmt::Write>(&self, f: &mut fmt::Formatter<W>) -> fmt::Result {
         f.write_str(self.text())?;
         match self {
+            Form::AtMost(10_000) => f.write_str(" 10000: 5.00 percent is `00500`"),
             Form::AtMost(most) => write!(f, " {most}"),
             _ => Ok(()),
         }

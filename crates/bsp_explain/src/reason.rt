@@ -3,31 +3,13 @@
 ghost use Rattle.std.specs.Prelude.{◌≡◌};
 ghost use Rattle.bsp_explain.specs.Reasons.{columns_of};
 
+use crate::before::Before;
 use crate::field::Field;
-use crate::money::Money;
+use bsp_fault_texts::{
+    Cause, Money, Place, ZonedTotal, write_end, write_payment, write_place, write_width,
+};
+use bsp_ret_records::FormOfPayment;
 use std::fmt;
-
-/// Why a line may have another width, or another character, than it shows. It is for people.
-#[derive(Clone, Copy)]
-pub enum Cause {
-    /// Nothing is known of it.
-    Unknown,
-    /// The text begins with the byte order mark of UTF-8, which an editor wrote.
-    Mark,
-    /// It has a character of UTF-8 that is two bytes or more.
-    Wide,
-}
-
-impl Cause {
-    fn text(self) -> &'static str {
-        match self {
-            Cause::Unknown => "",
-            Cause::Mark => ": it begins with a byte order mark, so save it as plain text",
-            Cause::Wide =>
-                ": it has a letter with an accent, or another character of two bytes or more",
-        }
-    }
-}
 
 /// What is wrong with a record. It is displayed without its columns, by the text beside it here.
 #[derive(Clone, Copy)]
@@ -53,12 +35,22 @@ pub enum Reason {
     Identifier(char),
     /// The transaction number is not this one, which comes next.
     TransactionNumber(usize),
-    /// The record with this identifier may not follow those before it.
-    Place(char),
+    /// The record may not follow those before it.
+    Place {
+        /// Its identifier.
+        identifier: char,
+        /// What the records before it leave.
+        place: Place,
+    },
     /// The second of two records 3 does not come behind the first, by its airline and its document.
     RelatedOrder,
     /// The record 8, or its form of payment, may not follow those before it.
-    Payment,
+    Payment {
+        /// Its form of payment.
+        form: Option<FormOfPayment>,
+        /// What the records before it leave.
+        place: Place,
+    },
     /// A trailer states another number of records, header and trailer included.
     RecordCount {
         /// What the trailer states.
@@ -80,8 +72,16 @@ pub enum Reason {
         /// What the amounts add up to.
         summed: Money,
     },
-    NoTrailer,
-    AfterTrailer,
+    NoTrailer {
+        /// How many records there are with the trailer.
+        records: usize,
+        /// What the trailer has to state.
+        before: Before,
+    },
+    AfterTrailer {
+        /// How many characters it has.
+        width: usize,
+    },
     NoMemory,
     /// The sequence number of a HOT record is not this one.
     SequenceNumber(usize),
@@ -103,10 +103,10 @@ impl Reason {
         match self {
             Reason::Character { column, .. } => Some((column, column)),
             Reason::Unfit(field) => Some((field.first, field.last)),
-            Reason::Identifier(_) | Reason::Place(_) => Some((1, 1)),
+            Reason::Identifier(_) | Reason::Place { .. } => Some((1, 1)),
             Reason::TransactionNumber(_) => Some((2, 7)),
             Reason::RelatedOrder => Some((8, 20)),
-            Reason::Payment => Some((1, 9)),
+            Reason::Payment { .. } => Some((1, 9)),
             Reason::RecordCount { .. } => Some((2, 8)),
             Reason::TransactionCount { .. } => Some((9, 15)),
             Reason::Sum { .. } => Some((16, 30)),
@@ -121,9 +121,8 @@ impl Reason {
     fn text(self) -> &'static str {
         match self {
             Reason::RelatedOrder => "the related document does not come after the one before it",
-            Reason::Payment => "a record `8`, or this form of payment, is not allowed here",
-            Reason::NoTrailer => "the file ends without a trailer",
-            Reason::AfterTrailer => "a line follows the trailer",
+            Reason::AfterTrailer { .. } =>
+                "a line follows the trailer: a file has one header and one trailer",
             Reason::NoMemory => "out of memory",
             Reason::NameDigits => "no record has these digits in its name",
             Reason::NameLetters => "the letters are not those of the name with these digits",
@@ -136,14 +135,34 @@ impl Reason {
     }
 }
 
+/// Writes that a count or the sum of a trailer differs.
+fn write_trailer<W: fmt::Write>(f: &mut fmt::Formatter<W>, reason: Reason) -> fmt::Result {
+    match reason {
+        Reason::RecordCount { stated, counted } => write!(
+            f,
+            "the number of records, header and trailer included, is {counted} and not {stated}: write `{counted:07}`"
+        ),
+        Reason::TransactionCount { stated, counted } => write!(
+            f,
+            "the number of transactions is {counted} and not {stated}: write `{counted:07}`"
+        ),
+        Reason::Sum { stated, summed } => {
+            let total = ZonedTotal {
+                units: summed.units,
+            };
+            write!(
+                f,
+                "the sum of all records 8, EX included and refunds below zero, is {summed} and not {stated}: write `{total}`"
+            )
+        }
+        _ => Ok(()),
+    }
+}
+
 impl fmt::Display for Reason {
     fn fmt<W: fmt::Write>(&self, f: &mut fmt::Formatter<W>) -> fmt::Result {
         match *self {
-            Reason::Width { width, cause } => write!(
-                f,
-                "it has {width} characters, and not 136{}",
-                cause.text()
-            ),
+            Reason::Width { width, cause } => write_width(f, width, cause),
             Reason::Character {
                 character,
                 cause,
@@ -154,24 +173,31 @@ impl fmt::Display for Reason {
                 cause.text()
             ),
             Reason::Unfit(field) => field.fmt(f),
+            Reason::Identifier('1') => f.write_str(
+                "a second header: a file has one header and one trailer",
+            ),
             Reason::Identifier(first) => write!(
                 f,
-                "no record after the header begins with `{first}`"
+                "no record after the header begins with `{first}`: they begin with `2`, `3`, `5`, `8` or `Z`"
             ),
-            Reason::TransactionNumber(next) => write!(f, "the transaction number is not {next:06}"),
-            Reason::Place(first) => write!(f, "a record `{first}` is not allowed here"),
-            Reason::RecordCount { stated, counted } => write!(
+            Reason::TransactionNumber(next) => write!(
                 f,
-                "the trailer states {stated} records, and there are {counted}"
+                "the transaction number is not {next:06}: a record 2 has the next number, and records 3, 5 and 8 have that of their record 2"
             ),
-            Reason::TransactionCount { stated, counted } => write!(
+            Reason::Place { identifier, place } => write_place(f, identifier, place),
+            Reason::Payment { form, place } => write_payment(f, form, place),
+            Reason::NoTrailer { records, before } => write_end(
                 f,
-                "the trailer states {stated} transactions, and there are {counted}"
+                before.place,
+                records,
+                before.transactions,
+                before.sum,
             ),
-            Reason::Sum { stated, summed } => write!(
-                f,
-                "the trailer states the sum {stated}, and it is {summed}"
+            Reason::AfterTrailer { width: 0 } => f.write_str(
+                "an empty line follows the trailer: remove it",
             ),
+            Reason::RecordCount { .. } | Reason::TransactionCount { .. } | Reason::Sum { .. } =>
+                write_trailer(f, *self),
             Reason::SequenceNumber(next) => write!(f, "the sequence number is not {next:08}"),
             _ => f.write_str(self.text()),
         }

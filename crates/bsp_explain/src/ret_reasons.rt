@@ -11,16 +11,17 @@ ghost use Rattle.bsp_explain.specs.RetReasons.{record_fits, record_fields, wante
 
 use crate::before::Before;
 use crate::field::Field;
-use crate::money::Money;
 use crate::reason::Reason;
 use crate::ret_fields::{
     amounts_field, header_field, payment_field, related_field, sale_field, trailer_field,
 };
 use crate::width::width_reason;
+use bsp_fault_texts::Money;
 use bsp_records::{number_of, spells};
 use bsp_ret::{FaultCode, RetFault};
 use bsp_ret_records::{
-    record_count, told_records, told_sum, trailer_fits, transaction_count, transaction_number,
+    form_of, record_count, told_records, told_sum, trailer_fits, transaction_count,
+    transaction_number,
 };
 
 /// The first field of a record that is not in its form: of a header, or of another record by its
@@ -86,8 +87,14 @@ fn place_reason(line: &[u8], before: Before) -> Reason
         return Reason::TransactionNumber(wanted_number(line, before.transactions));
     }
     match line[0] {
-        b'8' => Reason::Payment,
-        b'2' | b'3' | b'5' | b'Z' => Reason::Place(line[0] as char),
+        b'8' => Reason::Payment {
+            form: form_of(line),
+            place: before.place,
+        },
+        b'2' | b'3' | b'5' | b'Z' => Reason::Place {
+            identifier: line[0] as char,
+            place: before.place,
+        },
         _ => Reason::Identifier(line[0] as char),
     }
 }
@@ -253,8 +260,11 @@ pub fn ret_reason(fault: RetFault, line: &[u8], before: Before) -> Option<Reason
         FaultCode::F05 => form,
         FaultCode::F06 => count,
         FaultCode::F07 => sum,
-        FaultCode::F08 => Some(Reason::NoTrailer),
-        FaultCode::F09 => Some(Reason::AfterTrailer),
+        FaultCode::F08 => Some(Reason::NoTrailer {
+            records: fault.at,
+            before,
+        }),
+        FaultCode::F09 => Some(Reason::AfterTrailer { width: line.len() }),
         FaultCode::F10 => Some(Reason::NoMemory),
     }
 }

@@ -8,7 +8,8 @@ ghost use Rattle.bsp_explain.specs.Reasons.{SaysOfWidth};
 ghost use Rattle.bsp_explain.specs.RetReasons.{Says, is_reason_of};
 ghost use Rattle.bsp_ret.specs.declared.model.FaultCode.TheVariants.{F01};
 
-use crate::reason::{Cause, Reason};
+use crate::reason::Reason;
+use bsp_fault_texts::{Cause, cause_of};
 
 /// Whether a character lies from 0x20 to 0x7E.
 fn is_printable(character: u8) -> bool
@@ -30,23 +31,6 @@ fn unprintable(line: &[u8]) -> Option<(u8, u8)>
         }
     }
     None
-}
-
-/// Whether two bytes begin a character of UTF-8.
-fn begins_wide(pair: &[u8]) -> bool {
-    pair.len() == 2 && pair[0] >= 0xc2 && (0x80..0xc0).contains(&pair[1])
-}
-
-/// Why a line may be no record, as far as its first bytes show it.
-fn cause_of(line: &[u8]) -> Cause {
-    let head = &line[..line.len().min(1024)];
-    if head.starts_with(b"\xef\xbb\xbf") {
-        Cause::Mark
-    } else if head.windows(2).any(|pair| begins_wide(pair)) {
-        Cause::Wide
-    } else {
-        Cause::Unknown
-    }
 }
 
 /// Why a line is no record of 136 characters from 0x20 to 0x7E.

@@ -60,6 +60,7 @@ pub fn explain_hot(text: &[u8], fault: RecordFault) -> Explanation
             record,
             name: None,
             reason: Reason::Missing,
+            found: None,
         };
     }
     let (line, _) = first_line(rest);
@@ -70,5 +71,6 @@ pub fn explain_hot(text: &[u8], fault: RecordFault) -> Explanation
         record,
         name,
         reason,
+        found: None,
     }
 }

@@ -3,7 +3,7 @@
 ghost use Rattle.std.specs.Prelude.{◌≡◌, length};
 ghost use Rattle.bsp_records.specs.Columns.{identifier};
 ghost use Rattle.bsp_ret_records.specs.Records.{code_of};
-ghost use Rattle.bsp_explain.specs.Place.{code_in, form_in, placed, profile_in};
+ghost use Rattle.bsp_fault_texts.specs.Place.{code_in, form_in, placed, profile_in};
 
 use bsp_ret_records::{FormOfPayment, Profile, TransactionCode, form_of, profile_of};
 
@@ -21,7 +21,7 @@ pub struct Place {
 }
 
 /// The first character of a line, 0 where it has none.
-pub(crate) fn identifier(line: &[u8]) -> u8
+pub fn identifier(line: &[u8]) -> u8
     ensures { result ≡ identifier line.now }
 {
     if line.is_empty() { 0 } else { line[0] }
@@ -53,7 +53,7 @@ fn code_in(line: &[u8]) -> Option<TransactionCode>
 }
 
 /// The form of payment in a line of any width.
-pub(crate) fn form_in(line: &[u8]) -> Option<FormOfPayment>
+pub fn form_in(line: &[u8]) -> Option<FormOfPayment>
     ensures { result ≡ form_in line.now }
 {
     if line.len() == 136 {
@@ -76,7 +76,7 @@ fn profile_in(line: &[u8]) -> Option<Profile>
 
 impl Place {
     /// The place of the first record.
-    pub(crate) const START: Place = Place {
+    pub const START: Place = Place {
         last: 0,
         form: None,
         code: None,
@@ -84,7 +84,7 @@ impl Place {
     };
 
     /// The place after one more record.
-    pub(crate) fn after(self, line: &[u8]) -> Place
+    pub fn after(self, line: &[u8]) -> Place
         ensures { result ≡ placed self line.now }
     {
         let last = identifier(line);

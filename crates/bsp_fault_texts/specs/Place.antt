@@ -6,7 +6,7 @@ use Rattle.bsp_ret_records.specs.declared.codes.TransactionCode.{TransactionCode
 use Rattle.bsp_ret_records.specs.declared.codes.FormOfPayment.{FormOfPayment}
 use Rattle.bsp_ret_records.specs.Records.{code_of, form_of, profile_of}
 use Rattle.bsp_ret.specs.Table.{is_sale}
-use Rattle.bsp_explain.specs.declared.place.Place.{Place}
+use Rattle.bsp_fault_texts.specs.declared.place.Place.{Place}
 
 -- the code, the form of payment and the profile in a line of any width
 abbrev pub code_in : List ℕ → Option TransactionCode

@@ -1,0 +1,2 @@
+-- What the contracts of texts of faults cite.
+pub mod Place
