@@ -86,7 +86,7 @@ CONNECTIONS = {
     " --connections 1": 1,
 }
 INPUTS = {"check": "v1.ret", "hotcheck": "v3.hot"}
-CUT = {"check": "record 2: the file ends without a trailer", "hotcheck": "record 2: the file ends before this record"}
+CUT = {"check": "record 2: the file ends without a trailer: write `Z0000002000000000000000000000{`", "hotcheck": "record 2: the file ends before this record"}
 REPORTS = {"check": SALE, "hotcheck": NO_DOCUMENTS}
 
 

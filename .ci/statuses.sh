@@ -122,14 +122,14 @@ reports check v1.ret 0 "$report"
 reports check exchange-of-two.ret 0 "$exchange"
 reports check v0.ret 0 "$nothing"
 reports check v0-without-its-last-line-end 0 "$nothing"
-reports check v0-without-its-last-character 1 'F01 record 2' 'record 2: it has 135 characters, and not 136'
-reports check v0-without-its-trailer 1 'F08 record 2' 'record 2: the file ends without a trailer'
-reports check v1-cut-in-record-2 1 'F01 record 2' 'record 2: it has 135 characters, and not 136'
-reports check v1-cut-behind-record-1 1 'F08 record 2' 'record 2: the file ends without a trailer'
+reports check v0-without-its-last-character 1 'F01 record 2' 'record 2: it has 135 characters, 1 too few: a field is too short, or spaces at its end are missing'
+reports check v0-without-its-trailer 1 'F08 record 2' 'record 2: the file ends without a trailer: write `Z0000002000000000000000000000{`'
+reports check v1-cut-in-record-2 1 'F01 record 2' 'record 2: it has 135 characters, 1 too few: a field is too short, or spaces at its end are missing'
+reports check v1-cut-behind-record-1 1 'F08 record 2' 'record 2: the file ends without a trailer: write `Z0000002000000000000000000000{`'
 reports check refund-with-cr-lf 0 "$refund"
-reports check empty 1 'F08 record 1' 'record 1: the file ends without a trailer'
-reports check binary 1 'F01 record 1' 'record 1: it has 2 characters, and not 136'
-expect 1 'F01 record 1' 'standard input: record 1: it has 1073741824 characters, and not 136' \
+reports check empty 1 'F08 record 1' 'record 1: the file ends here: it is empty, and the smallest file has a header and a trailer'
+reports check binary 1 'F01 record 1' 'record 1: it has 2 characters, 134 too few: a field is too short, or spaces at its end are missing'
+expect 1 'F01 record 1' 'standard input: record 1: it has 1073741824 characters, 1073741688 too many: a field is too long' \
   check - < <(head -c 1073741824 /dev/zero)
 long='longer than 1,073,741,824 bytes'
 none='No such file or directory (os error 2)'
@@ -161,9 +161,9 @@ reports hotcheck v3-without-its-last-line-end 0 'OK records 4 documents 0 net 0.
 reports hotcheck memo-with-cr-lf 0 'OK records 11 documents 1 net -50.00'
 reports hotcheck short.hot 1 'H04 record 4' 'record 4: the file ends before this record'
 reports hotcheck empty 1 'H04 record 1' 'record 1: the file ends before this record'
-reports hotcheck binary 1 'H04 record 1' 'record 1: it has 2 characters, and not 136'
+reports hotcheck binary 1 'H04 record 1' 'record 1: it has 2 characters, 134 too few: a field is too short, or spaces at its end are missing'
 reports hotcheck v1.ret 1 'H04 record 1' 'record 1, columns 4-11: the sequence number is not 00000001'
-expect 1 'H04 record 1' 'standard input: record 1: it has 1073741824 characters, and not 136' \
+expect 1 'H04 record 1' 'standard input: record 1: it has 1073741824 characters, 1073741688 too many: a field is too long' \
   hotcheck - < <(head -c 1073741824 /dev/zero)
 expect 3 '' "standard input: $long" hotcheck - < <(head -c 1073741825 /dev/zero)
 expect 3 '' "missing: $none" hotcheck missing
@@ -172,31 +172,31 @@ expect 3 '' '/: a read failed' hotcheck /
 expect 3 '' ": $none" hotcheck ''
 
 mistakes check v1.ret <<'END'
-1s/^1/2/|F02 record 1|record 1, column 1: the identifier is not `1`
-1s/PROD/TEST/|F04 record 1|record 1, columns 24-27: the production status is not `PROD`
-1s/240105/240230/|F05 record 1|record 1, columns 6-11: the date is not a day YYMMDD of the years 2000 to 2099
-2s/^2/7/|F03 record 2|record 2, column 1: no record after the header begins with `7`
-2s/DOE/D\tE/|F01 record 2|record 2, column 41: the character 0x09 is outside 0x20 to 0x7e
-2s/DOE/D\xc3\xa9/|F01 record 2|record 2, column 41: the character 0xc3 is outside 0x20 to 0x7e: it has a letter with an accent, or another character of two bytes or more
-2s/DOE/D\xc3\xa9E/|F01 record 2|record 2: it has 137 characters, and not 136: it has a letter with an accent, or another character of two bytes or more
-1s/^/\xef\xbb\xbf/|F01 record 1|record 1: it has 139 characters, and not 136: it begins with a byte order mark, so save it as plain text
-3s/^5000001/5000002/|F03 record 3|record 3, columns 2-7: the transaction number is not 000001
-3s/{ \{13\}/{RA0000000010{/|F05 record 3|record 3, columns 32-33: tax place 2 has a code that is not above the one before it
-4s/^8000001CA/8000001EX/|F03 record 4|record 4, columns 1-9: a record `8`, or this form of payment, is not allowed here
-5s/^Z0000005/Z0000006/|F06 record 5|record 5, columns 2-8: the trailer states 6 records, and there are 5
-5s/{/A/|F07 record 5|record 5, columns 16-30: the trailer states the sum 235.01, and it is 235.00
-5d|F08 record 5|record 5: the file ends without a trailer
-5p|F09 record 6|record 6: a line follows the trailer
+1s/^1/2/|F02 record 1|record 1, column 1: the identifier `2` is not `1`: a file begins with its header
+1s/PROD/TEST/|F04 record 1|record 1, columns 24-27: the production status `TEST` is not `PROD`
+1s/240105/240230/|F05 record 1|record 1, columns 6-11: the date `240230` is not a day YYMMDD of the years 2000 to 2099: 5 January 2024 is `240105`
+2s/^2/7/|F03 record 2|record 2, column 1: no record after the header begins with `7`: they begin with `2`, `3`, `5`, `8` or `Z`
+2s/DOE/D\tE/|F01 record 2|record 2, column 41: the character 0x09 is outside 0x20 to 0x7e: it has a tab; write spaces in its place
+2s/DOE/D\xc3\xa9/|F01 record 2|record 2, column 41: the character 0xc3 is outside 0x20 to 0x7e: it has a letter with an accent, or another character of two bytes or more; write letters from A to Z alone
+2s/DOE/D\xc3\xa9E/|F01 record 2|record 2: it has 137 characters, and not 136: it has a letter with an accent, or another character of two bytes or more; write letters from A to Z alone
+1s/^/\xef\xbb\xbf/|F01 record 1|record 1: it has 139 characters, and not 136: it begins with a byte order mark; save it without one
+3s/^5000001/5000002/|F03 record 3|record 3, columns 2-7: the transaction number `000002` is not 000001: records 2 rise by one from 000001, and records 3, 5 and 8 have the number of their record 2
+3s/{ \{13\}/{RA0000000010{/|F05 record 3|record 3, columns 32-33: tax place 2 has `RA` after `RA`: codes rise, and each comes once
+4s/^8000001CA/8000001EX/|F03 record 4|record 4, columns 1-9: a record `8` with EX is not allowed here: a form EX needs a record 3, which names the old ticket, before record 5
+5s/^Z0000005/Z0000006/|F06 record 5|record 5, columns 2-8: the number of records, header and trailer included, is 5 and not 6: write `0000005`
+5s/{/A/|F07 record 5|record 5, columns 16-30: the sum of all records 8, EX included and refunds below zero, is 235.00 and not 235.01: write `00000000002350{`
+5d|F08 record 5|record 5: the file ends without a trailer: write `Z0000005000000100000000002350{`
+5p|F09 record 6|record 6: a line follows the trailer: a file has one header and one trailer
 END
 mistakes check two-related.ret <<'END'
-1s/PROD002/PROD001/|F03 record 4|record 4, column 1: a record `3` is not allowed here
-1s/PROD002/PROD003/|F02 record 1|record 1, columns 28-30: the profile is neither `001` nor `002`
-4s/13000000123/13000000112/|F05 record 4|record 4, columns 8-20: the related document does not come after the one before it
-4s/125/124/|F05 record 4|record 4, columns 8-20: the related document does not come after the one before it
-4s/125/12 /|F05 record 4|record 4, columns 8-10: the airline has a character that is not a digit
-4p|F03 record 5|record 5, column 1: a record `3` is not allowed here
-2s/TKTT/RFND/|F03 record 4|record 4, column 1: a record `3` is not allowed here
-7d|F03 record 7|record 7, column 1: a record `Z` is not allowed here
+1s/PROD002/PROD001/|F03 record 4|record 4, column 1: a record `3` is not allowed here: a second record 3 needs profile 002, in columns 28-30 of the header
+1s/PROD002/PROD003/|F02 record 1|record 1, columns 28-30: the profile `003` is neither `001` nor `002`
+4s/13000000123/13000000112/|F05 record 4|record 4, columns 8-20: the related document `1251300000011` is not above that of the record 3 before it, by airline and number: exchange the two, or take out the second
+4s/125/124/|F05 record 4|record 4, columns 8-20: the related document `1241300000012` is not above that of the record 3 before it, by airline and number: exchange the two, or take out the second
+4s/125/12 /|F05 record 4|record 4, columns 8-10: the airline `12 ` is not 3 digits
+4p|F03 record 5|record 5, column 1: a record `3` is not allowed here: a sale (TKTT) has at most two records 3
+2s/TKTT/RFND/|F03 record 4|record 4, column 1: a record `3` is not allowed here: a refund (RFND) has one record 3
+7d|F03 record 7|record 7, column 1: a record `Z` is not allowed here: the sale before it has a record 3 and no form EX: add the record 8 with EX, or take out record 3
 END
 mistakes hotcheck v3.hot <<'END'
 1s/^BFH/BFT/|H04 record 1|record 1, columns 1-3: the letters are not those of the name with these digits
@@ -248,7 +248,7 @@ expect 3 '' none hotcheck --quiet -- .
 expect 0 'bsp_office 1.0.0' none --version
 expect 2 '' none check $'\377'
 expect 0 "$report" none check -- -x
-expect 1 'F08 record 1' '--quiet: record 1: the file ends without a trailer' check -- --quiet
+expect 1 'F08 record 1' '--quiet: record 1: the file ends here: it is empty, and the smallest file has a header and a trailer' check -- --quiet
 
 required='error: the following required arguments were not provided:'
 expect 2 '' "error: 'bsp_office' requires a subcommand but one was not provided"

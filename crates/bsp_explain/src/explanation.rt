@@ -18,9 +18,8 @@ use bsp_records::first_line;
 use bsp_ret::RetFault;
 use std::fmt;
 
-/// What is wrong with a record of a file. It is displayed as `record 3, columns 32-33: tax place 2
-/// has a code that is not above the one before it`. In a HOT file the record's name follows its
-/// number.
+/// What is wrong with a record of a file. It is displayed as ``record 3, columns 32-33: tax place 2 has
+/// `AB` after `RA` ``. In a HOT file the record's name follows its number.
 #[derive(Clone, Copy)]
 pub struct Explanation {
     /// The number of the record, counted from 1.
@@ -118,8 +117,8 @@ fn write_columns<W: fmt::Write>(
     }
 }
 
-/// Writes a field that is not in its form, with its characters.
-fn write_field<W: fmt::Write>(
+/// Writes a field of letters or digits, or of another form, that is not in it, with its characters.
+fn write_characters<W: fmt::Write>(
     f: &mut fmt::Formatter<W>,
     field: Field,
     found: Characters,
@@ -138,9 +137,33 @@ fn write_field<W: fmt::Write>(
             f,
             "{name} {found} is not {width} digits or capital letters"
         ),
+        (form, _) => write!(f, "{name} {found} {form}"),
+    }
+}
+
+/// Writes a field that is not in its form, with its characters.
+fn write_field<W: fmt::Write>(
+    f: &mut fmt::Formatter<W>,
+    field: Field,
+    found: Characters,
+) -> fmt::Result {
+    let name = field.name;
+    match (field.form, name) {
         (Form::HeaderMark, _) if found.has_any(b"B") => write!(
             f,
             "{name} {found} is not `1`: a HOT file begins so, and `hotcheck` reads it"
+        ),
+        (Form::Above(before), _) => {
+            let (first, second) = ((before / 256) as u8 as char, (before % 256) as u8 as char);
+            write!(
+                f,
+                "{name} has {found} after `{first}{second}`: codes rise, and each comes once"
+            )
+        }
+        (Form::Unused, _) if field.last == 96 => write!(
+            f,
+            "{name} {found} {}, and the rate begins in column 97",
+            field.form
         ),
         (Form::Spaces, Name::CardVendor) => write!(
             f,
@@ -148,10 +171,11 @@ fn write_field<W: fmt::Write>(
         ),
         (Form::Spaces, _) => write!(
             f,
-            "only spaces may be here, and column {} begins {found}",
-            found.first
+            "only spaces may be here, and column {} begins `{}`",
+            found.first,
+            found.trimmed()
         ),
-        (form, _) => write!(f, "{name} {found} {form}"),
+        _ => write_characters(f, field, found),
     }
 }
 
@@ -162,7 +186,7 @@ impl Explanation {
             (Reason::Unfit(field), Some(found)) => write_field(f, field, found),
             (Reason::TransactionNumber(next), Some(found)) => write!(
                 f,
-                "the transaction number {found} is not {next:06}: a record 2 has the next number, and records 3, 5 and 8 have that of their record 2"
+                "the transaction number {found} is not {next:06}: records 2 rise by one from 000001, and records 3, 5 and 8 have the number of their record 2"
             ),
             (Reason::RelatedOrder, Some(found)) => write!(
                 f,

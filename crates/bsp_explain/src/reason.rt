@@ -6,7 +6,7 @@ ghost use Rattle.bsp_explain.specs.Reasons.{columns_of};
 use crate::before::Before;
 use crate::field::Field;
 use bsp_fault_texts::{
-    Cause, Money, Place, ZonedTotal, write_end, write_payment, write_place, write_width,
+    Cause, Money, Place, write_count, write_end, write_payment, write_place, write_sum, write_width,
 };
 use bsp_ret_records::FormOfPayment;
 use std::fmt;
@@ -135,30 +135,6 @@ impl Reason {
     }
 }
 
-/// Writes that a count or the sum of a trailer differs.
-fn write_trailer<W: fmt::Write>(f: &mut fmt::Formatter<W>, reason: Reason) -> fmt::Result {
-    match reason {
-        Reason::RecordCount { stated, counted } => write!(
-            f,
-            "the number of records, header and trailer included, is {counted} and not {stated}: write `{counted:07}`"
-        ),
-        Reason::TransactionCount { stated, counted } => write!(
-            f,
-            "the number of transactions is {counted} and not {stated}: write `{counted:07}`"
-        ),
-        Reason::Sum { stated, summed } => {
-            let total = ZonedTotal {
-                units: summed.units,
-            };
-            write!(
-                f,
-                "the sum of all records 8, EX included and refunds below zero, is {summed} and not {stated}: write `{total}`"
-            )
-        }
-        _ => Ok(()),
-    }
-}
-
 impl fmt::Display for Reason {
     fn fmt<W: fmt::Write>(&self, f: &mut fmt::Formatter<W>) -> fmt::Result {
         match *self {
@@ -180,10 +156,7 @@ impl fmt::Display for Reason {
                 f,
                 "no record after the header begins with `{first}`: they begin with `2`, `3`, `5`, `8` or `Z`"
             ),
-            Reason::TransactionNumber(next) => write!(
-                f,
-                "the transaction number is not {next:06}: a record 2 has the next number, and records 3, 5 and 8 have that of their record 2"
-            ),
+            Reason::TransactionNumber(next) => write!(f, "the transaction number is not {next:06}"),
             Reason::Place { identifier, place } => write_place(f, identifier, place),
             Reason::Payment { form, place } => write_payment(f, form, place),
             Reason::NoTrailer { records, before } => write_end(
@@ -196,8 +169,19 @@ impl fmt::Display for Reason {
             Reason::AfterTrailer { width: 0 } => f.write_str(
                 "an empty line follows the trailer: remove it",
             ),
-            Reason::RecordCount { .. } | Reason::TransactionCount { .. } | Reason::Sum { .. } =>
-                write_trailer(f, *self),
+            Reason::RecordCount { stated, counted } => write_count(
+                f,
+                "records, header and trailer included,",
+                stated,
+                counted,
+            ),
+            Reason::TransactionCount { stated, counted } => write_count(
+                f,
+                "transactions",
+                stated,
+                counted,
+            ),
+            Reason::Sum { stated, summed } => write_sum(f, stated, summed),
             Reason::SequenceNumber(next) => write!(f, "the sequence number is not {next:08}"),
             _ => f.write_str(self.text()),
         }

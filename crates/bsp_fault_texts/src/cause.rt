@@ -28,8 +28,8 @@ impl Cause {
     pub fn text(self) -> &'static str {
         match self {
             Cause::Unknown => "",
-            Cause::Mark => ": it begins with a byte order mark, so save it as plain text",
-            Cause::Utf16 => ": the file is in UTF-16, so save it as plain text (ASCII)",
+            Cause::Mark => ": it begins with a byte order mark; save it without one",
+            Cause::Utf16 => ": the file is in UTF-16; save it as plain text (ASCII)",
             Cause::Wide =>
                 ": it has a letter with an accent, or another character of two bytes or more; write letters from A to Z alone",
             Cause::Accent =>
@@ -47,16 +47,22 @@ fn begins_wide(pair: &[u8]) -> bool {
     pair.len() == 2 && pair[0] >= 0xc2 && (0x80..0xc0).contains(&pair[1])
 }
 
+/// Whether a text begins as UTF-16 does: by its mark, or by two characters of which each has one byte 0.
+fn begins_utf16(head: &[u8]) -> bool {
+    let marked = head.starts_with(b"\xff\xfe") || head.starts_with(b"\xfe\xff");
+    marked || head.len() >= 4 && (head[0] == 0 && head[2] == 0) != (head[1] == 0 && head[3] == 0)
+}
+
 /// Why a text may be no record that is neither in UTF-8 nor in UTF-16.
 fn cause_in(head: &[u8]) -> Cause {
     if head.contains(&b'\t') {
         Cause::Tab
     } else if head.contains(&b'\r') {
         Cause::Return
-    } else if head.len() >= 272 {
-        Cause::Joined
     } else if head.iter().any(|byte| *byte >= 0xa0) {
         Cause::Accent
+    } else if head.len() >= 272 && head.iter().all(|byte| *byte >= b' ') {
+        Cause::Joined
     } else {
         Cause::Unknown
     }
@@ -67,7 +73,7 @@ pub fn cause_of(line: &[u8]) -> Cause {
     let head = &line[..line.len().min(1024)];
     if head.starts_with(b"\xef\xbb\xbf") {
         Cause::Mark
-    } else if head.contains(&0) || head.starts_with(b"\xff\xfe") || head.starts_with(b"\xfe\xff") {
+    } else if begins_utf16(head) {
         Cause::Utf16
     } else if head.windows(2).any(|pair| begins_wide(pair)) {
         Cause::Wide
@@ -76,7 +82,7 @@ pub fn cause_of(line: &[u8]) -> Cause {
     }
 }
 
-/// What people read of a line of that width, where nothing else is known.
+/// What people read of a line of that width, where nothing else is known of it.
 fn width_text(width: usize) -> &'static str {
     if width < 136 {
         "too few: a field is too short, or spaces at its end are missing"
@@ -96,7 +102,11 @@ pub fn write_width<W: fmt::Write>(
     }
     let off = width.abs_diff(136);
     match cause {
-        Cause::Unknown => write!(f, "it has {width} characters, {off} {}", width_text(width)),
+        Cause::Unknown | Cause::Accent => write!(
+            f,
+            "it has {width} characters, {off} {}",
+            width_text(width)
+        ),
         _ => write!(f, "it has {width} characters, and not 136{}", cause.text()),
     }
 }

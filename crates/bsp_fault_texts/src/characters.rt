@@ -48,6 +48,11 @@ impl Characters {
         &self.bytes[..self.count.min(MOST)]
     }
 
+    /// The characters without spaces at their end.
+    pub fn trimmed(&self) -> &str {
+        str::from_utf8(self.text().trim_ascii_end()).unwrap_or_default()
+    }
+
     /// Whether one of the characters is among these.
     pub fn has_any(&self, characters: &[u8]) -> bool {
         self.text()

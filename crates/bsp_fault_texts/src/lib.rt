@@ -7,11 +7,13 @@ mod characters;
 mod money;
 mod order;
 mod place;
+mod trailer;
 mod zoned;
 
 pub use cause::{Cause, cause_of, write_width};
 pub use characters::Characters;
 pub use money::Money;
-pub use order::{write_end, write_payment, write_place};
+pub use order::{write_payment, write_place};
 pub use place::{Place, form_in, identifier};
+pub use trailer::{write_count, write_end, write_sum};
 pub use zoned::ZonedTotal;

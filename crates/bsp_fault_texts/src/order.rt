@@ -1,7 +1,6 @@
 //! What people read of a record that may not follow those before it.
 
 use crate::place::Place;
-use crate::zoned::ZonedTotal;
 use bsp_ret_records::{FormOfPayment, Profile, TransactionCode};
 use std::fmt;
 
@@ -89,7 +88,7 @@ fn place_text(identifier: char, place: Place) -> &'static str {
 }
 
 /// What a file lacks before its trailer, where it ends after the records before a place.
-fn ending_text(place: Place) -> Option<&'static str> {
+pub(crate) fn ending_text(place: Place) -> Option<&'static str> {
     match (place.last, place.code) {
         (0, _) => Some("it is empty, and the smallest file has a header and a trailer"),
         (b'2', Some(TransactionCode::Canx)) => None,
@@ -122,23 +121,4 @@ pub fn write_payment<W: fmt::Write>(
     };
     let text = payment_text(form, place);
     write!(f, "a record `8`{form_text} is not allowed here: {text}")
-}
-
-/// Writes what a file lacks that ends at a place: a record of its last transaction, or else the trailer, which states
-/// these numbers and the sum, in minor units.
-pub fn write_end<W: fmt::Write>(
-    f: &mut fmt::Formatter<W>,
-    place: Place,
-    records: usize,
-    transactions: usize,
-    sum: i128,
-) -> fmt::Result {
-    if let Some(text) = ending_text(place) {
-        return write!(f, "the file ends here: {text}");
-    }
-    let total = ZonedTotal { units: sum };
-    write!(
-        f,
-        "the file ends without a trailer: write `Z{records:07}{transactions:07}{total}`"
-    )
 }
