@@ -15,7 +15,7 @@ pub(crate) const PLANS: [Row; 9] = [
         "P02",
         "400",
         "A key is missing, is unknown, or has a wrong value. Or a rate names an airline that is in neither the plan nor the text",
-        "See its causes",
+        "`bsp_office plan FILE` names the key and the cause, and with `--after PUBLISHED` takes what is published before it. See its causes",
         &[
             "`currency` is always there: three capital letters in quotes, as `\"EUR\"`",
             "`review_days` is always there: a whole number from 1 to 60, without a point and without quotes",
@@ -33,7 +33,7 @@ pub(crate) const PLANS: [Row; 9] = [
         "P03",
         "409",
         "The periods do not follow one another. A first day is not the day after the period before it, or is after the last day. Or the last day is not before the remittance day",
-        "Correct the days. The first period may begin on any day, each later one on the day after the one before",
+        "Correct the days: `bsp_office plan --after PUBLISHED FILE` names them. The first period may begin on any day, each later one on the day after the one before",
         &[],
     ),
     (
@@ -47,7 +47,7 @@ pub(crate) const PLANS: [Row; 9] = [
         "P05",
         "409",
         "A new rate or tax begins on the business day or before. Before a day is set, it is 2000-01-01",
-        "Let it begin on a later day",
+        "Let it begin on a day after the business day: `bsp_office plan --day DAY FILE` names each that does not",
         &[],
     ),
     (
@@ -68,7 +68,7 @@ pub(crate) const PLANS: [Row; 9] = [
         "P08",
         "409",
         "The text differs from what is published: in the currency, the review days, the limit, or an entry with the same key. Or two entries of the text have one key and differ",
-        "Write what is published as it is, and add new entries. A changed rate or tax is a new one from a later day",
+        "Write what is published as it is, and add new entries: `bsp_office plan --after PUBLISHED FILE` names what differs, and `bsp_office plan --of BOOK` prints what is published. A changed rate or tax is a new one from a later day",
         &[],
     ),
     (

@@ -50,7 +50,7 @@ pub(crate) const VERDICTS: [Row; 12] = [
         "E07",
         "",
         "The amounts do not agree with one another, or with the published rate",
-        "See its causes",
+        "`bsp_office judge` says which amounts, and what they have to be. See its causes",
         &[
             "A sale (TKTT): fare and taxes are not the sum of CA, CC and EX. Fare 200.00 and tax 35.00 need forms of 235.00",
             "A sale: the rate in record 5 is above the published rate of the airline on the date of issue. 00500 is 5.00 percent",
@@ -77,8 +77,8 @@ pub(crate) const VERDICTS: [Row; 12] = [
     (
         "E10",
         "",
-        "No open period of the plan takes this date of issue",
-        "Report it again when the next period has begun. Ask the office whether that is published. Correct the date, if it is wrong",
+        "No open period of the plan takes this date of issue: none has begun by the business day, or the date is after the last day of those that have",
+        "Correct the date, if it is wrong. Else report it again on the first day of the next period; ask the office whether that is published",
         &[],
     ),
     (
@@ -92,7 +92,7 @@ pub(crate) const VERDICTS: [Row; 12] = [
         "E12",
         "",
         "The amounts do not agree with the ticket that is refunded or exchanged",
-        "See its causes",
+        "`bsp_office judge --file EARLIER`, with the file that has the ticket, says which amounts, and what they have to be. Or read the ticket with GET `/agents/{agent}/documents/{number}`. See its causes",
         &[
             "A refund (RFND): its fare is more than the ticket's",
             "A refund: a tax is more than the ticket's tax of this code, or the ticket has no tax of this code",
