@@ -106,7 +106,7 @@ fn write_name<W: fmt::Write>(f: &mut fmt::Formatter<W>, name: Option<RecordName>
 }
 
 /// Writes the columns at fault, where it is not the whole record.
-fn write_columns<W: fmt::Write>(
+pub fn write_columns<W: fmt::Write>(
     f: &mut fmt::Formatter<W>,
     columns: Option<(u8, u8)>,
 ) -> fmt::Result {

@@ -15,7 +15,7 @@ mod width;
 
 pub use before::{Before, text_after};
 pub use bsp_fault_texts::{Cause, Characters, Money, Place};
-pub use explanation::{Explanation, explain_ret};
+pub use explanation::{Explanation, explain_ret, write_columns};
 pub use field::{Field, first_unfit};
 pub use form::Form;
 pub use name::Name;

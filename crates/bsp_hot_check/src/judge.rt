@@ -315,7 +315,7 @@ impl Standing {
 
     /// Takes one more line of a record's width, where it is a record that those before allow, and
     /// answers whether it is. After a refusal the state is that of no file.
-    pub(crate) fn take_line(&mut self, line: &[u8]) -> bool
+    pub fn take_line(&mut self, line: &[u8]) -> bool
         requires wide { is_wide line.now ≡ true }
         requires long { length line.now ≡ 136 }
         requires room { self.old.records < 2 ^ 63 }

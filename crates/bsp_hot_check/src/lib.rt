@@ -11,4 +11,6 @@ mod sums;
 
 pub use bsp_hot_records::{DocumentCode, FileForm, RecordName, Sums};
 pub use check::{check_hot, hot_or_fault};
-pub use model::{CodeSums, HotTotals, RecordFault};
+pub use model::{
+    CodeSums, DocumentKey, HotTotals, OfficeSums, Place, Progress, RecordFault, Stage, Standing,
+};

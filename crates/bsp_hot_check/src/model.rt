@@ -26,15 +26,21 @@ pub struct HotTotals {
 /// The last record of a document.
 #[derive(Clone, Copy)]
 pub enum Stage {
+    /// BKS24.
     Document,
+    /// BKS30.
     Amounts,
     /// BKS39 of form 2, whose BKS42 comes next.
     Commission,
     /// The last record of the commission: BKS39 in form 1, BKS42 in form 2.
     Charged,
+    /// BKS45.
     Related,
+    /// BKP84 with the form `CA`.
     Cash,
+    /// BKP84 with the form `CC`.
     Credit,
+    /// BKP84 with the form `EX`.
     Exchange,
 }
 
@@ -42,9 +48,13 @@ pub enum Stage {
 /// of its last record where that is a BKS45 and alone.
 #[derive(Clone, Copy)]
 pub struct Progress {
+    /// Its code.
     pub code: DocumentCode,
+    /// Its last record.
     pub stage: Stage,
+    /// Whether it has a BKS45.
     pub related: bool,
+    /// The number of its last record where that is a BKS45 and alone.
     pub only: Option<u64>,
 }
 
@@ -89,15 +99,20 @@ pub struct CodeSums {
 /// By what the documents of an office are in order: the code, then the number.
 #[derive(Clone, Copy)]
 pub struct DocumentKey {
+    /// The code.
     pub code: DocumentCode,
+    /// The number.
     pub number: DocNumber,
 }
 
 /// What there is of the office so far: its sums by code and in all, and its last document.
 #[derive(Clone, Copy)]
 pub struct OfficeSums {
+    /// Its sums by code.
     pub codes: CodeSums,
+    /// Its sums in all.
     pub all: Sums,
+    /// Its last document.
     pub latest: Option<DocumentKey>,
 }
 
@@ -107,12 +122,20 @@ pub struct OfficeSums {
 /// complete.
 #[derive(Clone, Copy)]
 pub struct Standing {
+    /// How many records there are.
     pub records: usize,
+    /// Behind which of them the place is.
     pub place: Place,
+    /// What BFH01 says of the file.
     pub heading: Option<Heading>,
+    /// How many offices are complete.
     pub offices: usize,
+    /// How many transactions there are.
     pub transactions: usize,
+    /// The sums of all documents.
     pub file: Sums,
+    /// The agent of the last office.
     pub agent: Option<AgentDigits>,
+    /// What there is of an office that is not complete.
     pub office: OfficeSums,
 }

@@ -33,7 +33,7 @@ fn only_behind(related: bool, part: Part) -> Option<u64>
 
 impl Progress {
     /// Whether the document has all its records.
-    pub(crate) fn is_complete(self) -> bool
+    pub fn is_complete(self) -> bool
         ensures { result ≡ is_complete_progress self }
     {
         match self.code {
@@ -49,7 +49,7 @@ impl Progress {
     }
 
     /// Whether the record may come next in a document of this airline.
-    pub(crate) fn takes(self, airline: AirlineCode, part: Part) -> bool
+    pub fn takes(self, airline: AirlineCode, part: Part) -> bool
         ensures { result ≡ takes airline self part }
     {
         match part {
@@ -88,7 +88,7 @@ impl Progress {
     }
 
     /// Whether a BKS45 with the number may come next, the first of a document or a second one.
-    fn takes_related(self, number: u64) -> bool
+    pub fn takes_related(self, number: u64) -> bool
         ensures { result ≡ takes_related self number }
     {
         match self.stage {
@@ -158,14 +158,14 @@ pub(crate) fn add_part(sums: &mut Sums, part: &Part)
 
 impl Place {
     /// Whether a file ends here.
-    pub(crate) fn is_ended(self) -> bool
+    pub fn is_ended(self) -> bool
         ensures { result ≡ is_at Place.Ended self }
     {
         matches!(self, Place::Ended)
     }
 
     /// Whether a transaction may begin.
-    pub(crate) fn takes_transaction(self) -> bool
+    pub fn takes_transaction(self) -> bool
         ensures { result ≡ takes_transaction self }
     {
         match self {
@@ -203,7 +203,7 @@ impl CodeSums {
     }
 
     /// The code whose BOT93 comes next: the first with a document whose BOT93 is not there yet.
-    pub(crate) fn next_code(self, place: Place) -> Option<DocumentCode>
+    pub fn next_code(self, place: Place) -> Option<DocumentCode>
         ensures { result ≡ next_code self place }
     {
         self.first_of(place.left_codes()).copied()

@@ -11,7 +11,7 @@ use bsp_hot_records::{Part, Sums};
 
 impl Standing {
     /// The state before any record.
-    pub(crate) fn start() -> Standing
+    pub fn start() -> Standing
         ensures { result ≡ start }
     {
         Standing {

@@ -12,7 +12,7 @@ use bsp_hot_records::{DocumentCode, Part, Sums};
 
 impl DocumentKey {
     /// Whether the other comes behind it: by the code, then by the number.
-    pub(crate) fn is_before(self, other: &DocumentKey) -> bool
+    pub fn is_before(self, other: &DocumentKey) -> bool
         ensures { result ≡ is_before self.code self.number other.now.code other.now.number }
     {
         let (code, other_code) = (self.code.rank(), other.code.rank());

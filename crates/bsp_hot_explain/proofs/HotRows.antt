@@ -1,15 +1,12 @@
 -- What makes a line a record of a HOT file, or none.
-use Rattle.std.proofs.Common.{◌≡◌, ℕ, ◌-◌, true, false, List, Some, None, drop, refl, IsSome}
+use Rattle.std.proofs.Common.{◌≡◌, ℕ, true, false, List, Some, None, refl, IsSome}
 use Rattle.bsp_records.specs.Columns.{columns, is_wide}
 use Rattle.bsp_records.specs.Fields.{spells}
 use Rattle.bsp_hot_records.specs.declared.form.FileForm.{FileForm}
 use Rattle.bsp_hot_records.specs.declared.name.RecordName.{RecordName}
 use Rattle.bsp_hot_records.specs.Records.{name_of}
 use Rattle.bsp_hot_records.specs.Reading.{record_at}
-use Rattle.bsp_explain.specs.declared.reason.Reason.{Reason}
-use Rattle.bsp_explain.specs.Before.{IsLine}
-use Rattle.bsp_explain.proofs.FaultLemmas.{same_line}
-use Rattle.bsp_hot_explain.specs.HotReasons.{SaysOfHot, named_fits}
+use Rattle.bsp_hot_explain.specs.HotReasons.{named_fits}
 
 pub narrow_record : (form : FileForm) (n : ℕ) (line : List ℕ) → is_wide line ≡ false → record_at form n line ≡ None
 unfolding record_at
@@ -30,8 +27,3 @@ unfit_record form n line name wide number named unfit = rw (wide, number, named,
 pub fit_record : (form : FileForm) (n : ℕ) (line : List ℕ) (name : RecordName) → is_wide line ≡ true → spells n (columns 4 11 line) ≡ true → name_of (columns 12 13 line) ≡ Some name → named_fits form name line ≡ true → IsSome (record_at form n line)
 unfolding record_at
 fit_record form n line name wide number named fits = rw (wide, number, named, fits) refl
-
--- what is said of the line found is said of the line that is meant
-pub said_of_hot : (form : FileForm) (ls rest : List (List ℕ)) (n : ℕ) (line found : List ℕ) (r : Reason) → rest ≡ drop (n - 1) ls → IsLine (n - 1) ls line → IsLine 0 rest found → SaysOfHot form n found r → SaysOfHot form n line r
-said_of_hot form ls rest n line found r left is first said =
-    rw (← same_line ls rest (n - 1) line found left is first) said

@@ -1,3 +1,9 @@
 -- Why the bodies meet their contracts.
 pub mod HotLemmas
 pub mod HotRows
+pub mod Differing
+pub mod Steps
+pub mod WalkLemmas
+pub mod HeadingLemmas
+pub mod ReasonLemmas
+pub mod FirstFaults

@@ -1,76 +1,136 @@
 //! What is wrong with the first record at fault of a HOT file.
 
-ghost use Rattle.std.specs.Prelude.{◌≡◌, ◌-◌, ℕ, List, None};
+ghost use Rattle.std.specs.Prelude.{◌≡◌, ◌-◌, ◌<◌, ◌^◌, ℕ, List, take, codes, None, Some};
+ghost use Rattle.std.specs.Str.{bytes_eq};
+ghost use Rattle.bsp_records.specs.Columns.{columns};
 ghost use Rattle.bsp_records.specs.Lines.{lines};
 ghost use Rattle.bsp_explain.specs.Before.{IsLine};
-ghost use Rattle.bsp_hot_explain.specs.HotReasons.{SaysOfHot, file_form, line_form, record_name};
+ghost use Rattle.bsp_hot_check.specs.declared.model.Standing.{Standing as State};
+ghost use Rattle.bsp_hot_check.specs.Hot.{IsFirstFault};
+ghost use Rattle.bsp_hot_check.specs.Standings.{start, IsSmall};
+ghost use Rattle.bsp_hot_explain.specs.HotReasons.{SaysOfHot, record_name, stands_after};
 
 use crate::hot_reasons::{hot_reason, record_name};
-use bsp_explain::{Explanation, Reason, text_after};
-use bsp_hot_check::RecordFault;
-use bsp_hot_records::FileForm;
+use crate::kind::Kind;
+use crate::next::Expected;
+use crate::reason::{HotReason, Shortness};
+use crate::walk::walk;
+use bsp_explain::write_columns;
+use bsp_hot_check::{RecordFault, Standing};
+use bsp_hot_records::RecordName;
 use bsp_records::first_line;
+use std::fmt;
 
-/// The form of a HOT file that begins with this line.
-#[tactic(auto, unfolding(crate::specs::HotReasons::line_form))]
-fn line_form(line: &[u8]) -> FileForm
-    ensures { result ≡ line_form line.now }
-{
-    if line.len() < 37 {
-        return FileForm::One;
+/// What is wrong with a record of a HOT file. It is displayed as `record 16 (BOT93), columns 34-48: CA
+/// is 286.00, and the items give 285.00`.
+#[derive(Clone, Copy)]
+pub struct HotExplanation {
+    /// The number of the record, counted from 1.
+    pub record: usize,
+    /// Its name, where it has one.
+    pub name: Option<RecordName>,
+    /// What is wrong with it.
+    pub reason: HotReason,
+}
+
+/// Why a line has fewer characters than a record, where it may be one. `rest` is the text from the line
+/// on, and `after` the text after it.
+fn shortness(line: &[u8], rest: &[u8], after: &[u8]) -> Option<Shortness> {
+    if line.len() >= 136 {
+        return None;
     }
-    match FileForm::of(&line[30..37]) {
-        Some(form) => form,
-        None => FileForm::One,
+    if after.is_empty() && rest.len() == line.len() {
+        return Some(Shortness::Cut);
+    }
+    match record_name(line) {
+        Some(_) => Some(Shortness::Trimmed),
+        None => None,
     }
 }
 
-/// The form of a HOT file.
-fn file_form(text: &[u8]) -> FileForm
-    ensures { result ≡ file_form (lines text.now) }
+/// Whether a line may be the first of a HOT file, by its letters.
+fn begins_file(line: &[u8]) -> bool
+    ensures { result ≡ bytes_eq (columns 1 3 line.now) (codes "BFH") }
 {
+    line.len() >= 3 && &line[..3] == b"BFH".as_slice()
+}
+
+/// What is wrong with the first line of a text after the records of this state.
+fn line_reason(at: &Standing, line: &[u8], rest: &[u8], after: &[u8]) -> HotReason
+    requires small { IsSmall at.now }
+    requires room { at.now.records < 2 ^ 63 }
+    ensures { SaysOfHot at.now line.now result }
+{
+    let Some(reason) = hot_reason(at, line) else {
+        return HotReason::NotFound;
+    };
+    if at.records == 0 && !begins_file(line) {
+        return HotReason::Foreign(Kind::of(rest));
+    }
+    let width = line.len();
+    if width == 136 {
+        return reason;
+    }
+    match shortness(line, rest, after) {
+        Some(shortness) => HotReason::Short { width, shortness },
+        None => reason,
+    }
+}
+
+/// What is missing after the records of this state, where a text ends there.
+fn missing(text: &[u8], at: &Standing) -> HotReason {
     if text.is_empty() {
-        return FileForm::One;
+        HotReason::Foreign(Kind::Empty)
+    } else {
+        HotReason::Missing(Expected::of(at))
     }
-    line_form(first_line(text).0)
 }
 
-/// What is wrong with a line of a HOT file of that form as record number `number`.
-fn hot_line_reason(form: FileForm, number: usize, line: &[u8]) -> Reason
-    ensures { SaysOfHot form number line.now result }
-{
-    match hot_reason(form, number, line) {
-        Some(reason) => reason,
-        None => Reason::Unexpected,
+/// Writes the letters and the digits of a name, as ` (BKS24)`, where there is one.
+fn write_name<W: fmt::Write>(f: &mut fmt::Formatter<W>, name: Option<RecordName>) -> fmt::Result {
+    let Some(name) = name else {
+        return Ok(());
+    };
+    let ([a, b, c], [tens, ones]) = (name.letters(), name.digits());
+    write!(
+        f,
+        " ({}{}{}{}{})",
+        a as char, b as char, c as char, tens as char, ones as char
+    )
+}
+
+impl fmt::Display for HotExplanation {
+    fn fmt<W: fmt::Write>(&self, f: &mut fmt::Formatter<W>) -> fmt::Result {
+        write!(f, "record {}", self.record)?;
+        write_name(f, self.name)?;
+        write_columns(f, self.reason.columns())?;
+        write!(f, ": {}", self.reason)
     }
 }
 
 /// Explains the first fault of the text of a HOT file.
-pub fn explain_hot(text: &[u8], fault: RecordFault) -> Explanation
+pub fn explain_hot(text: &[u8], fault: RecordFault) -> HotExplanation
     ensures number { result.record ≡ fault.number }
-    // The name is that of the line.
-    ensures name { (line : List ℕ) → IsLine (fault.number - 1) (lines text.now) line → result.name ≡ record_name line }
-    // The reason is true of the line, in a file of the form that the first line has.
-    ensures says { (line : List ℕ) → IsLine (fault.number - 1) (lines text.now) line → SaysOfHot (file_form (lines text.now)) fault.number line result.reason }
+    // The name is that of the line, and the reason is true of it, after the records before it.
+    ensures name { (at : State) (line : List ℕ) → stands_after start (take (fault.number - 1) (lines text.now)) ≡ Some at → IsLine (fault.number - 1) (lines text.now) line → result.name ≡ record_name line }
+    ensures says { (at : State) (line : List ℕ) → stands_after start (take (fault.number - 1) (lines text.now)) ≡ Some at → IsLine (fault.number - 1) (lines text.now) line → SaysOfHot at line result.reason }
+    // There are such records before the first fault.
+    ensures before { IsFirstFault (lines text.now) fault.number → (at : State) × (stands_after start (take (fault.number - 1) (lines text.now)) ≡ Some at) }
 {
     let record = fault.number;
-    let (_, rest) = text_after(text, record.saturating_sub(1));
+    let (at, rest) = walk(text, record.saturating_sub(1));
     if rest.is_empty() {
-        return Explanation {
+        return HotExplanation {
             record,
             name: None,
-            reason: Reason::Missing,
-            found: None,
+            reason: missing(text, &at),
         };
     }
-    let (line, _) = first_line(rest);
-    let name = record_name(line);
-    let form = file_form(text);
-    let reason = hot_line_reason(form, record, line);
-    Explanation {
+    let (line, after) = first_line(rest);
+    let reason = line_reason(&at, line, rest, after);
+    HotExplanation {
         record,
-        name,
+        name: record_name(line),
         reason,
-        found: None,
     }
 }

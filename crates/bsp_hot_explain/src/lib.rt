@@ -2,9 +2,23 @@
 //! total is at fault, with its columns.
 #![tactic(auto)]
 
+mod comparing;
+mod comparison;
 mod explanation;
+mod heading;
 mod hot_fields;
 mod hot_reasons;
+mod kind;
+mod next;
+mod placing;
+mod reason;
+mod walk;
 
-pub use explanation::explain_hot;
+pub use bsp_hot_records::Heading;
+pub use comparison::{Comparison, Value};
+pub use explanation::{HotExplanation, explain_hot};
+pub use heading::heading_of;
 pub use hot_reasons::{hot_reason, record_name};
+pub use kind::Kind;
+pub use next::Expected;
+pub use reason::{Disorder, HotReason, Shortness};

@@ -25,6 +25,13 @@ impl Model for AgentDigits {
 }
 
 impl AgentDigits {
+    /// The number that the digits write.
+    pub fn number(self) -> u32
+        ensures { result ≡ self }
+    {
+        self.number
+    }
+
     /// The agent that eight digits write.
     #[inline]
     pub(crate) fn read(text: &[u8]) -> Option<AgentDigits>

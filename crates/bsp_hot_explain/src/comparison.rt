@@ -1,0 +1,194 @@
+//! What a record says beside what the records before it give.
+
+ghost use Rattle.std.specs.Prelude.{◌≡◌};
+ghost use Rattle.bsp_hot_explain.specs.Comparisons.{same_value, is_same, first_differing};
+
+use bsp_explain::{Money, Name};
+use bsp_fields::{AirlineCode, PeriodCode};
+use bsp_hot_records::{AgentDigits, DocumentCode};
+use std::fmt;
+
+/// A value of a record of a HOT file. It is displayed as the record has it, and money as people read
+/// it.
+#[derive(Clone, Copy)]
+pub enum Value {
+    /// An airline.
+    Airline(AirlineCode),
+    /// A period.
+    Period(PeriodCode),
+    /// An agent.
+    Agent(AgentDigits),
+    /// A currency, three letters (ISO 4217).
+    Currency([u8; 3]),
+    /// The number of a transaction.
+    Transaction(usize),
+    /// The code of documents.
+    Code(DocumentCode),
+    /// How many documents, offices or records there are.
+    Count(usize),
+    /// An amount in minor units.
+    Amount(i128),
+}
+
+/// What a record says in its columns from `first` to `last`, and what the records before it give for
+/// them.
+#[derive(Clone, Copy)]
+pub struct Comparison {
+    /// The first column, counted from 1.
+    pub first: u8,
+    /// The last column.
+    pub last: u8,
+    /// What the columns have.
+    pub name: Name,
+    /// What the record says.
+    pub stated: Value,
+    /// What the records before it give.
+    pub given: Value,
+}
+
+/// Whether a value is an airline, and this one.
+fn is_airline(value: Value, airline: AirlineCode) -> bool
+    ensures { result ≡ same_value (Value.Airline airline) value }
+{
+    match value {
+        Value::Airline(other) => airline == other,
+        _ => false,
+    }
+}
+
+/// Whether a value is a period, and this one.
+fn is_period(value: Value, period: PeriodCode) -> bool
+    ensures { result ≡ same_value (Value.Period period) value }
+{
+    match value {
+        Value::Period(other) => period == other,
+        _ => false,
+    }
+}
+
+/// Whether a value is an agent, and this one.
+fn is_agent(value: Value, agent: AgentDigits) -> bool
+    ensures { result ≡ same_value (Value.Agent agent) value }
+{
+    match value {
+        Value::Agent(other) => agent == other,
+        _ => false,
+    }
+}
+
+/// Whether a value is a currency, and this one.
+fn is_currency(value: Value, currency: [u8; 3]) -> bool
+    ensures { result ≡ same_value (Value.Currency currency) value }
+{
+    match value {
+        Value::Currency(other) => currency.as_slice() == other.as_slice(),
+        _ => false,
+    }
+}
+
+/// Whether a value is a code, and this one.
+fn is_code(value: Value, code: DocumentCode) -> bool
+    ensures { result ≡ same_value (Value.Code code) value }
+{
+    match value {
+        Value::Code(other) => other.rank() == code.rank(),
+        _ => false,
+    }
+}
+
+/// Whether a value is the number of a transaction, and this one.
+fn is_transaction(value: Value, transaction: usize) -> bool
+    ensures { result ≡ same_value (Value.Transaction transaction) value }
+{
+    match value {
+        Value::Transaction(other) => transaction == other,
+        _ => false,
+    }
+}
+
+/// Whether a value is a count, and this one.
+fn is_count(value: Value, count: usize) -> bool
+    ensures { result ≡ same_value (Value.Count count) value }
+{
+    match value {
+        Value::Count(other) => count == other,
+        _ => false,
+    }
+}
+
+/// Whether a value is an amount, and this one.
+fn is_amount(value: Value, amount: i128) -> bool
+    ensures { result ≡ same_value (Value.Amount amount) value }
+{
+    match value {
+        Value::Amount(other) => amount == other,
+        _ => false,
+    }
+}
+
+/// Whether two values are the same.
+fn same_value(stated: Value, given: Value) -> bool
+    ensures { result ≡ same_value stated given }
+{
+    match stated {
+        Value::Airline(airline) => is_airline(given, airline),
+        Value::Period(period) => is_period(given, period),
+        Value::Agent(agent) => is_agent(given, agent),
+        Value::Currency(currency) => is_currency(given, currency),
+        Value::Transaction(transaction) => is_transaction(given, transaction),
+        Value::Code(code) => is_code(given, code),
+        Value::Count(count) => is_count(given, count),
+        Value::Amount(amount) => is_amount(given, amount),
+    }
+}
+
+impl Comparison {
+    /// Whether the two values are the same.
+    fn is_same(self) -> bool
+        ensures { result ≡ is_same self }
+    {
+        same_value(self.stated, self.given)
+    }
+}
+
+/// The first of these comparisons whose two values differ.
+pub(crate) fn first_differing(comparisons: &[Comparison]) -> Option<Comparison>
+    ensures { result ≡ first_differing comparisons.now }
+{
+    for comparison in comparisons {
+        if !comparison.is_same() {
+            return Some(*comparison);
+        }
+    }
+    None
+}
+
+impl fmt::Display for Value {
+    fn fmt<W: fmt::Write>(&self, f: &mut fmt::Formatter<W>) -> fmt::Result {
+        match *self {
+            Value::Airline(airline) => airline.fmt(f),
+            Value::Period(period) => period.fmt(f),
+            Value::Agent(agent) => write!(f, "{:08}", agent.number()),
+            Value::Currency(currency) => write_currency(f, currency),
+            Value::Transaction(number) => write!(f, "{number:08}"),
+            Value::Code(code) => write_code(f, code),
+            Value::Count(count) => write!(f, "{count}"),
+            Value::Amount(units) => Money { units }.fmt(f),
+        }
+    }
+}
+
+/// Writes the three letters of a currency.
+fn write_currency<W: fmt::Write>(f: &mut fmt::Formatter<W>, currency: [u8; 3]) -> fmt::Result {
+    let [a, b, c] = currency;
+    write!(f, "{}{}{}", a as char, b as char, c as char)
+}
+
+/// Writes the four letters of a code.
+pub(crate) fn write_code<W: fmt::Write>(
+    f: &mut fmt::Formatter<W>,
+    code: DocumentCode,
+) -> fmt::Result {
+    let [a, b, c, d] = code.text();
+    write!(f, "{}{}{}{}", a as char, b as char, c as char, d as char)
+}

@@ -1,0 +1,93 @@
+//! What a text that is no HOT file seems to be.
+
+use bsp_records::first_line;
+use std::fmt;
+
+/// What a text that is no HOT file seems to be. It is for people.
+#[derive(Clone, Copy)]
+pub enum Kind {
+    /// A text without bytes.
+    Empty,
+    /// A RET file.
+    Ret,
+    /// What the office says where it refuses a call: a code and what it means.
+    Refusal([u8; 3]),
+    /// Another text, with its first characters.
+    Other([u8; 8]),
+}
+
+/// The first characters of a line, and `.` for one outside 0x20 to 0x7E.
+fn shown(line: &[u8]) -> [u8; 8] {
+    let mut first = *b"        ";
+    for index in 0..8usize {
+        if index < line.len() {
+            let byte = line[index];
+            first[index] = if (0x20..0x7f).contains(&byte) {
+                byte
+            } else {
+                b'.'
+            };
+        }
+    }
+    first
+}
+
+/// The code of a refusal that the office wrote.
+fn refusal_of(text: &[u8]) -> Option<[u8; 3]> {
+    if text.len() < 12 || !text.starts_with(b"{\"code\":\"") {
+        return None;
+    }
+    Some([text[9], text[10], text[11]])
+}
+
+/// Whether a line begins as the header of a RET file does.
+fn is_ret_header(line: &[u8]) -> bool {
+    line.len() >= 30 && line[0] == b'1' && &line[23..27] == b"PROD".as_slice()
+}
+
+impl Kind {
+    /// What a text seems to be that does not begin as a HOT file.
+    pub fn of(text: &[u8]) -> Kind {
+        if text.is_empty() {
+            return Kind::Empty;
+        }
+        let line = first_line(text).0;
+        if is_ret_header(line) {
+            return Kind::Ret;
+        }
+        match refusal_of(text) {
+            Some(code) => Kind::Refusal(code),
+            None => Kind::Other(shown(line)),
+        }
+    }
+}
+
+/// Writes that a text is a refusal with that code.
+fn write_refusal<W: fmt::Write>(f: &mut fmt::Formatter<W>, code: [u8; 3]) -> fmt::Result {
+    let [a, b, c] = code;
+    let (a, b, c) = (a as char, b as char, c as char);
+    write!(
+        f,
+        "this is no HOT file, but a refusal of the office: {a}{b}{c} (`bsp_office explain {a}{b}{c}`)"
+    )
+}
+
+/// Writes how a text begins that is no HOT file.
+fn write_other<W: fmt::Write>(f: &mut fmt::Formatter<W>, first: [u8; 8]) -> fmt::Result {
+    f.write_str("this is no HOT file: it begins with `")?;
+    for byte in first {
+        write!(f, "{}", byte as char)?;
+    }
+    f.write_str("`, and not with BFH")
+}
+
+impl fmt::Display for Kind {
+    fn fmt<W: fmt::Write>(&self, f: &mut fmt::Formatter<W>) -> fmt::Result {
+        match *self {
+            Kind::Empty => f.write_str("the file is empty"),
+            Kind::Ret => f.write_str("this is no HOT file, but a RET file: `check` reads it"),
+            Kind::Refusal(code) => write_refusal(f, code),
+            Kind::Other(first) => write_other(f, first),
+        }
+    }
+}

@@ -1,0 +1,95 @@
+//! Which record may come next in a HOT file, as people read it.
+
+use bsp_hot_check::{Place, Progress, Stage, Standing};
+use bsp_hot_records::DocumentCode;
+use std::fmt;
+
+/// What comes after a memo.
+const AFTER_MEMO: &str = "after BKP84 of a memo comes BKT06 or BOT93";
+
+/// What comes after BKP84, where the document has a BKS45 of an exchange or not.
+fn after_payment(progress: Progress, more: &'static str) -> &'static str {
+    match progress.code {
+        DocumentCode::Tktt if progress.related =>
+            "after BKP84 with CA of an exchange comes BKP84 with CC or EX",
+        DocumentCode::Tktt | DocumentCode::Rfnd => more,
+        _ => AFTER_MEMO,
+    }
+}
+
+/// What comes after the last record of a document.
+fn in_document(progress: Progress) -> &'static str {
+    let is_memo = matches!(progress.code, DocumentCode::Adma | DocumentCode::Acma);
+    let is_sale = matches!(progress.code, DocumentCode::Tktt);
+    match progress.stage {
+        Stage::Document if matches!(progress.code, DocumentCode::Canx) => {
+            "after BKS24 of a CANX comes BKT06 or BOT93"
+        }
+        Stage::Document if is_memo => "after BKS24 of a memo comes BKS30 without taxes",
+        Stage::Document => "after BKS24 comes BKS30",
+        Stage::Amounts if is_memo => "after BKS30 of a memo comes BKP84 with CA",
+        Stage::Amounts => "after BKS30 comes BKS39",
+        Stage::Commission => "after BKS39 comes BKS42",
+        Stage::Charged if is_sale => "after the commission comes BKS45, or BKP84 with CA or CC",
+        Stage::Charged => "after the commission of an RFND comes BKS45",
+        Stage::Related if is_sale => "after BKS45 comes a later BKS45, or BKP84",
+        Stage::Related => "after BKS45 of an RFND comes BKP84 with CA or CC",
+        Stage::Cash => after_payment(
+            progress,
+            "after BKP84 with CA comes BKP84 with CC, BKT06 or BOT93",
+        ),
+        Stage::Credit if progress.related && is_sale => "after BKP84 with CC comes BKP84 with EX",
+        Stage::Credit => "after BKP84 with CC comes BKT06 or BOT93",
+        Stage::Exchange => "after BKP84 with EX comes BKT06 or BOT93",
+    }
+}
+
+/// What comes after the BOT93 that are there.
+fn in_totals(next: Option<DocumentCode>) -> &'static str {
+    match next {
+        Some(DocumentCode::Tktt) => "BOT93 of TKTT comes here",
+        Some(DocumentCode::Rfnd) => "BOT93 of RFND comes here",
+        Some(DocumentCode::Canx) => "BOT93 of CANX comes here",
+        Some(DocumentCode::Adma) => "BOT93 of ADMA comes here",
+        Some(DocumentCode::Acma) => "BOT93 of ACMA comes here",
+        None => "after the last BOT93 comes BOT94",
+    }
+}
+
+/// A place in a HOT file, and the code whose BOT93 comes next. It is displayed as what may come there.
+#[derive(Clone, Copy)]
+pub struct Expected {
+    place: Place,
+    code: Option<DocumentCode>,
+}
+
+impl Expected {
+    /// What may come after the records of this state.
+    pub(crate) fn of(at: &Standing) -> Expected {
+        Expected {
+            place: at.place,
+            code: at.office.codes.next_code(at.place),
+        }
+    }
+
+    /// What may come.
+    fn text(self) -> &'static str {
+        match self.place {
+            Place::Start => "a HOT file begins with BFH01",
+            Place::Headed => "after BFH01 comes BCH02",
+            Place::Between => "after BCH02 or BOT94 comes BOH03 or BCT95",
+            Place::Opened => "after BOH03 comes BKT06",
+            Place::Begun => "after BKT06 comes BKS24",
+            Place::InDocument(progress) => in_document(progress),
+            Place::Totalled(_) => in_totals(self.code),
+            Place::Closed => "after BCT95 comes BFT99",
+            Place::Ended => "BFT99 is the last record",
+        }
+    }
+}
+
+impl fmt::Display for Expected {
+    fn fmt<W: fmt::Write>(&self, f: &mut fmt::Formatter<W>) -> fmt::Result {
+        f.write_str(self.text())
+    }
+}

@@ -1,0 +1,227 @@
+//! What is wrong with a record of a HOT file.
+
+use crate::comparison::{Comparison, Value, write_code};
+use crate::kind::Kind;
+use crate::next::Expected;
+use bsp_explain::{Name, Reason};
+use bsp_fields::write_digits;
+use bsp_hot_check::DocumentKey;
+use bsp_hot_records::AgentDigits;
+use std::fmt;
+
+/// Why a line has fewer characters than a record. It is for people.
+#[derive(Clone, Copy)]
+pub enum Shortness {
+    /// The text ends in the line.
+    Cut,
+    /// The line begins as a record does.
+    Trimmed,
+}
+
+/// What does not come after what. It is for people.
+#[derive(Clone, Copy)]
+pub enum Disorder {
+    /// Nothing is known of it.
+    Unknown,
+    /// The agent of an office, and that of the office before.
+    Agents(AgentDigits, AgentDigits),
+    /// A document, and the one before it in its office.
+    Documents(DocumentKey, DocumentKey),
+}
+
+/// What is wrong with a record of a HOT file. It is displayed without its columns.
+#[derive(Clone, Copy)]
+pub enum HotReason {
+    /// Its width, a character or a field.
+    Form(Reason),
+    /// It has fewer characters than a record.
+    Short {
+        /// How many it has.
+        width: usize,
+        /// Why.
+        shortness: Shortness,
+    },
+    /// The text does not begin as a HOT file, and seems to be this.
+    Foreign(Kind),
+    /// The sequence number is not that of the record.
+    Sequence {
+        /// What the record has in columns 4 to 11.
+        stated: [u8; 8],
+        /// The number of the record.
+        next: usize,
+    },
+    /// No record has its digits.
+    NameDigits,
+    /// The letters are not those of the name with its digits.
+    NameLetters,
+    /// It may not come here.
+    Place(Expected),
+    /// What some columns say differs from what the records before it give.
+    Differs(Comparison),
+    /// It does not come after the one before it, by its agent or its document.
+    Order(Disorder),
+    /// The file ends before it.
+    Missing(Expected),
+    /// It has no such fault.
+    NotFound,
+}
+
+impl HotReason {
+    /// The first and the last column at fault, counted from 1, where it is not the whole record.
+    pub fn columns(self) -> Option<(u8, u8)> {
+        match self {
+            HotReason::Form(reason) => reason.columns(),
+            HotReason::Sequence { .. } => Some((4, 11)),
+            HotReason::NameDigits => Some((12, 13)),
+            HotReason::NameLetters => Some((1, 3)),
+            HotReason::Differs(comparison) => Some((comparison.first, comparison.last)),
+            HotReason::Order(Disorder::Agents(_, _)) => Some((14, 21)),
+            HotReason::Order(_) => Some((28, 37)),
+            _ => None,
+        }
+    }
+}
+
+/// What columns with that value are called.
+fn noun(name: Name) -> &'static str {
+    match name {
+        Name::Cash => "CA",
+        Name::Credit => "CC",
+        Name::Commission => "the commission",
+        Name::CommissionTax => "the tax on commission",
+        Name::Net => "the net",
+        Name::Airline => "the airline",
+        Name::Period => "the period",
+        Name::Currency => "the currency",
+        Name::Agent => "the agent",
+        Name::TransactionNumber => "the transaction number",
+        _ => "the code",
+    }
+}
+
+/// What a count counts, of one and of others.
+fn counted(name: Name, count: usize) -> &'static str {
+    match (name, count) {
+        (Name::Documents, 1) => "document",
+        (Name::Documents, _) => "documents",
+        (Name::Offices, 1) => "agent",
+        (Name::Offices, _) => "agents",
+        (_, 1) => "record",
+        _ => "records",
+    }
+}
+
+/// Writes which count differs.
+fn write_count<W: fmt::Write>(
+    f: &mut fmt::Formatter<W>,
+    name: Name,
+    stated: usize,
+    given: usize,
+) -> fmt::Result {
+    let there = if given == 1 { "there is" } else { "there are" };
+    write!(
+        f,
+        "it counts {stated} {}, and {there} {given}",
+        counted(name, stated)
+    )
+}
+
+/// Writes which column differs, and both values.
+fn write_difference<W: fmt::Write>(
+    f: &mut fmt::Formatter<W>,
+    comparison: &Comparison,
+) -> fmt::Result {
+    let noun = noun(comparison.name);
+    let (stated, given) = (comparison.stated, comparison.given);
+    match (stated, given) {
+        (Value::Count(stated), Value::Count(given)) => write_count(
+            f,
+            comparison.name,
+            stated,
+            given,
+        ),
+        (Value::Amount(_), _) => write!(f, "{noun} is {stated}, and the items give {given}"),
+        (Value::Transaction(_), _) => write!(f, "{noun} is {stated}, and not {given}"),
+        (Value::Agent(_), _) => write!(f, "{noun} is {stated}, and that of its BOH03 {given}"),
+        (Value::Code(_), _) => write!(f, "{noun} is {stated}, and BOT93 of {given} comes here"),
+        _ => write!(f, "{noun} is {stated}, and that of the file {given}"),
+    }
+}
+
+/// Writes the code and the number of a document.
+fn write_document<W: fmt::Write>(f: &mut fmt::Formatter<W>, document: DocumentKey) -> fmt::Result {
+    write_code(f, document.code)?;
+    write!(f, " {}", document.number)
+}
+
+/// Writes what does not come after what.
+fn write_disorder<W: fmt::Write>(f: &mut fmt::Formatter<W>, disorder: Disorder) -> fmt::Result {
+    match disorder {
+        Disorder::Unknown => f.write_str("it does not come after the one before it"),
+        Disorder::Agents(agent, before) => write!(
+            f,
+            "the agent {:08} does not come after {:08}",
+            agent.number(),
+            before.number()
+        ),
+        Disorder::Documents(document, before) => {
+            write_document(f, document)?;
+            f.write_str(" does not come after ")?;
+            write_document(f, before)
+        }
+    }
+}
+
+/// Writes that a sequence number is another one.
+fn write_sequence<W: fmt::Write>(
+    f: &mut fmt::Formatter<W>,
+    stated: [u8; 8],
+    next: usize,
+) -> fmt::Result {
+    if !stated.iter().all(|byte| byte.is_ascii_digit()) {
+        return write!(f, "the sequence number is not {next:08}");
+    }
+    f.write_str("the sequence number is ")?;
+    for byte in stated {
+        write!(f, "{}", byte as char)?;
+    }
+    let due = write_digits::<8>(next as u64);
+    let cause = if stated.as_slice() > due.as_slice() {
+        "a record is missing before it"
+    } else {
+        "a record is there twice"
+    };
+    write!(f, ", and not {next:08}: {cause}")
+}
+
+impl fmt::Display for HotReason {
+    fn fmt<W: fmt::Write>(&self, f: &mut fmt::Formatter<W>) -> fmt::Result {
+        match *self {
+            HotReason::Form(reason) => reason.fmt(f),
+            HotReason::Short { width, shortness } => match shortness {
+                Shortness::Cut => write!(
+                    f,
+                    "the file ends in it, after {width} of 136 characters: fetch it again"
+                ),
+                Shortness::Trimmed => write!(
+                    f,
+                    "it has {width} characters, and not 136: spaces at its end are missing: fetch the file again"
+                ),
+            },
+            HotReason::Foreign(kind) => kind.fmt(f),
+            HotReason::Sequence { stated, next } => write_sequence(f, stated, next),
+            HotReason::NameDigits => f.write_str("no record has these digits in its name"),
+            HotReason::NameLetters => {
+                f.write_str("the letters are not those of the name with these digits")
+            }
+            HotReason::Place(expected) => write!(f, "it is not allowed here: {expected}"),
+            HotReason::Differs(comparison) => write_difference(f, &comparison),
+            HotReason::Order(disorder) => write_disorder(f, disorder),
+            HotReason::Missing(expected) => write!(
+                f,
+                "the file ends before its last record BFT99: {expected}: fetch it again"
+            ),
+            HotReason::NotFound => f.write_str("the record has no such fault"),
+        }
+    }
+}
