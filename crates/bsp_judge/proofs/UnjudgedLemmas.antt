@@ -12,7 +12,7 @@ use Rattle.bsp_judge.specs.Unjudged.{HasRetFault, IsEarlierFault, IsRefusal, IsR
 use Rattle.bsp_judge.specs.declared.setup.JudgeFault.{JudgeFault}
 use Rattle.bsp_judge.specs.declared.setup.JudgeFault.TheVariants.{Setup, Earlier, File, Memory}
 use Rattle.bsp_judge.specs.declared.setup.Step.TheVariants as step
-use Rattle.bsp_judge.proofs.TurnLemmas.{stops_at}
+use Rattle.bsp_plan_trial.proofs.TurnLemmas.{stops_at}
 
 -- a fault is passed on
 pub passed_on : {X E : Type 0} (P : E → Type 0) (r : Result X E) (e : E) → IsErrAnd r (λ f. f ≡ e) → P e → IfErr r P

@@ -22,7 +22,7 @@ use Rattle.bsp_desk_writes.specs.declared.content.Content.TheVariants.{Bytes, Fi
 use Rattle.bsp_desk.specs.Reading.{token_text}
 use Rattle.bsp_desk.specs.Steps.{Answers}
 use Rattle.bsp_desk.specs.declared.request.Request.{Request}
-use Rattle.bsp_judge.specs.Plans.{texts_of}
+use Rattle.bsp_plan_trial.specs.Plans.{texts_of}
 use Rattle.bsp_judge.specs.declared.setup.Setup.{Setup}
 use Rattle.bsp_judge.specs.declared.setup.Step.{Step}
 use Rattle.bsp_judge.specs.declared.setup.Step.TheVariants as step

@@ -11,7 +11,7 @@ use Rattle.bsp_book.specs.Listed.{meaning}
 use Rattle.bsp_book.specs.declared.list.ListBook.{ListBook}
 use Rattle.bsp_desk.specs.Replies.{is_refusal}
 use Rattle.bsp_judge.specs.Asked.{IsAnswered, Passes, Reports, SetupTexts, Wanted, office_requests, step_request}
-use Rattle.bsp_judge.specs.Turns.{StopsAt}
+use Rattle.bsp_plan_trial.specs.Turns.{StopsAt}
 use Rattle.bsp_judge.specs.declared.setup.JudgeFault.{JudgeFault}
 use Rattle.bsp_judge.specs.declared.setup.JudgeFault.TheVariants.{Setup, Earlier, File, Memory}
 use Rattle.bsp_judge.specs.declared.setup.Step.{Step}

@@ -7,13 +7,13 @@ ghost use Rattle.bsp_ret.specs.Ret.{Ret};
 ghost use Rattle.bsp_desk.specs.Calls.{office_text};
 ghost use Rattle.bsp_judge.specs.Asked.{IsAnswered, Passes, Reports, agent_body, by_office, day_body, office_requests, report, setup_texts, step_body, step_call, step_request, stock_body};
 ghost use Rattle.bsp_judge.specs.Unjudged.{IsEarlierFault, IsRefusedIn, IsRetFaultOf, IsStepRefused};
-ghost use Rattle.bsp_judge.specs.Plans.{texts_of};
+ghost use Rattle.bsp_plan_trial.specs.Plans.{texts_of};
 
-use crate::lines::push_fields;
 use crate::setup::{JudgeFault, Setup, Step};
 use bsp_book::ListBook;
 use bsp_desk::{Asking, Content, Desk, Reply, Request, Status, Token};
 use bsp_fields::{AgentCode, Day};
+use bsp_plan_trial::push_fields;
 use bsp_ret::{FaultCode, RetFault, RetFile, read_ret};
 use bsp_routes::{AgentCall, Call, OfficeCall};
 use std::alloc::{AllocError, Global};

@@ -1,10 +1,10 @@
 //! What is said beside the verdict of a transaction that is refused. The words are for people.
 
 use crate::amount_remarks::{push_against_tickets, push_amounts};
-use crate::lines::push_fields;
 use crate::setup::Setup;
 use bsp_book::ListBook;
 use bsp_fields::{DocNumber, write_digits};
+use bsp_plan_trial::push_fields;
 use bsp_ret::{RetFile, transaction};
 use bsp_ret_records::{ReportedDocument, Transaction, TransactionCode};
 use bsp_rules::{Refusal, Verdict};

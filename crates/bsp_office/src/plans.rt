@@ -3,7 +3,7 @@
 use crate::remarks::say_known;
 use crate::whole_files::{all_bytes, bytes_of, printed, short_of_memory};
 use bsp_check::{DONE, REFUSED};
-use bsp_judge::{PlanRefused, refusal_reason, try_plan};
+use bsp_plan_trial::{PlanRefused, refusal_reason, try_plan};
 
 /// Reports which of the texts is refused, and answers the exit status.
 fn report_refused(

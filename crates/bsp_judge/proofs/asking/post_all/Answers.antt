@@ -1,9 +1,9 @@
 use Rattle.std.proofs.Common.{◌≡◌, rules, ◌∙◌}
 use Rattle.bsp_ret.specs.declared.model.FaultCode.TheVariants.{F10}
 use Rattle.bsp_judge.specs.Asked.{Reports}
-use Rattle.bsp_judge.specs.Plans.{text_of}
+use Rattle.bsp_plan_trial.specs.Plans.{text_of}
 use Rattle.bsp_judge.specs.Unjudged.{HasRetFault}
-use Rattle.bsp_judge.proofs.TurnLemmas.{stops_at, taken_more}
+use Rattle.bsp_plan_trial.proofs.TurnLemmas.{stops_at, taken_more}
 use Rattle.bsp_judge.proofs.UnjudgedLemmas.{has_fault}
 use Rattle.bsp_judge.proofs.asking.post_all.Goals as goal
 

@@ -1,7 +1,7 @@
 use Rattle.std.proofs.Common.{◌≡◌, take}
 use Rattle.std.specs.List.{FoldsTo}
 use Rattle.bsp_judge.specs.Asked.{Reports}
-use Rattle.bsp_judge.specs.Plans.{texts_of}
+use Rattle.bsp_plan_trial.specs.Plans.{texts_of}
 use Rattle.bsp_judge.proofs.asking.post_all.Given as goal
 
 abbrev pub invariant-loop-place : goal.invariant-loop-place

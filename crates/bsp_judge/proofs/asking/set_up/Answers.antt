@@ -2,7 +2,7 @@ use Rattle.std.proofs.Common.{List, ℕ, get_or, refl, subst, ◌∙◌}
 use Rattle.bsp_judge.specs.Asked.{Passes, all_steps, setup_texts, step_request}
 use Rattle.bsp_judge.specs.Unjudged.{IsRefusedIn}
 use Rattle.bsp_judge.specs.declared.setup.Step.TheVariants as step
-use Rattle.bsp_judge.proofs.TurnLemmas.{taken_all, taken_more}
+use Rattle.bsp_plan_trial.proofs.TurnLemmas.{taken_all, taken_more}
 use Rattle.bsp_judge.proofs.UnjudgedLemmas.{passed_on, refused_at}
 use Rattle.bsp_judge.proofs.asking.set_up.Goals as goal
 

@@ -1,6 +1,0 @@
-use Rattle.bsp_judge.specs.PlanLines.{period_line}
-use Rattle.bsp_judge.proofs.plan_lines.push_period.Goals as goal
-
-pub returns : goal.returns
-unfolding period_line
-returns c = rw (c.digits.ensures.text, c.write_text.ensures.text, c.write_text-2.ensures.text, c.write_text-3.ensures.text) at c.push_fields.ensures

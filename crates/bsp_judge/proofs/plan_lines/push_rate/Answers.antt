@@ -1,6 +1,0 @@
-use Rattle.bsp_judge.specs.PlanLines.{rate_line}
-use Rattle.bsp_judge.proofs.plan_lines.push_rate.Goals as goal
-
-pub returns : goal.returns
-unfolding rate_line
-returns c = rw (c.digits.ensures.text, c.write_text.ensures.text, c.as_bytes.ensures.value, c.format.ensures.text) at c.push_fields.ensures

@@ -1,0 +1,4 @@
+-- Lemmas of this crate.
+pub mod Pieces
+pub mod PlanLemmas
+pub mod TurnLemmas

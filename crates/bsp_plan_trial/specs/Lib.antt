@@ -1,0 +1,4 @@
+-- What the contracts of the trials of plans cite.
+pub mod PlanLines
+pub mod Plans
+pub mod Turns

@@ -1,0 +1,103 @@
+//! Plan texts that are tried, over a plan of nothing.
+
+ghost use Rattle.std.specs.Prelude.{◌≡◌, ◌++◌, ◌∷◌, [], MatchResult, option_map};
+ghost use Rattle.std.specs.List.{FoldsTo};
+ghost use Rattle.bsp_calendar.specs.Published.{Published, opening};
+ghost use Rattle.bsp_plan_trial.specs.Plans.{IsPublished, IsRefused, IsReported, IsTried, IsStopped, code_of, texts_of};
+
+use crate::plan_lines::plan_lines;
+use bsp_calendar::{Plan, PlanFault, read_plan};
+use bsp_fields::Change;
+use std::alloc::Global;
+
+/// The first of some plan texts that is refused.
+#[derive(Clone, Copy, PartialEq, Eq, Drop)]
+pub struct PlanRefused {
+    /// Its place among them, from 0.
+    pub place: usize,
+    /// Its first fault, or `NoMemory`.
+    pub fault: PlanFault,
+}
+
+impl PlanRefused {
+    /// The code of the fault; none where memory was short.
+    pub fn code(self) -> Option<&'static str>
+        ensures { option_map (λ code. code.now) result ≡ code_of self.fault }
+    {
+        match self.fault {
+            PlanFault::NoMemory => None,
+            fault => Some(fault.code()),
+        }
+    }
+}
+
+/// Publishes a plan text.
+///
+/// # Errors
+///
+/// Its first fault, or `NoMemory`. The plan is then as it was.
+pub(crate) fn publish(alloc: Global, plan: &mut Plan, text: &[u8]) -> Result<Change, PlanFault>
+    ensures { IsTried plan.old text.now plan.new result }
+{
+    let read = read_plan(alloc, text)?;
+    plan.extend(&read)
+}
+
+/// The plan of some texts, which are published in turn.
+///
+/// # Errors
+///
+/// The first of them that is refused over the plan of those before it, or for which there was no memory.
+pub(crate) fn publish_all(alloc: Global, texts: &[Vec<u8>]) -> Result<Plan, PlanRefused>
+    ensures { MatchResult result (λ plan. FoldsTo IsPublished opening (texts_of texts.now) plan) (IsRefused (texts_of texts.now)) }
+{
+    let mut plan = Plan::empty(alloc);
+    for (place, text) in texts.iter().enumerate() {
+        match publish(alloc, &mut plan, text) {
+            Ok(_) => {}
+            Err(fault) => return Err(PlanRefused { place, fault }),
+        }
+    }
+    Ok(plan)
+}
+
+/// What a text publishes over a plan, as lines.
+fn report_on(alloc: Global, plan: &mut Plan, text: &[u8]) -> Result<Vec<u8>, PlanFault>
+    ensures { MatchResult result (λ lines. IsReported plan.old text.now lines.items) (IsStopped plan.old text.now) }
+{
+    let Ok(before) = plan.copied() else {
+        return Err(PlanFault::NoMemory);
+    };
+    let change = match publish(alloc, plan, text) {
+        Ok(change) => change,
+        Err(fault) => return Err(fault),
+    };
+    match plan_lines(alloc, change, &before, plan) {
+        Ok(lines) => Ok(lines),
+        Err(_) => Err(PlanFault::NoMemory),
+    }
+}
+
+/// What a plan text publishes over a plan of the texts published before, as lines: `done` or `held`, the terms, and each
+/// entry that is new.
+///
+/// # Errors
+///
+/// The first of the texts that is refused over the plan of those before it, or for which there was no memory. The text
+/// that is tried comes after those published before.
+pub fn try_plan(alloc: Global, published: &[Vec<u8>], text: &[u8]) -> Result<Vec<u8>, PlanRefused>
+    ensures { MatchResult result (λ lines. (plan : Published) × FoldsTo IsPublished opening (texts_of published.now) plan × IsReported plan text.now lines.items)
+        (IsRefused (texts_of published.now ++ text.now ∷ [])) }
+{
+    let mut plan = match publish_all(alloc, published) {
+        Ok(plan) => plan,
+        Err(refused) => return Err(refused),
+    };
+    match report_on(alloc, &mut plan, text) {
+        Ok(lines) => Ok(lines),
+        Err(fault) => Err(PlanRefused {
+            place: published.len(),
+            fault,
+        }),
+    }
+}
