@@ -1,6 +1,6 @@
--- From the rows that an audit counts to what the store keeps.
+-- From the rows that an audit finds to what the store keeps.
 use Rattle.std.proofs.Common.{◌≡◌, ◌⊎◌, ℕ, [], length, None, Result, Ok, Err, IfOk, inl, inr, sym, ap, subst, ◌∙◌, arith}
-use Rattle.std.specs.Prelude.{IfErr, IsErrAnd, IsOkAnd, MatchResult, false, true}
+use Rattle.std.specs.Prelude.{IfErr, IsErrAnd, MatchResult, false, true}
 use Rattle.std.specs.declared.cmp.Ordering.{Ordering}
 use Rattle.std.specs.BTreeMap.{BTreeMap, IsOrdered as AreKeysOrdered}
 use Rattle.std.specs.Cmp.{IsTotalOrder}
@@ -18,10 +18,11 @@ use Rattle.bsp_store_open.specs.Contents.{KeepsBook}
 use Rattle.bsp_store_open.specs.Faults.{is_refusal}
 use Rattle.bsp_store_open.specs.Opening.{IsOrdered, IsRead, LeavesCommitted, Reopens, version_text}
 use Rattle.bsp_store_open.specs.declared.fault.OpenFault.{OpenFault}
+use Rattle.bsp_store_open.specs.declared.fault.OpenFault.TheVariants.{NoRoom}
 use Rattle.bsp_store_open.proofs.Asking.{version_commits_nothing}
 use Rattle.bsp_store_open.proofs.OpeningLemmas.{still_clean}
 use Rattle.bsp_store_save.specs.Kept.{Spares}
-use Rattle.bsp_store.specs.Auditing.{HasNone, IsAuditOf, IsAudited, IsCounted, IsSummaryOf, WasRefused, fault_in}
+use Rattle.bsp_store.specs.Auditing.{HasNone, IsAuditOf, IsAudited, IsFound, IsSummaryOf, WasRefused, fault_in}
 use Rattle.bsp_store.specs.declared.audit.AuditFault.{AuditFault}
 use Rattle.bsp_store.specs.declared.audit.Summary.{Summary}
 
@@ -41,8 +42,8 @@ module _ {S : Type 0} (g : Ghosts S) where
   }
 
   -- a book in memory that was read
-  pub counted_rows : (old new : Held S) (list : ListBook) (rows : Rows) (s : Summary) → IsRead g old new list rows → ((r : Rows) → ListHolds list r None → IsSummaryOf r s) → IsCounted g old new s
-  counted_rows old new list rows s read counts = record { rows = rows; sound = read.sound; counted = counts rows read.listed; earlier = read.earlier; kept = read.found }
+  pub found_rows : {X : Type 0} (IsOf : Rows → X → Type 0) (old new : Held S) (list : ListBook) (rows : Rows) (x : X) → IsRead g old new list rows → ((r : Rows) → ListHolds list r None → IsOf r x) → IsFound IsOf g old new x
+  found_rows IsOf old new list rows x read is = record { rows = rows; sound = read.sound; is_of = is rows read.listed; earlier = read.earlier; kept = read.found }
 
   -- what was found at fault, whatever is asked since
   none_later : (fault : OpenFault) (old mid new : Held S) → HasNone g fault old mid → Spares g mid new → HasNone g fault old new
@@ -55,54 +56,57 @@ module _ {S : Type 0} (g : Ghosts S) where
 
   -- a connection was audited that was opened again, and was then given up
   module _ (before now later : Held S) (again : Reopens g before now) (left : S) (quiet : IsQuiet g.view g.faults g.recovers g.is_shielded later.store left) where
-    pub passed : (r : Result Summary AuditFault) → IfOk r (λ s. IsOrdered g now → IsCounted g now later s) → IfOk r (IsAudited g before left)
-    passed (Ok s) counts =
-        let it = counts again.ordered in
+    pub passed : {X : Type 0} (IsOf : Rows → X → Type 0) (r : Result X AuditFault) → IfOk r (λ x. IsOrdered g now → IsFound IsOf g now later x) → IfOk r (IsAudited IsOf g before left)
+    passed IsOf (Ok x) finds =
+        let it = finds again.ordered in
         record {
           rows = it.rows;
           sound = it.sound;
-          counted = it.counted;
+          is_of = it.is_of;
           kept = λ clean. let is = still_clean g later left quiet clean in subst (KeepsBook it.rows) (again.trees (it.earlier is)) (it.kept is);
         }
-    passed (Err e) counts = tt
+    passed IsOf (Err e) finds = tt
 
-    pub refused : (r : Result Summary AuditFault) → IfErr r (λ e. is_refusal (fault_in e) ≡ true → HasNone g (fault_in e) now later)
+    pub refused : {X : Type 0} (r : Result X AuditFault) → IfErr r (λ e. is_refusal (fault_in e) ≡ true → HasNone g (fault_in e) now later)
         → IfErr r (λ e. is_refusal (fault_in e) ≡ true → WasRefused g (fault_in e) before left)
     refused (Ok s) none = tt
     refused (Err e) none = λ is clean. (now, again, (later, still_clean g later left quiet clean, none is))
 
   -- with the store that was left
-  pub left_behind : (h : Held S) (left : S) → LeavesCommitted g h left → (r : Result Summary AuditFault) → IfErr r (λ e. is_refusal (fault_in e) ≡ true → WasRefused g (fault_in e) h left)
+  pub left_behind : {X : Type 0} (h : Held S) (left : S) → LeavesCommitted g h left → (r : Result X AuditFault) → IfErr r (λ e. is_refusal (fault_in e) ≡ true → WasRefused g (fault_in e) h left)
       → IfErr r (λ e. is_refusal (fault_in e) ≡ true → (x : S) × WasRefused g (fault_in e) h x × LeavesCommitted g h x)
   left_behind h left leaves (Ok s) none = tt
   left_behind h left leaves (Err e) none = λ is. (left, none is, leaves)
 
 -- a connection that was opened, or was not, and what is answered
-module _ {S : Type 0} (g : Ghosts S) (Found : Held S → Type 0) where
-  abbrev Answers : Result Summary AuditFault → Type 0
-  Answers r = ((conn : Held S) × Found conn × IsAuditOf g conn r) ⊎ ((fault : OpenFault) × (is_refusal fault ≡ false) × IsErrAnd r (λ f. fault_in f ≡ fault))
+module _ {S X : Type 0} (IsOf : Rows → X → Type 0) (g : Ghosts S) (Found : Held S → Type 0) where
+  abbrev Answers : Result X AuditFault → Type 0
+  Answers r = ((conn : Held S) × Found conn × IsAuditOf IsOf g conn r) ⊎ ((fault : OpenFault) × (is_refusal fault ≡ false) × IsErrAnd r (λ f. fault_in f ≡ fault))
 
-  pub audited_ok : (r : Result Summary AuditFault) → Answers r → IfOk r (λ s. (conn : Held S) × (left : S) × Found conn × IsAudited g conn left s × LeavesCommitted g conn left)
+  pub audited_ok : (r : Result X AuditFault) → Answers r → IfOk r (λ x. (conn : Held S) × (left : S) × Found conn × IsAudited IsOf g conn left x × LeavesCommitted g conn left)
   audited_ok (Ok s) (inl it) = let left = it.2.passed in (it.0, left.0, it.1, left.1, left.2)
   audited_ok (Ok s) (inr is) = absurd is.2
   audited_ok (Err f) it = tt
 
-  pub audited_err : (r : Result Summary AuditFault) → Answers r
+  pub audited_err : (r : Result X AuditFault) → Answers r
       → IfErr r (λ f. is_refusal (fault_in f) ≡ true → (conn : Held S) × (left : S) × Found conn × WasRefused g (fault_in f) conn left × LeavesCommitted g conn left)
   audited_err (Ok s) it = tt
   audited_err (Err f) (inl it) = λ is. let left = it.2.refused is in (it.0, left.0, it.1, left.1, left.2)
   audited_err (Err f) (inr is) = λ refused. let fine = is.1 in let other = ap is_refusal is.2 in absurd (cc (refused, other, fine))
 
--- the numbers of a book that was read
-module _ {B : Type 0} (Has : B → Summary → Type 0) where
-  pub numbered_ok : (read : Result B OpenFault) (r : Result Summary OpenFault) → MatchResult read (λ book. IsOkAnd r (Has book)) (λ fault. r ≡ Err fault) → (P : B → Type 0) → IfOk read P
-      → (Q : Summary → Type 0) → ((book : B) (s : Summary) → P book → Has book s → Q s) → IfOk r Q
-  numbered_ok (Ok book) (Ok s) has P it Q so = so book s it has
-  numbered_ok (Ok book) (Err f) has P it Q so = tt
-  numbered_ok (Err e) (Ok s) has P it Q so = absurd (cc has)
-  numbered_ok (Err e) (Err f) has P it Q so = tt
+-- what is answered of a book that was read
+module _ {X : Type 0} (Is : ListBook → X → Type 0) where
+  abbrev IsAnswered : Result ListBook OpenFault → Result X OpenFault → Type 0
+  IsAnswered read r = MatchResult read (λ list. MatchResult r (Is list) (λ fault. fault ≡ NoRoom)) (λ fault. r ≡ Err fault)
 
-  pub numbered_err : (read : Result B OpenFault) (r : Result Summary OpenFault) → MatchResult read (λ book. IsOkAnd r (Has book)) (λ fault. r ≡ Err fault) → (Q : OpenFault → Type 0) → IfErr read Q → IfErr r Q
-  numbered_err (Ok book) (Ok s) has Q it = tt
-  numbered_err (Ok book) (Err f) has Q it = absurd has
-  numbered_err (Err e) r has Q it = subst (λ q. IfErr q Q) (sym has) it
+  pub answered_ok : (read : Result ListBook OpenFault) (r : Result X OpenFault) → IsAnswered read r → (P : ListBook → Type 0) → IfOk read P → (Q : X → Type 0) → ((list : ListBook) (x : X) → P list → Is list x → Q x)
+      → IfOk r Q
+  answered_ok (Ok list) (Ok x) is P it Q so = so list x it is
+  answered_ok (Ok list) (Err f) is P it Q so = tt
+  answered_ok (Err e) (Ok x) is P it Q so = absurd (cc is)
+  answered_ok (Err e) (Err f) is P it Q so = tt
+
+  pub answered_err : (read : Result ListBook OpenFault) (r : Result X OpenFault) → IsAnswered read r → (Q : OpenFault → Type 0) → IfErr read (λ f. is_refusal f ≡ true → Q f) → IfErr r (λ f. is_refusal f ≡ true → Q f)
+  answered_err (Ok list) (Ok x) is Q it = tt
+  answered_err (Ok list) (Err f) is Q it = λ refused. absurd (cc (refused, ap is_refusal is))
+  answered_err (Err e) r is Q it = subst (λ q. IfErr q (λ f. is_refusal f ≡ true → Q f)) (sym is) it

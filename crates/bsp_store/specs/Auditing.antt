@@ -7,6 +7,7 @@ use Rattle.sqlite_trees.specs.View.{IsClean}
 use Rattle.sqlite_trees.specs.declared.store.Store.{Ghosts}
 use Rattle.sqlite.specs.Held.{Held, state}
 use Rattle.sqlite.specs.State.{HasCleanDisk}
+use Rattle.bsp_rows.specs.Published.{Published}
 use Rattle.bsp_rows.specs.Rows.{Rows}
 use Rattle.bsp_rows.specs.Sound.{Sound}
 use Rattle.bsp_store_open.specs.Contents.{KeepsBook}
@@ -40,33 +41,39 @@ fault_in (Damaged damage) = opening.Damaged
 fault_in (OtherVersion number) = opening.OtherVersion
 fault_in (Failed fault) = fault
 
-module _ {S : Type 0} (g : Ghosts S) where
-  -- the tables of a connection keep sound rows, and these are their numbers
-  pub record IsCounted (old new : Held S) (s : Summary) : Type 0 where
+-- the plan of the rows
+abbrev pub IsPlanOf : Rows → Published → Type 0
+IsPlanOf rows plan = plan ≡ rows.published
+
+-- what is answered of the rows that are found
+module _ {S X : Type 0} (IsOf : Rows → X → Type 0) (g : Ghosts S) where
+  -- the tables of a connection keep sound rows, and this is answered of them
+  pub record IsFound (old new : Held S) (x : X) : Type 0 where
     pub rows : Rows
     pub sound : Sound rows
-    pub counted : IsSummaryOf rows s
+    pub is_of : IsOf rows x
     pub earlier : HasCleanDisk (state g new) → HasCleanDisk (state g old)
     pub kept : HasCleanDisk (state g new) → KeepsBook rows (state g old).now.trees
 
+  -- the tables of a store keep sound rows, and this is answered of them
+  pub record IsAudited (h : Held S) (left : S) (x : X) : Type 0 where
+    pub rows : Rows
+    pub sound : Sound rows
+    pub is_of : IsOf rows x
+    pub kept : IsClean (g.view left) → KeepsBook rows (state g h).committed.trees
+
+module _ {S : Type 0} (g : Ghosts S) where
   -- a connection has no book of this version, for what the fault says: its tables keep none, or they are not a book's, and
   -- that is what they are asked for their version
   pub record HasNone (fault : OpenFault) (old new : Held S) : Type 0 where
     pub ours : HasNoBook g fault old new
     pub others : HasCleanDisk (state g new) → (old.schema ≡ our_schema → ⊥) → (later : Held S) × HasCleanDisk (state g later) × IsAskedVersion g fault old later
 
-  -- the tables of a store keep sound rows, and these are their numbers
-  pub record IsAudited (h : Held S) (left : S) (s : Summary) : Type 0 where
-    pub rows : Rows
-    pub sound : Sound rows
-    pub counted : IsSummaryOf rows s
-    pub kept : IsClean (g.view left) → KeepsBook rows (state g h).committed.trees
-
   -- opened again, the store showed no book of this version, for what the fault says
   abbrev pub WasRefused : OpenFault → Held S → S → Type 0
   WasRefused fault h left = IsClean (g.view left) → (now : Held S) × Reopens g h now × ((later : Held S) × HasCleanDisk (state g later) × HasNone fault now later)
 
-  -- what is answered of a connection, whose store is then let go
-  pub record IsAuditOf (h : Held S) (r : Result Summary AuditFault) : Type 0 where
-    pub passed : IfOk r (λ s. (left : S) × IsAudited h left s × LeavesCommitted g h left)
-    pub refused : IfErr r (λ e. is_refusal (fault_in e) ≡ true → (left : S) × WasRefused (fault_in e) h left × LeavesCommitted g h left)
+-- what is answered of a connection, whose store is then let go
+pub record IsAuditOf {S X : Type 0} (IsOf : Rows → X → Type 0) (g : Ghosts S) (h : Held S) (r : Result X AuditFault) : Type 0 where
+  pub passed : IfOk r (λ x. (left : S) × IsAudited IsOf g h left x × LeavesCommitted g h left)
+  pub refused : IfErr r (λ e. is_refusal (fault_in e) ≡ true → (left : S) × WasRefused g (fault_in e) h left × LeavesCommitted g h left)

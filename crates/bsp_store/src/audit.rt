@@ -1,6 +1,6 @@
 //! The audit of a book, which changes nothing in its store.
 
-ghost use Rattle.std.specs.Prelude.{◌≡◌, Err, IfErr, IfOk, IfSome, IsOkAnd, MatchResult, None, true};
+ghost use Rattle.std.specs.Prelude.{◌≡◌, Err, IfErr, IfOk, IfSome, MatchResult, None, true};
 ghost use Rattle.sqlite.specs.Files.{file_state, over_files};
 ghost use Rattle.sqlite.specs.Held.{Held};
 ghost use Rattle.sqlite.specs.Start.{FindsIn};
@@ -12,12 +12,12 @@ ghost use Rattle.bsp_store_save.specs.Kept.{Spares};
 ghost use Rattle.bsp_store_open.specs.Faults.{is_refusal};
 ghost use Rattle.bsp_store_open.specs.Opening.{IsOrdered, LeavesCommitted};
 ghost use Rattle.bsp_store.specs.Files.{StoreFrom};
-ghost use Rattle.bsp_store.specs.Auditing.{HasNone, IsAudited, IsCounted, IsSummaryOf, ShowsNumber, WasRefused, fault_in};
+ghost use Rattle.bsp_store.specs.Auditing.{HasNone, IsAudited, IsFound, IsPlanOf, IsSummaryOf, ShowsNumber, WasRefused, fault_in};
 
 use crate::missing_log::MissingLog;
 use crate::on_files::{OnFiles, on_files};
 use bsp_book::ListBook;
-use bsp_rows::Day;
+use bsp_rows::{Day, Plan};
 use bsp_store_damage::{Damage, find_damage};
 use bsp_store_open::{OpenFault, again, is_ours, kept_list, refusal};
 use sqlite::{Alter, Connection, Row, Start};
@@ -75,42 +75,57 @@ fn summary_of(list: &ListBook) -> Summary
     }
 }
 
-/// A book in memory, with the numbers of its rows.
-trait Numbered {
-    ghost use Rattle.bsp_store.specs.declared.audit.Summary.{Summary as Numbers};
-
-    ghost has: { Self → Numbers → Type 0 };
-
-    fn summary(&self) -> Summary
-        ensures { has self.now result };
-}
-
-impl Numbered for ListBook {
-    ghost use Rattle.std.specs.Prelude.{None};
+/// What is answered of the rows of a book.
+trait Finding: Sized {
+    ghost use Rattle.std.specs.Prelude.{◌≡◌, MatchResult, None};
     ghost use Rattle.bsp_rows.specs.Rows.{Rows};
     ghost use Rattle.bsp_book.specs.Listed.{Holds as ListHolds};
+    ghost use Rattle.bsp_store_open.specs.declared.fault.OpenFault.TheVariants.{NoRoom};
+
+    ghost is_of: { Rows → Self → Type 0 };
+
+    fn of(list: &ListBook) -> Result<Self, OpenFault>
+        ensures { MatchResult result (λ found. (rows : Rows) → ListHolds list.now rows None → is_of rows found) (λ fault. fault ≡ NoRoom) };
+}
+
+impl Finding for Summary {
     ghost use Rattle.bsp_store.specs.Auditing.{IsSummaryOf};
 
-    ghost has = { λ list numbers. (rows : Rows) → ListHolds list rows None → IsSummaryOf rows numbers };
+    ghost is_of = { IsSummaryOf };
 
-    fn summary(&self) -> Summary {
-        summary_of(self)
+    fn of(list: &ListBook) -> Result<Summary, OpenFault> {
+        Ok(summary_of(list))
     }
 }
 
-/// The numbers of a book that was read, if it was.
-fn summary_in<B: Numbered + Drop>(read: Result<B, OpenFault>) -> Result<Summary, OpenFault>
-    ensures { MatchResult read (λ book. IsOkAnd result (B.has book)) (λ fault. result ≡ Err fault) }
+impl Finding for Plan {
+    ghost use Rattle.bsp_store.specs.Auditing.{IsPlanOf};
+
+    ghost is_of = { IsPlanOf };
+
+    fn of(list: &ListBook) -> Result<Plan, OpenFault> {
+        match list.tables().plan().copied() {
+            Ok(plan) => Ok(plan),
+            Err(_) => Err(OpenFault::NoRoom),
+        }
+    }
+}
+
+/// What is answered of a book that was read, if it was.
+fn found_in<X: Finding>(read: Result<ListBook, OpenFault>) -> Result<X, OpenFault>
+    ensures { MatchResult read
+        (λ list. MatchResult result (λ found. (rows : Rows) → ListHolds list rows None → X.is_of rows found) (λ fault. fault ≡ OpenFault.NoRoom))
+        (λ fault. result ≡ Err fault) }
 {
     match read {
-        Ok(book) => Ok(book.summary()),
+        Ok(list) => X::of(&list),
         Err(fault) => Err(fault),
     }
 }
 
-/// Reads all rows of a store, tests that they are a sound book's, and counts them.
-fn counted<S: Alter>(alloc: Global, conn: &mut Connection<S>) -> Result<Summary, OpenFault>
-    ensures ok { IfOk result (λ summary. IsOrdered S.Store conn.old → IsCounted S.Store conn.old conn.new summary) }
+/// Reads all rows of a store, tests that they are a sound book's, and answers what is found of them.
+fn found<S: Alter, X: Finding>(alloc: Global, conn: &mut Connection<S>) -> Result<X, OpenFault>
+    ensures ok { IfOk result (λ found. IsOrdered S.Store conn.old → IsFound X.is_of S.Store conn.old conn.new found) }
     ensures refused { IfErr result (λ fault. is_refusal fault ≡ true → HasNone S.Store fault conn.old conn.new) }
     ensures spares { Spares S.Store conn.old conn.new }
 {
@@ -118,7 +133,7 @@ fn counted<S: Alter>(alloc: Global, conn: &mut Connection<S>) -> Result<Summary,
         return Err(refusal(conn));
     }
     let read = kept_list(alloc, conn);
-    summary_in(read)
+    found_in(read)
 }
 
 /// The version in the first row of `meta`.
@@ -150,14 +165,32 @@ fn explained<S: Alter>(alloc: Global, conn: &mut Connection<S>, fault: OpenFault
 }
 
 /// The audit of a connection that was just opened.
-fn audited<S: Alter>(alloc: Global, conn: &mut Connection<S>) -> Result<Summary, AuditFault>
-    ensures ok { IfOk result (λ summary. IsOrdered S.Store conn.old → IsCounted S.Store conn.old conn.new summary) }
+fn audited<S: Alter, X: Finding>(alloc: Global, conn: &mut Connection<S>) -> Result<X, AuditFault>
+    ensures ok { IfOk result (λ found. IsOrdered S.Store conn.old → IsFound X.is_of S.Store conn.old conn.new found) }
     ensures refused { IfErr result (λ e. is_refusal (fault_in e) ≡ true → HasNone S.Store (fault_in e) conn.old conn.new) }
     ensures spares { Spares S.Store conn.old conn.new }
 {
-    match counted(alloc, conn) {
-        Ok(summary) => Ok(summary),
+    match found(alloc, conn) {
+        Ok(found) => Ok(found),
         Err(fault) => Err(explained(alloc, conn, fault)),
+    }
+}
+
+/// Opens a store again, audits it and gives it back, with what is found of its rows.
+fn found_again<S: Alter + Drop, X: Finding>(
+    alloc: Global,
+    conn: Connection<S>,
+) -> (Result<X, AuditFault>, S)
+    ensures ok { IfOk result.0 (IsAudited X.is_of S.Store conn result.1) }
+    ensures refused { IfErr result.0 (λ e. is_refusal (fault_in e) ≡ true → WasRefused S.Store (fault_in e) conn result.1) }
+    ensures left { LeavesCommitted S.Store conn result.1 }
+{
+    match again(alloc, conn) {
+        Ok(mut conn) => {
+            let found = audited(alloc, &mut conn);
+            (found, conn.into_store())
+        }
+        Err((fault, store)) => (Err(AuditFault::Failed(fault)), store),
     }
 }
 
@@ -172,29 +205,23 @@ pub fn audit_store<S: Alter + Drop>(
     alloc: Global,
     conn: Connection<S>,
 ) -> (Result<Summary, AuditFault>, S)
-    ensures ok { IfOk result.0 (IsAudited S.Store conn result.1) }
+    ensures ok { IfOk result.0 (IsAudited IsSummaryOf S.Store conn result.1) }
     ensures refused { IfErr result.0 (λ e. is_refusal (fault_in e) ≡ true → WasRefused S.Store (fault_in e) conn result.1) }
     ensures left { LeavesCommitted S.Store conn result.1 }
 {
-    match again(alloc, conn) {
-        Ok(mut conn) => {
-            let found = audited(alloc, &mut conn);
-            (found, conn.into_store())
-        }
-        Err((fault, store)) => (Err(AuditFault::Failed(fault)), store),
-    }
+    found_again(alloc, conn)
 }
 
 /// Audits the book of a connection, and takes away the log that its opening made, while the files are still locked.
-fn audited_alone<S: Alter + Drop>(
+fn audited_alone<S: Alter + Drop, X: Finding>(
     rt: &HostRuntime,
     conn: Connection<S>,
     log: &MissingLog,
-) -> Result<Summary, AuditFault>
-    ensures ok { IfOk result (λ summary. (left : S) × IsAudited S.Store conn left summary × LeavesCommitted S.Store conn left) }
+) -> Result<X, AuditFault>
+    ensures ok { IfOk result (λ found. (left : S) × IsAudited X.is_of S.Store conn left found × LeavesCommitted S.Store conn left) }
     ensures refused { IfErr result (λ e. is_refusal (fault_in e) ≡ true → (left : S) × WasRefused S.Store (fault_in e) conn left × LeavesCommitted S.Store conn left) }
 {
-    let (found, store) = audit_store(rt.alloc(), conn);
+    let (found, store) = found_again(rt.alloc(), conn);
     log.remove(rt);
     drop(store);
     found
@@ -206,11 +233,11 @@ struct Audit {
     log: MissingLog,
 }
 
-impl OnFiles<Result<Summary, AuditFault>> for Audit {
+impl<X: Finding> OnFiles<Result<X, AuditFault>> for Audit {
     ghost use Rattle.std.specs.Prelude.{◌≡◌, IsErrAnd};
     ghost use Rattle.bsp_store.specs.Auditing.{IsAuditOf, fault_in};
 
-    ghost is_found = { λ S g conn found. IsAuditOf g conn found };
+    ghost is_found = { λ S g conn found. IsAuditOf X.is_of g conn found };
 
     ghost is_failed = { λ fault found. IsErrAnd found (λ e. fault_in e ≡ fault) };
 
@@ -218,7 +245,7 @@ impl OnFiles<Result<Summary, AuditFault>> for Audit {
         self,
         rt: &HostRuntime,
         opened: Result<Connection<S>, (OpenFault, Option<L>)>,
-    ) -> Result<Summary, AuditFault> {
+    ) -> Result<X, AuditFault> {
         match opened {
             Ok(conn) => audited_alone(rt, conn, &self.log),
             Err((fault, left)) => {
@@ -231,15 +258,9 @@ impl OnFiles<Result<Summary, AuditFault>> for Audit {
     }
 }
 
-/// Audits the book in the file at a path, with its log beside it. It changes nothing in them, and leaves no log where there
-/// was none. A file that is not there is not made; an empty one is made a database without tables.
-///
-/// # Errors
-///
-/// As those of [`audit_store`], which it calls over the files. A file that is not opened is `Failed`. No clause ties what
-/// the files hold to the path.
-pub fn audit_at<T: Start>(rt: &HostRuntime, path: &str, start: T) -> Result<Summary, AuditFault>
-    ensures ok { IfOk result (λ summary. (conn : Held (StoreFrom T.Start)) × (left : StoreFrom T.Start) × (HasCleanDisk (file_state conn) → FindsIn (image_at T.Start) (file_state conn)) × IsAudited over_files conn left summary × LeavesCommitted over_files conn left) }
+/// Audits the book in the file at a path, and answers what is found of its rows.
+fn found_at<T: Start, X: Finding>(rt: &HostRuntime, path: &str, start: T) -> Result<X, AuditFault>
+    ensures ok { IfOk result (λ found. (conn : Held (StoreFrom T.Start)) × (left : StoreFrom T.Start) × (HasCleanDisk (file_state conn) → FindsIn (image_at T.Start) (file_state conn)) × IsAudited X.is_of over_files conn left found × LeavesCommitted over_files conn left) }
     ensures refused { IfErr result (λ e. is_refusal (fault_in e) ≡ true → (conn : Held (StoreFrom T.Start)) × (left : StoreFrom T.Start) × (HasCleanDisk (file_state conn) → FindsIn (image_at T.Start) (file_state conn)) × WasRefused over_files (fault_in e) conn left × LeavesCommitted over_files conn left) }
 {
     let log = match MissingLog::of(rt, path) {
@@ -247,4 +268,30 @@ pub fn audit_at<T: Start>(rt: &HostRuntime, path: &str, start: T) -> Result<Summ
         Err(fault) => return Err(AuditFault::Failed(fault)),
     };
     on_files(rt, path, start, Audit { log })
+}
+
+/// Audits the book in the file at a path, with its log beside it. It changes nothing in them, and leaves no log where there
+/// was none. A file that is not there is not made; an empty one is made a database without tables.
+///
+/// # Errors
+///
+/// As those of [`audit_store`], which does the same with a store. A file that is not opened is `Failed`. No clause ties what
+/// the files hold to the path.
+pub fn audit_at<T: Start>(rt: &HostRuntime, path: &str, start: T) -> Result<Summary, AuditFault>
+    ensures ok { IfOk result (λ summary. (conn : Held (StoreFrom T.Start)) × (left : StoreFrom T.Start) × (HasCleanDisk (file_state conn) → FindsIn (image_at T.Start) (file_state conn)) × IsAudited IsSummaryOf over_files conn left summary × LeavesCommitted over_files conn left) }
+    ensures refused { IfErr result (λ e. is_refusal (fault_in e) ≡ true → (conn : Held (StoreFrom T.Start)) × (left : StoreFrom T.Start) × (HasCleanDisk (file_state conn) → FindsIn (image_at T.Start) (file_state conn)) × WasRefused over_files (fault_in e) conn left × LeavesCommitted over_files conn left) }
+{
+    found_at(rt, path, start)
+}
+
+/// The plan of the book in the file at a path, which is audited as by [`audit_at`].
+///
+/// # Errors
+///
+/// As those of [`audit_at`].
+pub fn plan_at<T: Start>(rt: &HostRuntime, path: &str, start: T) -> Result<Plan, AuditFault>
+    ensures ok { IfOk result (λ plan. (conn : Held (StoreFrom T.Start)) × (left : StoreFrom T.Start) × (HasCleanDisk (file_state conn) → FindsIn (image_at T.Start) (file_state conn)) × IsAudited IsPlanOf over_files conn left plan × LeavesCommitted over_files conn left) }
+    ensures refused { IfErr result (λ e. is_refusal (fault_in e) ≡ true → (conn : Held (StoreFrom T.Start)) × (left : StoreFrom T.Start) × (HasCleanDisk (file_state conn) → FindsIn (image_at T.Start) (file_state conn)) × WasRefused over_files (fault_in e) conn left × LeavesCommitted over_files conn left) }
+{
+    found_at(rt, path, start)
 }

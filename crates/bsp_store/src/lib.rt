@@ -9,7 +9,7 @@ mod missing_log;
 mod on_files;
 mod opening;
 
-pub use audit::{AuditFault, Summary, audit_at, audit_store};
+pub use audit::{AuditFault, Summary, audit_at, audit_store, plan_at};
 pub use book::SqlBook;
 pub use bsp_store_damage::Damage;
 pub use bsp_store_open::OpenFault;

@@ -7,25 +7,22 @@ use Rattle.bsp_store_save.specs.MemoryRowsTables.{rows_of}
 use Rattle.bsp_store_open.specs.Faults.{is_refusal}
 use Rattle.bsp_store_open.specs.Opening.{IsOrdered, IsRead}
 use Rattle.bsp_store_open.proofs.OpeningLemmas.{if_err}
-use Rattle.bsp_store.specs.Auditing.{HasNone, IsCounted, IsSummaryOf}
-use Rattle.bsp_store.specs.declared.audit.Summary.{Summary}
-use Rattle.bsp_store.proofs.AuditingLemmas.{counted_rows, numbered_err, numbered_ok}
-use Rattle.bsp_store.proofs.audit.counted.Goals as goal
-
-abbrev Has : ListBook → Summary → Type 0
-Has list s = (rows : Rows) → ListHolds list rows None → IsSummaryOf rows s
+use Rattle.bsp_store.specs.Auditing.{HasNone, IsFound}
+use Rattle.bsp_store.proofs.AuditingLemmas.{answered_err, answered_ok, found_rows}
+use Rattle.bsp_store.proofs.audit.found.Goals as goal
 
 pub returns-clause-ok : goal.returns-clause-ok
 returns-clause-ok g c =
     let now = c.kept_list-read.new.conn in
-    numbered_ok Has c.kept_list-read.result c.summary_in.result c.summary_in.ensures (λ (list : ListBook). IsOrdered g.S.Store c.args.conn.now → IsRead g.S.Store c.args.conn.now now list (rows_of list.tables)) c.kept_list-read.ensures.read
-    (λ s. IsOrdered g.S.Store c.args.conn.now → IsCounted g.S.Store c.args.conn.now now s) (λ list s read counts order. counted_rows g.S.Store c.args.conn.now now list _ s (read order) counts)
+    answered_ok (λ list x. (rows : Rows) → ListHolds list rows None → g.X.Finding.is_of rows x) c.kept_list-read.result c.found_in.result c.found_in.ensures
+    (λ (list : ListBook). IsOrdered g.S.Store c.args.conn.now → IsRead g.S.Store c.args.conn.now now list (rows_of list.tables)) c.kept_list-read.ensures.read
+    (λ x. IsOrdered g.S.Store c.args.conn.now → IsFound g.X.Finding.is_of g.S.Store c.args.conn.now now x) (λ list x read is order. found_rows g.S.Store g.X.Finding.is_of c.args.conn.now now list _ x (read order) is)
 
 pub returns-clause-refused : goal.returns-clause-refused
 returns-clause-refused g c =
     let yes : IsTrue c.is_ours.result = search rules in
     let now = c.kept_list-read.new.conn in
-    numbered_err Has c.kept_list-read.result c.summary_in.result c.summary_in.ensures (λ fault. is_refusal fault ≡ true → HasNone g.S.Store fault c.args.conn.now now)
+    answered_err (λ list x. (rows : Rows) → ListHolds list rows None → g.X.Finding.is_of rows x) c.kept_list-read.result c.found_in.result c.found_in.ensures (λ fault. HasNone g.S.Store fault c.args.conn.now now)
     (if_err _ _ c.kept_list-read.result c.kept_list-read.ensures.refused (λ fault none refused. record { ours = none refused; others = λ clean other. absurd (other (sym c.schema.ensures.value ∙ c.is_ours.ensures.0 yes)) }))
 
 pub returns-then-not-is_ours-clause-refused : goal.returns-then-not-is_ours-clause-refused

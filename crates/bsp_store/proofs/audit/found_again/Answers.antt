@@ -1,10 +1,10 @@
 use Rattle.bsp_store_open.proofs.OpeningLemmas.{given_up, left_committed}
 use Rattle.bsp_store.proofs.AuditingLemmas.{passed, refused}
-use Rattle.bsp_store.proofs.audit.audit_store.Goals as goal
+use Rattle.bsp_store.proofs.audit.found_again.Goals as goal
 
 pub returns-in-Ok-clause-ok : goal.returns-in-Ok-clause-ok
 returns-in-Ok-clause-ok g c =
-    passed g.S.Store c.args.conn c.in-Ok.conn c.audited-found.new.conn c.in-Ok.ensures.ok c.into_store.result c.into_store.ensures.quiet c.audited-found.result c.audited-found.ensures.ok
+    passed g.S.Store c.args.conn c.in-Ok.conn c.audited-found.new.conn c.in-Ok.ensures.ok c.into_store.result c.into_store.ensures.quiet g.X.Finding.is_of c.audited-found.result c.audited-found.ensures.ok
 
 pub returns-in-Ok-clause-refused : goal.returns-in-Ok-clause-refused
 returns-in-Ok-clause-refused g c =
