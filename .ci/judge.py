@@ -169,19 +169,44 @@ def try_faults():
 
 PLANS = [
     ([], "", "", None, "done"),
-    ([], "", "currency = EUR", None, "P01"),
-    ([], 'currency = "EUR"', 'currency = "eur"', "currency is wrong: it is three capital letters in quotes", "P02"),
-    ([], "review_days = 14\n", "", "review_days is missing: it is a whole number from 1 to 60, without quotes", "P02"),
-    ([], "[[rate]]", "[[rates]]", "rates is unknown", "P02"),
-    ([], 'from = "2024-01-01"', 'from = "2024-02-30"', 'rate 1: from is wrong: it is a day in quotes, as "2024-01-05"', "P02"),
-    ([], '"125", "220"', '"220"', "a rate is of 125, which is in neither the text nor the plan", "P02"),
-    ([], 'first = "2024-01-16"', 'first = "2024-01-17"', "period 24012 begins 2024-01-17, and period 24011 before it ends 2024-01-15", "P03"),
-    ([], 'remit = "2024-02-15"', 'remit = "2024-01-15"', "period 24011 ends 2024-01-15, and its remit is 2024-01-15", "P03"),
-    ([], 'from = "2024-01-01"', 'from = "2000-01-01"', "a rate of 125 begins 2000-01-01, and the business day is 2000-01-01", "P05"),
+    ([], 'currency = "EUR"', "currency = EUR", 'line 1: EUR is no value: a text is in quotes, as "EUR"', "P01"),
+    ([], "hundredths = 500", "hundredths = 0500", "line 8: 0500 has a zero in front: write 500", "P01"),
+    ([], "= 1000", "= 1,000", 'line 3: after the value comes ",000": a number has no comma, and a line has one key', "P01"),
+    ([], 'from = "2024-01-01"', 'from = "2024-01-01', "line 7: a text has no quote at its end", "P01"),
+    ([], "review_days", "currency", "line 2: currency comes twice", "P01"),
+    ([], 'currency = "EUR"', 'currency = "eur"', 'currency is "eur", and not three capital letters in quotes, as "EUR"', "P02"),
+    ([], "review_days = 14\n", "", "review_days is missing: it is a whole number from 1 to 60", "P02"),
+    ([], "[[rate]]", "[[rates]]",
+     "rates is unknown: the keys are currency, review_days, documents_limit, airline, rate, period and commission_tax", "P02"),
+    ([], "[[rate]]", "[rate]", "rate is no list: write [[rate]] in place of [rate]", "P02"),
+    ([], 'from = "2024-01-01"', 'from = "2024-02-30"', 'rate 1: from is "2024-02-30", which is no day of the calendar', "P02"),
+    ([], 'from = "2024-01-01"', 'from = "01.01.2024"', 'rate 1: from is "01.01.2024", and not a day as "2024-01-05"', "P02"),
+    ([], 'from = "2024-01-01"', 'from = "1999-01-01"', 'rate 1: from is "1999-01-01", and not of the years 2000 to 2099', "P02"),
+    ([], 'from = "2024-01-01"', "from = 2024-01-01", 'rate 1: from is 2024-01-01 without quotes: write "2024-01-01"', "P02"),
+    ([], 'code = "24011"', "code = 24011", 'period 1: code is 24011 without quotes: write "24011"', "P02"),
+    ([], "= 14", '= "14"', 'review_days is "14" in quotes, and not a whole number from 1 to 60, as 14', "P02"),
+    ([], "= 1000", "= 1.000", "documents_limit is 1.000, and not a whole number from 1 to 1,000,000, without a point", "P02"),
+    ([], "= 500", "= 50000", "rate 1: hundredths is 50000, and not a whole number from 0 to 10,000: 5.00 percent is 500", "P02"),
+    ([], '"125", "220"]', '"125", 220]', 'airline: 220 has no quotes: write "220"', "P02"),
+    ([], "hundredths = 500", "hundredths = 500\ndocuments_limit = 1",
+     "rate 1: documents_limit is a key of the text: write it above the first table", "P02"),
+    ([], '"125", "220"', '"220"', "a rate is of 125, which is in neither the text nor the plan: add it to airline", "P02"),
+    ([], 'first = "2024-01-16"', 'first = "2024-01-17"',
+     "period 24012 begins 2024-01-17, and period 24011 before it ends 2024-01-15: it has to begin 2024-01-16", "P03"),
+    ([], 'remit = "2024-02-15"', 'remit = "2024-01-15"',
+     "period 24011 ends 2024-01-15, and its remit is 2024-01-15: it has to be after the last day", "P03"),
+    ([], 'from = "2024-01-01"', 'from = "2000-01-01"',
+     "a rate of 125 begins 2000-01-01, and the business day is 2000-01-01: it has to begin on a later day", "P05"),
     (["plan"], "", "", None, "held"),
-    (["plan"], "hundredths = 500", "hundredths = 600", "the rate of 125 from 2024-01-01 is 600 here and 500 before", "P08"),
-    (["plan"], "review_days = 14", "review_days = 15", "review_days differs from what is published", "P08"),
-    (["plan"], 'last = "2024-01-31"', 'last = "2024-01-30"', "period 24012 is 2024-01-16 to 2024-01-30 here and 2024-01-16 to 2024-01-31 before", "P08"),
+    (["plan"], "hundredths = 500", "hundredths = 600",
+     "the rate of 125 from 2024-01-01 is 600 here and 500 before: a new rate is a further [[rate]] from a later day", "P08"),
+    (["plan"], "review_days = 14", "review_days = 15", "review_days is 15 here and 14 before: it stays as it was published", "P08"),
+    (["plan"], 'last = "2024-01-31"', 'last = "2024-01-30"',
+     "period 24012: last is 2024-01-30 here and 2024-01-31 before: a published period stays", "P08"),
+    (["plan"], 'remit = "2024-02-15"', 'remit = "2024-02-16"',
+     "period 24011: remit is 2024-02-16 here and 2024-02-15 before: a published period stays", "P08"),
+    ([], "[[period]]", '[[rate]]\nairline = "125"\nfrom = "2024-01-01"\nhundredths = 700\n[[period]]',
+     "the rate of 125 from 2024-01-01 is 500 in the first entry and 700 in the second: a new rate is a further [[rate]] from a later day", "P08"),
 ]
 
 
@@ -203,6 +228,10 @@ def try_plan():
             expect(f"plan {code} {new!r}", (int(code[0] == "P"), code), (ended.returncode, ended.stdout.split("\n")[0]))
             if reason:
                 expect(f"plan {code} {new!r}: why", f"bsp_office: text: {reason}\n", ended.stderr)
+    for day, code in (("2024-01-15", "done"), ("2024-01-16", "P05")):
+        ended = subprocess.run([PROGRAM, "plan", "--after", str(TOP / "samples/plan.toml"), "--day", day, str(TOP / "samples/commission-tax.toml")],
+                               capture_output=True, timeout=60, text=True)
+        expect(f"plan --day {day}", code, ended.stdout.split("\n")[0])
     wanted = (b"done\ncurrency EUR review_days 14 documents_limit 1000\nairline 125\nairline 220\n"
               b"rate 125 from 2024-01-01 hundredths 500\nperiod 24011 first 2024-01-01 last 2024-01-15 remit 2024-02-15\n"
               b"period 24012 first 2024-01-16 last 2024-01-31 remit 2024-02-29\n")

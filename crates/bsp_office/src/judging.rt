@@ -1,7 +1,7 @@
 //! The command `judge`: the verdicts that an office gives on a RET file.
 
 use crate::log::code_in;
-use crate::plans::report_trial;
+use crate::plans::{Trial, report_trial};
 use crate::remarks::{say_answer, say_lines, say_reason};
 use crate::whole_files::{all_bytes, bytes_of, printed, short_of_memory};
 use bsp_check::{DONE, REFUSED, check, exit_status};
@@ -41,7 +41,14 @@ fn report_setup(
     reply: &Reply,
 ) -> u8 {
     if step == Step::Plan {
-        return report_trial(rt, setting.plan, &[], &[], setup.plan);
+        let trial = Trial {
+            published: &[],
+            texts: &[],
+            day: None,
+            file: setting.plan,
+            text: setup.plan,
+        };
+        return report_trial(rt, &trial);
     }
     let code = code_in(reply.body.as_bytes());
     let Ok(line) = format!(in rt.alloc(); "{code}\n") else {

@@ -62,7 +62,7 @@ fn run_work(rt: &HostRuntime, work: &Work<'_>) -> u8 {
         Work::Check { file, quiet } => run_check(rt, file, *quiet),
         Work::Hotcheck { file, quiet } => run_hotcheck(rt, file, *quiet),
         Work::Judge { setting, file } => run_judge(rt, setting, file),
-        Work::Plan { file, published } => run_plan(rt, file, published),
+        Work::Plan { file, published } => run_plan(rt, file, published, None),
         Work::Explain { code } => run_explain(rt, *code),
         Work::Audit { file } => run_audit(rt, file),
         Work::Run { token, book } => run_office(rt, token, book),

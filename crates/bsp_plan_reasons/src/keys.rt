@@ -1,15 +1,12 @@
-//! The first key of a plan text that is missing, unknown or wrong: P02.
+//! The keys of a plan text, and the forms of their values.
 
-use crate::lines::push_fields;
 use bsp_calendar::Currency;
 use bsp_fields::{AirlineCode, Day, PeriodCode};
-use itoa::Buffer;
-use std::alloc::AllocError;
-use toml::{Table, Value};
+use toml::Value;
 
 /// The form of a value.
 #[derive(Clone, Copy)]
-enum Form {
+pub(crate) enum Form {
     Currency,
     Airline,
     Period,
@@ -20,15 +17,15 @@ enum Form {
 
 /// A key that has to be there, and the form of its value.
 #[derive(Clone, Copy)]
-struct Key {
-    name: &'static str,
-    form: Form,
+pub(crate) struct Key {
+    pub(crate) name: &'static str,
+    pub(crate) form: Form,
 }
 
 /// A whole number of hundredths of a percent.
 const HUNDREDTHS: Form = Form::Number(0, 10_000);
 
-const TERMS: [Key; 3] = [
+pub(crate) const TERMS: [Key; 3] = [
     Key {
         name: "currency",
         form: Form::Currency,
@@ -43,7 +40,7 @@ const TERMS: [Key; 3] = [
     },
 ];
 
-const RATE: [Key; 3] = [
+pub(crate) const RATE: [Key; 3] = [
     Key {
         name: "airline",
         form: Form::Airline,
@@ -58,7 +55,7 @@ const RATE: [Key; 3] = [
     },
 ];
 
-const PERIOD: [Key; 4] = [
+pub(crate) const PERIOD: [Key; 4] = [
     Key {
         name: "code",
         form: Form::Period,
@@ -77,7 +74,7 @@ const PERIOD: [Key; 4] = [
     },
 ];
 
-const TAX: [Key; 2] = [
+pub(crate) const TAX: [Key; 2] = [
     Key {
         name: "from",
         form: Form::Day,
@@ -88,11 +85,11 @@ const TAX: [Key; 2] = [
     },
 ];
 
-const LISTS: [&str; 4] = ["airline", "rate", "period", "commission_tax"];
+pub(crate) const LISTS: [&str; 4] = ["airline", "rate", "period", "commission_tax"];
 
 impl Form {
     /// Whether a text is in the form.
-    fn fits_text(self, text: &[u8]) -> bool {
+    pub(crate) fn fits_text(self, text: &[u8]) -> bool {
         match self {
             Form::Currency => Currency::read(text).is_some(),
             Form::Airline => AirlineCode::read(text).is_ok(),
@@ -103,7 +100,7 @@ impl Form {
     }
 
     /// Whether a value is in the form.
-    fn fits(self, value: &Value) -> bool {
+    pub(crate) fn fits(self, value: &Value) -> bool {
         if let Form::Number(low, high) = self {
             return match value.as_integer() {
                 Some(number) => low <= number && number <= high,
@@ -117,166 +114,44 @@ impl Form {
     }
 
     /// What a value in the form is.
-    fn wanted(self) -> &'static str {
+    pub(crate) fn wanted(self) -> &'static str {
         match self {
-            Form::Currency => "three capital letters in quotes",
-            Form::Airline => "three digits in quotes",
-            Form::Period => "five digits in quotes",
+            Form::Currency => "three capital letters in quotes, as \"EUR\"",
+            Form::Airline => "three digits in quotes, as \"125\"",
+            Form::Period => "five digits in quotes, as \"24011\"",
             Form::Day => "a day in quotes, as \"2024-01-05\"",
-            Form::Number(1, 60) => "a whole number from 1 to 60, without quotes",
-            Form::Number(1, _) => "a whole number from 1 to 1,000,000, without quotes",
-            Form::Number(_, _) => "a whole number from 0 to 10,000, without quotes",
+            Form::Number(1, 60) => "a whole number from 1 to 60",
+            Form::Number(1, _) => "a whole number from 1 to 1,000,000",
+            Form::Number(_, _) => "a whole number from 0 to 10,000",
         }
     }
-}
 
-/// What is wrong with a table.
-#[derive(Clone, Copy)]
-enum TableFault<'t> {
-    NoTable,
-    Unknown(&'t str),
-    Missing(Key),
-    Wrong(Key),
+    /// Whether it is that of hundredths of a percent.
+    pub(crate) fn is_percentage(self) -> bool {
+        matches!(self, Form::Number(0, _))
+    }
 }
 
 /// Whether a key is one of these.
-fn is_among(keys: &[Key], name: &str) -> bool {
+pub(crate) fn is_among(keys: &[Key], name: &str) -> bool {
     keys.iter().any(|key| key.name == name)
 }
 
-/// What is wrong with the value at a key, if anything is.
-fn key_fault(table: &Table, key: Key) -> Option<TableFault<'static>> {
-    match table.get(key.name) {
-        Some(value) if key.form.fits(value) => None,
-        Some(_) => Some(TableFault::Wrong(key)),
-        None => Some(TableFault::Missing(key)),
-    }
+/// Whether it is a key of the text itself.
+pub(crate) fn is_of_the_text(name: &str) -> bool {
+    is_among(&TERMS, name) || LISTS.iter().any(|list| *list == name)
 }
 
-/// What is wrong with the first of some keys that is not in its form.
-fn keys_fault(table: &Table, keys: &[Key]) -> Option<TableFault<'static>> {
-    for key in keys {
-        if let Some(fault) = key_fault(table, *key) {
-            return Some(fault);
+/// The keys that a table of a list has, or the text itself.
+pub(crate) fn keys_of(list: &str) -> &'static str {
+    match list {
+        "rate" => { "a rate has airline, from and hundredths, and holds until the next one begins" }
+        "period" => "a period has code, first, last and remit",
+        "commission_tax" => {
+            "a commission_tax has from and hundredths, and holds until the next one begins"
         }
-    }
-    None
-}
-
-/// The first key of a table that is none of these.
-fn unknown_key<'t>(table: &'t Table, keys: &[Key], lists: &[&str]) -> Option<&'t str> {
-    for name in table.keys() {
-        let name = name.as_str();
-        if !is_among(keys, name) && !lists.iter().any(|list| *list == name) {
-            return Some(name);
+        _ => {
+            "the keys are currency, review_days, documents_limit, airline, rate, period and commission_tax"
         }
-    }
-    None
-}
-
-/// What is wrong with the keys of a table, the lists apart.
-fn table_fault<'t>(table: &'t Table, keys: &[Key], lists: &[&str]) -> Option<TableFault<'t>> {
-    match unknown_key(table, keys, lists) {
-        Some(name) => Some(TableFault::Unknown(name)),
-        None => keys_fault(table, keys),
-    }
-}
-
-/// What is wrong with an item of a list.
-fn item_fault<'t>(value: &'t Value, keys: &[Key]) -> Option<TableFault<'t>> {
-    match value.as_table() {
-        Some(table) => table_fault(table, keys, &[]),
-        None => Some(TableFault::NoTable),
-    }
-}
-
-/// Appends what is wrong with a table.
-fn push_fault(out: &mut Vec<u8>, fault: TableFault<'_>) -> Result<(), AllocError> {
-    match fault {
-        TableFault::NoTable => out.extend_from_slice(b"it is no table"),
-        TableFault::Unknown(name) => push_fields(out, &[name.as_bytes(), b" is unknown"]),
-        TableFault::Missing(key) => {
-            let wanted = key.form.wanted().as_bytes();
-            push_fields(out, &[key.name.as_bytes(), b" is missing: it is ", wanted])
-        }
-        TableFault::Wrong(key) => {
-            let wanted = key.form.wanted().as_bytes();
-            push_fields(out, &[key.name.as_bytes(), b" is wrong: it is ", wanted])
-        }
-    }
-}
-
-/// Appends what is wrong with the first item of a list that is at fault.
-fn push_items(
-    out: &mut Vec<u8>,
-    name: &str,
-    list: &[Value],
-    keys: &[Key],
-) -> Result<(), AllocError> {
-    for (index, item) in list.iter().enumerate() {
-        if let Some(fault) = item_fault(item, keys) {
-            let mut number = Buffer::new();
-            let number = number.format(index as u64 + 1).as_bytes();
-            push_fields(out, &[name.as_bytes(), b" ", number, b": "])?;
-            return push_fault(out, fault);
-        }
-    }
-    Ok(())
-}
-
-/// Appends what is wrong with the list at a key, if it is there.
-fn push_list(
-    out: &mut Vec<u8>,
-    document: &Table,
-    name: &str,
-    keys: &[Key],
-) -> Result<(), AllocError> {
-    let Some(value) = document.get(name) else {
-        return Ok(());
-    };
-    match value.as_array() {
-        Some(list) => push_items(out, name, list, keys),
-        None => {
-            let name = name.as_bytes();
-            let middle = b" is no list: above each of its tables is [[";
-            push_fields(out, &[name, middle, name, b"]]"])
-        }
-    }
-}
-
-/// Appends what is wrong with the list of airlines, if it is there.
-fn push_airlines(out: &mut Vec<u8>, document: &Table) -> Result<(), AllocError> {
-    let Some(value) = document.get("airline") else {
-        return Ok(());
-    };
-    let Some(list) = value.as_array() else {
-        return out.extend_from_slice(b"airline is no list: it is [\"125\", \"220\"]");
-    };
-    if list.iter().all(|item| Form::Airline.fits(item)) {
-        return Ok(());
-    }
-    out.extend_from_slice(b"airline: each item is three digits in quotes")
-}
-
-/// Appends what is wrong with the first list at fault.
-fn push_lists(out: &mut Vec<u8>, document: &Table) -> Result<(), AllocError> {
-    push_airlines(out, document)?;
-    if out.is_empty() {
-        push_list(out, document, "rate", &RATE)?;
-    }
-    if out.is_empty() {
-        push_list(out, document, "period", &PERIOD)?;
-    }
-    if out.is_empty() {
-        push_list(out, document, "commission_tax", &TAX)?;
-    }
-    Ok(())
-}
-
-/// Appends what is wrong with the first key of a plan text that is missing, unknown or wrong.
-pub(crate) fn push_document_fault(out: &mut Vec<u8>, document: &Table) -> Result<(), AllocError> {
-    match table_fault(document, &TERMS, &LISTS) {
-        Some(fault) => push_fault(out, fault),
-        None => push_lists(out, document),
     }
 }

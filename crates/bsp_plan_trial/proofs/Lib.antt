@@ -1,4 +1,5 @@
 -- Lemmas of this crate.
 pub mod Pieces
 pub mod PlanLemmas
+pub mod TextLemmas
 pub mod TurnLemmas

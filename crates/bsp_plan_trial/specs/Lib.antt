@@ -1,4 +1,5 @@
 -- What the contracts of the trials of plans cite.
 pub mod PlanLines
 pub mod Plans
+pub mod Texts
 pub mod Turns

@@ -1,12 +1,14 @@
 -- What plan texts make of a plan.
-use Rattle.std.specs.Prelude.{◌≡◌, ◌⊎◌, ℕ, List, map, Option, Some, None, Result, Ok, Err}
+use Rattle.std.specs.Prelude.{◌≡◌, ◌⊎◌, ℕ, List, length, map, Option, Some, None, Result, Ok, Err}
 use Rattle.std.specs.Global.{Vec}
+use Rattle.std.specs.List.{FoldsTo}
 use Rattle.bsp_fields.specs.Changes.{change_of}
+use Rattle.bsp_fields.specs.CivilDay.{CivilDay}
 use Rattle.bsp_fields.specs.declared.change.Change.{Change}
 use Rattle.bsp_calendar.specs.Faults.{code_text}
 use Rattle.bsp_calendar.specs.PlanDocument.{plan_data, plan_reading}
 use Rattle.bsp_calendar.specs.Published.{Published, opening}
-use Rattle.bsp_calendar.specs.Requests.{extended, holds_already}
+use Rattle.bsp_calendar.specs.Requests.{extended, holds_already, on_day}
 use Rattle.bsp_calendar.specs.declared.entries.PlanText.{PlanText}
 use Rattle.bsp_calendar.specs.declared.fault.PlanFault.{PlanFault}
 use Rattle.bsp_calendar.specs.declared.fault.PlanFault.TheVariants.{NoMemory}
@@ -51,9 +53,31 @@ abbrev pub code_of : PlanFault → Option (List ℕ)
 code_of NoMemory = None
 code_of fault = Some (code_text fault)
 
+-- the plan on the business day, if one is given
+abbrev pub IsOnDay : Option CivilDay → Published → Published → Type 0
+IsOnDay None old new = new ≡ old
+IsOnDay (Some day) old new = on_day old day ≡ Ok new
+
+-- the texts are published on the opening day, and then the business day is set
+pub record IsReady (texts : List (List ℕ)) (day : Option CivilDay) (plan : Published) : Type 0 where
+  pub opened : Published
+  pub published : FoldsTo IsPublished opening texts opened
+  pub on_day : IsOnDay day opened plan
+
 -- the texts before the place are published, and the one there is refused
-abbrev pub IsRefused : List (List ℕ) → PlanRefused → Type 0
-IsRefused texts refused = StopsAt IsPublished (λ plan text. IsStopped plan text refused.fault) opening texts refused.place
+abbrev pub IsRefusedBefore : List (List ℕ) → PlanRefused → Type 0
+IsRefusedBefore texts refused = StopsAt IsPublished (λ plan text. IsStopped plan text refused.fault) opening texts refused.place
+
+-- the text after them is refused on the business day
+pub record IsRefusedThere (texts : List (List ℕ)) (day : Option CivilDay) (text : List ℕ) (refused : PlanRefused) : Type 0 where
+  pub plan : Published
+  pub ready : IsReady texts day plan
+  pub place : refused.place ≡ length texts
+  pub stopped : IsStopped plan text refused.fault
+
+-- one of the texts published before is refused, or the text that is tried
+abbrev pub IsRefused : List (List ℕ) → Option CivilDay → List ℕ → PlanRefused → Type 0
+IsRefused texts day text refused = IsRefusedBefore texts refused ⊎ IsRefusedThere texts day text refused
 
 -- the lines say what the text publishes
 pub record IsReported (old : Published) (text lines : List ℕ) : Type 0 where

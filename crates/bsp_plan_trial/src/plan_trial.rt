@@ -1,13 +1,13 @@
 //! Plan texts that are tried, over a plan of nothing.
 
-ghost use Rattle.std.specs.Prelude.{◌≡◌, ◌++◌, ◌∷◌, [], MatchResult, option_map};
+ghost use Rattle.std.specs.Prelude.{◌≡◌, MatchResult, Some, option_map};
 ghost use Rattle.std.specs.List.{FoldsTo};
 ghost use Rattle.bsp_calendar.specs.Published.{Published, opening};
-ghost use Rattle.bsp_plan_trial.specs.Plans.{IsPublished, IsRefused, IsReported, IsTried, IsStopped, code_of, texts_of};
+ghost use Rattle.bsp_plan_trial.specs.Plans.{IsOnDay, IsPublished, IsReady, IsRefused, IsRefusedBefore, IsReported, IsTried, IsStopped, code_of, texts_of};
 
 use crate::plan_lines::plan_lines;
 use bsp_calendar::{Plan, PlanFault, read_plan};
-use bsp_fields::Change;
+use bsp_fields::{Change, Day};
 use std::alloc::Global;
 
 /// The first of some plan texts that is refused.
@@ -48,8 +48,8 @@ pub(crate) fn publish(alloc: Global, plan: &mut Plan, text: &[u8]) -> Result<Cha
 /// # Errors
 ///
 /// The first of them that is refused over the plan of those before it, or for which there was no memory.
-pub(crate) fn publish_all(alloc: Global, texts: &[Vec<u8>]) -> Result<Plan, PlanRefused>
-    ensures { MatchResult result (λ plan. FoldsTo IsPublished opening (texts_of texts.now) plan) (IsRefused (texts_of texts.now)) }
+fn publish_all(alloc: Global, texts: &[Vec<u8>]) -> Result<Plan, PlanRefused>
+    ensures { MatchResult result (λ plan. FoldsTo IsPublished opening (texts_of texts.now) plan) (IsRefusedBefore (texts_of texts.now)) }
 {
     let mut plan = Plan::empty(alloc);
     for (place, text) in texts.iter().enumerate() {
@@ -59,6 +59,51 @@ pub(crate) fn publish_all(alloc: Global, texts: &[Vec<u8>]) -> Result<Plan, Plan
         }
     }
     Ok(plan)
+}
+
+/// Sets the business day of a plan that is at the opening day.
+fn set_day(plan: &mut Plan, day: Day)
+    requires { plan.old.day ≡ opening.day }
+    ensures { IsOnDay (Some day) plan.old plan.new }
+{
+    // No day is before the opening day, which has the least number.
+    let _number = day.number();
+    match plan.set_day(day) {
+        Ok(_) => {}
+        Err(_) => unreachable!(),
+    }
+}
+
+/// A plan that is at the opening day, on the business day, if one is given.
+fn on_day(mut plan: Plan, day: Option<Day>) -> Plan
+    requires { plan.day ≡ opening.day }
+    ensures { IsOnDay day plan result }
+{
+    match day {
+        None => plan,
+        Some(day) => {
+            set_day(&mut plan, day);
+            plan
+        }
+    }
+}
+
+/// The plan of the texts published before, which are published on the opening day, on the business day of the trial.
+///
+/// # Errors
+///
+/// The first of them that is refused over the plan of those before it, or for which there was no memory.
+pub fn plan_before(
+    alloc: Global,
+    published: &[Vec<u8>],
+    day: Option<Day>,
+) -> Result<Plan, PlanRefused>
+    ensures { MatchResult result (IsReady (texts_of published.now) day) (IsRefusedBefore (texts_of published.now)) }
+{
+    match publish_all(alloc, published) {
+        Ok(plan) => Ok(on_day(plan, day)),
+        Err(refused) => Err(refused),
+    }
 }
 
 /// What a text publishes over a plan, as lines.
@@ -79,17 +124,23 @@ fn report_on(alloc: Global, plan: &mut Plan, text: &[u8]) -> Result<Vec<u8>, Pla
 }
 
 /// What a plan text publishes over a plan of the texts published before, as lines: `done` or `held`, the terms, and each
-/// entry that is new.
+/// entry that is new. The texts published before are published on the opening day, 2000-01-01. The business day is set
+/// then, if one is given.
 ///
 /// # Errors
 ///
 /// The first of the texts that is refused over the plan of those before it, or for which there was no memory. The text
 /// that is tried comes after those published before.
-pub fn try_plan(alloc: Global, published: &[Vec<u8>], text: &[u8]) -> Result<Vec<u8>, PlanRefused>
-    ensures { MatchResult result (λ lines. (plan : Published) × FoldsTo IsPublished opening (texts_of published.now) plan × IsReported plan text.now lines.items)
-        (IsRefused (texts_of published.now ++ text.now ∷ [])) }
+pub fn try_plan(
+    alloc: Global,
+    published: &[Vec<u8>],
+    day: Option<Day>,
+    text: &[u8],
+) -> Result<Vec<u8>, PlanRefused>
+    ensures { MatchResult result (λ lines. (plan : Published) × IsReady (texts_of published.now) day plan × IsReported plan text.now lines.items)
+        (IsRefused (texts_of published.now) day text.now) }
 {
-    let mut plan = match publish_all(alloc, published) {
+    let mut plan = match plan_before(alloc, published, day) {
         Ok(plan) => plan,
         Err(refused) => return Err(refused),
     };

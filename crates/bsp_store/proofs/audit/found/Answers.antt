@@ -1,10 +1,9 @@
-use Rattle.std.proofs.Common.{◌≡◌, IsTrue, None, false, true, sym, ◌∙◌, rules}
+use Rattle.std.proofs.Common.{◌≡◌, IsTrue, None, false, sym, ◌∙◌, rules}
 use Rattle.std.proofs.lemmas.Bool.{both_ways}
 use Rattle.bsp_book.specs.Listed.{Holds as ListHolds}
 use Rattle.bsp_book.specs.declared.list.ListBook.{ListBook}
 use Rattle.bsp_rows.specs.Rows.{Rows}
 use Rattle.bsp_store_save.specs.MemoryRowsTables.{rows_of}
-use Rattle.bsp_store_open.specs.Faults.{is_refusal}
 use Rattle.bsp_store_open.specs.Opening.{IsOrdered, IsRead}
 use Rattle.bsp_store_open.proofs.OpeningLemmas.{if_err}
 use Rattle.bsp_store.specs.Auditing.{HasNone, IsFound}
