@@ -164,7 +164,7 @@ def main():
     served = office.Office(program, None, "--token", TOKENS["office"], "--connections", 1, seconds=10)
     walk(description, program, served)
     refusals(description, served)
-    expect("the office's end", (0, "bsp_office: 1 connections served\n"), served.ended())
+    expect("the office's end", (0, "bsp_office: 1 connection served\n"), served.ended())
     month(program)
     office.finish(f"docs/openapi.yaml: {len(description.whole['x-walk'])} examples are answered as it says")
 

@@ -9,7 +9,8 @@ use bsp_desk::Asking;
 use bsp_explain::explain_ret;
 use bsp_fields::NoRoom;
 use bsp_http::Routes;
-use bsp_judge::{PlanRefused, refusal_reason};
+use bsp_plan_reasons::refusal_reason;
+use bsp_plan_trial::PlanRefused;
 use bsp_routes::{Call, Methods};
 
 /// Says what is to be known of a body that the route of a call reads.
@@ -23,7 +24,7 @@ fn say_of_read(rt: &HostRuntime, call: Call<&[u8]>, file: &str, body: &[u8]) -> 
 /// Says why a plan text is refused.
 fn say_plan(rt: &HostRuntime, file: &str, body: &[u8], fault: PlanFault) -> Result<(), NoRoom> {
     let refused = PlanRefused { place: 0, fault };
-    let reason = refusal_reason(rt.alloc(), &[], body, refused)?;
+    let reason = refusal_reason(rt.alloc(), &[], None, body, refused)?;
     say_known(rt, file, &reason);
     Ok(())
 }
@@ -84,7 +85,14 @@ fn report_call(rt: &HostRuntime, request: &str, call: Call<&[u8]>, file: &str, b
 
 /// Reports that the path has other methods, and answers the exit status.
 fn report_method(rt: &HostRuntime, request: &str, methods: Methods) -> u8 {
-    let (allow, end) = (methods.allow(), if methods == Methods::GetAndPost { "s" } else { "" });
+    let (allow, end) = (
+        methods.allow(),
+        if methods == Methods::GetAndPost {
+            "s"
+        } else {
+            ""
+        },
+    );
     let _ = eprintln!(rt; "bsp_office: {request}: the path has the method{end} {allow}");
     printed(rt, b"N03\n", REFUSED)
 }

@@ -4,9 +4,12 @@ use crate::whole_files::{printed, short_of_memory};
 use bsp_check::{DONE, WRONG_WORDS};
 use bsp_codes::{explanation, listing};
 
-/// Explains a code, and answers the exit status.
+/// Explains a code, in capital or small letters, and answers the exit status.
 fn explain_code(rt: &HostRuntime, code: &str) -> u8 {
-    match explanation(rt.alloc(), code) {
+    let Ok(capitals) = code.to_ascii_uppercase(rt.alloc()) else {
+        return short_of_memory(rt);
+    };
+    match explanation(rt.alloc(), &capitals) {
         Ok(Some(text)) => printed(rt, &text, DONE),
         Ok(None) => {
             let _ = eprintln!(rt; "bsp_office: {code} is no code: explain alone lists all");

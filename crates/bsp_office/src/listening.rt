@@ -8,7 +8,7 @@ ghost use Rattle.bsp_office.specs.Listening.{AreVisited, IsVisited, Visit, count
 
 use crate::kept::Failing;
 use crate::log::Log;
-use crate::socket::Sending;
+use crate::socket::{Receiving, Sending};
 use bsp_connection::Noted;
 use bsp_desk::{Book, Desk};
 use bsp_http::{End, Routes, ServeFault, Served, serve};
@@ -99,13 +99,18 @@ fn serve_stream<B: Book + Failing>(
     let Ok(output) = BufWriter::new(alloc, Sending::new(stream, timeout.is_some())) else {
         return Err(ServeFault::Memory);
     };
-    let (mut input, mut output) = (Noted::new(stream), Noted::new(output));
+    let (mut input, mut output) = (Noted::new(Receiving::new(stream)), Noted::new(output));
     let served = visit(alloc, log, routes, &mut input, &mut output, desk);
     if !output.has_failed() {
         let _ = output.flush();
     }
     linger(stream, served);
-    log.ended(number, served);
+    let waited = if input.into_inner().has_timed_out() {
+        timeout
+    } else {
+        None
+    };
+    log.ended(number, served, waited);
     served
 }
 

@@ -8,6 +8,7 @@ use std::alloc::{AllocError, Global};
 use std::cell::Cell;
 use std::fmt;
 use std::fmt::Display;
+use std::time::Duration;
 
 /// The most bytes of a malformed body whose cause is sought: no body that is read needs as many.
 const MOST_SOUGHT: usize = 65_536;
@@ -92,6 +93,17 @@ impl Display for Grouped {
     }
 }
 
+/// A time, as `30 seconds`.
+#[derive(Clone, Copy)]
+struct Seconds(u64);
+
+impl Display for Seconds {
+    fn fmt<W: fmt::Write>(&self, f: &mut fmt::Formatter<W>) -> fmt::Result {
+        let end = if self.0 == 1 { "" } else { "s" };
+        write!(f, "{} second{end}", self.0)
+    }
+}
+
 impl<'a> Log<'a> {
     /// A line for each reply, or for each 503 alone.
     pub(crate) fn new(rt: &'a HostRuntime, whole: bool) -> Log<'a> {
@@ -102,18 +114,32 @@ impl<'a> Log<'a> {
         }
     }
 
-    /// One line where a connection, counted from 0, ended by a failed read or write.
-    pub(crate) fn ended(&self, number: u32, served: Result<Served, ServeFault>) {
-        if let Err(fault @ (ServeFault::Read | ServeFault::Write)) = served {
-            let number = u64::from(number) + 1;
-            let _ = eprintln!(self.rt; "bsp_office: connection {number}: {fault}");
-        }
+    /// One line where a connection, counted from 0, ended by a failed read or write. `waited`: for how long nothing came
+    /// before the read failed, where that is why.
+    pub(crate) fn ended(
+        &self,
+        number: u32,
+        served: Result<Served, ServeFault>,
+        waited: Option<Duration>,
+    ) {
+        let number = u64::from(number) + 1;
+        let _ = match (served, waited) {
+            (Err(ServeFault::Read), Some(waited)) => {
+                let time = Seconds(waited.as_secs());
+                eprintln!(self.rt; "bsp_office: connection {number}: nothing came for {time}")
+            }
+            (Err(fault @ (ServeFault::Read | ServeFault::Write)), _) => {
+                eprintln!(self.rt; "bsp_office: connection {number}: {fault}")
+            }
+            _ => Ok(()),
+        };
     }
 
-    /// One line at the end, behind so many connections.
+    /// One line at the end, after so many connections.
     pub(crate) fn all_served(&self, connections: u32) {
         let count = Grouped(connections);
-        let _ = eprintln!(self.rt; "bsp_office: {count} connections served");
+        let end = if connections == 1 { "" } else { "s" };
+        let _ = eprintln!(self.rt; "bsp_office: {count} connection{end} served");
     }
 }
 

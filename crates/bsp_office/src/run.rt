@@ -1,10 +1,11 @@
 //! Runs the work that the command line asks for.
 
 use crate::audit::run_audit;
+use crate::bodies::run_body;
 use crate::explaining::run_explain;
 use crate::input::Input;
 use crate::judging::run_judge;
-use crate::plans::run_plan;
+use crate::plans::{run_plan, run_plan_of};
 use crate::remarks::{say_answer, say_unopened};
 use crate::serving::{Port, run_office, serve_office};
 use crate::whole_files::short_of_memory;
@@ -62,7 +63,13 @@ fn run_work(rt: &HostRuntime, work: &Work<'_>) -> u8 {
         Work::Check { file, quiet } => run_check(rt, file, *quiet),
         Work::Hotcheck { file, quiet } => run_hotcheck(rt, file, *quiet),
         Work::Judge { setting, file } => run_judge(rt, setting, file),
-        Work::Plan { file, published } => run_plan(rt, file, published, None),
+        Work::Plan {
+            file,
+            published,
+            day,
+        } => run_plan(rt, file, published, *day),
+        Work::PlanOf { book } => run_plan_of(rt, book),
+        Work::Body { request, file } => run_body(rt, request, file),
         Work::Explain { code } => run_explain(rt, *code),
         Work::Audit { file } => run_audit(rt, file),
         Work::Run { token, book } => run_office(rt, token, book),
@@ -97,6 +104,10 @@ fn misfit_text(misfit: Misfit) -> &'static str {
         Misfit::Day => "DAY is a day of the calendar, as 2024-01-05",
         Misfit::Agent => "A is eight digits, of which the last is the first seven modulo 7",
         Misfit::Stock => "FIRST-LAST is two numbers of ten digits, as 1300000000-1300000099",
+        Misfit::Period => "PERIOD is five digits, as 24011",
+        Misfit::NoPlan =>
+            "plan FILE tries a text, and plan --of BOOK prints the plan of a book: neither is there",
+        Misfit::TwoPlans => "plan --of BOOK is alone: it takes no FILE, no --after and no --day",
     }
 }
 

@@ -1,6 +1,6 @@
-//! Sending to a peer that may not take what is sent.
+//! Reading from a peer that may send nothing, and sending to one that may not take what is sent.
 
-use std::io::{self, ErrorKind, Write};
+use std::io::{self, ErrorKind, Read, Write};
 use std::net::{Shutdown, TcpStream};
 
 /// The bytes that a peer must take within the timeout.
@@ -43,5 +43,39 @@ impl Write for Sending<'_> {
 
     fn flush(&mut self) -> io::Result<()> {
         Ok(())
+    }
+}
+
+/// Reads from a peer, and keeps whether the last read ended since nothing came within the timeout.
+#[derive(Drop)]
+pub(crate) struct Receiving<'s> {
+    stream: &'s TcpStream,
+    has_timed_out: bool,
+}
+
+impl<'s> Receiving<'s> {
+    /// Reads from this stream.
+    pub(crate) fn new(stream: &'s TcpStream) -> Receiving<'s> {
+        Receiving {
+            stream,
+            has_timed_out: false,
+        }
+    }
+
+    /// Whether nothing came within the timeout of the last read.
+    pub(crate) fn has_timed_out(&self) -> bool {
+        self.has_timed_out
+    }
+}
+
+impl Read for Receiving<'_> {
+    fn read(&mut self, buf: &mut [u8]) -> io::Result<usize> {
+        let mut stream = self.stream;
+        let read = stream.read(buf);
+        self.has_timed_out = match &read {
+            Ok(_) => false,
+            Err(error) => error.kind() == ErrorKind::WouldBlock,
+        };
+        read
     }
 }
