@@ -29,7 +29,7 @@ pub(crate) const REQUESTS: [Row; 6] = [
         "N04",
         "400",
         "The body is not the JSON object of this request",
-        "`bsp_office body 'POST /office/day' FILE` names the key and the cause, here of a body of that request. Or compare the body with that of the request, key by key: see its causes",
+        "`bsp_office body 'POST /office/day' FILE`, with your own request in place of this one, names the key and the cause. Or compare the body with that of the request, key by key: see its causes",
         &[
             "`/office/day` takes `{\"day\":\"2024-01-05\"}`",
             "`/office/agents` takes `{\"agent\":\"12345675\",\"token\":\"agenttoken000001\"}`",

@@ -15,7 +15,7 @@ pub(crate) const STOCKS: [Row; 5] = [
         "K02",
         "409",
         "The agent is not registered, or its code has a wrong check digit",
-        "Register the agent first",
+        "Correct the code, its check digit included, or register the agent first (POST `/office/agents`)",
         &[],
     ),
     (
@@ -29,7 +29,7 @@ pub(crate) const STOCKS: [Row; 5] = [
         "K04",
         "409",
         "The agent has no range with this first and this last number",
-        "Read the ranges, and withdraw one of them whole",
+        "Withdraw a range whole, with the first and the last number that it was allotted with. GET `/agents/{agent}/stock` shows an agent its ranges",
         &[],
     ),
     (

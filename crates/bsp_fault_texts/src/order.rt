@@ -70,7 +70,6 @@ fn payment_text(form: Option<FormOfPayment>, place: Place) -> &'static str {
         (b'8', Some(form)) if is_same(place.form, form) =>
             "a form of payment comes once: write one record 8 with the sum of both",
         (b'8', _) => "the forms of a transaction come in the order CA, CC, EX, each once",
-        (b'2', Some(_)) | (b'3', Some(_)) => "record 8 comes after record 5",
         _ => next_text(place),
     }
 }

@@ -12,7 +12,7 @@ use bsp_ret_records::{FormOfPayment, Profile, TransactionCode, form_of, profile_
 pub struct Place {
     /// The first character of the record before, 0 where there is none.
     pub last: u8,
-    /// The form of payment of the record before, if it is a record 8.
+    /// The form of payment that the record before has in columns 8 and 9.
     pub form: Option<FormOfPayment>,
     /// The code of the last record 2.
     pub code: Option<TransactionCode>,
