@@ -88,7 +88,7 @@ pub(crate) fn run_plan_of(rt: &HostRuntime, book: &str) -> u8 {
         Err(fault) => return report_unsound(rt, book, &fault),
     };
     match plan_text(rt.alloc(), &plan) {
-        Ok(Some(text)) => printed(rt, text.as_bytes(), DONE),
+        Ok(Some(text)) => printed(rt, &text, DONE),
         Ok(None) => {
             say_reason(rt, book, "no plan is published");
             printed(rt, b"", DONE)
