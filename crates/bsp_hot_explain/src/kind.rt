@@ -12,8 +12,13 @@ pub enum Kind {
     Ret,
     /// What the office says where it refuses a call: a code and what it means.
     Refusal([u8; 3]),
-    /// Another text, with its first characters.
-    Other([u8; 8]),
+    /// Another text.
+    Other {
+        /// The first characters of its first line.
+        first: [u8; 8],
+        /// How many of them there are.
+        count: usize,
+    },
 }
 
 /// The first characters of a line, and `.` for one outside 0x20 to 0x7E.
@@ -57,7 +62,10 @@ impl Kind {
         }
         match refusal_of(text) {
             Some(code) => Kind::Refusal(code),
-            None => Kind::Other(shown(line)),
+            None => Kind::Other {
+                first: shown(line),
+                count: line.len(),
+            },
         }
     }
 }
@@ -73,10 +81,16 @@ fn write_refusal<W: fmt::Write>(f: &mut fmt::Formatter<W>, code: [u8; 3]) -> fmt
 }
 
 /// Writes how a text begins that is no HOT file.
-fn write_other<W: fmt::Write>(f: &mut fmt::Formatter<W>, first: [u8; 8]) -> fmt::Result {
+fn write_other<W: fmt::Write>(
+    f: &mut fmt::Formatter<W>,
+    first: [u8; 8],
+    count: usize,
+) -> fmt::Result {
     f.write_str("this is no HOT file: it begins with `")?;
-    for byte in first {
-        write!(f, "{}", byte as char)?;
+    for index in 0..8usize {
+        if index < count {
+            write!(f, "{}", first[index] as char)?;
+        }
     }
     f.write_str("`, and not with BFH")
 }
@@ -87,7 +101,7 @@ impl fmt::Display for Kind {
             Kind::Empty => f.write_str("the file is empty"),
             Kind::Ret => f.write_str("this is no HOT file, but a RET file: `check` reads it"),
             Kind::Refusal(code) => write_refusal(f, code),
-            Kind::Other(first) => write_other(f, first),
+            Kind::Other { first, count } => write_other(f, first, count),
         }
     }
 }
