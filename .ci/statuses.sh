@@ -71,9 +71,11 @@ expect() {
 }
 
 # reports COMMAND FILE STATUS OUTPUT [LINE]: what the command prints of the file, and of it as standard input, which it
-# reads to its end. The line is that on standard error behind the name of the file, or none.
+# reads to its end. The line is that on standard error behind the name of the file, or none. Of a HOT file that passes it
+# has the airline and the period, columns 14 to 16 and 17 to 21 of the first record.
 reports() {
   local line=${5-}
+  [ "$1$3" = hotcheck0 ] && line="airline $(head -c 16 "$2" | tail -c 3), period $(head -c 21 "$2" | tail -c 5)"
   expect "$3" "$4" "${line:+$2: }${line:-none}" "$1" "$2"
   {
     expect "$3" "$4" "${line:+standard input: }${line:-none}" "$1" -
@@ -159,11 +161,11 @@ reports hotcheck 125-taxed-kinds.hot 0 'OK records 78 documents 11 net 708.42'
 reports hotcheck 220-taxed-kinds.hot 0 'OK records 13 documents 1 net 0.00'
 reports hotcheck v3-without-its-last-line-end 0 'OK records 4 documents 0 net 0.00'
 reports hotcheck memo-with-cr-lf 0 'OK records 11 documents 1 net -50.00'
-reports hotcheck short.hot 1 'H04 record 4' 'record 4: the file ends before this record'
-reports hotcheck empty 1 'H04 record 1' 'record 1: the file ends before this record'
-reports hotcheck binary 1 'H04 record 1' 'record 1: it has 2 characters, 134 too few: a field is too short, or spaces at its end are missing'
-reports hotcheck v1.ret 1 'H04 record 1' 'record 1, columns 4-11: the sequence number is not 00000001'
-expect 1 'H04 record 1' 'standard input: record 1: it has 1073741824 characters, 1073741688 too many: a field is too long' \
+reports hotcheck short.hot 1 'H04 record 4' 'record 4: the file ends before its last record BFT99: after BCT95 comes BFT99: fetch it again'
+reports hotcheck empty 1 'H04 record 1' 'record 1: the file is empty'
+reports hotcheck binary 1 'H04 record 1' 'record 1: this is no HOT file: it begins with `..`, and not with BFH'
+reports hotcheck v1.ret 1 'H04 record 1' 'record 1: this is no HOT file, but a RET file: `check` reads it'
+expect 1 'H04 record 1' 'standard input: record 1: this is no HOT file: it begins with `........`, and not with BFH' \
   hotcheck - < <(head -c 1073741824 /dev/zero)
 expect 3 '' "standard input: $long" hotcheck - < <(head -c 1073741825 /dev/zero)
 expect 3 '' "missing: $none" hotcheck missing
@@ -199,26 +201,26 @@ mistakes check two-related.ret <<'END'
 7d|F03 record 7|record 7, column 1: a record `Z` is not allowed here: the sale before it has a record 3 and no form EX: add the record 8 with EX, or take out record 3
 END
 mistakes hotcheck v3.hot <<'END'
-1s/^BFH/BFT/|H04 record 1|record 1, columns 1-3: the letters are not those of the name with these digits
-2s/^BCH00000002/BCH00000003/|H04 record 2|record 2 (BCH02), columns 4-11: the sequence number is not 00000002
-4s/00000000000000{  /00000000000000A  /|H04 record 4|record 4 (BFT99): the record is not allowed here, or a number or a total in it differs
+1s/^BFH/BFT/|H04 record 1|record 1: this is no HOT file: it begins with `BFT00000`, and not with BFH
+2s/^BCH00000002/BCH00000003/|H04 record 2|record 2 (BCH02), columns 4-11: the sequence number is 00000003, and not 00000002: a record is missing before it
+4s/00000000000000{  /00000000000000A  /|H04 record 4|record 4 (BFT99), columns 78-92: the net is 0.01, and the items give 0.00
 END
 mistakes hotcheck taxed.hot <<'END'
-1s/PROD002/PROD001/|H04 record 8|record 8 (BKS42): the record is not allowed here, or a number or a total in it differs
+1s/PROD002/PROD001/|H04 record 8|record 8 (BKS42): it is not allowed here: after the commission comes BKS45, or BKP84 with CA or CC
 1s/PROD002/PROD003/|H04 record 1|record 1 (BFH01), columns 31-37: the production status is not `PROD001` or `PROD002`
-8s/0842/0839/|H04 record 8|record 8 (BKS39): the record is not allowed here, or a number or a total in it differs
+8s/0842/0839/|H04 record 8|record 8 (BKS39): it is not allowed here: after BKS39 comes BKS42
 8s/01900/10001/|H04 record 8|record 8 (BKS42), columns 22-26: the rate of tax on commission is not a number in digits up to 10000
 8s/19{/19-/|H04 record 8|record 8 (BKS42), columns 27-37: the tax on commission is not a signed zoned decimal
-8s/19{/20{/|H04 record 10|record 10 (BOT93): the record is not allowed here, or a number or a total in it differs
-10s/19{/18{/|H04 record 10|record 10 (BOT93): the record is not allowed here, or a number or a total in it differs
-11s/2231{/2250{/|H04 record 11|record 11 (BOT94): the record is not allowed here, or a number or a total in it differs
+8s/19{/20{/|H04 record 10|record 10 (BOT93), columns 79-93: the net is 223.10, and the items give 223.00
+10s/19{/18{/|H04 record 10|record 10 (BOT93), columns 94-108: the tax on commission is 1.80, and the items give 1.90
+11s/2231{/2250{/|H04 record 11|record 11 (BOT94), columns 75-89: the net is 225.00, and the items give 223.10
 11s/00000000000019{/               /|H04 record 11|record 11 (BOT94), columns 90-104: the tax on commission is not a signed zoned decimal
-12s/19{/18{/|H04 record 12|record 12 (BCT95): the record is not allowed here, or a number or a total in it differs
-13s/19{/18{/|H04 record 13|record 13 (BFT99): the record is not allowed here, or a number or a total in it differs
+12s/19{/18{/|H04 record 12|record 12 (BCT95), columns 95-109: the tax on commission is 1.80, and the items give 1.90
+13s/19{/18{/|H04 record 13|record 13 (BFT99), columns 93-107: the tax on commission is 1.80, and the items give 1.90
 END
 mistakes hotcheck 125-exchange-of-two.hot <<'END'
-19s/13000000123/13000000112/|H04 record 19|record 19 (BKS45): the record is not allowed here, or a number or a total in it differs
-19s/125/220/|H04 record 19|record 19 (BKS45): the record is not allowed here, or a number or a total in it differs
+19s/13000000123/13000000112/|H04 record 19|record 19 (BKS45): it is not allowed here: after BKS45 comes a later BKS45, or BKP84
+19s/125/220/|H04 record 19|record 19 (BKS45), columns 22-24: the airline is 220, and that of the file 125
 25s/ \{15\}$/00000000000000{/|H04 record 25|record 25 (BFT99), columns 93-136: the rest of the record has a character that is not a space
 END
 

@@ -4,7 +4,7 @@ use Rattle.std.specs.Prelude.{◌+◌, Option, Result, Ok, Err, IfOk}
 use Rattle.std.specs.Result.{IsErrAnd}
 use Rattle.std.specs.Io.KnownBytes.{IsAtEnd, Appends, Consumes}
 use Rattle.std.proofs.KnownBytes.{Keeps-refl}
-use Rattle.bsp_explain.specs.declared.explanation.Explanation.{Explanation}
+use Rattle.bsp_check.specs.declared.verdict.Explanation.{Explanation}
 use Rattle.bsp_check.specs.declared.fault.Fault.{Fault}
 use Rattle.bsp_check.specs.declared.fault.Fault.TheVariants.{Read, TooLong, Write, Memory}
 use Rattle.bsp_check.specs.declared.verdict.Verdict.{Verdict}
@@ -48,7 +48,7 @@ sent_explained Explains bytes text verdict before after (Err fault) is sent = tt
 
 -- what was written where no report was written whole
 pub cut_short : (Reports : List ℕ → ℕ → List ℕ → Type 0) (limit : ℕ) (bytes : List ℕ) (rest before after : Option (List ℕ)) (r : Result Verdict Fault) → IsReported Reports limit bytes rest before after r → status_of r ≡ 3 → IsCutShort Reports limit bytes rest before after
-cut_short Reports limit bytes rest before after (Ok Passed) is three = absurd (omega (arith, three))
+cut_short Reports limit bytes rest before after (Ok (Passed heading)) is three = absurd (omega (arith, three))
 cut_short Reports limit bytes rest before after (Ok (Refused explanation)) is three = absurd (omega (arith, three))
 cut_short Reports limit bytes rest before after (Err Read) is three = inl is
 cut_short Reports limit bytes rest before after (Err TooLong) is three = inl is.1
@@ -62,6 +62,6 @@ reported_whole Reports limit bytes rest before after (Err fault) is (inl none) =
 reported_whole Reports limit bytes rest before after (Err fault) is (inr one) = absurd (omega (arith, one))
 
 pub three_statuses : (r : Result Verdict Fault) → (status_of r ≡ 0) ⊎ ((status_of r ≡ 1) ⊎ (status_of r ≡ 3))
-three_statuses (Ok Passed) = inl refl
+three_statuses (Ok (Passed heading)) = inl refl
 three_statuses (Ok (Refused explanation)) = inr (inl refl)
 three_statuses (Err fault) = inr (inr refl)

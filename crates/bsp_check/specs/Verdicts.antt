@@ -4,17 +4,23 @@ use Rattle.bsp_ret.specs.Lines.{lines}
 use Rattle.bsp_ret.specs.declared.model.RetFault.{RetFault}
 use Rattle.bsp_ret.specs.Table.{first_fault}
 use Rattle.bsp_hot_check.specs.Hot.{IsFirstFault}
-use Rattle.bsp_explain.specs.declared.explanation.Explanation.{Explanation}
+use Rattle.bsp_explain.specs.declared.explanation.Explanation.{Explanation as RetExplanation}
+use Rattle.bsp_hot_check.specs.declared.model.Standing.{Standing}
+use Rattle.bsp_hot_check.specs.Standings.{start}
+use Rattle.bsp_hot_explain.specs.declared.explanation.HotExplanation.{HotExplanation}
+use Rattle.bsp_hot_explain.specs.Headings.{heading_in}
 use Rattle.bsp_explain.specs.Before.{counted, IsLine}
 use Rattle.bsp_explain.specs.RetReasons.{Says, is_reason_of}
-use Rattle.bsp_hot_explain.specs.HotReasons.{SaysOfHot, file_form, record_name}
+use Rattle.bsp_hot_explain.specs.HotReasons.{SaysOfHot, stands_after, record_name}
 use Rattle.bsp_check.specs.declared.fault.Fault.{Fault}
+use Rattle.bsp_check.specs.declared.verdict.Explanation.{Explanation}
+use Rattle.bsp_check.specs.declared.verdict.Explanation.TheVariants.{Ret, Hot}
 use Rattle.bsp_check.specs.declared.verdict.Verdict.{Verdict}
 use Rattle.bsp_check.specs.declared.verdict.Verdict.TheVariants.{Passed, Refused}
 
 -- the exit status that goes with a verdict
 abbrev pub verdict_status : Verdict → ℕ
-verdict_status Passed = 0
+verdict_status (Passed heading) = 0
 verdict_status (Refused explanation) = 1
 
 -- and with the answer of a command: 3 where no whole report was written
@@ -23,7 +29,7 @@ status_of (Ok verdict) = verdict_status verdict
 status_of (Err fault) = 3
 
 -- the explanation is of the first fault of the bytes as a RET file
-pub record IsRetExplanation (bytes : List ℕ) (explanation : Explanation) : Type 0 where
+pub record SaysOfRetFault (bytes : List ℕ) (explanation : RetExplanation) : Type 0 where
   pub fault : RetFault
   pub is_first : first_fault (lines bytes) ≡ Some fault
   pub number : explanation.record ≡ fault.at
@@ -31,13 +37,23 @@ pub record IsRetExplanation (bytes : List ℕ) (explanation : Explanation) : Typ
   pub row : is_reason_of fault.code explanation.reason ≡ true
   pub says : (line : List ℕ) → IsLine (fault.at - 1) (lines bytes) line → Says fault.at (counted (take (fault.at - 1) (lines bytes))) line explanation.reason
 
--- the explanation is of the first record of the bytes at fault, as a HOT file
-pub record IsHotExplanation (bytes : List ℕ) (explanation : Explanation) : Type 0 where
+abbrev pub IsRetExplanation : List ℕ → Explanation → Type 0
+IsRetExplanation bytes (Ret explanation) = SaysOfRetFault bytes explanation
+IsRetExplanation bytes (Hot explanation) = ⊥
+
+-- the explanation is of the first record of the bytes at fault, as a HOT file; the records before it have this state
+pub record SaysOfHotFault (bytes : List ℕ) (explanation : HotExplanation) : Type 0 where
   pub is_first : IsFirstFault (lines bytes) explanation.record
+  pub state : Standing
+  pub stands : stands_after start (take (explanation.record - 1) (lines bytes)) ≡ Some state
   pub name : (line : List ℕ) → IsLine (explanation.record - 1) (lines bytes) line → explanation.name ≡ record_name line
-  pub says : (line : List ℕ) → IsLine (explanation.record - 1) (lines bytes) line → SaysOfHot (file_form (lines bytes)) explanation.record line explanation.reason
+  pub says : (line : List ℕ) → IsLine (explanation.record - 1) (lines bytes) line → SaysOfHot state line explanation.reason
+
+abbrev pub IsHotExplanation : List ℕ → Explanation → Type 0
+IsHotExplanation bytes (Ret explanation) = ⊥
+IsHotExplanation bytes (Hot explanation) = SaysOfHotFault bytes explanation
 
 -- a verdict that refuses the bytes has an explanation of them
 abbrev pub IsExplained : (List ℕ → Explanation → Type 0) → List ℕ → Verdict → Type 0
-IsExplained Explains bytes Passed = Unit {0}
+IsExplained Explains bytes (Passed heading) = Unit {0}
 IsExplained Explains bytes (Refused explanation) = Explains bytes explanation

@@ -5,10 +5,10 @@ ghost use Rattle.bsp_check.specs.HotReport.{totals_text, fault_text, IsHotReport
 ghost use Rattle.bsp_check.specs.Verdicts.{verdict_status, IsExplained, IsHotExplanation};
 
 use crate::report::Report;
-use crate::verdict::Verdict;
+use crate::verdict::{Explanation, Verdict};
 use bsp_fields::{NoRoom, write_money};
 use bsp_hot_check::{HotTotals, check_hot};
-use bsp_hot_explain::explain_hot;
+use bsp_hot_explain::{explain_hot, heading_of};
 use std::alloc::Global;
 
 /// The line of a file with these totals.
@@ -38,11 +38,11 @@ pub(crate) fn hot_report(alloc: Global, bytes: &[u8]) -> Result<Report, NoRoom>
 {
     match check_hot(bytes) {
         Ok(totals) => Ok(Report {
-            verdict: Verdict::Passed,
+            verdict: Verdict::Passed(heading_of(bytes)),
             text: totals_line(alloc, totals)?.into_bytes(),
         }),
         Err(fault) => Ok(Report {
-            verdict: Verdict::Refused(explain_hot(bytes, fault)),
+            verdict: Verdict::Refused(Explanation::Hot(explain_hot(bytes, fault))),
             text: fault_line(alloc, fault.number)?.into_bytes(),
         }),
     }

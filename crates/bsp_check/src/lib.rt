@@ -14,8 +14,9 @@ mod ret_report;
 mod status;
 mod verdict;
 
+pub use bsp_hot_explain::Heading;
 pub use checking::{check, check_within, hotcheck, hotcheck_within};
 pub use fault::Fault;
 pub use reading::read_whole;
 pub use status::{DONE, FAILED, REFUSED, WRONG_WORDS};
-pub use verdict::{Verdict, exit_status};
+pub use verdict::{Explanation, Verdict, exit_status};

@@ -8,7 +8,7 @@ ghost use Rattle.bsp_check.specs.RetReport.{document_text, sale_text, transactio
 ghost use Rattle.bsp_check.specs.Verdicts.{verdict_status, IsExplained, IsRetExplanation};
 
 use crate::report::Report;
-use crate::verdict::Verdict;
+use crate::verdict::{Explanation, Verdict};
 use bsp_explain::explain_ret;
 use bsp_fields::{NoRoom, push_money, write_digits, write_money};
 use bsp_ret::{FaultCode, PaidSale, ReportedDocument, RetFault, RetFile, Sale, read_ret};
@@ -123,12 +123,12 @@ pub(crate) fn ret_report(alloc: Global, bytes: &[u8]) -> Result<Report, NoRoom>
 {
     match read_ret(alloc, bytes) {
         Ok(file) => Ok(Report {
-            verdict: Verdict::Passed,
+            verdict: Verdict::Passed(None),
             text: file_report(alloc, &file)?,
         }),
         Err(fault) if fault.code == FaultCode::F10 => Err(NoRoom),
         Err(fault) => Ok(Report {
-            verdict: Verdict::Refused(explain_ret(bytes, fault)),
+            verdict: Verdict::Refused(Explanation::Ret(explain_ret(bytes, fault))),
             text: fault_report(alloc, fault)?,
         }),
     }

@@ -52,7 +52,7 @@ fn is_ret_header(line: &[u8]) -> bool {
 
 impl Kind {
     /// What a text seems to be that does not begin as a HOT file.
-    pub fn of(text: &[u8]) -> Kind {
+    pub(crate) fn of(text: &[u8]) -> Kind {
         if text.is_empty() {
             return Kind::Empty;
         }

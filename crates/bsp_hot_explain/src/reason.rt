@@ -68,7 +68,7 @@ pub enum HotReason {
 
 impl HotReason {
     /// The first and the last column at fault, counted from 1, where it is not the whole record.
-    pub fn columns(self) -> Option<(u8, u8)> {
+    pub(crate) fn columns(self) -> Option<(u8, u8)> {
         match self {
             HotReason::Form(reason) => reason.columns(),
             HotReason::Sequence { .. } => Some((4, 11)),

@@ -1,6 +1,6 @@
 //! What standard error says about the FILE of a command: one line, where something is wrong.
 
-use bsp_check::{Fault, Verdict};
+use bsp_check::{Fault, Heading, Verdict};
 use std::fmt::Display;
 use std::io;
 
@@ -70,10 +70,17 @@ pub(crate) fn say_lines(rt: &HostRuntime, lines: &[u8]) {
     }
 }
 
-/// Says which fault a FILE has, or why no whole report on it was written.
+/// Says of which airline and period a HOT file is.
+fn say_heading(rt: &HostRuntime, file: &str, heading: &Heading) {
+    let name = named(file);
+    let _ = eprintln!(rt; "bsp_office: {name}: airline {}, period {}", heading.airline, heading.period);
+}
+
+/// Says which fault a FILE has, of which airline and period it is, or why no whole report on it was written.
 pub(crate) fn say_answer(rt: &HostRuntime, file: &str, answer: &Result<Verdict, Fault>) {
     match answer {
-        Ok(Verdict::Passed) => {}
+        Ok(Verdict::Passed(Some(heading))) => say_heading(rt, file, heading),
+        Ok(Verdict::Passed(None)) => {}
         Ok(Verdict::Refused(explanation)) => say(rt, named(file), explanation),
         Err(Fault::Write) => say_unwritten(rt),
         Err(fault) => say_fault(rt, file, *fault),
