@@ -8,7 +8,6 @@ use Rattle.bsp_explain.specs.declared.explanation.Explanation.{Explanation as Re
 use Rattle.bsp_hot_check.specs.declared.model.Standing.{Standing}
 use Rattle.bsp_hot_check.specs.Standings.{start}
 use Rattle.bsp_hot_explain.specs.declared.explanation.HotExplanation.{HotExplanation}
-use Rattle.bsp_hot_explain.specs.Headings.{heading_in}
 use Rattle.bsp_explain.specs.Before.{counted, IsLine}
 use Rattle.bsp_explain.specs.RetReasons.{Says, is_reason_of}
 use Rattle.bsp_hot_explain.specs.HotReasons.{SaysOfHot, stands_after, record_name}
