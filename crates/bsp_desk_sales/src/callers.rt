@@ -26,8 +26,12 @@ fn has_token(known: Option<Token>, token: Token) -> bool
     }
 }
 
-/// Registers an agent, or gives it another token.
-fn set_agent<B: Book>(book: &mut B, agent: AgentCode, token: Token) -> Result<Answer, BookFault>
+/// Registers an agent, or gives it another token. It answers held or done.
+///
+/// # Errors
+///
+/// `NoRoom`, and what the open transaction wrote is then undone, or `Failed`.
+pub fn set_agent<B: Book>(book: &mut B, agent: AgentCode, token: Token) -> Result<Answer, BookFault>
     ensures served { ServesOffice B.means book.old book.new result (RegisterAgent (Some (record { agent = record { code = Some agent }; token = token }))) }
     ensures fault { Faults B.means book.old book.new (FallsBack B.means book.old book.new) (LeavesLast B.means book.old book.new) result }
 {

@@ -82,8 +82,12 @@ fn withdraw_from<B: Book>(book: &mut B, agent: AgentCode, range: Range) -> Resul
     Ok(Answer::Changed(Change::Done))
 }
 
-/// Allots the range that a body states.
-fn allot_stated<B: Book>(book: &mut B, body: &StockChange) -> Result<Answer, BookFault>
+/// Allots the range that is stated, if the first of K01, K02, held and K03 that applies is none.
+///
+/// # Errors
+///
+/// `NoRoom`, and what the open transaction wrote is then undone, or `Failed`.
+pub fn allot_stated<B: Book>(book: &mut B, body: &StockChange) -> Result<Answer, BookFault>
     requires { B.means.has_failed book.old ≡ false }
     ensures served { ServesOffice B.means book.old book.new result (AllotRange (Some body.now)) }
     ensures fault { EndsOnFault B.means book.old book.new result }

@@ -68,8 +68,13 @@ fn bill_due<B: Book>(book: &mut B, period: PeriodCode) -> Result<(), BookFault>
     Ok(())
 }
 
-/// Closes a period in the plan and, where that is done, bills in it the memos that the close admits.
-fn close_period<B: Book>(book: &mut B, period: PeriodCode) -> Result<Answer, BookFault>
+/// Closes a period in the plan and, where that is done, bills in it the memos that the close admits. It answers the
+/// first of held, P06 and P07 that applies, or done.
+///
+/// # Errors
+///
+/// `NoRoom`, and what the open transaction wrote is then undone, or `Failed`.
+pub fn close_period<B: Book>(book: &mut B, period: PeriodCode) -> Result<Answer, BookFault>
     ensures served { ServesOffice B.means book.old book.new result (ClosePeriod (Some period)) }
     ensures fault { EndsOnFault B.means book.old book.new result }
 {

@@ -20,10 +20,13 @@ mod report;
 mod shown;
 
 pub use actions::{agree, dispute, reduce, uphold, withdraw};
-pub use bsp_desk_sales::{allot, give_up, register_agent, register_airline, withdraw_range};
-pub use closes::close;
+pub use bsp_desk_sales::{
+    Reporter, allot, allot_stated, give_up, register_agent, register_airline, set_agent,
+    withdraw_range,
+};
+pub use closes::{close, close_period};
 pub use content::{Content, contents_are_read};
 pub use issues::issue;
-pub use plan::{publish, set_day};
-pub use report::{report_of_agent, report_of_office};
+pub use plan::{publish, set_business_day, set_day};
+pub use report::{report_file, report_of_agent, report_of_office};
 pub use shown::{agent_memos, airline_memos};

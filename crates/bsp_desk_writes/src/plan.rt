@@ -1,6 +1,6 @@
 //! The plan and the business day.
 
-ghost use Rattle.std.specs.Prelude.{◌≡◌, false};
+ghost use Rattle.std.specs.Prelude.{◌≡◌, Some, false};
 ghost use Rattle.bsp_calendar.specs.History.Request.{Publish, SetDay};
 ghost use Rattle.bsp_messages.specs.Bodies.{body_of, day_form};
 ghost use Rattle.bsp_desk_sales.specs.Serves.{EndsOnFault, ServesOffice};
@@ -13,7 +13,7 @@ use bsp_book::{Book, BookFault};
 use bsp_calendar::{PlanFault, read_plan};
 use bsp_desk_sales::{give_up, unread};
 use bsp_messages::{Answer, RequestRefusal, read_day};
-use bsp_rows::Change;
+use bsp_rows::{Change, Day};
 use std::alloc::Global;
 
 /// What the plan answers, as a message.
@@ -43,6 +43,18 @@ pub fn publish<B: Book>(alloc: Global, book: &mut B, text: &[u8]) -> Result<Answ
     }
 }
 
+/// Sets the business day. It answers P04, held or done.
+///
+/// # Errors
+///
+/// `NoRoom`, and what the open transaction wrote is then undone, or `Failed`.
+pub fn set_business_day<B: Book>(book: &mut B, day: Day) -> Result<Answer, BookFault>
+    ensures served { ServesOffice B.means book.old book.new result (SetBusinessDay (Some day)) }
+    ensures fault { EndsOnFault B.means book.old book.new result }
+{
+    Ok(plan_answer(book.set_day(day)?))
+}
+
 /// Sets the business day: `POST /office/day`.
 ///
 /// # Errors
@@ -54,7 +66,7 @@ pub fn set_day<B: Book>(alloc: Global, book: &mut B, body: &[u8]) -> Result<Answ
     ensures fault { EndsOnFault B.means book.old book.new result }
 {
     match read_day(alloc, body) {
-        Ok(day) => Ok(plan_answer(book.set_day(day)?)),
+        Ok(day) => set_business_day(book, day),
         Err(fault) => unread(book, fault),
     }
 }

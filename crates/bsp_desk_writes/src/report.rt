@@ -21,8 +21,12 @@ use bsp_ret::{FaultCode, RetFault, RetFile, read_ret};
 use bsp_rows::AgentCode;
 use std::alloc::Global;
 
-/// The verdicts on a file. Room for all of them is made first.
-fn report_file<B: Book>(
+/// The verdicts on a file that was read, of an agent or of the office.
+///
+/// # Errors
+///
+/// `NoRoom`, and what the open transaction wrote is then undone, or `Failed`.
+pub fn report_file<B: Book>(
     alloc: Global,
     book: &mut B,
     reporter: &Reporter,

@@ -1,0 +1,64 @@
+-- What a known caller is answered before it is a text.
+use Rattle.std.specs.Prelude.{◌≡◌, ℕ, true, false, List, Some, None, Ok, Result, IfOk}
+use Rattle.bsp_book.specs.Calls.{Faults, Meaning}
+use Rattle.bsp_book.specs.declared.fault.BookFault.{BookFault}
+use Rattle.bsp_messages.specs.declared.answer.Answer.{Answer as Message}
+use Rattle.bsp_rows.specs.Decimal.{fixed_digits}
+use Rattle.bsp_rows.specs.Rows.{Rows}
+use Rattle.bsp_rows.specs.Sound.{Sound}
+use Rattle.bsp_rows.specs.Transaction.{Transaction}
+use Rattle.bsp_rows.specs.Writing.{HaveContents}
+use Rattle.bsp_desk_writes.specs.After.{agent_after, office_after}
+use Rattle.bsp_desk_writes.specs.Answers.{Answer}
+use Rattle.bsp_desk_writes.specs.Ledger.{ledger_answer, ledger_of}
+use Rattle.bsp_desk_writes.specs.Requests.{AgentRequest, IsPlanOf, OfficeRequest, PlanRead}
+use Rattle.bsp_desk_writes.specs.Requests.AgentRequest.{AgentFile, AskStatement}
+use Rattle.bsp_desk_writes.specs.Requests.OfficeRequest.{AllotRange, ClosePeriod, PublishPlan, RegisterAgent, SetBusinessDay}
+use Rattle.bsp_desk_writes.specs.Serves.{Serves}
+use Rattle.bsp_desk_writes.specs.Step.{office_answer}
+use Rattle.bsp_desk_writes.specs.Texts.{Says}
+use Rattle.bsp_desk.specs.declared.instruction.Instruction.{Instruction}
+use Rattle.bsp_desk.specs.declared.instruction.Instruction.TheVariants.{Publish, SetDay, Register, Allot, Close, Report, Statement}
+
+-- what the office itself asks, or an agent itself
+pub data Own : Type 0 where
+  OfOffice : (request : OfficeRequest) → Own
+  OfAgent : (agent : ℕ) (request : AgentRequest) → Own
+
+-- what it is answered over rows
+abbrev pub own_answer : Own → Rows → Answer
+own_answer (OfOffice request) rows = office_answer request rows
+own_answer (OfAgent agent request) rows = ledger_answer agent (ledger_of agent rows) request
+
+-- and the rows after it
+abbrev pub own_after : Own → Rows → Rows
+own_after (OfOffice request) rows = office_after request rows
+own_after (OfAgent agent request) rows = agent_after agent request rows
+
+-- the instruction asks this; the plan text is what its bytes are read as, and the file has these transactions
+abbrev pub IsMeant : Instruction → Own → Type 0
+IsMeant (Publish text) own = (read : PlanRead) × IsPlanOf text.now read × (own ≡ OfOffice (PublishPlan read))
+IsMeant (SetDay day) own = own ≡ OfOffice (SetBusinessDay (Some day))
+IsMeant (Register agent token) own = own ≡ OfOffice (RegisterAgent (Some (record { agent = record { code = Some agent }; token = token })))
+IsMeant (Allot agent range) own = own ≡ OfOffice (AllotRange (Some (record { agent = record { code = Some agent }; range = range })))
+IsMeant (Close period) own = own ≡ OfOffice (ClosePeriod (Some period))
+IsMeant (Report agent file) own = (ts : List Transaction) × HaveContents 1 file.now.groups ts × (own ≡ OfAgent agent (AgentFile (Ok ts)))
+IsMeant (Statement agent period) own = own ≡ OfAgent agent (AskStatement (fixed_digits 5 period))
+
+module _ {B : Type 0} (m : Meaning B Rows) (old new : B) (instruction : Instruction) where
+  -- over sound rows, with no transaction open, whatever the instruction means
+  abbrev pub OfInstruction : (Rows → Own → Type 0) → Type 0
+  OfInstruction P = (own : Own) → IsMeant instruction own → m.trusts new → (rows : Rows) → Sound rows → m.holds old rows None → P rows own
+
+  -- in the open transaction it is answered over the rows, which become those after it
+  abbrev pub ServesInstruction : Result Message BookFault → Type 0
+  ServesInstruction result = (own : Own) → IsMeant instruction own → Serves m old new result (own_answer own) (own_after own)
+
+  -- what is answered, what the book then holds, and what a fault leaves
+  pub record Outcome (result : Result Message BookFault) : Type 0 where
+    -- the answer is that over the rows
+    pub answered : IfOk result (λ message. OfInstruction (λ rows own. Says (own_answer own rows) message))
+    -- and the book then holds the rows after it, which are sound again
+    pub kept : IfOk result (λ message. OfInstruction (λ rows own. Sound (own_after own rows) × m.holds new (own_after own rows) None))
+    -- where there is no room the rows stay; after a failure a stop leaves them, or those after the instruction
+    pub fault : Faults m old new (OfInstruction (λ rows own. m.holds new rows None)) (OfInstruction (λ rows own. m.leaves new rows (own_after own rows))) result
