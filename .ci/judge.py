@@ -1,9 +1,9 @@
 #!/usr/bin/env python3
 """Compares the commands `judge` and `plan` with an office that serves, and tries `explain`.
 
-Each RET file of samples/ and of examples/files/ is judged over each plan of samples/, alone and behind another file. An
-office with that plan, day, agent and range is sent the same files. The verdicts are the same, and the net is what the
-periods of the agent gained. A plan text is tried over others; an office to which they are posted answers the same code.
+Each RET file of samples/ and of examples/files/ is judged over each plan of samples/, alone and after other files and
+closes. An office with the same plans, day, agent and ranges is asked the same. The verdicts are the same, and the net is
+what the periods of the agent gained. A plan text is tried over others; an office to which they are posted answers the same code.
 
 usage: .ci/judge.py [PROGRAM]   (with no PROGRAM it takes the one that is built)
 """
@@ -20,6 +20,7 @@ PROGRAM = office.program()
 OFFICE, AGENT_TOKEN = "officetoken00001", "agenttoken000001"
 AGENT, DAY, FIRST, LAST = "12345675", "2024-01-16", "1300000000", "1300000099"
 SETTING = ["--day", DAY, "--agent", AGENT, "--stock", f"{FIRST}-{LAST}"]
+STOCKS = [[(FIRST, LAST)], [("1300000050", LAST), (FIRST, "1300000049"), ("1400000000", "1400000009")]]
 
 
 def asked(it, method, path, body=None, token=OFFICE):
@@ -28,11 +29,12 @@ def asked(it, method, path, body=None, token=OFFICE):
     return status, json.loads(text)
 
 
-def open_office(plan):
-    """An office with this plan, the agent and its range."""
+def open_office(plans, stock):
+    """An office with these plans, the agent and its ranges."""
     it = office.Office(PROGRAM, None, "--token", OFFICE)
-    for path, body in [("plan", plan), ("day", json.dumps({"day": DAY})), ("agents", json.dumps({"agent": AGENT, "token": AGENT_TOKEN})),
-                       ("stock/allot", json.dumps({"agent": AGENT, "first": FIRST, "last": LAST}))]:
+    asks = [*(("plan", plan) for plan in plans), ("day", json.dumps({"day": DAY})), ("agents", json.dumps({"agent": AGENT, "token": AGENT_TOKEN})),
+            *(("stock/allot", json.dumps({"agent": AGENT, "first": first, "last": last})) for first, last in stock)]
+    for path, body in asks:
         expect(f"the office takes {path}", 200, asked(it, "POST", f"/office/{path}", body)[0])
     return it
 
@@ -59,16 +61,24 @@ def line_of(result):
     return f"{result['n']:06} {word}{' ' + result['period'] if 'period' in result else ''}\n"
 
 
-def office_says(plan, earlier, file):
-    """What an office says of a file behind the earlier ones: the lines and the status of `judge`."""
-    with open_office(plan) as it:
-        for text in earlier:
+def repeat(it, earlier):
+    """Asks for what came before: the texts of files, and the codes of periods that are closed."""
+    for text in earlier:
+        if isinstance(text, str):
+            expect(f"the office closes {text}", 200, asked(it, "POST", "/office/close", json.dumps({"period": text}))[0])
+        else:
             asked(it, "POST", f"/agents/{AGENT}/ret", text, AGENT_TOKEN)
-        before = owed(it, plan)
+
+
+def office_says(plans, stock, earlier, file):
+    """What an office says of a file after the earlier files and closes: the lines and the status of `judge`."""
+    with open_office(plans, stock) as it:
+        repeat(it, earlier)
+        before = owed(it, plans[0])
         status, reply = asked(it, "POST", f"/agents/{AGENT}/ret", file, AGENT_TOKEN)
         if status != 200:
             return 1, f"{reply['code']} record {reply['record']}\n"
-        net = owed(it, plan) - before
+        net = owed(it, plans[0]) - before
     lines = "".join(map(line_of, reply["results"])) + f"net {money(net)}\n"
     return int(any(it["verdict"][0] == "E" for it in reply["results"])), lines
 
@@ -79,23 +89,41 @@ def judged(words):
     return (ended.returncode, ended.stdout.decode()), ended.stderr.decode()
 
 
+def words_of(plans, stock, earlier):
+    """The words of `judge` but for its file. What came before is files, and codes of periods that are closed."""
+    return [*(word for it in plans for word in ("--plan", str(it))), "--day", DAY, "--agent", AGENT,
+            *(word for first, last in stock for word in ("--stock", f"{first}-{last}")),
+            *(word for it in earlier for word in (("--closed", it) if isinstance(it, str) else ("--file", str(it))))]
+
+
+def texts_of(earlier):
+    """What came before, with the texts of the files."""
+    return [it if isinstance(it, str) else it.read_bytes() for it in earlier]
+
+
+def compare(plans, stock, earlier, file):
+    """Compares `judge` with an office; whether both judged the file."""
+    status_and_lines, errors = judged([*words_of(plans, stock, earlier), str(file)])
+    names = [it if isinstance(it, str) else it.name for it in earlier]
+    if file in earlier and status_and_lines[1].startswith("F"):
+        return False  # the earlier file has a fault, which is reported
+    wanted = office_says([it.read_bytes() for it in plans], stock, texts_of(earlier), file.read_bytes())
+    expect(f"judge {[it.name for it in plans]} {names} {file.name}", wanted, status_and_lines)
+    refusals = re.findall(r"^\d{6} E\d\d$", status_and_lines[1], re.M)
+    own = [line for line in errors.splitlines() if not re.match(r"\S+: \d{6}", line) and "uses the number up" not in line]
+    expect(f"judge {names} {file.name}: a line for each refusal", len(refusals) or int(status_and_lines[1].startswith("F")), len(own))
+    return True
+
+
 def try_judge():
-    """Compares `judge` with an office, of each file alone and behind a sale."""
+    """Compares `judge` with an office, of each file alone and after files and closes."""
     files = sorted([*(TOP / "samples").glob("*.ret"), *(TOP / "examples/files").glob("*.ret")])
-    sale = TOP / "samples/sale.ret"
+    sale, plan, tax = TOP / "samples/sale.ret", TOP / "samples/plan.toml", TOP / "samples/commission-tax.toml"
     count = 0
-    for plan in (TOP / "samples/plan.toml", TOP / "samples/commission-tax.toml"):
+    for plans, stock in (([plan], STOCKS[0]), ([tax], STOCKS[1]), ([plan, tax], STOCKS[1])):
         for file in files:
-            for earlier in ([], [sale], [sale, file]):
-                words = ["--plan", str(plan), *SETTING, *(word for it in earlier for word in ("--file", str(it))), str(file)]
-                wanted = office_says(plan.read_bytes(), [it.read_bytes() for it in earlier], file.read_bytes())
-                said, errors = judged(words)
-                if earlier[1:] and said[1].startswith("F"):
-                    continue  # the earlier file has a fault, which is reported
-                expect(f"judge {plan.name} {[it.name for it in earlier]} {file.name}", wanted, said)
-                refusals = re.findall(r"^\d{6} E\d\d$", said[1], re.M)
-                expect(f"judge {file.name}: a line for each refusal", len(refusals) or int(said[1].startswith("F")), errors.count("\n"))
-                count += 1
+            for earlier in ([], [sale], [sale, file], ["24011"], [sale, "24011"], ["24011", sale, file]):
+                count += compare(plans, stock, earlier, file)
     return count
 
 
@@ -104,16 +132,16 @@ SECOND_PERIOD = '[[period]]\ncode = "24012"\nfirst = "2024-01-16"\nlast = "2024-
 REMARKS = [
     ("sale", [], {"12513000000016": "99913000000016"}, "E01: the airline 999 is not in the plan"),
     ("sale", [], {"TKTT12345675": "TKTT76543213"}, "E02: record 2 has the agent 76543213, and 12345675 reports"),
-    ("sale", [], {"13000000016": "13000000015"}, "E03: the check digit of 1300000001 is 6"),
-    ("exchange", ["sale"], {"13000000016": "13000000014"}, "E03: the check digit of 1300000001 is 6"),
+    ("sale", [], {"13000000016": "13000000015"}, "E03: record 2 has the check digit 5, and that of 1300000001 is 6"),
+    ("exchange", ["sale"], {"13000000016": "13000000014"}, "E03: record 3 has the check digit 4, and that of 1300000001 is 6"),
     ("sale", [], {"240105DOE": "240117DOE"}, "E04: it is issued 2024-01-17, after the business day 2024-01-16"),
     ("sale", [], {"13000000016": "14000000011"}, "E05: 1400000001 is not in the range 1300000000-1300000099"),
-    ("sale", ["sale"], {"JANE": "JOHN"}, "E06: 1300000001 was accepted before, with other content"),
+    ("sale", ["sale"], {"JANE": "JOHN"}, "E06: 1300000001 was accepted before, with other content: take another number"),
     ("sale", [], {"CA0000002350{": "CA0000002340{", "00002350{": "00002340{"}, "E07: fare + taxes are 235.00, forms 234.00"),
     ("sale", [], {" 00500": " 00600"}, "E07: the rate is 600, and the published one of 125 on 2024-01-05 is 500"),
     ("sale", [], {"0000000100{": "0000001000{"}, "E07: the commission is 100.00, by rate and fare 10.00"),
     ("sale", [], {"10000002000{": "10000002000}"}, "E07: the fare is -200.00, and no amount of a sale is below zero"),
-    ("refund-and-sale", [], {}, "E08: no ticket 1300000001 of 125 was reported before"),
+    ("refund-and-sale", [], {}, "E08: no ticket 1300000001 of 125 was reported before: report the sale before its refund"),
     ("exchange", ["sale", "refund-and-sale"], {}, "E09: 1300000001 is cancelled, or was refunded or exchanged"),
     ("exchange", ["sale"], {"CA0000000500{": "CA0000000510{", "EX0000002350{": "EX0000002340{"},
      "E12: EX is 234.00, fare + taxes of the tickets are 235.00"),
@@ -122,7 +150,7 @@ REMARKS = [
     ("refund-and-sale", ["sale"], {"2000}RA0000000350}": "1900}RA0000000450}"}, "E12: the tax RA is -45.00, that of the ticket 35.00"),
     ("refund-and-sale", ["sale"], {"00500000000010": "00400000000008"}, "E12: the rate is 400, that of the ticket 500"),
     ("refund-and-sale", ["sale"], {"0000000100}": "0000000090}"}, "E12: the commission is -9.00, by rate and fare -10.00"),
-    ("sale", ["sale"], {"13000000016240105": "13000000020240116", SECOND_PERIOD: ""}, "E10: it is issued 2024-01-16, and the last period ends 2024-01-15"),
+    ("sale", ["sale"], {"13000000016240105": "13000000020240116", SECOND_PERIOD: ""}, "E10: it is issued 2024-01-16, and the last period ends 2024-01-15: a later period has to be published"),
     ("sale", ["sale"], {"13000000016": "13000000020", "limit = 1000": "limit = 1"}, "E11: the documents limit is reached"),
 ]
 
@@ -148,12 +176,34 @@ def try_remarks():
     return len(REMARKS)
 
 
+def try_lines():
+    """Compares what is said of transactions that are no refusals of the file: of an earlier file, and of a CANX alone."""
+    plan, sale = str(TOP / "samples/plan.toml"), str(TOP / "samples/sale.ret")
+    refund = str(TOP / "samples/refund-and-sale.ret")
+    text = (TOP / "samples/cancellation.ret").read_text().splitlines(True)
+    alone = text[0] + text[-2].replace("000002CANX", "000001CANX") + text[-1].replace("0000006000000200000000002350{", "0000003000000100000000000000{")
+    ended = subprocess.run([PROGRAM, "judge", "--plan", plan, *SETTING, "--file", refund, sale], capture_output=True, timeout=60, text=True)
+    why = "000001 E08: no ticket 1300000001 of 125 was reported before: report the sale before its refund"
+    expect("a refusal in an earlier file", f"{refund}: {why}\n", ended.stderr)
+    ended = subprocess.run([PROGRAM, "judge", "--plan", plan, *SETTING, "-"], capture_output=True, timeout=60, input=alone, text=True)
+    said = "000001: 1300000001 was never sold; the cancellation uses the number up\n"
+    expect("a CANX of a number that no file sold", (0, "000001 accepted 24011\nnet 0.00\n", said), (ended.returncode, ended.stdout, ended.stderr))
+
+
 def try_faults():
     """Compares what is said where a file is not judged."""
     plan = str(TOP / "samples/plan.toml")
     sale = str(TOP / "samples/sale.ret")
-    expect_end("a range whose first is after its last", (1, b"K01\n", b"bsp_office: --stock: the office refuses it\n"),
+    said = f"bsp_office: --stock {LAST}-{FIRST}: the first number is after the last\n".encode()
+    expect_end("a range whose first is after its last", (1, b"K01\n", said),
                [PROGRAM, "judge", "--plan", plan, "--day", DAY, "--agent", AGENT, "--stock", f"{LAST}-{FIRST}", sale])
+    said = f"bsp_office: --stock {LAST}-1300000149: it meets {FIRST}-{LAST}\n".encode()
+    expect_end("a range that meets another", (1, b"K03\n", said), [PROGRAM, "judge", "--plan", plan, *SETTING, "--stock", f"{LAST}-1300000149", sale])
+    for codes, code, why in [(["24012"], b"P06\n", "24012: the period 24011 is to be closed first"),
+                             (["24099"], b"P06\n", "24099: no period of the plan has this code"),
+                             (["24011", "24012"], b"P07\n", f"24012: it ends 2024-01-31, and the business day is {DAY}")]:
+        closes = [word for it in codes for word in ("--closed", it)]
+        expect_end(f"closes {codes}", (1, code, f"bsp_office: --closed {why}\n".encode()), [PROGRAM, "judge", "--plan", plan, *SETTING, *closes, sale])
     for option, value, line in [("--day", "2024-02-30", b"error: DAY is a day of the calendar, as 2024-01-05\n"),
                                 ("--agent", "12345674", b"error: A is eight digits, of which the last is the first seven modulo 7\n"),
                                 ("--stock", "1300000000", b"error: FIRST-LAST is two numbers of ten digits, as 1300000000-1300000099\n")]:
@@ -278,6 +328,7 @@ def try_explain():
 def main():
     files, plans, codes, remarks = try_judge(), try_plan(), try_explain(), try_remarks()
     try_faults()
+    try_lines()
     office.finish(f"judge: {files} files, {plans} plan texts, {codes} codes and {remarks} remarks are as an office has them")
 
 

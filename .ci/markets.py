@@ -1,7 +1,8 @@
 #!/usr/bin/env python3
 """Compares the program with the office of second_office.py. Both are asked the same random requests, in markets where sales,
 refunds, exchanges, cancellations, memos, disputes and closes follow one another, often with one value that is wrong. Each
-reply has to be the same, byte for byte; in the end all that shows the rows is asked for.
+reply has to be the same, byte for byte; in the end all that shows the rows is asked for. In a further market of each seed,
+of one agent, several plan texts and ranges, `judge` is asked the same as the offices before each file, closes among it.
 
 The line at the end has the numbers of the answers. A difference is printed with what was sent; the same seed sends the same
 again.
@@ -12,8 +13,11 @@ import collections
 import dataclasses
 import datetime
 import json
+import pathlib
 import random
+import subprocess
 import sys
+import tempfile
 
 sys.dont_write_bytecode = True
 import office
@@ -35,6 +39,9 @@ def related_to(tickets):
 class Market:
     """Random requests, of which most are ones that the second office accepts, or almost."""
 
+    # the part of the requests that bear another token
+    strangers = 0.02
+
     def __init__(self, program, seed, counts):
         self.random, self.second, self.counts = random.Random(seed), Second(OFFICE), counts
         self.first = office.Office(program, None, "--token", OFFICE)
@@ -44,8 +51,8 @@ class Market:
     # asking
 
     def ask(self, method, path, token, body, answer):
-        """Asks both, and compares. Twice in a hundred the token is another one."""
-        if self.random.random() < 0.02:
+        """Asks both, and compares. Now and then the token is another one."""
+        if self.random.random() < self.strangers:
             token = self.random.choice([None, "0" * 16, token[:-1], f"{token[:-1]}_", self.agent_tokens.get(AGENTS[0])])
         wanted, found = reply(lambda: self.second.answer(path, token, answer)), self.first.ask(method, path, token, body)
         text = body.decode() if body else ""
@@ -378,6 +385,100 @@ class Market:
         self.look_at_all()
 
 
+class Trial(Market):
+    """Plan texts, ranges, files and closes of one agent on one business day: each file is judged too."""
+
+    strangers = 0
+
+    def __init__(self, program, seed, counts):
+        super().__init__(program, seed, counts)
+        self.program, self.words, self.name = program, [], f"the trial of the seed {seed}"
+
+    def file(self, text):
+        """The name of a new file with this text."""
+        path = pathlib.Path(self.folder, str(len(list(pathlib.Path(self.folder).iterdir()))))
+        path.write_bytes(text if isinstance(text, bytes) else text.encode())
+        return str(path)
+
+    def publish(self, text):
+        super().publish(text)
+        self.words += ["--plan", self.file(text.toml())]
+
+    def set_day(self, day):
+        """The last day of all is set first, so that periods can be closed."""
+        day = self.random.choice(self.days)
+        super().set_day(day)
+        self.words += ["--day", str(day)]
+
+    def register_agent(self, agent):
+        if agent == AGENTS[0]:
+            super().register_agent(agent)
+            self.words += ["--agent", agent]
+
+    def register_airline(self, airline):
+        pass
+
+    def allot(self, agent, first, last):
+        """In two ranges, of which one is left out now and then."""
+        if agent != AGENTS[0]:
+            return
+        middle = self.random.randrange(first, last)
+        ranges = self.random.choice([[(first, middle), (middle + 1, last)]] * 3 + [[(middle, last)], [(middle + 1, last), (first, middle)]])
+        for one, other in ranges:
+            super().allot(agent, one, other)
+            self.words += ["--stock", f"{one:010}-{other:010}"]
+
+    def owed(self):
+        """What the agent owes over all periods, in minor units, as the first office says."""
+        agent, token = AGENTS[0], self.agent_tokens[AGENTS[0]]
+        paths = [f"/agents/{agent}/periods/{code}" for code in self.second.plan.periods]
+        return sum(int(json.loads(self.first.ask("GET", path, token, None)[2])["net"].replace(".", "")) for path in paths)
+
+    def judged(self, text):
+        ended = subprocess.run([self.program, "judge", *self.words, self.file(text)], capture_output=True, timeout=60, input=b"")
+        return ended.returncode, ended.stdout.decode()
+
+    def report(self):
+        """A file, which is judged after all that came before."""
+        transactions = [self.transaction(AGENTS[0]) for _ in range(self.random.choice([1, 2, 3, 5]))]
+        text = ret_text(transactions)
+        said, before = self.judged(text), self.owed()
+        status, _, body = self.first.ask("POST", f"/agents/{AGENTS[0]}/ret", self.agent_tokens[AGENTS[0]], text)
+        self.second.report(AGENTS[0], transactions)
+        results = json.loads(body)["results"]
+        lines = "".join(f"{it['n']:06} {it['verdict']}{' ' + it['period'] if 'period' in it else ''}\n" for it in results)
+        units = self.owed() - before
+        net = f"net {'-' if units < 0 else ''}{abs(units) // 100}.{abs(units) % 100:02}\n"
+        office.expect(f"{self.name}: judge {' '.join(self.words)}", (200, (int(" E" in lines), lines + net)), (status, said))
+        self.counts["judged"] += 1
+        self.words += ["--file", self.file(text)]
+
+    def close_next(self):
+        """The earliest open period; a close that the office refuses ends a trial with its code."""
+        code = list(self.second.plan.periods)[self.second.plan.closed:][:1]
+        if not code:
+            return
+        status, _, body = self.first.ask("POST", "/office/close", OFFICE, compact({"period": code[0]}))
+        words = [*self.words, "--closed", code[0]]
+        if status == 200:
+            reply(lambda: self.second.answer("/office/close", OFFICE, lambda: self.second.close(code[0])))
+            self.words = words
+            return
+        ended = subprocess.run([self.program, "judge", *words, self.file(ret_text([]))], capture_output=True, timeout=60, input=b"")
+        office.expect(f"{self.name}: judge {' '.join(words)}", (1, json.loads(body)["code"] + "\n"), (ended.returncode, ended.stdout.decode()))
+        self.counts["judge stopped"] += 1
+
+    def run(self, requests):
+        with tempfile.TemporaryDirectory() as self.folder:
+            self.open()
+            if self.random.random() < 0.7:
+                self.publish(dataclasses.replace(self.later, rates=()))
+            for _ in range(requests):
+                if office.failures:
+                    return
+                self.random.choice([self.report, self.report, self.close_next])()
+
+
 def main():
     program = office.program()
     markets, seed = (int(it) for it in (*sys.argv[2:4], *("40", "1")[len(sys.argv[2:4]):]))
@@ -386,6 +487,9 @@ def main():
         market = Market(program, at, counts)
         with market.first:
             market.run(400)
+        trial = Trial(program, at, counts)
+        with trial.first:
+            trial.run(12)
         if office.failures:
             break
     office.finish("a second office answers the same: " + ", ".join(f"{word} {count:,}" for word, count in sorted(counts.items())))

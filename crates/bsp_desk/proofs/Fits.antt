@@ -21,7 +21,7 @@ use Rattle.bsp_desk_writes.specs.Step.{AreGroups, Fits, HasGroups}
 use Rattle.bsp_desk.specs.Reading.{IsRead}
 use Rattle.bsp_desk.specs.declared.request.Request.{Request}
 
-groups_fit : (n : ℕ) (groups : List (List (List ℕ))) (ts : List Transaction) → HaveContents n groups ts → AreGroups ts
+pub groups_fit : (n : ℕ) (groups : List (List (List ℕ))) (ts : List Transaction) → HaveContents n groups ts → AreGroups ts
 groups_fit n [] [] h = tt
 groups_fit n (group ∷ groups) (t ∷ ts) h = (content_makes n group t h.0, groups_fit (suc n) groups ts h.1)
 groups_fit n [] (t ∷ ts) h = elim h [ ]

@@ -10,3 +10,4 @@ pub mod ListsRead
 pub mod HotReplies
 pub mod Outliving
 pub use Rattle.bsp_desk_writes.proofs.RequestsRead
+pub mod InstructionLemmas

@@ -10,11 +10,11 @@ use Rattle.bsp_rows.specs.Transaction.{Transaction}
 use Rattle.bsp_rows.specs.Writing.{HaveContents}
 use Rattle.bsp_desk_writes.specs.After.{agent_after, office_after}
 use Rattle.bsp_desk_writes.specs.Answers.{Answer}
-use Rattle.bsp_desk_writes.specs.Ledger.{ledger_answer, ledger_of}
+use Rattle.bsp_desk_writes.specs.Ledger.{agent_of, ledger_answer, ledger_of}
 use Rattle.bsp_desk_writes.specs.Requests.{AgentRequest, IsPlanOf, OfficeRequest, PlanRead}
 use Rattle.bsp_desk_writes.specs.Requests.AgentRequest.{AgentFile, AskStatement}
 use Rattle.bsp_desk_writes.specs.Requests.OfficeRequest.{AllotRange, ClosePeriod, PublishPlan, RegisterAgent, SetBusinessDay}
-use Rattle.bsp_desk_writes.specs.Serves.{Serves}
+use Rattle.bsp_desk_writes.specs.Serves.{FallsBackSound, LeavesLastSound, Serves}
 use Rattle.bsp_desk_writes.specs.Step.{office_answer}
 use Rattle.bsp_desk_writes.specs.Texts.{Says}
 use Rattle.bsp_desk.specs.declared.instruction.Instruction.{Instruction}
@@ -45,6 +45,11 @@ IsMeant (Close period) own = own ≡ OfOffice (ClosePeriod (Some period))
 IsMeant (Report agent file) own = (ts : List Transaction) × HaveContents 1 file.now.groups ts × (own ≡ OfAgent agent (AgentFile (Ok ts)))
 IsMeant (Statement agent period) own = own ≡ OfAgent agent (AskStatement (fixed_digits 5 period))
 
+-- the code of an agent that reports is read from its digits
+abbrev pub ReadsBack : Instruction → Type 0
+ReadsBack (Report agent file) = agent_of (fixed_digits 8 agent) ≡ Some agent
+ReadsBack _ = Unit {0}
+
 module _ {B : Type 0} (m : Meaning B Rows) (old new : B) (instruction : Instruction) where
   -- over sound rows, with no transaction open, whatever the instruction means
   abbrev pub OfInstruction : (Rows → Own → Type 0) → Type 0
@@ -54,11 +59,23 @@ module _ {B : Type 0} (m : Meaning B Rows) (old new : B) (instruction : Instruct
   abbrev pub ServesInstruction : Result Message BookFault → Type 0
   ServesInstruction result = (own : Own) → IsMeant instruction own → Serves m old new result (own_answer own) (own_after own)
 
+  -- what is owed in the open transaction
+  abbrev pub EndsWithin : Result Message BookFault → Type 0
+  EndsWithin result =
+      Faults m old new ((own : Own) → IsMeant instruction own → FallsBackSound m old new) ((own : Own) → IsMeant instruction own → LeavesLastSound m old new) result
+
+  -- the answer, and what the book then holds
+  abbrev pub CommitsInstruction : Result Message BookFault → Type 0
+  CommitsInstruction result = IfOk result (λ message. OfInstruction (λ rows own. Says (own_answer own rows) message × m.holds new (own_after own rows) None))
+
+  -- where there is no room the rows stay; after a failure a stop leaves them, or those after the instruction
+  abbrev pub EndsInstruction : Result Message BookFault → Type 0
+  EndsInstruction result = Faults m old new (OfInstruction (λ rows own. m.holds new rows None)) (OfInstruction (λ rows own. m.leaves new rows (own_after own rows))) result
+
   -- what is answered, what the book then holds, and what a fault leaves
   pub record Outcome (result : Result Message BookFault) : Type 0 where
     -- the answer is that over the rows
     pub answered : IfOk result (λ message. OfInstruction (λ rows own. Says (own_answer own rows) message))
     -- and the book then holds the rows after it, which are sound again
     pub kept : IfOk result (λ message. OfInstruction (λ rows own. Sound (own_after own rows) × m.holds new (own_after own rows) None))
-    -- where there is no room the rows stay; after a failure a stop leaves them, or those after the instruction
-    pub fault : Faults m old new (OfInstruction (λ rows own. m.holds new rows None)) (OfInstruction (λ rows own. m.leaves new rows (own_after own rows))) result
+    pub fault : EndsInstruction result

@@ -9,6 +9,7 @@ pub mod Laws
 pub mod Books
 pub mod HotReplies
 pub mod Stops
+pub mod Instructions
 pub use Rattle.bsp_book.specs.Calls as BookCalls
 pub use Rattle.bsp_desk_writes.specs.Contents
 pub use Rattle.bsp_desk_writes.specs.Requests

@@ -2,6 +2,7 @@
 
 ghost use Rattle.std.specs.Prelude.{◌≡◌, ◌↔◌, List, None, IfOk, IsOk, MatchResult, OnErr, false, length, ℕ};
 ghost use Rattle.bsp_desk.specs.Callers.{calling};
+ghost use Rattle.bsp_desk.specs.Instructions.{Outcome};
 ghost use Rattle.bsp_desk.specs.Reading.{AreRead};
 ghost use Rattle.bsp_desk.specs.Runs.{AreAnswered, RanOver};
 ghost use Rattle.bsp_desk.specs.Steps.{Answers};
@@ -10,11 +11,13 @@ ghost use Rattle.bsp_rows.specs.Rows.{Rows};
 ghost use Rattle.bsp_rows.specs.Sound.{Sound};
 ghost use Rattle.bsp_desk_writes.specs.Requests.{Request as Reading};
 
+use crate::instructed::{carry_out, reads_back};
+use crate::instruction::Instruction;
 use crate::request::Request;
 use crate::transaction::answer_call;
 use bsp_book::{Book, BookFault};
 use bsp_desk_writes::Content;
-use bsp_messages::{Reply, RequestRefusal};
+use bsp_messages::{Answer, Reply, RequestRefusal};
 use bsp_routes::{Asking, Call};
 use bsp_rows::Token;
 use std::alloc::Global;
@@ -76,6 +79,21 @@ impl<B: Book> Desk<B> {
         ensures office { self.new.office ≡ self.old.office }
     {
         self.reply(request)
+    }
+
+    /// What the office itself, or an agent itself, is answered by `bsp_office_spec`, before the answer is a text. It is one
+    /// transaction, after which the book holds the rows that the answer leaves, sound again. A refusal leaves the rows as
+    /// they are.
+    ///
+    /// # Errors
+    ///
+    /// `NoRoom`, and the rows are then as they were. `Failed`: a stop leaves them, or those after the instruction.
+    pub fn outcome(&mut self, instruction: &Instruction<'_>) -> Result<Answer, BookFault>
+        ensures outcome { Outcome B.means self.old.book self.new.book instruction.now result }
+        ensures office { self.new.office ≡ self.old.office }
+    {
+        reads_back(instruction);
+        carry_out(self.alloc, &mut self.book, instruction)
     }
 
     // The reply to a request.

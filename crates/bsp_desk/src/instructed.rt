@@ -1,8 +1,7 @@
 //! Serves an instruction in one transaction of the book.
 
-ghost use Rattle.std.specs.Prelude.{◌≡◌, IfOk, false};
-ghost use Rattle.bsp_desk.specs.Instructions.{CommitsInstruction, EndsInstruction, ServesInstruction};
-ghost use Rattle.bsp_desk_writes.specs.Serves.{EndsOnFault};
+ghost use Rattle.std.specs.Prelude.{◌≡◌, Some, false};
+ghost use Rattle.bsp_desk.specs.Instructions.{CommitsInstruction, EndsInstruction, EndsWithin, ReadsBack, ServesInstruction};
 
 use crate::instruction::Instruction;
 use bsp_book::{Book, BookFault};
@@ -24,6 +23,23 @@ fn change_of(agent: AgentCode, range: Range) -> StockChange
     }
 }
 
+/// The code of an agent that reports is read from its digits.
+pub(crate) fn reads_back(instruction: &Instruction<'_>)
+    ensures { ReadsBack instruction.now }
+{
+    match instruction {
+        Instruction::Report(agent, _) => {
+            let _text = agent.digits();
+        }
+        Instruction::Publish(_)
+        | Instruction::SetDay(_)
+        | Instruction::Register(_, _)
+        | Instruction::Allot(_, _)
+        | Instruction::Close(_)
+        | Instruction::Statement(_, _) => {}
+    }
+}
+
 /// Serves an instruction in the open transaction.
 fn serve_instruction<B: Book>(
     alloc: Global,
@@ -32,7 +48,7 @@ fn serve_instruction<B: Book>(
 ) -> Result<Answer, BookFault>
     requires { B.means.has_failed book.old ≡ false }
     ensures served { ServesInstruction B.means book.old book.new instruction.now result }
-    ensures fault { EndsOnFault B.means book.old book.new result }
+    ensures fault { EndsWithin B.means book.old book.new instruction.now result }
 {
     match instruction {
         Instruction::Publish(text) => publish(alloc, book, text),

@@ -1,7 +1,6 @@
 -- Lemmas on what is printed of a RET file that a desk judges.
 use Rattle.std.proofs.Common.{◌≡◌, ℕ, zero, suc, ◌+◌, ◌<◌, ◌≤◌, List, [], ◌∷◌, ◌++◌, length, get_or, take, map, ap, ◌∙◌, sym, refl, append_assoc, append-nil, arith}
 use Rattle.std.specs.Prelude.{ℤ, pos, ◌+ℤ◌, Option, Result, Ok, Err, IfOk}
-use Rattle.std.specs.Global.{Vec}
 use Rattle.std.proofs.lemmas.List.{map_push, take_all, take_more}
 use Rattle.std.proofs.lemmas.List.Sums.{fold-append}
 use Rattle.bsp_rules.specs.Amounts.{sum_of}
@@ -14,13 +13,8 @@ use Rattle.bsp_postings.specs.declared.tally.Tally.{Tally}
 use Rattle.bsp_rows.specs.Rows.{Rows}
 use Rattle.bsp_rows.specs.Tallies.{tallies_of}
 use Rattle.bsp_rows.specs.declared.questions.Tallies.TheVariants.{OfAgent}
-use Rattle.bsp_messages.specs.Replies.{IsReply, body_bytes}
-use Rattle.bsp_messages.specs.declared.answer.Answer.TheVariants as message
-use Rattle.bsp_messages.specs.declared.reply.Reply.{Reply}
 use Rattle.bsp_book.specs.Listed.{meaning}
 use Rattle.bsp_book.specs.declared.list.ListBook.{ListBook}
-use Rattle.bsp_desk_writes.specs.Answers.Answer.{Verdicts}
-use Rattle.bsp_desk.specs.Replies.{IsSent}
 use Rattle.bsp_judge.specs.declared.judging.Judged.{Judged}
 use Rattle.bsp_judge.specs.Judged.{owed, verdict_line, verdict_lines}
 
@@ -50,12 +44,6 @@ verdict_more vs i number v start before after below is count so_far more =
 
 pub verdict_all : (vs : List Verdict) (i : ℕ) (start now : List ℕ) → length vs ≤ i → now ≡ start ++ verdict_lines 1 (take i vs) → now ≡ start ++ verdict_lines 1 vs
 verdict_all vs i start now past so_far = so_far ∙ ap (λ (l : List Verdict). start ++ verdict_lines 1 l) (take_all i vs past)
-
--- a reply that is the same as another sends what it sends
-pub sent_as : (verdicts copy : Vec Verdict) (again reply : Reply) → copy.items ≡ verdicts.items → IsReply (message.Verdicts copy) again → again.status ≡ reply.status → again.media ≡ reply.media → body_bytes again.body ≡ body_bytes reply.body
-    → IsSent (Verdicts verdicts.items) reply
-sent_as verdicts copy again reply copied replies status media body =
-    (message.Verdicts copy, (copy, copied, refl), record { status = sym status ∙ replies.status; media = sym media ∙ replies.media; body = sym body ∙ replies.body })
 
 -- ---- nets
 

@@ -1,3 +1,6 @@
 -- Lemmas of this crate.
+pub mod AskLemmas
 pub mod JudgeLemmas
+pub mod Pieces
+pub mod TurnLemmas
 pub mod UnjudgedLemmas

@@ -1,81 +1,139 @@
 -- Lemmas on why a RET file is not judged.
-use Rattle.std.proofs.Common.{◌≡◌, ℕ, ◌<◌, inl, inr, List, get_or, take, map, ap, refl, sym, subst}
-use Rattle.std.specs.Prelude.{Result, Ok, Err, IfErr, IsErrAnd, IsOkUnless, None}
+use Rattle.std.proofs.Common.{◌≡◌, ℕ, ◌+◌, ◌<◌, inl, inr, List, ◌++◌, get_or, length, take, map, ap, sym, subst, ◌∙◌, arith}
+use Rattle.std.specs.Prelude.{Result, Ok, Err, IfErr, IsErrAnd, IsOkUnless}
+use Rattle.std.specs.Global.{Vec}
 use Rattle.std.specs.List.{FoldsTo}
+use Rattle.std.proofs.lemmas.List.{length-map}
 use Rattle.bsp_ret.specs.declared.model.FaultCode.TheVariants.{F10}
 use Rattle.bsp_ret.specs.declared.model.RetFault.{RetFault}
-use Rattle.bsp_rows.specs.Rows.{no_rows}
-use Rattle.bsp_book.specs.Listed.{meaning}
-use Rattle.bsp_book.specs.declared.list.ListBook.{ListBook}
-use Rattle.bsp_judge.specs.Asked.{Passes, SetupTexts, all_steps, office_requests, step_request}
-use Rattle.bsp_judge.specs.Unjudged.{HasRetFault, IsEarlierFault, IsRefusal, IsRefusedIn, IsRetFaultOf, IsStepRefused, IsUnjudged, IsUnready}
+use Rattle.bsp_messages.specs.declared.refusal.RequestRefusal.{RequestRefusal}
+use Rattle.bsp_rows.specs.Rows.{Rows, no_rows}
+use Rattle.bsp_judge.specs.Asked.{HasFault, HasRetFault, IsRefused, Takes, Task, caller_tasks, earlier_tasks, place_of, plan_tasks, stock_tasks, tasks}
+use Rattle.bsp_judge.specs.Asked.Task.{Allot, Publish}
+use Rattle.bsp_judge.specs.Turns.{StopsAt}
+use Rattle.bsp_judge.specs.Unjudged.{IsRefusedAs, IsRetFaultOf, IsShort, IsStopIn, IsStopOf, IsUnjudged, IsUnready}
 use Rattle.bsp_judge.specs.declared.setup.JudgeFault.{JudgeFault}
-use Rattle.bsp_judge.specs.declared.setup.JudgeFault.TheVariants.{Setup, Earlier, File, Memory}
-use Rattle.bsp_judge.specs.declared.setup.Step.TheVariants as step
-use Rattle.bsp_plan_trial.proofs.TurnLemmas.{stops_at}
+use Rattle.bsp_judge.specs.declared.setup.JudgeFault.TheVariants.{Refused, Earlier, File, NetTooLarge, Memory}
+use Rattle.bsp_judge.specs.declared.setup.Setup.{Setup}
+use Rattle.bsp_judge.specs.declared.setup.Step.{Step}
+use Rattle.bsp_judge.specs.declared.setup.Step.TheVariants.{Closed}
+use Rattle.bsp_judge.proofs.TurnLemmas.{stops_after, stops_at, stops_before}
 
 -- a fault is passed on
 pub passed_on : {X E : Type 0} (P : E → Type 0) (r : Result X E) (e : E) → IsErrAnd r (λ f. f ≡ e) → P e → IfErr r P
 passed_on P (Ok x) e is p = tt
 passed_on P (Err f) e is p = subst P (sym is) p
 
--- a step is refused, after those before it passed
-module _ (office token : List ℕ) (s : SetupTexts) (start before after : ListBook) (i : ℕ) (o : List ℕ) where
-  pub refused_at : (fault : JudgeFault) → i < 4 → FoldsTo (Passes office) start (map (step_request office token s) (take i all_steps)) before → o ≡ office
-      → IsStepRefused o before (get_or all_steps i step.Plan) (step_request office token s (get_or all_steps i step.Plan)) after fault → IsRefusedIn office token s start fault
-  refused_at (Setup at reply) below so_far same refused =
-      let of = get_or all_steps i step.Plan in
-      let request = step_request office token s in (
-        i,
-        stops_at request (Passes office) start all_steps (λ book w. (w ≡ request at) × ((left : ListBook) × IsRefusal office book w reply left)) i step.Plan of before below refl so_far
-            (ap request (sym refused.0), (after, subst (λ (x : List ℕ). IsRefusal x before (request of) reply after) same refused.1)),
-      )
-  refused_at Memory below so_far same refused = tt
-  refused_at (Earlier place fault) below so_far same refused = refused
-  refused_at (File fault) below so_far same refused = refused
+-- what follows from a fault
+pub if_fault : {X E : Type 0} {P Q : E → Type 0} (r : Result X E) → ((e : E) → P e → Q e) → IfErr r P → IfErr r Q
+if_fault (Ok x) gives is = tt
+if_fault (Err e) gives is = gives e is
+
+-- a result has no fault but this one
+pub unless : {X E : Type 0} (P : E → Type 0) (r : Result X E) (fault : E) → P fault → IsOkUnless r fault → IfErr r P
+unless P (Ok x) fault p is = tt
+unless P (Err e) fault p is = subst P (sym is) p
 
 -- what was no want of memory is the fault of the text
 pub has_fault : (text : List ℕ) (fault : RetFault) → IsRetFaultOf text fault → (fault.code ≡ F10 → ⊥) → HasRetFault text fault
 has_fault text fault (inl none) other = absurd (other (ap (λ (f : RetFault). f.code) none))
 has_fault text fault (inr has) other = has
 
--- ---- the trial
+-- ---- a task of a trial
 
-module _ (office token : List ℕ) (s : SetupTexts) (empty : ListBook) (is : meaning.holds empty no_rows None) where
-  -- a desk over an empty book refuses a step
-  pub refused_unready : (fault : JudgeFault) → IsRefusedIn office token s empty fault → IsUnready office token s fault
-  refused_unready (Setup at reply) refused = (empty, is, refused)
-  refused_unready Memory refused = tt
-  refused_unready (Earlier place fault) refused = absurd refused
-  refused_unready (File fault) refused = refused
+module _ (s : Setup) where
+  -- a refusal stops it
+  pub refused_stops : (step : Step) (refusal : RequestRefusal) (rows : Rows) (task : Task) (fault : JudgeFault) → IsRefusedAs step refusal fault → IsRefused refusal rows task → IsStopOf s (place_of s step) rows task fault
+  refused_stops step refusal rows task (Refused r) is refused = (ap (place_of s) is.0, subst (λ (x : RequestRefusal). IsRefused x rows task) (sym is.1) refused)
+  refused_stops step refusal rows task Memory is refused = tt
+  refused_stops step refusal rows task (Earlier i f) is refused = absurd is
+  refused_stops step refusal rows task (File f) is refused = absurd is
+  refused_stops step refusal rows task NetTooLarge is refused = absurd is
 
-  -- or an earlier file has a fault
-  faulty_unready : (start : ListBook) → FoldsTo (Passes office) empty (office_requests office token s) start → (fault : JudgeFault) → IsEarlierFault office token s.agent start s.earlier fault
-      → IsUnready office token s fault
-  faulty_unready start passed (Earlier place fault) has = (empty, is, (start, passed, has))
-  faulty_unready start passed Memory has = tt
-  faulty_unready start passed (Setup at reply) has = absurd has
-  faulty_unready start passed (File fault) has = has
+  -- one of a list stops, after those before it passed
+  pub stops_one : {A : Type 0} (f : A → Task) (xs : List A) (begin : ℕ) (start state : Rows) (i : ℕ) (d v : A) → i < length xs → v ≡ get_or xs i d → FoldsTo Takes start (map f (take i xs)) state → (place : ℕ) → place ≡ begin + i
+      → (fault : JudgeFault) → IsStopOf s place state (f v) fault → IsStopIn s begin start (map f xs) fault
+  stops_one f xs begin start state i d v below is so_far place at (Refused r) stop = (i, stop.0 ∙ at, stops_at f Takes start xs (IsRefused r.refusal) i d v state below is so_far stop.1)
+  stops_one f xs begin start state i d v below is so_far place at (Earlier j fault) stop = (i, stop.0 ∙ at, stops_at f Takes start xs (HasFault fault) i d v state below is so_far stop.1)
+  stops_one f xs begin start state i d v below is so_far place at (File fault) stop = stop
+  stops_one f xs begin start state i d v below is so_far place at NetTooLarge stop = stop
+  stops_one f xs begin start state i d v below is so_far place at Memory stop = tt
 
-  pub file_unready : (start : ListBook) → FoldsTo (Passes office) empty (office_requests office token s) start → (o : List ℕ) → o ≡ office → (fault : JudgeFault)
-      → IsEarlierFault o token s.agent start s.earlier fault → IsUnready office token s fault
-  file_unready start passed o same fault has = faulty_unready start passed fault (subst (λ (x : List ℕ). IsEarlierFault x token s.agent start s.earlier fault) same has)
+  -- so it is with more tasks after them
+  pub more_after : (begin : ℕ) (rows : Rows) (xs ys : List Task) (fault : JudgeFault) → IsStopIn s begin rows xs fault → IsStopIn s begin rows (xs ++ ys) fault
+  more_after begin rows xs ys (Refused r) is = (is.0, is.1, stops_before xs ys is.0 is.2)
+  more_after begin rows xs ys (Earlier i fault) is = (is.0, is.1, stops_before xs ys is.0 is.2)
+  more_after begin rows xs ys (File fault) is = is
+  more_after begin rows xs ys NetTooLarge is = is
+  more_after begin rows xs ys Memory is = tt
 
--- for want of memory
-pub memory_unready : (office token : List ℕ) (s : SetupTexts) (fault : JudgeFault) → fault ≡ Memory → IsUnready office token s fault
-memory_unready office token s fault is = subst (IsUnready office token s) (sym is) tt
+  further : (place begin before i : ℕ) → place ≡ (begin + before) + i → place ≡ begin + (before + i)
+  further place begin before i is = omega (arith, is)
 
-pub memory_stops : {U : Type 0} (r : Result U JudgeFault) (office token : List ℕ) (s : SetupTexts) → IsOkUnless r Memory → IfErr r (IsUnready office token s)
-memory_stops (Ok u) office token s is = tt
-memory_stops (Err fault) office token s is = memory_unready office token s fault is
+  -- and with more before them, which pass
+  pub more_before : (begin : ℕ) (rows mid : Rows) (xs ys : List Task) → FoldsTo Takes rows xs mid → (fault : JudgeFault) → IsStopIn s (begin + length xs) mid ys fault → IsStopIn s begin rows (xs ++ ys) fault
+  more_before begin rows mid xs ys taken (Refused r) is = (length xs + is.0, further (place_of s r.step) begin (length xs) is.0 is.1, stops_after xs ys is.0 taken is.2)
+  more_before begin rows mid xs ys taken (Earlier i fault) is = (length xs + is.0, further (place_of s (Closed i)) begin (length xs) is.0 is.1, stops_after xs ys is.0 taken is.2)
+  more_before begin rows mid xs ys taken (File fault) is = is
+  more_before begin rows mid xs ys taken NetTooLarge is = is
+  more_before begin rows mid xs ys taken Memory is = tt
 
--- so the file is not judged
-unready_unjudged : (office token : List ℕ) (s : SetupTexts) (text : List ℕ) (fault : JudgeFault) → IsUnready office token s fault → IsUnjudged s text fault
-unready_unjudged office token s text (Setup at reply) is = (office, token, is)
-unready_unjudged office token s text (Earlier place fault) is = (office, token, is)
-unready_unjudged office token s text Memory is = tt
-unready_unjudged office token s text (File fault) is = absurd is
+  -- ---- the four parts of what comes before the file
 
-pub unready_stops : {U : Type 0} (r : Result U JudgeFault) (office token : List ℕ) (s : SetupTexts) (text : List ℕ) → IfErr r (IsUnready office token s) → IfErr r (IsUnjudged s text)
-unready_stops (Ok u) office token s text is = tt
-unready_stops (Err fault) office token s text is = unready_unjudged office token s text fault is
+  zero_plus : (n : ℕ) → n ≡ 0 + n
+  zero_plus n = omega arith
+
+  pub stop_in_plans : (r0 : Rows) (fault : JudgeFault) → IsStopIn s 0 r0 (plan_tasks s) fault → IsStopIn s 0 r0 (tasks s) fault
+  stop_in_plans r0 fault is = more_after 0 r0 (plan_tasks s) (caller_tasks s ++ (stock_tasks s ++ earlier_tasks s)) fault is
+
+  module _ (r0 r1 : Rows) (planned : FoldsTo Takes r0 (plan_tasks s) r1) where
+    -- what begins after the plans
+    later : (ys : List Task) (fault : JudgeFault) → IsStopIn s (length s.plans.now) r1 ys fault → IsStopIn s 0 r0 (plan_tasks s ++ ys) fault
+    later ys fault is =
+        let begin : length s.plans.now ≡ 0 + length (plan_tasks s) = sym (length-map s.plans.now (λ (text : Vec ℕ). Publish text.items)) ∙ zero_plus (length (plan_tasks s)) in
+        more_before 0 r0 r1 (plan_tasks s) ys planned fault (subst (λ (n : ℕ). IsStopIn s n r1 ys fault) begin is)
+
+    pub stop_after_plans : (fault : JudgeFault) → IsStopIn s (length s.plans.now) r1 (caller_tasks s) fault → IsStopIn s 0 r0 (tasks s) fault
+    stop_after_plans fault is = later (caller_tasks s ++ (stock_tasks s ++ earlier_tasks s)) fault (more_after (length s.plans.now) r1 (caller_tasks s) (stock_tasks s ++ earlier_tasks s) fault is)
+
+    module _ (r2 : Rows) (called : FoldsTo Takes r1 (caller_tasks s) r2) where
+      pub stop_after_callers : (fault : JudgeFault) → IsStopIn s (length s.plans.now + 2) r2 (stock_tasks s) fault → IsStopIn s 0 r0 (tasks s) fault
+      stop_after_callers fault is =
+          later (caller_tasks s ++ (stock_tasks s ++ earlier_tasks s)) fault
+          (more_before (length s.plans.now) r1 r2 (caller_tasks s) (stock_tasks s ++ earlier_tasks s) called fault (more_after (length s.plans.now + 2) r2 (stock_tasks s) (earlier_tasks s) fault is))
+
+      module _ (r3 : Rows) (stocked : FoldsTo Takes r2 (stock_tasks s) r3) where
+        pub stop_after_stock : (fault : JudgeFault) → IsStopIn s (length s.plans.now + 2 + length s.stock.now) r3 (earlier_tasks s) fault → IsStopIn s 0 r0 (tasks s) fault
+        stop_after_stock fault is =
+            let begin : length s.plans.now + 2 + length s.stock.now ≡ length s.plans.now + 2 + length (stock_tasks s) = ap (λ (n : ℕ). length s.plans.now + 2 + n) (sym (length-map s.stock.now (Allot s.agent))) in
+            later (caller_tasks s ++ (stock_tasks s ++ earlier_tasks s)) fault
+            (more_before (length s.plans.now) r1 r2 (caller_tasks s) (stock_tasks s ++ earlier_tasks s) called fault
+            (more_before (length s.plans.now + 2) r2 r3 (stock_tasks s) (earlier_tasks s) stocked fault (subst (λ (n : ℕ). IsStopIn s n r3 (earlier_tasks s) fault) begin is)))
+
+  -- ---- the trial
+
+  at_place : {Stops : Rows → Task → Type 0} (place i : ℕ) → place ≡ 0 + i → StopsAt Takes Stops no_rows (tasks s) i → StopsAt Takes Stops no_rows (tasks s) place
+  at_place {Stops = Stops} place i is stops = let same : i ≡ place = omega (arith, is) in subst (λ (n : ℕ). StopsAt Takes Stops no_rows (tasks s) n) same stops
+
+  pub stop_unready : (rows : Rows) → rows ≡ no_rows → (fault : JudgeFault) → IsStopIn s 0 rows (tasks s) fault → IsUnready s fault
+  stop_unready rows none fault is = from_none fault (subst (λ (r : Rows). IsStopIn s 0 r (tasks s) fault) none is) where
+    from_none : (fault : JudgeFault) → IsStopIn s 0 no_rows (tasks s) fault → IsUnready s fault
+    from_none (Refused r) is = at_place (place_of s r.step) is.0 is.1 is.2
+    from_none (Earlier i fault) is = at_place (place_of s (Closed i)) is.0 is.1 is.2
+    from_none (File fault) is = is
+    from_none NetTooLarge is = tt
+    from_none Memory is = tt
+
+  pub short_unready : (fault : JudgeFault) → IsShort fault → IsUnready s fault
+  short_unready NetTooLarge is = tt
+  short_unready Memory is = tt
+  short_unready (Refused r) is = absurd is
+  short_unready (Earlier i fault) is = absurd is
+  short_unready (File fault) is = absurd is
+
+  pub unready_unjudged : (text : List ℕ) (fault : JudgeFault) → IsUnready s fault → IsUnjudged s text fault
+  unready_unjudged text (Refused r) is = is
+  unready_unjudged text (Earlier i fault) is = is
+  unready_unjudged text NetTooLarge is = tt
+  unready_unjudged text Memory is = tt
+  unready_unjudged text (File fault) is = absurd is

@@ -1,124 +1,102 @@
--- What a desk is asked in a trial.
-use Rattle.std.specs.Prelude.{◌≡◌, ℕ, List, [], ◌∷◌, map, codes, Some}
-use Rattle.std.specs.List.{concat}
+-- What an office is asked in a trial, one request after the other, from no rows.
+use Rattle.std.specs.Prelude.{◌≡◌, ℕ, ◌+◌, List, [], ◌∷◌, ◌++◌, map, length, Ok, Some}
 use Rattle.bsp_fields.specs.CivilDay.{CivilDay}
-use Rattle.bsp_fields.specs.Days.{day_text}
-use Rattle.bsp_fields.specs.Decimal.{fixed_digits}
 use Rattle.bsp_ret.specs.Lines.{lines}
-use Rattle.bsp_ret.specs.Ret.{Ret}
-use Rattle.bsp_routes.specs.Calls.{asking_text}
-use Rattle.bsp_routes.specs.declared.asking.Asking.TheVariants as asking
-use Rattle.bsp_routes.specs.declared.call.AgentCall.TheVariants as of_agent
-use Rattle.bsp_routes.specs.declared.call.Call.{Call}
-use Rattle.bsp_routes.specs.declared.call.Call.TheVariants as call
-use Rattle.bsp_routes.specs.declared.call.OfficeCall.{OfficeCall}
-use Rattle.bsp_routes.specs.declared.call.OfficeCall.TheVariants as of_office
-use Rattle.bsp_messages.specs.declared.reply.Reply.{Reply}
-use Rattle.bsp_messages.specs.declared.status.Status.TheVariants as status
-use Rattle.bsp_book.specs.Listed.{meaning}
-use Rattle.bsp_book.specs.declared.list.ListBook.{ListBook}
-use Rattle.bsp_desk_writes.specs.declared.content.Content.{Content}
-use Rattle.bsp_desk_writes.specs.declared.content.Content.TheVariants.{Bytes, File, Fault}
-use Rattle.bsp_desk.specs.Reading.{token_text}
-use Rattle.bsp_desk.specs.Steps.{Answers}
-use Rattle.bsp_desk.specs.declared.request.Request.{Request}
-use Rattle.bsp_plan_trial.specs.Plans.{texts_of}
+use Rattle.bsp_ret.specs.Table.{first_fault}
+use Rattle.bsp_ret.specs.declared.model.RetFault.{RetFault}
+use Rattle.bsp_rows.specs.Transaction.{Transaction}
+use Rattle.bsp_rules.specs.declared.rows.Range.{Range}
+use Rattle.bsp_messages.specs.declared.refusal.RequestRefusal.{RequestRefusal}
+use Rattle.bsp_rows.specs.Rows.{Rows}
+use Rattle.bsp_desk_writes.specs.Answers.{Answer}
+use Rattle.bsp_desk_writes.specs.Answers.Answer.{Changed, Verdicts, Refused}
+use Rattle.bsp_desk_writes.specs.Requests.{IsFileOf, IsPlanOf, PlanRead}
+use Rattle.bsp_desk_writes.specs.Requests.AgentRequest.{AgentFile}
+use Rattle.bsp_desk_writes.specs.Requests.OfficeRequest.{AllotRange, ClosePeriod, PublishPlan, RegisterAgent, SetBusinessDay}
+use Rattle.bsp_desk.specs.Instructions.{Own, own_after, own_answer}
+use Rattle.bsp_desk.specs.Instructions.Own.{OfAgent, OfOffice}
+use Rattle.bsp_judge.specs.declared.setup.Earlier.{Earlier}
+use Rattle.bsp_judge.specs.declared.setup.Earlier.TheVariants.{File, Closed}
 use Rattle.bsp_judge.specs.declared.setup.Setup.{Setup}
 use Rattle.bsp_judge.specs.declared.setup.Step.{Step}
 use Rattle.bsp_judge.specs.declared.setup.Step.TheVariants as step
 
--- ---- a request
+-- what is asked, with the text of a plan or of a file
+pub data Task : Type 0 where
+  Publish : (text : List ℕ) → Task
+  SetDay : (day : CivilDay) → Task
+  Register : (agent : ℕ) → Task
+  Allot : (agent : ℕ) (range : Range) → Task
+  Close : (period : ℕ) → Task
+  Report : (agent : ℕ) (text : List ℕ) → Task
 
--- the bytes of a body, or the text of a RET file
-pub data Given : Type 0 where
-  body : List ℕ → Given
-  file : List ℕ → Given
+-- it is this request of `bsp_office_spec`; the agent is registered with some token
+abbrev pub Asks : Task → Own → Type 0
+Asks (Publish text) own = (read : PlanRead) × IsPlanOf text read × (own ≡ OfOffice (PublishPlan read))
+Asks (SetDay day) own = own ≡ OfOffice (SetBusinessDay (Some day))
+Asks (Register agent) own = (token : List ℕ) × (own ≡ OfOffice (RegisterAgent (Some (record { agent = record { code = Some agent }; token = token }))))
+Asks (Allot agent range) own = own ≡ OfOffice (AllotRange (Some (record { agent = record { code = Some agent }; range = range })))
+Asks (Close period) own = own ≡ OfOffice (ClosePeriod (Some period))
+Asks (Report agent text) own = (ts : List Transaction) × IsFileOf text (Ok ts) × (own ≡ OfAgent agent (AgentFile (Ok ts)))
 
-pub record Wanted : Type 0 where
-  pub token : List ℕ
-  pub call : Call (List ℕ)
-  pub given : Given
+-- a change is done or held, or a file has its verdicts
+abbrev pub IsPassed : Answer → Type 0
+IsPassed (Changed change) = Unit {0}
+IsPassed (Verdicts verdicts) = Unit {0}
+IsPassed _ = ⊥
 
--- the content has these bytes, or is the file that the grammar has for the text
-abbrev pub IsGiven : Given → Content → Type 0
-IsGiven (body bytes) (Bytes b) = b.now ≡ bytes
-IsGiven (body bytes) (File f) = ⊥
-IsGiven (body bytes) (Fault fault) = ⊥
-IsGiven (file text) (Bytes b) = ⊥
-IsGiven (file text) (File f) = Ret (lines text) f.now
-IsGiven (file text) (Fault fault) = ⊥
+-- so it is answered over the rows, which become those after it
+pub record Takes (rows : Rows) (task : Task) (next : Rows) : Type 0 where
+  pub own : Own
+  pub asks : Asks task own
+  pub passed : IsPassed (own_answer own rows)
+  pub after : next ≡ own_after own rows
 
-pub record IsWanted (w : Wanted) (request : Request) : Type 0 where
-  pub token : token_text request.token ≡ Some w.token
-  pub call : asking_text request.call ≡ asking.Call w.call
-  pub content : IsGiven w.given request.content
+-- it is refused over the rows
+pub record IsRefused (refusal : RequestRefusal) (rows : Rows) (task : Task) : Type 0 where
+  pub own : Own
+  pub asks : Asks task own
+  pub answered : own_answer own rows ≡ Refused refusal
 
--- the desk of an office over a book in memory answers the request so
-pub record IsAnswered (office : List ℕ) (old : ListBook) (w : Wanted) (reply : Reply) (new : ListBook) : Type 0 where
-  pub request : Request
-  pub is_wanted : IsWanted w request
-  pub answers : Answers meaning old new request office reply
+-- this is the first fault of the text
+abbrev pub HasRetFault : List ℕ → RetFault → Type 0
+HasRetFault text fault = first_fault (lines text) ≡ Some fault
 
--- and by 200
-pub record Passes (office : List ℕ) (old : ListBook) (w : Wanted) (new : ListBook) : Type 0 where
-  pub reply : Reply
-  pub answered : IsAnswered office old w reply new
-  pub ok : reply.status ≡ status.Ok
+-- it is a file with this fault
+abbrev pub HasFault : RetFault → Rows → Task → Type 0
+HasFault fault rows (Report agent text) = HasRetFault text fault
+HasFault fault rows _ = ⊥
 
 -- ---- the requests of a trial
 
--- what a file is judged over
-pub record SetupTexts : Type 0 where
-  pub plan : List ℕ
-  pub day : CivilDay
-  pub agent : ℕ
-  pub first : ℕ
-  pub last : ℕ
-  pub earlier : List (List ℕ)
+-- the plan texts are published in turn
+abbrev pub plan_tasks : Setup → List Task
+plan_tasks s = map (λ text. Publish text.items) s.plans.now
 
-abbrev pub setup_texts : Setup → SetupTexts
-setup_texts s = record { plan = s.plan.now; day = s.day; agent = s.agent; first = s.first; last = s.last; earlier = texts_of s.earlier.now }
+-- the day is set, and the agent is registered
+abbrev pub caller_tasks : Setup → List Task
+caller_tasks s = SetDay s.day ∷ Register s.agent ∷ []
 
-abbrev pub by_office : List ℕ → OfficeCall (List ℕ) → List ℕ → Wanted
-by_office office of body_bytes = record { token = office; call = call.Office of; given = body body_bytes }
+-- its ranges are allotted in turn
+abbrev pub stock_tasks : Setup → List Task
+stock_tasks s = map (Allot s.agent) s.stock.now
 
-unfoldable pub day_body : CivilDay → List ℕ
-day_body day = concat (codes "{\"day\":\"" ∷ day_text day ∷ codes "\"}" ∷ [])
+-- the agent reports a file, or the office closes a period
+abbrev pub earlier_task : ℕ → Earlier → Task
+earlier_task agent (File text) = Report agent text.items
+earlier_task agent (Closed period) = Close period
 
-unfoldable pub agent_body : ℕ → List ℕ → List ℕ
-agent_body agent token = concat (codes "{\"agent\":\"" ∷ fixed_digits 8 agent ∷ codes "\",\"token\":\"" ∷ token ∷ codes "\"}" ∷ [])
+abbrev pub earlier_tasks : Setup → List Task
+earlier_tasks s = map (earlier_task s.agent) s.earlier.now
 
-unfoldable pub stock_body : ℕ → ℕ → ℕ → List ℕ
-stock_body agent first last =
-    concat
-    (codes "{\"agent\":\"" ∷ fixed_digits 8 agent ∷ codes "\",\"first\":\"" ∷ fixed_digits 10 first ∷ codes "\",\"last\":\"" ∷ fixed_digits 10 last
-    ∷ codes "\"}" ∷ [])
+-- all of them, in this order
+abbrev pub tasks : Setup → List Task
+tasks s = plan_tasks s ++ (caller_tasks s ++ (stock_tasks s ++ earlier_tasks s))
 
--- the plan is published, the day is set, the agent is registered with a token, and its numbers are allotted
-abbrev pub step_call : Step → OfficeCall (List ℕ)
-step_call step.Plan = of_office.Plan
-step_call step.Day = of_office.Day
-step_call step.Agent = of_office.RegisterAgent
-step_call step.Stock = of_office.Allot
-
-abbrev pub step_body : List ℕ → SetupTexts → Step → List ℕ
-step_body token s step.Plan = s.plan
-step_body token s step.Day = day_body s.day
-step_body token s step.Agent = agent_body s.agent token
-step_body token s step.Stock = stock_body s.agent s.first s.last
-
-abbrev pub step_request : List ℕ → List ℕ → SetupTexts → Step → Wanted
-step_request office token s step = by_office office (step_call step) (step_body token s step)
-
-abbrev pub all_steps : List Step
-all_steps = step.Plan ∷ step.Day ∷ step.Agent ∷ step.Stock ∷ []
-
-abbrev pub office_requests : List ℕ → List ℕ → SetupTexts → List Wanted
-office_requests office token s = map (step_request office token s) all_steps
-
--- the agent reports a file
-abbrev pub report : List ℕ → ℕ → List ℕ → Wanted
-report token agent text = record { token = token; call = call.Agent (fixed_digits 8 agent) of_agent.Ret; given = file text }
-
-abbrev pub Reports : List ℕ → List ℕ → ℕ → ListBook → List ℕ → ListBook → Type 0
-Reports office token agent old text new = Passes office old (report token agent text) new
+-- the place of a step among them
+abbrev pub place_of : Setup → Step → ℕ
+place_of s (step.Plan i) = i
+place_of s step.Day = length s.plans.now
+place_of s step.Agent = length s.plans.now + 1
+place_of s (step.Stock i) = length s.plans.now + 2 + i
+place_of s (step.Closed i) = length s.plans.now + 2 + length s.stock.now + i

@@ -1,8 +1,9 @@
--- What is printed of a RET file that a desk judges.
-use Rattle.std.specs.Prelude.{◌≡◌, ℕ, ℤ, Bool, true, false, ◌+◌, ◌-ℤ◌, List, [], ◌∷◌, ◌++◌, map, codes, None}
+-- What is printed of a RET file that an office judges.
+use Rattle.std.specs.Prelude.{◌≡◌, ℕ, ℤ, Bool, true, false, ◌+◌, ◌-ℤ◌, List, [], ◌∷◌, ◌++◌, map, codes, Ok}
 use Rattle.std.specs.List.{FoldsTo, concat, list_all}
 use Rattle.bsp_fields.specs.Decimal.{fixed_digits}
 use Rattle.bsp_fields.specs.Money.{money_text}
+use Rattle.bsp_rows.specs.Transaction.{Transaction}
 use Rattle.bsp_rules.specs.Refusals.{code_text}
 use Rattle.bsp_rules.specs.declared.verdict.Verdict.{Verdict}
 use Rattle.bsp_rules.specs.declared.verdict.Verdict.TheVariants.{Accepted, Held, Refused}
@@ -11,12 +12,13 @@ use Rattle.bsp_postings.specs.Tallies.{tally_posting}
 use Rattle.bsp_rows.specs.Rows.{Rows, no_rows}
 use Rattle.bsp_rows.specs.Tallies.{tallies_of}
 use Rattle.bsp_rows.specs.declared.questions.Tallies.TheVariants.{OfAgent}
-use Rattle.bsp_messages.specs.declared.reply.Reply.{Reply}
-use Rattle.bsp_book.specs.Listed.{meaning}
-use Rattle.bsp_book.specs.declared.list.ListBook.{ListBook}
-use Rattle.bsp_desk.specs.Replies.{IsSent}
 use Rattle.bsp_desk_writes.specs.Answers.Answer.{Verdicts}
-use Rattle.bsp_judge.specs.Asked.{IsAnswered, Passes, Reports, SetupTexts, office_requests, report}
+use Rattle.bsp_desk_writes.specs.Requests.{IsFileOf}
+use Rattle.bsp_desk_writes.specs.Requests.AgentRequest.{AgentFile}
+use Rattle.bsp_desk.specs.Instructions.{own_after, own_answer}
+use Rattle.bsp_desk.specs.Instructions.Own.{OfAgent}
+use Rattle.bsp_judge.specs.Asked.{Takes, tasks}
+use Rattle.bsp_judge.specs.declared.setup.Setup.{Setup}
 
 -- ---- the verdicts
 
@@ -49,31 +51,20 @@ net_line net = codes "net " ++ (money_text net ++ codes "\n")
 
 -- ---- the trial
 
--- the setup and the earlier files pass at a desk over an empty book, which is then so
-pub record IsReady (office token : List ℕ) (setup : SetupTexts) (ready : ListBook) : Type 0 where
-  pub empty : ListBook
-  pub is_empty : meaning.holds empty no_rows None
-  pub start : ListBook
-  pub passed : FoldsTo (Passes office) empty (office_requests office token setup) start
-  pub reported : FoldsTo (Reports office token setup.agent) start setup.earlier ready
-
--- the lines say the verdicts that the reply sends, and the net; and it is said whether each is taken
-pub record IsSaid (reply : Reply) (net : ℤ) (lines : List ℕ) (taken : Bool) : Type 0 where
+-- Over these rows the office of `bsp_office_spec` gives the agent's file these verdicts. The lines say them, and the net: what
+-- the file adds to what the agent owes.
+pub record IsSaid (agent : ℕ) (ready : Rows) (text lines : List ℕ) (taken : Bool) : Type 0 where
+  pub transactions : List Transaction
+  pub file : IsFileOf text (Ok transactions)
   pub verdicts : List Verdict
-  pub sent : IsSent (Verdicts verdicts) reply
-  pub lines_are : lines ≡ verdict_lines 1 verdicts ++ net_line net
+  pub answered : own_answer (OfAgent agent (AgentFile (Ok transactions))) ready ≡ Verdicts verdicts
+  pub left : Rows
+  pub after : left ≡ own_after (OfAgent agent (AgentFile (Ok transactions))) ready
+  pub lines_are : lines ≡ verdict_lines 1 verdicts ++ net_line (owed agent left -ℤ owed agent ready)
   pub taken_is : taken ≡ list_all is_taken verdicts
 
--- The desk of an office answers the agent's file after its setup and its earlier files, and the lines say the verdicts of
--- the reply. The net is what the file adds to what the agent owes.
-pub record IsJudged (setup : SetupTexts) (text lines : List ℕ) (taken : Bool) : Type 0 where
-  pub office : List ℕ
-  pub token : List ℕ
-  pub ready : ListBook
-  pub is_ready : IsReady office token setup ready
-  pub reply : Reply
-  pub left : ListBook
-  pub answered : IsAnswered office ready (report token setup.agent text) reply left
-  pub net : ℤ
-  pub said : IsSaid reply net lines taken
-  pub adds : (before after : Rows) → meaning.holds ready before None → meaning.holds left after None → net ≡ owed setup.agent after -ℤ owed setup.agent before
+-- so it is over the rows after all that comes before, which is asked from no rows, and of which each request passes
+pub record IsJudged (setup : Setup) (text lines : List ℕ) (taken : Bool) : Type 0 where
+  pub ready : Rows
+  pub is_ready : FoldsTo Takes no_rows (tasks setup) ready
+  pub said : IsSaid setup.agent ready text lines taken

@@ -1,4 +1,6 @@
 -- What the contracts of the trials cite.
 pub mod Asked
 pub mod Judged
+pub mod Steps
+pub mod Turns
 pub mod Unjudged

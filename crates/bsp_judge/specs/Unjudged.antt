@@ -1,84 +1,63 @@
 -- Why a RET file is not judged.
-use Rattle.std.specs.Prelude.{◌≡◌, ◌⊎◌, ℕ, true, List, Some, None}
-use Rattle.std.specs.List.{FoldsTo}
-use Rattle.bsp_ret.specs.Lines.{lines}
+use Rattle.std.specs.Prelude.{◌≡◌, ◌⊎◌, ℕ, ◌+◌, List}
 use Rattle.bsp_ret.specs.Reading.{no_memory}
-use Rattle.bsp_ret.specs.Table.{first_fault}
 use Rattle.bsp_ret.specs.declared.model.RetFault.{RetFault}
-use Rattle.bsp_messages.specs.declared.reply.Reply.{Reply}
-use Rattle.bsp_rows.specs.Rows.{no_rows}
-use Rattle.bsp_book.specs.Listed.{meaning}
-use Rattle.bsp_book.specs.declared.list.ListBook.{ListBook}
-use Rattle.bsp_desk.specs.Replies.{is_refusal}
-use Rattle.bsp_judge.specs.Asked.{IsAnswered, Passes, Reports, SetupTexts, Wanted, office_requests, step_request}
-use Rattle.bsp_plan_trial.specs.Turns.{StopsAt}
+use Rattle.bsp_messages.specs.declared.refusal.RequestRefusal.{RequestRefusal}
+use Rattle.bsp_rows.specs.Rows.{Rows, no_rows}
+use Rattle.bsp_judge.specs.Asked.{HasFault, HasRetFault, IsRefused, Takes, Task, place_of, tasks}
+use Rattle.bsp_judge.specs.Turns.{StopsAt}
 use Rattle.bsp_judge.specs.declared.setup.JudgeFault.{JudgeFault}
-use Rattle.bsp_judge.specs.declared.setup.JudgeFault.TheVariants.{Setup, Earlier, File, Memory}
+use Rattle.bsp_judge.specs.declared.setup.JudgeFault.TheVariants.{Refused, Earlier, File, NetTooLarge, Memory}
+use Rattle.bsp_judge.specs.declared.setup.Setup.{Setup}
 use Rattle.bsp_judge.specs.declared.setup.Step.{Step}
+use Rattle.bsp_judge.specs.declared.setup.Step.TheVariants.{Closed}
 
--- ---- a file
-
--- this is the first fault of the text
-abbrev pub HasRetFault : List ℕ → RetFault → Type 0
-HasRetFault text fault = first_fault (lines text) ≡ Some fault
-
--- or there was no memory
+-- this is the first fault of the text, or there was no memory
 abbrev pub IsRetFaultOf : List ℕ → RetFault → Type 0
 IsRetFaultOf text fault = (fault ≡ no_memory) ⊎ HasRetFault text fault
 
--- the files before the place pass, and the one there has this fault
-abbrev pub IsFaultAt : List ℕ → List ℕ → ℕ → ListBook → List (List ℕ) → ℕ → RetFault → Type 0
-IsFaultAt office token agent start texts place fault = StopsAt (Reports office token agent) (λ ready text. HasRetFault text fault) start texts place
+-- ---- parts of a trial
 
--- one of the files has a fault
-abbrev pub IsEarlierFault : List ℕ → List ℕ → ℕ → ListBook → List (List ℕ) → JudgeFault → Type 0
-IsEarlierFault office token agent start texts (Earlier place fault) = IsFaultAt office token agent start texts place fault
-IsEarlierFault office token agent start texts Memory = Unit {0}
-IsEarlierFault office token agent start texts (Setup step reply) = ⊥
-IsEarlierFault office token agent start texts (File fault) = ⊥
+-- the step has this refusal, or there was no memory
+abbrev pub IsRefusedAs : Step → RequestRefusal → JudgeFault → Type 0
+IsRefusedAs step refusal (Refused refused) = (refused.step ≡ step) × (refused.refusal ≡ refusal)
+IsRefusedAs step refusal Memory = Unit {0}
+IsRefusedAs step refusal _ = ⊥
 
--- ---- the setup
+-- this stops the task at a place of the trial: its refusal, or the fault of its file
+abbrev pub IsStopOf : Setup → ℕ → Rows → Task → JudgeFault → Type 0
+IsStopOf s place rows task (Refused refused) = (place_of s refused.step ≡ place) × IsRefused refused.refusal rows task
+IsStopOf s place rows task (Earlier i fault) = (place_of s (Closed i) ≡ place) × HasFault fault rows task
+IsStopOf s place rows task (File fault) = ⊥
+IsStopOf s place rows task NetTooLarge = ⊥
+IsStopOf s place rows task Memory = Unit {0}
 
--- the desk answers the request by a refusal
-pub record IsRefusal (office : List ℕ) (old : ListBook) (w : Wanted) (reply : Reply) (new : ListBook) : Type 0 where
-  pub answered : IsAnswered office old w reply new
-  pub refused : is_refusal reply.status ≡ true
+-- this stops one of these tasks, which begin at a place of the trial; those before it pass
+abbrev pub IsStopIn : Setup → ℕ → Rows → List Task → JudgeFault → Type 0
+IsStopIn s begin rows these (Refused refused) = (i : ℕ) × (place_of s refused.step ≡ begin + i) × StopsAt Takes (IsRefused refused.refusal) rows these i
+IsStopIn s begin rows these (Earlier place fault) = (i : ℕ) × (place_of s (Closed place) ≡ begin + i) × StopsAt Takes (HasFault fault) rows these i
+IsStopIn s begin rows these (File fault) = ⊥
+IsStopIn s begin rows these NetTooLarge = ⊥
+IsStopIn s begin rows these Memory = Unit {0}
 
--- that is the fault of the step
-abbrev pub IsStepRefused : List ℕ → ListBook → Step → Wanted → ListBook → JudgeFault → Type 0
-IsStepRefused office old of w new (Setup at reply) = (at ≡ of) × IsRefusal office old w reply new
-IsStepRefused office old of w new Memory = Unit {0}
-IsStepRefused office old of w new (Earlier place fault) = ⊥
-IsStepRefused office old of w new (File fault) = ⊥
-
--- the steps before it pass, and the request of the step is refused
-abbrev pub IsRefusedAt : List ℕ → List ℕ → SetupTexts → ListBook → Step → Reply → Type 0
-IsRefusedAt office token setup start at reply =
-    (place : ℕ)
-    × StopsAt (Passes office) (λ before w. (w ≡ step_request office token setup at) × ((after : ListBook) × IsRefusal office before w reply after)) start
-    (office_requests office token setup) place
-
--- one of the steps is refused
-abbrev pub IsRefusedIn : List ℕ → List ℕ → SetupTexts → ListBook → JudgeFault → Type 0
-IsRefusedIn office token setup start (Setup at reply) = IsRefusedAt office token setup start at reply
-IsRefusedIn office token setup start Memory = Unit {0}
-IsRefusedIn office token setup start (Earlier place fault) = ⊥
-IsRefusedIn office token setup start (File fault) = ⊥
+-- only a sum or the memory is short
+abbrev pub IsShort : JudgeFault → Type 0
+IsShort NetTooLarge = Unit {0}
+IsShort Memory = Unit {0}
+IsShort _ = ⊥
 
 -- ---- the trial
 
--- the desk of an office over an empty book refuses a step of the setup, or an earlier file has a fault
-abbrev pub IsUnready : List ℕ → List ℕ → SetupTexts → JudgeFault → Type 0
-IsUnready office token setup (Setup at reply) = (empty : ListBook) × meaning.holds empty no_rows None × IsRefusedAt office token setup empty at reply
-IsUnready office token setup (Earlier place fault) =
-    (empty : ListBook) × meaning.holds empty no_rows None
-    × ((start : ListBook) × FoldsTo (Passes office) empty (office_requests office token setup) start × IsFaultAt office token setup.agent start setup.earlier place fault)
-IsUnready office token setup Memory = Unit {0}
-IsUnready office token setup (File fault) = ⊥
+-- a request before the file stops the trial, or the net or the memory does
+abbrev pub IsUnready : Setup → JudgeFault → Type 0
+IsUnready s (Refused refused) = StopsAt Takes (IsRefused refused.refusal) no_rows (tasks s) (place_of s refused.step)
+IsUnready s (Earlier place fault) = StopsAt Takes (HasFault fault) no_rows (tasks s) (place_of s (Closed place))
+IsUnready s (File fault) = ⊥
+IsUnready s NetTooLarge = Unit {0}
+IsUnready s Memory = Unit {0}
 
--- so it is at some office, or the file has a fault
-abbrev pub IsUnjudged : SetupTexts → List ℕ → JudgeFault → Type 0
-IsUnjudged setup text (Setup at reply) = (office : List ℕ) × (token : List ℕ) × IsUnready office token setup (Setup at reply)
-IsUnjudged setup text (Earlier place fault) = (office : List ℕ) × (token : List ℕ) × IsUnready office token setup (Earlier place fault)
-IsUnjudged setup text (File fault) = HasRetFault text fault
-IsUnjudged setup text Memory = Unit {0}
+-- The requests before a place pass. The one there is refused, or its file has this first fault. Or the file that is judged
+-- has it.
+abbrev pub IsUnjudged : Setup → List ℕ → JudgeFault → Type 0
+IsUnjudged s text (File fault) = HasRetFault text fault
+IsUnjudged s text fault = IsUnready s fault

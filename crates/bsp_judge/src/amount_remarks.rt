@@ -1,9 +1,9 @@
 //! Which amount of a refused transaction is wrong, and what it has to be. The words are for people.
 
+use crate::lines::push_fields;
 use crate::remarks::Known;
 use bsp_book::ListBook;
 use bsp_fields::push_money;
-use bsp_plan_trial::push_fields;
 use bsp_ret_records::{Amounts, ReportedDocument, Tax, Transaction, TransactionCode};
 use bsp_rules::{Item, amount_or_zero, card_amount, commission};
 use itoa::Buffer;
@@ -108,13 +108,18 @@ fn wrong_amount(transaction: &Transaction, amounts: &Amounts) -> Option<(&'stati
 /// An amount with a wrong sign, and the rule.
 fn push_sign(
     text: &mut Vec<u8>,
-    code: TransactionCode,
+    transaction: &Transaction,
     name: &str,
     amount: i64,
 ) -> Result<(), AllocError> {
     push_fields(text, &[name.as_bytes(), b" is "])?;
     push_amount(text, amount)?;
-    text.extend_from_slice(match code {
+    if (name == "CA" || name == "CC") && transaction.exchange.is_some() {
+        return text.extend_from_slice(
+            b": the ticket costs less than those that it is paid with: report a refund and a sale",
+        );
+    }
+    text.extend_from_slice(match transaction.code {
         TransactionCode::Rfnd => b", and no amount of a refund is above zero",
         TransactionCode::Tktt | TransactionCode::Canx => {
             b", and no amount of a sale is below zero"
@@ -161,7 +166,7 @@ pub(crate) fn push_amounts(
         return Ok(());
     };
     if let Some((name, amount)) = wrong_amount(transaction, amounts) {
-        return push_sign(text, transaction.code, name, amount);
+        return push_sign(text, transaction, name, amount);
     }
     let (gross, paid) = (gross(amounts), paid(transaction));
     if gross != paid {

@@ -3,55 +3,38 @@
 ghost use Rattle.std.specs.Prelude.{◌≡◌, ◌++◌, ◌-ℤ◌, IfErr, IfOk, IfSome, IsOkUnless, List, None, OnOk, Option, ℕ, ℤ};
 ghost use Rattle.std.specs.List.{list_all};
 ghost use Rattle.bsp_ret.specs.Lines.{lines};
-ghost use Rattle.bsp_ret.specs.Ret.{Ret};
+ghost use Rattle.bsp_ret.specs.Ret.{HasLines, Ret};
 ghost use Rattle.bsp_rows.specs.Rows.{Rows, no_rows};
 ghost use Rattle.bsp_book.specs.Listed.{meaning};
-ghost use Rattle.bsp_judge.specs.Asked.{setup_texts};
-ghost use Rattle.bsp_judge.specs.Judged.{IsJudged, IsReady, IsSaid, is_taken, net_line, owed, verdict_lines};
-ghost use Rattle.bsp_judge.specs.Unjudged.{IsUnjudged, IsUnready};
+ghost use Rattle.bsp_judge.specs.Judged.{IsJudged, IsSaid, is_taken, net_line, owed, verdict_lines};
+ghost use Rattle.bsp_judge.specs.Steps.{IsSettled, rows_in};
+ghost use Rattle.bsp_judge.specs.Unjudged.{IsShort, IsUnjudged, IsUnready};
 
-use crate::asking::{post, post_all, set_up};
+use crate::asking::report;
+use crate::lines::push_fields;
 use crate::owed::owed;
-use crate::reading::verdicts_of;
+use crate::preparing::{EarlierRemarks, prepare};
 use crate::remarks::{Known, remarks_on};
 use crate::setup::{JudgeFault, Setup};
 use crate::verdict_lines::push_verdicts;
 use bsp_book::ListBook;
-use bsp_desk::{Desk, Reply, Token};
+use bsp_desk::{Desk, Token};
 use bsp_fields::{NoRoom, write_money};
-use bsp_plan_trial::push_fields;
 use bsp_ret::{FaultCode, RetFile, read_ret};
 use bsp_rules::Verdict;
 use std::alloc::Global;
 
-/// What a desk says of a file.
+/// What an office says of a file.
 #[derive(Drop)]
 pub struct Judged {
     /// A line for each verdict, and the net.
     pub lines: Vec<u8>,
-    /// A line for each refusal that says more of it. The words are for people.
+    /// A line for each refusal that says more of it, and for each CANX that uses up a number. The words are for people.
     pub remarks: Vec<u8>,
-    /// Whether no transaction is refused.
+    /// What is said of the earlier files, in their order.
+    pub earlier: Vec<EarlierRemarks>,
+    /// Whether no transaction of the file is refused.
     pub is_taken: bool,
-}
-
-/// Sets up a desk over an empty book, and posts the earlier files.
-fn make_ready(
-    alloc: Global,
-    desk: &mut Desk<ListBook>,
-    office: &Token,
-    token: &Token,
-    setup: &Setup<'_>,
-) -> Result<(), JudgeFault>
-    requires office { desk.old.office ≡ office.now }
-    requires empty { meaning.holds desk.old.book no_rows None }
-    ensures ready { OnOk result (IsReady office.now token.now (setup_texts setup.now) desk.new.book) }
-    ensures unready { IfErr result (IsUnready office.now token.now (setup_texts setup.now)) }
-    ensures office { desk.new.office ≡ desk.old.office }
-{
-    set_up(alloc, desk, office, token, setup)?;
-    post_all(alloc, desk, token, setup.agent, setup.earlier)?;
-    Ok(())
 }
 
 /// The lines of verdicts and a net in minor units.
@@ -72,119 +55,137 @@ fn are_taken(verdicts: &[Verdict]) -> bool
     verdicts.iter().all(|it| !matches!(it, Verdict::Refused(_)))
 }
 
-/// What is said of a file that the desk answered by this reply, and of the net that it adds.
+/// What is said of a file with these verdicts, and of the net that it adds.
 fn say(
     alloc: Global,
     known: &Known<'_>,
-    reply: &Reply,
+    verdicts: &[Verdict],
     net: i128,
     file: &RetFile<'_>,
+    earlier: Vec<EarlierRemarks>,
 ) -> Result<Judged, JudgeFault>
-    ensures said { IfOk result (λ judged. IsSaid reply.now net judged.lines.items judged.is_taken) }
+    ensures said { IfOk result (λ judged. (judged.lines.items ≡ verdict_lines 1 verdicts.now ++ net_line net) × (judged.is_taken ≡ list_all is_taken verdicts.now)) }
     ensures fault { IsOkUnless result JudgeFault.Memory }
 {
-    let verdicts = verdicts_of(alloc, reply)?;
-    let Ok(lines) = lines_of(alloc, &verdicts, net) else {
+    let Ok(lines) = lines_of(alloc, verdicts, net) else {
         return Err(JudgeFault::Memory);
     };
-    let Ok(remarks) = remarks_on(alloc, known, file, &verdicts) else {
+    let Ok(remarks) = remarks_on(alloc, known, file, verdicts) else {
         return Err(JudgeFault::Memory);
     };
-    let is_taken = are_taken(&verdicts);
+    let is_taken = are_taken(verdicts);
     Ok(Judged {
         lines,
         remarks,
+        earlier,
         is_taken,
     })
 }
 
-/// What is said of a file that the desk answered by this reply, over what the agent owed before it.
-fn judge_reply(
-    alloc: Global,
-    known: &Known<'_>,
-    before: i128,
-    reply: &Reply,
-    file: &RetFile<'_>,
-) -> Result<Judged, JudgeFault>
-    ensures said { IfOk result (λ judged. (net : ℤ) × IsSaid reply.now net judged.lines.items judged.is_taken × ((rows : Rows) (begun : Option Rows) → meaning.holds known.now.book.now rows begun → net ≡ owed known.now.setup.now.agent rows -ℤ before)) }
-    ensures fault { IsOkUnless result JudgeFault.Memory }
+/// How much more an agent owes than it owed before, in minor units.
+fn added(before: i128, after: i128) -> Result<i128, JudgeFault>
+    ensures net { IfOk result (λ net. net ≡ after -ℤ before) }
+    ensures fault { IsOkUnless result JudgeFault.NetTooLarge }
 {
-    let after = owed(alloc, known.book, known.setup.agent)?;
-    let Some(net) = after.checked_sub(before) else {
-        return Err(JudgeFault::Memory);
-    };
-    say(alloc, known, reply, net, file)
+    match after.checked_sub(before) {
+        Some(net) => Ok(net),
+        None => Err(JudgeFault::NetTooLarge),
+    }
 }
 
-/// What a desk over an empty book says of a file, after the setup and the earlier files.
+/// What is said of a file by a desk that was asked all that comes before.
 fn judge_at(
     alloc: Global,
     desk: &mut Desk<ListBook>,
-    office: &Token,
-    token: &Token,
     setup: &Setup<'_>,
     file: &RetFile<'_>,
+    earlier: Vec<EarlierRemarks>,
 ) -> Result<Judged, JudgeFault>
-    requires office { desk.old.office ≡ office.now }
-    requires empty { meaning.holds desk.old.book no_rows None }
-    ensures judged { IfOk result (λ judged. (text : List ℕ) → Ret (lines text) file.now → IsJudged (setup_texts setup.now) text judged.lines.items judged.is_taken) }
-    ensures unready { IfErr result (IsUnready office.now token.now (setup_texts setup.now)) }
+    requires settled { IsSettled desk.old.book }
+    requires whole { HasLines file.now }
+    ensures judged { IfOk result (λ judged. (text : List ℕ) → Ret (lines text) file.now → IsSaid setup.now.agent (rows_in desk.old.book) text judged.lines.items judged.is_taken) }
+    ensures fault { IfErr result IsShort }
 {
-    make_ready(alloc, desk, office, token, setup)?;
     let before = owed(alloc, desk.book(), setup.agent)?;
-    let reply = post(desk, token, setup.agent, file);
+    let verdicts = report(desk, setup.agent, file)?;
+    let after = owed(alloc, desk.book(), setup.agent)?;
+    let net = added(before, after)?;
     let known = Known {
         setup,
         book: desk.book(),
     };
-    judge_reply(alloc, &known, before, &reply, file)
+    say(alloc, &known, &verdicts, net, file, earlier)
 }
 
-/// A desk of the office over an empty book.
-fn new_desk(alloc: Global, office: &Token) -> Option<Desk<ListBook>>
-    ensures { IfSome result (λ desk. meaning.holds desk.book no_rows None × (desk.office ≡ office.now)) }
+/// What is said of a file after all that comes before.
+fn judge_after(
+    alloc: Global,
+    desk: &mut Desk<ListBook>,
+    token: Token,
+    setup: &Setup<'_>,
+    file: &RetFile<'_>,
+) -> Result<Judged, JudgeFault>
+    requires settled { IsSettled desk.old.book }
+    requires empty { rows_in desk.old.book ≡ no_rows }
+    requires whole { HasLines file.now }
+    ensures judged { IfOk result (λ judged. (text : List ℕ) → Ret (lines text) file.now → IsJudged setup.now text judged.lines.items judged.is_taken) }
+    ensures unready { IfErr result (IsUnready setup.now) }
 {
-    Desk::open(alloc, ListBook::new(alloc), *office).ok()
+    let mut earlier = Vec::new(alloc);
+    prepare(alloc, desk, setup, token, &mut earlier)?;
+    judge_at(alloc, desk, setup, file, earlier)
+}
+
+/// A desk of an office over an empty book.
+fn new_desk(alloc: Global, office: Token) -> Desk<ListBook>
+    ensures settled { IsSettled result.book }
+    ensures empty { rows_in result.book ≡ no_rows }
+{
+    match Desk::open(alloc, ListBook::new(alloc), office) {
+        Ok(desk) => desk,
+        Err(_) => unreachable!(),
+    }
+}
+
+/// A token for the office and the agent of a trial.
+fn trial_token() -> Token {
+    match Token::read(b"trialtoken000001") {
+        Some(token) => token,
+        None => unreachable!(),
+    }
 }
 
 /// What a new desk over an empty book says of a file.
 fn judge_file(
     alloc: Global,
-    office: &Token,
-    token: &Token,
     setup: &Setup<'_>,
     file: &RetFile<'_>,
 ) -> Result<Judged, JudgeFault>
-    ensures judged { IfOk result (λ judged. (text : List ℕ) → Ret (lines text) file.now → IsJudged (setup_texts setup.now) text judged.lines.items judged.is_taken) }
-    ensures unready { IfErr result (IsUnready office.now token.now (setup_texts setup.now)) }
+    requires { HasLines file.now }
+    ensures judged { IfOk result (λ judged. (text : List ℕ) → Ret (lines text) file.now → IsJudged setup.now text judged.lines.items judged.is_taken) }
+    ensures unready { IfErr result (IsUnready setup.now) }
 {
-    let Some(mut desk) = new_desk(alloc, office) else {
-        return Err(JudgeFault::Memory);
-    };
-    judge_at(alloc, &mut desk, office, token, setup, file)
+    let token = trial_token();
+    let mut desk = new_desk(alloc, token);
+    judge_after(alloc, &mut desk, token, setup, file)
 }
 
-/// The verdicts that an office with this plan gives on the RET file of an agent, over an empty book in which the agent
-/// has the range and reported the earlier files: those of the reply of its desk. Behind them comes what the file adds to
-/// what the agent owes.
+/// The verdicts that an office gives on the RET file of an agent, and what the file adds to what the agent owes. They are
+/// those of the office of `bsp_office_spec` after it published the plan texts, set the day, registered the agent and
+/// allotted its ranges, and after the earlier files and closes in their order.
 ///
 /// # Errors
 ///
-/// Why the file is not judged: see [`JudgeFault`].
+/// Why the file is not judged: see [`JudgeFault`]. It is the first fault, but one of the file that is judged comes before
+/// all others.
 pub fn judge(alloc: Global, setup: &Setup<'_>, text: &[u8]) -> Result<Judged, JudgeFault>
-    ensures judged { IfOk result (λ judged. IsJudged (setup_texts setup.now) text.now judged.lines.items judged.is_taken) }
-    ensures refused { IfErr result (IsUnjudged (setup_texts setup.now) text.now) }
+    ensures judged { IfOk result (λ judged. IsJudged setup.now text.now judged.lines.items judged.is_taken) }
+    ensures refused { IfErr result (IsUnjudged setup.now text.now) }
 {
     let file = match read_ret(alloc, text) {
         Ok(file) => file,
         Err(fault) if fault.code == FaultCode::F10 => return Err(JudgeFault::Memory),
         Err(fault) => return Err(JudgeFault::File(fault)),
     };
-    let Some(office) = Token::read(b"trialofficetoken") else {
-        return Err(JudgeFault::Memory);
-    };
-    let Some(token) = Token::read(b"trialagenttoken1") else {
-        return Err(JudgeFault::Memory);
-    };
-    judge_file(alloc, &office, &token, setup, &file)
+    judge_file(alloc, setup, &file)
 }

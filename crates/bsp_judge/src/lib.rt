@@ -1,16 +1,21 @@
-//! An agent's RET file tried at a desk over an empty book.
+//! Trials of what an office would be given: an agent's RET file at a desk over an empty book.
 //!
-//! [`judge`] has a desk answer a RET file, and says its verdicts and what the file adds to what the agent owes.
+//! [`judge`] has a desk answer all that came before and then the file. It says the verdicts, and what the file adds to what
+//! the agent owes.
 #![tactic(auto)]
 
 mod amount_remarks;
 mod asking;
 mod judging;
+mod lines;
 mod owed;
-mod reading;
+mod preparing;
+mod refusals;
 mod remarks;
 mod setup;
 mod verdict_lines;
 
+pub use bsp_rules::Range;
 pub use judging::{Judged, judge};
-pub use setup::{JudgeFault, Setup, Step};
+pub use preparing::EarlierRemarks;
+pub use setup::{Earlier, JudgeFault, RefusedStep, Setup, Step};

@@ -1,13 +1,14 @@
-//! What is said beside the verdict of a transaction that is refused. The words are for people.
+//! What is said beside the verdict of a transaction. The words are for people.
 
 use crate::amount_remarks::{push_against_tickets, push_amounts};
+use crate::lines::push_fields;
 use crate::setup::Setup;
 use bsp_book::ListBook;
-use bsp_fields::{DocNumber, write_digits};
-use bsp_plan_trial::push_fields;
+use bsp_calendar::{Period, Plan};
+use bsp_fields::{Day, DocNumber, write_digits};
 use bsp_ret::{RetFile, transaction};
 use bsp_ret_records::{ReportedDocument, Transaction, TransactionCode};
-use bsp_rules::{Refusal, Verdict};
+use bsp_rules::{Item, Range, Refusal, Verdict};
 use itoa::Buffer;
 use std::alloc::{AllocError, Global};
 
@@ -28,32 +29,41 @@ fn wrong_digit(document: &ReportedDocument) -> Option<DocNumber> {
     }
 }
 
-/// The first number of a transaction whose check digit is wrong.
-fn first_wrong_digit(transaction: &Transaction) -> Option<DocNumber> {
-    if let Some(number) = wrong_digit(&transaction.document) {
-        return Some(number);
-    }
-    for document in &transaction.related {
-        if let Some(document) = document {
-            if let Some(number) = wrong_digit(document) {
-                return Some(number);
-            }
-        }
-    }
-    None
+/// The check digit of a number beside the one that its record has.
+fn push_beside_right(
+    text: &mut Vec<u8>,
+    record: &[u8],
+    found: u8,
+    number: DocNumber,
+) -> Result<(), AllocError> {
+    let (mut wrong, mut right) = (Buffer::new(), Buffer::new());
+    let fields: [&[u8]; 7] = [
+        b"record ",
+        record,
+        b" has the check digit ",
+        wrong.format(found).as_bytes(),
+        b", and that of ",
+        &number.digits(),
+        b" is ",
+    ];
+    push_fields(text, &fields)?;
+    text.extend_from_slice(right.format(number.check_digit()).as_bytes())
 }
 
 /// Which check digit is wrong.
 fn push_digit(text: &mut Vec<u8>, transaction: &Transaction) -> Result<(), AllocError> {
-    let Some(number) = first_wrong_digit(transaction) else {
-        return Ok(());
-    };
-    let mut right = Buffer::new();
-    let right = right.format(number.check_digit()).as_bytes();
-    push_fields(
-        text,
-        &[b"the check digit of ", &number.digits(), b" is ", right],
-    )
+    let own = &transaction.document;
+    if let Some(number) = wrong_digit(own) {
+        return push_beside_right(text, b"2", own.check_digit, number);
+    }
+    for document in &transaction.related {
+        if let Some(document) = document {
+            if let Some(number) = wrong_digit(document) {
+                return push_beside_right(text, b"3", document.check_digit, number);
+            }
+        }
+    }
+    Ok(())
 }
 
 /// Whose transaction it is, and who reports it.
@@ -87,31 +97,67 @@ fn push_days(
     push_fields(text, &fields)
 }
 
-/// The number beside the agent's range.
-fn push_range(
+/// What is said of a number that is in none of so many ranges.
+fn words_before(ranges: usize) -> &'static [u8] {
+    match ranges {
+        0 => b" is in no range: the agent has none",
+        1 => b" is not in the range ",
+        _ => b" is in none of the ranges ",
+    }
+}
+
+/// The number beside the agent's ranges.
+fn push_ranges(
     text: &mut Vec<u8>,
     transaction: &Transaction,
-    setup: &Setup<'_>,
+    stock: &[Range],
 ) -> Result<(), AllocError> {
-    let fields: [&[u8]; 5] = [
-        &transaction.document.number,
-        b" is not in the range ",
-        &setup.first.digits(),
-        b"-",
-        &setup.last.digits(),
-    ];
-    push_fields(text, &fields)
+    text.extend_from_slice(&transaction.document.number)?;
+    text.extend_from_slice(words_before(stock.len()))?;
+    for (place, range) in stock.iter().enumerate() {
+        if place > 0 {
+            text.extend_from_slice(b", ")?;
+        }
+        let (first, last) = (range.first.digits(), range.last.digits());
+        push_fields(text, &[&first, b"-", &last])?;
+    }
+    Ok(())
+}
+
+/// Whether a refund has the number of its ticket.
+fn has_ticket_number(transaction: &Transaction) -> bool {
+    match &transaction.related {
+        [Some(ticket), _] => {
+            transaction.code == TransactionCode::Rfnd
+                && ticket.number == transaction.document.number
+        }
+        _ => false,
+    }
 }
 
 /// What became of the number.
 fn push_number(text: &mut Vec<u8>, transaction: &Transaction) -> Result<(), AllocError> {
+    let number = &transaction.document.number;
+    if has_ticket_number(transaction) {
+        let start = b"a refund has a number of its own from the stock: ";
+        return push_fields(text, &[start, number, b" is that of its ticket"]);
+    }
     let became: &[u8] = match transaction.code {
         TransactionCode::Canx => b" was cancelled before",
         TransactionCode::Tktt | TransactionCode::Rfnd => {
-            b" was accepted before, with other content"
+            b" was accepted before, with other content: take another number"
         }
     };
-    push_fields(text, &[&transaction.document.number, became])
+    push_fields(text, &[number, became])
+}
+
+/// In which order a ticket and what relates to it are reported.
+fn push_order(text: &mut Vec<u8>, code: TransactionCode) -> Result<(), AllocError> {
+    match code {
+        TransactionCode::Rfnd => text.extend_from_slice(b": report the sale before its refund"),
+        TransactionCode::Tktt => text.extend_from_slice(b": report it before it is exchanged"),
+        TransactionCode::Canx => Ok(()),
+    }
 }
 
 /// Which ticket was not reported.
@@ -129,7 +175,8 @@ fn push_missing(text: &mut Vec<u8>, transaction: &Transaction) -> Result<(), All
                 &first.airline.digits(),
                 b" was reported before",
             ];
-            push_fields(text, &fields)
+            push_fields(text, &fields)?;
+            push_order(text, transaction.code)
         }
         _ => {
             let end = b" was accepted for another airline";
@@ -153,22 +200,39 @@ fn push_ended(text: &mut Vec<u8>, transaction: &Transaction) -> Result<(), Alloc
     }
 }
 
-/// The day of issue beside the last day of the plan's periods.
-fn push_last_day(
+/// The first open period that does not end before a day.
+fn open_period(plan: &Plan, issued: Day) -> Option<Period> {
+    for period in plan.periods().iter().skip(plan.closed_count()) {
+        if issued <= period.last {
+            return Some(*period);
+        }
+    }
+    None
+}
+
+/// Why no period takes a transaction: the business day is before the period, or there is no later period.
+fn push_no_period(
     text: &mut Vec<u8>,
     transaction: &Transaction,
-    book: &ListBook,
+    plan: &Plan,
 ) -> Result<(), AllocError> {
-    let Some(period) = book.tables().plan().periods().last() else {
+    let Some(last) = plan.periods().last() else {
         return text.extend_from_slice(b"the plan has no period");
     };
-    let fields: [&[u8]; 4] = [
-        b"it is issued ",
-        &transaction.issued.write_text(),
-        b", and the last period ends ",
-        &period.last.write_text(),
-    ];
-    push_fields(text, &fields)
+    let issued = transaction.issued.write_text();
+    push_fields(text, &[b"it is issued ", &issued])?;
+    if let Some(period) = open_period(plan, transaction.issued) {
+        let (first, day) = (period.first.write_text(), plan.day().write_text());
+        push_fields(text, &[b", and the open period for it begins ", &first])?;
+        return push_fields(text, &[b", after the business day ", &day]);
+    }
+    if plan.closed_count() == plan.periods().len() {
+        text.extend_from_slice(b", and all periods are closed")?;
+    } else {
+        let last = last.last.write_text();
+        push_fields(text, &[b", and the last period ends ", &last])?;
+    }
+    text.extend_from_slice(b": a later period has to be published")
 }
 
 /// An airline that is not in the plan.
@@ -191,12 +255,12 @@ fn push_known(
         Refusal::WrongAgent => push_agents(text, transaction, setup),
         Refusal::WrongCheckDigit => push_digit(text, transaction),
         Refusal::NotYetIssued => push_days(text, transaction, setup),
-        Refusal::NotInStock => push_range(text, transaction, setup),
+        Refusal::NotInStock => push_ranges(text, transaction, setup.stock),
         Refusal::NumberUsed => push_number(text, transaction),
         Refusal::WrongAmounts => push_amounts(text, book, transaction),
         Refusal::NoTicket => push_missing(text, transaction),
         Refusal::TicketEnded => push_ended(text, transaction),
-        Refusal::NoPeriod => push_last_day(text, transaction, book),
+        Refusal::NoPeriod => push_no_period(text, transaction, book.tables().plan()),
         Refusal::LimitReached => Ok(()),
         Refusal::WrongAgainstTicket => push_against_tickets(alloc, text, known, transaction),
     }
@@ -227,21 +291,73 @@ fn push_remark(
     text.extend_from_slice(b"\n")
 }
 
-/// A line for each transaction of a file that is refused.
+/// Whether a CANX ends no TKTT or RFND of the agent.
+fn ends_nothing(
+    alloc: Global,
+    known: &Known<'_>,
+    transaction: &Transaction,
+) -> Result<bool, AllocError> {
+    if transaction.code != TransactionCode::Canx {
+        return Ok(false);
+    }
+    let tables = known.book.tables();
+    let items = tables.items_bearing(alloc, known.setup.agent, transaction)?;
+    Ok(!items.iter().any(|item| is_sale_of(item, transaction)))
+}
+
+/// Whether an item is the TKTT or RFND of the number of a transaction.
+fn is_sale_of(item: &Item, transaction: &Transaction) -> bool {
+    item.transaction.code != TransactionCode::Canx
+        && item.transaction.document.number == transaction.document.number
+}
+
+/// Appends the line of a CANX that uses up a number.
+fn push_used_up(
+    text: &mut Vec<u8>,
+    number: u64,
+    transaction: &Transaction,
+) -> Result<(), AllocError> {
+    let digits: [u8; 6] = write_digits(number);
+    let end = b" was never sold; the cancellation uses the number up\n";
+    push_fields(text, &[&digits, b": ", &transaction.document.number, end])
+}
+
+/// Appends the line of a transaction, if there is more to say of its verdict.
+fn push_line(
+    alloc: Global,
+    text: &mut Vec<u8>,
+    known: &Known<'_>,
+    number: u64,
+    transaction: &Transaction,
+    verdict: &Verdict,
+) -> Result<(), AllocError> {
+    match verdict {
+        Verdict::Refused(refusal) => {
+            let mut remark = Vec::new(alloc);
+            push_known(alloc, &mut remark, known, transaction, *refusal)?;
+            push_remark(alloc, text, number, *refusal, &remark)
+        }
+        Verdict::Accepted(_) => {
+            if ends_nothing(alloc, known, transaction)? {
+                return push_used_up(text, number, transaction);
+            }
+            Ok(())
+        }
+        Verdict::Held(_) => Ok(()),
+    }
+}
+
+/// A line for each transaction of a file of which there is more to say than its verdict.
 pub(crate) fn remarks_on(
     alloc: Global,
     known: &Known<'_>,
     file: &RetFile<'_>,
     verdicts: &[Verdict],
 ) -> Result<Vec<u8>, AllocError> {
-    let (mut text, mut remark) = (Vec::new(alloc), Vec::new(alloc));
+    let mut text = Vec::new(alloc);
     for (index, verdict) in verdicts.iter().enumerate() {
-        if let Verdict::Refused(refusal) = verdict {
-            if let Some(found) = transaction(file, index) {
-                remark.clear();
-                push_known(alloc, &mut remark, known, &found, *refusal)?;
-                push_remark(alloc, &mut text, index as u64 + 1, *refusal, &remark)?;
-            }
+        if let Some(found) = transaction(file, index) {
+            push_line(alloc, &mut text, known, index as u64 + 1, &found, verdict)?;
         }
     }
     Ok(text)

@@ -1,48 +1,71 @@
 //! What a RET file is judged over, and why it is not judged.
 
-use bsp_desk::Reply;
-use bsp_fields::{AgentCode, Day, DocNumber};
+use bsp_fields::{AgentCode, Day, PeriodCode};
+use bsp_messages::RequestRefusal;
 use bsp_ret::RetFault;
+use bsp_rules::Range;
+
+/// What came before the file that is judged.
+#[derive(Drop)]
+pub enum Earlier {
+    /// The agent reported this RET file.
+    File(Vec<u8>),
+    /// The office closed this period.
+    Closed(PeriodCode),
+}
 
 /// What a RET file is judged over.
 #[derive(Clone, Copy)]
 pub struct Setup<'s> {
-    /// The plan text that is published.
-    pub plan: &'s [u8],
+    /// The plan texts that are published, the first first.
+    pub plans: &'s [Vec<u8>],
     /// The business day.
     pub day: Day,
     /// The agent that reports.
     pub agent: AgentCode,
-    /// The first number of its range.
-    pub first: DocNumber,
-    /// The last number.
-    pub last: DocNumber,
-    /// The RET files that it reported before, the earliest first.
-    pub earlier: &'s [Vec<u8>],
+    /// Its ranges, in the order of their allotment.
+    pub stock: &'s [Range],
+    /// What came before the file, the earliest first.
+    pub earlier: &'s [Earlier],
 }
 
 /// A request of the office in a trial.
-#[derive(Clone, Copy, PartialEq, Eq)]
+#[derive(Clone, Copy, PartialEq, Eq, Drop)]
 pub enum Step {
-    /// Publish the plan.
-    Plan,
+    /// Publish the plan text at this place, from 0.
+    Plan(usize),
     /// Set the business day.
     Day,
     /// Register the agent.
     Agent,
-    /// Allot its numbers.
-    Stock,
+    /// Allot the range at this place.
+    Stock(usize),
+    /// Close the period at this place of what came before.
+    Closed(usize),
+}
+
+/// A request that the office refuses.
+#[derive(Drop)]
+pub struct RefusedStep {
+    /// The request.
+    pub step: Step,
+    /// The refusal.
+    pub refusal: RequestRefusal,
+    /// What is known of it, without a newline; it may be empty. The words are for people.
+    pub reason: Vec<u8>,
 }
 
 /// Why a file is not judged.
 #[derive(Drop)]
 pub enum JudgeFault {
-    /// The desk refuses a request of the office with this reply, which is no 503.
-    Setup(Step, Reply),
-    /// The earlier file at this place, from 0, has a fault, which is not F10. Those before it have none.
+    /// The office refuses a request. What is asked before it passes.
+    Refused(RefusedStep),
+    /// The file at this place of what came before, from 0, has a fault, which is not F10. What is asked before it passes.
     Earlier(usize, RetFault),
     /// The file has a fault, which is not F10.
     File(RetFault),
+    /// A sum of the net does not fit into 128 bits.
+    NetTooLarge,
     /// An allocation was refused.
     Memory,
 }

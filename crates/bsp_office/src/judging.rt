@@ -2,13 +2,13 @@
 
 use crate::log::code_in;
 use crate::plans::{Trial, report_trial};
-use crate::remarks::{say_answer, say_lines, say_reason};
+use crate::remarks::{say_answer, say_lines, say_lines_of, say_reason};
 use crate::whole_files::{all_bytes, bytes_of, printed, short_of_memory};
 use bsp_check::{DONE, REFUSED, check, exit_status};
 use bsp_connection::Noted;
-use bsp_desk::Reply;
-use bsp_judge::{JudgeFault, Judged, Setup, Step, judge};
-use bsp_words::Setting;
+use bsp_judge::{Earlier, JudgeFault, Judged, Range, RefusedStep, Setup, Step, judge};
+use bsp_words::{Earlier as Named, Setting};
+use std::alloc::AllocError;
 use std::io;
 
 /// Reports on a RET file with a fault as `check` does, and answers the exit status.
@@ -22,44 +22,108 @@ fn report_fault(rt: &HostRuntime, file: &str, text: &[u8]) -> u8 {
     exit_status(&answer)
 }
 
-/// The option whose value the office refuses.
-fn option_of(step: Step) -> &'static str {
-    match step {
-        Step::Plan => "--plan",
-        Step::Day => "--day",
-        Step::Agent => "--agent",
-        Step::Stock => "--stock",
+/// The file at a place of what came before.
+fn file_at<'a>(setting: &Setting<'a>, place: usize) -> Option<&'a str> {
+    let mut count = 0_usize;
+    for (at, named) in setting.earlier.iter().enumerate() {
+        if let Named::File = named {
+            if at == place {
+                return setting.files.get(count).copied();
+            }
+            count = count.saturating_add(1);
+        }
     }
+    None
+}
+
+/// Reports on an earlier file with a fault, and answers the exit status.
+fn report_earlier(rt: &HostRuntime, setting: &Setting<'_>, setup: &Setup<'_>, place: usize) -> u8 {
+    match (file_at(setting, place), setup.earlier.get(place)) {
+        (Some(file), Some(Earlier::File(text))) => report_fault(rt, file, text),
+        _ => short_of_memory(rt),
+    }
+}
+
+/// The option whose value the office refuses, with the value where the option may be repeated.
+fn option_of(
+    rt: &HostRuntime,
+    setting: &Setting<'_>,
+    step: Step,
+) -> Result<String, AllocError> {
+    let alloc = rt.alloc();
+    match step {
+        Step::Plan(_) => format!(in alloc; "--plan"),
+        Step::Day => format!(in alloc; "--day"),
+        Step::Agent => format!(in alloc; "--agent"),
+        Step::Stock(place) => match setting.stock.get(place) {
+            Some(range) => {
+                let (first, last) = (range.first, range.last);
+                format!(in alloc; "--stock {first}-{last}")
+            }
+            None => format!(in alloc; "--stock"),
+        },
+        Step::Closed(place) => match setting.earlier.get(place) {
+            Some(Named::Closed(period)) => format!(in alloc; "--closed {period}"),
+            _ => format!(in alloc; "--closed"),
+        },
+    }
+}
+
+/// Says why the office refuses a request.
+fn say_refused(
+    rt: &HostRuntime,
+    setting: &Setting<'_>,
+    refused: &RefusedStep,
+) -> Result<(), AllocError> {
+    let option = option_of(rt, setting, refused.step)?;
+    match str::from_utf8(&refused.reason) {
+        Ok(reason) if !reason.is_empty() => say_reason(rt, &option, reason),
+        _ => say_reason(rt, &option, "the office refuses it"),
+    }
+    Ok(())
 }
 
 /// Reports which request of the office is refused, and answers the exit status.
-fn report_setup(
+fn report_refused(
     rt: &HostRuntime,
     setting: &Setting<'_>,
     setup: &Setup<'_>,
-    step: Step,
-    reply: &Reply,
+    refused: &RefusedStep,
 ) -> u8 {
-    if step == Step::Plan {
-        let trial = Trial {
-            published: &[],
-            texts: &[],
-            day: None,
-            file: setting.plan,
-            text: setup.plan,
-        };
-        return report_trial(rt, &trial);
+    if let Step::Plan(place) = refused.step {
+        if let (Some(file), Some(text)) = (setting.plans.get(place), setup.plans.get(place)) {
+            let trial = Trial {
+                published: &setting.plans[..place],
+                texts: &setup.plans[..place],
+                day: None,
+                file,
+                text,
+            };
+            return report_trial(rt, &trial);
+        }
     }
-    let code = code_in(reply.body.as_bytes());
+    let code = code_in(refused.refusal.body());
     let Ok(line) = format!(in rt.alloc(); "{code}\n") else {
         return short_of_memory(rt);
     };
-    say_reason(rt, option_of(step), "the office refuses it");
+    if say_refused(rt, setting, refused).is_err() {
+        return short_of_memory(rt);
+    }
     printed(rt, line.as_bytes(), REFUSED)
 }
 
+/// Says what is known of the transactions of the earlier files.
+fn say_earlier(rt: &HostRuntime, setting: &Setting<'_>, judged: &Judged) {
+    for said in &judged.earlier {
+        if let Some(file) = file_at(setting, said.place) {
+            say_lines_of(rt, file, &said.lines);
+        }
+    }
+}
+
 /// Prints the verdicts, and answers the exit status.
-fn report(rt: &HostRuntime, judged: &Judged) -> u8 {
+fn report(rt: &HostRuntime, setting: &Setting<'_>, judged: &Judged) -> u8 {
+    say_earlier(rt, setting, judged);
     say_lines(rt, &judged.remarks);
     let status = if judged.is_taken { DONE } else { REFUSED };
     printed(rt, &judged.lines, status)
@@ -74,30 +138,60 @@ fn judge_texts(
     text: &[u8],
 ) -> u8 {
     match judge(rt.alloc(), setup, text) {
-        Ok(judged) => report(rt, &judged),
-        Err(JudgeFault::Setup(step, reply)) => report_setup(rt, setting, setup, step, &reply),
+        Ok(judged) => report(rt, setting, &judged),
+        Err(JudgeFault::Refused(refused)) => report_refused(rt, setting, setup, &refused),
         Err(JudgeFault::File(_)) => report_fault(rt, file, text),
-        Err(JudgeFault::Earlier(place, _)) => {
-            match (setting.earlier.get(place), setup.earlier.get(place)) {
-                (Some(file), Some(text)) => report_fault(rt, file, text),
-                _ => short_of_memory(rt),
-            }
+        Err(JudgeFault::Earlier(place, _)) => report_earlier(rt, setting, setup, place),
+        Err(JudgeFault::NetTooLarge) => {
+            say_reason(rt, file, "the net does not fit into 128 bits");
+            REFUSED
         }
         Err(JudgeFault::Memory) => short_of_memory(rt),
     }
 }
 
+/// The ranges of a setting.
+fn ranges_of(rt: &HostRuntime, setting: &Setting<'_>) -> Result<Vec<Range>, u8> {
+    let mut ranges = Vec::new(rt.alloc());
+    for range in &setting.stock {
+        let (first, last) = (range.first, range.last);
+        if ranges.push(Range { first, last }).is_err() {
+            return Err(short_of_memory(rt));
+        }
+    }
+    Ok(ranges)
+}
+
+/// The texts of the earlier files, with the closes among them.
+fn earlier_of(rt: &HostRuntime, setting: &Setting<'_>) -> Result<Vec<Earlier>, u8> {
+    let mut all = Vec::new(rt.alloc());
+    let mut files = setting.files.iter();
+    for named in &setting.earlier {
+        let earlier = match named {
+            Named::File => match files.next() {
+                Some(file) => Earlier::File(bytes_of(rt, file)?),
+                None => break,
+            },
+            Named::Closed(period) => Earlier::Closed(*period),
+        };
+        if all.push(earlier).is_err() {
+            return Err(short_of_memory(rt));
+        }
+    }
+    Ok(all)
+}
+
 /// Prints the verdicts on the RET file, and answers the exit status.
 fn judge_setting(rt: &HostRuntime, setting: &Setting<'_>, file: &str) -> Result<u8, u8> {
-    let plan = bytes_of(rt, setting.plan)?;
-    let earlier = all_bytes(rt, &setting.earlier)?;
+    let plans = all_bytes(rt, &setting.plans)?;
+    let stock = ranges_of(rt, setting)?;
+    let earlier = earlier_of(rt, setting)?;
     let text = bytes_of(rt, file)?;
     let setup = Setup {
-        plan: plan.as_slice(),
+        plans: plans.as_slice(),
         day: setting.day,
         agent: setting.agent,
-        first: setting.first,
-        last: setting.last,
+        stock: stock.as_slice(),
         earlier: earlier.as_slice(),
     };
     Ok(judge_texts(rt, setting, file, &setup, &text))

@@ -70,6 +70,16 @@ pub(crate) fn say_lines(rt: &HostRuntime, lines: &[u8]) {
     }
 }
 
+/// Says some lines of a FILE.
+pub(crate) fn say_lines_of(rt: &HostRuntime, file: &str, lines: &[u8]) {
+    if let Ok(text) = str::from_utf8(lines) {
+        for line in text.lines() {
+            let file = named(file);
+            let _ = eprintln!(rt; "{file}: {line}");
+        }
+    }
+}
+
 /// Says of which airline and period a HOT file is.
 fn say_heading(rt: &HostRuntime, file: &str, heading: &Heading) {
     let name = named(file);
