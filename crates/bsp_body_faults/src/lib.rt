@@ -16,6 +16,7 @@ mod members;
 mod reading;
 mod remark;
 mod syntax;
+mod text;
 mod value_fault;
 mod values;
 
@@ -26,6 +27,6 @@ pub use json_fault::{JsonCause, JsonFault};
 pub use key::Key;
 pub use kind::JsonKind;
 pub use line::body_line;
-pub use remark::{CheckDigitRemark, check_digit_remark};
 pub use syntax::{Found, Place};
+pub use text::{body_text, cause_text};
 pub use value_fault::ValueFault;

@@ -11,7 +11,7 @@ use std::fmt::InlineText;
 
 /// The body names an agent by a code with a wrong check digit, so one that nobody has.
 #[derive(Clone, Copy)]
-pub struct CheckDigitRemark {
+pub(crate) struct CheckDigitRemark {
     /// The eight digits.
     code: InlineText<8>,
 }
@@ -32,7 +32,7 @@ fn remark_in(value: &Value) -> Option<CheckDigitRemark> {
 /// # Errors
 ///
 /// `NoRoom` where an allocation was refused.
-pub fn check_digit_remark<V: Copy>(
+pub(crate) fn check_digit_remark<V: Copy>(
     alloc: Global,
     call: Call<V>,
     body: &[u8],

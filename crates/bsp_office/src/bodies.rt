@@ -1,10 +1,10 @@
 //! The command `body`: whether the route of a request reads a body, or which fault it has.
 
-use crate::remarks::{say_known, say_remark};
+use crate::remarks::{say_answer, say_known, say_reason};
 use crate::whole_files::{bytes_of, printed, short_of_memory};
-use bsp_body_faults::{BodyFault, BodyForm, body_fault, body_form, body_line, check_digit_remark};
+use bsp_body_faults::{BodyFault, BodyForm, body_fault, body_form, body_line, body_text};
 use bsp_calendar::PlanFault;
-use bsp_check::{DONE, REFUSED};
+use bsp_check::{DONE, REFUSED, Verdict};
 use bsp_desk::Asking;
 use bsp_explain::explain_ret;
 use bsp_fields::NoRoom;
@@ -13,20 +13,29 @@ use bsp_plan_reasons::refusal_reason;
 use bsp_plan_trial::PlanRefused;
 use bsp_routes::{Call, Methods};
 
-/// Says what is to be known of a body that the route of a call reads.
-fn say_of_read(rt: &HostRuntime, call: Call<&[u8]>, file: &str, body: &[u8]) -> Result<(), NoRoom> {
-    if let Some(remark) = check_digit_remark(rt.alloc(), call, body)? {
-        say_remark(rt, file, &remark);
-    }
-    Ok(())
-}
-
 /// Says why a plan text is refused.
 fn say_plan(rt: &HostRuntime, file: &str, body: &[u8], fault: PlanFault) -> Result<(), NoRoom> {
     let refused = PlanRefused { place: 0, fault };
     let reason = refusal_reason(rt.alloc(), &[], None, body, refused)?;
     say_known(rt, file, &reason);
     Ok(())
+}
+
+/// Says why a RET file is refused, or a plan text.
+fn say_file(
+    rt: &HostRuntime,
+    file: &str,
+    body: &[u8],
+    found: Option<BodyFault>,
+) -> Result<(), NoRoom> {
+    match found {
+        Some(BodyFault::Ret(fault)) => {
+            say_answer(rt, file, &Ok(Verdict::Refused(explain_ret(body, fault))));
+            Ok(())
+        }
+        Some(BodyFault::Plan(fault)) => say_plan(rt, file, body, fault),
+        _ => Ok(()),
+    }
 }
 
 /// Says why the route of a call refuses a body, or what is to be known of one that it reads.
@@ -37,18 +46,11 @@ fn say_found(
     body: &[u8],
     found: Option<BodyFault>,
 ) -> Result<(), NoRoom> {
-    match found {
-        None => say_of_read(rt, call, file, body),
-        Some(BodyFault::Json(fault)) => {
-            say_remark(rt, file, &fault);
-            Ok(())
-        }
-        Some(BodyFault::Ret(fault)) => {
-            say_remark(rt, file, &explain_ret(body, fault));
-            Ok(())
-        }
-        Some(BodyFault::Plan(fault)) => say_plan(rt, file, body, fault),
+    if let Some(text) = body_text(rt.alloc(), call, body, found)? {
+        say_reason(rt, file, &text);
+        return Ok(());
     }
+    say_file(rt, file, body, found)
 }
 
 /// Says what is wrong with the body of a call, if anything, and answers its line.

@@ -1,7 +1,7 @@
 //! What standard error says of an office that serves: its book, its replies and its connections.
 
 use crate::kept::Failing;
-use bsp_body_faults::{BodyFault, JsonFault, body_fault};
+use bsp_body_faults::cause_text;
 use bsp_desk::{Asking, Book, Desk};
 use bsp_http::{Journal, Message, Reply, ServeFault, Served, Status};
 use std::alloc::{AllocError, Global};
@@ -20,16 +20,13 @@ pub struct Log<'a> {
     // Whether each reply has a line, or a 503 alone.
     whole: bool,
     // Why the body of the request is malformed whose reply is noted next.
-    fault: Cell<Option<JsonFault>>,
+    cause: Cell<Option<String>>,
 }
 
-/// Why a body is malformed. None where it is not, or where there is no memory for the cause.
-fn malformed(alloc: Global, asking: Asking<&[u8]>, body: &[u8]) -> Option<JsonFault> {
-    let Asking::Call(call) = asking else {
-        return None;
-    };
-    match body_fault(alloc, call, body) {
-        Ok(Some(BodyFault::Json(fault))) => Some(fault),
+/// Why a body is malformed, as a text. None where it is not, or where there is no memory for the cause.
+fn malformed(alloc: Global, asking: Asking<&[u8]>, body: &[u8]) -> Option<String> {
+    match asking {
+        Asking::Call(call) => cause_text(alloc, call, body).ok()?,
         _ => None,
     }
 }
@@ -110,7 +107,7 @@ impl<'a> Log<'a> {
         Log {
             rt,
             whole,
-            fault: Cell::new(None),
+            cause: Cell::new(None),
         }
     }
 
@@ -147,7 +144,7 @@ impl<B: Book + Failing> Journal<B> for Log<'_> {
     /// Seeks the cause of a malformed body, for the line of its reply.
     fn note_body(&self, asking: Asking<&[u8]>, body: &[u8], reply: &Reply<'_>) {
         if self.whole && body.len() <= MOST_SOUGHT && code_in(reply.body) == "N04" {
-            self.fault.set(malformed(self.rt.alloc(), asking, body));
+            self.cause.set(malformed(self.rt.alloc(), asking, body));
         }
     }
 
@@ -157,13 +154,16 @@ impl<B: Book + Failing> Journal<B> for Log<'_> {
         if !self.whole && !refused {
             return;
         }
-        let fault = self.fault.take();
+        let cause = self.cause.take();
         let Ok(line) = reply_line(self.rt.alloc(), message, reply) else {
             return;
         };
-        let _ = match (desk.book().store_error(), fault) {
-            (Some(cause), _) if refused => eprintln!(self.rt; "bsp_office: {line}: {cause}"),
-            (_, Some(fault)) => eprintln!(self.rt; "bsp_office: {line}: {fault}"),
+        if let Some(cause) = cause {
+            let _ = eprintln!(self.rt; "bsp_office: {line}: {cause}");
+            return;
+        }
+        let _ = match desk.book().store_error() {
+            Some(cause) if refused => eprintln!(self.rt; "bsp_office: {line}: {cause}"),
             _ => eprintln!(self.rt; "bsp_office: {line}"),
         };
     }

@@ -49,11 +49,6 @@ pub(crate) fn say_reason(rt: &HostRuntime, place: &str, reason: &str) {
     say(rt, named(place), &reason);
 }
 
-/// Says what is to be known of a FILE.
-pub(crate) fn say_remark<D: Display>(rt: &HostRuntime, file: &str, remark: &D) {
-    say(rt, named(file), remark);
-}
-
 /// Says what is wrong with a FILE, if anything is known of it.
 pub(crate) fn say_known(rt: &HostRuntime, file: &str, reason: &[u8]) {
     if let Ok(text) = str::from_utf8(reason) {
