@@ -1,5 +1,5 @@
 -- Lemmas on plan texts that are refused.
-use Rattle.std.proofs.Common.{◌≡◌, ℕ, List, ⊥-elim, refl}
+use Rattle.std.proofs.Common.{◌≡◌}
 use Rattle.std.specs.Prelude.{◌≢◌, Result, Ok, Err}
 use Rattle.bsp_calendar.specs.PlanDocument.{PlanData, Reads, plan_data, plan_reading}
 use Rattle.bsp_calendar.specs.declared.entries.PlanText.{PlanText}
@@ -8,7 +8,7 @@ use Rattle.bsp_calendar.specs.declared.fault.PlanFault.TheVariants.{NotToml, Wro
 
 -- a fault other than the want of memory is the text's own
 pub own_fault : (wanted : Result PlanData PlanFault) (fault : PlanFault) → Reads wanted plan_data (Err fault) → fault ≢ NoMemory → wanted ≡ Err fault
-own_fault wanted NoMemory reads differs = ⊥-elim (differs refl)
+own_fault wanted NoMemory reads differs = absurd (differs refl)
 own_fault wanted NotToml reads differs = reads
 own_fault wanted WrongKey reads differs = reads
 own_fault wanted Differs reads differs = reads
