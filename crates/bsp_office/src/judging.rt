@@ -45,11 +45,7 @@ fn report_earlier(rt: &HostRuntime, setting: &Setting<'_>, setup: &Setup<'_>, pl
 }
 
 /// The option whose value the office refuses, with the value where the option may be repeated.
-fn option_of(
-    rt: &HostRuntime,
-    setting: &Setting<'_>,
-    step: Step,
-) -> Result<String, AllocError> {
+fn option_of(rt: &HostRuntime, setting: &Setting<'_>, step: Step) -> Result<String, AllocError> {
     let alloc = rt.alloc();
     match step {
         Step::Plan(_) => format!(in alloc; "--plan"),

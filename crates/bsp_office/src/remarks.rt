@@ -78,7 +78,10 @@ pub(crate) fn say_lines_of(rt: &HostRuntime, file: &str, lines: &[u8]) {
 /// Says of which airline and period a HOT file is.
 fn say_heading(rt: &HostRuntime, file: &str, heading: &Heading) {
     let name = named(file);
-    let _ = eprintln!(rt; "bsp_office: {name}: airline {}, period {}", heading.airline, heading.period);
+    let _ = eprintln!(rt;
+        "bsp_office: {name}: airline {}, period {}",
+        heading.airline, heading.period
+    );
 }
 
 /// Says which fault a FILE has, of which airline and period it is, or why no whole report on it was written.
