@@ -4,7 +4,7 @@ use crate::remarks::{say_answer, say_known, say_reason};
 use crate::whole_files::{bytes_of, printed, short_of_memory};
 use bsp_body_faults::{BodyFault, BodyForm, body_fault, body_form, body_line, body_text};
 use bsp_calendar::PlanFault;
-use bsp_check::{DONE, REFUSED, Verdict};
+use bsp_check::{DONE, Explanation, REFUSED, Verdict};
 use bsp_desk::Asking;
 use bsp_explain::explain_ret;
 use bsp_fields::NoRoom;
@@ -30,7 +30,8 @@ fn say_file(
 ) -> Result<(), NoRoom> {
     match found {
         Some(BodyFault::Ret(fault)) => {
-            say_answer(rt, file, &Ok(Verdict::Refused(explain_ret(body, fault))));
+            let explanation = Explanation::Ret(explain_ret(body, fault));
+            say_answer(rt, file, &Ok(Verdict::Refused(explanation)));
             Ok(())
         }
         Some(BodyFault::Plan(fault)) => say_plan(rt, file, body, fault),
