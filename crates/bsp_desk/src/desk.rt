@@ -2,7 +2,7 @@
 
 ghost use Rattle.std.specs.Prelude.{◌≡◌, ◌↔◌, List, None, IfOk, IsOk, MatchResult, OnErr, false, length, ℕ};
 ghost use Rattle.bsp_desk.specs.Callers.{calling};
-ghost use Rattle.bsp_desk.specs.Instructions.{Outcome};
+ghost use Rattle.bsp_desk.specs.Instructions.{IsMeant, IsReport, Outcome};
 ghost use Rattle.bsp_desk.specs.Reading.{AreRead};
 ghost use Rattle.bsp_desk.specs.Runs.{AreAnswered, RanOver};
 ghost use Rattle.bsp_desk.specs.Steps.{Answers};
@@ -11,15 +11,16 @@ ghost use Rattle.bsp_rows.specs.Rows.{Rows};
 ghost use Rattle.bsp_rows.specs.Sound.{Sound};
 ghost use Rattle.bsp_desk_writes.specs.Requests.{Request as Reading};
 
-use crate::instructed::{carry_out, reads_back};
+use crate::instructed::{carry_out, reads_back, take_file};
 use crate::instruction::Instruction;
 use crate::request::Request;
 use crate::transaction::answer_call;
 use bsp_book::{Book, BookFault};
 use bsp_desk_writes::Content;
 use bsp_messages::{Answer, Reply, RequestRefusal};
+use bsp_ret::RetFile;
 use bsp_routes::{Asking, Call};
-use bsp_rows::Token;
+use bsp_rows::{AgentCode, Token};
 use std::alloc::Global;
 
 /// The desk of an office over a book.
@@ -89,11 +90,23 @@ impl<B: Book> Desk<B> {
     ///
     /// `NoRoom`, and the rows are then as they were. `Failed`: a stop leaves them, or those after the instruction.
     pub fn outcome(&mut self, instruction: &Instruction<'_>) -> Result<Answer, BookFault>
-        ensures outcome { Outcome B.means self.old.book self.new.book instruction.now result }
+        ensures outcome { Outcome B.means self.old.book self.new.book (IsMeant instruction.now) result }
         ensures office { self.new.office ≡ self.old.office }
     {
-        reads_back(instruction);
         carry_out(self.alloc, &mut self.book, instruction)
+    }
+
+    /// What an agent itself is answered to its RET file, before the answer is a text: as of `outcome`.
+    ///
+    /// # Errors
+    ///
+    /// `NoRoom`, and the rows are then as they were. `Failed`: a stop leaves them, or those after the file.
+    pub fn report(&mut self, agent: AgentCode, file: &RetFile<'_>) -> Result<Answer, BookFault>
+        ensures outcome { Outcome B.means self.old.book self.new.book (IsReport agent file.now) result }
+        ensures office { self.new.office ≡ self.old.office }
+    {
+        reads_back(agent);
+        take_file(self.alloc, &mut self.book, agent, file)
     }
 
     // The reply to a request.

@@ -1,7 +1,9 @@
 //! Serves an instruction in one transaction of the book.
 
 ghost use Rattle.std.specs.Prelude.{◌≡◌, Some, false};
-ghost use Rattle.bsp_desk.specs.Instructions.{CommitsInstruction, EndsInstruction, EndsWithin, ReadsBack, ServesInstruction};
+ghost use Rattle.bsp_rows.specs.Decimal.{fixed_digits};
+ghost use Rattle.bsp_desk_writes.specs.Ledger.{agent_of};
+ghost use Rattle.bsp_desk.specs.Instructions.{CommitsOwn, EndsOwn, EndsWithin, IsMeant, IsReport, ServesOwn};
 
 use crate::instruction::Instruction;
 use bsp_book::{Book, BookFault};
@@ -10,6 +12,7 @@ use bsp_desk_writes::{
     Reporter, allot_stated, close_period, publish, report_file, set_agent, set_business_day,
 };
 use bsp_messages::{Answer, StatedAgent, StockChange};
+use bsp_ret::RetFile;
 use bsp_rows::{AgentCode, Range};
 use std::alloc::Global;
 
@@ -23,21 +26,11 @@ fn change_of(agent: AgentCode, range: Range) -> StockChange
     }
 }
 
-/// The code of an agent that reports is read from its digits.
-pub(crate) fn reads_back(instruction: &Instruction<'_>)
-    ensures { ReadsBack instruction.now }
+/// An agent's code is read from its digits.
+pub(crate) fn reads_back(agent: AgentCode)
+    ensures { agent_of (fixed_digits 8 agent) ≡ Some agent }
 {
-    match instruction {
-        Instruction::Report(agent, _) => {
-            let _text = agent.digits();
-        }
-        Instruction::Publish(_)
-        | Instruction::SetDay(_)
-        | Instruction::Register(_, _)
-        | Instruction::Allot(_, _)
-        | Instruction::Close(_)
-        | Instruction::Statement(_, _) => {}
-    }
+    let _text = agent.digits();
 }
 
 /// Serves an instruction in the open transaction.
@@ -47,8 +40,8 @@ fn serve_instruction<B: Book>(
     instruction: &Instruction<'_>,
 ) -> Result<Answer, BookFault>
     requires { B.means.has_failed book.old ≡ false }
-    ensures served { ServesInstruction B.means book.old book.new instruction.now result }
-    ensures fault { EndsWithin B.means book.old book.new instruction.now result }
+    ensures served { ServesOwn B.means book.old book.new (IsMeant instruction.now) result }
+    ensures fault { EndsWithin B.means book.old book.new (IsMeant instruction.now) result }
 {
     match instruction {
         Instruction::Publish(text) => publish(alloc, book, text),
@@ -56,9 +49,6 @@ fn serve_instruction<B: Book>(
         Instruction::Register(agent, token) => set_agent(book, *agent, *token),
         Instruction::Allot(agent, range) => allot_stated(book, &change_of(*agent, *range)),
         Instruction::Close(period) => close_period(book, *period),
-        Instruction::Report(agent, file) => {
-            report_file(alloc, book, &Reporter::Agent(*agent), file)
-        }
         Instruction::Statement(agent, period) => statement(alloc, book, *agent, &period.digits()),
     }
 }
@@ -69,11 +59,41 @@ pub(crate) fn carry_out<B: Book>(
     book: &mut B,
     instruction: &Instruction<'_>,
 ) -> Result<Answer, BookFault>
-    ensures kept { CommitsInstruction B.means book.old book.new instruction.now result }
-    ensures fault { EndsInstruction B.means book.old book.new instruction.now result }
+    ensures kept { CommitsOwn B.means book.old book.new (IsMeant instruction.now) result }
+    ensures fault { EndsOwn B.means book.old book.new (IsMeant instruction.now) result }
 {
     book.begin()?;
     let answer = serve_instruction(alloc, book, instruction)?;
+    book.commit()?;
+    Ok(answer)
+}
+
+/// Serves the file of an agent in the open transaction.
+fn serve_file<B: Book>(
+    alloc: Global,
+    book: &mut B,
+    agent: AgentCode,
+    file: &RetFile<'_>,
+) -> Result<Answer, BookFault>
+    requires { B.means.has_failed book.old ≡ false }
+    ensures served { ServesOwn B.means book.old book.new (IsReport agent file.now) result }
+    ensures fault { EndsWithin B.means book.old book.new (IsReport agent file.now) result }
+{
+    report_file(alloc, book, &Reporter::Agent(agent), file)
+}
+
+/// Serves the file of an agent in one transaction.
+pub(crate) fn take_file<B: Book>(
+    alloc: Global,
+    book: &mut B,
+    agent: AgentCode,
+    file: &RetFile<'_>,
+) -> Result<Answer, BookFault>
+    ensures kept { CommitsOwn B.means book.old book.new (IsReport agent file.now) result }
+    ensures fault { EndsOwn B.means book.old book.new (IsReport agent file.now) result }
+{
+    book.begin()?;
+    let answer = serve_file(alloc, book, agent, file)?;
     book.commit()?;
     Ok(answer)
 }

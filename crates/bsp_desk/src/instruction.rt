@@ -1,9 +1,9 @@
 //! What is asked of a desk by a known caller.
 
-use bsp_ret::RetFile;
 use bsp_rows::{AgentCode, Day, PeriodCode, Range, Token};
 
-/// A request of the office or of an agent whose caller is known and whose content is read.
+/// A request of the office or of an agent whose caller is known and whose content is read. That of a RET file is apart:
+/// see [`Desk::report`](crate::Desk::report).
 #[derive(Clone, Copy)]
 pub enum Instruction<'r> {
     /// The office publishes the plan text of these bytes.
@@ -16,8 +16,6 @@ pub enum Instruction<'r> {
     Allot(AgentCode, Range),
     /// The office closes a period.
     Close(PeriodCode),
-    /// An agent reports a RET file.
-    Report(AgentCode, &'r RetFile<'r>),
     /// An agent asks for its statement of a period.
     Statement(AgentCode, PeriodCode),
 }

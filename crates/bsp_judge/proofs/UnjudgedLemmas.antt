@@ -1,6 +1,6 @@
 -- Lemmas on why a RET file is not judged.
 use Rattle.std.proofs.Common.{◌≡◌, ℕ, ◌+◌, ◌<◌, inl, inr, List, ◌++◌, get_or, length, take, map, ap, sym, subst, ◌∙◌, arith}
-use Rattle.std.specs.Prelude.{Result, Ok, Err, IfErr, IsErrAnd, IsOkUnless}
+use Rattle.std.specs.Prelude.{Result, Ok, Err, IfErr, IsErrAnd, IsOkUnless, OnOk}
 use Rattle.std.specs.Global.{Vec}
 use Rattle.std.specs.List.{FoldsTo}
 use Rattle.std.proofs.lemmas.List.{length-map}
@@ -28,6 +28,15 @@ passed_on P (Err f) e is p = subst P (sym is) p
 pub if_fault : {X E : Type 0} {P Q : E → Type 0} (r : Result X E) → ((e : E) → P e → Q e) → IfErr r P → IfErr r Q
 if_fault (Ok x) gives is = tt
 if_fault (Err e) gives is = gives e is
+
+-- what holds in any case, and what follows where there is no fault
+pub whatever : {X E : Type 0} {P : Type 0} (r : Result X E) → P → OnOk r P
+whatever (Ok x) p = p
+whatever (Err e) p = tt
+
+pub if_ok : {X E : Type 0} {P Q : Type 0} (r : Result X E) → (P → Q) → OnOk r P → OnOk r Q
+if_ok (Ok x) gives is = gives is
+if_ok (Err e) gives is = tt
 
 -- a result has no fault but this one
 pub unless : {X E : Type 0} (P : E → Type 0) (r : Result X E) (fault : E) → P fault → IsOkUnless r fault → IfErr r P

@@ -4,7 +4,7 @@ ghost use Rattle.std.specs.Prelude.{◌≡◌, IfErr, IfOk, IsOkUnless, List, On
 ghost use Rattle.bsp_ret.specs.Ret.{HasLines};
 ghost use Rattle.bsp_rows.specs.Transaction.{Transaction};
 ghost use Rattle.bsp_rows.specs.Writing.{HaveContents};
-ghost use Rattle.bsp_desk.specs.Instructions.{IsMeant, Own};
+ghost use Rattle.bsp_desk.specs.Instructions.{IsMeant, IsReport, Own};
 ghost use Rattle.bsp_judge.specs.Asked.{Task, place_of};
 ghost use Rattle.bsp_judge.specs.Steps.{IsAnswered, IsFor, IsReported, IsSettled, Moved, refusal_in, rows_in, verdicts_in};
 ghost use Rattle.bsp_judge.specs.Unjudged.{IsStopOf};
@@ -71,7 +71,24 @@ pub(crate) fn change(
     }
 }
 
-/// Posts a RET file for the agent.
+/// Posts a RET file for the agent. A book in memory never fails.
+fn post(
+    desk: &mut Desk<ListBook>,
+    agent: AgentCode,
+    file: &RetFile<'_>,
+) -> Result<Answer, JudgeFault>
+    requires { IsSettled desk.old.book }
+    ensures answered { IfOk result (λ message. (own : Own) → IsReport agent file.now own → IsAnswered desk.old.book own message desk.new.book) }
+    ensures fault { IsOkUnless result JudgeFault.Memory }
+{
+    match desk.report(agent, file) {
+        Ok(answer) => Ok(answer),
+        Err(BookFault::NoRoom) => Err(JudgeFault::Memory),
+        Err(BookFault::Failed) => unreachable!(),
+    }
+}
+
+/// The verdicts on a RET file of the agent.
 pub(crate) fn report(
     desk: &mut Desk<ListBook>,
     agent: AgentCode,
@@ -82,7 +99,7 @@ pub(crate) fn report(
     ensures reported { IfOk result (λ verdicts. (ts : List Transaction) → HaveContents 1 file.now.groups ts → IsReported desk.old.book agent ts verdicts.items desk.new.book) }
     ensures fault { IsOkUnless result JudgeFault.Memory }
 {
-    let answer = ask(desk, &Instruction::Report(agent, file))?;
+    let answer = post(desk, agent, file)?;
     let Some(verdicts) = verdicts_in(answer) else {
         unreachable!()
     };
