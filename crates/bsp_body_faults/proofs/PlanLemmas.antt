@@ -1,5 +1,5 @@
 -- Lemmas on plan texts that are refused.
-use Rattle.std.proofs.Common.{◌≡◌}
+use Rattle.std.proofs.Common.{◌≡◌, refl}
 use Rattle.std.specs.Prelude.{◌≢◌, Result, Ok, Err}
 use Rattle.bsp_calendar.specs.PlanDocument.{PlanData, Reads, plan_data, plan_reading}
 use Rattle.bsp_calendar.specs.declared.entries.PlanText.{PlanText}
