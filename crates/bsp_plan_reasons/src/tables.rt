@@ -76,8 +76,8 @@ fn push_unknown(out: &mut Vec<u8>, place: Place<'_>, name: &str) -> Result<(), A
         let end = b" is a key of the text: write it above the first table";
         return push_fields(out, &[name.as_bytes(), end]);
     }
-    let known = keys_of(place.list).as_bytes();
-    push_fields(out, &[name.as_bytes(), b" is unknown: ", known])
+    push_fields(out, &[name.as_bytes(), b" is unknown: "])?;
+    out.extend_from_slice(keys_of(place.list).as_bytes())
 }
 
 /// Appends that the text itself lacks a key, which a table may have.
@@ -199,23 +199,29 @@ fn push_list(
     }
 }
 
-/// Appends what is wrong with an item of the list of airlines.
-fn push_airline(out: &mut Vec<u8>, item: &Value) -> Result<(), AllocError> {
-    let wanted = Form::Airline.wanted().as_bytes();
-    if let Some(text) = item.as_str() {
-        let end = b"\" is not ";
-        return push_fields(out, &[b"airline: \"", text.as_bytes(), end, wanted]);
-    }
-    let Some(number) = item.as_integer() else {
-        return push_fields(out, &[b"airline: each item is ", wanted]);
-    };
+/// Appends what is wrong with a number in the list of airlines.
+fn push_number(out: &mut Vec<u8>, number: i64) -> Result<(), AllocError> {
     let mut shown = Buffer::new();
     let shown = shown.format(number).as_bytes();
     if Form::Airline.fits_text(shown) {
         let middle = b" has no quotes: write \"";
-        return push_fields(out, &[b"airline: ", shown, middle, shown, b"\""]);
+        return push_fields(out, &[shown, middle, shown, b"\""]);
     }
-    push_fields(out, &[b"airline: ", shown, b" is not ", wanted])
+    push_fields(out, &[shown, b" is not "])?;
+    out.extend_from_slice(Form::Airline.wanted().as_bytes())
+}
+
+/// Appends what is wrong with an item of the list of airlines.
+fn push_airline(out: &mut Vec<u8>, item: &Value) -> Result<(), AllocError> {
+    out.extend_from_slice(b"airline: ")?;
+    if let Some(number) = item.as_integer() {
+        return push_number(out, number);
+    }
+    match item.as_str() {
+        Some(text) => push_fields(out, &[b"\"", text.as_bytes(), b"\" is not "])?,
+        None => out.extend_from_slice(b"each item is ")?,
+    }
+    out.extend_from_slice(Form::Airline.wanted().as_bytes())
 }
 
 /// Appends what is wrong with the list of airlines, if it is there.

@@ -38,15 +38,8 @@ fn push_text(out: &mut Vec<u8>, form: Form, text: &[u8]) -> Result<(), AllocErro
     match form {
         Form::Day => push_day(out, text),
         Form::Number(_, _) if text.iter().all(|byte| byte.is_ascii_digit()) => {
-            push_fields(
-                out,
-                &[
-                    b" in quotes, and not ",
-                    form.wanted().as_bytes(),
-                    b", as ",
-                    text,
-                ],
-            )
+            push_fields(out, &[b" in quotes, and not ", form.wanted().as_bytes()])?;
+            push_fields(out, &[b", as ", text])
         }
         _ => push_fields(out, &[b", and not ", form.wanted().as_bytes()]),
     }
@@ -79,7 +72,8 @@ fn push_written(
     value: &Value,
     written: &[u8],
 ) -> Result<(), AllocError> {
-    push_fields(out, &[key.name.as_bytes(), b" is ", written])?;
+    out.extend_from_slice(key.name.as_bytes())?;
+    push_fields(out, &[b" is ", written])?;
     if let Some(text) = value.as_str() {
         return push_text(out, key.form, text.as_bytes());
     }
