@@ -19,3 +19,8 @@ returns-in_err-commit-clause-fault g c =
     let p = err_from_is_err_and c.from_residual-in_err-commit.result c.from_residual-in_err-commit.ensures.1 in
     rw (p.1, p.2) (uncommitted g.B.Book.means g.met.B.Book.wider (IsReport c.args.agent c.args.file.now) (λ rows own. own_after own rows) c.args.book.now c.begin.new.self c.in_ok-begin.field-0 c.in_ok-begin.ensures.ok c.in_ok-begin.ensures.fault
     (λ rows own message. Says (own_answer own rows) message) c.serve_file.new.book c.commit.new.self c.in_ok-answer.answer c.in_ok-answer.ensures.served c.in_ok-answer.ensures.fault c.in_err-commit.field-0.0 c.in_err-commit.ensures.fault)
+
+pub returns-clause-kept : goal.returns-clause-kept
+returns-clause-kept g c = λ own is t rows sound h.
+    let found = c.in_ok-answer.ensures.served own is (c.in_ok-commit.ensures.fault.trust t) rows rows sound (c.in_ok-begin.ensures.ok rows h) in
+    (found.0, c.in_ok-commit.ensures.ok (own_after own rows) rows found.1)
