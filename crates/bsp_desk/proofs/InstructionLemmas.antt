@@ -34,7 +34,7 @@ pub instructed_sound : (i : Instruction) (own : Own) (rows : Rows) → IsMeant i
 instructed_sound (Publish text) own rows is s = office_sound own _ rows is.2 tt s
 instructed_sound (SetDay day) own rows is s = office_sound own _ rows is tt s
 instructed_sound (Register agent token) own rows is s = office_sound own _ rows is tt s
-instructed_sound (Allot agent range) own rows is s = office_sound own _ rows is tt s
+instructed_sound (Allot agent first last) own rows is s = office_sound own _ rows is tt s
 instructed_sound (Close period) own rows is s = office_sound own _ rows is tt s
 instructed_sound (Statement agent period) own rows is s =
     subst (λ (o : Own). Sound (own_after o rows)) (sym is) (either rows _ s)

@@ -41,7 +41,7 @@ abbrev pub IsMeant : Instruction → Own → Type 0
 IsMeant (Publish text) own = (read : PlanRead) × IsPlanOf text.now read × (own ≡ OfOffice (PublishPlan read))
 IsMeant (SetDay day) own = own ≡ OfOffice (SetBusinessDay (Some day))
 IsMeant (Register agent token) own = own ≡ OfOffice (RegisterAgent (Some (record { agent = record { code = Some agent }; token = token })))
-IsMeant (Allot agent range) own = own ≡ OfOffice (AllotRange (Some (record { agent = record { code = Some agent }; range = range })))
+IsMeant (Allot agent first last) own = own ≡ OfOffice (AllotRange (Some (record { agent = record { code = Some agent }; range = record { first = first; last = last } })))
 IsMeant (Close period) own = own ≡ OfOffice (ClosePeriod (Some period))
 IsMeant (Statement agent period) own = own ≡ OfAgent agent (AskStatement (fixed_digits 5 period))
 

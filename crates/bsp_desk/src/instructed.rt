@@ -13,16 +13,16 @@ use bsp_desk_writes::{
 };
 use bsp_messages::{Answer, StatedAgent, StockChange};
 use bsp_ret::RetFile;
-use bsp_rows::{AgentCode, Range};
+use bsp_rows::{AgentCode, DocNumber, Range};
 use std::alloc::Global;
 
 /// A range of an agent whose code is right.
-fn change_of(agent: AgentCode, range: Range) -> StockChange
-    ensures { result ≡ record { agent = record { code = Some agent }; range = range } }
+fn change_of(agent: AgentCode, first: DocNumber, last: DocNumber) -> StockChange
+    ensures { result ≡ record { agent = record { code = Some agent }; range = record { first = first; last = last } } }
 {
     StockChange {
         agent: StatedAgent { code: Some(agent) },
-        range,
+        range: Range { first, last },
     }
 }
 
@@ -47,7 +47,9 @@ fn serve_instruction<B: Book>(
         Instruction::Publish(text) => publish(alloc, book, text),
         Instruction::SetDay(day) => set_business_day(book, *day),
         Instruction::Register(agent, token) => set_agent(book, *agent, *token),
-        Instruction::Allot(agent, range) => allot_stated(book, &change_of(*agent, *range)),
+        Instruction::Allot(agent, first, last) => {
+            allot_stated(book, &change_of(*agent, *first, *last))
+        }
         Instruction::Close(period) => close_period(book, *period),
         Instruction::Statement(agent, period) => statement(alloc, book, *agent, &period.digits()),
     }

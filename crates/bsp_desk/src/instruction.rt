@@ -1,6 +1,6 @@
 //! What is asked of a desk by a known caller.
 
-use bsp_rows::{AgentCode, Day, PeriodCode, Range, Token};
+use bsp_rows::{AgentCode, Day, DocNumber, PeriodCode, Token};
 
 /// A request of the office or of an agent whose caller is known and whose content is read. That of a RET file is apart:
 /// see [`Desk::report`](crate::Desk::report).
@@ -12,8 +12,8 @@ pub enum Instruction<'r> {
     SetDay(Day),
     /// The office registers an agent with a token, or gives it another one.
     Register(AgentCode, Token),
-    /// The office allots a range to an agent. Its first number may be after its last.
-    Allot(AgentCode, Range),
+    /// The office allots to an agent the range from a first number to a last. The first may be after the last.
+    Allot(AgentCode, DocNumber, DocNumber),
     /// The office closes a period.
     Close(PeriodCode),
     /// An agent asks for its statement of a period.

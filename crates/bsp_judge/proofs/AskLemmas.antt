@@ -6,6 +6,7 @@ use Rattle.bsp_fields.specs.declared.change.Change.{Change}
 use Rattle.bsp_fields.specs.declared.change.Change.TheVariants as change
 use Rattle.bsp_calendar.specs.declared.fault.PlanFault.{PlanFault}
 use Rattle.bsp_calendar.specs.History.Request.{Publish as Publishing, SetDay as SettingDay, Close as Closing}
+use Rattle.bsp_rules.specs.declared.rows.Range.{Range}
 use Rattle.bsp_rules.specs.declared.verdict.Verdict.{Verdict}
 use Rattle.bsp_messages.specs.declared.answer.Answer.{Answer as Message}
 use Rattle.bsp_messages.specs.declared.refusal.RequestRefusal.{RequestRefusal}
@@ -44,8 +45,11 @@ meant (Publish text) (instruction.Publish bytes) is =
 meant (SetDay day) (instruction.SetDay other) is = (OfOffice (SetBusinessDay (Some day)), (λ i. OfOffice (SetBusinessDay (Some (sym is i)))), refl)
 meant (Register agent) (instruction.Register other token) is =
     (OfOffice (RegisterAgent (Some (record { agent = record { code = Some agent }; token = token }))), (λ i. OfOffice (RegisterAgent (Some (record { agent = record { code = Some (sym is i) }; token = token })))), (token, refl))
-meant (Allot agent range) (instruction.Allot other its) is =
-    (OfOffice (AllotRange (Some (record { agent = record { code = Some agent }; range = range }))), (λ i. OfOffice (AllotRange (Some (record { agent = record { code = Some (sym is.0 i) }; range = sym is.1 i })))), refl)
+meant (Allot agent first last) (instruction.Allot other from to) is = (
+  OfOffice (AllotRange (Some (record { agent = record { code = Some agent }; range = record { first = first; last = last } }))),
+  (λ i. OfOffice (AllotRange (Some (record { agent = record { code = Some (sym is.0 i) }; range = record { first = sym is.1 i; last = sym is.2 i } })))),
+  refl,
+)
 meant (Close period) (instruction.Close other) is = (OfOffice (ClosePeriod (Some period)), (λ i. OfOffice (ClosePeriod (Some (sym is i)))), refl)
 meant _ _ is = absurd is
 
@@ -81,7 +85,8 @@ pub plain : (task : Task) (i : Instruction) → IsFor task i → (own : Own) →
 plain (Publish text) i is own asks rows = subst (λ (o : Own). IsPlain (own_answer o rows)) (sym asks.2) (plan_plain asks.0 rows)
 plain (SetDay day) i is own asks rows = subst (λ (o : Own). IsPlain (own_answer o rows)) (sym asks) (outcome_plain (request_answer (SettingDay day) rows))
 plain (Register agent) i is own asks rows = subst (λ (o : Own). IsPlain (own_answer o rows)) (sym asks.1) (token_plain (is_token (agent_token agent rows) (Some asks.0)))
-plain (Allot agent range) i is own asks rows =
+plain (Allot agent first last) i is own asks rows =
+    let range : Range = record { first = first; last = last } in
     subst (λ (o : Own). IsPlain (own_answer o rows)) (sym asks) (allot_plain (is_out_of_order range) (not (is_registered agent rows)) (has_range agent range rows) (has_meeting range rows))
 plain (Close period) i is own asks rows = subst (λ (o : Own). IsPlain (own_answer o rows)) (sym asks) (outcome_plain (request_answer (Closing period) rows))
 plain (Report agent text) i is own asks rows = absurd is

@@ -6,6 +6,7 @@ use Rattle.std.specs.List.{FoldsTo}
 use Rattle.std.proofs.lemmas.List.{length-map}
 use Rattle.bsp_ret.specs.declared.model.FaultCode.TheVariants.{F10}
 use Rattle.bsp_ret.specs.declared.model.RetFault.{RetFault}
+use Rattle.bsp_rules.specs.declared.rows.Range.{Range}
 use Rattle.bsp_messages.specs.declared.refusal.RequestRefusal.{RequestRefusal}
 use Rattle.bsp_rows.specs.Rows.{Rows, no_rows}
 use Rattle.bsp_judge.specs.Asked.{HasFault, HasRetFault, IsRefused, Takes, Task, caller_tasks, earlier_tasks, place_of, plan_tasks, stock_tasks, tasks}
@@ -114,7 +115,7 @@ module _ (s : Setup) where
       module _ (r3 : Rows) (stocked : FoldsTo Takes r2 (stock_tasks s) r3) where
         pub stop_after_stock : (fault : JudgeFault) → IsStopIn s (length s.plans.now + 2 + length s.stock.now) r3 (earlier_tasks s) fault → IsStopIn s 0 r0 (tasks s) fault
         stop_after_stock fault is =
-            let begin : length s.plans.now + 2 + length s.stock.now ≡ length s.plans.now + 2 + length (stock_tasks s) = ap (λ (n : ℕ). length s.plans.now + 2 + n) (sym (length-map s.stock.now (Allot s.agent))) in
+            let begin : length s.plans.now + 2 + length s.stock.now ≡ length s.plans.now + 2 + length (stock_tasks s) = ap (λ (n : ℕ). length s.plans.now + 2 + n) (sym (length-map s.stock.now (λ (range : Range). Allot s.agent range.first range.last))) in
             later (caller_tasks s ++ (stock_tasks s ++ earlier_tasks s)) fault
             (more_before (length s.plans.now) r1 r2 (caller_tasks s) (stock_tasks s ++ earlier_tasks s) called fault
             (more_before (length s.plans.now + 2) r2 r3 (stock_tasks s) (earlier_tasks s) stocked fault (subst (λ (n : ℕ). IsStopIn s n r3 (earlier_tasks s) fault) begin is)))

@@ -5,7 +5,6 @@ use Rattle.bsp_ret.specs.Lines.{lines}
 use Rattle.bsp_ret.specs.Table.{first_fault}
 use Rattle.bsp_ret.specs.declared.model.RetFault.{RetFault}
 use Rattle.bsp_rows.specs.Transaction.{Transaction}
-use Rattle.bsp_rules.specs.declared.rows.Range.{Range}
 use Rattle.bsp_messages.specs.declared.refusal.RequestRefusal.{RequestRefusal}
 use Rattle.bsp_rows.specs.Rows.{Rows}
 use Rattle.bsp_desk_writes.specs.Answers.{Answer}
@@ -26,7 +25,7 @@ pub data Task : Type 0 where
   Publish : (text : List ℕ) → Task
   SetDay : (day : CivilDay) → Task
   Register : (agent : ℕ) → Task
-  Allot : (agent : ℕ) (range : Range) → Task
+  Allot : (agent first last : ℕ) → Task
   Close : (period : ℕ) → Task
   Report : (agent : ℕ) (text : List ℕ) → Task
 
@@ -35,7 +34,7 @@ abbrev pub Asks : Task → Own → Type 0
 Asks (Publish text) own = (read : PlanRead) × IsPlanOf text read × (own ≡ OfOffice (PublishPlan read))
 Asks (SetDay day) own = own ≡ OfOffice (SetBusinessDay (Some day))
 Asks (Register agent) own = (token : List ℕ) × (own ≡ OfOffice (RegisterAgent (Some (record { agent = record { code = Some agent }; token = token }))))
-Asks (Allot agent range) own = own ≡ OfOffice (AllotRange (Some (record { agent = record { code = Some agent }; range = range })))
+Asks (Allot agent first last) own = own ≡ OfOffice (AllotRange (Some (record { agent = record { code = Some agent }; range = record { first = first; last = last } })))
 Asks (Close period) own = own ≡ OfOffice (ClosePeriod (Some period))
 Asks (Report agent text) own = (ts : List Transaction) × IsFileOf text (Ok ts) × (own ≡ OfAgent agent (AgentFile (Ok ts)))
 
@@ -79,7 +78,7 @@ caller_tasks s = SetDay s.day ∷ Register s.agent ∷ []
 
 -- its ranges are allotted in turn
 abbrev pub stock_tasks : Setup → List Task
-stock_tasks s = map (Allot s.agent) s.stock.now
+stock_tasks s = map (λ range. Allot s.agent range.first range.last) s.stock.now
 
 -- the agent reports a file, or the office closes a period
 abbrev pub earlier_task : ℕ → Earlier → Task

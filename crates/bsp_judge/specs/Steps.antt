@@ -44,7 +44,7 @@ abbrev pub IsFor : Task → Instruction → Type 0
 IsFor (Publish text) (instruction.Publish bytes) = bytes.now ≡ text
 IsFor (SetDay day) (instruction.SetDay other) = other ≡ day
 IsFor (Register agent) (instruction.Register other token) = other ≡ agent
-IsFor (Allot agent range) (instruction.Allot other its) = (other ≡ agent) × (its ≡ range)
+IsFor (Allot agent first last) (instruction.Allot other from to) = (other ≡ agent) × (from ≡ first) × (to ≡ last)
 IsFor (Close period) (instruction.Close other) = other ≡ period
 IsFor _ _ = ⊥
 

@@ -58,13 +58,13 @@ pub(crate) fn change(
     desk: &mut Desk<ListBook>,
     setup: &Setup<'_>,
     step: Step,
-    instruction: Instruction<'_>,
+    instruction: &Instruction<'_>,
 ) -> Result<(), JudgeFault>
     requires { IsSettled desk.old.book }
-    ensures passed { OnOk result ((task : Task) → IsFor task instruction → Moved desk.old.book task desk.new.book) }
-    ensures stopped { IfErr result (λ fault. (task : Task) → IsFor task instruction → IsStopOf setup.now (place_of setup.now step) (rows_in desk.old.book) task fault) }
+    ensures passed { OnOk result ((task : Task) → IsFor task instruction.now → Moved desk.old.book task desk.new.book) }
+    ensures stopped { IfErr result (λ fault. (task : Task) → IsFor task instruction.now → IsStopOf setup.now (place_of setup.now step) (rows_in desk.old.book) task fault) }
 {
-    let answer = ask(desk, &instruction)?;
+    let answer = ask(desk, instruction)?;
     match refusal_in(&answer) {
         None => Ok(()),
         Some(refusal) => Err(refused(alloc, desk.book(), setup, step, refusal)),

@@ -37,7 +37,7 @@ fn publish_all(
 {
     for (place, text) in setup.plans.iter().enumerate() {
         let instruction = Instruction::Publish(text);
-        change(alloc, desk, setup, Step::Plan(place), instruction)?;
+        change(alloc, desk, setup, Step::Plan(place), &instruction)?;
     }
     Ok(())
 }
@@ -54,9 +54,9 @@ fn introduce(
     ensures stopped { IfErr result (IsStopIn setup.now (length setup.now.plans.now) (rows_in desk.old.book) (caller_tasks setup.now)) }
 {
     let day = Instruction::SetDay(setup.day);
-    change(alloc, desk, setup, Step::Day, day)?;
+    change(alloc, desk, setup, Step::Day, &day)?;
     let agent = Instruction::Register(setup.agent, token);
-    change(alloc, desk, setup, Step::Agent, agent)?;
+    change(alloc, desk, setup, Step::Agent, &agent)?;
     Ok(())
 }
 
@@ -71,8 +71,8 @@ fn allot_all(
     ensures stopped { IfErr result (IsStopIn setup.now (length setup.now.plans.now + 2) (rows_in desk.old.book) (stock_tasks setup.now)) }
 {
     for (place, range) in setup.stock.iter().enumerate() {
-        let instruction = Instruction::Allot(setup.agent, *range);
-        change(alloc, desk, setup, Step::Stock(place), instruction)?;
+        let instruction = Instruction::Allot(setup.agent, range.first, range.last);
+        change(alloc, desk, setup, Step::Stock(place), &instruction)?;
     }
     Ok(())
 }
@@ -143,7 +143,7 @@ fn repeat(
         Earlier::File(text) => report_again(alloc, desk, setup, place, text, said),
         Earlier::Closed(period) => {
             let instruction = Instruction::Close(*period);
-            change(alloc, desk, setup, Step::Closed(place), instruction)
+            change(alloc, desk, setup, Step::Closed(place), &instruction)
         }
     }
 }

@@ -1,4 +1,4 @@
-use Rattle.std.proofs.Common.{List, None, ap, rules, subst, sym, ◌++◌, ◌∙◌}
+use Rattle.std.proofs.Common.{◌≡◌, List, None, ap, rules, subst, sym, ◌++◌, ◌∙◌}
 use Rattle.std.specs.List.{list_all}
 use Rattle.std.specs.Prelude.{ℤ, ◌-ℤ◌}
 use Rattle.std.proofs.lemmas.Int.{to_z-of_z}

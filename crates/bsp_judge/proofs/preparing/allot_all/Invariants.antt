@@ -7,6 +7,6 @@ use Rattle.bsp_judge.proofs.preparing.allot_all.Given as goal
 
 abbrev pub invariant-loop-place : goal.invariant-loop-place
 invariant-loop-place l = record {
-  taken : FoldsTo Takes (rows_in l.initial.desk.book) (map (Allot l.setup.agent) (take l.place l.setup.stock.now)) (rows_in l.desk.book);
+  taken : FoldsTo Takes (rows_in l.initial.desk.book) (map (λ range. Allot l.setup.agent range.first range.last) (take l.place l.setup.stock.now)) (rows_in l.desk.book);
   settled : IsSettled l.desk.book;
 }
