@@ -6,6 +6,9 @@ use Rattle.bsp_judge.specs.Unjudged.{IsStopIn}
 use Rattle.bsp_judge.proofs.UnjudgedLemmas.{passed_on, stops_one}
 use Rattle.bsp_judge.proofs.preparing.introduce.Goals as goal
 
+pub change-requires-2 : goal.change-requires-2
+change-requires-2 c = (c.in_ok-change.ensures.passed (SetDay c.args.setup.now.day) refl).settled
+
 pub returns-clause-passed : goal.returns-clause-passed
 returns-clause-passed c =
     let s = c.args.setup.now in

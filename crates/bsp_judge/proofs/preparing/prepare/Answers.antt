@@ -37,10 +37,10 @@ pub returns-in_err-allot_all-clause-stopped : goal.returns-in_err-allot_all-clau
 returns-in_err-allot_all-clause-stopped c =
     let s = c.args.setup.now in
     passed_on (IsStopIn s 0 (rows_in c.args.desk.now.book) (tasks s)) _ _ c.from_residual-in_err-allot_all.ensures.1
-    (stop_after_callers s (rows_in c.args.desk.now.book) (rows_in c.publish_all.new.desk.book) (rows_in c.introduce.new.desk.book) c.in_ok-publish_all.ensures.passed.taken c.in_ok-introduce.ensures.passed.taken _ c.in_err-allot_all.ensures.stopped)
+    (stop_after_callers s (rows_in c.args.desk.now.book) (rows_in c.publish_all.new.desk.book) c.in_ok-publish_all.ensures.passed.taken (rows_in c.introduce.new.desk.book) c.in_ok-introduce.ensures.passed.taken _ c.in_err-allot_all.ensures.stopped)
 
 pub returns-in_err-repeat_all-clause-stopped : goal.returns-in_err-repeat_all-clause-stopped
 returns-in_err-repeat_all-clause-stopped c =
     let s = c.args.setup.now in
     passed_on (IsStopIn s 0 (rows_in c.args.desk.now.book) (tasks s)) _ _ c.from_residual-in_err-repeat_all.ensures.1
-    (stop_after_stock s (rows_in c.args.desk.now.book) (rows_in c.publish_all.new.desk.book) (rows_in c.introduce.new.desk.book) (rows_in c.allot_all.new.desk.book) c.in_ok-publish_all.ensures.passed.taken c.in_ok-introduce.ensures.passed.taken c.in_ok-allot_all.ensures.passed.taken _ c.in_err-repeat_all.ensures.stopped)
+    (stop_after_stock s (rows_in c.args.desk.now.book) (rows_in c.publish_all.new.desk.book) c.in_ok-publish_all.ensures.passed.taken (rows_in c.introduce.new.desk.book) c.in_ok-introduce.ensures.passed.taken (rows_in c.allot_all.new.desk.book) c.in_ok-allot_all.ensures.passed.taken _ c.in_err-repeat_all.ensures.stopped)

@@ -1,4 +1,4 @@
-use Rattle.std.proofs.Common.{ℕ, map, refl, ◌∙◌}
+use Rattle.std.proofs.Common.{◌≡◌, ◌+◌, arith, ℕ, map, refl, ◌∙◌}
 use Rattle.std.specs.Global.{Vec}
 use Rattle.bsp_judge.specs.Asked.{Takes, Task}
 use Rattle.bsp_judge.specs.Asked.Task.{Publish}
@@ -24,7 +24,7 @@ returns-in_err-change-clause-stopped c =
     let start = rows_in c.args.desk.now.book in
     let place = c.loop-place.place in
     passed_on (IsStopIn s 0 start (map f s.plans.now)) _ _ c.from_residual.ensures.1
-    (stops_one s f s.plans.now 0 start (rows_in c.loop-place.desk.book) place c.text-item.result c.text-item.result c.loop-place-test.true c.text-item.is c.loop-place.invariant.taken place refl _ (c.in_err-change.ensures.stopped (f c.text-item.result) c.deref.ensures.value))
+    (stops_one s f s.plans.now 0 start (rows_in c.loop-place.desk.book) place c.text-item.result c.text-item.result c.loop-place-test.true c.text-item.is c.loop-place.invariant.taken place (let same : place ≡ 0 + place = omega arith in same) _ (c.in_err-change.ensures.stopped (f c.text-item.result) c.deref.ensures.value))
 
 pub returns-clause-passed : goal.returns-clause-passed
 returns-clause-passed c =
