@@ -156,11 +156,7 @@ fn trial_token() -> Token {
 }
 
 /// What a new desk over an empty book says of a file.
-fn judge_file(
-    alloc: Global,
-    setup: &Setup<'_>,
-    file: &RetFile<'_>,
-) -> Result<Judged, JudgeFault>
+fn judge_file(alloc: Global, setup: &Setup<'_>, file: &RetFile<'_>) -> Result<Judged, JudgeFault>
     requires { HasLines file.now }
     ensures judged { IfOk result (λ judged. (text : List ℕ) → Ret (lines text) file.now → IsJudged setup.now text judged.lines.items judged.is_taken) }
     ensures unready { IfErr result (IsUnready setup.now) }

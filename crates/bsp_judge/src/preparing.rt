@@ -61,11 +61,7 @@ fn introduce(
 }
 
 /// Allots the ranges.
-fn allot_all(
-    alloc: Global,
-    desk: &mut Desk<ListBook>,
-    setup: &Setup<'_>,
-) -> Result<(), JudgeFault>
+fn allot_all(alloc: Global, desk: &mut Desk<ListBook>, setup: &Setup<'_>) -> Result<(), JudgeFault>
     requires { IsSettled desk.old.book }
     ensures passed { OnOk result (Moves desk.old.book (stock_tasks setup.now) desk.new.book) }
     ensures stopped { IfErr result (IsStopIn setup.now (length setup.now.plans.now + 2) (rows_in desk.old.book) (stock_tasks setup.now)) }

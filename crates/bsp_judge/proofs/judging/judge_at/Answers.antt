@@ -26,25 +26,25 @@ returns-clause-judged c =
     let fits : SFits w128 net = search rules in
     if_said c.say.result
     (λ j said text ret.
-        let ts = groups_read 1 c.args.file.now.groups ret.groups in
-        let reported = c.in_ok-verdicts.ensures.reported ts.0 ts.1 in
-        let before = to_z-of_z w128 c.in_ok-before.before fits_before ∙ (rw c.book.ensures at c.in_ok-before.ensures.net) (rows_in old) None c.requires.settled.holds in
-        let after = to_z-of_z w128 c.in_ok-after.after fits_after ∙ (rw c.book-2.ensures at c.in_ok-after.ensures.net) (rows_in new) None reported.settled.holds in
-        let owes : to_z w128 (of_z w128 net) ≡ owed agent (rows_in new) -ℤ owed agent (rows_in old) =
-        to_z-of_z w128 net fits ∙ c.in_ok-net.ensures.net ∙ ap (λ (a : ℤ). a -ℤ to_z w128 (of_z w128 c.in_ok-before.before)) after ∙ ap (λ (b : ℤ). owed agent (rows_in new) -ℤ b) before in
-        record {
-          transactions = ts.0;
-          file = (c.args.file.now, ret, ts.1);
-          verdicts = vs;
-          answered = reported.answered;
-          left = rows_in new;
-          after = reported.after;
-          lines_are =
-              said.0
-              ∙ ap (λ (l : List Verdict). verdict_lines 1 l ++ net_line (to_z w128 (of_z w128 net))) c.deref.ensures.value
-              ∙ ap (λ (n : ℤ). verdict_lines 1 vs ++ net_line n) owes;
-          taken_is = said.1 ∙ ap (list_all is_taken) c.deref.ensures.value;
-        })
+    let ts = groups_read 1 c.args.file.now.groups ret.groups in
+    let reported = c.in_ok-verdicts.ensures.reported ts.0 ts.1 in
+    let before = to_z-of_z w128 c.in_ok-before.before fits_before ∙ (rw c.book.ensures at c.in_ok-before.ensures.net) (rows_in old) None c.requires.settled.holds in
+    let after = to_z-of_z w128 c.in_ok-after.after fits_after ∙ (rw c.book-2.ensures at c.in_ok-after.ensures.net) (rows_in new) None reported.settled.holds in
+    let owes : to_z w128 (of_z w128 net) ≡ owed agent (rows_in new) -ℤ owed agent (rows_in old) =
+    to_z-of_z w128 net fits ∙ c.in_ok-net.ensures.net ∙ ap (λ (a : ℤ). a -ℤ to_z w128 (of_z w128 c.in_ok-before.before)) after ∙ ap (λ (b : ℤ). owed agent (rows_in new) -ℤ b) before in
+    record {
+      transactions = ts.0;
+      file = (c.args.file.now, ret, ts.1);
+      verdicts = vs;
+      answered = reported.answered;
+      left = rows_in new;
+      after = reported.after;
+      lines_are =
+          said.0
+          ∙ ap (λ (l : List Verdict). verdict_lines 1 l ++ net_line (to_z w128 (of_z w128 net))) c.deref.ensures.value
+          ∙ ap (λ (n : ℤ). verdict_lines 1 vs ++ net_line n) owes;
+      taken_is = said.1 ∙ ap (list_all is_taken) c.deref.ensures.value;
+    })
     c.say.ensures.said
 
 pub returns-clause-fault : goal.returns-clause-fault
