@@ -180,7 +180,7 @@ def try_lines():
     """Compares what is said of transactions that are no refusals of the file: of an earlier file, and of a CANX alone."""
     plan, sale = str(TOP / "samples/plan.toml"), str(TOP / "samples/sale.ret")
     refund = str(TOP / "samples/refund-and-sale.ret")
-    text = (TOP / "samples/cancellation.ret").read_text().splitlines(True)
+    text = (TOP / "samples/sale-and-cancellation.ret").read_text().splitlines(True)
     alone = text[0] + text[-2].replace("000002CANX", "000001CANX") + text[-1].replace("0000006000000200000000002350{", "0000003000000100000000000000{")
     ended = subprocess.run([PROGRAM, "judge", "--plan", plan, *SETTING, "--file", refund, sale], capture_output=True, timeout=60, text=True)
     why = "000001 E08: no ticket 1300000001 of 125 was reported before: report the sale before its refund"
@@ -320,7 +320,7 @@ def try_explain():
     for code in codes:
         said = subprocess.run([PROGRAM, "explain", code], capture_output=True, timeout=60, text=True)
         expect(f"explain {code}", (0, explained(page, code), ""), (said.returncode, said.stdout, said.stderr))
-    for word in ("E13", "E00", "e07", "E7", "Q01", "E007", ""):
+    for word in ("E13", "E00", "e7", "E7", "Q01", "E007", ""):
         expect_end(f"explain {word}", (2, b"", f"bsp_office: {word} is no code: explain alone lists all\n".encode()), [PROGRAM, "explain", word])
     return len(codes)
 
