@@ -240,7 +240,7 @@ def peers():
         for number, (one, (_, reply)) in enumerate(zip(asking, waiting)):
             if reply not in (CLOSED, RESET):
                 office.expect(f"{what}: peer {number + 1}", reply, received(one))
-        office.expect(f"{what}: end", (0, f"bsp_office: {connections} connections served\n"), it.ended())
+        office.expect(f"{what}: end", (0, f"bsp_office: {connections} connection{'s' * (connections != 1)} served\n"), it.ended())
 
 
 def accepting():
@@ -271,7 +271,7 @@ def connections():
         with stepped("accept4 3 nobody", f"log of{words}"):
             begun.append((words, count, serve(*words.split(), seconds=100)))
     for words, count, it in begun:
-        office.expect(f"serve{words}: end", (0, f"bsp_office: {count:,} connections served\n"), it.ended())
+        office.expect(f"serve{words}: end", (0, f"bsp_office: {count:,} connection{'s' * (count != 1)} served\n"), it.ended())
         office.expect(f"serve{words}: connections", count, office.logged(f"log of{words}")[0])
 
 

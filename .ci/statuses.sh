@@ -209,12 +209,12 @@ mistakes hotcheck taxed.hot <<'END'
 1s/PROD002/PROD001/|H04 record 8|record 8 (BKS42): it is not allowed here: after the commission comes BKS45, or BKP84 with CA or CC
 1s/PROD002/PROD003/|H04 record 1|record 1 (BFH01), columns 31-37: the production status is not `PROD001` or `PROD002`
 8s/0842/0839/|H04 record 8|record 8 (BKS39): it is not allowed here: after BKS39 comes BKS42
-8s/01900/10001/|H04 record 8|record 8 (BKS42), columns 22-26: the rate of tax on commission is not a number in digits up to 10000
-8s/19{/19-/|H04 record 8|record 8 (BKS42), columns 27-37: the tax on commission is not a signed zoned decimal
+8s/01900/10001/|H04 record 8|record 8 (BKS42), columns 22-26: the rate of tax on commission is not a number in digits up to 10000: 5.00 percent is `00500`
+8s/19{/19-/|H04 record 8|record 8 (BKS42), columns 27-37: the tax on commission is not ten digits and a last character with digit and sign: 200.00 is `0000002000{`, and -200.00 is `0000002000}`
 8s/19{/20{/|H04 record 10|record 10 (BOT93), columns 79-93: the net is 223.10, and the items give 223.00
 10s/19{/18{/|H04 record 10|record 10 (BOT93), columns 94-108: the tax on commission is 1.80, and the items give 1.90
 11s/2231{/2250{/|H04 record 11|record 11 (BOT94), columns 75-89: the net is 225.00, and the items give 223.10
-11s/00000000000019{/               /|H04 record 11|record 11 (BOT94), columns 90-104: the tax on commission is not a signed zoned decimal
+11s/00000000000019{/               /|H04 record 11|record 11 (BOT94), columns 90-104: the tax on commission is not 14 digits and a last character with digit and sign: 200.00 is `00000000002000{`, and -200.00 is `00000000002000}`
 12s/19{/18{/|H04 record 12|record 12 (BCT95), columns 95-109: the tax on commission is 1.80, and the items give 1.90
 13s/19{/18{/|H04 record 13|record 13 (BFT99), columns 93-107: the tax on commission is 1.80, and the items give 1.90
 END
@@ -281,7 +281,12 @@ expect 2 '' "$minus" run --token $token --db -
 expect 2 '' "$minus" audit -
 expect 3 '' '.: it is a directory' run --token-file .
 expect 2 '' "$required" judge v1.ret
-expect 2 '' "$required" plan
+expect 2 '' 'error: plan FILE tries a text, and plan --of BOOK prints the plan of a book: neither is there' plan
+expect 2 '' 'error: plan --of BOOK is alone: it takes no FILE, no --after and no --day' plan --of office.db plan.toml
+expect 2 '' 'error: plan --of BOOK is alone: it takes no FILE, no --after and no --day' plan --of office.db --day 2024-01-05
+expect 2 '' 'error: the file of a book or of a token is not called -' plan --of -
+expect 2 '' 'error: DAY is a day of the calendar, as 2024-01-05' plan --day 2024-02-30 plan.toml
+expect 2 '' 'error: PERIOD is five digits, as 24011' judge --plan a --day 2024-01-05 --agent 12345675 --stock 1300000000-1300000099 --closed 2401 b
 expect 2 '' 'E13 is no code: explain alone lists all' explain E13
 expect 3 '' "missing: $none" plan missing
 expect 3 '' '.: a read failed' plan .
