@@ -1,2 +1,0 @@
--- Why the bodies meet their contracts.
-pub mod ListLemmas
