@@ -578,7 +578,7 @@ def calls():
     net = money(22_500 * count + 5_000)
     office.expect("the statement over rows", True, statement.endswith(f" {net}"))
     office.expect("the settlement over rows", 4, settlement.count(f" {net}\n") + settlement.endswith(f" {net}"))
-    wanted = 0, f"OK records {5 * count + 12} documents {count + 1} net {net}\n".encode(), b""
+    wanted = 0, f"OK records {5 * count + 12} documents {count + 1} net {net}\n".encode(), b"bsp_office: standard input: airline 125, period 24011\n"
     office.expect_end("the HOT file over rows", wanted, [PROGRAM, "hotcheck", "-"], input=f"{hot}\n".encode())
 
 
