@@ -1,5 +1,5 @@
 -- The rows after an instruction and after a file are sound.
-use Rattle.std.proofs.Common.{◌≡◌, ℕ, Bool, true, false, [], Some, Ok, IfOk, Result, Err, None, cond, subst, sym}
+use Rattle.std.proofs.Common.{◌≡◌, ℕ, Bool, true, false, [], Some, Ok, Result, Err, cond, subst, sym}
 use Rattle.bsp_book.specs.Calls.{Meaning}
 use Rattle.bsp_book.specs.declared.fault.BookFault.{BookFault}
 use Rattle.bsp_messages.specs.declared.answer.Answer.{Answer as Message}
@@ -10,13 +10,12 @@ use Rattle.bsp_rows.specs.Sound.{Sound}
 use Rattle.bsp_desk_writes.proofs.ChangeLemmas.{own_file_keeps}
 use Rattle.bsp_desk_writes.proofs.Invariant.{sound_is_kept}
 use Rattle.bsp_desk_writes.proofs.Runs.{sound_kept}
-use Rattle.bsp_desk_writes.specs.Answers.{is_done}
 use Rattle.bsp_desk_writes.specs.Ledger.{agent_of}
 use Rattle.bsp_desk_writes.specs.Requests.{OfficeRequest}
 use Rattle.bsp_desk_writes.specs.Requests.Asked.{ByOffice}
 use Rattle.bsp_desk_writes.specs.Step.{Fits}
 use Rattle.bsp_desk.specs.Instructions.{CommitsOwn, EndsOwn, IsMeant, IsReport, Outcome, Own, own_after}
-use Rattle.bsp_desk.specs.Instructions.Own.{OfAgent, OfOffice}
+use Rattle.bsp_desk.specs.Instructions.Own.{OfOffice}
 use Rattle.bsp_desk.specs.declared.instruction.Instruction.{Instruction}
 use Rattle.bsp_desk.specs.declared.instruction.Instruction.TheVariants.{Publish, SetDay, Register, Allot, Close, Statement}
 use Rattle.bsp_desk.proofs.Fits.{groups_fit}

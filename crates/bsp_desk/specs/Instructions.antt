@@ -1,5 +1,5 @@
 -- What a known caller is answered before it is a text.
-use Rattle.std.specs.Prelude.{◌≡◌, ℕ, true, false, List, Some, None, Ok, Result, IfOk}
+use Rattle.std.specs.Prelude.{◌≡◌, ℕ, List, Some, None, Ok, Result, IfOk}
 use Rattle.bsp_book.specs.Calls.{Faults, Meaning}
 use Rattle.bsp_book.specs.declared.fault.BookFault.{BookFault}
 use Rattle.bsp_messages.specs.declared.answer.Answer.{Answer as Message}

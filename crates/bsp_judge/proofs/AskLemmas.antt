@@ -1,5 +1,5 @@
 -- Lemmas on what a desk is asked in a trial.
-use Rattle.std.proofs.Common.{◌≡◌, ℕ, Bool, true, false, List, Option, Some, None, Result, Ok, Err, ap, cond, refl, subst, sym, ◌∙◌}
+use Rattle.std.proofs.Common.{◌≡◌, ℕ, Bool, true, false, List, Some, None, Result, Ok, Err, ap, cond, refl, subst, sym, ◌∙◌}
 use Rattle.std.specs.Prelude.{not}
 use Rattle.std.specs.Global.{Vec}
 use Rattle.bsp_fields.specs.declared.change.Change.{Change}
@@ -20,13 +20,13 @@ use Rattle.bsp_routes.specs.declared.call.Call.TheVariants as call
 use Rattle.bsp_routes.specs.declared.call.OfficeCall.TheVariants as office
 use Rattle.bsp_desk_writes.proofs.RequestsRead.{each_request_is_read}
 use Rattle.bsp_desk_writes.specs.Answers.{Answer}
-use Rattle.bsp_desk_writes.specs.Answers.Answer.{Changed, Verdicts, Document, InPeriod, Ranges, Memos, Statement, Settlement, Hot, FileFault, Refused}
+use Rattle.bsp_desk_writes.specs.Answers.Answer.{Changed, Verdicts, Refused}
 use Rattle.bsp_desk_writes.specs.Requests.{IsPlanOf, PlanRead}
 use Rattle.bsp_desk_writes.specs.Requests.OfficeRequest.{AllotRange, ClosePeriod, PublishPlan, RegisterAgent, SetBusinessDay}
 use Rattle.bsp_desk_writes.specs.Step.{has_range, is_out_of_order, is_registered, is_token, outcome_answer, plan_answer}
 use Rattle.bsp_desk_writes.specs.Texts.{Says}
 use Rattle.bsp_desk.specs.Instructions.{IsMeant, Own, own_answer}
-use Rattle.bsp_desk.specs.Instructions.Own.{OfAgent, OfOffice}
+use Rattle.bsp_desk.specs.Instructions.Own.{OfOffice}
 use Rattle.bsp_desk.specs.declared.instruction.Instruction.{Instruction}
 use Rattle.bsp_desk.specs.declared.instruction.Instruction.TheVariants as instruction
 use Rattle.bsp_judge.specs.Asked.{Asks, IsPassed, Task}

@@ -2,8 +2,6 @@
 use Rattle.std.specs.Prelude.{◌≡◌, ℕ, List, None, Some, Option, Ok}
 use Rattle.std.specs.Global.{Vec}
 use Rattle.std.specs.List.{FoldsTo}
-use Rattle.bsp_ret.specs.Lines.{lines}
-use Rattle.bsp_ret.specs.Ret.{Ret}
 use Rattle.bsp_rows.specs.Transaction.{Transaction}
 use Rattle.bsp_rules.specs.declared.verdict.Verdict.{Verdict}
 use Rattle.bsp_rows.specs.Rows.{Rows}
@@ -22,7 +20,7 @@ use Rattle.bsp_desk.specs.Instructions.Own.{OfAgent}
 use Rattle.bsp_desk.specs.declared.instruction.Instruction.{Instruction}
 use Rattle.bsp_desk.specs.declared.instruction.Instruction.TheVariants as instruction
 use Rattle.bsp_judge.specs.Asked.{Takes, Task}
-use Rattle.bsp_judge.specs.Asked.Task.{Publish, SetDay, Register, Allot, Close, Report}
+use Rattle.bsp_judge.specs.Asked.Task.{Publish, SetDay, Register, Allot, Close}
 
 -- the rows of a book
 abbrev pub rows_in : ListBook → Rows

@@ -1,11 +1,8 @@
-use Rattle.std.proofs.Common.{refl, ◌∙◌, sym}
-use Rattle.bsp_judge.specs.Asked.{Task, place_of}
-use Rattle.bsp_judge.specs.Steps.{IsFor, rows_in}
-use Rattle.bsp_judge.specs.Unjudged.{IsStopOf}
-use Rattle.bsp_judge.specs.declared.setup.JudgeFault.{JudgeFault}
+use Rattle.std.proofs.Common.{◌∙◌, sym}
+use Rattle.bsp_judge.specs.Steps.{rows_in}
 use Rattle.bsp_desk.specs.Instructions.{own_answer}
 use Rattle.bsp_judge.proofs.AskLemmas.{meant, none_passes, plain, some_refused}
-use Rattle.bsp_judge.proofs.UnjudgedLemmas.{passed_on, refused_stops}
+use Rattle.bsp_judge.proofs.UnjudgedLemmas.{refused_stops}
 use Rattle.bsp_judge.proofs.asking.change.Goals as goal
 
 pub returns-in-None-clause-passed : goal.returns-in-None-clause-passed

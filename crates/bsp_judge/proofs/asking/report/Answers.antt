@@ -1,5 +1,4 @@
-use Rattle.std.proofs.Common.{Ok, List, ap, refl, sym, ◌∙◌}
-use Rattle.bsp_rules.specs.declared.verdict.Verdict.{Verdict}
+use Rattle.std.proofs.Common.{Ok, ap, refl, sym, ◌∙◌}
 use Rattle.bsp_office_spec.proofs.EachIsRead.{groups_read}
 use Rattle.bsp_desk_writes.specs.Answers.Answer.{Verdicts}
 use Rattle.bsp_desk_writes.specs.Ledger.{ledger_of, own_verdicts}

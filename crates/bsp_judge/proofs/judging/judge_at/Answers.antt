@@ -9,7 +9,7 @@ use Rattle.bsp_rules.specs.declared.verdict.Verdict.{Verdict}
 use Rattle.bsp_judge.specs.Judged.{is_taken, net_line, owed, verdict_lines}
 use Rattle.bsp_judge.specs.Steps.{rows_in}
 use Rattle.bsp_judge.specs.Unjudged.{IsShort}
-use Rattle.bsp_judge.specs.declared.setup.JudgeFault.TheVariants.{Memory, NetTooLarge}
+use Rattle.bsp_judge.specs.declared.setup.JudgeFault.TheVariants.{Memory}
 use Rattle.bsp_judge.proofs.JudgeLemmas.{if_said}
 use Rattle.bsp_judge.proofs.UnjudgedLemmas.{passed_on, unless}
 use Rattle.bsp_judge.proofs.judging.judge_at.Goals as goal

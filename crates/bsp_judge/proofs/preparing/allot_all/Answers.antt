@@ -1,4 +1,4 @@
-use Rattle.std.proofs.Common.{ℕ, ◌+◌, length, map, refl, ◌∙◌}
+use Rattle.std.proofs.Common.{◌+◌, length, map, refl}
 use Rattle.bsp_judge.specs.Asked.{Takes, Task}
 use Rattle.bsp_judge.specs.Asked.Task.{Allot}
 use Rattle.bsp_rules.specs.declared.rows.Range.{Range}

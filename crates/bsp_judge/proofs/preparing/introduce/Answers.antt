@@ -1,5 +1,5 @@
-use Rattle.std.proofs.Common.{ℕ, ◌+◌, List, [], ◌∷◌, arith, length, refl, ◌≡◌}
-use Rattle.bsp_judge.specs.Asked.{Takes, Task, caller_tasks}
+use Rattle.std.proofs.Common.{◌+◌, arith, length, refl, ◌≡◌}
+use Rattle.bsp_judge.specs.Asked.{Task, caller_tasks}
 use Rattle.bsp_judge.specs.Asked.Task.{Register, SetDay}
 use Rattle.bsp_judge.specs.Steps.{rows_in}
 use Rattle.bsp_judge.specs.Unjudged.{IsStopIn}

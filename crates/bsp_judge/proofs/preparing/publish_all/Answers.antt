@@ -1,4 +1,4 @@
-use Rattle.std.proofs.Common.{◌≡◌, ◌+◌, arith, ℕ, map, refl, ◌∙◌}
+use Rattle.std.proofs.Common.{◌≡◌, ◌+◌, arith, ℕ, map}
 use Rattle.std.specs.Global.{Vec}
 use Rattle.bsp_judge.specs.Asked.{Takes, Task}
 use Rattle.bsp_judge.specs.Asked.Task.{Publish}

@@ -1,4 +1,4 @@
-use Rattle.std.proofs.Common.{ℕ, ◌+◌, length, map, refl, ◌∙◌}
+use Rattle.std.proofs.Common.{◌+◌, length, map, refl}
 use Rattle.bsp_judge.specs.Asked.{Takes, Task, earlier_task}
 use Rattle.bsp_judge.specs.declared.setup.Earlier.{Earlier}
 use Rattle.bsp_judge.specs.Steps.{rows_in}

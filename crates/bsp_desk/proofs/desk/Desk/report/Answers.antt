@@ -1,5 +1,3 @@
-use Rattle.bsp_rows.specs.Rows.{Rows}
-use Rattle.bsp_rows.specs.Sound.{Sound}
 use Rattle.bsp_desk.specs.Instructions.{IsReport}
 use Rattle.bsp_desk.proofs.InstructionLemmas.{outcome, reported_sound}
 use Rattle.bsp_desk.proofs.desk.Desk.report.Goals as goal
