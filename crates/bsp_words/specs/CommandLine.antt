@@ -39,9 +39,14 @@ wanted_word id = record (new_rule id) { required = true }
 abbrev pub flag_rule : Text → Rule
 flag_rule id = record (new_rule id) { long = Some id; action = Some SetTrue }
 
--- a command with a FILE behind it, and --quiet: check FILE, hotcheck FILE
-abbrev pub file_app : Text → App
-file_app name = with_rule (with_rule (new_app name) (flag_rule (codes "quiet"))) (wanted_word (codes "FILE"))
+-- check FILE, and --quiet
+abbrev pub check_app : App
+check_app = with_rule (with_rule (new_app (codes "check")) (flag_rule (codes "quiet"))) (wanted_word (codes "FILE"))
+
+-- hotcheck FILE, with --quiet and --list
+abbrev pub hotcheck_app : App
+hotcheck_app =
+    with_rule (with_rule (with_rule (new_app (codes "hotcheck")) (flag_rule (codes "quiet"))) (flag_rule (codes "list"))) (wanted_word (codes "FILE"))
 
 -- audit FILE, the file of a book
 abbrev pub audit_app : App
@@ -83,9 +88,10 @@ abbrev pub with_setting : App → App
 with_setting a =
     with_rule (with_rule (with_rule (with_rule a (some_option (codes "plan"))) (needed_option (codes "day"))) (needed_option (codes "agent"))) (some_option (codes "stock"))
 
--- --file EARLIER and --closed PERIOD
+-- --file EARLIER, --closed PERIOD and --statement PERIOD
 abbrev pub with_earlier : App → App
-with_earlier a = with_rule (with_rule a (repeated_option (codes "file"))) (repeated_option (codes "closed"))
+with_earlier a =
+    with_rule (with_rule (with_rule a (repeated_option (codes "file"))) (repeated_option (codes "closed"))) (named_option (codes "statement"))
 
 -- judge FILE, what it is judged over, and what comes before it
 abbrev pub judge_app : App
@@ -130,8 +136,8 @@ needs_subcommand s = record s { has_version = true; subcommand_required = true; 
 -- the commands, in the order of the help
 abbrev pub office_shapes : List Shape
 office_shapes =
-    (file_app (codes "check")).top
-    ∷ (file_app (codes "hotcheck")).top
+    check_app.top
+    ∷ hotcheck_app.top
     ∷ judge_app.top
     ∷ plan_app.top
     ∷ body_app.top
@@ -167,7 +173,7 @@ book_of (kept.File file) = stored_in file.now
 abbrev pub texts_in : List (Bor Text) → List Text
 texts_in = map (λ text. text.now)
 
--- what a file is judged over: the plan texts, the business day, the agent, its ranges, and what comes before
+-- what a file is judged over: the plan texts, the business day, the agent, its ranges, what comes before, and whose statement is printed
 pub record AskedSetting : Type 0 where
   pub plans : List Text
   pub day : CivilDay
@@ -175,6 +181,7 @@ pub record AskedSetting : Type 0 where
   pub stock : List Range
   pub files : List Text
   pub earlier : List Earlier
+  pub statement : Option ℕ
 
 abbrev pub setting_of : Setting → AskedSetting
 setting_of s =
@@ -185,6 +192,7 @@ setting_of s =
       stock = s.stock.items;
       files = texts_in s.files.items;
       earlier = s.earlier.items;
+      statement = s.statement;
     }
 
 -- a command with its values, as texts and numbers
@@ -195,14 +203,14 @@ pub data AskedWork : Type 0 where
   body : Text → Text → AskedWork
   explain : Option Text → AskedWork
   check : Text → Bool → AskedWork
-  hotcheck : Text → Bool → AskedWork
+  hotcheck : Text → Bool → Bool → AskedWork
   audit : Text → AskedWork
   run : AskedToken → AskedBook → AskedWork
   serve : ℕ → AskedToken → AskedBook → ℕ → ℕ → Bool → AskedWork
 
 abbrev pub work_of : Work → AskedWork
 work_of (Check file quiet) = check file.now quiet
-work_of (Hotcheck file quiet) = hotcheck file.now quiet
+work_of (Hotcheck file quiet list) = hotcheck file.now quiet list
 work_of (Judge setting file) = judge (setting_of setting) file.now
 work_of (Plan file published day) = plan file.now (texts_in published.items) day
 work_of (PlanOf book) = plan_of book.now
@@ -221,7 +229,8 @@ abbrev pub check_work : List Row → Option AskedWork
 check_work rows = option_map (λ file. check file (is_set (codes "quiet") rows)) (first_of (codes "FILE") rows)
 
 abbrev pub hotcheck_work : List Row → Option AskedWork
-hotcheck_work rows = option_map (λ file. hotcheck file (is_set (codes "quiet") rows)) (first_of (codes "FILE") rows)
+hotcheck_work rows =
+    option_map (λ file. hotcheck file (is_set (codes "quiet") rows) (is_set (codes "list") rows)) (first_of (codes "FILE") rows)
 
 -- the values of an option that may come more than once
 abbrev pub values_in : Text → List Row → List Text
@@ -302,7 +311,10 @@ lists_of l = record { plans = texts_in l.plans.items; stock = l.stock.items; fil
 abbrev pub setting_from : AskedLists → List Row → Option AskedSetting
 setting_from lists rows =
     option_and_then (λ day.
-    option_map (λ agent. record { plans = lists.plans; day = day; agent = agent; stock = lists.stock; files = lists.files; earlier = lists.earlier })
+    option_and_then (λ agent.
+    option_map (λ statement.
+    record { plans = lists.plans; day = day; agent = agent; stock = lists.stock; files = lists.files; earlier = lists.earlier; statement = statement })
+    (read_if_any period_of (first_of (codes "statement") rows)))
     (option_and_then agent_of (first_of (codes "agent") rows)))
     (option_and_then day_of (first_of (codes "day") rows))
 

@@ -95,8 +95,16 @@ static COMMANDS: [CommandRow; 9] = [
     CommandRow {
         name: "hotcheck",
         about: "Reads a HOT file and prints its totals, or its first record at fault",
-        example: "Example: bsp_office hotcheck 125.hot",
-        arguments: &[QUIET, FILE],
+        example: "Example: bsp_office hotcheck --list 125.hot",
+        arguments: &[
+            QUIET,
+            Argument {
+                id: "list",
+                form: Form::Flag,
+                help: "prints a line for each document and memo, and the totals of each agent, too",
+            },
+            FILE,
+        ],
     },
     CommandRow {
         name: "judge",
@@ -133,6 +141,11 @@ static COMMANDS: [CommandRow; 9] = [
                 id: "closed",
                 form: Form::Repeated("PERIOD"),
                 help: "a period that the office closed after the earlier files before it",
+            },
+            Argument {
+                id: "statement",
+                form: Form::Named("PERIOD"),
+                help: "prints the agent's statement of this period, as if it were closed now, too",
             },
             FILE,
         ],

@@ -2,7 +2,7 @@
 
 ghost use Rattle.std.specs.Prelude.{◌≡◌, IfOk, codes, length, map, option_and_then, option_map};
 ghost use Rattle.clap.specs.Words.{first_of, found_of, rows_of};
-ghost use Rattle.bsp_words.specs.CommandLine.{agent_of, all_read, day_of, earlier_in, first_number, is_range, judge_work, last_number, lists_in, lists_of, period_of, range_of, setting_from, setting_in, setting_of, texts_in, values_in, work_of};
+ghost use Rattle.bsp_words.specs.CommandLine.{agent_of, all_read, day_of, earlier_in, first_number, is_range, judge_work, last_number, lists_in, lists_of, period_of, range_of, read_if_any, setting_from, setting_in, setting_of, texts_in, values_in, work_of};
 
 use crate::order::{in_order, marks_in};
 use crate::plan::day_of;
@@ -106,6 +106,19 @@ fn periods_in(alloc: Global, texts: &[&str]) -> Result<Option<Vec<PeriodCode>>, 
     Ok(Some(periods))
 }
 
+/// The period of the statement, if one is asked for; none where it is out of its form.
+fn statement_given(matches: &ArgMatches<'_>) -> Option<Option<PeriodCode>>
+    ensures { result ≡ read_if_any period_of (first_of (codes "statement") (rows_of (found_of matches.now))) }
+{
+    let Some(text) = value_of(matches, "statement") else {
+        return Some(None);
+    };
+    let Some(period) = period_of(text) else {
+        return None;
+    };
+    Some(Some(period))
+}
+
 /// The agent's ranges.
 fn stock_given(alloc: Global, matches: &ArgMatches<'_>) -> Result<Option<Vec<Range>>, AllocError>
     ensures { IfOk result (λ ranges. option_map (λ r. r.items) ranges
@@ -151,6 +164,9 @@ fn setting_with<'a>(matches: &ArgMatches<'a>, lists: Lists<'a>) -> Option<Settin
     let Some(agent) = agent_given(matches) else {
         return None;
     };
+    let Some(statement) = statement_given(matches) else {
+        return None;
+    };
     let Lists {
         plans,
         stock,
@@ -164,6 +180,7 @@ fn setting_with<'a>(matches: &ArgMatches<'a>, lists: Lists<'a>) -> Option<Settin
         stock,
         files,
         earlier,
+        statement,
     })
 }
 

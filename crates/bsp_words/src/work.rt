@@ -65,6 +65,8 @@ pub struct Setting<'a> {
     pub files: Vec<&'a str>,
     /// These files and `--closed PERIOD`, in the order of the words.
     pub earlier: Vec<Earlier>,
+    /// `--statement PERIOD`: the period of the statement that is printed, if one is.
+    pub statement: Option<PeriodCode>,
 }
 
 /// What the program is asked to do: one variant for each command, with its FILE and its options.
@@ -81,6 +83,8 @@ pub enum Work<'a> {
         file: &'a str,
         /// As of `Check`.
         quiet: bool,
+        /// `--list`: to print a line for each document and memo, too.
+        list: bool,
     },
     /// `judge FILE`: to print the verdicts on a RET file. The FILE `-` is standard input.
     Judge {
@@ -188,7 +192,8 @@ fn hotcheck_given<'a>(matches: &ArgMatches<'a>) -> Option<Work<'a>>
         return None;
     };
     let quiet = flag_given(matches, "quiet");
-    Some(Work::Hotcheck { file, quiet })
+    let list = flag_given(matches, "list");
+    Some(Work::Hotcheck { file, quiet, list })
 }
 
 fn explain_given<'a>(matches: &ArgMatches<'a>) -> Option<Work<'a>>
