@@ -87,7 +87,7 @@ CONNECTIONS = {
 }
 INPUTS = {"check": "v1.ret", "hotcheck": "v3.hot"}
 CUT = {"check": "record 2: the file ends without a trailer: write `Z0000002000000000000000000000{`",
-       "hotcheck": "record 2: the file ends before its last record BFT99: after BFH01 comes BCH02: fetch it again"}
+       "hotcheck": "record 2: the file ends before its last record BFT99: after BFH01 comes BCH02: fetch the file again; if it stays so, ask the office"}
 PASSED = {"check": "", "hotcheck": "airline 220, period 24012"}
 REPORTS = {"check": SALE, "hotcheck": NO_DOCUMENTS}
 

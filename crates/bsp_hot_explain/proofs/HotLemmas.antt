@@ -71,7 +71,7 @@ form_is text =
       | inr not_first ↦ rw not_first (elim (cases_Bool (bytes_eq text (codes "PROD002"))) [ inl second ↦ rw second refl | inr neither ↦ rw neither refl ])
     ]
 
--- what comes behind the net
+-- what comes after the net
 rest_is : (file_form : FileForm) (line : List ℕ) (first : ℕ) → rest_fits file_form first line ≡ all_fit line (rest_fields file_form first)
 unfolding all_fit fits rest_fits
 rest_is One line first = sym (and-true (list_all is_space (columns first 136 line)))

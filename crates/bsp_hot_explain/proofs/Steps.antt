@@ -42,9 +42,9 @@ six_tests true true true true true false = refl
 six_tests true true true true false true = refl
 six_tests true true true true false false = refl
 
-totals_are : (first : ℕ) (t : Totals) (s : Sums) → has_totals s t ≡ all_same (totals_comparisons first t s)
+totals_are : (items : Option DocumentCode) (first : ℕ) (t : Totals) (s : Sums) → has_totals s t ≡ all_same (totals_comparisons items first t s)
 unfolding has_totals are_same all_same
-totals_are first t s =
+totals_are items first t s =
     six_tests (t.sums.documents == s.documents) (int_eq t.sums.cash s.cash) (int_eq t.sums.credit s.credit) (int_eq t.sums.commission s.commission) (int_eq t.sums.tax s.tax) (int_eq t.net (net_of s))
 
 -- ---- each record
@@ -172,42 +172,42 @@ last_true true = refl
 last_true false = refl
 
 code_steps : (next : Option DocumentCode) (office : Option ℕ) (agent : ℕ) (code : DocumentCode) (t : Totals) (s : Sums) → (is_next next code && is_agent office agent && has_totals s t)
-    ≡ ((is_some next && is_some office) && (all_same ((comparison 14 21 name.Agent (value.Agent agent) (value.Agent (agent_or office agent)) ∷ comparison 22 25 name.DocumentCode (value.Code code) (value.Code (code_or next code)) ∷ []) ++ totals_comparisons 26 t s) && true))
+    ≡ ((is_some next && is_some office) && (all_same ((comparison 14 21 name.Agent (value.Agent agent) (value.Agent (agent_or office agent)) ∷ comparison 22 25 name.DocumentCode (value.Code code) (value.Code (code_or next code)) ∷ []) ++ totals_comparisons (Some code) 26 t s) && true))
 unfolding all_same
 code_steps None office agent code t s = refl
 code_steps (Some c) None agent code t s = ap (λ b. b && has_totals s t) (and_false (is_code c code))
 code_steps (Some c) (Some x) agent code t s =
     code_tests (is_code c code) (agent == x) (has_totals s t)
-    ∙ ap (λ (h : Bool). (agent == x) && (is_code c code && h)) (totals_are 26 t s)
-    ∙ last_true ((agent == x) && (is_code c code && all_same (totals_comparisons 26 t s)))
+    ∙ ap (λ (h : Bool). (agent == x) && (is_code c code && h)) (totals_are (Some code) 26 t s)
+    ∙ last_true ((agent == x) && (is_code c code && all_same (totals_comparisons (Some code) 26 t s)))
 
 office_total_steps : (p q : Bool) (office : Option ℕ) (agent : ℕ) (t : Totals) (s : Sums) → (p && q && is_agent office agent && has_totals s t)
-    ≡ ((p && q && is_some office) && (all_same ((comparison 14 21 name.Agent (value.Agent agent) (value.Agent (agent_or office agent)) ∷ []) ++ totals_comparisons 22 t s) && true))
+    ≡ ((p && q && is_some office) && (all_same ((comparison 14 21 name.Agent (value.Agent agent) (value.Agent (agent_or office agent)) ∷ []) ++ totals_comparisons None 22 t s) && true))
 unfolding all_same
 office_total_steps false q office agent t s = refl
 office_total_steps true false office agent t s = refl
 office_total_steps true true None agent t s = refl
-office_total_steps true true (Some x) agent t s = rw (totals_are 22 t s) (last_true _)
+office_total_steps true true (Some x) agent t s = rw (totals_are None 22 t s) (last_true _)
 
 period_total_steps : (p : Bool) (heading : Option Heading) (period offices count : ℕ) (t : Totals) (s : Sums) → (p && is_period heading period && (offices == count) && has_totals s t)
-    ≡ ((p && is_some heading) && (all_same ((comparison 14 18 name.Period (value.Period period) (value.Period (period_or heading period)) ∷ comparison 19 26 name.Offices (value.Count offices) (value.Count count) ∷ []) ++ totals_comparisons 27 t s) && true))
+    ≡ ((p && is_some heading) && (all_same ((comparison 14 18 name.Period (value.Period period) (value.Period (period_or heading period)) ∷ comparison 19 26 name.Offices (value.Count offices) (value.Count count) ∷ []) ++ totals_comparisons None 27 t s) && true))
 unfolding all_same
 period_total_steps false heading period offices count t s = refl
 period_total_steps true None period offices count t s = refl
 period_total_steps true (Some h) period offices count t s =
-    ap (λ (b : Bool). (period == h.period) && (offices == count) && b) (totals_are 27 t s)
-    ∙ and_assoc (period == h.period) (offices == count) (all_same (totals_comparisons 27 t s))
-    ∙ last_true ((period == h.period) && ((offices == count) && all_same (totals_comparisons 27 t s)))
+    ap (λ (b : Bool). (period == h.period) && (offices == count) && b) (totals_are None 27 t s)
+    ∙ and_assoc (period == h.period) (offices == count) (all_same (totals_comparisons None 27 t s))
+    ∙ last_true ((period == h.period) && ((offices == count) && all_same (totals_comparisons None 27 t s)))
 
 file_total_steps : (p : Bool) (heading : Option Heading) (airline records count : ℕ) (t : Totals) (s : Sums) → (p && is_airline heading airline && (records == count) && has_totals s t)
-    ≡ ((p && is_some heading) && (all_same ((comparison 14 16 name.Airline (value.Airline airline) (value.Airline (airline_or heading airline)) ∷ comparison 17 24 name.RecordCount (value.Count records) (value.Count count) ∷ []) ++ totals_comparisons 25 t s) && true))
+    ≡ ((p && is_some heading) && (all_same ((comparison 14 16 name.Airline (value.Airline airline) (value.Airline (airline_or heading airline)) ∷ comparison 17 24 name.RecordCount (value.Count records) (value.Count count) ∷ []) ++ totals_comparisons None 25 t s) && true))
 unfolding all_same
 file_total_steps false heading airline records count t s = refl
 file_total_steps true None airline records count t s = refl
 file_total_steps true (Some h) airline records count t s =
-    ap (λ (b : Bool). (airline == h.airline) && (records == count) && b) (totals_are 25 t s)
-    ∙ and_assoc (airline == h.airline) (records == count) (all_same (totals_comparisons 25 t s))
-    ∙ last_true ((airline == h.airline) && ((records == count) && all_same (totals_comparisons 25 t s)))
+    ap (λ (b : Bool). (airline == h.airline) && (records == count) && b) (totals_are None 25 t s)
+    ∙ and_assoc (airline == h.airline) (records == count) (all_same (totals_comparisons None 25 t s))
+    ∙ last_true ((airline == h.airline) && ((records == count) && all_same (totals_comparisons None 25 t s)))
 
 -- ---- all records
 

@@ -1,5 +1,5 @@
 -- What a record of a HOT file says beside what those before it give, column by column.
-use Rattle.std.specs.Prelude.{ℕ, ◌+◌, ◌==◌, Bool, false, true, not, ◌&&◌, List, [], ◌∷◌, ◌++◌, Option, Some, None, is_some, is_none}
+use Rattle.std.specs.Prelude.{ℕ, ℤ, ◌+◌, ◌==◌, Bool, false, true, not, ◌&&◌, List, [], ◌∷◌, ◌++◌, Option, Some, None, is_some, is_none}
 use Rattle.std.specs.List.{list_all, find}
 use Rattle.std.specs.Ordering.{int_eq}
 use Rattle.std.specs.Str.{bytes_eq}
@@ -44,8 +44,11 @@ all_same comparisons = list_all is_same comparisons
 unfoldable pub first_differing : List Comparison → Option Comparison
 first_differing comparisons = find (λ c. not (is_same c)) comparisons
 
+abbrev pub comparison_of : Option DocumentCode → ℕ → ℕ → Name → Value → Value → Comparison
+comparison_of items first last what stated given = record { first = first; last = last; name = what; stated = stated; given = given; items = items }
+
 abbrev pub comparison : ℕ → ℕ → Name → Value → Value → Comparison
-comparison first last what stated given = record { first = first; last = last; name = what; stated = stated; given = given }
+comparison first last what stated given = comparison_of None first last what stated given
 
 -- what the records before give, and of what they do not give the record's own
 abbrev pub airline_or : Option Heading → ℕ → ℕ
@@ -68,18 +71,22 @@ abbrev pub code_or : Option DocumentCode → DocumentCode → DocumentCode
 code_or None code = code
 code_or (Some c) code = c
 
+-- an amount in the 15 columns from a first one on, of all items, or of those of one code
+abbrev pub amount_comparison : Option DocumentCode → ℕ → Name → ℤ → ℤ → Comparison
+amount_comparison items first what stated given = comparison_of items first (first + 14) what (value.Amount stated) (value.Amount given)
+
 -- the number of documents, cash, credit, commission, net and tax on commission, from a first column on
-abbrev pub totals_comparisons : ℕ → Totals → Sums → List Comparison
-totals_comparisons first t s =
-    comparison first (first + 7) name.Documents (value.Count t.sums.documents) (value.Count s.documents)
-    ∷ comparison (first + 8) (first + 22) name.Cash (value.Amount t.sums.cash) (value.Amount s.cash)
-    ∷ comparison (first + 23) (first + 37) name.Credit (value.Amount t.sums.credit) (value.Amount s.credit)
-    ∷ comparison (first + 38) (first + 52) name.Commission (value.Amount t.sums.commission) (value.Amount s.commission)
-    ∷ comparison (first + 53) (first + 67) name.Net (value.Amount t.net) (value.Amount (net_of s))
-    ∷ comparison (first + 68) (first + 82) name.CommissionTax (value.Amount t.sums.tax) (value.Amount s.tax)
+abbrev pub totals_comparisons : Option DocumentCode → ℕ → Totals → Sums → List Comparison
+totals_comparisons items first t s =
+    comparison_of items first (first + 7) name.Documents (value.Count t.sums.documents) (value.Count s.documents)
+    ∷ amount_comparison items (first + 8) name.Cash t.sums.cash s.cash
+    ∷ amount_comparison items (first + 23) name.Credit t.sums.credit s.credit
+    ∷ amount_comparison items (first + 38) name.Commission t.sums.commission s.commission
+    ∷ amount_comparison items (first + 53) name.Net t.net (net_of s)
+    ∷ amount_comparison items (first + 68) name.CommissionTax t.sums.tax s.tax
     ∷ []
 
--- of a record behind BKS24
+-- of a record after BKS24
 abbrev pub part_comparisons : Standing → PartOf → List Comparison
 part_comparisons at y = comparison 14 21 name.TransactionNumber (value.Transaction y.transaction) (value.Transaction at.transactions) ∷ []
 
@@ -109,18 +116,18 @@ comparisons at (record_is.PartOf y) = part_comparisons at y ++ related_compariso
 comparisons at (record_is.CodeTotals t) =
     (comparison 14 21 name.Agent (value.Agent t.agent) (value.Agent (agent_or at.agent t.agent))
     ∷ comparison 22 25 name.DocumentCode (value.Code t.code) (value.Code (code_or (next_code at.office.codes at.place) t.code))
-    ∷ []) ++ totals_comparisons 26 t.totals (sums_at at.office.codes t.code)
+    ∷ []) ++ totals_comparisons (Some t.code) 26 t.totals (sums_at at.office.codes t.code)
 comparisons at (record_is.OfficeTotals t) =
     (comparison 14 21 name.Agent (value.Agent t.agent) (value.Agent (agent_or at.agent t.agent)) ∷ [])
-    ++ totals_comparisons 22 t.totals at.office.all
+    ++ totals_comparisons None 22 t.totals at.office.all
 comparisons at (record_is.PeriodTotals t) =
     (comparison 14 18 name.Period (value.Period t.period) (value.Period (period_or at.heading t.period))
     ∷ comparison 19 26 name.Offices (value.Count t.offices) (value.Count at.offices)
-    ∷ []) ++ totals_comparisons 27 t.totals at.file
+    ∷ []) ++ totals_comparisons None 27 t.totals at.file
 comparisons at (record_is.FileTotals t) =
     (comparison 14 16 name.Airline (value.Airline t.airline) (value.Airline (airline_or at.heading t.airline))
     ∷ comparison 17 24 name.RecordCount (value.Count t.records) (value.Count (at.records + 1))
-    ∷ []) ++ totals_comparisons 25 t.totals at.file
+    ∷ []) ++ totals_comparisons None 25 t.totals at.file
 
 -- a further record of a document, whatever the airline of a related document
 abbrev pub part_in_place : Place → Option Heading → Part → Bool

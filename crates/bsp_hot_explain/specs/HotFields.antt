@@ -36,13 +36,13 @@ payment_fields line =
     ∷ field 37 136 form.Spaces name.Unused
     ∷ []
 
--- behind the net, from a first column on: the tax on commission in form 2, and spaces
+-- after the net, from a first column on: the tax on commission in form 2, and spaces
 abbrev pub rest_fields : FileForm → ℕ → List Field
 rest_fields One first = field first 136 form.Spaces name.Unused ∷ []
 rest_fields Two first =
     field first (first + 14) form.Total name.CommissionTax ∷ field (first + 15) 136 form.Spaces name.Unused ∷ []
 
--- documents, cash, credit, commission and net, from a first column on, and what comes behind them
+-- documents, cash, credit, commission and net, from a first column on, and what comes after them
 abbrev pub totals_fields : FileForm → ℕ → List Field
 totals_fields file_form first =
     field first (first + 7) form.Digits name.Documents

@@ -23,6 +23,7 @@ macro_rules! comparison {
             name: Name::$name,
             stated: Value::$value($stated),
             given: Value::$value($given),
+            items: None,
         }
     };
 }
@@ -77,49 +78,55 @@ fn code_or(next: Option<DocumentCode>, code: DocumentCode) -> DocumentCode
     }
 }
 
-/// The first total, from that column on, that differs from these sums.
-fn total_differing(first: u8, totals: Totals, sums: Sums) -> Option<Comparison>
+/// An amount in the 15 columns from that one on, and what all items, or those of that code, add up to.
+macro_rules! amount {
+    ($items:expr, $first:expr, $name:ident, $stated:expr, $given:expr) => {
+        Comparison {
+            first: $first,
+            last: $first + 14,
+            name: Name::$name,
+            stated: Value::Amount($stated),
+            given: Value::Amount($given),
+            items: $items,
+        }
+    };
+}
+
+/// The first total, from that column on, that differs from these sums of all items, or of those of that
+/// code.
+fn total_differing(
+    items: Option<DocumentCode>,
+    first: u8,
+    totals: Totals,
+    sums: Sums,
+) -> Option<Comparison>
     requires to { first ≤ 54 }
     requires small { AreSmall (2 ^ 63) sums }
-    ensures { result ≡ first_differing (totals_comparisons first totals sums) }
+    ensures { result ≡ first_differing (totals_comparisons items first totals sums) }
 {
     let stated = totals.sums;
     let net = sums.net();
+    let documents = Comparison {
+        first,
+        last: first + 7,
+        name: Name::Documents,
+        stated: Value::Count(stated.documents),
+        given: Value::Count(sums.documents),
+        items,
+    };
     first_differing(&[
-        comparison!(
-            first,
-            first + 7,
-            Documents,
-            Count,
-            stated.documents,
-            sums.documents
-        ),
-        comparison!(first + 8, first + 22, Cash, Amount, stated.cash, sums.cash),
-        comparison!(
-            first + 23,
-            first + 37,
-            Credit,
-            Amount,
-            stated.credit,
-            sums.credit
-        ),
-        comparison!(
+        documents,
+        amount!(items, first + 8, Cash, stated.cash, sums.cash),
+        amount!(items, first + 23, Credit, stated.credit, sums.credit),
+        amount!(
+            items,
             first + 38,
-            first + 52,
             Commission,
-            Amount,
             stated.commission,
             sums.commission
         ),
-        comparison!(first + 53, first + 67, Net, Amount, totals.net, net),
-        comparison!(
-            first + 68,
-            first + 82,
-            CommissionTax,
-            Amount,
-            stated.tax,
-            sums.tax
-        ),
+        amount!(items, first + 53, Net, totals.net, net),
+        amount!(items, first + 68, CommissionTax, stated.tax, sums.tax),
     ])
 }
 
@@ -195,7 +202,7 @@ fn document_differing(at: &Standing, document: Document) -> Option<Comparison>
     ])
 }
 
-/// Of a record behind BKS24.
+/// Of a record after BKS24.
 #[tactic(auto, using(crate::proofs::Differing::first_of_two))]
 fn part_differing(at: &Standing, next: PartOf) -> Option<Comparison>
     ensures { result ≡ first_differing (comparisons at.now (Record.PartOf next)) }
@@ -226,7 +233,12 @@ fn code_totals_differing(at: &Standing, next: &CodeTotals) -> Option<Comparison>
         comparison!(14, 21, Agent, Agent, next.agent, agent),
         comparison!(22, 25, DocumentCode, Code, next.code, code),
     ]);
-    let total = total_differing(26, next.totals, at.office.codes.of(next.code));
+    let total = total_differing(
+        Some(next.code),
+        26,
+        next.totals,
+        at.office.codes.of(next.code),
+    );
     head.or(total)
 }
 
@@ -239,7 +251,7 @@ fn office_totals_differing(at: &Standing, next: &OfficeTotals) -> Option<Compari
 {
     let agent = agent_or(at.agent, next.agent);
     let head = first_differing(&[comparison!(14, 21, Agent, Agent, next.agent, agent)]);
-    let total = total_differing(22, next.totals, at.office.all);
+    let total = total_differing(None, 22, next.totals, at.office.all);
     head.or(total)
 }
 
@@ -255,7 +267,7 @@ fn period_totals_differing(at: &Standing, next: &PeriodTotals) -> Option<Compari
         comparison!(14, 18, Period, Period, next.period, period),
         comparison!(19, 26, Offices, Count, next.offices, at.offices),
     ]);
-    let total = total_differing(27, next.totals, at.file);
+    let total = total_differing(None, 27, next.totals, at.file);
     head.or(total)
 }
 
@@ -271,17 +283,17 @@ fn file_totals_differing(at: &Standing, next: &FileTotals) -> Option<Comparison>
         comparison!(14, 16, Airline, Airline, next.airline, airline),
         comparison!(17, 24, RecordCount, Count, next.records, at.records + 1),
     ]);
-    let total = total_differing(25, next.totals, at.file);
+    let total = total_differing(None, 25, next.totals, at.file);
     head.or(total)
 }
 
 /// The first column of a record that differs from what the records before it give.
-pub(crate) fn differing(at: &Standing, record: &Record) -> Option<Comparison>
+pub(crate) fn differing(at: &Standing, found: &Record) -> Option<Comparison>
     requires small { IsSmall at.now }
     requires room { at.now.records < 2 ^ 63 }
-    ensures { result ≡ first_differing (comparisons at.now record.now) }
+    ensures { result ≡ first_differing (comparisons at.now found.now) }
 {
-    match record {
+    match found {
         Record::FileHeader(_) => first_differing(&[]),
         Record::PeriodHeader(period) => period_differing(at, *period),
         Record::OfficeHeader(office) => office_differing(at, *office),

@@ -44,6 +44,8 @@ pub struct Comparison {
     pub stated: Value,
     /// What the records before it give.
     pub given: Value,
+    /// The code of the items that they come from, where it is one code alone: of a total of BOT93.
+    pub items: Option<DocumentCode>,
 }
 
 /// Whether a value is an airline, and this one.

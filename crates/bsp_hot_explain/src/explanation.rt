@@ -21,8 +21,8 @@ use bsp_hot_records::RecordName;
 use bsp_records::first_line;
 use std::fmt;
 
-/// What is wrong with a record of a HOT file. It is displayed as `record 16 (BOT93), columns 34-48: CA
-/// is 286.00, and the items give 285.00`.
+/// What is wrong with a record of a HOT file. It is displayed as `record 16 (BOT94), columns 30-44: CA
+/// is 0.00, and the items give 285.00`, and after that what to do.
 #[derive(Clone, Copy)]
 pub struct HotExplanation {
     /// The number of the record, counted from 1.

@@ -178,7 +178,7 @@ fn payment_field(line: &[u8]) -> Option<Field>
     )
 }
 
-/// The first field behind the net of totals, from that column on: in form 2 the tax on commission, and
+/// The first field after the net of totals, from that column on: in form 2 the tax on commission, and
 /// then columns that no field uses.
 fn rest_field(form: FileForm, line: &[u8], first: u8) -> Option<Field>
     requires wide { length line.now ≡ 136 }
@@ -192,31 +192,31 @@ fn rest_field(form: FileForm, line: &[u8], first: u8) -> Option<Field>
         FileForm::One => first_unfit(line, &[field!(first, 136, Form::Spaces, Name::Unused)]),
         FileForm::Two => {
             let last = first + 14;
-            let behind = first + 15;
+            let after = first + 15;
             first_unfit(
                 line,
                 &[
                     field!(first, last, Form::Total, Name::CommissionTax),
-                    field!(behind, 136, Form::Spaces, Name::Unused),
+                    field!(after, 136, Form::Spaces, Name::Unused),
                 ],
             )
         }
     }
 }
 
-/// The first field of totals: of these up to the net, and of those behind it from that column on.
+/// The first field of totals: of these up to the net, and of those after it from that column on.
 #[tactic(auto, using(bsp_explain::proofs::Finding::first_of_two))]
-fn totals_field(form: FileForm, line: &[u8], fields: &[Field], behind: u8) -> Option<Field>
+fn totals_field(form: FileForm, line: &[u8], fields: &[Field], after: u8) -> Option<Field>
     requires wide { length line.now ≡ 136 }
     requires inside { list_all is_inside fields.now ≡ true }
-    requires from { 1 ≤ behind }
-    requires to { behind ≤ 121 }
-    ensures first { result ≡ first_unfit line.now (fields.now ++ rest_fields form behind) }
-    ensures none { IfNone result (all_fit line.now (fields.now ++ rest_fields form behind) ≡ true) }
-    ensures some { IfSome result (λ field. IsAtFault line.now field × (all_fit line.now (fields.now ++ rest_fields form behind) ≡ false)) }
+    requires from { 1 ≤ after }
+    requires to { after ≤ 121 }
+    ensures first { result ≡ first_unfit line.now (fields.now ++ rest_fields form after) }
+    ensures none { IfNone result (all_fit line.now (fields.now ++ rest_fields form after) ≡ true) }
+    ensures some { IfSome result (λ field. IsAtFault line.now field × (all_fit line.now (fields.now ++ rest_fields form after) ≡ false)) }
 {
     let total = first_unfit(line, fields);
-    let rest = rest_field(form, line, behind);
+    let rest = rest_field(form, line, after);
     total.or(rest)
 }
 

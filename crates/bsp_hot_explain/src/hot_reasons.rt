@@ -107,8 +107,8 @@ fn form_at(heading: Option<Heading>) -> FileForm
 }
 
 /// What does not come after what, where a record does not come after the one before it.
-fn disorder(at: &Standing, record: &Record) -> Disorder {
-    match (record, at.agent, at.office.latest) {
+fn disorder(at: &Standing, found: &Record) -> Disorder {
+    match (found, at.agent, at.office.latest) {
         (Record::OfficeHeader(office), Some(before), _) => Disorder::Agents(office.agent, before),
         (Record::Document(document), _, Some(before)) => {
             let key = DocumentKey {
@@ -123,21 +123,21 @@ fn disorder(at: &Standing, record: &Record) -> Disorder {
 
 /// Why a record is not allowed after those before it. `None` where it is.
 #[tactic(auto, using(crate::proofs::Steps::out_of_place, crate::proofs::Steps::differing_stops, crate::proofs::Steps::out_of_order, crate::proofs::Steps::allowed_steps))]
-fn step_reason(at: &Standing, record: &Record) -> Option<HotReason>
+fn step_reason(at: &Standing, found: &Record) -> Option<HotReason>
     requires small { IsSmall at.now }
     requires room { at.now.records < 2 ^ 63 }
-    ensures says { IfSome result (SaysOfStep at.now record.now) }
-    ensures refused { IfSome result (λ reason. step at.now record.now ≡ None) }
-    ensures none { IfNone result (IsSome (step at.now record.now)) }
+    ensures says { IfSome result (SaysOfStep at.now found.now) }
+    ensures refused { IfSome result (λ reason. step at.now found.now ≡ None) }
+    ensures none { IfNone result (IsSome (step at.now found.now)) }
 {
-    if !is_in_place(at, record) {
+    if !is_in_place(at, found) {
         return Some(HotReason::Place(Expected::of(at)));
     }
-    if let Some(comparison) = differing(at, record) {
+    if let Some(comparison) = differing(at, found) {
         return Some(HotReason::Differs(comparison));
     }
-    if !is_in_order(at, record) {
-        return Some(HotReason::Order(disorder(at, record)));
+    if !is_in_order(at, found) {
+        return Some(HotReason::Order(disorder(at, found)));
     }
     None
 }

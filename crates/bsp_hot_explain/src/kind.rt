@@ -10,6 +10,8 @@ pub enum Kind {
     Empty,
     /// A RET file.
     Ret,
+    /// A web page.
+    Page,
     /// What the office says where it refuses a call: a code and what it means.
     Refusal([u8; 3]),
     /// Another text.
@@ -50,7 +52,18 @@ fn is_ret_header(line: &[u8]) -> bool {
     line.len() >= 30 && line[0] == b'1' && &line[23..27] == b"PROD".as_slice()
 }
 
+/// Whether a line begins as a web page does.
+fn begins_page(line: &[u8]) -> bool {
+    line.len() >= 5
+        && (line[..5].eq_ignore_ascii_case(b"<html") || line[..5].eq_ignore_ascii_case(b"<!doc"))
+}
+
 impl Kind {
+    /// Whether the text may be a HOT file that was damaged.
+    pub(crate) fn is_damage(self) -> bool {
+        matches!(self, Kind::Empty | Kind::Other { .. })
+    }
+
     /// What a text seems to be that does not begin as a HOT file.
     pub(crate) fn of(text: &[u8]) -> Kind {
         if text.is_empty() {
@@ -59,6 +72,9 @@ impl Kind {
         let line = first_line(text).0;
         if is_ret_header(line) {
             return Kind::Ret;
+        }
+        if begins_page(line) {
+            return Kind::Page;
         }
         match refusal_of(text) {
             Some(code) => Kind::Refusal(code),
@@ -74,9 +90,14 @@ impl Kind {
 fn write_refusal<W: fmt::Write>(f: &mut fmt::Formatter<W>, code: [u8; 3]) -> fmt::Result {
     let [a, b, c] = code;
     let (a, b, c) = (a as char, b as char, c as char);
+    let meaning = if code.as_slice() == b"H02".as_slice() {
+        ": the period is not published or not closed; ask again after the office has closed it"
+    } else {
+        ""
+    };
     write!(
         f,
-        "this is no HOT file, but a refusal of the office: {a}{b}{c} (`bsp_office explain {a}{b}{c}`)"
+        "this is no HOT file, but a refusal of the office: {a}{b}{c}{meaning} (`bsp_office explain {a}{b}{c}`)"
     )
 }
 
@@ -100,6 +121,9 @@ impl fmt::Display for Kind {
         match *self {
             Kind::Empty => f.write_str("the file is empty"),
             Kind::Ret => f.write_str("this is no HOT file, but a RET file: `check` reads it"),
+            Kind::Page => f.write_str(
+                "this is no HOT file, but a web page that was saved in its place: check the address and fetch it again",
+            ),
             Kind::Refusal(code) => write_refusal(f, code),
             Kind::Other { first, count } => write_other(f, first, count),
         }

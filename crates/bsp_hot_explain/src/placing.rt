@@ -21,12 +21,12 @@ fn part_in_place(place: Place, heading: Option<Heading>, part: Part) -> bool
 }
 
 /// Whether a record of this name may come here.
-pub(crate) fn is_in_place(at: &Standing, record: &Record) -> bool
-    ensures { result ≡ is_in_place at.now record.now }
+pub(crate) fn is_in_place(at: &Standing, found: &Record) -> bool
+    ensures { result ≡ is_in_place at.now found.now }
 {
     let headed = at.heading.is_some();
     let opened = at.agent.is_some();
-    match record {
+    match found {
         Record::FileHeader(_) => matches!(at.place, Place::Start),
         Record::PeriodHeader(_) => matches!(at.place, Place::Headed) && headed,
         Record::OfficeHeader(_) => matches!(at.place, Place::Between) && headed,
@@ -63,10 +63,10 @@ fn is_key_after(before: Option<DocumentKey>, key: &DocumentKey) -> bool
 }
 
 /// Whether an office's agent, or a document, comes after the one before it.
-pub(crate) fn is_in_order(at: &Standing, record: &Record) -> bool
-    ensures { result ≡ is_in_order at.now record.now }
+pub(crate) fn is_in_order(at: &Standing, found: &Record) -> bool
+    ensures { result ≡ is_in_order at.now found.now }
 {
-    match record {
+    match found {
         Record::OfficeHeader(office) => is_agent_after(at.agent, office.agent),
         Record::Document(document) => {
             let key = DocumentKey {

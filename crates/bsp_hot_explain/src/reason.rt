@@ -3,11 +3,14 @@
 use crate::comparison::{Comparison, Value, write_code};
 use crate::kind::Kind;
 use crate::next::Expected;
-use bsp_explain::{Name, Reason};
+use bsp_explain::{Cause, Name, Reason};
 use bsp_fields::write_digits;
 use bsp_hot_check::DocumentKey;
 use bsp_hot_records::AgentDigits;
 use std::fmt;
+
+/// What to do with a file that was damaged: an airline writes none itself.
+const DAMAGED: &str = ": fetch the file again; if it stays so, ask the office";
 
 /// Why a line has fewer characters than a record. It is for people.
 #[derive(Clone, Copy)]
@@ -80,6 +83,15 @@ impl HotReason {
             _ => None,
         }
     }
+
+    /// Whether it may be a fault of a HOT file that was damaged. Of another text it is displayed what to do.
+    fn is_damage(self) -> bool {
+        match self {
+            HotReason::Foreign(kind) => kind.is_damage(),
+            HotReason::NotFound => false,
+            _ => true,
+        }
+    }
 }
 
 /// What columns with that value are called.
@@ -133,6 +145,11 @@ fn write_difference<W: fmt::Write>(
 ) -> fmt::Result {
     let noun = noun(comparison.name);
     let (stated, given) = (comparison.stated, comparison.given);
+    if let (Value::Amount(_), Some(code)) = (stated, comparison.items) {
+        write!(f, "{noun} is {stated}, and the items of ")?;
+        write_code(f, code)?;
+        return write!(f, " give {given}");
+    }
     match (stated, given) {
         (Value::Count(stated), Value::Count(given)) => write_count(
             f,
@@ -194,21 +211,65 @@ fn write_sequence<W: fmt::Write>(
     write!(f, ", and not {next:08}: {cause}")
 }
 
-impl fmt::Display for HotReason {
-    fn fmt<W: fmt::Write>(&self, f: &mut fmt::Formatter<W>) -> fmt::Result {
-        match *self {
-            HotReason::Form(reason) => reason.fmt(f),
-            HotReason::Short { width, shortness } => match shortness {
-                Shortness::Cut => write!(
-                    f,
-                    "the file ends in it, after {width} of 136 characters: fetch it again"
-                ),
-                Shortness::Trimmed => write!(
-                    f,
-                    "it has {width} characters, and not 136: spaces at its end are missing: fetch the file again"
-                ),
-            },
-            HotReason::Foreign(kind) => kind.fmt(f),
+/// What people read of a line of another width, or with another character, that they did not write.
+fn cause_text(cause: Cause) -> &'static str {
+    match cause {
+        Cause::Unknown => "",
+        Cause::Mark => ": it begins with a byte order mark",
+        Cause::Utf16 => ": the file is in UTF-16",
+        Cause::Wide | Cause::Accent => ": it has a letter with an accent",
+        Cause::Tab => ": it has a tab",
+        Cause::Return => ": the lines end by CR alone",
+        Cause::Joined => ": several records are in one line",
+    }
+}
+
+/// Writes what is wrong with the form of a line that people did not write.
+fn write_form<W: fmt::Write>(f: &mut fmt::Formatter<W>, reason: Reason) -> fmt::Result {
+    match reason {
+        Reason::Width { width: 0, .. } => f.write_str("it is an empty line"),
+        Reason::Width { width, cause } => {
+            write!(
+                f,
+                "it has {width} characters, and not 136{}",
+                cause_text(cause)
+            )
+        }
+        Reason::Character {
+            character,
+            cause,
+            ..
+        } => write!(
+            f,
+            "the character {character:#04x} is outside 0x20 to 0x7e{}",
+            cause_text(cause)
+        ),
+        _ => write!(f, "{reason}"),
+    }
+}
+
+/// Writes why a line has fewer characters than a record.
+fn write_shortness<W: fmt::Write>(
+    f: &mut fmt::Formatter<W>,
+    width: usize,
+    shortness: Shortness,
+) -> fmt::Result {
+    match shortness {
+        Shortness::Cut => write!(f, "the file ends in it, after {width} of 136 characters"),
+        Shortness::Trimmed => write!(
+            f,
+            "it has {width} characters, and not 136: spaces at its end are missing"
+        ),
+    }
+}
+
+impl HotReason {
+    /// Writes the fault, without what to do.
+    fn write_fault<W: fmt::Write>(self, f: &mut fmt::Formatter<W>) -> fmt::Result {
+        match self {
+            HotReason::Form(reason) => write_form(f, reason),
+            HotReason::Short { width, shortness } => write_shortness(f, width, shortness),
+            HotReason::Foreign(kind) => write!(f, "{kind}"),
             HotReason::Sequence { stated, next } => write_sequence(f, stated, next),
             HotReason::NameDigits => f.write_str("no record has these digits in its name"),
             HotReason::NameLetters => {
@@ -219,9 +280,19 @@ impl fmt::Display for HotReason {
             HotReason::Order(disorder) => write_disorder(f, disorder),
             HotReason::Missing(expected) => write!(
                 f,
-                "the file ends before its last record BFT99: {expected}: fetch it again"
+                "the file ends before its last record BFT99: {expected}"
             ),
             HotReason::NotFound => f.write_str("the record has no such fault"),
         }
+    }
+}
+
+impl fmt::Display for HotReason {
+    fn fmt<W: fmt::Write>(&self, f: &mut fmt::Formatter<W>) -> fmt::Result {
+        self.write_fault(f)?;
+        if self.is_damage() {
+            f.write_str(DAMAGED)?;
+        }
+        Ok(())
     }
 }
