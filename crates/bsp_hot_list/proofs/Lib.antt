@@ -1,0 +1,2 @@
+-- Why the bodies meet their contracts.
+pub mod ListLemmas

@@ -1,0 +1,2 @@
+-- What the contracts of the list of a HOT file cite.
+pub mod Listed

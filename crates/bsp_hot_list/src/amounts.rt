@@ -1,0 +1,66 @@
+//! The amounts of a document.
+
+ghost use Rattle.std.specs.Prelude.{◌≡◌, ◌≤◌, ◌+◌, ◌^◌, IfSome, length, true};
+ghost use Rattle.bsp_records.specs.Columns.{is_wide};
+ghost use Rattle.bsp_records.specs.Lines.{lines};
+ghost use Rattle.bsp_hot_records.specs.Judged.{IsSmallPart};
+ghost use Rattle.bsp_hot_records.specs.Reading.{judged_at};
+ghost use Rattle.bsp_hot_records.specs.Sums.{AreSmall};
+ghost use Rattle.bsp_hot_list.specs.Listed.{document_sums, part_said, with_part};
+
+use bsp_hot_records::{FileForm, Part, Record, Sums, read_record};
+use bsp_records::first_record;
+
+/// The sums of a document with one more of its records.
+fn with_part(mut sums: Sums, part: Part) -> Sums
+    requires small { AreSmall 1 sums }
+    requires part { IsSmallPart part }
+    ensures value { result ≡ with_part sums part }
+    ensures small { AreSmall 1 result }
+{
+    match part {
+        Part::Commission(amount) => sums.commission = amount as i128,
+        Part::CommissionTax(amount) => sums.tax = amount as i128,
+        Part::Cash(amount) => sums.cash = amount as i128,
+        Part::Credit(amount) => sums.credit = amount as i128,
+        _ => {}
+    }
+    sums
+}
+
+/// What a line says as record number `number` of a file of that form, where it is a part of a document.
+fn part_at(form: FileForm, number: usize, line: &[u8]) -> Option<Part>
+    requires wide { is_wide line.now ≡ true }
+    requires long { length line.now ≡ 136 }
+    ensures value { result ≡ part_said (judged_at form number line.now) }
+    ensures small { IfSome result IsSmallPart }
+{
+    match read_record(form, number, line) {
+        Some(Record::PartOf(next)) => Some(next.part),
+        _ => None,
+    }
+}
+
+/// The sums of a document alone, of the records at the beginning of a text that are parts of it. The
+/// first of them has that number, in a file of that form.
+pub(crate) fn document_sums(form: FileForm, number: usize, text: &[u8]) -> Sums
+    requires { number + length text.now ≤ 2 ^ 63 }
+    ensures value { result ≡ document_sums form number (lines text.now) }
+    ensures small { AreSmall 1 result }
+{
+    let mut sums = Sums::DOCUMENT;
+    let mut next = number;
+    let mut rest = text;
+    while !rest.is_empty() {
+        let Some((line, after)) = first_record(rest) else {
+            return sums;
+        };
+        let Some(part) = part_at(form, next, line) else {
+            return sums;
+        };
+        sums = with_part(sums, part);
+        next += 1;
+        rest = after;
+    }
+    sums
+}

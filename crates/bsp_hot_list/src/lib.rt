@@ -1,0 +1,8 @@
+//! The list of a HOT file: a line for each document and memo, and the totals of each agent and of the file.
+#![tactic(auto)]
+
+mod amounts;
+mod lines;
+mod list;
+
+pub use list::list_hot;
