@@ -4,13 +4,12 @@ use Rattle.std.specs.Prelude.{◌+◌, Option, Result, Ok, Err, IfOk}
 use Rattle.std.specs.Result.{IsErrAnd}
 use Rattle.std.specs.Io.KnownBytes.{IsAtEnd, Appends, Consumes}
 use Rattle.std.proofs.KnownBytes.{Keeps-refl}
-use Rattle.bsp_check.specs.declared.verdict.Explanation.{Explanation}
 use Rattle.bsp_check.specs.declared.fault.Fault.{Fault}
 use Rattle.bsp_check.specs.declared.fault.Fault.TheVariants.{Read, TooLong, Write, Memory}
 use Rattle.bsp_check.specs.declared.verdict.Verdict.{Verdict}
 use Rattle.bsp_check.specs.declared.verdict.Verdict.TheVariants.{Passed, Refused}
 use Rattle.bsp_check.specs.Streams.{IsSent, IsReported, IsCutShort}
-use Rattle.bsp_check.specs.Verdicts.{verdict_status, status_of, IsExplained}
+use Rattle.bsp_check.specs.Verdicts.{verdict_status, status_of}
 
 -- a report on an input that was read whole, and was sent
 pub sent_reported : (Reports : List ℕ → ℕ → List ℕ → Type 0) (limit : ℕ) (bytes text : List ℕ) (verdict : Verdict) (rest before after : Option (List ℕ)) (r : Result Verdict Fault) → IsAtEnd rest → length bytes ≤ limit → Reports bytes (verdict_status verdict) text → IsSent verdict text before after r → IsReported Reports limit bytes rest before after r
@@ -32,19 +31,19 @@ sent_not_read verdict text before after (Err TooLong) sent read = sent
 sent_not_read verdict text before after (Err Memory) sent read = sent
 
 -- the fault of an input that was not read whole is passed on, and nothing was written
-pub unread_reported : (Reports : List ℕ → ℕ → List ℕ → Type 0) (Explains : List ℕ → Explanation → Type 0) (limit : ℕ) (input rest written : Option (List ℕ)) (fault : Fault) (r : Result Verdict Fault) → IsErrAnd r (λ f. f ≡ fault) → ((x : List ℕ) × Consumes input rest x × (length x ≤ limit + 1)) → (fault ≡ Write → ⊥) → (fault ≡ TooLong → (x : List ℕ) × Consumes input rest x × (length x ≡ limit + 1)) → (x : List ℕ) × Consumes input rest x × (length x ≤ limit + 1) × IsReported Reports limit x rest written written r × IfOk r (IsExplained Explains x)
-unread_reported Reports Explains limit input rest written fault (Ok verdict) is stopped never long = absurd is
-unread_reported Reports Explains limit input rest written fault (Err Read) is stopped never long = (stopped.0, stopped.1, stopped.2, Keeps-refl written, tt)
-unread_reported Reports Explains limit input rest written fault (Err Memory) is stopped never long = (stopped.0, stopped.1, stopped.2, Keeps-refl written, tt)
-unread_reported Reports Explains limit input rest written fault (Err Write) is stopped never long = absurd (never (sym is))
-unread_reported Reports Explains limit input rest written fault (Err TooLong) is stopped never long =
+pub unread_reported : (Reports : List ℕ → ℕ → List ℕ → Type 0) (Explained : List ℕ → Verdict → Type 0) (limit : ℕ) (input rest written : Option (List ℕ)) (fault : Fault) (r : Result Verdict Fault) → IsErrAnd r (λ f. f ≡ fault) → ((x : List ℕ) × Consumes input rest x × (length x ≤ limit + 1)) → (fault ≡ Write → ⊥) → (fault ≡ TooLong → (x : List ℕ) × Consumes input rest x × (length x ≡ limit + 1)) → (x : List ℕ) × Consumes input rest x × (length x ≤ limit + 1) × IsReported Reports limit x rest written written r × IfOk r (Explained x)
+unread_reported Reports Explained limit input rest written fault (Ok verdict) is stopped never long = absurd is
+unread_reported Reports Explained limit input rest written fault (Err Read) is stopped never long = (stopped.0, stopped.1, stopped.2, Keeps-refl written, tt)
+unread_reported Reports Explained limit input rest written fault (Err Memory) is stopped never long = (stopped.0, stopped.1, stopped.2, Keeps-refl written, tt)
+unread_reported Reports Explained limit input rest written fault (Err Write) is stopped never long = absurd (never (sym is))
+unread_reported Reports Explained limit input rest written fault (Err TooLong) is stopped never long =
     let over = long (sym is) in
     let few : length over.0 ≤ limit + 1 = omega (arith, over.2) in (over.0, over.1, few, (over.2, Keeps-refl written), tt)
 
 -- the verdict that was answered is that of the report
-pub sent_explained : (Explains : List ℕ → Explanation → Type 0) (bytes text : List ℕ) (verdict : Verdict) (before after : Option (List ℕ)) (r : Result Verdict Fault) → IsExplained Explains bytes verdict → IsSent verdict text before after r → IfOk r (IsExplained Explains bytes)
-sent_explained Explains bytes text verdict before after (Ok told) is sent = subst (IsExplained Explains bytes) (sym sent.0) is
-sent_explained Explains bytes text verdict before after (Err fault) is sent = tt
+pub sent_explained : (Explained : List ℕ → Verdict → Type 0) (bytes text : List ℕ) (verdict : Verdict) (before after : Option (List ℕ)) (r : Result Verdict Fault) → Explained bytes verdict → IsSent verdict text before after r → IfOk r (Explained bytes)
+sent_explained Explained bytes text verdict before after (Ok told) is sent = subst (Explained bytes) (sym sent.0) is
+sent_explained Explained bytes text verdict before after (Err fault) is sent = tt
 
 -- what was written where no report was written whole
 pub cut_short : (Reports : List ℕ → ℕ → List ℕ → Type 0) (limit : ℕ) (bytes : List ℕ) (rest before after : Option (List ℕ)) (r : Result Verdict Fault) → IsReported Reports limit bytes rest before after r → status_of r ≡ 3 → IsCutShort Reports limit bytes rest before after

@@ -10,6 +10,7 @@ use Rattle.bsp_hot_check.specs.Standings.{start}
 use Rattle.bsp_hot_explain.specs.declared.explanation.HotExplanation.{HotExplanation}
 use Rattle.bsp_explain.specs.Before.{counted, IsLine}
 use Rattle.bsp_explain.specs.RetReasons.{Says, is_reason_of}
+use Rattle.bsp_hot_explain.specs.Headings.{heading_in}
 use Rattle.bsp_hot_explain.specs.HotReasons.{SaysOfHot, stands_after, record_name}
 use Rattle.bsp_check.specs.declared.fault.Fault.{Fault}
 use Rattle.bsp_check.specs.declared.verdict.Explanation.{Explanation}
@@ -36,9 +37,11 @@ pub record SaysOfRetFault (bytes : List ℕ) (explanation : RetExplanation) : Ty
   pub row : is_reason_of fault.code explanation.reason ≡ true
   pub says : (line : List ℕ) → IsLine (fault.at - 1) (lines bytes) line → Says fault.at (counted (take (fault.at - 1) (lines bytes))) line explanation.reason
 
-abbrev pub IsRetExplanation : List ℕ → Explanation → Type 0
-IsRetExplanation bytes (Ret explanation) = SaysOfRetFault bytes explanation
-IsRetExplanation bytes (Hot explanation) = ⊥
+-- what a verdict says of the bytes, as a RET file: of one without fault nothing
+abbrev pub IsRetExplained : List ℕ → Verdict → Type 0
+IsRetExplained bytes (Passed heading) = heading ≡ None
+IsRetExplained bytes (Refused (Ret explanation)) = SaysOfRetFault bytes explanation
+IsRetExplained bytes (Refused (Hot explanation)) = ⊥
 
 -- the explanation is of the first record of the bytes at fault, as a HOT file; the records before it have this state
 pub record SaysOfHotFault (bytes : List ℕ) (explanation : HotExplanation) : Type 0 where
@@ -48,11 +51,8 @@ pub record SaysOfHotFault (bytes : List ℕ) (explanation : HotExplanation) : Ty
   pub name : (line : List ℕ) → IsLine (explanation.record - 1) (lines bytes) line → explanation.name ≡ record_name line
   pub says : (line : List ℕ) → IsLine (explanation.record - 1) (lines bytes) line → SaysOfHot state line explanation.reason
 
-abbrev pub IsHotExplanation : List ℕ → Explanation → Type 0
-IsHotExplanation bytes (Ret explanation) = ⊥
-IsHotExplanation bytes (Hot explanation) = SaysOfHotFault bytes explanation
-
--- a verdict that refuses the bytes has an explanation of them
-abbrev pub IsExplained : (List ℕ → Explanation → Type 0) → List ℕ → Verdict → Type 0
-IsExplained Explains bytes (Passed heading) = Unit {0}
-IsExplained Explains bytes (Refused explanation) = Explains bytes explanation
+-- what a verdict says of the bytes, as a HOT file: of one without fault what BFH01 says
+abbrev pub IsHotExplained : List ℕ → Verdict → Type 0
+IsHotExplained bytes (Passed heading) = heading ≡ heading_in (lines bytes)
+IsHotExplained bytes (Refused (Ret explanation)) = ⊥
+IsHotExplained bytes (Refused (Hot explanation)) = SaysOfHotFault bytes explanation

@@ -5,7 +5,7 @@ ghost use Rattle.std.specs.Io.KnownBytes.{Consumes, IsAtEnd, Appends};
 ghost use Rattle.bsp_check.specs.Streams.{most, IsReported, IsCutShort};
 ghost use Rattle.bsp_check.specs.RetReport.{IsRetReport};
 ghost use Rattle.bsp_check.specs.HotReport.{IsHotReport};
-ghost use Rattle.bsp_check.specs.Verdicts.{status_of, IsExplained, IsRetExplanation, IsHotExplanation};
+ghost use Rattle.bsp_check.specs.Verdicts.{status_of, IsRetExplained, IsHotExplained};
 
 use crate::fault::Fault;
 use crate::hot_report::hot_report;
@@ -35,7 +35,7 @@ pub fn check_within<R: Read, W: Write>(
     requires { limit < usize.MAX }
     ensures answer { (bytes : List ℕ) × Consumes (R.remaining reader.old.inner) (R.remaining reader.new.inner) bytes × (length bytes ≤ limit + 1)
         × IsReported IsRetReport limit bytes (R.remaining reader.new.inner) (W.contents writer.old.inner) (W.contents writer.new.inner) result
-        × IfOk result (IsExplained IsRetExplanation bytes) }
+        × IfOk result (IsRetExplained bytes) }
     ensures read_cause { result ≡ Err Fault.Read → reader.new.failed ≡ true }
     ensures write_cause { result ≡ Err Fault.Write → writer.new.failed ≡ true }
 {
@@ -46,7 +46,8 @@ pub fn check_within<R: Read, W: Write>(
     write_report(writer, &report)
 }
 
-/// Reads a HOT file of at most `limit` bytes, writes the report on it and answers its verdict.
+/// Reads a HOT file of at most `limit` bytes, writes the report on it and answers its verdict. Where `list`
+/// is set, the list of a file without fault is before its report.
 ///
 /// # Errors
 ///
@@ -56,16 +57,17 @@ pub fn hotcheck_within<R: Read, W: Write>(
     reader: &mut Noted<R>,
     writer: &mut Noted<W>,
     limit: usize,
+    list: bool,
 ) -> Result<Verdict, Fault>
     requires { limit < usize.MAX }
     ensures answer { (bytes : List ℕ) × Consumes (R.remaining reader.old.inner) (R.remaining reader.new.inner) bytes × (length bytes ≤ limit + 1)
-        × IsReported IsHotReport limit bytes (R.remaining reader.new.inner) (W.contents writer.old.inner) (W.contents writer.new.inner) result
-        × IfOk result (IsExplained IsHotExplanation bytes) }
+        × IsReported (IsHotReport list) limit bytes (R.remaining reader.new.inner) (W.contents writer.old.inner) (W.contents writer.new.inner) result
+        × IfOk result (IsHotExplained bytes) }
     ensures read_cause { result ≡ Err Fault.Read → reader.new.failed ≡ true }
     ensures write_cause { result ≡ Err Fault.Write → writer.new.failed ≡ true }
 {
     let all = read_whole(alloc, reader, limit)?;
-    let Ok(report) = hot_report(alloc, &all) else {
+    let Ok(report) = hot_report(alloc, &all, list) else {
         return Err(Fault::Memory);
     };
     write_report(writer, &report)
@@ -85,7 +87,7 @@ pub fn check<R: Read, W: Write>(
 ) -> Result<Verdict, Fault>
     ensures answer { (bytes : List ℕ) × Consumes (R.remaining reader.old.inner) (R.remaining reader.new.inner) bytes × (length bytes ≤ most + 1)
         × IsReported IsRetReport most bytes (R.remaining reader.new.inner) (W.contents writer.old.inner) (W.contents writer.new.inner) result
-        × IfOk result (IsExplained IsRetExplanation bytes) }
+        × IfOk result (IsRetExplained bytes) }
     ensures reports { (status_of result ≡ 0) ⊎ (status_of result ≡ 1) → (bytes : List ℕ) × Consumes (R.remaining reader.old.inner) (R.remaining reader.new.inner) bytes
         × IsAtEnd (R.remaining reader.new.inner) × (length bytes ≤ most)
         × (text : List ℕ) × IsRetReport bytes (status_of result) text × Appends (W.contents writer.old.inner) (W.contents writer.new.inner) text }
@@ -100,7 +102,7 @@ pub fn check<R: Read, W: Write>(
 }
 
 /// Reads a HOT file of at most 1,073,741,824 bytes, writes the report on it and answers its
-/// verdict. The exit status of the answer is 0 for a file, 1 for a fault. It is 3 where a read or a
+/// verdict. Where `list` is set, the list of a file without fault is before its report. The exit status of the answer is 0 for a file, 1 for a fault. It is 3 where a read or a
 /// write failed, the input is longer, or an allocation was refused.
 ///
 /// # Errors
@@ -110,19 +112,20 @@ pub fn hotcheck<R: Read, W: Write>(
     alloc: Global,
     reader: &mut Noted<R>,
     writer: &mut Noted<W>,
+    list: bool,
 ) -> Result<Verdict, Fault>
     ensures answer { (bytes : List ℕ) × Consumes (R.remaining reader.old.inner) (R.remaining reader.new.inner) bytes × (length bytes ≤ most + 1)
-        × IsReported IsHotReport most bytes (R.remaining reader.new.inner) (W.contents writer.old.inner) (W.contents writer.new.inner) result
-        × IfOk result (IsExplained IsHotExplanation bytes) }
+        × IsReported (IsHotReport list) most bytes (R.remaining reader.new.inner) (W.contents writer.old.inner) (W.contents writer.new.inner) result
+        × IfOk result (IsHotExplained bytes) }
     ensures reports { (status_of result ≡ 0) ⊎ (status_of result ≡ 1) → (bytes : List ℕ) × Consumes (R.remaining reader.old.inner) (R.remaining reader.new.inner) bytes
         × IsAtEnd (R.remaining reader.new.inner) × (length bytes ≤ most)
-        × (text : List ℕ) × IsHotReport bytes (status_of result) text × Appends (W.contents writer.old.inner) (W.contents writer.new.inner) text }
+        × (text : List ℕ) × IsHotReport list bytes (status_of result) text × Appends (W.contents writer.old.inner) (W.contents writer.new.inner) text }
     ensures refused { status_of result ≡ 3 → (bytes : List ℕ) × Consumes (R.remaining reader.old.inner) (R.remaining reader.new.inner) bytes
-        × IsCutShort IsHotReport most bytes (R.remaining reader.new.inner) (W.contents writer.old.inner) (W.contents writer.new.inner) }
+        × IsCutShort (IsHotReport list) most bytes (R.remaining reader.new.inner) (W.contents writer.old.inner) (W.contents writer.new.inner) }
     ensures limit { (bytes : List ℕ) × Consumes (R.remaining reader.old.inner) (R.remaining reader.new.inner) bytes × (length bytes ≤ most + 1) }
     ensures statuses { (status_of result ≡ 0) ⊎ ((status_of result ≡ 1) ⊎ (status_of result ≡ 3)) }
     ensures read_cause { result ≡ Err Fault.Read → reader.new.failed ≡ true }
     ensures write_cause { result ≡ Err Fault.Write → writer.new.failed ≡ true }
 {
-    hotcheck_within(alloc, reader, writer, MOST)
+    hotcheck_within(alloc, reader, writer, MOST, list)
 }

@@ -5,7 +5,7 @@ ghost use Rattle.bsp_ret.specs.Table.{total_paid};
 ghost use Rattle.bsp_ret.specs.Ret.{flatten, file_lines};
 ghost use Rattle.bsp_ret.specs.PaidSale.{PaidSale as Paid};
 ghost use Rattle.bsp_check.specs.RetReport.{document_text, sale_text, transaction_text, total_text, file_report, fault_report, HaveSales, AreReported, IsRetReport};
-ghost use Rattle.bsp_check.specs.Verdicts.{verdict_status, IsExplained, IsRetExplanation};
+ghost use Rattle.bsp_check.specs.Verdicts.{verdict_status, IsRetExplained};
 
 use crate::report::Report;
 use crate::verdict::{Explanation, Verdict};
@@ -119,7 +119,7 @@ fn fault_report(alloc: Global, fault: RetFault) -> Result<Vec<u8>, NoRoom>
 /// The report on the bytes of a RET file.
 pub(crate) fn ret_report(alloc: Global, bytes: &[u8]) -> Result<Report, NoRoom>
     ensures report { IfOk result (λ report. IsRetReport bytes.now (verdict_status report.verdict) report.text.items) }
-    ensures explained { IfOk result (λ report. IsExplained IsRetExplanation bytes.now report.verdict) }
+    ensures explained { IfOk result (λ report. IsRetExplained bytes.now report.verdict) }
 {
     match read_ret(alloc, bytes) {
         Ok(file) => Ok(Report {
