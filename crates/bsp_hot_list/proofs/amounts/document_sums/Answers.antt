@@ -1,4 +1,4 @@
-use Rattle.std.proofs.Common.{◌≡◌, ◌∙◌, sym, ap, refl, arith, None, Some}
+use Rattle.std.proofs.Common.{◌∙◌, sym, ap, arith}
 use Rattle.bsp_records.proofs.RestLemmas.{lines_empty}
 use Rattle.bsp_hot_list.specs.Listed.{part_said}
 use Rattle.bsp_hot_list.proofs.ListLemmas.{narrow_judged, sums_end, sums_stop, sums_step}

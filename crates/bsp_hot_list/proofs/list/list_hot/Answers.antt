@@ -1,4 +1,4 @@
-use Rattle.std.proofs.Common.{◌≡◌, ◌∙◌, sym, ap, refl, arith, None, Some}
+use Rattle.std.proofs.Common.{◌∙◌, sym, arith}
 use Rattle.bsp_records.proofs.RestLemmas.{lines_empty}
 use Rattle.bsp_hot_list.proofs.ListLemmas.{narrow_judged, list_end, list_stops, list_step}
 use Rattle.bsp_hot_list.proofs.list.list_hot.Goals as goal
