@@ -1,5 +1,5 @@
 -- The list of the lines of a text.
-use Rattle.std.proofs.Common.{◌≡◌, ℕ, ◌+◌, List, [], ◌∷◌, ◌++◌, Some, None, false, refl, sym, ap, ◌∙◌, append_assoc, append-nil}
+use Rattle.std.proofs.Common.{◌≡◌, ℕ, ◌+◌, List, [], ◌∷◌, ◌++◌, Some, None, false, refl, sym, ap, ◌∙◌, append_assoc, append-nil, map}
 use Rattle.std.specs.List.{concat}
 use Rattle.bsp_records.specs.Columns.{is_wide}
 use Rattle.bsp_hot_records.specs.declared.form.FileForm.{FileForm}
@@ -7,7 +7,10 @@ use Rattle.bsp_hot_records.specs.declared.totals.Sums.{Sums}
 use Rattle.bsp_hot_records.specs.declared.model.Part.{Part}
 use Rattle.bsp_hot_records.specs.declared.model.Record.{Record}
 use Rattle.bsp_hot_records.specs.Reading.{record_at, judged_at}
-use Rattle.bsp_hot_list.specs.Listed.{document_sums, form_after, list_from, listed, listed_or, part_said, sums_from, with_part, with_parts}
+use Rattle.bsp_hot_records.specs.Sums.{add, sum_of}
+use Rattle.bsp_hot_records.proofs.SumLemmas.{none_right, plus_assoc}
+use Rattle.bsp_hot_check.specs.Standings.{judged_sums}
+use Rattle.bsp_hot_list.specs.Listed.{document_sums, form_after, list_from, listed, listed_or, part_before, part_said, parts_in}
 
 pub list_none : (form : FileForm) (n : ℕ) → list_from form n [] ≡ []
 unfolding list_from
@@ -17,13 +20,13 @@ pub list_more : (form : FileForm) (n : ℕ) (line : List ℕ) (lines : List (Lis
 unfolding list_from
 list_more form n line lines = refl
 
-pub sums_none : (s : Sums) (form : FileForm) (n : ℕ) → sums_from s form n [] ≡ s
-unfolding sums_from
-sums_none s form n = refl
+pub parts_none : (form : FileForm) (n : ℕ) → parts_in form n [] ≡ []
+unfolding parts_in
+parts_none form n = refl
 
-pub sums_more : (s : Sums) (form : FileForm) (n : ℕ) (line : List ℕ) (lines : List (List ℕ)) → sums_from s form n (line ∷ lines) ≡ with_parts s (part_said (judged_at form n line)) (λ next. sums_from next form (n + 1) lines)
-unfolding sums_from
-sums_more s form n line lines = refl
+pub parts_more : (form : FileForm) (n : ℕ) (line : List ℕ) (lines : List (List ℕ)) → parts_in form n (line ∷ lines) ≡ part_before (part_said (judged_at form n line)) (parts_in form (n + 1) lines)
+unfolding parts_in
+parts_more form n line lines = refl
 
 pub narrow_judged : (form : FileForm) (n : ℕ) (line : List ℕ) → is_wide line ≡ false → judged_at form n line ≡ None
 unfolding record_at
@@ -55,17 +58,23 @@ list_step form n out new line rest more all r cut some text is =
     ∙ ap (λ (x : List ℕ). out ++ x) (sym step)
     ∙ is
 
-pub sums_end : (s : Sums) (form : FileForm) (n : ℕ) (rest : List (List ℕ)) (all : Sums) → rest ≡ [] → sums_from s form n rest ≡ all → s ≡ all
-sums_end s form n rest all none is = sym (ap (sums_from s form n) none ∙ sums_none s form n) ∙ is
+-- what the parts add that lines begin with
+abbrev left_sums : FileForm → ℕ → List (List ℕ) → Sums
+left_sums form n lines = sum_of (map judged_sums (parts_in form n lines))
+
+pub sums_end : (s : Sums) (form : FileForm) (n : ℕ) (rest : List (List ℕ)) (all : Sums) → rest ≡ [] → add s (left_sums form n rest) ≡ all → s ≡ all
+sums_end s form n rest all none is =
+    let nothing : parts_in form n rest ≡ [] = ap (parts_in form n) none ∙ parts_none form n in
+    sym (none_right s) ∙ ap (λ (ps : List Part). add s (sum_of (map judged_sums ps))) (sym nothing) ∙ is
 
 -- a line that is no part
-pub sums_stop : (s : Sums) (form : FileForm) (n : ℕ) (line : List ℕ) (rest more : List (List ℕ)) (all : Sums) → rest ≡ line ∷ more → part_said (judged_at form n line) ≡ None → sums_from s form n rest ≡ all → s ≡ all
+pub sums_stop : (s : Sums) (form : FileForm) (n : ℕ) (line : List ℕ) (rest more : List (List ℕ)) (all : Sums) → rest ≡ line ∷ more → part_said (judged_at form n line) ≡ None → add s (left_sums form n rest) ≡ all → s ≡ all
 sums_stop s form n line rest more all cut none is =
-    let step : sums_from s form n rest ≡ s = ap (sums_from s form n) cut ∙ sums_more s form n line more ∙ rw none refl in
-    sym step ∙ is
+    let nothing : parts_in form n rest ≡ [] = ap (parts_in form n) cut ∙ parts_more form n line more ∙ rw none refl in
+    sym (none_right s) ∙ ap (λ (ps : List Part). add s (sum_of (map judged_sums ps))) (sym nothing) ∙ is
 
 -- a part
-pub sums_step : (s : Sums) (form : FileForm) (n : ℕ) (line : List ℕ) (rest more : List (List ℕ)) (all : Sums) (y : Part) → rest ≡ line ∷ more → part_said (judged_at form n line) ≡ Some y → sums_from s form n rest ≡ all → sums_from (with_part s y) form (n + 1) more ≡ all
+pub sums_step : (s : Sums) (form : FileForm) (n : ℕ) (line : List ℕ) (rest more : List (List ℕ)) (all : Sums) (y : Part) → rest ≡ line ∷ more → part_said (judged_at form n line) ≡ Some y → add s (left_sums form n rest) ≡ all → add (add s (judged_sums y)) (left_sums form (n + 1) more) ≡ all
 sums_step s form n line rest more all y cut found is =
-    let step : sums_from s form n rest ≡ sums_from (with_part s y) form (n + 1) more = ap (sums_from s form n) cut ∙ sums_more s form n line more ∙ rw found refl in
-    sym step ∙ is
+    let step : parts_in form n rest ≡ y ∷ parts_in form (n + 1) more = ap (parts_in form n) cut ∙ parts_more form n line more ∙ rw found refl in
+    plus_assoc s (judged_sums y) (left_sums form (n + 1) more) ∙ ap (λ (ps : List Part). add s (sum_of (map judged_sums ps))) (sym step) ∙ is

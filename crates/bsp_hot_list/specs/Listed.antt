@@ -1,5 +1,5 @@
 -- The list of a HOT file: the lines that its records have.
-use Rattle.std.specs.Prelude.{ℕ, ◌+◌, List, [], ◌∷◌, ◌++◌, codes, Option, Some, None}
+use Rattle.std.specs.Prelude.{ℕ, ◌+◌, List, [], ◌∷◌, ◌++◌, codes, map, Option, Some, None}
 use Rattle.std.specs.List.{concat}
 use Rattle.std.specs.Fmt.{decimal}
 use Rattle.bsp_fields.specs.Decimal.{fixed_digits}
@@ -12,41 +12,32 @@ use Rattle.bsp_hot_records.specs.declared.totals.Totals.{Totals}
 use Rattle.bsp_hot_records.specs.declared.model.Document.{Document}
 use Rattle.bsp_hot_records.specs.declared.model.Heading.{Heading}
 use Rattle.bsp_hot_records.specs.declared.model.Part.{Part}
-use Rattle.bsp_hot_records.specs.declared.model.Part.TheVariants as part
 use Rattle.bsp_hot_records.specs.declared.model.Record.{Record}
 use Rattle.bsp_hot_records.specs.declared.model.Record.TheVariants as record_is
 use Rattle.bsp_hot_records.specs.Records.{code_text}
 use Rattle.bsp_hot_records.specs.Reading.{judged_at}
-use Rattle.bsp_hot_records.specs.Sums.{one_document, with_net}
+use Rattle.bsp_hot_records.specs.Sums.{one_document, add, sum_of, with_net}
+use Rattle.bsp_hot_check.specs.Standings.{judged_sums}
 
 -- ---- the amounts of a document
-
--- BKS39 has its commission, BKS42 the tax on it, and BKP84 with CA or CC its cash or credit
-abbrev pub with_part : Sums → Part → Sums
-with_part s (part.Commission amount) = record s { commission = amount }
-with_part s (part.CommissionTax amount) = record s { tax = amount }
-with_part s (part.Cash amount) = record s { cash = amount }
-with_part s (part.Credit amount) = record s { credit = amount }
-with_part s _ = s
 
 -- what a record says where it is a part of a document
 abbrev pub part_said : Option Record → Option Part
 part_said (Some (record_is.PartOf y)) = Some y.part
 part_said _ = None
 
--- with one more part, and then more, where there is one
-abbrev pub with_parts : Sums → Option Part → (Sums → Sums) → Sums
-with_parts s None more = s
-with_parts s (Some y) more = more (with_part s y)
+abbrev pub part_before : Option Part → List Part → List Part
+part_before None more = []
+part_before (Some y) more = y ∷ more
 
--- a document that has these amounts, with those of the parts of it that lines begin with, from record number n on
-unfoldable pub sums_from : Sums → FileForm → ℕ → List (List ℕ) → Sums
-sums_from s form n [] = s
-sums_from s form n (line ∷ lines) = with_parts s (part_said (judged_at form n line)) (λ next. sums_from next form (n + 1) lines)
+-- the parts of a document that lines begin with, from record number n on
+unfoldable pub parts_in : FileForm → ℕ → List (List ℕ) → List Part
+parts_in form n [] = []
+parts_in form n (line ∷ lines) = part_before (part_said (judged_at form n line)) (parts_in form (n + 1) lines)
 
--- a document, of the lines that follow its BKS24
+-- a document, of the lines that follow its BKS24: what it adds to the totals of its agent
 abbrev pub document_sums : FileForm → ℕ → List (List ℕ) → Sums
-document_sums form n lines = sums_from one_document form n lines
+document_sums form n lines = add one_document (sum_of (map judged_sums (parts_in form n lines)))
 
 -- ---- lines
 

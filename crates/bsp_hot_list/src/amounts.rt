@@ -6,18 +6,18 @@ ghost use Rattle.bsp_records.specs.Lines.{lines};
 ghost use Rattle.bsp_hot_records.specs.Judged.{IsSmallPart};
 ghost use Rattle.bsp_hot_records.specs.Reading.{judged_at};
 ghost use Rattle.bsp_hot_records.specs.Sums.{AreSmall};
-ghost use Rattle.bsp_hot_list.specs.Listed.{document_sums, part_said, with_part};
+ghost use Rattle.bsp_hot_check.specs.Standings.{judged_sums};
+ghost use Rattle.bsp_hot_list.specs.Listed.{document_sums, part_said};
 
 use bsp_hot_records::{FileForm, Part, Record, Sums, read_record};
 use bsp_records::first_record;
 
-/// The sums of a document with one more of its records.
-fn with_part(mut sums: Sums, part: Part) -> Sums
-    requires small { AreSmall 1 sums }
-    requires part { IsSmallPart part }
-    ensures value { result ≡ with_part sums part }
-    ensures small { AreSmall 1 result }
+/// What a record of a document adds. EX is in no total.
+fn part_sums(part: Part) -> Sums
+    requires { IsSmallPart part }
+    ensures { result ≡ judged_sums part }
 {
+    let mut sums = Sums::NONE;
     match part {
         Part::Commission(amount) => sums.commission = amount as i128,
         Part::CommissionTax(amount) => sums.tax = amount as i128,
@@ -44,9 +44,10 @@ fn part_at(form: FileForm, number: usize, line: &[u8]) -> Option<Part>
 /// The sums of a document alone, of the records at the beginning of a text that are parts of it. The
 /// first of them has that number, in a file of that form.
 pub(crate) fn document_sums(form: FileForm, number: usize, text: &[u8]) -> Sums
-    requires { number + length text.now ≤ 2 ^ 63 }
+    requires from { 1 ≤ number }
+    requires room { number + length text.now ≤ 2 ^ 63 }
     ensures value { result ≡ document_sums form number (lines text.now) }
-    ensures small { AreSmall 1 result }
+    ensures small { AreSmall (2 ^ 63) result }
 {
     let mut sums = Sums::DOCUMENT;
     let mut next = number;
@@ -58,7 +59,7 @@ pub(crate) fn document_sums(form: FileForm, number: usize, text: &[u8]) -> Sums
         let Some(part) = part_at(form, next, line) else {
             return sums;
         };
-        sums = with_part(sums, part);
+        sums = sums.plus(part_sums(part));
         next += 1;
         rest = after;
     }

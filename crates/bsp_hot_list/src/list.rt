@@ -23,6 +23,7 @@ fn push_record(
     after: &[u8],
 ) -> Result<(), NoRoom>
     requires long { length line.now ≡ 136 }
+    requires from { 1 ≤ next }
     requires room { next + length after.now ≤ 2 ^ 63 }
     ensures { OnOk result (out.new.items ≡ out.old.items ++ listed found.now line.now (document_sums form next (lines after.now))) }
 {

@@ -1,5 +1,8 @@
 use Rattle.std.proofs.Common.{◌∙◌, sym, ap, arith}
 use Rattle.bsp_records.proofs.RestLemmas.{lines_empty}
+use Rattle.bsp_hot_records.proofs.SizeLemmas.{small_add}
+use Rattle.bsp_hot_check.specs.Standings.{judged_sums}
+use Rattle.bsp_hot_check.proofs.SizeLemmas.{small_part}
 use Rattle.bsp_hot_list.specs.Listed.{part_said}
 use Rattle.bsp_hot_list.proofs.ListLemmas.{narrow_judged, sums_end, sums_stop, sums_step}
 use Rattle.bsp_hot_list.proofs.amounts.document_sums.Goals as goal
@@ -20,9 +23,10 @@ pub loop-rest-preserved : goal.loop-rest-preserved
 loop-rest-preserved c =
     let l = c.loop-rest in
     let found = sym c.part_at.ensures.value ∙ c.in-Some-part_at.is in
+    let y = c.in-Some-part_at.part in
     record {
-      sums = rw c.with_part-sums.ensures.value (sums_step l.sums c.args.form l.next c.in-Some.line.now _ _ _ c.in-Some-part_at.part c.in-Some.ensures.first.cut found l.invariant.sums);
-      small = c.with_part-sums.ensures.small;
+      sums = rw (c.plus-sums.ensures, c.part_sums.ensures) (sums_step l.sums c.args.form l.next c.in-Some.line.now _ _ _ y c.in-Some.ensures.first.cut found l.invariant.sums);
+      small = rw (c.plus-sums.ensures, c.part_sums.ensures) (small_add l.next 1 l.sums (judged_sums y) l.invariant.small (small_part y c.in-Some-part_at.ensures.small));
       room = omega (arith, c.in-Some.ensures.first.shorter, l.invariant.room);
     }
 
