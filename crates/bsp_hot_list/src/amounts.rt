@@ -41,7 +41,7 @@ fn part_at(form: FileForm, number: usize, line: &[u8]) -> Option<Part>
     }
 }
 
-/// The sums of a document alone, of the records at the beginning of a text that are parts of it. The
+/// What a document adds to totals, with the records at the beginning of a text that are parts of it. The
 /// first of them has that number, in a file of that form.
 pub(crate) fn document_sums(form: FileForm, number: usize, text: &[u8]) -> Sums
     requires from { 1 ≤ number }
