@@ -11,8 +11,10 @@ pub(crate) enum Form {
     Airline,
     Period,
     Day,
-    // A whole number from the first to the second.
+    /// A whole number from the first to the second.
     Number(i64, i64),
+    /// A list, which may be absent, and is judged by itself.
+    List,
 }
 
 /// A key that has to be there, and the form of its value.
@@ -25,7 +27,8 @@ pub(crate) struct Key {
 /// A whole number of hundredths of a percent.
 const HUNDREDTHS: Form = Form::Number(0, 10_000);
 
-pub(crate) const TERMS: [Key; 3] = [
+/// The keys of the text itself.
+pub(crate) const TEXT: [Key; 7] = [
     Key {
         name: "currency",
         form: Form::Currency,
@@ -37,6 +40,22 @@ pub(crate) const TERMS: [Key; 3] = [
     Key {
         name: "documents_limit",
         form: Form::Number(1, 1_000_000),
+    },
+    Key {
+        name: "airline",
+        form: Form::List,
+    },
+    Key {
+        name: "rate",
+        form: Form::List,
+    },
+    Key {
+        name: "period",
+        form: Form::List,
+    },
+    Key {
+        name: "commission_tax",
+        form: Form::List,
     },
 ];
 
@@ -85,8 +104,6 @@ pub(crate) const TAX: [Key; 2] = [
     },
 ];
 
-pub(crate) const LISTS: [&str; 4] = ["airline", "rate", "period", "commission_tax"];
-
 impl Form {
     /// Whether a text is in the form.
     pub(crate) fn fits_text(self, text: &[u8]) -> bool {
@@ -95,21 +112,17 @@ impl Form {
             Form::Airline => AirlineCode::read(text).is_ok(),
             Form::Period => PeriodCode::read(text).is_ok(),
             Form::Day => Day::read_text(text).is_ok(),
-            Form::Number(_, _) => false,
+            Form::Number(_, _) | Form::List => false,
         }
     }
 
     /// Whether a value is in the form.
     pub(crate) fn fits(self, value: &Value) -> bool {
-        if let Form::Number(low, high) = self {
-            return match value.as_integer() {
-                Some(number) => low <= number && number <= high,
-                None => false,
-            };
-        }
-        match value.as_str() {
-            Some(text) => self.fits_text(text.as_bytes()),
-            None => false,
+        match (self, value) {
+            (Form::List, _) => true,
+            (Form::Number(low, high), Value::Integer(number)) => low <= *number && *number <= high,
+            (form, Value::String(text)) => form.fits_text(text.as_bytes()),
+            _ => false,
         }
     }
 
@@ -123,23 +136,24 @@ impl Form {
             Form::Number(1, 60) => "a whole number from 1 to 60",
             Form::Number(1, _) => "a whole number from 1 to 1,000,000",
             Form::Number(_, _) => "a whole number from 0 to 10,000",
+            Form::List => "a list",
         }
     }
+}
 
-    /// Whether it is that of hundredths of a percent.
-    pub(crate) fn is_percentage(self) -> bool {
-        matches!(self, Form::Number(0, _))
-    }
+/// Whether a text has digits alone.
+pub(crate) fn are_digits(text: &[u8]) -> bool {
+    text.iter().all(|byte| byte.is_ascii_digit())
 }
 
 /// Whether a key is one of these.
 pub(crate) fn is_among(keys: &[Key], name: &str) -> bool {
-    keys.iter().any(|key| key.name == name)
-}
-
-/// Whether it is a key of the text itself.
-pub(crate) fn is_of_the_text(name: &str) -> bool {
-    is_among(&TERMS, name) || LISTS.iter().any(|list| *list == name)
+    for key in keys {
+        if key.name == name {
+            return true;
+        }
+    }
+    false
 }
 
 /// The keys that a table of a list has, or the text itself.

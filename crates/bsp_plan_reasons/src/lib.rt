@@ -3,6 +3,7 @@
 
 mod entries;
 mod keys;
+mod line;
 mod order;
 mod reasons;
 mod tables;

@@ -1,55 +1,51 @@
 //! Periods that do not follow one another: P03. Rates and taxes that begin too early: P05.
 
-use bsp_calendar::{CommissionTax, Period, Plan, PlanText, Rate};
+use crate::line::Line;
+use bsp_calendar::{Period, Plan, PlanText};
 use bsp_fields::Day;
-use bsp_plan_trial::push_fields;
-use std::alloc::AllocError;
 
-/// What is wrong with the days of a period.
-fn push_own_days(out: &mut Vec<u8>, period: &Period) -> Result<(), AllocError> {
-    let (first, last) = (period.first, period.last);
+/// Says what is wrong with the days of a period, and answers whether anything is.
+fn say_own_days(line: &mut Line, period: &Period) -> bool {
+    let (first, last, remit) = (period.first, period.last, period.remittance);
     let code = period.code.digits();
+    let shown = last.write_text();
     if first.number() > last.number() {
-        let (first, last) = (first.write_text(), last.write_text());
-        let middle = b", after its last day ";
-        return push_fields(
-            out,
-            &[b"period ", &code, b" begins ", &first, middle, &last],
-        );
-    }
-    let remit = period.remittance;
-    if last.number() < remit.number() {
-        return Ok(());
-    }
-    let fields: [&[u8]; 7] = [
-        b"period ",
-        &code,
-        b" ends ",
-        &last.write_text(),
-        b", and its remit is ",
-        &remit.write_text(),
-        b": it has to be after the last day",
-    ];
-    push_fields(out, &fields)
-}
-
-/// Appends the day on which a period has to begin, after one that ends on this day.
-fn push_next(out: &mut Vec<u8>, last: Day) -> Result<(), AllocError> {
-    match Day::of_number(last.plus(1)) {
-        Ok(next) => push_fields(out, &[b": it has to begin ", &next.write_text()]),
-        Err(_) => Ok(()),
+        let first = first.write_text();
+        line.say(&[
+            b"period ",
+            &code,
+            b" begins ",
+            &first,
+            b", after its last day ",
+            &shown,
+        ]);
+        true
+    } else if last.number() < remit.number() {
+        false
+    } else {
+        let (middle, end) = (b", and its remit is ", b": it has to be after the last day");
+        let remit = remit.write_text();
+        line.say(&[b"period ", &code, b" ends ", &shown, middle, &remit, end]);
+        true
     }
 }
 
-/// A period that does not begin on the day after the one before it.
-fn push_gap(out: &mut Vec<u8>, before: Option<Period>, period: &Period) -> Result<(), AllocError> {
+/// Says on which day a period has to begin, after one that ends on this day.
+fn say_next(line: &mut Line, last: Day) {
+    if let Ok(next) = Day::of_number(last.plus(1)) {
+        line.say(&[b": it has to begin ", &next.write_text()]);
+    }
+}
+
+/// Says that a period does not begin on the day after the one before it, and answers whether that is so.
+fn say_gap(line: &mut Line, before: Option<Period>, period: &Period) -> bool {
     let Some(before) = before else {
-        return Ok(());
+        return false;
     };
     if before.last.number() + 1 == period.first.number() {
-        return Ok(());
+        return false;
     }
-    let fields: [&[u8]; 8] = [
+    line.say(&[
         b"period ",
         &period.code.digits(),
         b" begins ",
@@ -58,89 +54,56 @@ fn push_gap(out: &mut Vec<u8>, before: Option<Period>, period: &Period) -> Resul
         &before.code.digits(),
         b" before it ends ",
         &before.last.write_text(),
-    ];
-    push_fields(out, &fields)?;
-    push_next(out, before.last)
+    ]);
+    say_next(line, before.last);
+    true
 }
 
-/// Which period does not follow the one before it.
-pub(crate) fn push_order(
-    out: &mut Vec<u8>,
-    plan: &Plan,
-    read: &PlanText,
-) -> Result<(), AllocError> {
+/// Says which new period does not follow the one before it.
+pub(crate) fn say_order(line: &mut Line, plan: &Plan, read: &PlanText) {
     let mut before = plan.periods().last().copied();
     for period in &read.periods {
-        if out.is_empty() && plan.period(period.code).is_none() {
-            push_own_days(out, period)?;
-            if out.is_empty() {
-                push_gap(out, before, period)?;
+        if plan.period(period.code).is_none() {
+            if say_own_days(line, period) || say_gap(line, before, period) {
+                return;
             }
             before = Some(*period);
         }
     }
-    Ok(())
 }
 
-/// Whether a rate is in a list, by its key.
-fn has_rate(rates: &[Rate], rate: &Rate) -> bool {
-    rates
-        .iter()
-        .any(|it| it.airline == rate.airline && it.from == rate.from)
+/// Says that an entry begins too early.
+fn say_begun(line: &mut Line, entry: &[&[u8]], from: Day, day: Day) {
+    line.say(entry);
+    line.say(&[
+        b" begins ",
+        &from.write_text(),
+        b", and the business day is ",
+        &day.write_text(),
+        b": it has to begin on a later day",
+    ]);
 }
 
-/// Whether a tax is in a list, by its key.
-fn has_tax(taxes: &[CommissionTax], tax: &CommissionTax) -> bool {
-    taxes.iter().any(|it| it.from == tax.from)
-}
-
-/// Which new rate begins too early.
-fn push_late_rate(out: &mut Vec<u8>, plan: &Plan, rates: &[Rate]) -> Result<(), AllocError> {
+/// Says which new tax begins too early.
+fn say_late_tax(line: &mut Line, plan: &Plan, read: &PlanText) {
     let day = plan.day();
-    for rate in rates {
-        if rate.from.number() <= day.number() && !has_rate(plan.rates(), rate) {
-            let fields: [&[u8]; 7] = [
-                b"a rate of ",
-                &rate.airline.digits(),
-                b" begins ",
-                &rate.from.write_text(),
-                b", and the business day is ",
-                &day.write_text(),
-                b": it has to begin on a later day",
-            ];
-            return push_fields(out, &fields);
+    for tax in &read.commission_taxes {
+        if tax.from.number() <= day.number() && !plan.commission_taxes().contains(tax) {
+            say_begun(line, &[b"a commission_tax"], tax.from, day);
+            return;
         }
     }
-    Ok(())
 }
 
-/// Which new tax begins too early.
-fn push_late_tax(
-    out: &mut Vec<u8>,
-    plan: &Plan,
-    taxes: &[CommissionTax],
-) -> Result<(), AllocError> {
+/// Says which new rate or tax begins too early. No entry of the text differs from a published one.
+pub(crate) fn say_late(line: &mut Line, plan: &Plan, read: &PlanText) {
     let day = plan.day();
-    for tax in taxes {
-        if tax.from.number() <= day.number() && !has_tax(plan.commission_taxes(), tax) {
-            let fields: [&[u8]; 5] = [
-                b"a commission_tax begins ",
-                &tax.from.write_text(),
-                b", and the business day is ",
-                &day.write_text(),
-                b": it has to begin on a later day",
-            ];
-            return push_fields(out, &fields);
+    for rate in &read.rates {
+        if rate.from.number() <= day.number() && !plan.rates().contains(rate) {
+            let airline = rate.airline.digits();
+            say_begun(line, &[b"a rate of ", &airline], rate.from, day);
+            return;
         }
     }
-    Ok(())
-}
-
-/// Which new rate or tax begins too early.
-pub(crate) fn push_late(out: &mut Vec<u8>, plan: &Plan, read: &PlanText) -> Result<(), AllocError> {
-    push_late_rate(out, plan, &read.rates)?;
-    if out.is_empty() {
-        push_late_tax(out, plan, &read.commission_taxes)?;
-    }
-    Ok(())
+    say_late_tax(line, plan, read);
 }

@@ -1,15 +1,14 @@
 //! The first key of a plan text that is missing, unknown or wrong: P02.
 
-use crate::keys::{Form, Key, LISTS, PERIOD, RATE, TAX, TERMS, is_among, is_of_the_text, keys_of};
-use crate::values::push_wrong;
+use crate::keys::{Form, Key, PERIOD, RATE, TAX, TEXT, is_among, keys_of};
+use crate::line::Line;
+use crate::values::say_wrong;
 use crate::written::{Place, TOP, below_a_table, find_written};
-use bsp_plan_trial::push_fields;
 use itoa::Buffer;
-use std::alloc::AllocError;
+use std::str;
 use toml::{Table, Value};
 
 /// What is wrong with a table.
-#[derive(Clone, Copy)]
 enum TableFault<'t> {
     NoTable,
     Unknown(&'t str),
@@ -17,46 +16,32 @@ enum TableFault<'t> {
     Wrong(Key, &'t Value),
 }
 
-/// A plan text that is TOML.
-#[derive(Clone, Copy)]
-struct Source<'s> {
-    text: &'s [u8],
-    document: &'s Table,
-}
-
-/// What is wrong with the value at a key, if anything is.
-fn key_fault(table: &Table, key: Key) -> Option<TableFault<'_>> {
-    match table.get(key.name) {
-        Some(value) if key.form.fits(value) => None,
-        Some(value) => Some(TableFault::Wrong(key, value)),
-        None => Some(TableFault::Missing(key)),
-    }
-}
-
-/// What is wrong with the first of some keys that is not in its form.
-fn keys_fault<'t>(table: &'t Table, keys: &[Key]) -> Option<TableFault<'t>> {
-    for key in keys {
-        if let Some(fault) = key_fault(table, *key) {
-            return Some(fault);
-        }
-    }
-    None
-}
-
 /// The first key of a table that is none of these.
-fn unknown_key<'t>(table: &'t Table, keys: &[Key], lists: &[&str]) -> Option<&'t str> {
+fn unknown_key<'t>(table: &'t Table, keys: &[Key]) -> Option<&'t str> {
     for name in table.keys() {
         let name = name.as_str();
-        if !is_among(keys, name) && !lists.iter().any(|list| *list == name) {
+        if !is_among(keys, name) {
             return Some(name);
         }
     }
     None
 }
 
-/// What is wrong with the keys of a table, the lists apart.
-fn table_fault<'t>(table: &'t Table, keys: &[Key], lists: &[&str]) -> Option<TableFault<'t>> {
-    match unknown_key(table, keys, lists) {
+/// What is wrong with the first of some keys that is not in its form.
+fn keys_fault<'t>(table: &'t Table, keys: &[Key]) -> Option<TableFault<'t>> {
+    for key in keys {
+        match (table.get(key.name), key.form) {
+            (Some(value), form) if !form.fits(value) => return Some(TableFault::Wrong(*key, value)),
+            (Some(_), _) | (None, Form::List) => {}
+            (None, _) => return Some(TableFault::Missing(*key)),
+        }
+    }
+    None
+}
+
+/// What is wrong with a table, the items of its lists apart.
+fn table_fault<'t>(table: &'t Table, keys: &[Key]) -> Option<TableFault<'t>> {
+    match unknown_key(table, keys) {
         Some(name) => Some(TableFault::Unknown(name)),
         None => keys_fault(table, keys),
     }
@@ -65,202 +50,171 @@ fn table_fault<'t>(table: &'t Table, keys: &[Key], lists: &[&str]) -> Option<Tab
 /// What is wrong with an item of a list.
 fn item_fault<'t>(value: &'t Value, keys: &[Key]) -> Option<TableFault<'t>> {
     match value.as_table() {
-        Some(table) => table_fault(table, keys, &[]),
+        Some(table) => table_fault(table, keys),
         None => Some(TableFault::NoTable),
     }
 }
 
-/// Appends that a table has a key which it may not have.
-fn push_unknown(out: &mut Vec<u8>, place: Place<'_>, name: &str) -> Result<(), AllocError> {
-    if !place.list.is_empty() && is_of_the_text(name) {
-        let end = b" is a key of the text: write it above the first table";
-        return push_fields(out, &[name.as_bytes(), end]);
+/// Says that a table has a key which it may not have.
+fn say_unknown(line: &mut Line, list: &str, name: &str) {
+    line.say(&[name.as_bytes()]);
+    if !list.is_empty() && is_among(&TEXT, name) {
+        line.say(&[b" is a key of the text: write it above the first table"]);
+    } else {
+        line.say(&[b" is unknown: ", keys_of(list).as_bytes()]);
     }
-    push_fields(out, &[name.as_bytes(), b" is unknown: "])?;
-    out.extend_from_slice(keys_of(place.list).as_bytes())
 }
 
-/// Appends that the text itself lacks a key, which a table may have.
-fn push_below(out: &mut Vec<u8>, line: usize, key: Key) -> Result<(), AllocError> {
-    let mut number = Buffer::new();
-    let fields: [&[u8]; 5] = [
-        b"line ",
-        number.format(line).as_bytes(),
-        b": ",
-        key.name.as_bytes(),
-        b" is below the head of a table: write it above the first table",
-    ];
-    push_fields(out, &fields)
+/// The line below the head of a table that has a key which the text itself lacks.
+fn misplaced(text: &str, list: &str, key: Key) -> Option<usize> {
+    if list.is_empty() {
+        below_a_table(text, key.name)
+    } else {
+        None
+    }
 }
 
-/// Appends that a table lacks a key.
-fn push_missing(
-    out: &mut Vec<u8>,
-    text: &[u8],
-    place: Place<'_>,
-    key: Key,
-) -> Result<(), AllocError> {
-    if place.list.is_empty() {
-        if let Some(line) = below_a_table(text, key.name) {
-            return push_below(out, line, key);
+/// Says that a table lacks a key.
+fn say_missing(line: &mut Line, text: &str, list: &str, key: Key) {
+    let name = key.name.as_bytes();
+    match misplaced(text, list, key) {
+        Some(number) => {
+            let mut shown = Buffer::new();
+            let number = shown.format(number).as_bytes();
+            let end = b" is below the head of a table: write it above the first table";
+            line.say(&[b"line ", number, b": ", name, end]);
         }
+        None => line.say(&[name, b" is missing: it is ", key.form.wanted().as_bytes()]),
     }
-    let wanted = key.form.wanted().as_bytes();
-    push_fields(out, &[key.name.as_bytes(), b" is missing: it is ", wanted])
 }
 
-/// Appends what is wrong with a table.
-fn push_fault(
-    out: &mut Vec<u8>,
-    text: &[u8],
-    place: Place<'_>,
-    fault: TableFault<'_>,
-) -> Result<(), AllocError> {
+/// Says what is wrong with a table.
+fn say_fault(line: &mut Line, text: &str, place: Place<'_>, fault: TableFault<'_>) {
+    let list = place.list;
     match fault {
         TableFault::NoTable => {
-            let name = place.list.as_bytes();
-            push_fields(
-                out,
-                &[b"it is no table: write [[", name, b"]] above its keys"],
-            )
+            let (start, end) = (b"it is no table: write [[", b"]] above its keys");
+            line.say(&[start, list.as_bytes(), end]);
         }
-        TableFault::Unknown(name) => push_unknown(out, place, name),
-        TableFault::Missing(key) => push_missing(out, text, place, key),
+        TableFault::Unknown(name) => say_unknown(line, list, name),
+        TableFault::Missing(key) => say_missing(line, text, list, key),
         TableFault::Wrong(key, value) => {
-            let found = find_written(text, place, key.name).map(|found| found.value);
-            push_wrong(out, key, value, found)
+            say_wrong(line, key, value, find_written(text, place, key.name));
         }
     }
 }
 
 /// The code of a period, where it is one.
 fn code_of(item: &Value) -> Option<&str> {
-    let code = item.as_table()?.get("code")?.as_str()?;
-    if Form::Period.fits_text(code.as_bytes()) {
-        Some(code)
-    } else {
-        None
+    match item.get("code") {
+        Some(Value::String(code)) if Form::Period.fits_text(code.as_bytes()) => Some(code.as_str()),
+        _ => None,
     }
 }
 
-/// Appends the name of an item: the code of a period, or its number in the list.
-fn push_name(out: &mut Vec<u8>, place: Place<'_>, item: &Value) -> Result<(), AllocError> {
-    let name = place.list.as_bytes();
+/// Says the name of an item: the code of a period, or its number in the list.
+fn say_name(line: &mut Line, place: Place<'_>, item: &Value) {
+    let list = place.list.as_bytes();
     if let Some(code) = code_of(item) {
-        return push_fields(out, &[name, b" ", code.as_bytes(), b": "]);
+        line.say(&[list, b" ", code.as_bytes(), b": "]);
+    } else {
+        let mut number = Buffer::new();
+        let number = number.format(place.entry.saturating_add(1));
+        line.say(&[list, b" ", number.as_bytes(), b": "]);
     }
-    let mut number = Buffer::new();
-    let number = number.format(place.entry.saturating_add(1)).as_bytes();
-    push_fields(out, &[name, b" ", number, b": "])
 }
 
-/// Appends what is wrong with the first item of a list that is at fault.
-fn push_items(
-    out: &mut Vec<u8>,
-    text: &[u8],
-    name: &str,
-    list: &[Value],
-    keys: &[Key],
-) -> Result<(), AllocError> {
-    for (entry, item) in list.iter().enumerate() {
+/// Says what is wrong with the first item of a list that is at fault, and answers whether one is.
+fn say_items(line: &mut Line, text: &str, list: &str, items: &[Value], keys: &[Key]) -> bool {
+    for (entry, item) in items.iter().enumerate() {
         if let Some(fault) = item_fault(item, keys) {
-            let place = Place { list: name, entry };
-            push_name(out, place, item)?;
-            return push_fault(out, text, place, fault);
+            let place = Place { list, entry };
+            say_name(line, place, item);
+            say_fault(line, text, place, fault);
+            return true;
         }
     }
-    Ok(())
+    false
 }
 
-/// Appends what is wrong with the list at a key, if it is there.
-fn push_list(
-    out: &mut Vec<u8>,
-    source: Source<'_>,
-    name: &str,
-    keys: &[Key],
-) -> Result<(), AllocError> {
-    let Some(value) = source.document.get(name) else {
-        return Ok(());
-    };
-    match value.as_array() {
-        Some(list) => push_items(out, source.text, name, list, keys),
-        None => {
-            let name = name.as_bytes();
-            let fields: [&[u8]; 6] = [
-                name,
-                b" is no list: write [[",
-                name,
-                b"]] in place of [",
-                name,
-                b"]",
-            ];
-            push_fields(out, &fields)
+/// Says what is wrong with the list of tables at a key, and answers whether anything is.
+fn say_list(line: &mut Line, text: &str, document: &Table, list: &str, keys: &[Key]) -> bool {
+    match document.get(list) {
+        Some(Value::Array(items)) => say_items(line, text, list, items, keys),
+        Some(_) => {
+            let name = list.as_bytes();
+            let (middle, end) = (b" is no list: write [[", b"]] in place of [");
+            line.say(&[name, middle, name, end, name, b"]"]);
+            true
         }
+        None => false,
     }
 }
 
-/// Appends what is wrong with a number in the list of airlines.
-fn push_number(out: &mut Vec<u8>, number: i64) -> Result<(), AllocError> {
+/// Says what is wrong with a number in the list of airlines.
+fn say_number(line: &mut Line, number: i64) {
     let mut shown = Buffer::new();
     let shown = shown.format(number).as_bytes();
     if Form::Airline.fits_text(shown) {
         let middle = b" has no quotes: write \"";
-        return push_fields(out, &[shown, middle, shown, b"\""]);
+        line.say(&[b"airline: ", shown, middle, shown, b"\""]);
+    } else {
+        line.say(&[
+            b"airline: ",
+            shown,
+            b" is not ",
+            Form::Airline.wanted().as_bytes(),
+        ]);
     }
-    push_fields(out, &[shown, b" is not "])?;
-    out.extend_from_slice(Form::Airline.wanted().as_bytes())
 }
 
-/// Appends what is wrong with an item of the list of airlines.
-fn push_airline(out: &mut Vec<u8>, item: &Value) -> Result<(), AllocError> {
-    out.extend_from_slice(b"airline: ")?;
-    if let Some(number) = item.as_integer() {
-        return push_number(out, number);
+/// Says what is wrong with an item of the list of airlines.
+fn say_airline(line: &mut Line, item: &Value) {
+    let wanted = Form::Airline.wanted().as_bytes();
+    match item {
+        Value::String(text) => {
+            line.say(&[b"airline: \"", text.as_bytes()]);
+            line.say(&[b"\" is not ", wanted]);
+        }
+        Value::Integer(number) => say_number(line, *number),
+        _ => line.say(&[b"airline: each item is ", wanted]),
     }
-    match item.as_str() {
-        Some(text) => push_fields(out, &[b"\"", text.as_bytes(), b"\" is not "])?,
-        None => out.extend_from_slice(b"each item is ")?,
-    }
-    out.extend_from_slice(Form::Airline.wanted().as_bytes())
 }
 
-/// Appends what is wrong with the list of airlines, if it is there.
-fn push_airlines(out: &mut Vec<u8>, document: &Table) -> Result<(), AllocError> {
+/// Says what is wrong with the list of airlines, and answers whether anything is.
+fn say_airlines(line: &mut Line, document: &Table) -> bool {
     let Some(value) = document.get("airline") else {
-        return Ok(());
+        return false;
     };
-    let Some(list) = value.as_array() else {
-        return out.extend_from_slice(b"airline is no list: it is as [\"125\", \"220\"]");
+    let Some(items) = value.as_array() else {
+        line.say(&[b"airline is no list: it is as [\"125\", \"220\"]"]);
+        return true;
     };
-    match list.iter().find(|item| !Form::Airline.fits(item)) {
-        Some(item) => push_airline(out, item),
-        None => Ok(()),
+    for item in items {
+        if !Form::Airline.fits(item) {
+            say_airline(line, item);
+            return true;
+        }
     }
+    false
 }
 
-/// Appends what is wrong with the first list at fault.
-fn push_lists(out: &mut Vec<u8>, source: Source<'_>) -> Result<(), AllocError> {
-    push_airlines(out, source.document)?;
-    if out.is_empty() {
-        push_list(out, source, "rate", &RATE)?;
-    }
-    if out.is_empty() {
-        push_list(out, source, "period", &PERIOD)?;
-    }
-    if out.is_empty() {
-        push_list(out, source, "commission_tax", &TAX)?;
-    }
-    Ok(())
+/// Says what is wrong with the first list at fault, and answers whether one is.
+fn say_lists(line: &mut Line, text: &str, document: &Table) -> bool {
+    say_airlines(line, document)
+        || say_list(line, text, document, "rate", &RATE)
+        || say_list(line, text, document, "period", &PERIOD)
+        || say_list(line, text, document, "commission_tax", &TAX)
 }
 
-/// Appends what is wrong with the first key of a plan text that is missing, unknown or wrong.
-pub(crate) fn push_document_fault(
-    out: &mut Vec<u8>,
-    text: &[u8],
-    document: &Table,
-) -> Result<(), AllocError> {
-    match table_fault(document, &TERMS, &LISTS) {
-        Some(fault) => push_fault(out, text, TOP, fault),
-        None => push_lists(out, Source { text, document }),
+/// Says what is wrong with the first key of a plan text that is missing, unknown or wrong.
+pub(crate) fn say_document_fault(line: &mut Line, text: &[u8], document: &Table) {
+    // It is UTF-8, as each TOML text is.
+    let text = str::from_utf8(text).unwrap_or_default();
+    match table_fault(document, &TEXT) {
+        Some(fault) => say_fault(line, text, TOP, fault),
+        None => {
+            let _said = say_lists(line, text, document);
+        }
     }
 }

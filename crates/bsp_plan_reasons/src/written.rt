@@ -12,85 +12,58 @@ pub(crate) struct Place<'n> {
 /// The table of the text itself.
 pub(crate) const TOP: Place<'static> = Place { list: "", entry: 0 };
 
-/// What is written at a key.
-#[derive(Clone, Copy)]
-pub(crate) struct Written<'t> {
-    /// The number of its line, from 1.
-    pub(crate) line: usize,
-    /// The characters of its value.
-    pub(crate) value: &'t [u8],
-}
-
-/// What comes before the first byte of this kind, without spaces around it.
-fn before(text: &[u8], end: u8) -> &[u8] {
-    text.split(|byte| *byte == end)
-        .next()
-        .unwrap_or(text)
-        .trim_ascii()
+/// What comes before the first character of this kind, without spaces around it.
+fn before(text: &str, end: char) -> &str {
+    match text.split_once(end) {
+        Some((start, _)) => start.trim_ascii(),
+        None => text.trim_ascii(),
+    }
 }
 
 /// The name in the brackets of a line.
-pub(crate) fn header(line: &[u8]) -> Option<&[u8]> {
-    let line = line.trim_ascii();
-    if let Some(rest) = line.strip_prefix(b"[[") {
-        return Some(before(rest, b']'));
+pub(crate) fn header(line: &str) -> Option<&str> {
+    let rest = line.trim_ascii().strip_prefix('[')?;
+    match rest.strip_prefix('[') {
+        Some(rest) => Some(before(rest, ']')),
+        None => Some(before(rest, ']')),
     }
-    let rest = line.strip_prefix(b"[")?;
-    Some(before(rest, b']'))
 }
 
 /// A value without the comment that follows it.
-fn without_comment(value: &[u8]) -> &[u8] {
-    let Some(rest) = value.strip_prefix(b"\"") else {
-        return before(value, b'#');
+fn without_comment(value: &str) -> &str {
+    let Some(rest) = value.strip_prefix('"') else {
+        return before(value, '#');
     };
-    match rest.iter().position(|byte| *byte == b'"') {
-        Some(end) => &value[..value.len().min(end.saturating_add(2))],
+    match rest.split_once('"') {
+        Some((text, _)) => value.get(..text.len().saturating_add(2)).unwrap_or(value),
         None => value,
     }
 }
 
 /// The key of a line.
-pub(crate) fn key(line: &[u8]) -> &[u8] {
-    before(line, b'=')
+pub(crate) fn key(line: &str) -> &str {
+    before(line, '=')
 }
 
-/// The value in a line, behind its key.
-pub(crate) fn value(line: &[u8]) -> Option<&[u8]> {
-    let mut parts = line.splitn(2, |byte| *byte == b'=');
-    let _key = parts.next()?;
-    let value = parts.next()?;
-    Some(without_comment(value.trim_ascii()))
-}
-
-/// What is written at a key in a line, if it has the key.
-fn written_in<'t>(line: &'t [u8], number: usize, name: &str) -> Option<Written<'t>> {
-    if key(line) != name.as_bytes() {
-        return None;
+/// The value in a line, after its key.
+pub(crate) fn value(line: &str) -> Option<&str> {
+    match line.split_once('=') {
+        Some((_, value)) => Some(without_comment(value.trim_ascii())),
+        None => None,
     }
-    let value = value(line)?;
-    Some(Written {
-        line: number,
-        value,
-    })
 }
 
 /// What is written at a key of a table, where a line of its own has it.
-pub(crate) fn find_written<'t>(
-    text: &'t [u8],
-    place: Place<'_>,
-    name: &str,
-) -> Option<Written<'t>> {
+pub(crate) fn find_written<'t>(text: &'t str, place: Place<'_>, name: &str) -> Option<&'t str> {
     let mut seen = 0_usize;
     let mut is_here = place.list.is_empty();
-    for (index, line) in text.split(|byte| *byte == b'\n').enumerate() {
+    for line in text.split('\n') {
         if let Some(list) = header(line) {
-            is_here = list == place.list.as_bytes() && seen == place.entry;
-            if list == place.list.as_bytes() {
-                seen = seen.saturating_add(1);
-            }
-        } else if is_here {
-            if let Some(found) = written_in(line, index.saturating_add(1), name) {
+            let is_of_the_list = list == place.list;
+            is_here = is_of_the_list && seen == place.entry;
+            seen = seen.saturating_add(usize::from(is_of_the_list));
+        } else if is_here && key(line) == name {
+            if let Some(found) = value(line) {
                 return Some(found);
             }
         }
@@ -99,12 +72,12 @@ pub(crate) fn find_written<'t>(
 }
 
 /// The line of the first table that has a key, where a line of its own has it.
-pub(crate) fn below_a_table(text: &[u8], name: &str) -> Option<usize> {
+pub(crate) fn below_a_table(text: &str, name: &str) -> Option<usize> {
     let mut is_below = false;
-    for (index, line) in text.split(|byte| *byte == b'\n').enumerate() {
+    for (index, line) in text.split('\n').enumerate() {
         if header(line).is_some() {
             is_below = true;
-        } else if is_below && key(line) == name.as_bytes() {
+        } else if is_below && key(line) == name {
             return Some(index.saturating_add(1));
         }
     }
@@ -112,7 +85,7 @@ pub(crate) fn below_a_table(text: &[u8], name: &str) -> Option<usize> {
 }
 
 /// The line with a number, from 1.
-pub(crate) fn line_of(text: &[u8], number: usize) -> &[u8] {
+pub(crate) fn line_of(text: &str, number: usize) -> &str {
     let index = number.saturating_sub(1);
-    text.split(|byte| *byte == b'\n').nth(index).unwrap_or(b"")
+    text.split('\n').nth(index).unwrap_or_default()
 }
