@@ -86,7 +86,7 @@ CONNECTIONS = {
     " --connections 1": 1,
 }
 INPUTS = {"check": "v1.ret", "hotcheck": "v3.hot"}
-CUT = {"check": "record 2: the file ends without a trailer: write `Z0000002000000000000000000000{`",
+CUT = {"check": "record 2: the file ends without a trailer: write `Z0000002000000000000000000000{`, and 106 spaces up to 136 characters",
        "hotcheck": "record 2: the file ends before its last record BFT99: after BFH01 comes BCH02: fetch the file again; if it stays so, ask the office"}
 PASSED = {"check": "", "hotcheck": "airline 220, period 24012"}
 REPORTS = {"check": SALE, "hotcheck": NO_DOCUMENTS}

@@ -125,9 +125,9 @@ reports check exchange-of-two.ret 0 "$exchange"
 reports check v0.ret 0 "$nothing"
 reports check v0-without-its-last-line-end 0 "$nothing"
 reports check v0-without-its-last-character 1 'F01 record 2' 'record 2: it has 135 characters, 1 too few: a field is too short, or spaces at its end are missing'
-reports check v0-without-its-trailer 1 'F08 record 2' 'record 2: the file ends without a trailer: write `Z0000002000000000000000000000{`'
+reports check v0-without-its-trailer 1 'F08 record 2' 'record 2: the file ends without a trailer: write `Z0000002000000000000000000000{`, and 106 spaces up to 136 characters'
 reports check v1-cut-in-record-2 1 'F01 record 2' 'record 2: it has 135 characters, 1 too few: a field is too short, or spaces at its end are missing'
-reports check v1-cut-behind-record-1 1 'F08 record 2' 'record 2: the file ends without a trailer: write `Z0000002000000000000000000000{`'
+reports check v1-cut-behind-record-1 1 'F08 record 2' 'record 2: the file ends without a trailer: write `Z0000002000000000000000000000{`, and 106 spaces up to 136 characters'
 reports check refund-with-cr-lf 0 "$refund"
 reports check empty 1 'F08 record 1' 'record 1: the file ends here: it is empty, and the smallest file has a header and a trailer'
 reports check binary 1 'F01 record 1' 'record 1: it has 2 characters, 134 too few: a field is too short, or spaces at its end are missing'
@@ -187,8 +187,8 @@ mistakes check v1.ret <<'END'
 4s/^8000001CA/8000001EX/|F03 record 4|record 4, columns 1-9: a record `8` with EX is not allowed here: a form EX needs a record 3, which names the old ticket, before record 5
 5s/^Z0000005/Z0000006/|F06 record 5|record 5, columns 2-8: the number of records, header and trailer included, is 5 and not 6: write `0000005`
 5s/{/A/|F07 record 5|record 5, columns 16-30: the sum of all records 8, EX included and refunds below zero, is 235.00 and not 235.01: write `00000000002350{`
-5d|F08 record 5|record 5: the file ends without a trailer: write `Z0000005000000100000000002350{`
-5p|F09 record 6|record 6: a line follows the trailer: a file has one header and one trailer
+5d|F08 record 5|record 5: the file ends without a trailer: write `Z0000005000000100000000002350{`, and 106 spaces up to 136 characters
+5p|F09 record 6|record 6: a line follows the trailer: remove it; if it begins with `1`, a second file begins here: send that as a file of its own
 END
 mistakes check two-related.ret <<'END'
 1s/PROD002/PROD001/|F03 record 4|record 4, column 1: a record `3` is not allowed here: a second record 3 needs profile 002, in columns 28-30 of the header

@@ -1,5 +1,5 @@
 -- The verdict on an input, with its exit status and the explanation of a fault.
-use Rattle.std.specs.Prelude.{◌≡◌, ℕ, ◌-◌, List, take, true, Result, Ok, Err, Some, None}
+use Rattle.std.specs.Prelude.{◌≡◌, ℕ, ◌-◌, List, take, true, Result, Ok, Err, Some}
 use Rattle.bsp_ret.specs.Lines.{lines}
 use Rattle.bsp_ret.specs.declared.model.RetFault.{RetFault}
 use Rattle.bsp_ret.specs.Table.{first_fault}
@@ -33,7 +33,6 @@ pub record SaysOfRetFault (bytes : List ℕ) (explanation : RetExplanation) : Ty
   pub fault : RetFault
   pub is_first : first_fault (lines bytes) ≡ Some fault
   pub number : explanation.record ≡ fault.at
-  pub name : explanation.name ≡ None
   pub row : is_reason_of fault.code explanation.reason ≡ true
   pub says : (line : List ℕ) → IsLine (fault.at - 1) (lines bytes) line → Says fault.at (counted (take (fault.at - 1) (lines bytes))) line explanation.reason
 

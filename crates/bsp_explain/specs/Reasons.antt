@@ -31,7 +31,4 @@ columns_of (reason.Payment form place) = Some (1, 9)
 columns_of (reason.RecordCount stated counted) = Some (2, 8)
 columns_of (reason.TransactionCount stated counted) = Some (9, 15)
 columns_of (reason.Sum stated summed) = Some (16, 30)
-columns_of (reason.SequenceNumber n) = Some (4, 11)
-columns_of reason.NameDigits = Some (12, 13)
-columns_of reason.NameLetters = Some (1, 3)
 columns_of _ = None

@@ -59,7 +59,7 @@ impl Before {
 }
 
 /// The text after so many lines, and what is counted in these.
-pub fn text_after(text: &[u8], skipped: usize) -> (Before, &[u8])
+pub(crate) fn text_after(text: &[u8], skipped: usize) -> (Before, &[u8])
     ensures before { result.0 ≡ counted (take skipped (lines text.now)) }
     ensures rest { lines result.1.now ≡ drop skipped (lines text.now) }
     ensures few { result.0.transactions ≤ skipped }

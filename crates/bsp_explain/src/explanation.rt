@@ -1,6 +1,6 @@
 //! Explanations as people read them.
 
-ghost use Rattle.std.specs.Prelude.{◌≡◌, ◌⊎◌, ◌-◌, ◌<◌, ◌^◌, ℕ, List, [], take, true, false, None, Some};
+ghost use Rattle.std.specs.Prelude.{◌≡◌, ◌⊎◌, ◌-◌, ◌<◌, ◌^◌, ℕ, List, [], take, true, false, Some};
 ghost use Rattle.bsp_records.specs.Lines.{lines};
 ghost use Rattle.bsp_ret.specs.Table.{first_fault};
 ghost use Rattle.bsp_explain.specs.Before.{counted, IsLine};
@@ -9,33 +9,35 @@ ghost use Rattle.bsp_explain.specs.RetReasons.{Says, is_reason_of, is_without};
 use crate::before::{Before, text_after};
 use crate::field::Field;
 use crate::form::Form;
+use crate::hint::{Hint, hint_of, write_moved_day, write_short};
 use crate::name::Name;
 use crate::reason::Reason;
 use crate::ret_reasons::ret_reason;
 use bsp_fault_texts::Characters;
-use bsp_hot_records::RecordName;
 use bsp_records::first_line;
 use bsp_ret::RetFault;
 use std::fmt;
 
-/// What is wrong with a record of a file. It is displayed as ``record 3, columns 32-33: tax place 2 has
-/// `AB` after `RA` ``. In a HOT file the record's name follows its number.
+/// What is wrong with a record of a RET file. It is displayed as ``record 3, columns 32-33: tax place 2 has
+/// `AB` after `RA` ``.
 #[derive(Clone, Copy)]
 pub struct Explanation {
     /// The number of the record, counted from 1.
     pub record: usize,
-    /// The name of a record of a HOT file, where it has one.
-    pub name: Option<RecordName>,
     /// What is wrong with it.
     pub reason: Reason,
     /// What the record has in the columns at fault, where that is shown.
     pub found: Option<Characters>,
+    /// What the record shows of the mistake, where it shows more.
+    pub hint: Option<Hint>,
 }
 
 /// What a line has in the columns at fault.
 fn found_in(line: &[u8], reason: Reason) -> Option<Characters> {
-    let (first, last) = reason.columns()?;
-    Characters::between(line, first, last)
+    match reason.columns() {
+        Some((first, last)) => Characters::between(line, first, last),
+        None => None,
+    }
 }
 
 /// What is wrong with a line of a RET file, or that it has no such fault.
@@ -60,8 +62,8 @@ fn first_or_empty(text: &[u8]) -> &[u8]
     first_line(text).0
 }
 
-/// What is wrong with the line of a text whose number a fault has, and what the line has there.
-fn text_reason(text: &[u8], fault: RetFault) -> (Reason, Option<Characters>)
+/// What is wrong with the line of a text whose number a fault has, what the line has there, and what more it shows.
+fn text_reason(text: &[u8], fault: RetFault) -> (Reason, Option<Characters>, Option<Hint>)
     ensures says { (line : List ℕ) → IsLine (fault.at - 1) (lines text.now) line → Says fault.at (counted (take (fault.at - 1) (lines text.now))) line result.0 }
     ensures trailer { (records : ℕ) (before : Before) → result.0 ≡ Reason.NoTrailer records before → (records ≡ fault.at) × (before ≡ counted (take (fault.at - 1) (lines text.now))) }
     ensures explained { first_fault (lines text.now) ≡ Some fault → is_reason_of fault.code result.0 ≡ true }
@@ -69,13 +71,16 @@ fn text_reason(text: &[u8], fault: RetFault) -> (Reason, Option<Characters>)
     let (before, rest) = text_after(text, fault.at.saturating_sub(1));
     let line = first_or_empty(rest);
     let reason = line_reason(fault, line, before);
-    (reason, found_in(line, reason))
+    (
+        reason,
+        found_in(line, reason),
+        hint_of(line, fault.at == 1, reason),
+    )
 }
 
 /// Explains the first fault of the text of a RET file.
 pub fn explain_ret(text: &[u8], fault: RetFault) -> Explanation
     ensures number { result.record ≡ fault.at }
-    ensures name { result.name ≡ None }
     // The reason is true of the line, after what is counted before it.
     ensures says { (line : List ℕ) → IsLine (fault.at - 1) (lines text.now) line → Says fault.at (counted (take (fault.at - 1) (lines text.now))) line result.reason }
     // A trailer that is missing has to state what is counted in the lines.
@@ -83,26 +88,13 @@ pub fn explain_ret(text: &[u8], fault: RetFault) -> Explanation
     // The fault that the reader answers for the text has a reason of its row.
     ensures explained { first_fault (lines text.now) ≡ Some fault → is_reason_of fault.code result.reason ≡ true }
 {
-    let (reason, found) = text_reason(text, fault);
+    let (reason, found, hint) = text_reason(text, fault);
     Explanation {
         record: fault.at,
-        name: None,
         reason,
         found,
+        hint,
     }
-}
-
-/// Writes the letters and the digits of a name, as ` (BKS24)`, where there is one.
-fn write_name<W: fmt::Write>(f: &mut fmt::Formatter<W>, name: Option<RecordName>) -> fmt::Result {
-    let Some(name) = name else {
-        return Ok(());
-    };
-    let ([a, b, c], [tens, ones]) = (name.letters(), name.digits());
-    write!(
-        f,
-        " ({}{}{}{}{})",
-        a as char, b as char, c as char, tens as char, ones as char
-    )
 }
 
 /// Writes the columns at fault, where it is not the whole record.
@@ -183,7 +175,10 @@ impl Explanation {
     /// Writes what is wrong with the record, with the characters that show it.
     fn write_reason<W: fmt::Write>(&self, f: &mut fmt::Formatter<W>) -> fmt::Result {
         match (self.reason, self.found) {
-            (Reason::Unfit(field), Some(found)) => write_field(f, field, found),
+            (Reason::Unfit(field), Some(found)) => match self.hint {
+                Some(hint) => write_moved_day(f, field, found, hint),
+                None => write_field(f, field, found),
+            },
             (Reason::TransactionNumber(next), Some(found)) => write!(
                 f,
                 "the transaction number {found} is not {next:06}: records 2 rise by one from 000001, and records 3, 5 and 8 have the number of their record 2"
@@ -192,6 +187,10 @@ impl Explanation {
                 f,
                 "the related document {found} is not above that of the record 3 before it, by airline and number: exchange the two, or take out the second"
             ),
+            (Reason::Width { .. }, _) => match self.hint {
+                Some(Hint::Short(field)) => write_short(f, field),
+                _ => write!(f, "{}", self.reason),
+            },
             (reason, _) => write!(f, "{reason}"),
         }
     }
@@ -200,7 +199,6 @@ impl Explanation {
 impl fmt::Display for Explanation {
     fn fmt<W: fmt::Write>(&self, f: &mut fmt::Formatter<W>) -> fmt::Result {
         write!(f, "record {}", self.record)?;
-        write_name(f, self.name)?;
         write_columns(f, self.reason.columns())?;
         f.write_str(": ")?;
         self.write_reason(f)

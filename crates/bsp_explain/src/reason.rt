@@ -42,7 +42,7 @@ pub enum Reason {
         /// What the records before it leave.
         place: Place,
     },
-    /// The second of two records 3 does not come behind the first, by its airline and its document.
+    /// The second of two records 3 does not come after the first, by its airline and its document.
     RelatedOrder,
     /// The record 8, or its form of payment, may not follow those before it.
     Payment {
@@ -83,15 +83,6 @@ pub enum Reason {
         width: usize,
     },
     NoMemory,
-    /// The sequence number of a HOT record is not this one.
-    SequenceNumber(usize),
-    NameDigits,
-    /// The letters of a HOT record are not those of the name with its digits.
-    NameLetters,
-    /// A HOT record is in its form, and does not go on from those before it.
-    Unexpected,
-    /// A HOT file ends too early.
-    Missing,
     NotFound,
 }
 
@@ -110,9 +101,6 @@ impl Reason {
             Reason::RecordCount { .. } => Some((2, 8)),
             Reason::TransactionCount { .. } => Some((9, 15)),
             Reason::Sum { .. } => Some((16, 30)),
-            Reason::SequenceNumber(_) => Some((4, 11)),
-            Reason::NameDigits => Some((12, 13)),
-            Reason::NameLetters => Some((1, 3)),
             _ => None,
         }
     }
@@ -122,13 +110,8 @@ impl Reason {
         match self {
             Reason::RelatedOrder => "the related document does not come after the one before it",
             Reason::AfterTrailer { .. } =>
-                "a line follows the trailer: a file has one header and one trailer",
+                "a line follows the trailer: remove it; if it begins with `1`, a second file begins here: send that as a file of its own",
             Reason::NoMemory => "out of memory",
-            Reason::NameDigits => "no record has these digits in its name",
-            Reason::NameLetters => "the letters are not those of the name with these digits",
-            Reason::Unexpected =>
-                "the record is not allowed here, or a number or a total in it differs",
-            Reason::Missing => "the file ends before this record",
             // (`NotFound`: `fmt` displays all others)
             _ => "the record has no such fault",
         }
@@ -182,7 +165,6 @@ impl fmt::Display for Reason {
                 counted,
             ),
             Reason::Sum { stated, summed } => write_sum(f, stated, summed),
-            Reason::SequenceNumber(next) => write!(f, "the sequence number is not {next:08}"),
             _ => f.write_str(self.text()),
         }
     }

@@ -27,7 +27,7 @@ use bsp_ret_records::{
 /// The first field of a record that is not in its form: of a header, or of another record by its
 /// identifier.
 #[tactic(auto, using(crate::proofs::Finding::no_fields))]
-pub fn record_field(is_first: bool, line: &[u8]) -> Option<Field>
+pub(crate) fn record_field(is_first: bool, line: &[u8]) -> Option<Field>
     requires { length line.now ≡ 136 }
     ensures first { result ≡ first_unfit line.now (record_fields is_first line.now) }
     ensures none { IfNone result (record_fits is_first line.now ≡ true) }
@@ -175,7 +175,7 @@ fn may_be_second(number: usize, line: &[u8]) -> bool
     number != 1 && line[0] == b'3'
 }
 
-/// Which field is not in its form, or that a record 3 does not come behind the one before it.
+/// Which field is not in its form, or that a record 3 does not come after the one before it.
 fn form_fault(number: usize, line: &[u8]) -> Option<Reason>
     ensures says { (before : Before) → IfSome result (Says number before line.now) }
     ensures row { IfSome result (λ reason. is_reason_of FaultCode.F05 reason ≡ true) }
@@ -238,7 +238,7 @@ fn sum_fault(line: &[u8], before: Before) -> Option<Reason>
 
 /// What is wrong with a line of a RET file that the reader refused with that fault, from what was
 /// counted before it. `None` where the line has no such fault.
-pub fn ret_reason(fault: RetFault, line: &[u8], before: Before) -> Option<Reason>
+pub(crate) fn ret_reason(fault: RetFault, line: &[u8], before: Before) -> Option<Reason>
     requires { before.transactions < 2 ^ 64 - 1 }
     // The reason is true of the line, and is one of the fault's row.
     ensures says { IfSome result (Says fault.at before line.now) }

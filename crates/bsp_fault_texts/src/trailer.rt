@@ -49,6 +49,6 @@ pub fn write_end<W: fmt::Write>(
     let total = ZonedTotal { units: sum };
     write!(
         f,
-        "the file ends without a trailer: write `Z{records:07}{transactions:07}{total}`"
+        "the file ends without a trailer: write `Z{records:07}{transactions:07}{total}`, and 106 spaces up to 136 characters"
     )
 }
