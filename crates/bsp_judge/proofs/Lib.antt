@@ -1,6 +1,5 @@
 -- Lemmas of this crate.
 pub mod AskLemmas
 pub mod JudgeLemmas
-pub mod Pieces
 pub mod TurnLemmas
 pub mod UnjudgedLemmas

@@ -11,14 +11,15 @@ use Rattle.bsp_messages.specs.declared.refusal.RequestRefusal.{RequestRefusal}
 use Rattle.bsp_rows.specs.Rows.{Rows, no_rows}
 use Rattle.bsp_judge.specs.Asked.{HasFault, HasRetFault, IsRefused, Takes, Task, caller_tasks, earlier_tasks, place_of, plan_tasks, stock_tasks, tasks}
 use Rattle.bsp_judge.specs.Asked.Task.{Allot, Publish}
-use Rattle.bsp_judge.specs.Turns.{StopsAt}
+use Rattle.bsp_plan_trial.specs.Turns.{StopsAt}
 use Rattle.bsp_judge.specs.Unjudged.{IsRefusedAs, IsRetFaultOf, IsShort, IsStopIn, IsStopOf, IsUnjudged, IsUnready}
 use Rattle.bsp_judge.specs.declared.setup.JudgeFault.{JudgeFault}
 use Rattle.bsp_judge.specs.declared.setup.JudgeFault.TheVariants.{Refused, Earlier, File, NetTooLarge, Memory}
 use Rattle.bsp_judge.specs.declared.setup.Setup.{Setup}
 use Rattle.bsp_judge.specs.declared.setup.Step.{Step}
 use Rattle.bsp_judge.specs.declared.setup.Step.TheVariants.{Closed}
-use Rattle.bsp_judge.proofs.TurnLemmas.{stops_after, stops_at, stops_before}
+use Rattle.bsp_plan_trial.proofs.TurnLemmas.{stops_at, stops_before}
+use Rattle.bsp_judge.proofs.TurnLemmas.{stops_after}
 
 -- a fault is passed on
 pub passed_on : {X E : Type 0} (P : E → Type 0) (r : Result X E) (e : E) → IsErrAnd r (λ f. f ≡ e) → P e → IfErr r P

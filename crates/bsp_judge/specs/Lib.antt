@@ -2,5 +2,4 @@
 pub mod Asked
 pub mod Judged
 pub mod Steps
-pub mod Turns
 pub mod Unjudged

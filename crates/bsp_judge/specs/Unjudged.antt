@@ -5,7 +5,7 @@ use Rattle.bsp_ret.specs.declared.model.RetFault.{RetFault}
 use Rattle.bsp_messages.specs.declared.refusal.RequestRefusal.{RequestRefusal}
 use Rattle.bsp_rows.specs.Rows.{Rows, no_rows}
 use Rattle.bsp_judge.specs.Asked.{HasFault, HasRetFault, IsRefused, Takes, Task, place_of, tasks}
-use Rattle.bsp_judge.specs.Turns.{StopsAt}
+use Rattle.bsp_plan_trial.specs.Turns.{StopsAt}
 use Rattle.bsp_judge.specs.declared.setup.JudgeFault.{JudgeFault}
 use Rattle.bsp_judge.specs.declared.setup.JudgeFault.TheVariants.{Refused, Earlier, File, NetTooLarge, Memory}
 use Rattle.bsp_judge.specs.declared.setup.Setup.{Setup}

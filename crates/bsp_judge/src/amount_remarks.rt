@@ -1,9 +1,9 @@
 //! Which amount of a refused transaction is wrong, and what it has to be. The words are for people.
 
-use crate::lines::push_fields;
 use crate::remarks::Known;
 use bsp_book::ListBook;
 use bsp_fields::push_money;
+use bsp_plan_trial::push_fields;
 use bsp_ret_records::{Amounts, ReportedDocument, Tax, Transaction, TransactionCode};
 use bsp_rules::{Item, amount_or_zero, card_amount, commission};
 use itoa::Buffer;

@@ -11,7 +11,6 @@ ghost use Rattle.bsp_judge.specs.Steps.{IsSettled, rows_in};
 ghost use Rattle.bsp_judge.specs.Unjudged.{IsShort, IsUnjudged, IsUnready};
 
 use crate::asking::report;
-use crate::lines::push_fields;
 use crate::owed::owed;
 use crate::preparing::{EarlierRemarks, prepare};
 use crate::remarks::{Known, remarks_on};
@@ -20,6 +19,7 @@ use crate::verdict_lines::push_verdicts;
 use bsp_book::ListBook;
 use bsp_desk::{Desk, Token};
 use bsp_fields::{NoRoom, write_money};
+use bsp_plan_trial::push_fields;
 use bsp_ret::{FaultCode, RetFile, read_ret};
 use bsp_rules::Verdict;
 use std::alloc::Global;

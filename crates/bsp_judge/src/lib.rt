@@ -7,7 +7,6 @@
 mod amount_remarks;
 mod asking;
 mod judging;
-mod lines;
 mod owed;
 mod preparing;
 mod refusals;

@@ -3,10 +3,10 @@
 ghost use Rattle.std.specs.Prelude.{◌≡◌};
 ghost use Rattle.bsp_judge.specs.Unjudged.{IsRefusedAs};
 
-use crate::lines::push_fields;
 use crate::setup::{Earlier, JudgeFault, RefusedStep, Setup, Step};
 use bsp_book::ListBook;
 use bsp_messages::{RequestRefusal, StockFault};
+use bsp_plan_trial::push_fields;
 use bsp_rules::Range;
 use std::alloc::{AllocError, Global};
 

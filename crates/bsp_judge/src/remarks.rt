@@ -1,11 +1,11 @@
 //! What is said beside the verdict of a transaction. The words are for people.
 
 use crate::amount_remarks::{push_against_tickets, push_amounts};
-use crate::lines::push_fields;
 use crate::setup::Setup;
 use bsp_book::ListBook;
 use bsp_calendar::{Period, Plan};
 use bsp_fields::{Day, DocNumber, write_digits};
+use bsp_plan_trial::push_fields;
 use bsp_ret::{RetFile, transaction};
 use bsp_ret_records::{ReportedDocument, Transaction, TransactionCode};
 use bsp_rules::{Item, Range, Refusal, Verdict};

@@ -3,8 +3,8 @@
 ghost use Rattle.std.specs.Prelude.{◌≡◌, ◌++◌, OnOk};
 ghost use Rattle.bsp_judge.specs.Judged.{verdict_line, verdict_lines};
 
-use crate::lines::push_fields;
 use bsp_fields::write_digits;
+use bsp_plan_trial::push_fields;
 use bsp_rules::Verdict;
 use std::alloc::AllocError;
 
