@@ -15,7 +15,6 @@ use Rattle.bsp_rows.specs.Tallies.{tallies_of}
 use Rattle.bsp_rows.specs.declared.questions.Tallies.TheVariants.{OfAgent}
 use Rattle.bsp_book.specs.Listed.{meaning}
 use Rattle.bsp_book.specs.declared.list.ListBook.{ListBook}
-use Rattle.bsp_judge.specs.declared.judging.Judged.{Judged}
 use Rattle.bsp_judge.specs.Judged.{owed, verdict_line, verdict_lines}
 
 -- ---- verdicts
@@ -67,15 +66,14 @@ net_next ts i t before after net below is so_far posted sum =
     ∙ ap net_of_postings (sym list)
 
 -- what an agent owes is the net of its tallies
-pub owed_is : {E : Type 0} (r : Result ℤ E) (agent : ℕ) (book : ListBook) (ts : List Tally) → IfOk r (λ net. net ≡ net_of_postings (map tally_posting ts))
+pub owed_is : (net : ℤ) (agent : ℕ) (book : ListBook) (ts : List Tally) → net ≡ net_of_postings (map tally_posting ts)
     → ((rows : Rows) (begun : Option Rows) → meaning.holds book rows begun → ts ≡ tallies_of (OfAgent agent) rows)
-    → IfOk r (λ net. (rows : Rows) (begun : Option Rows) → meaning.holds book rows begun → net ≡ owed agent rows)
+    → (rows : Rows) (begun : Option Rows) → meaning.holds book rows begun → net ≡ owed agent rows
 unfolding owed
-owed_is (Ok net) agent book ts is are = λ rows begun holds. is ∙ ap (λ (l : List Tally). net_of_postings (map tally_posting l)) (are rows begun holds)
-owed_is (Err e) agent book ts is are = tt
+owed_is net agent book ts is are = λ rows begun holds. is ∙ ap (λ (l : List Tally). net_of_postings (map tally_posting l)) (are rows begun holds)
 
 -- ---- what is said of a file
 
-pub if_said : {E : Type 0} {P Q : Judged → Type 0} (r : Result Judged E) → ((j : Judged) → P j → Q j) → IfOk r P → IfOk r Q
-if_said (Ok j) gives is = gives j is
+pub if_said : {X E : Type 0} {P Q : X → Type 0} (r : Result X E) → ((x : X) → P x → Q x) → IfOk r P → IfOk r Q
+if_said (Ok x) gives is = gives x is
 if_said (Err e) gives is = tt

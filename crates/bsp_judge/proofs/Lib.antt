@@ -1,5 +1,6 @@
 -- Lemmas of this crate.
 pub mod AskLemmas
 pub mod JudgeLemmas
+pub mod StatementLemmas
 pub mod TurnLemmas
 pub mod UnjudgedLemmas

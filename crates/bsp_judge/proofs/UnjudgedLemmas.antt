@@ -1,6 +1,6 @@
 -- Lemmas on why a RET file is not judged.
 use Rattle.std.proofs.Common.{◌≡◌, ℕ, ◌+◌, ◌<◌, inl, inr, List, ◌++◌, get_or, length, take, map, ap, sym, subst, ◌∙◌, arith}
-use Rattle.std.specs.Prelude.{Result, Ok, Err, IfErr, IsErrAnd, IsOkUnless, OnOk}
+use Rattle.std.specs.Prelude.{Some, Result, Ok, Err, IfErr, IsErrAnd, IsOkUnless, OnOk}
 use Rattle.std.specs.Global.{Vec}
 use Rattle.std.specs.List.{FoldsTo}
 use Rattle.std.proofs.lemmas.List.{length-map}
@@ -12,9 +12,9 @@ use Rattle.bsp_rows.specs.Rows.{Rows, no_rows}
 use Rattle.bsp_judge.specs.Asked.{HasFault, HasRetFault, IsRefused, Takes, Task, caller_tasks, earlier_tasks, place_of, plan_tasks, stock_tasks, tasks}
 use Rattle.bsp_judge.specs.Asked.Task.{Allot, Publish}
 use Rattle.bsp_plan_trial.specs.Turns.{StopsAt}
-use Rattle.bsp_judge.specs.Unjudged.{IsRefusedAs, IsRetFaultOf, IsShort, IsStopIn, IsStopOf, IsUnjudged, IsUnready}
+use Rattle.bsp_judge.specs.Unjudged.{IsLeft, IsRefusedAs, IsRetFaultOf, IsStopIn, IsStopOf, IsUnjudged, IsUnready, IsUnstated, IsUnstatedOver}
 use Rattle.bsp_judge.specs.declared.setup.JudgeFault.{JudgeFault}
-use Rattle.bsp_judge.specs.declared.setup.JudgeFault.TheVariants.{Refused, Earlier, File, NetTooLarge, Memory}
+use Rattle.bsp_judge.specs.declared.setup.JudgeFault.TheVariants.{Refused, Earlier, File, UnknownPeriod, Memory}
 use Rattle.bsp_judge.specs.declared.setup.Setup.{Setup}
 use Rattle.bsp_judge.specs.declared.setup.Step.{Step}
 use Rattle.bsp_judge.specs.declared.setup.Step.TheVariants.{Closed}
@@ -59,7 +59,7 @@ module _ (s : Setup) where
   refused_stops step refusal rows task Memory is refused = tt
   refused_stops step refusal rows task (Earlier i f) is refused = absurd is
   refused_stops step refusal rows task (File f) is refused = absurd is
-  refused_stops step refusal rows task NetTooLarge is refused = absurd is
+  refused_stops step refusal rows task UnknownPeriod is refused = absurd is
 
   -- one of a list stops, after those before it passed
   pub stops_one : {A : Type 0} (f : A → Task) (xs : List A) (begin : ℕ) (start state : Rows) (i : ℕ) (d v : A) → i < length xs → v ≡ get_or xs i d → FoldsTo Takes start (map f (take i xs)) state → (place : ℕ) → place ≡ begin + i
@@ -67,7 +67,7 @@ module _ (s : Setup) where
   stops_one f xs begin start state i d v below is so_far place at (Refused r) stop = (i, stop.0 ∙ at, stops_at f Takes start xs (IsRefused r.refusal) i d v state below is so_far stop.1)
   stops_one f xs begin start state i d v below is so_far place at (Earlier j fault) stop = (i, stop.0 ∙ at, stops_at f Takes start xs (HasFault fault) i d v state below is so_far stop.1)
   stops_one f xs begin start state i d v below is so_far place at (File fault) stop = stop
-  stops_one f xs begin start state i d v below is so_far place at NetTooLarge stop = stop
+  stops_one f xs begin start state i d v below is so_far place at UnknownPeriod stop = stop
   stops_one f xs begin start state i d v below is so_far place at Memory stop = tt
 
   -- so it is with more tasks after them
@@ -75,7 +75,7 @@ module _ (s : Setup) where
   more_after begin rows xs ys (Refused r) is = (is.0, is.1, stops_before xs ys is.0 is.2)
   more_after begin rows xs ys (Earlier i fault) is = (is.0, is.1, stops_before xs ys is.0 is.2)
   more_after begin rows xs ys (File fault) is = is
-  more_after begin rows xs ys NetTooLarge is = is
+  more_after begin rows xs ys UnknownPeriod is = is
   more_after begin rows xs ys Memory is = tt
 
   further : (place begin before i : ℕ) → place ≡ (begin + before) + i → place ≡ begin + (before + i)
@@ -86,7 +86,7 @@ module _ (s : Setup) where
   more_before begin rows mid xs ys taken (Refused r) is = (length xs + is.0, further (place_of s r.step) begin (length xs) is.0 is.1, stops_after xs ys is.0 taken is.2)
   more_before begin rows mid xs ys taken (Earlier i fault) is = (length xs + is.0, further (place_of s (Closed i)) begin (length xs) is.0 is.1, stops_after xs ys is.0 taken is.2)
   more_before begin rows mid xs ys taken (File fault) is = is
-  more_before begin rows mid xs ys taken NetTooLarge is = is
+  more_before begin rows mid xs ys taken UnknownPeriod is = is
   more_before begin rows mid xs ys taken Memory is = tt
 
   -- ---- the four parts of what comes before the file
@@ -132,19 +132,19 @@ module _ (s : Setup) where
     from_none (Refused r) is = at_place (place_of s r.step) is.0 is.1 is.2
     from_none (Earlier i fault) is = at_place (place_of s (Closed i)) is.0 is.1 is.2
     from_none (File fault) is = is
-    from_none NetTooLarge is = tt
+    from_none UnknownPeriod is = is
     from_none Memory is = tt
 
-  pub short_unready : (fault : JudgeFault) → IsShort fault → IsUnready s fault
-  short_unready NetTooLarge is = tt
-  short_unready Memory is = tt
-  short_unready (Refused r) is = absurd is
-  short_unready (Earlier i fault) is = absurd is
-  short_unready (File fault) is = absurd is
-
   pub unready_unjudged : (text : List ℕ) (fault : JudgeFault) → IsUnready s fault → IsUnjudged s text fault
-  unready_unjudged text (Refused r) is = is
+  unready_unjudged text (Refused r) is = inl is
   unready_unjudged text (Earlier i fault) is = is
-  unready_unjudged text NetTooLarge is = tt
+  unready_unjudged text UnknownPeriod is = absurd is
   unready_unjudged text Memory is = tt
   unready_unjudged text (File fault) is = absurd is
+
+  pub unstated_unjudged : (text : List ℕ) (left : Rows) → IsLeft s text left → (period : ℕ) → s.statement ≡ Some period → (fault : JudgeFault) → IsUnstatedOver s left period fault → IsUnjudged s text fault
+  unstated_unjudged text left is_left period asked (Refused r) is = inr (record { left = left; is_left = is_left; period = period; asked = asked; stops = is })
+  unstated_unjudged text left is_left period asked UnknownPeriod is = record { left = left; is_left = is_left; period = period; asked = asked; stops = is }
+  unstated_unjudged text left is_left period asked Memory is = tt
+  unstated_unjudged text left is_left period asked (Earlier i fault) is = absurd is
+  unstated_unjudged text left is_left period asked (File fault) is = absurd is

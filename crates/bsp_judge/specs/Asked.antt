@@ -1,6 +1,11 @@
 -- What an office is asked in a trial, one request after the other, from no rows.
-use Rattle.std.specs.Prelude.{◌≡◌, ℕ, ◌+◌, List, [], ◌∷◌, ◌++◌, map, length, Ok, Some}
+use Rattle.std.specs.Prelude.{◌≡◌, ℕ, ◌+◌, List, [], ◌∷◌, ◌++◌, drop, map, length, if◌then◌else◌, Ok, Option, None, Some}
+use Rattle.std.specs.List.{filter}
 use Rattle.bsp_fields.specs.CivilDay.{CivilDay}
+use Rattle.bsp_fields.specs.Decimal.{fixed_digits}
+use Rattle.bsp_calendar.specs.DayOrder.{is_before, is_up_to}
+use Rattle.bsp_calendar.specs.Published.{Published, period_of}
+use Rattle.bsp_calendar.specs.declared.entries.Period.{Period}
 use Rattle.bsp_ret.specs.Lines.{lines}
 use Rattle.bsp_ret.specs.Table.{first_fault}
 use Rattle.bsp_ret.specs.declared.model.RetFault.{RetFault}
@@ -8,9 +13,9 @@ use Rattle.bsp_rows.specs.Transaction.{Transaction}
 use Rattle.bsp_messages.specs.declared.refusal.RequestRefusal.{RequestRefusal}
 use Rattle.bsp_rows.specs.Rows.{Rows}
 use Rattle.bsp_desk_writes.specs.Answers.{Answer}
-use Rattle.bsp_desk_writes.specs.Answers.Answer.{Changed, Verdicts, Refused}
+use Rattle.bsp_desk_writes.specs.Answers.Answer.{Changed, Verdicts, Statement, Refused}
 use Rattle.bsp_desk_writes.specs.Requests.{IsFileOf, IsPlanOf, PlanRead}
-use Rattle.bsp_desk_writes.specs.Requests.AgentRequest.{AgentFile}
+use Rattle.bsp_desk_writes.specs.Requests.AgentRequest.{AgentFile, AskStatement}
 use Rattle.bsp_desk_writes.specs.Requests.OfficeRequest.{AllotRange, ClosePeriod, PublishPlan, RegisterAgent, SetBusinessDay}
 use Rattle.bsp_desk.specs.Instructions.{Own, own_after, own_answer}
 use Rattle.bsp_desk.specs.Instructions.Own.{OfAgent, OfOffice}
@@ -28,6 +33,7 @@ pub data Task : Type 0 where
   Allot : (agent first last : ℕ) → Task
   Close : (period : ℕ) → Task
   Report : (agent : ℕ) (text : List ℕ) → Task
+  AskFor : (agent period : ℕ) → Task
 
 -- it is this request of `bsp_office_spec`; the agent is registered with some token
 abbrev pub Asks : Task → Own → Type 0
@@ -37,11 +43,13 @@ Asks (Register agent) own = (token : List ℕ) × (own ≡ OfOffice (RegisterAge
 Asks (Allot agent first last) own = own ≡ OfOffice (AllotRange (Some (record { agent = record { code = Some agent }; range = record { first = first; last = last } })))
 Asks (Close period) own = own ≡ OfOffice (ClosePeriod (Some period))
 Asks (Report agent text) own = (ts : List Transaction) × IsFileOf text (Ok ts) × (own ≡ OfAgent agent (AgentFile (Ok ts)))
+Asks (AskFor agent period) own = own ≡ OfAgent agent (AskStatement (fixed_digits 5 period))
 
--- a change is done or held, or a file has its verdicts
+-- a change is done or held, a file has its verdicts, or there is a statement
 abbrev pub IsPassed : Answer → Type 0
 IsPassed (Changed change) = Unit {0}
 IsPassed (Verdicts verdicts) = Unit {0}
+IsPassed (Statement agent taxed report) = Unit {0}
 IsPassed _ = ⊥
 
 -- so it is answered over the rows, which become those after it
@@ -92,10 +100,34 @@ earlier_tasks s = map (earlier_task s.agent) s.earlier.now
 abbrev pub tasks : Setup → List Task
 tasks s = plan_tasks s ++ (caller_tasks s ++ (stock_tasks s ++ earlier_tasks s))
 
--- the place of a step among them
+-- ---- the requests for a statement
+
+abbrev pub later_day : CivilDay → CivilDay → CivilDay
+later_day a b = if is_before a b then b else a
+
+-- the periods that are not closed and end by a day: the first ones of a plan are closed
+abbrev pub open_until : CivilDay → Published → List Period
+open_until last plan = filter (λ q. is_up_to q.last last) (drop (length plan.closed) plan.periods)
+
+-- the day is set to the period's remittance day, unless it is later, and each open period up to this one is closed
+abbrev pub closing_of : Published → Option Period → List Task
+closing_of plan None = []
+closing_of plan (Some q) = SetDay (later_day plan.day q.remittance) ∷ map (λ r. Close r.code) (open_until q.last plan)
+
+abbrev pub closing_tasks : Rows → ℕ → List Task
+closing_tasks rows period = closing_of rows.published (period_of rows.published period)
+
+-- then the agent asks for its statement
+abbrev pub statement_tasks : ℕ → Rows → ℕ → List Task
+statement_tasks agent rows period = closing_tasks rows period ++ AskFor agent period ∷ []
+
+-- ---- places
+
+-- the place of a step among the requests of a trial: those before the file, the file, and those for a statement
 abbrev pub place_of : Setup → Step → ℕ
 place_of s (step.Plan i) = i
 place_of s step.Day = length s.plans.now
 place_of s step.Agent = length s.plans.now + 1
 place_of s (step.Stock i) = length s.plans.now + 2 + i
 place_of s (step.Closed i) = length s.plans.now + 2 + length s.stock.now + i
+place_of s (step.Closing i) = length (tasks s) + 1 + i

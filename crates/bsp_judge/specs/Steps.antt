@@ -20,7 +20,7 @@ use Rattle.bsp_desk.specs.Instructions.Own.{OfAgent}
 use Rattle.bsp_desk.specs.declared.instruction.Instruction.{Instruction}
 use Rattle.bsp_desk.specs.declared.instruction.Instruction.TheVariants as instruction
 use Rattle.bsp_judge.specs.Asked.{Takes, Task}
-use Rattle.bsp_judge.specs.Asked.Task.{Publish, SetDay, Register, Allot, Close}
+use Rattle.bsp_judge.specs.Asked.Task.{Publish, SetDay, Register, Allot, Close, AskFor}
 
 -- the rows of a book
 abbrev pub rows_in : ListBook → Rows
@@ -37,13 +37,14 @@ pub record IsAnswered (old : ListBook) (own : Own) (message : Message) (new : Li
   pub after : rows_in new ≡ own_after own (rows_in old)
   pub settled : IsSettled new
 
--- the instruction is the office's task
+-- the instruction is the task
 abbrev pub IsFor : Task → Instruction → Type 0
 IsFor (Publish text) (instruction.Publish bytes) = bytes.now ≡ text
 IsFor (SetDay day) (instruction.SetDay other) = other ≡ day
 IsFor (Register agent) (instruction.Register other token) = other ≡ agent
 IsFor (Allot agent first last) (instruction.Allot other from to) = (other ≡ agent) × (from ≡ first) × (to ≡ last)
 IsFor (Close period) (instruction.Close other) = other ≡ period
+IsFor (AskFor agent period) (instruction.Statement other of) = (other ≡ agent) × (of ≡ period)
 IsFor _ _ = ⊥
 
 -- tasks are taken from one settled book to the next

@@ -1,19 +1,26 @@
 //! What a desk is asked in a trial.
 
 ghost use Rattle.std.specs.Prelude.{◌≡◌, IfErr, IfOk, IsOkUnless, List, OnOk};
+ghost use Rattle.bsp_fields.specs.Decimal.{fixed_digits};
 ghost use Rattle.bsp_ret.specs.Ret.{HasLines};
 ghost use Rattle.bsp_rows.specs.Transaction.{Transaction};
 ghost use Rattle.bsp_rows.specs.Writing.{HaveContents};
-ghost use Rattle.bsp_desk.specs.Instructions.{IsMeant, IsReport, Own};
+ghost use Rattle.bsp_messages.specs.declared.answer.Answer.TheVariants as message;
+ghost use Rattle.bsp_desk_writes.specs.Requests.AgentRequest.{AskStatement};
+ghost use Rattle.bsp_desk_writes.specs.Texts.{Says};
+ghost use Rattle.bsp_desk.specs.Instructions.{IsMeant, IsReport, Own, own_answer};
+ghost use Rattle.bsp_desk.specs.Instructions.Own.{OfAgent};
 ghost use Rattle.bsp_judge.specs.Asked.{Task, place_of};
+ghost use Rattle.bsp_judge.specs.Asked.Task.{AskFor};
 ghost use Rattle.bsp_judge.specs.Steps.{IsAnswered, IsFor, IsReported, IsSettled, Moved, refusal_in, rows_in, verdicts_in};
 ghost use Rattle.bsp_judge.specs.Unjudged.{IsStopOf};
+ghost use Rattle.bsp_judge.specs.declared.setup.Step.TheVariants as step;
 
 use crate::refusals::refused;
 use crate::setup::{JudgeFault, Setup, Step};
 use bsp_book::ListBook;
 use bsp_desk::{BookFault, Desk, Instruction};
-use bsp_fields::AgentCode;
+use bsp_fields::{AgentCode, PeriodCode};
 use bsp_messages::{Answer, RequestRefusal};
 use bsp_ret::RetFile;
 use bsp_rules::Verdict;
@@ -104,4 +111,27 @@ pub(crate) fn report(
         unreachable!()
     };
     Ok(verdicts)
+}
+
+/// The agent's statement of a period.
+pub(crate) fn ask_statement(
+    alloc: Global,
+    desk: &mut Desk<ListBook>,
+    setup: &Setup<'_>,
+    place: usize,
+    period: PeriodCode,
+) -> Result<String, JudgeFault>
+    requires { IsSettled desk.old.book }
+    ensures given { IfOk result (λ text. Says (own_answer (OfAgent setup.now.agent (AskStatement (fixed_digits 5 period))) (rows_in desk.old.book)) (message.Report text)) }
+    ensures stopped { IfErr result (IsStopOf setup.now (place_of setup.now (step.Closing place)) (rows_in desk.old.book) (AskFor setup.now.agent period)) }
+{
+    let answer = ask(desk, &Instruction::Statement(setup.agent, period))?;
+    match answer {
+        Answer::Report(text) => Ok(text),
+        Answer::Refused(refusal) => {
+            let step = Step::Closing(place);
+            Err(refused(alloc, desk.book(), setup, step, refusal))
+        }
+        _ => unreachable!(),
+    }
 }

@@ -1,20 +1,20 @@
 //! A RET file judged by a desk over an empty book.
 
-ghost use Rattle.std.specs.Prelude.{◌≡◌, ◌++◌, ◌-ℤ◌, IfErr, IfOk, IfSome, IsOkUnless, List, None, OnOk, Option, ℕ, ℤ};
+ghost use Rattle.std.specs.Prelude.{◌≡◌, ◌++◌, IfErr, IfOk, IsOkUnless, List, OnOk, ℕ};
 ghost use Rattle.std.specs.List.{list_all};
 ghost use Rattle.bsp_ret.specs.Lines.{lines};
 ghost use Rattle.bsp_ret.specs.Ret.{HasLines, Ret};
-ghost use Rattle.bsp_rows.specs.Rows.{Rows, no_rows};
-ghost use Rattle.bsp_book.specs.Listed.{meaning};
-ghost use Rattle.bsp_judge.specs.Judged.{IsJudged, IsSaid, is_taken, net_line, owed, verdict_lines};
+ghost use Rattle.bsp_rows.specs.Rows.{no_rows};
+ghost use Rattle.bsp_judge.specs.Judged.{IsJudged, IsSaid, is_taken, net_line, verdict_lines};
 ghost use Rattle.bsp_judge.specs.Steps.{IsSettled, rows_in};
-ghost use Rattle.bsp_judge.specs.Unjudged.{IsShort, IsUnjudged, IsUnready};
+ghost use Rattle.bsp_judge.specs.Unjudged.{IsUnjudged};
 
 use crate::asking::report;
 use crate::owed::owed;
 use crate::preparing::{EarlierRemarks, prepare};
 use crate::remarks::{Known, remarks_on};
 use crate::setup::{JudgeFault, Setup};
+use crate::stating::state_if_asked;
 use crate::verdict_lines::push_verdicts;
 use bsp_book::ListBook;
 use bsp_desk::{Desk, Token};
@@ -35,6 +35,8 @@ pub struct Judged {
     pub earlier: Vec<EarlierRemarks>,
     /// Whether no transaction of the file is refused.
     pub is_taken: bool,
+    /// The agent's statement of the period that is asked for, as it is when the office closes that period after the file.
+    pub statement: Option<String>,
 }
 
 /// The lines of verdicts and a net in minor units.
@@ -79,21 +81,11 @@ fn say(
         remarks,
         earlier,
         is_taken,
+        statement: None,
     })
 }
 
-/// How much more an agent owes than it owed before, in minor units.
-fn added(before: i128, after: i128) -> Result<i128, JudgeFault>
-    ensures net { IfOk result (λ net. net ≡ after -ℤ before) }
-    ensures fault { IsOkUnless result JudgeFault.NetTooLarge }
-{
-    match after.checked_sub(before) {
-        Some(net) => Ok(net),
-        None => Err(JudgeFault::NetTooLarge),
-    }
-}
-
-/// What is said of a file by a desk that was asked all that comes before.
+/// What is said of a file by a desk that was asked all that comes before, but for a statement.
 fn judge_at(
     alloc: Global,
     desk: &mut Desk<ListBook>,
@@ -103,13 +95,14 @@ fn judge_at(
 ) -> Result<Judged, JudgeFault>
     requires settled { IsSettled desk.old.book }
     requires whole { HasLines file.now }
-    ensures judged { IfOk result (λ judged. (text : List ℕ) → Ret (lines text) file.now → IsSaid setup.now.agent (rows_in desk.old.book) text judged.lines.items judged.is_taken) }
-    ensures fault { IfErr result IsShort }
+    ensures judged { IfOk result (λ judged. (text : List ℕ) → Ret (lines text) file.now → IsSaid setup.now.agent (rows_in desk.old.book) (rows_in desk.new.book) text judged.lines.items judged.is_taken) }
+    ensures left { OnOk result (IsSettled desk.new.book) }
+    ensures fault { IsOkUnless result JudgeFault.Memory }
 {
     let before = owed(alloc, desk.book(), setup.agent)?;
     let verdicts = report(desk, setup.agent, file)?;
     let after = owed(alloc, desk.book(), setup.agent)?;
-    let net = added(before, after)?;
+    let net = after - before;
     let known = Known {
         setup,
         book: desk.book(),
@@ -117,7 +110,7 @@ fn judge_at(
     say(alloc, &known, &verdicts, net, file, earlier)
 }
 
-/// What is said of a file after all that comes before.
+/// What is said of a file after all that comes before, with the statement that is asked for.
 fn judge_after(
     alloc: Global,
     desk: &mut Desk<ListBook>,
@@ -128,12 +121,14 @@ fn judge_after(
     requires settled { IsSettled desk.old.book }
     requires empty { rows_in desk.old.book ≡ no_rows }
     requires whole { HasLines file.now }
-    ensures judged { IfOk result (λ judged. (text : List ℕ) → Ret (lines text) file.now → IsJudged setup.now text judged.lines.items judged.is_taken) }
-    ensures unready { IfErr result (IsUnready setup.now) }
+    ensures judged { IfOk result (λ judged. (text : List ℕ) → Ret (lines text) file.now → IsJudged setup.now text judged.lines.items judged.is_taken judged.statement) }
+    ensures unjudged { IfErr result (λ fault. (text : List ℕ) → Ret (lines text) file.now → IsUnjudged setup.now text fault) }
 {
     let mut earlier = Vec::new(alloc);
     prepare(alloc, desk, setup, token, &mut earlier)?;
-    judge_at(alloc, desk, setup, file, earlier)
+    let mut judged = judge_at(alloc, desk, setup, file, earlier)?;
+    judged.statement = state_if_asked(alloc, desk, setup)?;
+    Ok(judged)
 }
 
 /// A desk of an office over an empty book.
@@ -158,8 +153,8 @@ fn trial_token() -> Token {
 /// What a new desk over an empty book says of a file.
 fn judge_file(alloc: Global, setup: &Setup<'_>, file: &RetFile<'_>) -> Result<Judged, JudgeFault>
     requires { HasLines file.now }
-    ensures judged { IfOk result (λ judged. (text : List ℕ) → Ret (lines text) file.now → IsJudged setup.now text judged.lines.items judged.is_taken) }
-    ensures unready { IfErr result (IsUnready setup.now) }
+    ensures judged { IfOk result (λ judged. (text : List ℕ) → Ret (lines text) file.now → IsJudged setup.now text judged.lines.items judged.is_taken judged.statement) }
+    ensures unjudged { IfErr result (λ fault. (text : List ℕ) → Ret (lines text) file.now → IsUnjudged setup.now text fault) }
 {
     let token = trial_token();
     let mut desk = new_desk(alloc, token);
@@ -168,14 +163,16 @@ fn judge_file(alloc: Global, setup: &Setup<'_>, file: &RetFile<'_>) -> Result<Ju
 
 /// The verdicts that an office gives on the RET file of an agent, and what the file adds to what the agent owes. They are
 /// those of the office of `bsp_office_spec` after it published the plan texts, set the day, registered the agent and
-/// allotted its ranges, and after the earlier files and closes in their order.
+/// allotted its ranges, and after the earlier files and closes in their order. If a statement is asked for, it is the one
+/// that the agent then has: the office first sets the day to the period's remittance day, unless it is later, and closes
+/// the open periods up to this one.
 ///
 /// # Errors
 ///
 /// Why the file is not judged: see [`JudgeFault`]. It is the first fault, but one of the file that is judged comes before
-/// all others.
+/// all others. A period of a statement that the plan has not is found last.
 pub fn judge(alloc: Global, setup: &Setup<'_>, text: &[u8]) -> Result<Judged, JudgeFault>
-    ensures judged { IfOk result (λ judged. IsJudged setup.now text.now judged.lines.items judged.is_taken) }
+    ensures judged { IfOk result (λ judged. IsJudged setup.now text.now judged.lines.items judged.is_taken judged.statement) }
     ensures refused { IfErr result (IsUnjudged setup.now text.now) }
 {
     let file = match read_ret(alloc, text) {

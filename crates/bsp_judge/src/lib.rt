@@ -1,7 +1,7 @@
 //! Trials of what an office would be given: an agent's RET file at a desk over an empty book.
 //!
 //! [`judge`] has a desk answer all that came before and then the file. It says the verdicts, and what the file adds to what
-//! the agent owes.
+//! the agent owes. If a statement is asked for, the desk then closes its period, and gives it.
 #![tactic(auto)]
 
 mod amount_remarks;
@@ -12,6 +12,7 @@ mod preparing;
 mod refusals;
 mod remarks;
 mod setup;
+mod stating;
 mod verdict_lines;
 
 pub use bsp_rules::Range;

@@ -27,6 +27,8 @@ pub struct Setup<'s> {
     pub stock: &'s [Range],
     /// What came before the file, the earliest first.
     pub earlier: &'s [Earlier],
+    /// The period of the statement that is asked for, if one is.
+    pub statement: Option<PeriodCode>,
 }
 
 /// A request of the office in a trial.
@@ -42,6 +44,8 @@ pub enum Step {
     Stock(usize),
     /// Close the period at this place of what came before.
     Closed(usize),
+    /// The request at this place of those for the statement: the business day, then the closes, then the statement.
+    Closing(usize),
 }
 
 /// A request that the office refuses.
@@ -64,8 +68,8 @@ pub enum JudgeFault {
     Earlier(usize, RetFault),
     /// The file has a fault, which is not F10.
     File(RetFault),
-    /// A sum of the net does not fit into 128 bits.
-    NetTooLarge,
+    /// The plan has not the period of the statement: S01. All that comes before passes, and the file has its verdicts.
+    UnknownPeriod,
     /// An allocation was refused.
     Memory,
 }

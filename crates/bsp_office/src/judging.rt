@@ -58,6 +58,7 @@ fn option_of(rt: &HostRuntime, setting: &Setting<'_>, step: Step) -> Result<Stri
             }
             None => format!(in alloc; "--stock"),
         },
+        Step::Closing(_) => format!(in alloc; "--statement"),
         Step::Closed(place) => match setting.earlier.get(place) {
             Some(Named::Closed(period)) => format!(in alloc; "--closed {period}"),
             _ => format!(in alloc; "--closed"),
@@ -138,9 +139,9 @@ fn judge_texts(
         Err(JudgeFault::Refused(refused)) => report_refused(rt, setting, setup, &refused),
         Err(JudgeFault::File(_)) => report_fault(rt, file, text),
         Err(JudgeFault::Earlier(place, _)) => report_earlier(rt, setting, setup, place),
-        Err(JudgeFault::NetTooLarge) => {
-            say_reason(rt, file, "the net does not fit into 128 bits");
-            REFUSED
+        Err(JudgeFault::UnknownPeriod) => {
+            say_reason(rt, "--statement", "no period of the plan has this code");
+            printed(rt, b"S01\n", REFUSED)
         }
         Err(JudgeFault::Memory) => short_of_memory(rt),
     }
@@ -189,6 +190,7 @@ fn judge_setting(rt: &HostRuntime, setting: &Setting<'_>, file: &str) -> Result<
         agent: setting.agent,
         stock: stock.as_slice(),
         earlier: earlier.as_slice(),
+        statement: setting.statement,
     };
     Ok(judge_texts(rt, setting, file, &setup, &text))
 }
