@@ -4,7 +4,7 @@ use crate::log::code_in;
 use crate::plans::{Trial, report_trial};
 use crate::remarks::{say_answer, say_lines, say_lines_of, say_reason};
 use crate::whole_files::{all_bytes, bytes_of, printed, short_of_memory};
-use bsp_check::{DONE, REFUSED, check, exit_status};
+use bsp_check::{DONE, FAILED, REFUSED, check, exit_status};
 use bsp_connection::Noted;
 use bsp_judge::{Earlier, JudgeFault, Judged, Range, RefusedStep, Setup, Step, judge};
 use bsp_words::{Earlier as Named, Setting};
@@ -58,10 +58,13 @@ fn option_of(rt: &HostRuntime, setting: &Setting<'_>, step: Step) -> Result<Stri
             }
             None => format!(in alloc; "--stock"),
         },
-        Step::Closing(_) => format!(in alloc; "--statement"),
         Step::Closed(place) => match setting.earlier.get(place) {
             Some(Named::Closed(period)) => format!(in alloc; "--closed {period}"),
             _ => format!(in alloc; "--closed"),
+        },
+        Step::Closing(_) => match setting.statement {
+            Some(period) => format!(in alloc; "--statement {period}"),
+            None => format!(in alloc; "--statement"),
         },
     }
 }
@@ -118,12 +121,25 @@ fn say_earlier(rt: &HostRuntime, setting: &Setting<'_>, judged: &Judged) {
     }
 }
 
-/// Prints the verdicts, and answers the exit status.
+/// Prints the verdicts, and the statement where it is asked for. It answers the exit status.
 fn report(rt: &HostRuntime, setting: &Setting<'_>, judged: &Judged) -> u8 {
     say_earlier(rt, setting, judged);
     say_lines(rt, &judged.remarks);
     let status = if judged.is_taken { DONE } else { REFUSED };
-    printed(rt, &judged.lines, status)
+    let status = printed(rt, &judged.lines, status);
+    match &judged.statement {
+        Some(statement) if status != FAILED => printed(rt, statement.as_bytes(), status),
+        _ => status,
+    }
+}
+
+/// Reports that the plan has no period of the statement's code, and answers the exit status.
+fn report_unknown_period(rt: &HostRuntime, setting: &Setting<'_>) -> u8 {
+    let Ok(option) = option_of(rt, setting, Step::Closing(0)) else {
+        return short_of_memory(rt);
+    };
+    say_reason(rt, &option, "no period of the plan has this code");
+    printed(rt, b"S01\n", REFUSED)
 }
 
 /// Judges a file, whose texts were read, and answers the exit status.
@@ -139,10 +155,7 @@ fn judge_texts(
         Err(JudgeFault::Refused(refused)) => report_refused(rt, setting, setup, &refused),
         Err(JudgeFault::File(_)) => report_fault(rt, file, text),
         Err(JudgeFault::Earlier(place, _)) => report_earlier(rt, setting, setup, place),
-        Err(JudgeFault::UnknownPeriod) => {
-            say_reason(rt, "--statement", "no period of the plan has this code");
-            printed(rt, b"S01\n", REFUSED)
-        }
+        Err(JudgeFault::UnknownPeriod) => report_unknown_period(rt, setting),
         Err(JudgeFault::Memory) => short_of_memory(rt),
     }
 }

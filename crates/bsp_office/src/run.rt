@@ -47,13 +47,13 @@ fn run_check(rt: &HostRuntime, file: &str, quiet: bool) -> u8 {
     ended(rt, file, quiet, &answer)
 }
 
-/// Reports on a HOT file, and answers the exit status.
-fn run_hotcheck(rt: &HostRuntime, file: &str, quiet: bool) -> u8 {
+/// Reports on a HOT file, with its list where that is asked for, and answers the exit status.
+fn run_hotcheck(rt: &HostRuntime, file: &str, quiet: bool, list: bool) -> u8 {
     let Some(input) = opened(rt, file, quiet) else {
         return FAILED;
     };
     let (mut input, mut output) = (Noted::new(input), Noted::new(io::writer(rt)));
-    let answer = hotcheck(rt.alloc(), &mut input, &mut output);
+    let answer = hotcheck(rt.alloc(), &mut input, &mut output, list);
     ended(rt, file, quiet, &answer)
 }
 
@@ -61,7 +61,7 @@ fn run_hotcheck(rt: &HostRuntime, file: &str, quiet: bool) -> u8 {
 fn run_work(rt: &HostRuntime, work: &Work<'_>) -> u8 {
     match work {
         Work::Check { file, quiet } => run_check(rt, file, *quiet),
-        Work::Hotcheck { file, quiet } => run_hotcheck(rt, file, *quiet),
+        Work::Hotcheck { file, quiet, list } => run_hotcheck(rt, file, *quiet, *list),
         Work::Judge { setting, file } => run_judge(rt, setting, file),
         Work::Plan {
             file,
