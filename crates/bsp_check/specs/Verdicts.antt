@@ -13,7 +13,6 @@ use Rattle.bsp_explain.specs.RetReasons.{Says, is_reason_of}
 use Rattle.bsp_hot_explain.specs.Headings.{heading_in}
 use Rattle.bsp_hot_explain.specs.HotReasons.{SaysOfHot, stands_after, record_name}
 use Rattle.bsp_check.specs.declared.fault.Fault.{Fault}
-use Rattle.bsp_check.specs.declared.verdict.Explanation.{Explanation}
 use Rattle.bsp_check.specs.declared.verdict.Explanation.TheVariants.{Ret, Hot}
 use Rattle.bsp_check.specs.declared.verdict.Verdict.{Verdict}
 use Rattle.bsp_check.specs.declared.verdict.Verdict.TheVariants.{Passed, Refused}
