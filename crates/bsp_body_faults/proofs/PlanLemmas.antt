@@ -1,8 +1,7 @@
 -- Lemmas on plan texts that are refused.
 use Rattle.std.proofs.Common.{◌≡◌, refl}
-use Rattle.std.specs.Prelude.{◌≢◌, Result, Ok, Err}
-use Rattle.bsp_calendar.specs.PlanDocument.{PlanData, Reads, plan_data, plan_reading}
-use Rattle.bsp_calendar.specs.declared.entries.PlanText.{PlanText}
+use Rattle.std.specs.Prelude.{◌≢◌, Result, Err}
+use Rattle.bsp_calendar.specs.PlanDocument.{PlanData, Reads, plan_data}
 use Rattle.bsp_calendar.specs.declared.fault.PlanFault.{PlanFault}
 use Rattle.bsp_calendar.specs.declared.fault.PlanFault.TheVariants.{NotToml, WrongKey, Differs, OutOfOrder, LateRate, DayBackwards, NotEarliest, NotOver, NoMemory}
 

@@ -43,7 +43,7 @@ pub struct JsonFault {
 fn write_body<W: fmt::Write>(f: &mut fmt::Formatter<W>, form: JsonForm) -> fmt::Result {
     let mut mark = ": {";
     for key in form.keys() {
-        write!(f, "{mark}\"{key}\":{}", key.example())?;
+        write!(f, "{mark}\"{}\":{}", key.name(), key.example())?;
         mark = ",";
     }
     f.write_str("}")
@@ -60,40 +60,72 @@ fn write_keys<W: fmt::Write>(f: &mut fmt::Formatter<W>, form: JsonForm) -> fmt::
         } else {
             ", "
         };
-        write!(f, "{mark}{key}")?;
+        write!(f, "{mark}{}", key.name())?;
     }
     Ok(())
 }
 
+/// Writes that bytes are no JSON text, by what is found at a place.
+fn write_not_json<W: fmt::Write>(
+    f: &mut fmt::Formatter<W>,
+    place: Place,
+    found: Found,
+) -> fmt::Result {
+    match found {
+        Found::End => write!(f, "the body is no JSON text (it ends at {place})"),
+        found => write!(f, "the body is no JSON text ({place} has {found})"),
+    }
+}
+
+/// Writes what is wrong with the value of a key.
+fn write_value<W: fmt::Write>(
+    f: &mut fmt::Formatter<W>,
+    key: Key,
+    fault: &ValueFault,
+) -> fmt::Result {
+    write!(f, "{} ", key.name())?;
+    fault.write(f, key)
+}
+
+impl JsonCause {
+    /// What is displayed of a cause that shows nothing of the bytes, in four pieces.
+    fn pieces(&self) -> [&'static str; 4] {
+        match self {
+            JsonCause::Empty => ["the body is empty", "", "", ""],
+            JsonCause::ByteOrderMark => {
+                [
+                    "the body begins with a byte order mark: save it without one",
+                    "",
+                    "",
+                    "",
+                ]
+            }
+            JsonCause::NotUtf8 => ["the body is no UTF-8: save it as UTF-8", "", "", ""],
+            JsonCause::NotObject(kind) => ["the body is ", kind.text(), ", and not one object", ""],
+            JsonCause::Missing(key) => {
+                [
+                    key.name(),
+                    " is missing: it is ",
+                    key.before_form(),
+                    key.form(),
+                ]
+            }
+            // (`UnknownKey`: `fmt` displays all others)
+            _ => ["a key is unknown", "", "", ""],
+        }
+    }
+}
+
 impl fmt::Display for JsonCause {
     fn fmt<W: fmt::Write>(&self, f: &mut fmt::Formatter<W>) -> fmt::Result {
-        match *self {
-            JsonCause::Empty => f.write_str("the body is empty"),
-            JsonCause::ByteOrderMark => f.write_str(
-                "the body begins with a byte order mark: save it without one",
-            ),
-            JsonCause::NotUtf8 => f.write_str("the body is no UTF-8: save it as UTF-8"),
-            JsonCause::NotJson(place, Found::End) => {
-                write!(f, "the body is no JSON text (it ends at {place})")
-            }
-            JsonCause::NotJson(place, found) => {
-                write!(f, "the body is no JSON text ({place} has {found})")
-            }
+        match self {
+            JsonCause::NotJson(place, found) => write_not_json(f, *place, *found),
             JsonCause::MoreFollows(place) => write!(f, "text follows the object ({place})"),
-            JsonCause::NotObject(kind) => write!(f, "the body is {kind}, and not one object"),
             JsonCause::UnknownKey(Some(name)) => write!(f, "{} is unknown", name.as_str()),
-            JsonCause::UnknownKey(None) => f.write_str("a key is unknown"),
-            JsonCause::Missing(key) => {
-                write!(
-                    f,
-                    "{key} is missing: it is {}{}",
-                    key.before_form(),
-                    key.form()
-                )
-            }
-            JsonCause::Value(key, fault) => {
-                write!(f, "{key} ")?;
-                fault.write(f, key)
+            JsonCause::Value(key, fault) => write_value(f, *key, fault),
+            _ => {
+                let [first, second, third, fourth] = self.pieces();
+                write!(f, "{first}{second}{third}{fourth}")
             }
         }
     }

@@ -1,9 +1,7 @@
 //! The keys of JSON bodies.
 
-use std::fmt;
-
-/// A key of a JSON body. It is displayed by its name.
-#[derive(Clone, Copy, PartialEq, Eq)]
+/// A key of a JSON body.
+#[derive(Clone, Copy)]
 pub enum Key {
     /// An agent's code.
     Agent,
@@ -94,11 +92,5 @@ impl Key {
             Key::Token => "16 to 64",
             _ => self.form(),
         }
-    }
-}
-
-impl fmt::Display for Key {
-    fn fmt<W: fmt::Write>(&self, f: &mut fmt::Formatter<W>) -> fmt::Result {
-        f.write_str(self.name())
     }
 }

@@ -1,10 +1,9 @@
 //! The kinds of JSON values.
 
 use serde_json::Value;
-use std::fmt;
 
-/// The kind of a JSON value (RFC 8259). It is displayed as `a number`.
-#[derive(Clone, Copy, PartialEq, Eq)]
+/// The kind of a JSON value (RFC 8259).
+#[derive(Clone, Copy)]
 pub enum JsonKind {
     /// `null`.
     Null,
@@ -33,7 +32,8 @@ impl JsonKind {
         }
     }
 
-    fn text(self) -> &'static str {
+    /// What people call it.
+    pub(crate) fn text(self) -> &'static str {
         match self {
             JsonKind::Null => "null",
             JsonKind::Bool => "true or false",
@@ -42,11 +42,5 @@ impl JsonKind {
             JsonKind::List => "a list",
             JsonKind::Object => "an object",
         }
-    }
-}
-
-impl fmt::Display for JsonKind {
-    fn fmt<W: fmt::Write>(&self, f: &mut fmt::Formatter<W>) -> fmt::Result {
-        f.write_str(self.text())
     }
 }

@@ -24,20 +24,21 @@ fn is_json(alloc: Global, bytes: &[u8]) -> Result<bool, NoRoom> {
 
 /// Whether the bytes before a place in a text are one JSON object.
 fn is_object_before(alloc: Global, body: &[u8], before: usize) -> Result<bool, NoRoom> {
-    let first = body.iter().find(|byte| !byte.is_ascii_whitespace());
-    if first == Some(&b'{') && before < body.len() {
+    if body.trim_ascii_start().starts_with(b"{") && before < body.len() {
         return is_json(alloc, &body[..before]);
     }
     Ok(false)
 }
 
-/// Why bytes are no JSON text, by the place that its reader has of the error.
-fn place_cause(alloc: Global, body: &[u8], place: Place) -> Result<JsonCause, NoRoom> {
-    let before = bytes_before(body, place);
-    if is_object_before(alloc, body, before)? {
-        return Ok(JsonCause::MoreFollows(place));
+/// Why a text is no JSON text, by the place that its reader has of the error.
+fn place_cause(alloc: Global, text: &str, place: Place) -> Result<JsonCause, NoRoom> {
+    let body = text.as_bytes();
+    let before = bytes_before(text, place);
+    match is_object_before(alloc, body, before) {
+        Ok(true) => Ok(JsonCause::MoreFollows(place)),
+        Ok(false) => Ok(JsonCause::NotJson(place, found_after(body, before))),
+        Err(error) => Err(error),
     }
-    Ok(JsonCause::NotJson(place, found_after(body, before)))
 }
 
 /// Why bytes are no JSON text, by the error of its reader.
@@ -48,9 +49,9 @@ fn text_cause(alloc: Global, body: &[u8], error: &Error) -> Result<JsonCause, No
     if body.starts_with(MARK) {
         return Ok(JsonCause::ByteOrderMark);
     }
-    if str::from_utf8(body).is_err() {
+    let Ok(text) = str::from_utf8(body) else {
         return Ok(JsonCause::NotUtf8);
-    }
+    };
     let place = Place {
         line: error.line(),
         column: error.column(),
@@ -58,14 +59,24 @@ fn text_cause(alloc: Global, body: &[u8], error: &Error) -> Result<JsonCause, No
     if error.is_eof() {
         return Ok(JsonCause::NotJson(place, Found::End));
     }
-    place_cause(alloc, body, place)
+    place_cause(alloc, text, place)
+}
+
+/// Whether the form has a key of this name.
+fn has_key(form: JsonForm, name: &str) -> bool {
+    for key in form.keys() {
+        if key.name() == name {
+            return true;
+        }
+    }
+    false
 }
 
 /// The first key of an object that is none of the form.
 fn unknown_key(form: JsonForm, members: &Map<String, Value>) -> Option<&str> {
     for (name, _) in members {
         let name = name.as_str();
-        if !form.keys().iter().any(|key| key.name() == name) {
+        if !has_key(form, name) {
             return Some(name);
         }
     }

@@ -18,7 +18,10 @@ pub(crate) struct CheckDigitRemark {
 
 /// The code that a JSON value has under `agent`, where its check digit is wrong.
 fn remark_in(value: &Value) -> Option<CheckDigitRemark> {
-    let text = value.get(Key::Agent.name())?.as_str()?;
+    let Some(Value::String(text)) = value.get(Key::Agent.name()) else {
+        return None;
+    };
+    let text = text.as_str();
     match AgentCode::read(text.as_bytes()) {
         Err(FieldFault::CheckDigit) => Some(CheckDigitRemark {
             code: InlineText::of(text),
@@ -37,12 +40,9 @@ pub(crate) fn check_digit_remark<V: Copy>(
     call: Call<V>,
     body: &[u8],
 ) -> Result<Option<CheckDigitRemark>, NoRoom> {
-    let BodyForm::Json(form) = body_form(call) else {
+    let BodyForm::Json(_) = body_form(call) else {
         return Ok(None);
     };
-    if !form.keys().contains(&Key::Agent) {
-        return Ok(None);
-    }
     match Value::from_slice(alloc, body) {
         Ok(value) => Ok(remark_in(&value)),
         Err(error) if error.is_memory() => Err(NoRoom),

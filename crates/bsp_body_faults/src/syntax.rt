@@ -3,7 +3,7 @@
 use std::fmt;
 
 /// A place in a text. It is displayed as `line 1, column 8`.
-#[derive(Clone, Copy, PartialEq, Eq)]
+#[derive(Clone, Copy)]
 pub struct Place {
     /// The number of the line, counted from 1.
     pub line: usize,
@@ -12,7 +12,7 @@ pub struct Place {
 }
 
 /// What is found where bytes are no JSON text. No letter and no digit is named: it may be of a token.
-#[derive(Clone, Copy, PartialEq, Eq)]
+#[derive(Clone, Copy)]
 pub enum Found {
     /// The text ends.
     End,
@@ -42,15 +42,24 @@ impl Found {
             _ => Found::Wide,
         }
     }
+
+    /// What is displayed where no byte is named.
+    fn text(&self) -> &'static str {
+        match self {
+            Found::End => "no character",
+            Found::Letter => "a letter",
+            Found::Digit => "a digit",
+            Found::Quote =>
+                "a text that is not allowed there, or a line break, a tab or a wrong \\ in it",
+            _ => "a character that is not ASCII",
+        }
+    }
 }
 
 /// How many bytes of a text are before a place. At most all.
-pub(crate) fn bytes_before(text: &[u8], place: Place) -> usize {
+pub(crate) fn bytes_before(text: &str, place: Place) -> usize {
     let mut before = 0usize;
-    for line in text
-        .split(|byte| *byte == b'\n')
-        .take(place.line.saturating_sub(1))
-    {
+    for line in text.split('\n').take(place.line.saturating_sub(1)) {
         before = before.saturating_add(line.len()).saturating_add(1);
     }
     before
@@ -58,7 +67,7 @@ pub(crate) fn bytes_before(text: &[u8], place: Place) -> usize {
         .min(text.len())
 }
 
-/// What is found behind so many bytes of a text, where it is no JSON.
+/// What is found after so many bytes of a text, where it is no JSON.
 pub(crate) fn found_after(text: &[u8], before: usize) -> Found {
     match text.get(before) {
         Some(byte) => Found::of(*byte),
@@ -74,16 +83,10 @@ impl fmt::Display for Place {
 
 impl fmt::Display for Found {
     fn fmt<W: fmt::Write>(&self, f: &mut fmt::Formatter<W>) -> fmt::Result {
-        match *self {
-            Found::End => f.write_str("no character"),
-            Found::Letter => f.write_str("a letter"),
-            Found::Digit => f.write_str("a digit"),
-            Found::Quote => f.write_str(
-                "a text that is not allowed there, or a line break, a tab or a wrong \\ in it",
-            ),
-            Found::Mark(mark) => write!(f, "{}", mark as char),
+        match self {
+            Found::Mark(mark) => write!(f, "{}", *mark as char),
             Found::Control(byte) => write!(f, "the character {byte:#04x}"),
-            Found::Wide => f.write_str("a character that is not ASCII"),
+            _ => f.write_str(self.text()),
         }
     }
 }

@@ -39,68 +39,86 @@ fn write_width<W: fmt::Write>(f: &mut fmt::Formatter<W>, key: Key, count: usize)
     write!(f, "has {count} character{end}, and not {}", key.width())
 }
 
-/// Writes which text the value of a key is, and its form.
-fn write_text<W: fmt::Write>(f: &mut fmt::Formatter<W>, key: Key, text: &str) -> fmt::Result {
-    write!(f, "is \"{text}\", and not {}", key.form())?;
+/// What is said further of a text that is not in the form of a key.
+fn text_remark(key: Key, text: &str) -> &'static str {
     match key {
-        Key::Document | Key::First | Key::Last if text.len() == 11 => f.write_str(
-            ": it has no check digit",
-        ),
-        _ => Ok(()),
+        Key::Document | Key::First | Key::Last if text.len() == 11 => ": it has no check digit",
+        _ => "",
     }
 }
 
-/// Writes that the value of a key has a character that the key does not have.
-fn write_character<W: fmt::Write>(f: &mut fmt::Formatter<W>, key: Key) -> fmt::Result {
+/// What is said of a value with a character that the key does not have, in two pieces.
+fn character_text(key: Key) -> (&'static str, &'static str) {
     match key {
-        Key::Token => write!(
-            f,
-            "has another character than letters A to Z, a to z and digits"
+        Key::Token => (
+            "has another character than letters A to Z, a to z and digits",
+            "",
         ),
-        Key::Reason => write!(f, "has a character that is not from space to ~"),
-        Key::Day | Key::Kind => write!(f, "is not {}", key.form()),
-        _ => write!(f, "has a character that is not a digit"),
+        Key::Reason => ("has a character that is not from space to ~", ""),
+        Key::Day | Key::Kind => ("is not ", key.form()),
+        _ => ("has a character that is not a digit", ""),
     }
 }
 
 impl ValueFault {
-    /// Writes the fault, which the value of the key has.
-    pub(crate) fn write<W: fmt::Write>(self, f: &mut fmt::Formatter<W>, key: Key) -> fmt::Result {
+    /// The text that is shown of the value.
+    fn shown(&self) -> &str {
         match self {
-            ValueFault::Kind(kind) => {
-                write!(f, "is {kind}, and not {}{}", key.before_form(), key.form())
+            ValueFault::Quoted(text) | ValueFault::Text(text) | ValueFault::NotDay(text) => {
+                text.as_str()
             }
+            _ => "",
+        }
+    }
+
+    /// What is said before the text that is shown, and after it in three pieces.
+    fn pieces(&self, key: Key) -> [&'static str; 4] {
+        let form = key.form();
+        match self {
+            ValueFault::Kind(kind) if key.before_form().is_empty() => {
+                ["is ", kind.text(), ", and not ", form]
+            }
+            ValueFault::Kind(kind) => ["is ", kind.text(), ", and not a text of ", form],
+            ValueFault::Quoted(_) => ["is \"", "\" in quotes, and not ", form, ""],
+            ValueFault::Text(text) => {
+                [
+                    "is \"",
+                    "\", and not ",
+                    form,
+                    text_remark(key, text.as_str()),
+                ]
+            }
+            ValueFault::NotDay(_) => ["is \"", "\", which is no day of the calendar", "", ""],
+            ValueFault::NotWhole => ["has a point or an exponent, and is not ", form, "", ""],
+            ValueFault::MinusZero => ["is -0, and not ", form, ": write 0", ""],
+            ValueFault::Character => {
+                let (start, end) = character_text(key);
+                [start, end, "", ""]
+            }
+            // (`TooLarge`: `write` writes the others)
+            _ => {
+                [
+                    "is not from -9223372036854775808 to 9223372036854775807, as 64 bits hold it",
+                    "",
+                    "",
+                    "",
+                ]
+            }
+        }
+    }
+
+    /// Writes the fault, which the value of the key has.
+    pub(crate) fn write<W: fmt::Write>(&self, f: &mut fmt::Formatter<W>, key: Key) -> fmt::Result {
+        match self {
             ValueFault::Unquoted(text) => {
                 let text = text.as_str();
                 write!(f, "is {text} without quotes: write \"{text}\"")
             }
-            ValueFault::Quoted(text) => {
-                write!(
-                    f,
-                    "is \"{}\" in quotes, and not {}",
-                    text.as_str(),
-                    key.form()
-                )
+            ValueFault::Width(count) => write_width(f, key, *count),
+            _ => {
+                let [start, middle, form, end] = self.pieces(key);
+                write!(f, "{start}{}{middle}{form}{end}", self.shown())
             }
-            ValueFault::Text(text) => write_text(f, key, text.as_str()),
-            ValueFault::NotDay(text) => {
-                write!(
-                    f,
-                    "is \"{}\", which is no day of the calendar",
-                    text.as_str()
-                )
-            }
-            ValueFault::Width(count) => write_width(f, key, count),
-            ValueFault::Character => write_character(f, key),
-            ValueFault::NotWhole => write!(
-                f,
-                "has a point or an exponent, and is not {}",
-                key.form()
-            ),
-            ValueFault::MinusZero => write!(f, "is -0, and not {}: write 0", key.form()),
-            ValueFault::TooLarge => f.write_str(
-                "is not from -9223372036854775808 to 9223372036854775807, as 64 bits hold it",
-            ),
         }
     }
 }

@@ -31,16 +31,19 @@ fn form_fault(text: &str) -> ValueFault {
     }
 }
 
+/// Whether a text has digits alone.
+fn are_digits(text: &[u8]) -> bool {
+    text.iter().all(|byte| byte.is_ascii_digit())
+}
+
 /// Whether the text has the form of YYYY-MM-DD.
 fn has_day_form(text: &[u8]) -> bool {
     text.len() == 10
-        && text.iter().enumerate().all(|(place, byte)| {
-            if place == 4 || place == 7 {
-                *byte == b'-'
-            } else {
-                byte.is_ascii_digit()
-            }
-        })
+        && text[4] == b'-'
+        && text[7] == b'-'
+        && are_digits(&text[..4])
+        && are_digits(&text[5..7])
+        && are_digits(&text[8..])
 }
 
 /// What is wrong with a text that is no day.
@@ -123,7 +126,7 @@ fn amount_fault(value: &Value) -> Option<ValueFault> {
 /// unless the key is `token`.
 fn unquoted_fault(key: Key, number: &Number) -> ValueFault {
     match number.as_u64() {
-        Some(whole) if whole < 1_000_000_000_000_000 && key != Key::Token => {
+        Some(whole) if whole < 1_000_000_000_000_000 && !matches!(key, Key::Token) => {
             let digits = InlineText::of(whole);
             match text_fault(key, digits.as_str()) {
                 None => ValueFault::Unquoted(digits),
@@ -136,12 +139,10 @@ fn unquoted_fault(key: Key, number: &Number) -> ValueFault {
 
 /// What is wrong with a value as that of a key, if anything.
 pub(crate) fn value_fault(key: Key, value: &Value) -> Option<ValueFault> {
-    if key == Key::Amount {
-        return amount_fault(value);
-    }
-    match value {
-        Value::String(text) => text_fault(key, text.as_str()),
-        Value::Number(number) => Some(unquoted_fault(key, number)),
-        other => Some(ValueFault::Kind(JsonKind::of(other))),
+    match (key, value) {
+        (Key::Amount, _) => amount_fault(value),
+        (_, Value::String(text)) => text_fault(key, text.as_str()),
+        (_, Value::Number(number)) => Some(unquoted_fault(key, number)),
+        (_, other) => Some(ValueFault::Kind(JsonKind::of(other))),
     }
 }
