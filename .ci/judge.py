@@ -134,7 +134,7 @@ REMARKS = [
     ("sale", [], {"TKTT12345675": "TKTT76543213"}, "E02: record 2 has the agent 76543213, and 12345675 reports"),
     ("sale", [], {"13000000016": "13000000015"}, "E03: record 2 has the check digit 5, and that of 1300000001 is 6"),
     ("exchange", ["sale"], {"13000000016": "13000000014"}, "E03: record 3 has the check digit 4, and that of 1300000001 is 6"),
-    ("sale", [], {"240105DOE": "240117DOE"}, "E04: it is issued 2024-01-17, after the business day 2024-01-16"),
+    ("sale", [], {"240105DOE": "240117DOE"}, "E04: it is issued 2024-01-17, after the business day 2024-01-16: report it from 2024-01-17 on, or correct the date"),
     ("sale", [], {"13000000016": "14000000011"}, "E05: 1400000001 is not in the range 1300000000-1300000099"),
     ("sale", ["sale"], {"JANE": "JOHN"}, "E06: 1300000001 was accepted before, with other content: take another number"),
     ("sale", [], {"CA0000002350{": "CA0000002340{", "00002350{": "00002340{"}, "E07: fare + taxes are 235.00, forms 234.00"),
@@ -142,7 +142,8 @@ REMARKS = [
     ("sale", [], {"0000000100{": "0000001000{"}, "E07: the commission is 100.00, by rate and fare 10.00"),
     ("sale", [], {"10000002000{": "10000002000}"}, "E07: the fare is -200.00, and no amount of a sale is below zero"),
     ("refund-and-sale", [], {}, "E08: no ticket 1300000001 of 125 was reported before: report the sale before its refund"),
-    ("exchange", ["sale", "refund-and-sale"], {}, "E09: 1300000001 is cancelled, or was refunded or exchanged"),
+    ("exchange", ["sale", "refund-and-sale"], {},
+     "E09: 1300000001 was refunded by 1300000002: a ticket is given back once; take this transaction out"),
     ("exchange", ["sale"], {"CA0000000500{": "CA0000000510{", "EX0000002350{": "EX0000002340{"},
      "E12: EX is 234.00, fare + taxes of the tickets are 235.00"),
     ("exchange", ["sale"], {"0000000025{": "0000000125{"}, "E12: the commission is 12.50, by rate and difference of the fares 2.50"),
@@ -151,7 +152,8 @@ REMARKS = [
     ("refund-and-sale", ["sale"], {"00500000000010": "00400000000008"}, "E12: the rate is 400, that of the ticket 500"),
     ("refund-and-sale", ["sale"], {"0000000100}": "0000000090}"}, "E12: the commission is -9.00, by rate and fare -10.00"),
     ("sale", ["sale"], {"13000000016240105": "13000000020240116", SECOND_PERIOD: ""}, "E10: it is issued 2024-01-16, and the last period ends 2024-01-15: a later period has to be published"),
-    ("sale", ["sale"], {"13000000016": "13000000020", "limit = 1000": "limit = 1"}, "E11: the documents limit is reached"),
+    ("sale", ["sale"], {"13000000016": "13000000020", "limit = 1000": "limit = 1"},
+     "E11: the limit of 1 transactions of 125 in 24011 is reached: report it again after the close of 24011"),
 ]
 
 
@@ -186,7 +188,7 @@ def try_lines():
     why = "000001 E08: no ticket 1300000001 of 125 was reported before: report the sale before its refund"
     expect("a refusal in an earlier file", f"{refund}: {why}\n", ended.stderr)
     ended = subprocess.run([PROGRAM, "judge", "--plan", plan, *SETTING, "-"], capture_output=True, timeout=60, input=alone, text=True)
-    said = "000001: 1300000001 was never sold; the cancellation uses the number up\n"
+    said = "000001: 1300000001 was never sold; the cancellation uses the number up: if the number is a slip, correct columns 23-32 of record 2\n"
     expect("a CANX of a number that no file sold", (0, "000001 accepted 24011\nnet 0.00\n", said), (ended.returncode, ended.stdout, ended.stderr))
 
 

@@ -2,7 +2,8 @@
 
 use crate::remarks::Known;
 use bsp_book::ListBook;
-use bsp_fields::push_money;
+use bsp_calendar::Plan;
+use bsp_fields::{AirlineCode, Day, push_money};
 use bsp_plan_trial::push_fields;
 use bsp_ret_records::{Amounts, ReportedDocument, Tax, Transaction, TransactionCode};
 use bsp_rules::{Item, amount_or_zero, card_amount, commission};
@@ -127,25 +128,48 @@ fn push_sign(
     })
 }
 
-/// A rate above the published one, or the commission of a sale without EX that is not its rate's.
-fn push_rate(
-    text: &mut Vec<u8>,
-    book: &ListBook,
-    transaction: &Transaction,
-    amounts: &Amounts,
-) -> Result<(), AllocError> {
-    let (airline, issued) = (transaction.document.airline, transaction.issued);
-    let published = book.tables().plan().rate(airline, issued);
-    if amounts.rate <= published {
-        return match transaction.exchange {
-            Some(_) => Ok(()),
-            None => push_commission(text, amounts, b"by rate and fare", amounts.fare.get()),
-        };
+/// The first day of a published rate of an airline.
+fn first_rate(plan: &Plan, airline: AirlineCode) -> Option<Day> {
+    let mut first: Option<Day> = None;
+    for rate in plan.rates() {
+        if rate.airline == airline {
+            match first {
+                Some(day) if day <= rate.from => {}
+                _ => first = Some(rate.from),
+            }
+        }
     }
-    let (mut rate, mut most) = (Buffer::new(), Buffer::new());
+    first
+}
+
+/// That no rate of an airline is published for a day.
+fn push_no_rate(
+    text: &mut Vec<u8>,
+    airline: AirlineCode,
+    issued: Day,
+    first: Option<Day>,
+) -> Result<(), AllocError> {
+    push_fields(text, &[b"no rate of ", &airline.digits(), b" is published"])?;
+    let Some(first) = first else {
+        return text.extend_from_slice(b", so the rate is 00000");
+    };
+    let (issued, first) = (issued.write_text(), first.write_text());
+    push_fields(text, &[b" for ", &issued, b", the first is from ", &first])?;
+    text.extend_from_slice(b": see the date of issue in columns 34-39 of record 2 (YYMMDD)")
+}
+
+/// A rate above the published one.
+fn push_above(
+    text: &mut Vec<u8>,
+    rate: u16,
+    airline: AirlineCode,
+    issued: Day,
+    published: u16,
+) -> Result<(), AllocError> {
+    let (mut claimed, mut most) = (Buffer::new(), Buffer::new());
     let fields: [&[u8]; 8] = [
         b"the rate is ",
-        rate.format(amounts.rate).as_bytes(),
+        claimed.format(rate).as_bytes(),
         b", and the published one of ",
         &airline.digits(),
         b" on ",
@@ -154,6 +178,30 @@ fn push_rate(
         most.format(published).as_bytes(),
     ];
     push_fields(text, &fields)
+}
+
+/// A rate above the published one, or the commission of a sale without EX that is not its rate's.
+fn push_rate(
+    text: &mut Vec<u8>,
+    book: &ListBook,
+    transaction: &Transaction,
+    amounts: &Amounts,
+) -> Result<(), AllocError> {
+    let (airline, issued) = (transaction.document.airline, transaction.issued);
+    let plan = book.tables().plan();
+    let published = plan.rate(airline, issued);
+    if amounts.rate <= published {
+        return match transaction.exchange {
+            Some(_) => Ok(()),
+            None => push_commission(text, amounts, b"by rate and fare", amounts.fare.get()),
+        };
+    }
+    match first_rate(plan, airline) {
+        Some(first) if first <= issued => {
+            push_above(text, amounts.rate, airline, issued, published)
+        }
+        first => push_no_rate(text, airline, issued, first),
+    }
 }
 
 /// Which amount is wrong by the transaction and the published rate alone.
@@ -192,29 +240,44 @@ fn ticket_in<'i>(items: &'i [Item], place: &Option<ReportedDocument>) -> Option<
     None
 }
 
-/// The amount of a tax with a code, 0 where there is none.
-fn tax_with(code: &[u8; 2], taxes: &[Option<Tax>; 6]) -> i64 {
+/// The amount of a tax with a code, if there is one.
+fn tax_with(code: &[u8; 2], taxes: &[Option<Tax>; 6]) -> Option<i64> {
     for tax in taxes {
         if let Some(tax) = tax {
             if tax.code == *code {
-                return tax.amount.get();
-            }
-        }
-    }
-    0
-}
-
-/// The first tax of a refund that is more than the ticket's, and that of the ticket.
-fn greater_tax(ticket: &Amounts, amounts: &Amounts) -> Option<(Tax, i64)> {
-    for tax in &amounts.taxes {
-        if let Some(tax) = tax {
-            let of_ticket = tax_with(&tax.code, &ticket.taxes);
-            if tax.amount.get().unsigned_abs() > of_ticket.unsigned_abs() {
-                return Some((*tax, of_ticket));
+                return Some(tax.amount.get());
             }
         }
     }
     None
+}
+
+/// The first tax of a refund that the ticket has not, or that is more than the ticket's, and that of the ticket.
+fn greater_tax(ticket: &Amounts, amounts: &Amounts) -> Option<(Tax, Option<i64>)> {
+    for tax in &amounts.taxes {
+        if let Some(tax) = tax {
+            let of_ticket = tax_with(&tax.code, &ticket.taxes);
+            match of_ticket {
+                Some(most) if tax.amount.get().unsigned_abs() <= most.unsigned_abs() => {}
+                _ => return Some((*tax, of_ticket)),
+            }
+        }
+    }
+    None
+}
+
+/// A tax of a refund beside that of the ticket.
+fn push_tax(text: &mut Vec<u8>, tax: Tax, of_ticket: Option<i64>) -> Result<(), AllocError> {
+    let what: [&[u8]; 3] = [b"the tax ", &tax.code, b" is "];
+    let amount = tax.amount.get();
+    match of_ticket {
+        Some(most) => push_beside(text, &what, amount, b"that of the ticket", most),
+        None => {
+            push_fields(text, &what)?;
+            push_amount(text, amount)?;
+            push_fields(text, &[b", and the ticket has no tax ", &tax.code])
+        }
+    }
 }
 
 /// A rate that is not that of the ticket, or the commission of a refund that is not its rate's.
@@ -244,8 +307,7 @@ fn push_refund(text: &mut Vec<u8>, ticket: &Amounts, amounts: &Amounts) -> Resul
         return push_beside(text, &[b"the fare is "], fare, other, of_ticket);
     }
     if let Some((tax, of_ticket)) = greater_tax(ticket, amounts) {
-        let what: [&[u8]; 3] = [b"the tax ", &tax.code, b" is "];
-        return push_beside(text, &what, tax.amount.get(), other, of_ticket);
+        return push_tax(text, tax, of_ticket);
     }
     push_refund_rate(text, ticket, amounts)
 }

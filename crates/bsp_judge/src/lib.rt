@@ -6,6 +6,7 @@
 
 mod amount_remarks;
 mod asking;
+mod ended_remarks;
 mod judging;
 mod owed;
 mod preparing;

@@ -1,6 +1,7 @@
 //! What is said beside the verdict of a transaction. The words are for people.
 
 use crate::amount_remarks::{push_against_tickets, push_amounts};
+use crate::ended_remarks::push_ended;
 use crate::setup::Setup;
 use bsp_book::ListBook;
 use bsp_calendar::{Period, Plan};
@@ -88,11 +89,15 @@ fn push_days(
     transaction: &Transaction,
     setup: &Setup<'_>,
 ) -> Result<(), AllocError> {
-    let fields: [&[u8]; 4] = [
+    let issued = transaction.issued.write_text();
+    let fields: [&[u8]; 7] = [
         b"it is issued ",
-        &transaction.issued.write_text(),
+        &issued,
         b", after the business day ",
         &setup.day.write_text(),
+        b": report it from ",
+        &issued,
+        b" on, or correct the date",
     ];
     push_fields(text, &fields)
 }
@@ -185,21 +190,6 @@ fn push_missing(text: &mut Vec<u8>, transaction: &Transaction) -> Result<(), All
     }
 }
 
-/// Which ticket has ended.
-fn push_ended(text: &mut Vec<u8>, transaction: &Transaction) -> Result<(), AllocError> {
-    let end = b" is cancelled, or was refunded or exchanged";
-    match &transaction.related {
-        [Some(first), Some(second)] => {
-            push_fields(text, &[&first.number, b" or ", &second.number, end])
-        }
-        [Some(first), None] => push_fields(text, &[&first.number, end]),
-        _ => {
-            let end = b" was refunded or exchanged";
-            push_fields(text, &[&transaction.document.number, end])
-        }
-    }
-}
-
 /// The first open period that does not end before a day.
 fn open_period(plan: &Plan, issued: Day) -> Option<Period> {
     for period in plan.periods().iter().skip(plan.closed_count()) {
@@ -224,7 +214,8 @@ fn push_no_period(
     if let Some(period) = open_period(plan, transaction.issued) {
         let (first, day) = (period.first.write_text(), plan.day().write_text());
         push_fields(text, &[b", and the open period for it begins ", &first])?;
-        return push_fields(text, &[b", after the business day ", &day]);
+        push_fields(text, &[b", after the business day ", &day])?;
+        return push_fields(text, &[b": report it again from ", &first, b" on"]);
     }
     if plan.closed_count() == plan.periods().len() {
         text.extend_from_slice(b", and all periods are closed")?;
@@ -233,6 +224,29 @@ fn push_no_period(
         push_fields(text, &[b", and the last period ends ", &last])?;
     }
     text.extend_from_slice(b": a later period has to be published")
+}
+
+/// The documents limit, which the agent has reached in an airline and a period.
+fn push_limit(
+    text: &mut Vec<u8>,
+    transaction: &Transaction,
+    plan: &Plan,
+) -> Result<(), AllocError> {
+    let (Some(terms), Some(period)) = (plan.terms(), open_period(plan, transaction.issued)) else {
+        return Ok(());
+    };
+    let (mut count, code) = (Buffer::new(), period.code.digits());
+    let fields: [&[u8]; 8] = [
+        b"the limit of ",
+        count.format(terms.documents_limit).as_bytes(),
+        b" transactions of ",
+        &transaction.document.airline.digits(),
+        b" in ",
+        &code,
+        b" is reached: report it again after the close of ",
+        &code,
+    ];
+    push_fields(text, &fields)
 }
 
 /// An airline that is not in the plan.
@@ -259,9 +273,9 @@ fn push_known(
         Refusal::NumberUsed => push_number(text, transaction),
         Refusal::WrongAmounts => push_amounts(text, book, transaction),
         Refusal::NoTicket => push_missing(text, transaction),
-        Refusal::TicketEnded => push_ended(text, transaction),
+        Refusal::TicketEnded => push_ended(alloc, text, known, transaction),
         Refusal::NoPeriod => push_no_period(text, transaction, book.tables().plan()),
-        Refusal::LimitReached => Ok(()),
+        Refusal::LimitReached => push_limit(text, transaction, book.tables().plan()),
         Refusal::WrongAgainstTicket => push_against_tickets(alloc, text, known, transaction),
     }
 }
@@ -318,8 +332,9 @@ fn push_used_up(
     transaction: &Transaction,
 ) -> Result<(), AllocError> {
     let digits: [u8; 6] = write_digits(number);
-    let end = b" was never sold; the cancellation uses the number up\n";
-    push_fields(text, &[&digits, b": ", &transaction.document.number, end])
+    let end = b" was never sold; the cancellation uses the number up";
+    push_fields(text, &[&digits, b": ", &transaction.document.number, end])?;
+    text.extend_from_slice(b": if the number is a slip, correct columns 23-32 of record 2\n")
 }
 
 /// Appends the line of a transaction, if there is more to say of its verdict.
