@@ -12,7 +12,6 @@ ghost use Rattle.bsp_judge.specs.Unjudged.{IsUnjudged};
 use crate::asking::report;
 use crate::owed::owed;
 use crate::preparing::{EarlierRemarks, prepare};
-use crate::remarks::{Known, remarks_on};
 use crate::setup::{JudgeFault, Setup};
 use crate::stating::state_if_asked;
 use crate::verdict_lines::push_verdicts;
@@ -20,6 +19,7 @@ use bsp_book::ListBook;
 use bsp_desk::{Desk, Token};
 use bsp_fields::{NoRoom, write_money};
 use bsp_plan_trial::push_fields;
+use bsp_remarks::{Known, remarks_on};
 use bsp_ret::{FaultCode, RetFile, read_ret};
 use bsp_rules::Verdict;
 use std::alloc::Global;
@@ -103,10 +103,7 @@ fn judge_at(
     let verdicts = report(desk, setup.agent, file)?;
     let after = owed(alloc, desk.book(), setup.agent)?;
     let net = after - before;
-    let known = Known {
-        setup,
-        book: desk.book(),
-    };
+    let known = setup.known(desk.book());
     say(alloc, &known, &verdicts, net, file, earlier)
 }
 

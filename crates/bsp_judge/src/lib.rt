@@ -4,14 +4,11 @@
 //! the agent owes. If a statement is asked for, the desk then closes its period, and gives it.
 #![tactic(auto)]
 
-mod amount_remarks;
 mod asking;
-mod ended_remarks;
 mod judging;
 mod owed;
 mod preparing;
 mod refusals;
-mod remarks;
 mod setup;
 mod stating;
 mod verdict_lines;

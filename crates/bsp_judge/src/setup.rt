@@ -1,7 +1,9 @@
 //! What a RET file is judged over, and why it is not judged.
 
+use bsp_book::ListBook;
 use bsp_fields::{AgentCode, Day, PeriodCode};
 use bsp_messages::RequestRefusal;
+use bsp_remarks::Known;
 use bsp_ret::RetFault;
 use bsp_rules::Range;
 
@@ -29,6 +31,18 @@ pub struct Setup<'s> {
     pub earlier: &'s [Earlier],
     /// The period of the statement that is asked for, if one is.
     pub statement: Option<PeriodCode>,
+}
+
+impl Setup<'_> {
+    /// What the words on a file are made of, with the book after it.
+    pub(crate) fn known<'k>(&'k self, book: &'k ListBook) -> Known<'k> {
+        Known {
+            agent: self.agent,
+            stock: self.stock,
+            day: self.day,
+            book,
+        }
+    }
 }
 
 /// A request of the office in a trial.

@@ -2,10 +2,9 @@
 
 use crate::amount_remarks::{push_against_tickets, push_amounts};
 use crate::ended_remarks::push_ended;
-use crate::setup::Setup;
 use bsp_book::ListBook;
 use bsp_calendar::{Period, Plan};
-use bsp_fields::{Day, DocNumber, write_digits};
+use bsp_fields::{AgentCode, Day, DocNumber, write_digits};
 use bsp_plan_trial::push_fields;
 use bsp_ret::{RetFile, transaction};
 use bsp_ret_records::{ReportedDocument, Transaction, TransactionCode};
@@ -15,9 +14,15 @@ use std::alloc::{AllocError, Global};
 
 /// What a file is judged over, and the book that its desk leaves.
 #[derive(Clone, Copy)]
-pub(crate) struct Known<'k> {
-    pub(crate) setup: &'k Setup<'k>,
-    pub(crate) book: &'k ListBook,
+pub struct Known<'k> {
+    /// The agent that reports.
+    pub agent: AgentCode,
+    /// Its ranges, in the order of their allotment.
+    pub stock: &'k [Range],
+    /// The business day.
+    pub day: Day,
+    /// The book after the file.
+    pub book: &'k ListBook,
 }
 
 /// The number of a document whose check digit is wrong.
@@ -71,30 +76,26 @@ fn push_digit(text: &mut Vec<u8>, transaction: &Transaction) -> Result<(), Alloc
 fn push_agents(
     text: &mut Vec<u8>,
     transaction: &Transaction,
-    setup: &Setup<'_>,
+    agent: AgentCode,
 ) -> Result<(), AllocError> {
     let fields: [&[u8]; 5] = [
         b"record 2 has the agent ",
         &transaction.agent,
         b", and ",
-        &setup.agent.digits(),
+        &agent.digits(),
         b" reports",
     ];
     push_fields(text, &fields)
 }
 
 /// The day of issue beside the business day.
-fn push_days(
-    text: &mut Vec<u8>,
-    transaction: &Transaction,
-    setup: &Setup<'_>,
-) -> Result<(), AllocError> {
+fn push_days(text: &mut Vec<u8>, transaction: &Transaction, day: Day) -> Result<(), AllocError> {
     let issued = transaction.issued.write_text();
     let fields: [&[u8]; 7] = [
         b"it is issued ",
         &issued,
         b", after the business day ",
-        &setup.day.write_text(),
+        &day.write_text(),
         b": report it from ",
         &issued,
         b" on, or correct the date",
@@ -263,13 +264,13 @@ fn push_known(
     transaction: &Transaction,
     refusal: Refusal,
 ) -> Result<(), AllocError> {
-    let (setup, book) = (known.setup, known.book);
+    let book = known.book;
     match refusal {
         Refusal::UnknownAirline => push_airline(text, transaction),
-        Refusal::WrongAgent => push_agents(text, transaction, setup),
+        Refusal::WrongAgent => push_agents(text, transaction, known.agent),
         Refusal::WrongCheckDigit => push_digit(text, transaction),
-        Refusal::NotYetIssued => push_days(text, transaction, setup),
-        Refusal::NotInStock => push_ranges(text, transaction, setup.stock),
+        Refusal::NotYetIssued => push_days(text, transaction, known.day),
+        Refusal::NotInStock => push_ranges(text, transaction, known.stock),
         Refusal::NumberUsed => push_number(text, transaction),
         Refusal::WrongAmounts => push_amounts(text, book, transaction),
         Refusal::NoTicket => push_missing(text, transaction),
@@ -315,7 +316,7 @@ fn ends_nothing(
         return Ok(false);
     }
     let tables = known.book.tables();
-    let items = tables.items_bearing(alloc, known.setup.agent, transaction)?;
+    let items = tables.items_bearing(alloc, known.agent, transaction)?;
     Ok(!items.iter().any(|item| is_sale_of(item, transaction)))
 }
 
@@ -362,8 +363,12 @@ fn push_line(
     }
 }
 
-/// A line for each transaction of a file of which there is more to say than its verdict.
-pub(crate) fn remarks_on(
+/// A line for each transaction of a file of which there is more to say than its verdict: its number in the file, and the words.
+///
+/// # Errors
+///
+/// `AllocError`, where an allocation was refused.
+pub fn remarks_on(
     alloc: Global,
     known: &Known<'_>,
     file: &RetFile<'_>,

@@ -347,7 +347,7 @@ pub(crate) fn push_against_tickets(
         return Ok(());
     };
     let tables = known.book.tables();
-    let items = tables.items_bearing(alloc, known.setup.agent, transaction)?;
+    let items = tables.items_bearing(alloc, known.agent, transaction)?;
     match transaction.code {
         TransactionCode::Tktt => push_exchange(text, transaction, &items, amounts),
         TransactionCode::Rfnd => match ticket_in(&items, &transaction.related[0]) {

@@ -35,7 +35,11 @@ fn end_by(item: &Item, number: &[u8; 10]) -> Option<End> {
     let transaction = &item.transaction;
     let own = transaction.document.number;
     if transaction.code == TransactionCode::Canx {
-        return if own == *number { Some(End::Cancelled) } else { None };
+        return if own == *number {
+            Some(End::Cancelled)
+        } else {
+            None
+        };
     }
     if !item.lives || !relates_to(transaction, number) {
         return None;
@@ -98,7 +102,15 @@ fn closed_item<'i>(items: &'i [Item], number: &[u8; 10], plan: &Plan) -> Option<
 /// That the period of what is to be cancelled is closed.
 fn push_closed(text: &mut Vec<u8>, number: &[u8; 10], item: &Item) -> Result<(), AllocError> {
     let period = item.period.digits();
-    push_fields(text, &[number, b" was accepted in ", &period, b", which is closed: "])?;
+    push_fields(
+        text,
+        &[
+            number,
+            b" was accepted in ",
+            &period,
+            b", which is closed: ",
+        ],
+    )?;
     text.extend_from_slice(match item.transaction.code {
         TransactionCode::Tktt => b"report a refund (RFND) in place of the CANX",
         TransactionCode::Rfnd | TransactionCode::Canx => b"take this transaction out",
@@ -118,11 +130,17 @@ fn push_cancellation(
     match end_of(items, number) {
         Some(End::Refunded(by)) => {
             push_end(text, number, End::Refunded(by))?;
-            push_fields(text, &[b": cancel ", &by, b" first, while its period is open"])
+            push_fields(
+                text,
+                &[b": cancel ", &by, b" first, while its period is open"],
+            )
         }
         Some(End::Exchanged(by)) => {
             push_end(text, number, End::Exchanged(by))?;
-            push_fields(text, &[b": cancel ", &by, b" first, while its period is open"])
+            push_fields(
+                text,
+                &[b": cancel ", &by, b" first, while its period is open"],
+            )
         }
         Some(End::Cancelled) | None => Ok(()),
     }
@@ -136,7 +154,7 @@ pub(crate) fn push_ended(
     transaction: &Transaction,
 ) -> Result<(), AllocError> {
     let tables = known.book.tables();
-    let items = tables.items_bearing(alloc, known.setup.agent, transaction)?;
+    let items = tables.items_bearing(alloc, known.agent, transaction)?;
     match transaction.code {
         TransactionCode::Canx => {
             push_cancellation(text, &transaction.document.number, &items, tables.plan())
