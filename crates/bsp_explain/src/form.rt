@@ -107,7 +107,8 @@ impl Form {
     /// What is wrong with a field that is not in the form, without the number that it is up to.
     fn text(self) -> &'static str {
         match self {
-            Form::HeaderMark => "is not `1`: a file begins with its header",
+            Form::HeaderMark =>
+                "is not `1`: a file begins with its header, as `1TSTA2401050930DE000001PROD001` and 106 spaces: put it before this line",
             Form::Profile => "is neither `001` nor `002`",
             Form::Production => "is not `PROD`",
             Form::ProductionProfile => "is not `PROD001` or `PROD002`",

@@ -71,6 +71,14 @@ pub(crate) fn write_short<W: fmt::Write>(f: &mut fmt::Formatter<W>, field: Field
     )
 }
 
+/// The fields between the first column and a day that begins in that one: of record 2, or of the header.
+fn fields_before(first: u8) -> &'static str {
+    match first {
+        34 => "number 2-7, code 8-11, agent 12-19, airline 20-22, document 23-32, check digit 33",
+        _ => "system id 2-5",
+    }
+}
+
 /// Writes that a field has no day, which is a column away.
 pub(crate) fn write_moved_day<W: fmt::Write>(
     f: &mut fmt::Formatter<W>,
@@ -82,9 +90,10 @@ pub(crate) fn write_moved_day<W: fmt::Write>(
         Hint::Earlier => (field.first.saturating_sub(1), "short"),
         _ => (field.first.saturating_add(1), "long"),
     };
+    let before = fields_before(field.first);
     write!(
         f,
-        "{} {found} is not a day YYMMDD, and a day begins in column {column}: the fields before it are a column too {off}",
+        "{} {found} is not a day YYMMDD, and a day begins in column {column}: one of the fields before it is a column too {off} ({before})",
         field.name
     )
 }

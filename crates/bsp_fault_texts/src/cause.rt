@@ -84,7 +84,9 @@ pub fn cause_of(line: &[u8]) -> Cause {
 
 /// What people read of a line of that width, where nothing else is known of it.
 fn width_text(width: usize) -> &'static str {
-    if width < 136 {
+    if width <= 100 {
+        "too few: fill it with spaces up to 136 characters"
+    } else if width < 136 {
         "too few: a field is too short, or spaces at its end are missing"
     } else {
         "too many: a field is too long"

@@ -9,11 +9,13 @@ fn next_text(place: Place) -> &'static str {
     match (place.last, place.code) {
         (b'2', Some(TransactionCode::Canx)) =>
             "a CANX is one record 2 alone, and after it comes a record 2 or the trailer",
-        (b'2', Some(TransactionCode::Rfnd)) => "a refund (RFND) has a record 3 before record 5",
+        (b'2', Some(TransactionCode::Rfnd)) =>
+            "a refund (RFND) has a record `3` before its record `5`, which names the ticket, as `300000112513000000016` and 115 spaces",
         (b'2', _) =>
             "after record 2 of a sale (TKTT) comes record 5, or record 3 if it is an exchange",
         (b'3', _) => "after record 3 comes record 5",
-        (b'5', _) => "after record 5 comes record 8: each transaction but a CANX has one to three",
+        (b'5', _) =>
+            "after a record `5` comes a form of payment, a record `8`, as `8000001CA0000002350{` and 116 spaces: each transaction but a CANX has one to three",
         (b'8', _) =>
             "after record 8 comes another record 8, the record 2 of the next transaction, or the trailer",
         _ => "after the header comes a record 2 or the trailer",
@@ -33,7 +35,8 @@ fn related_text(place: Place) -> &'static str {
 fn exchange_text(place: Place) -> &'static str {
     match place.code {
         Some(TransactionCode::Rfnd) => "a refund (RFND) has no form EX",
-        _ => "a form EX needs a record 3, which names the old ticket, before record 5",
+        _ =>
+            "a form EX needs a record `3` before the record `5` of its transaction, which names the old ticket, as `300000112513000000016` and 115 spaces",
     }
 }
 
