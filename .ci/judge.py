@@ -153,7 +153,7 @@ REMARKS = [
     ("refund-and-sale", ["sale"], {"0000000100}": "0000000090}"}, "E12: the commission is -9.00, by rate and fare -10.00"),
     ("sale", ["sale"], {"13000000016240105": "13000000020240116", SECOND_PERIOD: ""}, "E10: it is issued 2024-01-16, and the last period ends 2024-01-15: a later period has to be published"),
     ("sale", ["sale"], {"13000000016": "13000000020", "limit = 1000": "limit = 1"},
-     "E11: the limit of 1 transactions of 125 in 24011 is reached: report it again after the close of 24011"),
+     "E11: the documents limit of 1 is reached for 125 in 24011: report it again after the close of 24011"),
 ]
 
 

@@ -238,13 +238,13 @@ fn push_limit(
     };
     let (mut count, code) = (Buffer::new(), period.code.digits());
     let fields: [&[u8]; 8] = [
-        b"the limit of ",
+        b"the documents limit of ",
         count.format(terms.documents_limit).as_bytes(),
-        b" transactions of ",
+        b" is reached for ",
         &transaction.document.airline.digits(),
         b" in ",
         &code,
-        b" is reached: report it again after the close of ",
+        b": report it again after the close of ",
         &code,
     ];
     push_fields(text, &fields)
