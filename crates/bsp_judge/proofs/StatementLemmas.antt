@@ -10,11 +10,9 @@ use Rattle.bsp_calendar.specs.Published.{Published, period_of}
 use Rattle.bsp_calendar.specs.declared.entries.Period.{Period}
 use Rattle.bsp_ret.specs.declared.model.RetFault.{RetFault}
 use Rattle.bsp_rows.specs.Rows.{Rows}
-use Rattle.bsp_desk_writes.specs.Answers.Answer.{Verdicts}
 use Rattle.bsp_desk_writes.specs.Requests.AgentRequest.{AgentFile}
-use Rattle.bsp_desk.specs.Instructions.{own_answer}
 use Rattle.bsp_desk.specs.Instructions.Own.{OfAgent}
-use Rattle.bsp_judge.specs.Asked.{HasFault, IsPassed, Takes, Task, closing_of, closing_tasks, place_of, statement_tasks, tasks}
+use Rattle.bsp_judge.specs.Asked.{HasFault, IsPassed, Takes, Task, closing_of, closing_tasks, place_of, tasks}
 use Rattle.bsp_judge.specs.Asked.Task.{AskFor, Close, Report, SetDay}
 use Rattle.bsp_judge.specs.Judged.{IsSaid}
 use Rattle.bsp_judge.specs.Unjudged.{IsStopIn, IsStopOf, IsUnstatedOver}

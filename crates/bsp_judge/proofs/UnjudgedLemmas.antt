@@ -12,7 +12,7 @@ use Rattle.bsp_rows.specs.Rows.{Rows, no_rows}
 use Rattle.bsp_judge.specs.Asked.{HasFault, HasRetFault, IsRefused, Takes, Task, caller_tasks, earlier_tasks, place_of, plan_tasks, stock_tasks, tasks}
 use Rattle.bsp_judge.specs.Asked.Task.{Allot, Publish}
 use Rattle.bsp_plan_trial.specs.Turns.{StopsAt}
-use Rattle.bsp_judge.specs.Unjudged.{IsLeft, IsRefusedAs, IsRetFaultOf, IsStopIn, IsStopOf, IsUnjudged, IsUnready, IsUnstated, IsUnstatedOver}
+use Rattle.bsp_judge.specs.Unjudged.{IsLeft, IsRefusedAs, IsRetFaultOf, IsStopIn, IsStopOf, IsUnjudged, IsUnready, IsUnstatedOver}
 use Rattle.bsp_judge.specs.declared.setup.JudgeFault.{JudgeFault}
 use Rattle.bsp_judge.specs.declared.setup.JudgeFault.TheVariants.{Refused, Earlier, File, UnknownPeriod, Memory}
 use Rattle.bsp_judge.specs.declared.setup.Setup.{Setup}

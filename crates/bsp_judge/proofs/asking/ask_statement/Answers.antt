@@ -1,8 +1,7 @@
-use Rattle.std.proofs.Common.{◌≡◌, refl, sym, subst, ap, ◌∙◌}
+use Rattle.std.proofs.Common.{refl, subst, ap}
 use Rattle.bsp_fields.specs.Decimal.{fixed_digits}
 use Rattle.bsp_messages.specs.Values.{period_in}
 use Rattle.bsp_messages.specs.declared.answer.Answer.{Answer as Message}
-use Rattle.bsp_desk_writes.specs.Answers.{Answer}
 use Rattle.bsp_desk_writes.specs.Ledger.{ledger_of}
 use Rattle.bsp_desk_writes.specs.Requests.AgentRequest.{AskStatement}
 use Rattle.bsp_desk_writes.specs.Texts.{Says}

@@ -1,9 +1,9 @@
 use Rattle.std.proofs.Common.{◌≡◌, List, None, ap, arith, ◌++◌, ◌∙◌}
 use Rattle.std.specs.List.{list_all}
 use Rattle.std.specs.Prelude.{ℤ, ◌-ℤ◌}
-use Rattle.std.proofs.lemmas.Int.{ints, to_z-of_z}
+use Rattle.std.proofs.lemmas.Int.{ints}
 use mir.Syntax.{w128}
-use mir.Val.{SFits, of_z, to_z}
+use mir.Val.{of_z, to_z}
 use Rattle.bsp_office_spec.proofs.EachIsRead.{groups_read}
 use Rattle.bsp_rules.specs.declared.verdict.Verdict.{Verdict}
 use Rattle.bsp_judge.specs.Judged.{is_taken, net_line, owed, verdict_lines}

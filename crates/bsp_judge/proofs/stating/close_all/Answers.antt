@@ -4,7 +4,7 @@ use Rattle.bsp_judge.specs.Asked.Task.{Close}
 use Rattle.bsp_judge.specs.declared.setup.Step.TheVariants.{Closing}
 use Rattle.bsp_judge.specs.Steps.{rows_in}
 use Rattle.bsp_judge.specs.Unjudged.{IsStopIn}
-use Rattle.bsp_plan_trial.proofs.TurnLemmas.{taken_all, taken_more}
+use Rattle.bsp_plan_trial.proofs.TurnLemmas.{taken_more}
 use Rattle.bsp_judge.proofs.UnjudgedLemmas.{passed_on, stops_one}
 use Rattle.bsp_judge.proofs.stating.close_all.Goals as goal
 
