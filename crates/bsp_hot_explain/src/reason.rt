@@ -138,30 +138,39 @@ fn write_count<W: fmt::Write>(
     )
 }
 
+/// What comes between a value that a record says, and the one that it has to be.
+fn between(stated: Value) -> &'static str {
+    match stated {
+        Value::Transaction(_) => "and not",
+        Value::Agent(_) => "and that of its BOH03",
+        _ => "and that of the file",
+    }
+}
+
+/// Writes what all items, or those of a code, give in place of a total.
+fn write_total<W: fmt::Write>(f: &mut fmt::Formatter<W>, comparison: &Comparison) -> fmt::Result {
+    f.write_str("and the items")?;
+    if let Some(code) = comparison.items {
+        f.write_str(" of ")?;
+        write_code(f, code)?;
+    }
+    write!(f, " give {}", comparison.given)
+}
+
 /// Writes which column differs, and both values.
 fn write_difference<W: fmt::Write>(
     f: &mut fmt::Formatter<W>,
     comparison: &Comparison,
 ) -> fmt::Result {
-    let noun = noun(comparison.name);
     let (stated, given) = (comparison.stated, comparison.given);
-    if let (Value::Amount(_), Some(code)) = (stated, comparison.items) {
-        write!(f, "{noun} is {stated}, and the items of ")?;
-        write_code(f, code)?;
-        return write!(f, " give {given}");
+    if let (Value::Count(stated), Value::Count(given)) = (stated, given) {
+        return write_count(f, comparison.name, stated, given);
     }
-    match (stated, given) {
-        (Value::Count(stated), Value::Count(given)) => write_count(
-            f,
-            comparison.name,
-            stated,
-            given,
-        ),
-        (Value::Amount(_), _) => write!(f, "{noun} is {stated}, and the items give {given}"),
-        (Value::Transaction(_), _) => write!(f, "{noun} is {stated}, and not {given}"),
-        (Value::Agent(_), _) => write!(f, "{noun} is {stated}, and that of its BOH03 {given}"),
-        (Value::Code(_), _) => write!(f, "{noun} is {stated}, and BOT93 of {given} comes here"),
-        _ => write!(f, "{noun} is {stated}, and that of the file {given}"),
+    write!(f, "{} is {stated}, ", noun(comparison.name))?;
+    match stated {
+        Value::Amount(_) => write_total(f, comparison),
+        Value::Code(_) => write!(f, "and BOT93 of {given} comes here"),
+        _ => write!(f, "{} {given}", between(stated)),
     }
 }
 
