@@ -2,7 +2,8 @@
 """Compares the program with the office of second_office.py. Both are asked the same random requests, in markets where sales,
 refunds, exchanges, cancellations, memos, disputes and closes follow one another, often with one value that is wrong. Each
 reply has to be the same, byte for byte; in the end all that shows the rows is asked for. In a further market of each seed,
-of one agent, several plan texts and ranges, `judge` is asked the same as the offices before each file, closes among it.
+of one agent, several plan texts and ranges, `judge` is asked the same as the offices before each file, closes among it, and
+for the statement of a period as it is once that is closed after the file.
 
 The line at the end has the numbers of the answers. A difference is printed with what was sent; the same seed sends the same
 again.
@@ -10,6 +11,7 @@ again.
 usage: .ci/markets.py PROGRAM [MARKETS [SEED]]     (by default 40 markets, from the seed 1 on)
 """
 import collections
+import copy
 import dataclasses
 import datetime
 import json
@@ -434,15 +436,28 @@ class Trial(Market):
         paths = [f"/agents/{agent}/periods/{code}" for code in self.second.plan.periods]
         return sum(int(json.loads(self.first.ask("GET", path, token, None)[2])["net"].replace(".", "")) for path in paths)
 
-    def judged(self, text):
-        ended = subprocess.run([self.program, "judge", *self.words, self.file(text)], capture_output=True, timeout=60, input=b"")
+    def judged(self, text, *words):
+        ended = subprocess.run([self.program, "judge", *self.words, *words, self.file(text)], capture_output=True, timeout=60, input=b"")
         return ended.returncode, ended.stdout.decode()
+
+    def statement(self, transactions, code):
+        """The statement of a period, if the second office reports these and closes the period; none where it has no such period."""
+        second = copy.deepcopy(self.second)
+        second.report(AGENTS[0], transactions)
+        if code not in second.plan.periods:
+            return None
+        second.set_day(max(second.plan.day, second.plan.periods[code][2]))
+        while not second.plan.is_closed(code):
+            second.close(list(second.plan.periods)[second.plan.closed])
+        return second.statement(AGENTS[0], code).decode()
 
     def report(self):
         """A file, which is judged after all that came before."""
         transactions = [self.transaction(AGENTS[0]) for _ in range(self.random.choice([1, 2, 3, 5]))]
         text = ret_text(transactions)
-        said, before = self.judged(text), self.owed()
+        code = self.random.choice([*self.second.plan.periods, "99999"])
+        said, stated, before = self.judged(text), self.judged(text, "--statement", code), self.owed()
+        statement = self.statement(transactions, code)
         status, _, body = self.first.ask("POST", f"/agents/{AGENTS[0]}/ret", self.agent_tokens[AGENTS[0]], text)
         self.second.report(AGENTS[0], transactions)
         results = json.loads(body)["results"]
@@ -450,6 +465,8 @@ class Trial(Market):
         units = self.owed() - before
         net = f"net {'-' if units < 0 else ''}{abs(units) // 100}.{abs(units) % 100:02}\n"
         office.expect(f"{self.name}: judge {' '.join(self.words)}", (200, (int(" E" in lines), lines + net)), (status, said))
+        wanted = (int(" E" in lines), lines + net + statement) if statement else (1, "S01\n")
+        office.expect(f"{self.name}: judge {' '.join(self.words)} --statement {code}", wanted, stated)
         self.counts["judged"] += 1
         self.words += ["--file", self.file(text)]
 
