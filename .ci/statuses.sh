@@ -174,7 +174,7 @@ expect 3 '' '/: a read failed' hotcheck /
 expect 3 '' ": $none" hotcheck ''
 
 mistakes check v1.ret <<'END'
-1s/^1/2/|F02 record 1|record 1, column 1: the identifier `2` is not `1`: a file begins with its header
+1s/^1/2/|F02 record 1|record 1, column 1: the identifier `2` is not `1`: a file begins with its header, as `1TSTA2401050930DE000001PROD001` and 106 spaces: put it before this line
 1s/PROD/TEST/|F04 record 1|record 1, columns 24-27: the production status `TEST` is not `PROD`
 1s/240105/240230/|F05 record 1|record 1, columns 6-11: the date `240230` is not a day YYMMDD of the years 2000 to 2099: 5 January 2024 is `240105`
 2s/^2/7/|F03 record 2|record 2, column 1: no record after the header begins with `7`: they begin with `2`, `3`, `5`, `8` or `Z`
@@ -184,7 +184,7 @@ mistakes check v1.ret <<'END'
 1s/^/\xef\xbb\xbf/|F01 record 1|record 1: it has 139 characters, and not 136: it begins with a byte order mark; save it without one
 3s/^5000001/5000002/|F03 record 3|record 3, columns 2-7: the transaction number `000002` is not 000001: records 2 rise by one from 000001, and records 3, 5 and 8 have the number of their record 2
 3s/{ \{13\}/{RA0000000010{/|F05 record 3|record 3, columns 32-33: tax place 2 has `RA` after `RA`: codes rise, and each comes once
-4s/^8000001CA/8000001EX/|F03 record 4|record 4, columns 1-9: a record `8` with EX is not allowed here: a form EX needs a record 3, which names the old ticket, before record 5
+4s/^8000001CA/8000001EX/|F03 record 4|record 4, columns 1-9: a record `8` with EX is not allowed here: a form EX needs a record `3` before the record `5` of its transaction, which names the old ticket, as `300000112513000000016` and 115 spaces
 5s/^Z0000005/Z0000006/|F06 record 5|record 5, columns 2-8: the number of records, header and trailer included, is 5 and not 6: write `0000005`
 5s/{/A/|F07 record 5|record 5, columns 16-30: the sum of all records 8, EX included and refunds below zero, is 235.00 and not 235.01: write `00000000002350{`
 5d|F08 record 5|record 5: the file ends without a trailer: write `Z0000005000000100000000002350{`, and 106 spaces up to 136 characters
