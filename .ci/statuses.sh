@@ -130,7 +130,7 @@ reports check v1-cut-in-record-2 1 'F01 record 2' 'record 2: it has 135 characte
 reports check v1-cut-behind-record-1 1 'F08 record 2' 'record 2: the file ends without a trailer: write `Z0000002000000000000000000000{`, and 106 spaces up to 136 characters'
 reports check refund-with-cr-lf 0 "$refund"
 reports check empty 1 'F08 record 1' 'record 1: the file ends here: it is empty, and the smallest file has a header and a trailer'
-reports check binary 1 'F01 record 1' 'record 1: it has 2 characters, 134 too few: a field is too short, or spaces at its end are missing'
+reports check binary 1 'F01 record 1' 'record 1: it has 2 characters, 134 too few: fill it with spaces up to 136 characters'
 expect 1 'F01 record 1' 'standard input: record 1: it has 1073741824 characters, 1073741688 too many: a field is too long' \
   check - < <(head -c 1073741824 /dev/zero)
 long='longer than 1,073,741,824 bytes'
@@ -162,10 +162,10 @@ reports hotcheck 220-taxed-kinds.hot 0 'OK records 13 documents 1 net 0.00'
 reports hotcheck v3-without-its-last-line-end 0 'OK records 4 documents 0 net 0.00'
 reports hotcheck memo-with-cr-lf 0 'OK records 11 documents 1 net -50.00'
 reports hotcheck short.hot 1 'H04 record 4' 'record 4: the file ends before its last record BFT99: after BCT95 comes BFT99: fetch the file again; if it stays so, ask the office'
-reports hotcheck empty 1 'H04 record 1' 'record 1: the file is empty'
-reports hotcheck binary 1 'H04 record 1' 'record 1: this is no HOT file: it begins with `..`, and not with BFH'
+reports hotcheck empty 1 'H04 record 1' 'record 1: the file is empty: fetch the file again; if it stays so, ask the office'
+reports hotcheck binary 1 'H04 record 1' 'record 1: this is no HOT file: it begins with `..`, and not with BFH: fetch the file again; if it stays so, ask the office'
 reports hotcheck v1.ret 1 'H04 record 1' 'record 1: this is no HOT file, but a RET file: `check` reads it'
-expect 1 'H04 record 1' 'standard input: record 1: this is no HOT file: it begins with `........`, and not with BFH' \
+expect 1 'H04 record 1' 'standard input: record 1: this is no HOT file: it begins with `........`, and not with BFH: fetch the file again; if it stays so, ask the office' \
   hotcheck - < <(head -c 1073741824 /dev/zero)
 expect 3 '' "standard input: $long" hotcheck - < <(head -c 1073741825 /dev/zero)
 expect 3 '' "missing: $none" hotcheck missing
@@ -201,27 +201,27 @@ mistakes check two-related.ret <<'END'
 7d|F03 record 7|record 7, column 1: a record `Z` is not allowed here: the sale before it has a record 3 and no form EX: add the record 8 with EX, or take out record 3
 END
 mistakes hotcheck v3.hot <<'END'
-1s/^BFH/BFT/|H04 record 1|record 1: this is no HOT file: it begins with `BFT00000`, and not with BFH
-2s/^BCH00000002/BCH00000003/|H04 record 2|record 2 (BCH02), columns 4-11: the sequence number is 00000003, and not 00000002: a record is missing before it
-4s/00000000000000{  /00000000000000A  /|H04 record 4|record 4 (BFT99), columns 78-92: the net is 0.01, and the items give 0.00
+1s/^BFH/BFT/|H04 record 1|record 1: this is no HOT file: it begins with `BFT00000`, and not with BFH: fetch the file again; if it stays so, ask the office
+2s/^BCH00000002/BCH00000003/|H04 record 2|record 2 (BCH02), columns 4-11: the sequence number is 00000003, and not 00000002: a record is missing before it: fetch the file again; if it stays so, ask the office
+4s/00000000000000{  /00000000000000A  /|H04 record 4|record 4 (BFT99), columns 78-92: the net is 0.01, and the items give 0.00: fetch the file again; if it stays so, ask the office
 END
 mistakes hotcheck taxed.hot <<'END'
-1s/PROD002/PROD001/|H04 record 8|record 8 (BKS42): it is not allowed here: after the commission comes BKS45, or BKP84 with CA or CC
-1s/PROD002/PROD003/|H04 record 1|record 1 (BFH01), columns 31-37: the production status is not `PROD001` or `PROD002`
-8s/0842/0839/|H04 record 8|record 8 (BKS39): it is not allowed here: after BKS39 comes BKS42
-8s/01900/10001/|H04 record 8|record 8 (BKS42), columns 22-26: the rate of tax on commission is not a number in digits up to 10000: 5.00 percent is `00500`
-8s/19{/19-/|H04 record 8|record 8 (BKS42), columns 27-37: the tax on commission is not ten digits and a last character with digit and sign: 200.00 is `0000002000{`, and -200.00 is `0000002000}`
-8s/19{/20{/|H04 record 10|record 10 (BOT93), columns 79-93: the net is 223.10, and the items give 223.00
-10s/19{/18{/|H04 record 10|record 10 (BOT93), columns 94-108: the tax on commission is 1.80, and the items give 1.90
-11s/2231{/2250{/|H04 record 11|record 11 (BOT94), columns 75-89: the net is 225.00, and the items give 223.10
-11s/00000000000019{/               /|H04 record 11|record 11 (BOT94), columns 90-104: the tax on commission is not 14 digits and a last character with digit and sign: 200.00 is `00000000002000{`, and -200.00 is `00000000002000}`
-12s/19{/18{/|H04 record 12|record 12 (BCT95), columns 95-109: the tax on commission is 1.80, and the items give 1.90
-13s/19{/18{/|H04 record 13|record 13 (BFT99), columns 93-107: the tax on commission is 1.80, and the items give 1.90
+1s/PROD002/PROD001/|H04 record 8|record 8 (BKS42): it is not allowed here: after the commission comes BKS45, or BKP84 with CA or CC: fetch the file again; if it stays so, ask the office
+1s/PROD002/PROD003/|H04 record 1|record 1 (BFH01), columns 31-37: the production status is not `PROD001` or `PROD002`: fetch the file again; if it stays so, ask the office
+8s/0842/0839/|H04 record 8|record 8 (BKS39): it is not allowed here: after BKS39 comes BKS42: fetch the file again; if it stays so, ask the office
+8s/01900/10001/|H04 record 8|record 8 (BKS42), columns 22-26: the rate of tax on commission is not a number in digits up to 10000: 5.00 percent is `00500`: fetch the file again; if it stays so, ask the office
+8s/19{/19-/|H04 record 8|record 8 (BKS42), columns 27-37: the tax on commission is not ten digits and a last character with digit and sign: 200.00 is `0000002000{`, and -200.00 is `0000002000}`: fetch the file again; if it stays so, ask the office
+8s/19{/20{/|H04 record 10|record 10 (BOT93), columns 79-93: the net is 223.10, and the items of TKTT give 223.00: fetch the file again; if it stays so, ask the office
+10s/19{/18{/|H04 record 10|record 10 (BOT93), columns 94-108: the tax on commission is 1.80, and the items of TKTT give 1.90: fetch the file again; if it stays so, ask the office
+11s/2231{/2250{/|H04 record 11|record 11 (BOT94), columns 75-89: the net is 225.00, and the items give 223.10: fetch the file again; if it stays so, ask the office
+11s/00000000000019{/               /|H04 record 11|record 11 (BOT94), columns 90-104: the tax on commission is not 14 digits and a last character with digit and sign: 200.00 is `00000000002000{`, and -200.00 is `00000000002000}`: fetch the file again; if it stays so, ask the office
+12s/19{/18{/|H04 record 12|record 12 (BCT95), columns 95-109: the tax on commission is 1.80, and the items give 1.90: fetch the file again; if it stays so, ask the office
+13s/19{/18{/|H04 record 13|record 13 (BFT99), columns 93-107: the tax on commission is 1.80, and the items give 1.90: fetch the file again; if it stays so, ask the office
 END
 mistakes hotcheck 125-exchange-of-two.hot <<'END'
-19s/13000000123/13000000112/|H04 record 19|record 19 (BKS45): it is not allowed here: after BKS45 comes a later BKS45, or BKP84
-19s/125/220/|H04 record 19|record 19 (BKS45), columns 22-24: the airline is 220, and that of the file 125
-25s/ \{15\}$/00000000000000{/|H04 record 25|record 25 (BFT99), columns 93-136: the rest of the record has a character that is not a space
+19s/13000000123/13000000112/|H04 record 19|record 19 (BKS45): it is not allowed here: after BKS45 comes a later BKS45, or BKP84: fetch the file again; if it stays so, ask the office
+19s/125/220/|H04 record 19|record 19 (BKS45), columns 22-24: the airline is 220, and that of the file 125: fetch the file again; if it stays so, ask the office
+25s/ \{15\}$/00000000000000{/|H04 record 25|record 25 (BFT99), columns 93-136: the rest of the record has a character that is not a space: fetch the file again; if it stays so, ask the office
 END
 
 # a book in a file, and files that have none
