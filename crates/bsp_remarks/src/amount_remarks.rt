@@ -1,36 +1,13 @@
 //! Which amount of a refused transaction is wrong, and what it has to be. The words are for people.
 
-use crate::remarks::Known;
-use bsp_book::ListBook;
+use crate::words::{Value, Words};
 use bsp_calendar::Plan;
-use bsp_fields::{AirlineCode, Day, push_money};
-use bsp_plan_trial::push_fields;
+use bsp_fields::{AirlineCode, Day};
 use bsp_ret_records::{Amounts, ReportedDocument, Tax, Transaction, TransactionCode};
 use bsp_rules::{Item, amount_or_zero, card_amount, commission};
-use itoa::Buffer;
-use std::alloc::{AllocError, Global};
 
-/// Appends minor units as money.
-fn push_amount(text: &mut Vec<u8>, amount: i64) -> Result<(), AllocError> {
-    match push_money(text, amount) {
-        Ok(()) => Ok(()),
-        Err(_) => Err(AllocError),
-    }
-}
-
-/// Appends an amount beside the one that it has to agree with, both in minor units.
-fn push_beside(
-    text: &mut Vec<u8>,
-    what: &[&[u8]],
-    found: i64,
-    other: &[u8],
-    wanted: i64,
-) -> Result<(), AllocError> {
-    push_fields(text, what)?;
-    push_amount(text, found)?;
-    push_fields(text, &[b", ", other, b" "])?;
-    push_amount(text, wanted)
-}
+/// What is said of a commission whose basis is the fare.
+const BY_FARE: &str = "the commission is {}, by rate and fare {}";
 
 /// Fare and taxes, in minor units.
 fn gross(amounts: &Amounts) -> i64 {
@@ -50,21 +27,14 @@ fn paid(transaction: &Transaction) -> i64 {
         .saturating_add(amount_or_zero(transaction.exchange))
 }
 
-/// The commission, where it is not that of its rate on a basis.
-fn push_commission(
-    text: &mut Vec<u8>,
-    amounts: &Amounts,
-    of: &[u8],
-    basis: i64,
-) -> Result<(), AllocError> {
-    if amounts.rate > 10_000 {
-        return Ok(());
+/// Says the commission, where it is not that of its rate on a basis. The text has a place for each.
+fn say_commission(words: &mut Words, text: &str, amounts: &Amounts, basis: i64) {
+    if amounts.rate <= 10_000 {
+        let (found, wanted) = (amounts.commission.get(), commission(amounts.rate, basis));
+        if found != wanted {
+            words.say(text, &[Value::Amount(found), Value::Amount(wanted)]);
+        }
     }
-    let (found, wanted) = (amounts.commission.get(), commission(amounts.rate, basis));
-    if found == wanted {
-        return Ok(());
-    }
-    push_beside(text, &[b"the commission is "], found, of, wanted)
 }
 
 /// Whether an amount has the sign of the other kind of transaction.
@@ -97,35 +67,33 @@ fn wrong_amount(transaction: &Transaction, amounts: &Amounts) -> Option<(&'stati
         ("CC", card_amount(transaction.credit)),
         ("EX", amount_or_zero(transaction.exchange)),
     ];
-    for (name, amount) in named {
-        if has_wrong_sign(transaction.code, amount) {
-            return Some((name, amount));
+    for (name, amount) in &named {
+        if has_wrong_sign(transaction.code, *amount) {
+            return Some((*name, *amount));
         }
     }
-    let amount = wrong_tax(transaction.code, amounts)?;
-    Some(("a tax", amount))
+    match wrong_tax(transaction.code, amounts) {
+        Some(amount) => Some(("a tax", amount)),
+        None => None,
+    }
 }
 
-/// An amount with a wrong sign, and the rule.
-fn push_sign(
-    text: &mut Vec<u8>,
-    transaction: &Transaction,
-    name: &str,
-    amount: i64,
-) -> Result<(), AllocError> {
-    push_fields(text, &[name.as_bytes(), b" is "])?;
-    push_amount(text, amount)?;
-    if (name == "CA" || name == "CC") && transaction.exchange.is_some() {
-        return text.extend_from_slice(
-            b": the ticket costs less than those that it is paid with: report a refund and a sale",
-        );
-    }
-    text.extend_from_slice(match transaction.code {
-        TransactionCode::Rfnd => b", and no amount of a refund is above zero",
-        TransactionCode::Tktt | TransactionCode::Canx => {
-            b", and no amount of a sale is below zero"
-        }
-    })
+/// Whether an amount of this name is below zero since a ticket costs less than those that it is paid with.
+fn is_paid_back(transaction: &Transaction, name: &str) -> bool {
+    transaction.exchange.is_some() && (name == "CA" || name == "CC")
+}
+
+/// Says an amount with a wrong sign, and the rule.
+fn say_sign(words: &mut Words, transaction: &Transaction, name: &str, amount: i64) {
+    let text = if is_paid_back(transaction, name) {
+        " is {}: the ticket costs less than those that it is paid with: report a refund and a sale"
+    } else if transaction.code == TransactionCode::Rfnd {
+        " is {}, and no amount of a refund is above zero"
+    } else {
+        " is {}, and no amount of a sale is below zero"
+    };
+    words.add(name.as_bytes());
+    words.say(text, &[Value::Amount(amount)]);
 }
 
 /// The first day of a published rate of an airline.
@@ -142,87 +110,68 @@ fn first_rate(plan: &Plan, airline: AirlineCode) -> Option<Day> {
     first
 }
 
-/// That no rate of an airline is published for a day.
-fn push_no_rate(
-    text: &mut Vec<u8>,
-    airline: AirlineCode,
-    issued: Day,
-    first: Option<Day>,
-) -> Result<(), AllocError> {
-    push_fields(text, &[b"no rate of ", &airline.digits(), b" is published"])?;
-    let Some(first) = first else {
-        return text.extend_from_slice(b", so the rate is 00000");
-    };
-    let (issued, first) = (issued.write_text(), first.write_text());
-    push_fields(text, &[b" for ", &issued, b", the first is from ", &first])?;
-    text.extend_from_slice(b": see the date of issue in columns 34-39 of record 2 (YYMMDD)")
+/// Says that no rate of an airline is published for a day.
+fn say_no_rate(words: &mut Words, airline: AirlineCode, issued: Day, first: Option<Day>) {
+    let airline = Value::Airline(airline);
+    match first {
+        None => words.say(
+            "no rate of {} is published, so the rate is 00000",
+            &[airline],
+        ),
+        Some(first) => words.say(
+            "no rate of {} is published for {}, the first is from {}: see the date of issue in columns 34-39 of record 2 (YYMMDD)",
+            &[airline, Value::Day(issued), Value::Day(first)],
+        ),
+    }
 }
 
-/// A rate above the published one.
-fn push_above(
-    text: &mut Vec<u8>,
-    rate: u16,
-    airline: AirlineCode,
-    issued: Day,
-    published: u16,
-) -> Result<(), AllocError> {
-    let (mut claimed, mut most) = (Buffer::new(), Buffer::new());
-    let fields: [&[u8]; 8] = [
-        b"the rate is ",
-        claimed.format(rate).as_bytes(),
-        b", and the published one of ",
-        &airline.digits(),
-        b" on ",
-        &issued.write_text(),
-        b" is ",
-        most.format(published).as_bytes(),
-    ];
-    push_fields(text, &fields)
+/// Says that a rate is above the published one.
+fn say_above(words: &mut Words, rate: u16, airline: AirlineCode, issued: Day, published: u16) {
+    let text = "the rate is {}, and the published one of {} on {} is {}";
+    let (rate, published) = (u32::from(rate), u32::from(published));
+    let (airline, issued) = (Value::Airline(airline), Value::Day(issued));
+    words.say(
+        text,
+        &[
+            Value::Number(rate),
+            airline,
+            issued,
+            Value::Number(published),
+        ],
+    );
 }
 
-/// A rate above the published one, or the commission of a sale without EX that is not its rate's.
-fn push_rate(
-    text: &mut Vec<u8>,
-    book: &ListBook,
-    transaction: &Transaction,
-    amounts: &Amounts,
-) -> Result<(), AllocError> {
+/// Says that a rate is above the published one, or that the commission of a sale without EX is not its rate's.
+fn say_rate(words: &mut Words, plan: &Plan, transaction: &Transaction, amounts: &Amounts) {
     let (airline, issued) = (transaction.document.airline, transaction.issued);
-    let plan = book.tables().plan();
     let published = plan.rate(airline, issued);
     if amounts.rate <= published {
-        return match transaction.exchange {
-            Some(_) => Ok(()),
-            None => push_commission(text, amounts, b"by rate and fare", amounts.fare.get()),
-        };
+        if transaction.exchange.is_none() {
+            say_commission(words, BY_FARE, amounts, amounts.fare.get());
+        }
+        return;
     }
     match first_rate(plan, airline) {
         Some(first) if first <= issued => {
-            push_above(text, amounts.rate, airline, issued, published)
+            say_above(words, amounts.rate, airline, issued, published);
         }
-        first => push_no_rate(text, airline, issued, first),
+        first => say_no_rate(words, airline, issued, first),
     }
 }
 
-/// Which amount is wrong by the transaction and the published rate alone.
-pub(crate) fn push_amounts(
-    text: &mut Vec<u8>,
-    book: &ListBook,
-    transaction: &Transaction,
-) -> Result<(), AllocError> {
+/// Says which amount is wrong by the transaction and the published rate alone.
+pub(crate) fn say_amounts(words: &mut Words, plan: &Plan, transaction: &Transaction) {
     let Some(amounts) = &transaction.amounts else {
-        return Ok(());
+        return;
     };
-    if let Some((name, amount)) = wrong_amount(transaction, amounts) {
-        return push_sign(text, transaction, name, amount);
-    }
     let (gross, paid) = (gross(amounts), paid(transaction));
-    if gross != paid {
-        return push_beside(text, &[b"fare + taxes are "], gross, b"forms", paid);
-    }
-    match transaction.code {
-        TransactionCode::Tktt => push_rate(text, book, transaction, amounts),
-        TransactionCode::Rfnd | TransactionCode::Canx => Ok(()),
+    if let Some((name, amount)) = wrong_amount(transaction, amounts) {
+        say_sign(words, transaction, name, amount);
+    } else if gross != paid {
+        let text = "fare + taxes are {}, forms {}";
+        words.say(text, &[Value::Amount(gross), Value::Amount(paid)]);
+    } else if transaction.code == TransactionCode::Tktt {
+        say_rate(words, plan, transaction, amounts);
     }
 }
 
@@ -266,59 +215,40 @@ fn greater_tax(ticket: &Amounts, amounts: &Amounts) -> Option<(Tax, Option<i64>)
     None
 }
 
-/// A tax of a refund beside that of the ticket.
-fn push_tax(text: &mut Vec<u8>, tax: Tax, of_ticket: Option<i64>) -> Result<(), AllocError> {
-    let what: [&[u8]; 3] = [b"the tax ", &tax.code, b" is "];
-    let amount = tax.amount.get();
+/// Says a tax of a refund beside that of the ticket.
+fn say_tax(words: &mut Words, tax: Tax, of_ticket: Option<i64>) {
+    let (code, amount) = (tax.code, Value::Amount(tax.amount.get()));
     match of_ticket {
-        Some(most) => push_beside(text, &what, amount, b"that of the ticket", most),
+        Some(most) => {
+            let text = "the tax {} is {}, that of the ticket {}";
+            words.say(text, &[Value::Tax(code), amount, Value::Amount(most)]);
+        }
         None => {
-            push_fields(text, &what)?;
-            push_amount(text, amount)?;
-            push_fields(text, &[b", and the ticket has no tax ", &tax.code])
+            let text = "the tax {} is {}, and the ticket has no tax {}";
+            words.say(text, &[Value::Tax(code), amount, Value::Tax(code)]);
         }
     }
 }
 
-/// A rate that is not that of the ticket, or the commission of a refund that is not its rate's.
-fn push_refund_rate(
-    text: &mut Vec<u8>,
-    ticket: &Amounts,
-    amounts: &Amounts,
-) -> Result<(), AllocError> {
-    if amounts.rate == ticket.rate {
-        return push_commission(text, amounts, b"by rate and fare", amounts.fare.get());
-    }
-    let (mut rate, mut wanted) = (Buffer::new(), Buffer::new());
-    let fields: [&[u8]; 4] = [
-        b"the rate is ",
-        rate.format(amounts.rate).as_bytes(),
-        b", that of the ticket ",
-        wanted.format(ticket.rate).as_bytes(),
-    ];
-    push_fields(text, &fields)
-}
-
-/// Which amount of a refund does not agree with its ticket.
-fn push_refund(text: &mut Vec<u8>, ticket: &Amounts, amounts: &Amounts) -> Result<(), AllocError> {
-    let other = b"that of the ticket";
+/// Says which amount of a refund does not agree with its ticket.
+fn say_refund(words: &mut Words, ticket: &Amounts, amounts: &Amounts) {
     let (fare, of_ticket) = (amounts.fare.get(), ticket.fare.get());
     if fare.unsigned_abs() > of_ticket.unsigned_abs() {
-        return push_beside(text, &[b"the fare is "], fare, other, of_ticket);
+        let text = "the fare is {}, that of the ticket {}";
+        words.say(text, &[Value::Amount(fare), Value::Amount(of_ticket)]);
+    } else if let Some((tax, of_ticket)) = greater_tax(ticket, amounts) {
+        say_tax(words, tax, of_ticket);
+    } else if amounts.rate != ticket.rate {
+        let (rate, of_ticket) = (u32::from(amounts.rate), u32::from(ticket.rate));
+        let text = "the rate is {}, that of the ticket {}";
+        words.say(text, &[Value::Number(rate), Value::Number(of_ticket)]);
+    } else {
+        say_commission(words, BY_FARE, amounts, fare);
     }
-    if let Some((tax, of_ticket)) = greater_tax(ticket, amounts) {
-        return push_tax(text, tax, of_ticket);
-    }
-    push_refund_rate(text, ticket, amounts)
 }
 
-/// Which amount of an exchange does not agree with its tickets.
-fn push_exchange(
-    text: &mut Vec<u8>,
-    transaction: &Transaction,
-    items: &[Item],
-    amounts: &Amounts,
-) -> Result<(), AllocError> {
+/// Says which amount of an exchange does not agree with its tickets.
+fn say_exchange(words: &mut Words, transaction: &Transaction, items: &[Item], amounts: &Amounts) {
     let (mut value, mut fares) = (0_i64, 0_i64);
     for place in &transaction.related {
         if let Some(ticket) = ticket_in(items, place) {
@@ -327,33 +257,28 @@ fn push_exchange(
         }
     }
     let given = amount_or_zero(transaction.exchange);
-    if given != value {
-        let other = b"fare + taxes of the tickets are";
-        return push_beside(text, &[b"EX is "], given, other, value);
+    if given == value {
+        let text = "the commission is {}, by rate and difference of the fares {}";
+        let basis = amounts.fare.get().saturating_sub(fares).max(0);
+        say_commission(words, text, amounts, basis);
+    } else {
+        let text = "EX is {}, fare + taxes of the tickets are {}";
+        words.say(text, &[Value::Amount(given), Value::Amount(value)]);
     }
-    let above = amounts.fare.get().saturating_sub(fares);
-    let basis = if above < 0 { 0 } else { above };
-    push_commission(text, amounts, b"by rate and difference of the fares", basis)
 }
 
-/// Which amount does not agree with the tickets.
-pub(crate) fn push_against_tickets(
-    alloc: Global,
-    text: &mut Vec<u8>,
-    known: &Known<'_>,
-    transaction: &Transaction,
-) -> Result<(), AllocError> {
+/// Says which amount does not agree with the tickets, which are among these items.
+pub(crate) fn say_against_tickets(words: &mut Words, transaction: &Transaction, items: &[Item]) {
     let Some(amounts) = &transaction.amounts else {
-        return Ok(());
+        return;
     };
-    let tables = known.book.tables();
-    let items = tables.items_bearing(alloc, known.agent, transaction)?;
     match transaction.code {
-        TransactionCode::Tktt => push_exchange(text, transaction, &items, amounts),
-        TransactionCode::Rfnd => match ticket_in(&items, &transaction.related[0]) {
-            Some(ticket) => push_refund(text, ticket, amounts),
-            None => Ok(()),
-        },
-        TransactionCode::Canx => Ok(()),
+        TransactionCode::Tktt => say_exchange(words, transaction, items, amounts),
+        TransactionCode::Rfnd => {
+            if let Some(ticket) = ticket_in(items, &transaction.related[0]) {
+                say_refund(words, ticket, amounts);
+            }
+        }
+        TransactionCode::Canx => {}
     }
 }

@@ -1,90 +1,63 @@
 //! Why a ticket can not be given back, and what to do. The words are for people.
 
-use crate::remarks::Known;
+use crate::words::{Value, Words};
 use bsp_calendar::Plan;
-use bsp_plan_trial::push_fields;
-use bsp_ret_records::{Transaction, TransactionCode};
+use bsp_ret_records::{ReportedDocument, Transaction, TransactionCode};
 use bsp_rules::Item;
-use std::alloc::{AllocError, Global};
 
-/// What a ticket came to.
-#[derive(Clone, Copy)]
-enum End {
-    /// It is cancelled.
-    Cancelled,
-    /// A refund of this number lives.
-    Refunded([u8; 10]),
-    /// A ticket of this number lives that it was exchanged for.
-    Exchanged([u8; 10]),
+/// Whether a document has a number.
+fn has_number(document: &Option<ReportedDocument>, number: &[u8; 10]) -> bool {
+    match document {
+        Some(document) => document.number == *number,
+        None => false,
+    }
 }
 
-/// Whether a transaction relates to a number.
-fn relates_to(transaction: &Transaction, number: &[u8; 10]) -> bool {
-    for place in &transaction.related {
-        if let Some(document) = place {
-            if document.number == *number {
-                return true;
-            }
+/// Whether an item ended the ticket of a number.
+fn ends(item: &Item, number: &[u8; 10]) -> bool {
+    let transaction = &item.transaction;
+    match transaction.code {
+        TransactionCode::Canx => transaction.document.number == *number,
+        TransactionCode::Rfnd | TransactionCode::Tktt => {
+            let [first, second] = &transaction.related;
+            item.lives && (has_number(first, number) || has_number(second, number))
         }
     }
-    false
 }
 
-/// What an item made of the ticket of a number, if it ended it.
-fn end_by(item: &Item, number: &[u8; 10]) -> Option<End> {
-    let transaction = &item.transaction;
-    let own = transaction.document.number;
-    if transaction.code == TransactionCode::Canx {
-        return if own == *number {
-            Some(End::Cancelled)
-        } else {
-            None
-        };
-    }
-    if !item.lives || !relates_to(transaction, number) {
-        return None;
-    }
-    match transaction.code {
-        TransactionCode::Rfnd => Some(End::Refunded(own)),
-        TransactionCode::Tktt | TransactionCode::Canx => Some(End::Exchanged(own)),
-    }
-}
-
-/// What the ticket of a number came to, by the items that have the number.
-fn end_of(items: &[Item], number: &[u8; 10]) -> Option<End> {
+/// The first item that ended the ticket of a number.
+fn end_of<'i>(items: &'i [Item], number: &[u8; 10]) -> Option<&'i Item> {
     for item in items {
-        if let Some(end) = end_by(item, number) {
-            return Some(end);
+        if ends(item, number) {
+            return Some(item);
         }
     }
     None
 }
 
-/// Appends what the ticket of a number came to.
-fn push_end(text: &mut Vec<u8>, number: &[u8; 10], end: End) -> Result<(), AllocError> {
-    match end {
-        End::Cancelled => push_fields(text, &[number, b" was cancelled"]),
-        End::Refunded(by) => push_fields(text, &[number, b" was refunded by ", &by]),
-        End::Exchanged(by) => push_fields(text, &[number, b" was exchanged for ", &by]),
-    }
+/// Says how an item ended the ticket of a number, and what to do, which may name the item by its number.
+fn say_end(words: &mut Words, number: &[u8; 10], item: &Item, remedy: &str) {
+    let by = item.transaction.document.number;
+    let text = match item.transaction.code {
+        TransactionCode::Canx => "{} was cancelled",
+        TransactionCode::Rfnd => "{} was refunded by {}",
+        TransactionCode::Tktt => "{} was exchanged for {}",
+    };
+    words.say(text, &[Value::Document(*number), Value::Document(by)]);
+    words.say(remedy, &[Value::Document(by)]);
 }
 
-/// Which ticket of a refund or an exchange has ended.
-fn push_ended_ticket(
-    text: &mut Vec<u8>,
-    transaction: &Transaction,
-    items: &[Item],
-) -> Result<(), AllocError> {
+/// Says which ticket of a refund or an exchange has ended.
+pub(crate) fn say_ended_ticket(words: &mut Words, transaction: &Transaction, items: &[Item]) {
     for place in &transaction.related {
         if let Some(document) = place {
-            if let Some(end) = end_of(items, &document.number) {
-                push_end(text, &document.number, end)?;
-                let rule = b": a ticket is given back once; take this transaction out";
-                return text.extend_from_slice(rule);
+            if let Some(item) = end_of(items, &document.number) {
+                let remedy = ": a ticket is given back once; take this transaction out";
+                say_end(words, &document.number, item, remedy);
+                return;
             }
         }
     }
-    Ok(())
 }
 
 /// The sale or refund of a number in a closed period.
@@ -99,68 +72,30 @@ fn closed_item<'i>(items: &'i [Item], number: &[u8; 10], plan: &Plan) -> Option<
     None
 }
 
-/// That the period of what is to be cancelled is closed.
-fn push_closed(text: &mut Vec<u8>, number: &[u8; 10], item: &Item) -> Result<(), AllocError> {
-    let period = item.period.digits();
-    push_fields(
+/// Says that the period of what is to be cancelled is closed.
+fn say_closed(words: &mut Words, number: &[u8; 10], item: &Item) {
+    let text = match item.transaction.code {
+        TransactionCode::Tktt => {
+            "{} was accepted in {}, which is closed: report a refund (RFND) in place of the CANX"
+        }
+        TransactionCode::Rfnd | TransactionCode::Canx => {
+            "{} was accepted in {}, which is closed: take this transaction out"
+        }
+    };
+    words.say(
         text,
-        &[
-            number,
-            b" was accepted in ",
-            &period,
-            b", which is closed: ",
-        ],
-    )?;
-    text.extend_from_slice(match item.transaction.code {
-        TransactionCode::Tktt => b"report a refund (RFND) in place of the CANX",
-        TransactionCode::Rfnd | TransactionCode::Canx => b"take this transaction out",
-    })
+        &[Value::Document(*number), Value::Period(item.period)],
+    );
 }
 
-/// Why a cancellation is refused.
-fn push_cancellation(
-    text: &mut Vec<u8>,
-    number: &[u8; 10],
-    items: &[Item],
-    plan: &Plan,
-) -> Result<(), AllocError> {
+/// Says why a cancellation is refused.
+pub(crate) fn say_cancellation(words: &mut Words, number: &[u8; 10], items: &[Item], plan: &Plan) {
     if let Some(item) = closed_item(items, number, plan) {
-        return push_closed(text, number, item);
-    }
-    match end_of(items, number) {
-        Some(End::Refunded(by)) => {
-            push_end(text, number, End::Refunded(by))?;
-            push_fields(
-                text,
-                &[b": cancel ", &by, b" first, while its period is open"],
-            )
-        }
-        Some(End::Exchanged(by)) => {
-            push_end(text, number, End::Exchanged(by))?;
-            push_fields(
-                text,
-                &[b": cancel ", &by, b" first, while its period is open"],
-            )
-        }
-        Some(End::Cancelled) | None => Ok(()),
-    }
-}
-
-/// Which ticket has ended, or why it is not cancelled.
-pub(crate) fn push_ended(
-    alloc: Global,
-    text: &mut Vec<u8>,
-    known: &Known<'_>,
-    transaction: &Transaction,
-) -> Result<(), AllocError> {
-    let tables = known.book.tables();
-    let items = tables.items_bearing(alloc, known.agent, transaction)?;
-    match transaction.code {
-        TransactionCode::Canx => {
-            push_cancellation(text, &transaction.document.number, &items, tables.plan())
-        }
-        TransactionCode::Tktt | TransactionCode::Rfnd => {
-            push_ended_ticket(text, transaction, &items)
+        say_closed(words, number, item);
+    } else if let Some(item) = end_of(items, number) {
+        if item.transaction.code != TransactionCode::Canx {
+            let remedy = ": cancel {} first, while its period is open";
+            say_end(words, number, item, remedy);
         }
     }
 }

@@ -1,15 +1,14 @@
 //! What is said beside the verdict of a transaction. The words are for people.
 
-use crate::amount_remarks::{push_against_tickets, push_amounts};
-use crate::ended_remarks::push_ended;
+use crate::amount_remarks::{say_against_tickets, say_amounts};
+use crate::ended_remarks::{say_cancellation, say_ended_ticket};
+use crate::words::{Value, Words};
 use bsp_book::ListBook;
 use bsp_calendar::{Period, Plan};
 use bsp_fields::{AgentCode, Day, DocNumber, write_digits};
-use bsp_plan_trial::push_fields;
 use bsp_ret::{RetFile, transaction};
 use bsp_ret_records::{ReportedDocument, Transaction, TransactionCode};
 use bsp_rules::{Item, Range, Refusal, Verdict};
-use itoa::Buffer;
 use std::alloc::{AllocError, Global};
 
 /// What a file is judged over, and the book that its desk leaves.
@@ -27,107 +26,88 @@ pub struct Known<'k> {
 
 /// The number of a document whose check digit is wrong.
 fn wrong_digit(document: &ReportedDocument) -> Option<DocNumber> {
-    let number = DocNumber::read_unchecked(&document.number).ok()?;
-    if number.check_digit() == document.check_digit {
-        None
-    } else {
-        Some(number)
+    match DocNumber::read_unchecked(&document.number) {
+        Ok(number) if number.check_digit() != document.check_digit => Some(number),
+        _ => None,
     }
 }
 
-/// The check digit of a number beside the one that its record has.
-fn push_beside_right(
-    text: &mut Vec<u8>,
-    record: &[u8],
-    found: u8,
-    number: DocNumber,
-) -> Result<(), AllocError> {
-    let (mut wrong, mut right) = (Buffer::new(), Buffer::new());
-    let fields: [&[u8]; 7] = [
-        b"record ",
-        record,
-        b" has the check digit ",
-        wrong.format(found).as_bytes(),
-        b", and that of ",
-        &number.digits(),
-        b" is ",
-    ];
-    push_fields(text, &fields)?;
-    text.extend_from_slice(right.format(number.check_digit()).as_bytes())
+/// Says the check digit of a number beside the one that its record has.
+fn say_beside_right(words: &mut Words, record: u32, found: u8, number: DocNumber) {
+    let text = "record {} has the check digit {}, and that of {} is {}";
+    let (found, right) = (u32::from(found), u32::from(number.check_digit()));
+    let (found, number) = (Value::Number(found), Value::Document(number.digits()));
+    words.say(
+        text,
+        &[Value::Number(record), found, number, Value::Number(right)],
+    );
 }
 
-/// Which check digit is wrong.
-fn push_digit(text: &mut Vec<u8>, transaction: &Transaction) -> Result<(), AllocError> {
+/// Says which check digit is wrong.
+fn say_digit(words: &mut Words, transaction: &Transaction) {
     let own = &transaction.document;
     if let Some(number) = wrong_digit(own) {
-        return push_beside_right(text, b"2", own.check_digit, number);
+        say_beside_right(words, 2, own.check_digit, number);
+        return;
     }
     for document in &transaction.related {
         if let Some(document) = document {
             if let Some(number) = wrong_digit(document) {
-                return push_beside_right(text, b"3", document.check_digit, number);
+                say_beside_right(words, 3, document.check_digit, number);
+                return;
             }
         }
     }
-    Ok(())
 }
 
-/// Whose transaction it is, and who reports it.
-fn push_agents(
-    text: &mut Vec<u8>,
-    transaction: &Transaction,
-    agent: AgentCode,
-) -> Result<(), AllocError> {
-    let fields: [&[u8]; 5] = [
-        b"record 2 has the agent ",
-        &transaction.agent,
-        b", and ",
-        &agent.digits(),
-        b" reports",
-    ];
-    push_fields(text, &fields)
+/// Says whose transaction it is, and who reports it.
+fn say_agents(words: &mut Words, transaction: &Transaction, agent: AgentCode) {
+    let text = "record 2 has the agent {}, and {} reports";
+    words.say(
+        text,
+        &[
+            Value::Agent(transaction.agent),
+            Value::Agent(agent.digits()),
+        ],
+    );
 }
 
-/// The day of issue beside the business day.
-fn push_days(text: &mut Vec<u8>, transaction: &Transaction, day: Day) -> Result<(), AllocError> {
-    let issued = transaction.issued.write_text();
-    let fields: [&[u8]; 7] = [
-        b"it is issued ",
-        &issued,
-        b", after the business day ",
-        &day.write_text(),
-        b": report it from ",
-        &issued,
-        b" on, or correct the date",
-    ];
-    push_fields(text, &fields)
+/// Says the day of issue beside the business day.
+fn say_days(words: &mut Words, transaction: &Transaction, day: Day) {
+    let text =
+        "it is issued {}, after the business day {}: report it from {} on, or correct the date";
+    let issued = transaction.issued;
+    words.say(
+        text,
+        &[Value::Day(issued), Value::Day(day), Value::Day(issued)],
+    );
 }
 
 /// What is said of a number that is in none of so many ranges.
-fn words_before(ranges: usize) -> &'static [u8] {
+fn text_before(ranges: usize) -> &'static str {
     match ranges {
-        0 => b" is in no range: the agent has none",
-        1 => b" is not in the range ",
-        _ => b" is in none of the ranges ",
+        0 => "{} is in no range: the agent has none",
+        1 => "{} is not in the range ",
+        _ => "{} is in none of the ranges ",
     }
 }
 
-/// The number beside the agent's ranges.
-fn push_ranges(
-    text: &mut Vec<u8>,
-    transaction: &Transaction,
-    stock: &[Range],
-) -> Result<(), AllocError> {
-    text.extend_from_slice(&transaction.document.number)?;
-    text.extend_from_slice(words_before(stock.len()))?;
-    for (place, range) in stock.iter().enumerate() {
-        if place > 0 {
-            text.extend_from_slice(b", ")?;
+/// Says a range.
+fn say_range(words: &mut Words, text: &str, range: &Range) {
+    let (first, last) = (range.first.digits(), range.last.digits());
+    words.say(text, &[Value::Document(first), Value::Document(last)]);
+}
+
+/// Says the number beside the agent's ranges.
+fn say_ranges(words: &mut Words, transaction: &Transaction, stock: &[Range]) {
+    let number = Value::Document(transaction.document.number);
+    words.say(text_before(stock.len()), &[number]);
+    if let Some((first, others)) = stock.split_first() {
+        say_range(words, "{}-{}", first);
+        for range in others {
+            say_range(words, ", {}-{}", range);
         }
-        let (first, last) = (range.first.digits(), range.last.digits());
-        push_fields(text, &[&first, b"-", &last])?;
     }
-    Ok(())
 }
 
 /// Whether a refund has the number of its ticket.
@@ -141,52 +121,49 @@ fn has_ticket_number(transaction: &Transaction) -> bool {
     }
 }
 
-/// What became of the number.
-fn push_number(text: &mut Vec<u8>, transaction: &Transaction) -> Result<(), AllocError> {
-    let number = &transaction.document.number;
-    if has_ticket_number(transaction) {
-        let start = b"a refund has a number of its own from the stock: ";
-        return push_fields(text, &[start, number, b" is that of its ticket"]);
-    }
-    let became: &[u8] = match transaction.code {
-        TransactionCode::Canx => b" was cancelled before",
-        TransactionCode::Tktt | TransactionCode::Rfnd => {
-            b" was accepted before, with other content: take another number"
-        }
+/// Says what became of the number.
+fn say_used(words: &mut Words, transaction: &Transaction) {
+    let text = if has_ticket_number(transaction) {
+        "a refund has a number of its own from the stock: {} is that of its ticket"
+    } else if transaction.code == TransactionCode::Canx {
+        "{} was cancelled before"
+    } else {
+        "{} was accepted before, with other content: take another number"
     };
-    push_fields(text, &[number, became])
+    words.say(text, &[Value::Document(transaction.document.number)]);
 }
 
-/// In which order a ticket and what relates to it are reported.
-fn push_order(text: &mut Vec<u8>, code: TransactionCode) -> Result<(), AllocError> {
+/// What is said of a ticket that was not reported before what relates to it.
+fn text_of_missing(code: TransactionCode) -> &'static str {
     match code {
-        TransactionCode::Rfnd => text.extend_from_slice(b": report the sale before its refund"),
-        TransactionCode::Tktt => text.extend_from_slice(b": report it before it is exchanged"),
-        TransactionCode::Canx => Ok(()),
+        TransactionCode::Rfnd => {
+            "no ticket {} of {} was reported before: report the sale before its refund"
+        }
+        TransactionCode::Tktt => {
+            "no ticket {} of {} was reported before: report it before it is exchanged"
+        }
+        TransactionCode::Canx => "no ticket {} of {} was reported before",
     }
 }
 
-/// Which ticket was not reported.
-fn push_missing(text: &mut Vec<u8>, transaction: &Transaction) -> Result<(), AllocError> {
+/// Says which ticket was not reported.
+fn say_missing(words: &mut Words, transaction: &Transaction) {
     match &transaction.related {
         [Some(first), Some(second)] => {
-            let end = b" is no ticket of its airline that was reported before";
-            push_fields(text, &[&first.number, b" or ", &second.number, end])
+            let (first, second) = (
+                Value::Document(first.number),
+                Value::Document(second.number),
+            );
+            let text = "{} or {} is no ticket of its airline that was reported before";
+            words.say(text, &[first, second]);
         }
         [Some(first), None] => {
-            let fields: [&[u8]; 5] = [
-                b"no ticket ",
-                &first.number,
-                b" of ",
-                &first.airline.digits(),
-                b" was reported before",
-            ];
-            push_fields(text, &fields)?;
-            push_order(text, transaction.code)
+            let (number, airline) = (Value::Document(first.number), Value::Airline(first.airline));
+            words.say(text_of_missing(transaction.code), &[number, airline]);
         }
         _ => {
-            let end = b" was accepted for another airline";
-            push_fields(text, &[&transaction.document.number, end])
+            let number = Value::Document(transaction.document.number);
+            words.say("{} was accepted for another airline", &[number]);
         }
     }
 }
@@ -201,165 +178,192 @@ fn open_period(plan: &Plan, issued: Day) -> Option<Period> {
     None
 }
 
-/// Why no period takes a transaction: the business day is before the period, or there is no later period.
-fn push_no_period(
-    text: &mut Vec<u8>,
-    transaction: &Transaction,
-    plan: &Plan,
-) -> Result<(), AllocError> {
-    let Some(last) = plan.periods().last() else {
-        return text.extend_from_slice(b"the plan has no period");
-    };
-    let issued = transaction.issued.write_text();
-    push_fields(text, &[b"it is issued ", &issued])?;
+/// What is said where the business day is before the first day of the period.
+const NOT_BEGUN: &str =
+    "it is issued {}, and the open period for it begins {}, after the business day {}: report it again from {} on";
+
+/// Says why no period takes a transaction: the business day is before the period, or there is no later period.
+fn say_no_period(words: &mut Words, transaction: &Transaction, plan: &Plan) {
+    let (issued, day) = (Value::Day(transaction.issued), Value::Day(plan.day()));
     if let Some(period) = open_period(plan, transaction.issued) {
-        let (first, day) = (period.first.write_text(), plan.day().write_text());
-        push_fields(text, &[b", and the open period for it begins ", &first])?;
-        push_fields(text, &[b", after the business day ", &day])?;
-        return push_fields(text, &[b": report it again from ", &first, b" on"]);
-    }
-    if plan.closed_count() == plan.periods().len() {
-        text.extend_from_slice(b", and all periods are closed")?;
+        let first = period.first;
+        words.say(
+            NOT_BEGUN,
+            &[issued, Value::Day(first), day, Value::Day(first)],
+        );
+    } else if let Some(last) = plan.periods().last() {
+        let text = if plan.closed_count() == plan.periods().len() {
+            "it is issued {}, and all periods are closed: a later period has to be published"
+        } else {
+            "it is issued {}, and the last period ends {}: a later period has to be published"
+        };
+        words.say(text, &[issued, Value::Day(last.last)]);
     } else {
-        let last = last.last.write_text();
-        push_fields(text, &[b", and the last period ends ", &last])?;
+        words.add(b"the plan has no period");
     }
-    text.extend_from_slice(b": a later period has to be published")
 }
 
-/// The documents limit, which the agent has reached in an airline and a period.
-fn push_limit(
-    text: &mut Vec<u8>,
-    transaction: &Transaction,
-    plan: &Plan,
-) -> Result<(), AllocError> {
+/// Says the documents limit, which the agent has reached in an airline and a period.
+fn say_limit(words: &mut Words, transaction: &Transaction, plan: &Plan) {
     let (Some(terms), Some(period)) = (plan.terms(), open_period(plan, transaction.issued)) else {
-        return Ok(());
+        return;
     };
-    let (mut count, code) = (Buffer::new(), period.code.digits());
-    let fields: [&[u8]; 8] = [
-        b"the documents limit of ",
-        count.format(terms.documents_limit).as_bytes(),
-        b" is reached for ",
-        &transaction.document.airline.digits(),
-        b" in ",
-        &code,
-        b": report it again after the close of ",
-        &code,
-    ];
-    push_fields(text, &fields)
+    let text =
+        "the documents limit of {} is reached for {} in {}: report it again after the close of {}";
+    let limit = Value::Number(terms.documents_limit);
+    let airline = Value::Airline(transaction.document.airline);
+    let code = period.code;
+    words.say(
+        text,
+        &[limit, airline, Value::Period(code), Value::Period(code)],
+    );
 }
 
-/// An airline that is not in the plan.
-fn push_airline(text: &mut Vec<u8>, transaction: &Transaction) -> Result<(), AllocError> {
-    let airline = transaction.document.airline.digits();
-    push_fields(text, &[b"the airline ", &airline, b" is not in the plan"])
+/// Says that an airline is not in the plan.
+fn say_airline(words: &mut Words, transaction: &Transaction) {
+    let airline = Value::Airline(transaction.document.airline);
+    words.say("the airline {} is not in the plan", &[airline]);
 }
 
-/// Appends what is known of a refusal, beside its code, if anything is.
-fn push_known(
+/// The items of the agent that share a number with a transaction, and none where there is no memory for them.
+fn items_of(
     alloc: Global,
-    text: &mut Vec<u8>,
+    words: &mut Words,
     known: &Known<'_>,
     transaction: &Transaction,
-    refusal: Refusal,
-) -> Result<(), AllocError> {
-    let book = known.book;
-    match refusal {
-        Refusal::UnknownAirline => push_airline(text, transaction),
-        Refusal::WrongAgent => push_agents(text, transaction, known.agent),
-        Refusal::WrongCheckDigit => push_digit(text, transaction),
-        Refusal::NotYetIssued => push_days(text, transaction, known.day),
-        Refusal::NotInStock => push_ranges(text, transaction, known.stock),
-        Refusal::NumberUsed => push_number(text, transaction),
-        Refusal::WrongAmounts => push_amounts(text, book, transaction),
-        Refusal::NoTicket => push_missing(text, transaction),
-        Refusal::TicketEnded => push_ended(alloc, text, known, transaction),
-        Refusal::NoPeriod => push_no_period(text, transaction, book.tables().plan()),
-        Refusal::LimitReached => push_limit(text, transaction, book.tables().plan()),
-        Refusal::WrongAgainstTicket => push_against_tickets(alloc, text, known, transaction),
-    }
-}
-
-/// Appends a refusal as it is displayed.
-fn push_refusal(alloc: Global, text: &mut Vec<u8>, refusal: Refusal) -> Result<(), AllocError> {
-    let shown = format!(in alloc; "{refusal}")?;
-    text.extend_from_slice(shown.as_bytes())
-}
-
-/// Appends the line of a refusal, of which this is known.
-fn push_remark(
-    alloc: Global,
-    text: &mut Vec<u8>,
-    number: u64,
-    refusal: Refusal,
-    known: &[u8],
-) -> Result<(), AllocError> {
-    let number: [u8; 6] = write_digits(number);
-    push_fields(text, &[&number, b" "])?;
-    if known.is_empty() {
-        push_refusal(alloc, text, refusal)?;
-    } else {
-        push_fields(text, &[refusal.code().as_bytes(), b": "])?;
-        text.extend_from_slice(known)?;
-    }
-    text.extend_from_slice(b"\n")
-}
-
-/// Whether a CANX ends no TKTT or RFND of the agent.
-fn ends_nothing(
-    alloc: Global,
-    known: &Known<'_>,
-    transaction: &Transaction,
-) -> Result<bool, AllocError> {
-    if transaction.code != TransactionCode::Canx {
-        return Ok(false);
-    }
+) -> Vec<Item> {
     let tables = known.book.tables();
-    let items = tables.items_bearing(alloc, known.agent, transaction)?;
-    Ok(!items.iter().any(|item| is_sale_of(item, transaction)))
+    match tables.items_bearing(alloc, known.agent, transaction) {
+        Ok(items) => items,
+        Err(_) => {
+            words.run_short();
+            Vec::new(alloc)
+        }
+    }
 }
 
-/// Whether an item is the TKTT or RFND of the number of a transaction.
-fn is_sale_of(item: &Item, transaction: &Transaction) -> bool {
-    item.transaction.code != TransactionCode::Canx
-        && item.transaction.document.number == transaction.document.number
-}
-
-/// Appends the line of a CANX that uses up a number.
-fn push_used_up(
-    text: &mut Vec<u8>,
-    number: u64,
+/// Says what is known of a refusal by these items, which share a number with the transaction.
+fn say_by_items(
+    words: &mut Words,
     transaction: &Transaction,
-) -> Result<(), AllocError> {
-    let digits: [u8; 6] = write_digits(number);
-    let end = b" was never sold; the cancellation uses the number up";
-    push_fields(text, &[&digits, b": ", &transaction.document.number, end])?;
-    text.extend_from_slice(b": if the number is a slip, correct columns 23-32 of record 2\n")
+    refusal: Refusal,
+    items: &[Item],
+    plan: &Plan,
+) {
+    if refusal == Refusal::WrongAgainstTicket {
+        say_against_tickets(words, transaction, items);
+    } else if transaction.code == TransactionCode::Canx {
+        say_cancellation(words, &transaction.document.number, items, plan);
+    } else {
+        say_ended_ticket(words, transaction, items);
+    }
 }
 
-/// Appends the line of a transaction, if there is more to say of its verdict.
-fn push_line(
+/// Says what is known of a refusal, beside its code, if anything is.
+fn say_known(
     alloc: Global,
-    text: &mut Vec<u8>,
+    words: &mut Words,
     known: &Known<'_>,
-    number: u64,
+    transaction: &Transaction,
+    refusal: Refusal,
+) {
+    let plan = known.book.tables().plan();
+    match refusal {
+        Refusal::UnknownAirline => say_airline(words, transaction),
+        Refusal::WrongAgent => say_agents(words, transaction, known.agent),
+        Refusal::WrongCheckDigit => say_digit(words, transaction),
+        Refusal::NotYetIssued => say_days(words, transaction, known.day),
+        Refusal::NotInStock => say_ranges(words, transaction, known.stock),
+        Refusal::NumberUsed => say_used(words, transaction),
+        Refusal::WrongAmounts => say_amounts(words, plan, transaction),
+        Refusal::NoTicket => say_missing(words, transaction),
+        Refusal::NoPeriod => say_no_period(words, transaction, plan),
+        Refusal::LimitReached => say_limit(words, transaction, plan),
+        Refusal::TicketEnded | Refusal::WrongAgainstTicket => {
+            let items = items_of(alloc, words, known, transaction);
+            say_by_items(words, transaction, refusal, &items, plan);
+        }
+    }
+}
+
+/// Says a refusal as it is displayed.
+fn say_shown(alloc: Global, lines: &mut Words, refusal: Refusal) {
+    match format!(in alloc; "{refusal}") {
+        Ok(shown) => lines.add(shown.as_bytes()),
+        Err(_) => lines.run_short(),
+    }
+}
+
+/// Adds the line of a refusal.
+fn say_refused(
+    alloc: Global,
+    lines: &mut Words,
+    known: &Known<'_>,
+    transaction: &Transaction,
+    refusal: Refusal,
+) {
+    let mut words = Words::new(alloc);
+    lines.add(b" ");
+    say_known(alloc, &mut words, known, transaction, refusal);
+    if words.is_empty() {
+        say_shown(alloc, lines, refusal);
+    } else {
+        lines.add(refusal.code().as_bytes());
+        lines.add(b": ");
+    }
+    lines.add_all(&words);
+    lines.add(b"\n");
+}
+
+/// Whether the TKTT or RFND of a number is among these items.
+fn has_sale(items: &[Item], number: &[u8; 10]) -> bool {
+    for item in items {
+        let transaction = &item.transaction;
+        if transaction.code != TransactionCode::Canx && transaction.document.number == *number {
+            return true;
+        }
+    }
+    false
+}
+
+/// The line of a CANX that uses up a number, after its number in the file.
+const USED_UP: &str =
+    ": {} was never sold; the cancellation uses the number up: if the number is a slip, correct columns 23-32 of record 2\n";
+
+/// Adds the line of a CANX that uses up a number: it ends no TKTT or RFND of the agent.
+fn say_used_up(
+    alloc: Global,
+    lines: &mut Words,
+    known: &Known<'_>,
+    number: &[u8; 6],
+    transaction: &Transaction,
+) {
+    let items = items_of(alloc, lines, known, transaction);
+    let cancelled = &transaction.document.number;
+    if !has_sale(&items, cancelled) {
+        lines.add(number);
+        lines.say(USED_UP, &[Value::Document(*cancelled)]);
+    }
+}
+
+/// Adds the line of a transaction, if there is more to say of its verdict.
+fn say_line(
+    alloc: Global,
+    lines: &mut Words,
+    known: &Known<'_>,
+    number: &[u8; 6],
     transaction: &Transaction,
     verdict: &Verdict,
-) -> Result<(), AllocError> {
+) {
     match verdict {
         Verdict::Refused(refusal) => {
-            let mut remark = Vec::new(alloc);
-            push_known(alloc, &mut remark, known, transaction, *refusal)?;
-            push_remark(alloc, text, number, *refusal, &remark)
+            lines.add(number);
+            say_refused(alloc, lines, known, transaction, *refusal);
         }
-        Verdict::Accepted(_) => {
-            if ends_nothing(alloc, known, transaction)? {
-                return push_used_up(text, number, transaction);
-            }
-            Ok(())
+        Verdict::Accepted(_) if transaction.code == TransactionCode::Canx => {
+            say_used_up(alloc, lines, known, number, transaction);
         }
-        Verdict::Held(_) => Ok(()),
+        Verdict::Accepted(_) | Verdict::Held(_) => {}
     }
 }
 
@@ -374,11 +378,12 @@ pub fn remarks_on(
     file: &RetFile<'_>,
     verdicts: &[Verdict],
 ) -> Result<Vec<u8>, AllocError> {
-    let mut text = Vec::new(alloc);
+    let mut lines = Words::new(alloc);
     for (index, verdict) in verdicts.iter().enumerate() {
         if let Some(found) = transaction(file, index) {
-            push_line(alloc, &mut text, known, index as u64 + 1, &found, verdict)?;
+            let number = write_digits(index as u64 + 1);
+            say_line(alloc, &mut lines, known, &number, &found, verdict);
         }
     }
-    Ok(text)
+    lines.finished()
 }
