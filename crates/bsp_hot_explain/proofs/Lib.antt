@@ -7,3 +7,4 @@ pub mod WalkLemmas
 pub mod HeadingLemmas
 pub mod ReasonLemmas
 pub mod FirstFaults
+pub mod Names

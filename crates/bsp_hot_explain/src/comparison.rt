@@ -7,6 +7,7 @@ use bsp_explain::{Money, Name};
 use bsp_fields::{AirlineCode, PeriodCode};
 use bsp_hot_records::{AgentDigits, DocumentCode};
 use std::fmt;
+use std::fmt::Display;
 
 /// A value of a record of a HOT file. It is displayed as the record has it, and money as people read
 /// it.
@@ -165,6 +166,19 @@ pub(crate) fn first_differing(comparisons: &[Comparison]) -> Option<Comparison>
     None
 }
 
+/// Characters of one byte each.
+#[derive(Clone, Copy)]
+pub(crate) struct Characters<'a>(pub(crate) &'a [u8]);
+
+impl fmt::Display for Characters<'_> {
+    fn fmt<W: fmt::Write>(&self, f: &mut fmt::Formatter<W>) -> fmt::Result {
+        for byte in self.0 {
+            f.write_char(*byte as char)?;
+        }
+        Ok(())
+    }
+}
+
 impl fmt::Display for Value {
     fn fmt<W: fmt::Write>(&self, f: &mut fmt::Formatter<W>) -> fmt::Result {
         match *self {
@@ -173,8 +187,8 @@ impl fmt::Display for Value {
             Value::Agent(agent) => write!(f, "{:08}", agent.number()),
             Value::Currency(currency) => write_currency(f, currency),
             Value::Transaction(number) => write!(f, "{number:08}"),
-            Value::Code(code) => write_code(f, code),
-            Value::Count(count) => write!(f, "{count}"),
+            Value::Code(code) => Characters(&code.text()).fmt(f),
+            Value::Count(count) => count.fmt(f),
             Value::Amount(units) => Money { units }.fmt(f),
         }
     }
@@ -182,15 +196,5 @@ impl fmt::Display for Value {
 
 /// Writes the three letters of a currency.
 fn write_currency<W: fmt::Write>(f: &mut fmt::Formatter<W>, currency: [u8; 3]) -> fmt::Result {
-    let [a, b, c] = currency;
-    write!(f, "{}{}{}", a as char, b as char, c as char)
-}
-
-/// Writes the four letters of a code.
-pub(crate) fn write_code<W: fmt::Write>(
-    f: &mut fmt::Formatter<W>,
-    code: DocumentCode,
-) -> fmt::Result {
-    let [a, b, c, d] = code.text();
-    write!(f, "{}{}{}{}", a as char, b as char, c as char, d as char)
+    Characters(&currency).fmt(f)
 }

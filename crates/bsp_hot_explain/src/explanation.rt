@@ -10,6 +10,7 @@ ghost use Rattle.bsp_hot_check.specs.Hot.{IsFirstFault};
 ghost use Rattle.bsp_hot_check.specs.Standings.{start, IsSmall};
 ghost use Rattle.bsp_hot_explain.specs.HotReasons.{SaysOfHot, record_name, stands_after};
 
+use crate::comparison::Characters;
 use crate::hot_reasons::{hot_reason, record_name};
 use crate::kind::Kind;
 use crate::next::Expected;
@@ -86,23 +87,28 @@ fn missing(text: &[u8], at: &Standing) -> HotReason {
     }
 }
 
-/// Writes the letters and the digits of a name, as ` (BKS24)`, where there is one.
-fn write_name<W: fmt::Write>(f: &mut fmt::Formatter<W>, name: Option<RecordName>) -> fmt::Result {
+/// Writes the number of a record, and the letters and the digits of its name, as `record 16 (BKS24)`,
+/// where it has one.
+fn write_record<W: fmt::Write>(
+    f: &mut fmt::Formatter<W>,
+    number: usize,
+    name: Option<RecordName>,
+) -> fmt::Result {
     let Some(name) = name else {
-        return Ok(());
+        return write!(f, "record {number}");
     };
-    let ([a, b, c], [tens, ones]) = (name.letters(), name.digits());
+    let (letters, digits) = (name.letters(), name.digits());
     write!(
         f,
-        " ({}{}{}{}{})",
-        a as char, b as char, c as char, tens as char, ones as char
+        "record {number} ({}{})",
+        Characters(&letters),
+        Characters(&digits)
     )
 }
 
 impl fmt::Display for HotExplanation {
     fn fmt<W: fmt::Write>(&self, f: &mut fmt::Formatter<W>) -> fmt::Result {
-        write!(f, "record {}", self.record)?;
-        write_name(f, self.name)?;
+        write_record(f, self.record, self.name)?;
         write_columns(f, self.reason.columns())?;
         write!(f, ": {}", self.reason)
     }

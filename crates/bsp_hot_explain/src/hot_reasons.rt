@@ -18,28 +18,34 @@ use bsp_hot_check::{DocumentKey, Standing};
 use bsp_hot_records::{FileForm, Heading, Record, RecordName, read_record};
 use bsp_records::spells;
 
+/// The names of records.
+const NAMES: [RecordName; 14] = [
+    RecordName::Bfh01,
+    RecordName::Bch02,
+    RecordName::Boh03,
+    RecordName::Bkt06,
+    RecordName::Bks24,
+    RecordName::Bks30,
+    RecordName::Bks39,
+    RecordName::Bks42,
+    RecordName::Bks45,
+    RecordName::Bkp84,
+    RecordName::Bot93,
+    RecordName::Bot94,
+    RecordName::Bct95,
+    RecordName::Bft99,
+];
+
 /// The name of a record that has these digits.
-#[tactic(auto, unfolding(bsp_hot_records::specs::Records::name_of))]
 fn name_of(digits: &[u8]) -> Option<RecordName>
     ensures { result ≡ name_of digits.now }
 {
-    match digits {
-        b"01" => Some(RecordName::Bfh01),
-        b"02" => Some(RecordName::Bch02),
-        b"03" => Some(RecordName::Boh03),
-        b"06" => Some(RecordName::Bkt06),
-        b"24" => Some(RecordName::Bks24),
-        b"30" => Some(RecordName::Bks30),
-        b"39" => Some(RecordName::Bks39),
-        b"42" => Some(RecordName::Bks42),
-        b"45" => Some(RecordName::Bks45),
-        b"84" => Some(RecordName::Bkp84),
-        b"93" => Some(RecordName::Bot93),
-        b"94" => Some(RecordName::Bot94),
-        b"95" => Some(RecordName::Bct95),
-        b"99" => Some(RecordName::Bft99),
-        _ => None,
+    for name in NAMES {
+        if digits == name.digits().as_slice() {
+            return Some(name);
+        }
     }
+    None
 }
 
 /// What is wrong with the letters or a field of a record whose digits are those of that name, in a
@@ -171,7 +177,9 @@ pub fn record_name(line: &[u8]) -> Option<RecordName>
     if line.len() < 13 {
         return None;
     }
-    let name = name_of(&line[11..13])?;
+    let Some(name) = name_of(&line[11..13]) else {
+        return None;
+    };
     if &line[..3] == name.letters().as_slice() {
         Some(name)
     } else {

@@ -1,5 +1,6 @@
 //! What a text that is no HOT file seems to be.
 
+use crate::comparison::Characters;
 use bsp_records::first_line;
 use std::fmt;
 
@@ -88,16 +89,15 @@ impl Kind {
 
 /// Writes that a text is a refusal with that code.
 fn write_refusal<W: fmt::Write>(f: &mut fmt::Formatter<W>, code: [u8; 3]) -> fmt::Result {
-    let [a, b, c] = code;
-    let (a, b, c) = (a as char, b as char, c as char);
     let meaning = if code.as_slice() == b"H02".as_slice() {
         ": the period is not published or not closed; ask again after the office has closed it"
     } else {
         ""
     };
+    let code = Characters(&code);
     write!(
         f,
-        "this is no HOT file, but a refusal of the office: {a}{b}{c}{meaning} (`bsp_office explain {a}{b}{c}`)"
+        "this is no HOT file, but a refusal of the office: {code}{meaning} (`bsp_office explain {code}`)"
     )
 }
 
@@ -107,13 +107,11 @@ fn write_other<W: fmt::Write>(
     first: [u8; 8],
     count: usize,
 ) -> fmt::Result {
-    f.write_str("this is no HOT file: it begins with `")?;
-    for index in 0..8usize {
-        if index < count {
-            write!(f, "{}", first[index] as char)?;
-        }
-    }
-    f.write_str("`, and not with BFH")
+    let first = Characters(&first[..count.min(8)]);
+    write!(
+        f,
+        "this is no HOT file: it begins with `{first}`, and not with BFH"
+    )
 }
 
 impl fmt::Display for Kind {

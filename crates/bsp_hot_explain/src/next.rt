@@ -2,7 +2,6 @@
 
 use bsp_hot_check::{Place, Progress, Stage, Standing};
 use bsp_hot_records::DocumentCode;
-use std::fmt;
 
 /// What comes after a memo.
 const AFTER_MEMO: &str = "after BKP84 of a memo comes BKT06 or BOT93";
@@ -56,7 +55,7 @@ fn in_totals(next: Option<DocumentCode>) -> &'static str {
     }
 }
 
-/// A place in a HOT file, and the code whose BOT93 comes next. It is displayed as what may come there.
+/// A place in a HOT file, and the code whose BOT93 comes next. A reason displays what may come there.
 #[derive(Clone, Copy)]
 pub struct Expected {
     place: Place,
@@ -73,7 +72,7 @@ impl Expected {
     }
 
     /// What may come.
-    fn text(self) -> &'static str {
+    pub(crate) fn text(self) -> &'static str {
         match self.place {
             Place::Start => "a HOT file begins with BFH01",
             Place::Headed => "after BFH01 comes BCH02",
@@ -85,11 +84,5 @@ impl Expected {
             Place::Closed => "after BCT95 comes BFT99",
             Place::Ended => "BFT99 is the last record",
         }
-    }
-}
-
-impl fmt::Display for Expected {
-    fn fmt<W: fmt::Write>(&self, f: &mut fmt::Formatter<W>) -> fmt::Result {
-        f.write_str(self.text())
     }
 }

@@ -1,13 +1,15 @@
 //! What is wrong with a record of a HOT file.
 
-use crate::comparison::{Comparison, Value, write_code};
+use crate::comparison::{Characters, Comparison, Value};
 use crate::kind::Kind;
 use crate::next::Expected;
 use bsp_explain::{Cause, Name, Reason};
 use bsp_fields::write_digits;
 use bsp_hot_check::DocumentKey;
-use bsp_hot_records::AgentDigits;
+use bsp_hot_records::{AgentDigits, DocumentCode};
+use bsp_records::all_digits;
 use std::fmt;
+use std::fmt::Display;
 
 /// What to do with a file that was damaged: an airline writes none itself.
 const DAMAGED: &str = ": fetch the file again; if it stays so, ask the office";
@@ -84,77 +86,81 @@ impl HotReason {
         }
     }
 
-    /// Whether it may be a fault of a HOT file that was damaged. Of another text it is displayed what to do.
-    fn is_damage(self) -> bool {
+    /// What to do, where it may be a fault of a HOT file that was damaged. Of another text it is displayed
+    /// what to do.
+    fn to_do(self) -> &'static str {
         match self {
-            HotReason::Foreign(kind) => kind.is_damage(),
-            HotReason::NotFound => false,
-            _ => true,
+            HotReason::Foreign(kind) if !kind.is_damage() => "",
+            HotReason::NotFound => "",
+            _ => DAMAGED,
         }
     }
 }
 
-/// What columns with that value are called.
-fn noun(name: Name) -> &'static str {
+/// What is written before a value that a record says.
+fn before(name: Name) -> &'static str {
     match name {
-        Name::Cash => "CA",
-        Name::Credit => "CC",
-        Name::Commission => "the commission",
-        Name::CommissionTax => "the tax on commission",
-        Name::Net => "the net",
-        Name::Airline => "the airline",
-        Name::Period => "the period",
-        Name::Currency => "the currency",
-        Name::Agent => "the agent",
-        Name::TransactionNumber => "the transaction number",
-        _ => "the code",
+        Name::Documents | Name::Offices | Name::RecordCount => "it counts ",
+        Name::Cash => "CA is ",
+        Name::Credit => "CC is ",
+        Name::Commission => "the commission is ",
+        Name::CommissionTax => "the tax on commission is ",
+        Name::Net => "the net is ",
+        Name::Airline => "the airline is ",
+        Name::Period => "the period is ",
+        Name::Currency => "the currency is ",
+        Name::Agent => "the agent is ",
+        Name::TransactionNumber => "the transaction number is ",
+        _ => "the code is ",
     }
 }
 
-/// What a count counts, of one and of others.
-fn counted(name: Name, count: usize) -> &'static str {
-    match (name, count) {
-        (Name::Documents, 1) => "document",
-        (Name::Documents, _) => "documents",
-        (Name::Offices, 1) => "agent",
-        (Name::Offices, _) => "agents",
-        (_, 1) => "record",
-        _ => "records",
+/// What a count counts, of one and of others. Nothing where the value is no count.
+fn counted(name: Name, stated: Value) -> &'static str {
+    match (name, stated) {
+        (Name::Documents, Value::Count(1)) => " document",
+        (Name::Documents, _) => " documents",
+        (Name::Offices, Value::Count(1)) => " agent",
+        (Name::Offices, _) => " agents",
+        (Name::RecordCount, Value::Count(1)) => " record",
+        (Name::RecordCount, _) => " records",
+        _ => "",
     }
-}
-
-/// Writes which count differs.
-fn write_count<W: fmt::Write>(
-    f: &mut fmt::Formatter<W>,
-    name: Name,
-    stated: usize,
-    given: usize,
-) -> fmt::Result {
-    let there = if given == 1 { "there is" } else { "there are" };
-    write!(
-        f,
-        "it counts {stated} {}, and {there} {given}",
-        counted(name, stated)
-    )
 }
 
 /// What comes between a value that a record says, and the one that it has to be.
 fn between(stated: Value) -> &'static str {
     match stated {
-        Value::Transaction(_) => "and not",
-        Value::Agent(_) => "and that of its BOH03",
-        _ => "and that of the file",
+        Value::Count(_) => ", and there ",
+        Value::Amount(_) => ", and the items",
+        Value::Code(_) => ", and BOT93 of ",
+        Value::Transaction(_) => ", and not ",
+        Value::Agent(_) => ", and that of its BOH03 ",
+        _ => ", and that of the file ",
     }
 }
 
-/// Writes what all items, or those of a code, give in place of a total.
-fn write_total<W: fmt::Write>(f: &mut fmt::Formatter<W>, comparison: &Comparison) -> fmt::Result {
-    f.write_str("and the items")?;
-    if let Some(code) = comparison.items {
-        f.write_str(" of ")?;
-        write_code(f, code)?;
+/// What comes further before the value that it has to be: of a count, and of a total of these items.
+fn giving(given: Value, items: Option<DocumentCode>) -> &'static str {
+    match (given, items) {
+        (Value::Count(1), _) => "is ",
+        (Value::Count(_), _) => "are ",
+        (Value::Amount(_), None) => " give ",
+        (Value::Amount(_), Some(DocumentCode::Tktt)) => " of TKTT give ",
+        (Value::Amount(_), Some(DocumentCode::Rfnd)) => " of RFND give ",
+        (Value::Amount(_), Some(DocumentCode::Canx)) => " of CANX give ",
+        (Value::Amount(_), Some(DocumentCode::Adma)) => " of ADMA give ",
+        (Value::Amount(_), Some(DocumentCode::Acma)) => " of ACMA give ",
+        _ => "",
     }
-    write!(f, " give {}", comparison.given)
+}
+
+/// What comes after the value that it has to be.
+fn after(stated: Value) -> &'static str {
+    match stated {
+        Value::Code(_) => " comes here",
+        _ => "",
+    }
 }
 
 /// Writes which column differs, and both values.
@@ -162,22 +168,10 @@ fn write_difference<W: fmt::Write>(
     f: &mut fmt::Formatter<W>,
     comparison: &Comparison,
 ) -> fmt::Result {
-    let (stated, given) = (comparison.stated, comparison.given);
-    if let (Value::Count(stated), Value::Count(given)) = (stated, given) {
-        return write_count(f, comparison.name, stated, given);
-    }
-    write!(f, "{} is {stated}, ", noun(comparison.name))?;
-    match stated {
-        Value::Amount(_) => write_total(f, comparison),
-        Value::Code(_) => write!(f, "and BOT93 of {given} comes here"),
-        _ => write!(f, "{} {given}", between(stated)),
-    }
-}
-
-/// Writes the code and the number of a document.
-fn write_document<W: fmt::Write>(f: &mut fmt::Formatter<W>, document: DocumentKey) -> fmt::Result {
-    write_code(f, document.code)?;
-    write!(f, " {}", document.number)
+    let (name, stated, given) = (comparison.name, comparison.stated, comparison.given);
+    let (start, noun, end) = (before(name), counted(name, stated), after(stated));
+    let (middle, further) = (between(stated), giving(given, comparison.items));
+    write!(f, "{start}{stated}{noun}{middle}{further}{given}{end}")
 }
 
 /// Writes what does not come after what.
@@ -190,34 +184,41 @@ fn write_disorder<W: fmt::Write>(f: &mut fmt::Formatter<W>, disorder: Disorder) 
             agent.number(),
             before.number()
         ),
-        Disorder::Documents(document, before) => {
-            write_document(f, document)?;
-            f.write_str(" does not come after ")?;
-            write_document(f, before)
-        }
+        Disorder::Documents(document, before) => write!(
+            f,
+            "{} {} does not come after {} {}",
+            Value::Code(document.code),
+            document.number,
+            Value::Code(before.code),
+            before.number
+        ),
+    }
+}
+
+/// Why a record with those eight digits is where this number comes next.
+fn sequence_cause(stated: &[u8], next: usize) -> &'static str {
+    if stated > write_digits::<8>(next as u64).as_slice() {
+        "a record is missing before it"
+    } else {
+        "a record is there twice"
     }
 }
 
 /// Writes that a sequence number is another one.
 fn write_sequence<W: fmt::Write>(
     f: &mut fmt::Formatter<W>,
-    stated: [u8; 8],
+    stated: &[u8],
     next: usize,
 ) -> fmt::Result {
-    if !stated.iter().all(|byte| byte.is_ascii_digit()) {
+    if !all_digits(stated) {
         return write!(f, "the sequence number is not {next:08}");
     }
-    f.write_str("the sequence number is ")?;
-    for byte in stated {
-        write!(f, "{}", byte as char)?;
-    }
-    let due = write_digits::<8>(next as u64);
-    let cause = if stated.as_slice() > due.as_slice() {
-        "a record is missing before it"
-    } else {
-        "a record is there twice"
-    };
-    write!(f, ", and not {next:08}: {cause}")
+    write!(
+        f,
+        "the sequence number is {}, and not {next:08}: {}",
+        Characters(stated),
+        sequence_cause(stated, next)
+    )
 }
 
 /// What people read of a line of another width, or with another character, that they did not write.
@@ -273,25 +274,37 @@ fn write_shortness<W: fmt::Write>(
 }
 
 impl HotReason {
-    /// Writes the fault, without what to do.
-    fn write_fault<W: fmt::Write>(self, f: &mut fmt::Formatter<W>) -> fmt::Result {
+    /// What is displayed of a reason that has no value, in two pieces.
+    fn text(self) -> (&'static str, &'static str) {
         match self {
-            HotReason::Form(reason) => write_form(f, reason),
-            HotReason::Short { width, shortness } => write_shortness(f, width, shortness),
-            HotReason::Foreign(kind) => write!(f, "{kind}"),
-            HotReason::Sequence { stated, next } => write_sequence(f, stated, next),
-            HotReason::NameDigits => f.write_str("no record has these digits in its name"),
-            HotReason::NameLetters => {
-                f.write_str("the letters are not those of the name with these digits")
-            }
-            HotReason::Place(expected) => write!(f, "it is not allowed here: {expected}"),
-            HotReason::Differs(comparison) => write_difference(f, &comparison),
-            HotReason::Order(disorder) => write_disorder(f, disorder),
-            HotReason::Missing(expected) => write!(
-                f,
-                "the file ends before its last record BFT99: {expected}"
+            HotReason::NameDigits => ("no record has these digits in its name", ""),
+            HotReason::NameLetters => (
+                "the letters are not those of the name with these digits",
+                "",
             ),
-            HotReason::NotFound => f.write_str("the record has no such fault"),
+            HotReason::Place(expected) => ("it is not allowed here: ", expected.text()),
+            HotReason::Missing(expected) => (
+                "the file ends before its last record BFT99: ",
+                expected.text(),
+            ),
+            // (`NotFound`: `write_fault` writes the others)
+            _ => ("the record has no such fault", ""),
+        }
+    }
+
+    /// Writes the fault, without what to do.
+    fn write_fault<W: fmt::Write>(&self, f: &mut fmt::Formatter<W>) -> fmt::Result {
+        match self {
+            HotReason::Form(reason) => write_form(f, *reason),
+            HotReason::Short { width, shortness } => write_shortness(f, *width, *shortness),
+            HotReason::Foreign(kind) => kind.fmt(f),
+            HotReason::Sequence { stated, next } => write_sequence(f, stated, *next),
+            HotReason::Differs(comparison) => write_difference(f, comparison),
+            HotReason::Order(disorder) => write_disorder(f, *disorder),
+            _ => {
+                let (fault, next) = self.text();
+                write!(f, "{fault}{next}")
+            }
         }
     }
 }
@@ -299,9 +312,6 @@ impl HotReason {
 impl fmt::Display for HotReason {
     fn fmt<W: fmt::Write>(&self, f: &mut fmt::Formatter<W>) -> fmt::Result {
         self.write_fault(f)?;
-        if self.is_damage() {
-            f.write_str(DAMAGED)?;
-        }
-        Ok(())
+        f.write_str(self.to_do())
     }
 }
