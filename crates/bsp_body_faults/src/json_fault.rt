@@ -49,18 +49,22 @@ fn write_body<W: fmt::Write>(f: &mut fmt::Formatter<W>, form: JsonForm) -> fmt::
     f.write_str("}")
 }
 
-/// Writes the keys of the form, as `agent, first and last`.
+/// What comes before a key where `count` keys are written.
+fn mark_before(place: usize, count: usize) -> &'static str {
+    if place == 0 {
+        ": the body has exactly "
+    } else if place.saturating_add(1) == count {
+        " and "
+    } else {
+        ", "
+    }
+}
+
+/// Writes the keys of the form, as `: the body has exactly agent, first and last`.
 fn write_keys<W: fmt::Write>(f: &mut fmt::Formatter<W>, form: JsonForm) -> fmt::Result {
-    let count = form.keys().len();
-    for (place, key) in form.keys().iter().enumerate() {
-        let mark = if place == 0 {
-            ""
-        } else if place.saturating_add(1) == count {
-            " and "
-        } else {
-            ", "
-        };
-        write!(f, "{mark}{}", key.name())?;
+    let keys = form.keys();
+    for (place, key) in keys.iter().enumerate() {
+        write!(f, "{}{}", mark_before(place, keys.len()), key.name())?;
     }
     Ok(())
 }
@@ -77,41 +81,23 @@ fn write_not_json<W: fmt::Write>(
     }
 }
 
-/// Writes what is wrong with the value of a key.
-fn write_value<W: fmt::Write>(
-    f: &mut fmt::Formatter<W>,
-    key: Key,
-    fault: &ValueFault,
-) -> fmt::Result {
-    write!(f, "{} ", key.name())?;
-    fault.write(f, key)
+/// Writes that a key is missing.
+fn write_missing<W: fmt::Write>(f: &mut fmt::Formatter<W>, key: Key) -> fmt::Result {
+    let (name, before, form) = (key.name(), key.before_form(), key.form());
+    write!(f, "{name} is missing: it is {before}{form}")
 }
 
 impl JsonCause {
-    /// What is displayed of a cause that shows nothing of the bytes, in four pieces.
-    fn pieces(&self) -> [&'static str; 4] {
+    /// What is displayed of a cause that shows nothing of the bytes and names no key.
+    fn text(&self) -> &'static str {
         match self {
-            JsonCause::Empty => ["the body is empty", "", "", ""],
+            JsonCause::Empty => "the body is empty",
             JsonCause::ByteOrderMark => {
-                [
-                    "the body begins with a byte order mark: save it without one",
-                    "",
-                    "",
-                    "",
-                ]
+                "the body begins with a byte order mark: save it without one"
             }
-            JsonCause::NotUtf8 => ["the body is no UTF-8: save it as UTF-8", "", "", ""],
-            JsonCause::NotObject(kind) => ["the body is ", kind.text(), ", and not one object", ""],
-            JsonCause::Missing(key) => {
-                [
-                    key.name(),
-                    " is missing: it is ",
-                    key.before_form(),
-                    key.form(),
-                ]
-            }
+            JsonCause::NotUtf8 => "the body is no UTF-8: save it as UTF-8",
             // (`UnknownKey`: `fmt` displays all others)
-            _ => ["a key is unknown", "", "", ""],
+            _ => "a key is unknown",
         }
     }
 }
@@ -121,27 +107,27 @@ impl fmt::Display for JsonCause {
         match self {
             JsonCause::NotJson(place, found) => write_not_json(f, *place, *found),
             JsonCause::MoreFollows(place) => write!(f, "text follows the object ({place})"),
+            JsonCause::NotObject(kind) => write!(
+                f,
+                "the body is {}, and not one object",
+                kind.text()
+            ),
             JsonCause::UnknownKey(Some(name)) => write!(f, "{} is unknown", name.as_str()),
-            JsonCause::Value(key, fault) => write_value(f, *key, fault),
-            _ => {
-                let [first, second, third, fourth] = self.pieces();
-                write!(f, "{first}{second}{third}{fourth}")
-            }
+            JsonCause::Missing(key) => write_missing(f, *key),
+            JsonCause::Value(key, fault) => fault.write(f, *key),
+            _ => f.write_str(self.text()),
         }
     }
 }
 
 impl fmt::Display for JsonFault {
     fn fmt<W: fmt::Write>(&self, f: &mut fmt::Formatter<W>) -> fmt::Result {
-        write!(f, "{}", self.cause)?;
+        self.cause.fmt(f)?;
         match self.cause {
             JsonCause::Empty | JsonCause::NotJson(..) | JsonCause::NotObject(_) => {
                 write_body(f, self.form)
             }
-            JsonCause::UnknownKey(_) => {
-                f.write_str(": the body has exactly ")?;
-                write_keys(f, self.form)
-            }
+            JsonCause::UnknownKey(_) => write_keys(f, self.form),
             _ => Ok(()),
         }
     }

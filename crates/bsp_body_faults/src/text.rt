@@ -3,19 +3,29 @@
 use crate::fault::BodyFault;
 use crate::finding::body_fault;
 use crate::json_fault::JsonFault;
-use crate::remark::{CheckDigitRemark, check_digit_remark};
+use crate::remark::wrong_code;
 use bsp_fields::NoRoom;
 use bsp_routes::Call;
 use std::alloc::Global;
 
 /// The text of a malformed body's fault.
-fn fault_text(alloc: Global, fault: JsonFault) -> Result<String, NoRoom> {
-    Ok(format!(in alloc; "{fault}")?)
+fn fault_text(alloc: Global, fault: JsonFault) -> Result<Option<String>, NoRoom> {
+    Ok(Some(format!(in alloc; "{fault}")?))
 }
 
-/// The text of a remark.
-fn remark_text(alloc: Global, remark: CheckDigitRemark) -> Result<String, NoRoom> {
-    Ok(format!(in alloc; "{remark}")?)
+/// The text of what is to be known of a body that its route reads, if anything.
+fn remark_text<V: Copy>(
+    alloc: Global,
+    call: Call<V>,
+    body: &[u8],
+) -> Result<Option<String>, NoRoom> {
+    let Some(code) = wrong_code(alloc, call, body)? else {
+        return Ok(None);
+    };
+    let code = code.as_str();
+    Ok(Some(format!(in alloc;
+        "agent is \"{code}\", whose check digit is wrong: nobody has this code"
+    )?))
 }
 
 /// What is said of the body of a call with this fault, or with none: why it is malformed, or what is to be known of one
@@ -31,12 +41,9 @@ pub fn body_text<V: Copy>(
     found: Option<BodyFault>,
 ) -> Result<Option<String>, NoRoom> {
     match found {
-        Some(BodyFault::Json(fault)) => Ok(Some(fault_text(alloc, fault)?)),
+        Some(BodyFault::Json(fault)) => fault_text(alloc, fault),
         Some(_) => Ok(None),
-        None => match check_digit_remark(alloc, call, body)? {
-            Some(remark) => Ok(Some(remark_text(alloc, remark)?)),
-            None => Ok(None),
-        },
+        None => remark_text(alloc, call, body),
     }
 }
 
@@ -51,7 +58,7 @@ pub fn cause_text<V: Copy>(
     body: &[u8],
 ) -> Result<Option<String>, NoRoom> {
     match body_fault(alloc, call, body)? {
-        Some(BodyFault::Json(fault)) => Ok(Some(fault_text(alloc, fault)?)),
+        Some(BodyFault::Json(fault)) => fault_text(alloc, fault),
         _ => Ok(None),
     }
 }

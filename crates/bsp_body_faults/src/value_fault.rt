@@ -35,8 +35,22 @@ pub enum ValueFault {
 
 /// Writes how many characters the value of a key has, and how many it has to have.
 fn write_width<W: fmt::Write>(f: &mut fmt::Formatter<W>, key: Key, count: usize) -> fmt::Result {
+    let (name, width) = (key.name(), key.width());
     let end = if count == 1 { "" } else { "s" };
-    write!(f, "has {count} character{end}, and not {}", key.width())
+    write!(f, "{name} has {count} character{end}, and not {width}")
+}
+
+/// Writes of which kind the value of a key is, and which form it has to have.
+fn write_kind<W: fmt::Write>(f: &mut fmt::Formatter<W>, key: Key, kind: JsonKind) -> fmt::Result {
+    let (name, kind) = (key.name(), kind.text());
+    let (before, form) = (key.before_form(), key.form());
+    write!(f, "{name} is {kind}, and not {before}{form}")
+}
+
+/// Writes that the value of a key is this number, and no text.
+fn write_unquoted<W: fmt::Write>(f: &mut fmt::Formatter<W>, key: Key, text: &str) -> fmt::Result {
+    let name = key.name();
+    write!(f, "{name} is {text} without quotes: write \"{text}\"")
 }
 
 /// What is said further of a text that is not in the form of a key.
@@ -75,10 +89,6 @@ impl ValueFault {
     fn pieces(&self, key: Key) -> [&'static str; 4] {
         let form = key.form();
         match self {
-            ValueFault::Kind(kind) if key.before_form().is_empty() => {
-                ["is ", kind.text(), ", and not ", form]
-            }
-            ValueFault::Kind(kind) => ["is ", kind.text(), ", and not a text of ", form],
             ValueFault::Quoted(_) => ["is \"", "\" in quotes, and not ", form, ""],
             ValueFault::Text(text) => {
                 [
@@ -107,17 +117,16 @@ impl ValueFault {
         }
     }
 
-    /// Writes the fault, which the value of the key has.
+    /// Writes the key and the fault, which its value has.
     pub(crate) fn write<W: fmt::Write>(&self, f: &mut fmt::Formatter<W>, key: Key) -> fmt::Result {
         match self {
-            ValueFault::Unquoted(text) => {
-                let text = text.as_str();
-                write!(f, "is {text} without quotes: write \"{text}\"")
-            }
+            ValueFault::Kind(kind) => write_kind(f, key, *kind),
+            ValueFault::Unquoted(text) => write_unquoted(f, key, text.as_str()),
             ValueFault::Width(count) => write_width(f, key, *count),
             _ => {
+                let (name, shown) = (key.name(), self.shown());
                 let [start, middle, form, end] = self.pieces(key);
-                write!(f, "{start}{}{middle}{form}{end}", self.shown())
+                write!(f, "{name} {start}{shown}{middle}{form}{end}")
             }
         }
     }
