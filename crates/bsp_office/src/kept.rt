@@ -4,8 +4,6 @@ use bsp_book::ListBook;
 use bsp_fields::Day;
 use bsp_store::SqlBook;
 use sqlite::{Alter, Error};
-use std::fmt;
-use std::fmt::Display;
 
 /// Why a book failed.
 pub trait Failing {
@@ -25,62 +23,44 @@ impl<S: Alter> Failing for SqlBook<S> {
     }
 }
 
-/// So many of these: `1 agent`, `2 agents`.
-#[derive(Clone, Copy)]
-struct Counted {
-    count: usize,
-    what: &'static str,
+/// Whether nothing was ever kept in a book.
+fn is_new(list: &ListBook) -> bool {
+    let tables = list.tables();
+    let plan = tables.plan();
+    plan.terms().is_none()
+        && plan.day() == Day::first()
+        && tables.agent_tokens().map().is_empty()
+        && tables.airline_tokens().map().is_empty()
 }
 
-impl Counted {
-    fn of(count: usize, what: &'static str) -> Counted {
-        Counted { count, what }
-    }
+/// The end of a word that is counted.
+fn plural(count: usize) -> &'static str {
+    if count == 1 { "" } else { "s" }
 }
 
-impl Display for Counted {
-    fn fmt<W: fmt::Write>(&self, f: &mut fmt::Formatter<W>) -> fmt::Result {
-        let (count, what) = (self.count, self.what);
-        let end = if count == 1 { "" } else { "s" };
-        write!(f, "{count} {what}{end}")
-    }
-}
-
-/// What the line of an opening says of a book.
-#[derive(Clone, Copy)]
-struct Summary<'b>(&'b ListBook);
-
-impl Summary<'_> {
-    /// Whether nothing was ever kept in the book.
-    fn is_new(&self) -> bool {
-        let tables = self.0.tables();
-        let plan = tables.plan();
-        plan.terms().is_none()
-            && plan.day() == Day::first()
-            && tables.agent_tokens().map().is_empty()
-            && tables.airline_tokens().map().is_empty()
-    }
-}
-
-impl Display for Summary<'_> {
-    fn fmt<W: fmt::Write>(&self, f: &mut fmt::Formatter<W>) -> fmt::Result {
-        if self.is_new() {
-            return f.write_str("new book");
-        }
-        let tables = self.0.tables();
-        let plan = tables.plan();
-        let (day, closed, periods) = (plan.day(), plan.closed_count(), plan.periods().len());
-        let agents = Counted::of(tables.agent_tokens().map().len(), "agent");
-        let airlines = Counted::of(tables.airline_tokens().map().len(), "airline");
-        let items = Counted::of(tables.item_table().map().len(), "item");
-        let memos = Counted::of(tables.memo_table().map().len(), "memo");
-        write!(f, "day {day}, {closed} of {periods} periods closed, ")?;
-        write!(f, "{agents}, {airlines}, {items}, {memos}")
-    }
+/// Says what a book has that is not new.
+fn say_counts(rt: &HostRuntime, file: &str, list: &ListBook) {
+    let tables = list.tables();
+    let plan = tables.plan();
+    let (day, closed, periods) = (plan.day(), plan.closed_count(), plan.periods().len());
+    let agents = tables.agent_tokens().map().len();
+    let airlines = tables.airline_tokens().map().len();
+    let items = tables.item_table().map().len();
+    let memos = tables.memo_table().map().len();
+    let _ = eprintln!(rt;
+        "bsp_office: {file}: day {day}, {closed} of {periods} periods closed, {agents} agent{}, {airlines} airline{}, {items} item{}, {memos} memo{}",
+        plural(agents),
+        plural(airlines),
+        plural(items),
+        plural(memos)
+    );
 }
 
 /// Says on standard error which book was opened.
 pub(crate) fn say_opened(rt: &HostRuntime, file: &str, list: &ListBook) {
-    let summary = Summary(list);
-    let _ = eprintln!(rt; "bsp_office: {file}: {summary}");
+    if is_new(list) {
+        let _ = eprintln!(rt; "bsp_office: {file}: new book");
+    } else {
+        say_counts(rt, file, list);
+    }
 }
