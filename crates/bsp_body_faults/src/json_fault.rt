@@ -43,8 +43,7 @@ pub struct JsonFault {
 fn write_body<W: fmt::Write>(f: &mut fmt::Formatter<W>, form: JsonForm) -> fmt::Result {
     let mut mark = ": {";
     for key in form.keys() {
-        let (name, example) = (key.name(), key.example());
-        write!(f, "{mark}\"{name}\":{example}")?;
+        write!(f, "{mark}\"{}\":{}", key.name(), key.example())?;
         mark = ",";
     }
     f.write_str("}")
@@ -65,8 +64,7 @@ fn mark_before(place: usize, count: usize) -> &'static str {
 fn write_keys<W: fmt::Write>(f: &mut fmt::Formatter<W>, form: JsonForm) -> fmt::Result {
     let keys = form.keys();
     for (place, key) in keys.iter().enumerate() {
-        let (mark, name) = (mark_before(place, keys.len()), key.name());
-        write!(f, "{mark}{name}")?;
+        write!(f, "{}{}", mark_before(place, keys.len()), key.name())?;
     }
     Ok(())
 }
@@ -79,7 +77,7 @@ fn write_not_json<W: fmt::Write>(
 ) -> fmt::Result {
     match found {
         Found::End => write!(f, "the body is no JSON text (it ends at {place})"),
-        _ => write!(f, "the body is no JSON text ({place} has {found})"),
+        found => write!(f, "the body is no JSON text ({place} has {found})"),
     }
 }
 
