@@ -3,43 +3,37 @@
 use bsp_hot_check::{Place, Progress, Stage, Standing};
 use bsp_hot_records::DocumentCode;
 
-/// What comes after a memo.
-const AFTER_MEMO: &str = "after BKP84 of a memo comes BKT06 or BOT93";
-
-/// What comes after BKP84, where the document has a BKS45 of an exchange or not.
-fn after_payment(progress: Progress, more: &'static str) -> &'static str {
-    match progress.code {
-        DocumentCode::Tktt if progress.related =>
-            "after BKP84 with CA of an exchange comes BKP84 with CC or EX",
-        DocumentCode::Tktt | DocumentCode::Rfnd => more,
-        _ => AFTER_MEMO,
-    }
-}
-
 /// What comes after the last record of a document.
 fn in_document(progress: Progress) -> &'static str {
-    let is_memo = matches!(progress.code, DocumentCode::Adma | DocumentCode::Acma);
-    let is_sale = matches!(progress.code, DocumentCode::Tktt);
-    match progress.stage {
-        Stage::Document if matches!(progress.code, DocumentCode::Canx) => {
-            "after BKS24 of a CANX comes BKT06 or BOT93"
+    match (progress.stage, progress.code) {
+        (Stage::Document, DocumentCode::Canx) => "after BKS24 of a CANX comes BKT06 or BOT93",
+        (Stage::Document, DocumentCode::Adma | DocumentCode::Acma) => {
+            "after BKS24 of a memo comes BKS30 without taxes"
         }
-        Stage::Document if is_memo => "after BKS24 of a memo comes BKS30 without taxes",
-        Stage::Document => "after BKS24 comes BKS30",
-        Stage::Amounts if is_memo => "after BKS30 of a memo comes BKP84 with CA",
-        Stage::Amounts => "after BKS30 comes BKS39",
-        Stage::Commission => "after BKS39 comes BKS42",
-        Stage::Charged if is_sale => "after the commission comes BKS45, or BKP84 with CA or CC",
-        Stage::Charged => "after the commission of an RFND comes BKS45",
-        Stage::Related if is_sale => "after BKS45 comes a later BKS45, or BKP84",
-        Stage::Related => "after BKS45 of an RFND comes BKP84 with CA or CC",
-        Stage::Cash => after_payment(
-            progress,
-            "after BKP84 with CA comes BKP84 with CC, BKT06 or BOT93",
-        ),
-        Stage::Credit if progress.related && is_sale => "after BKP84 with CC comes BKP84 with EX",
-        Stage::Credit => "after BKP84 with CC comes BKT06 or BOT93",
-        Stage::Exchange => "after BKP84 with EX comes BKT06 or BOT93",
+        (Stage::Document, _) => "after BKS24 comes BKS30",
+        (Stage::Amounts, DocumentCode::Adma | DocumentCode::Acma) => {
+            "after BKS30 of a memo comes BKP84 with CA"
+        }
+        (Stage::Amounts, _) => "after BKS30 comes BKS39",
+        (Stage::Commission, _) => "after BKS39 comes BKS42",
+        (Stage::Charged, DocumentCode::Tktt) => {
+            "after the commission comes BKS45, or BKP84 with CA or CC"
+        }
+        (Stage::Charged, _) => "after the commission of an RFND comes BKS45",
+        (Stage::Related, DocumentCode::Tktt) => "after BKS45 comes a later BKS45, or BKP84",
+        (Stage::Related, _) => "after BKS45 of an RFND comes BKP84 with CA or CC",
+        (Stage::Cash, DocumentCode::Tktt) if progress.related => {
+            "after BKP84 with CA of an exchange comes BKP84 with CC or EX"
+        }
+        (Stage::Cash, DocumentCode::Tktt | DocumentCode::Rfnd) => {
+            "after BKP84 with CA comes BKP84 with CC, BKT06 or BOT93"
+        }
+        (Stage::Cash, _) => "after BKP84 of a memo comes BKT06 or BOT93",
+        (Stage::Credit, DocumentCode::Tktt) if progress.related => {
+            "after BKP84 with CC comes BKP84 with EX"
+        }
+        (Stage::Credit, _) => "after BKP84 with CC comes BKT06 or BOT93",
+        (Stage::Exchange, _) => "after BKP84 with EX comes BKT06 or BOT93",
     }
 }
 

@@ -254,7 +254,7 @@ fn write_form<W: fmt::Write>(f: &mut fmt::Formatter<W>, reason: Reason) -> fmt::
             "the character {character:#04x} is outside 0x20 to 0x7e{}",
             cause_text(cause)
         ),
-        _ => write!(f, "{reason}"),
+        _ => reason.fmt(f),
     }
 }
 
