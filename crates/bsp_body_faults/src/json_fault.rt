@@ -43,7 +43,8 @@ pub struct JsonFault {
 fn write_body<W: fmt::Write>(f: &mut fmt::Formatter<W>, form: JsonForm) -> fmt::Result {
     let mut mark = ": {";
     for key in form.keys() {
-        write!(f, "{mark}\"{}\":{}", key.name(), key.example())?;
+        let (name, example) = (key.name(), key.example());
+        write!(f, "{mark}\"{name}\":{example}")?;
         mark = ",";
     }
     f.write_str("}")
@@ -64,7 +65,8 @@ fn mark_before(place: usize, count: usize) -> &'static str {
 fn write_keys<W: fmt::Write>(f: &mut fmt::Formatter<W>, form: JsonForm) -> fmt::Result {
     let keys = form.keys();
     for (place, key) in keys.iter().enumerate() {
-        write!(f, "{}{}", mark_before(place, keys.len()), key.name())?;
+        let (mark, name) = (mark_before(place, keys.len()), key.name());
+        write!(f, "{mark}{name}")?;
     }
     Ok(())
 }
@@ -77,7 +79,7 @@ fn write_not_json<W: fmt::Write>(
 ) -> fmt::Result {
     match found {
         Found::End => write!(f, "the body is no JSON text (it ends at {place})"),
-        found => write!(f, "the body is no JSON text ({place} has {found})"),
+        _ => write!(f, "the body is no JSON text ({place} has {found})"),
     }
 }
 

@@ -84,7 +84,7 @@ impl fmt::Display for Place {
 impl fmt::Display for Found {
     fn fmt<W: fmt::Write>(&self, f: &mut fmt::Formatter<W>) -> fmt::Result {
         match self {
-            Found::Mark(mark) => write!(f, "{}", *mark as char),
+            Found::Mark(mark) => f.write_char(*mark as char),
             Found::Control(byte) => write!(f, "the character {byte:#04x}"),
             _ => f.write_str(self.text()),
         }
