@@ -5,7 +5,7 @@ use crate::key::Key;
 use crate::kind::JsonKind;
 use crate::syntax::{Found, Place};
 use crate::value_fault::{Shown, ValueFault};
-use std::fmt;
+use crate::words::Words;
 
 /// Why bytes are no JSON body of a form.
 #[derive(Clone, Copy)]
@@ -30,7 +30,7 @@ pub enum JsonCause {
     Value(Key, ValueFault),
 }
 
-/// Why bytes are no JSON body of this form. It is displayed as `day is "2024-02-30", which is no day of the calendar`.
+/// Why bytes are no JSON body of this form. It is said as `day is "2024-02-30", which is no day of the calendar`.
 #[derive(Clone, Copy)]
 pub struct JsonFault {
     /// The form that the body has to have.
@@ -39,18 +39,17 @@ pub struct JsonFault {
     pub cause: JsonCause,
 }
 
-/// Writes a body of the form.
-fn write_body<W: fmt::Write>(f: &mut fmt::Formatter<W>, form: JsonForm) -> fmt::Result {
-    let mut mark = ": {";
+/// Says a body of the form.
+fn say_body(words: &mut Words, form: JsonForm) {
+    let mut mark = ": {\"";
     for key in form.keys() {
-        let (name, example) = (key.name(), key.example());
-        write!(f, "{mark}\"{name}\":{example}")?;
-        mark = ",";
+        words.add_all(&[mark, key.name(), "\":", key.example()]);
+        mark = ",\"";
     }
-    f.write_str("}")
+    words.add("}");
 }
 
-/// What comes before a key where `count` keys are written.
+/// What comes before a key where `count` keys are said.
 fn mark_before(place: usize, count: usize) -> &'static str {
     if place == 0 {
         ": the body has exactly "
@@ -61,36 +60,33 @@ fn mark_before(place: usize, count: usize) -> &'static str {
     }
 }
 
-/// Writes the keys of the form, as `: the body has exactly agent, first and last`.
-fn write_keys<W: fmt::Write>(f: &mut fmt::Formatter<W>, form: JsonForm) -> fmt::Result {
+/// Says the keys of the form, as `: the body has exactly agent, first and last`.
+fn say_keys(words: &mut Words, form: JsonForm) {
     let keys = form.keys();
     for (place, key) in keys.iter().enumerate() {
-        let (mark, name) = (mark_before(place, keys.len()), key.name());
-        write!(f, "{mark}{name}")?;
+        words.add_all(&[mark_before(place, keys.len()), key.name()]);
     }
-    Ok(())
 }
 
-/// Writes that bytes are no JSON text, by what is found at a place.
-fn write_not_json<W: fmt::Write>(
-    f: &mut fmt::Formatter<W>,
-    place: Place,
-    found: Found,
-) -> fmt::Result {
+/// Says that bytes are no JSON text, by what is found at a place.
+fn say_not_json(words: &mut Words, place: Place, found: Found) {
+    words.add("the body is no JSON text (");
     match found {
-        Found::End => write!(f, "the body is no JSON text (it ends at {place})"),
-        _ => write!(f, "the body is no JSON text ({place} has {found})"),
+        Found::End => {
+            words.add("it ends at ");
+            words.show(place);
+        }
+        _ => {
+            words.show(place);
+            words.add(" has ");
+            words.show(found);
+        }
     }
-}
-
-/// Writes that a key is missing.
-fn write_missing<W: fmt::Write>(f: &mut fmt::Formatter<W>, key: Key) -> fmt::Result {
-    let (name, before, form) = (key.name(), key.before_form(), key.form());
-    write!(f, "{name} is missing: it is {before}{form}")
+    words.add(")");
 }
 
 impl JsonCause {
-    /// What is displayed of a cause that shows nothing of the bytes and names no key.
+    /// What is said of a cause that shows nothing of the bytes and names no key.
     fn text(&self) -> &'static str {
         match self {
             JsonCause::Empty => "the body is empty",
@@ -98,39 +94,47 @@ impl JsonCause {
                 "the body begins with a byte order mark: save it without one"
             }
             JsonCause::NotUtf8 => "the body is no UTF-8: save it as UTF-8",
-            // (`UnknownKey`: `fmt` displays all others)
+            // (`UnknownKey`: `say` says all others)
             _ => "a key is unknown",
         }
     }
-}
 
-impl fmt::Display for JsonCause {
-    fn fmt<W: fmt::Write>(&self, f: &mut fmt::Formatter<W>) -> fmt::Result {
+    /// Says the cause.
+    fn say(&self, words: &mut Words) {
         match self {
-            JsonCause::NotJson(place, found) => write_not_json(f, *place, *found),
-            JsonCause::MoreFollows(place) => write!(f, "text follows the object ({place})"),
-            JsonCause::NotObject(kind) => write!(
-                f,
-                "the body is {}, and not one object",
-                kind.text()
-            ),
-            JsonCause::UnknownKey(Some(name)) => write!(f, "{} is unknown", name.as_str()),
-            JsonCause::Missing(key) => write_missing(f, *key),
-            JsonCause::Value(key, fault) => fault.write(f, *key),
-            _ => f.write_str(self.text()),
+            JsonCause::NotJson(place, found) => say_not_json(words, *place, *found),
+            JsonCause::MoreFollows(place) => {
+                words.add("text follows the object (");
+                words.show(*place);
+                words.add(")");
+            }
+            JsonCause::NotObject(kind) => {
+                words.add_all(&["the body is ", kind.text(), ", and not one object"]);
+            }
+            JsonCause::UnknownKey(Some(name)) => {
+                words.add(name.as_str());
+                words.add(" is unknown");
+            }
+            JsonCause::Missing(key) => {
+                let (name, form) = (key.name(), key.form());
+                words.add_all(&[name, " is missing: it is ", key.before_form(), form]);
+            }
+            JsonCause::Value(key, fault) => fault.say(words, *key),
+            _ => words.add(self.text()),
         }
     }
 }
 
-impl fmt::Display for JsonFault {
-    fn fmt<W: fmt::Write>(&self, f: &mut fmt::Formatter<W>) -> fmt::Result {
-        self.cause.fmt(f)?;
+impl JsonFault {
+    /// Says the cause, and where it shows nothing of the form, what the form is.
+    pub(crate) fn say(&self, words: &mut Words) {
+        self.cause.say(words);
         match self.cause {
             JsonCause::Empty | JsonCause::NotJson(..) | JsonCause::NotObject(_) => {
-                write_body(f, self.form)
+                say_body(words, self.form);
             }
-            JsonCause::UnknownKey(_) => write_keys(f, self.form),
-            _ => Ok(()),
+            JsonCause::UnknownKey(_) => say_keys(words, self.form),
+            _ => {}
         }
     }
 }

@@ -1,7 +1,7 @@
 //! Which fault the body of a request has: whether the route of a call reads it, and where not, why.
 //!
 //! [`body_fault`] answers of a RET file and of a plan text the first fault, and of a JSON body whether the reader of the
-//! route reads it. Where it does not, a [`JsonFault`] has the key at fault and the cause, displayed for people. It shows
+//! route reads it. Where it does not, a [`JsonFault`] has the key at fault and the cause, said for people. It shows
 //! no value of 16 characters or more, so no token.
 #![tactic(auto)]
 
@@ -19,6 +19,7 @@ mod syntax;
 mod text;
 mod value_fault;
 mod values;
+mod words;
 
 pub use fault::BodyFault;
 pub use finding::body_fault;

@@ -4,13 +4,16 @@ use crate::fault::BodyFault;
 use crate::finding::body_fault;
 use crate::json_fault::JsonFault;
 use crate::remark::wrong_code;
+use crate::words::Words;
 use bsp_fields::NoRoom;
 use bsp_routes::Call;
 use std::alloc::Global;
 
 /// The text of a malformed body's fault.
 fn fault_text(alloc: Global, fault: JsonFault) -> Result<Option<String>, NoRoom> {
-    Ok(Some(format!(in alloc; "{fault}")?))
+    let mut words = Words::new(alloc);
+    fault.say(&mut words);
+    Ok(Some(words.finished()?))
 }
 
 /// The text of what is to be known of a body that its route reads, if anything.
@@ -22,10 +25,11 @@ fn remark_text<V: Copy>(
     let Some(code) = wrong_code(alloc, call, body)? else {
         return Ok(None);
     };
-    let code = code.as_str();
-    Ok(Some(format!(in alloc;
-        "agent is \"{code}\", whose check digit is wrong: nobody has this code"
-    )?))
+    let mut words = Words::new(alloc);
+    words.add("agent is \"");
+    words.add(code.as_str());
+    words.add("\", whose check digit is wrong: nobody has this code");
+    Ok(Some(words.finished()?))
 }
 
 /// What is said of the body of a call with this fault, or with none: why it is malformed, or what is to be known of one

@@ -2,7 +2,7 @@
 
 use crate::key::Key;
 use crate::kind::JsonKind;
-use std::fmt;
+use crate::words::Words;
 use std::fmt::InlineText;
 
 /// A text of less than 16 characters, so that it is no token, or the front of one.
@@ -33,26 +33,6 @@ pub enum ValueFault {
     TooLarge,
 }
 
-/// Writes how many characters the value of a key has, and how many it has to have.
-fn write_width<W: fmt::Write>(f: &mut fmt::Formatter<W>, key: Key, count: usize) -> fmt::Result {
-    let (name, width) = (key.name(), key.width());
-    let end = if count == 1 { "" } else { "s" };
-    write!(f, "{name} has {count} character{end}, and not {width}")
-}
-
-/// Writes of which kind the value of a key is, and which form it has to have.
-fn write_kind<W: fmt::Write>(f: &mut fmt::Formatter<W>, key: Key, kind: JsonKind) -> fmt::Result {
-    let (name, kind) = (key.name(), kind.text());
-    let (before, form) = (key.before_form(), key.form());
-    write!(f, "{name} is {kind}, and not {before}{form}")
-}
-
-/// Writes that the value of a key is this number, and no text.
-fn write_unquoted<W: fmt::Write>(f: &mut fmt::Formatter<W>, key: Key, text: &str) -> fmt::Result {
-    let name = key.name();
-    write!(f, "{name} is {text} without quotes: write \"{text}\"")
-}
-
 /// What is said further of a text that is not in the form of a key.
 fn text_remark(key: Key, text: &str) -> &'static str {
     match key {
@@ -65,69 +45,88 @@ fn text_remark(key: Key, text: &str) -> &'static str {
 fn character_text(key: Key) -> (&'static str, &'static str) {
     match key {
         Key::Token => (
-            "has another character than letters A to Z, a to z and digits",
+            " has another character than letters A to Z, a to z and digits",
             "",
         ),
-        Key::Reason => ("has a character that is not from space to ~", ""),
-        Key::Day | Key::Kind => ("is not ", key.form()),
-        _ => ("has a character that is not a digit", ""),
+        Key::Reason => (" has a character that is not from space to ~", ""),
+        Key::Day | Key::Kind => (" is not ", key.form()),
+        _ => (" has a character that is not a digit", ""),
     }
 }
 
-impl ValueFault {
-    /// The text that is shown of the value.
-    fn shown(&self) -> &str {
-        match self {
-            ValueFault::Quoted(text) | ValueFault::Text(text) | ValueFault::NotDay(text) => {
-                text.as_str()
-            }
-            _ => "",
-        }
-    }
+/// Says how many characters the value of a key has, and how many it has to have.
+fn say_width(words: &mut Words, key: Key, count: usize) {
+    words.add(" has ");
+    words.show(count);
+    words.add(if count == 1 {
+        " character"
+    } else {
+        " characters"
+    });
+    words.add_all(&[", and not ", key.width()]);
+}
 
-    /// What is said before the text that is shown, and after it in three pieces.
-    fn pieces(&self, key: Key) -> [&'static str; 4] {
+/// Says that the value of a key is this number, and no text.
+fn say_unquoted(words: &mut Words, text: &str) {
+    words.add(" is ");
+    words.add(text);
+    words.add(" without quotes: write \"");
+    words.add(text);
+    words.add("\"");
+}
+
+/// Says that the value of a key is this text, and these texts after it.
+fn say_text(words: &mut Words, text: &str, after: &[&'static str]) {
+    words.add(" is \"");
+    words.add(text);
+    words.add_all(after);
+}
+
+impl ValueFault {
+    /// Says a fault of which no text and no number is shown.
+    fn say_unshown(&self, words: &mut Words, key: Key) {
         let form = key.form();
         match self {
-            ValueFault::Quoted(_) => ["is \"", "\" in quotes, and not ", form, ""],
-            ValueFault::Text(text) => {
-                [
-                    "is \"",
-                    "\", and not ",
-                    form,
-                    text_remark(key, text.as_str()),
-                ]
+            ValueFault::NotWhole => {
+                words.add_all(&[" has a point or an exponent, and is not ", form]);
             }
-            ValueFault::NotDay(_) => ["is \"", "\", which is no day of the calendar", "", ""],
-            ValueFault::NotWhole => ["has a point or an exponent, and is not ", form, "", ""],
-            ValueFault::MinusZero => ["is -0, and not ", form, ": write 0", ""],
+            ValueFault::MinusZero => words.add_all(&[" is -0, and not ", form, ": write 0"]),
             ValueFault::Character => {
                 let (start, end) = character_text(key);
-                [start, end, "", ""]
+                words.add_all(&[start, end]);
             }
-            // (`TooLarge`: `write` writes the others)
-            _ => {
-                [
-                    "is not from -9223372036854775808 to 9223372036854775807, as 64 bits hold it",
-                    "",
-                    "",
-                    "",
-                ]
-            }
+            // (`TooLarge`: `say` says the others)
+            _ => words.add(
+                " is not from -9223372036854775808 to 9223372036854775807, as 64 bits hold it",
+            ),
         }
     }
 
-    /// Writes the key and the fault, which its value has.
-    pub(crate) fn write<W: fmt::Write>(&self, f: &mut fmt::Formatter<W>, key: Key) -> fmt::Result {
+    /// Says the key and the fault, which its value has.
+    pub(crate) fn say(&self, words: &mut Words, key: Key) {
+        words.add(key.name());
+        let form = key.form();
         match self {
-            ValueFault::Kind(kind) => write_kind(f, key, *kind),
-            ValueFault::Unquoted(text) => write_unquoted(f, key, text.as_str()),
-            ValueFault::Width(count) => write_width(f, key, *count),
-            _ => {
-                let (name, shown) = (key.name(), self.shown());
-                let [start, middle, form, end] = self.pieces(key);
-                write!(f, "{name} {start}{shown}{middle}{form}{end}")
+            ValueFault::Kind(kind) => {
+                words.add_all(&[" is ", kind.text(), ", and not ", key.before_form(), form]);
             }
+            ValueFault::Width(count) => say_width(words, key, *count),
+            ValueFault::Unquoted(text) => say_unquoted(words, text.as_str()),
+            ValueFault::Quoted(text) => {
+                say_text(words, text.as_str(), &["\" in quotes, and not ", form]);
+            }
+            ValueFault::Text(text) => {
+                let text = text.as_str();
+                say_text(words, text, &["\", and not ", form, text_remark(key, text)]);
+            }
+            ValueFault::NotDay(text) => {
+                say_text(
+                    words,
+                    text.as_str(),
+                    &["\", which is no day of the calendar"],
+                );
+            }
+            _ => self.say_unshown(words, key),
         }
     }
 }

@@ -72,22 +72,33 @@ fn reason_fault(text: &str) -> ValueFault {
     ValueFault::Character
 }
 
-/// What is wrong with a text as the value of a key, if anything.
-fn text_fault(key: Key, text: &str) -> Option<ValueFault> {
+/// Whether a text is a value of a key. Of `amount`, which has a number, it is not asked.
+fn is_text_of(key: Key, text: &str) -> bool {
     let bytes = text.as_bytes();
     match key {
-        Key::Agent if StatedAgent::read(bytes).is_none() => Some(form_fault(text)),
-        Key::Airline if AirlineCode::read(bytes).is_err() => Some(form_fault(text)),
-        Key::Period if PeriodCode::read(bytes).is_err() => Some(form_fault(text)),
-        Key::Document | Key::First | Key::Last if DocNumber::read_unchecked(bytes).is_err() => Some(
-            form_fault(text),
-        ),
-        Key::Day if Day::read_text(bytes).is_err() => Some(day_fault(text)),
-        Key::Kind if MemoKind::read(text).is_none() => Some(form_fault(text)),
-        Key::Reason if Reason::read(bytes).is_none() => Some(reason_fault(text)),
-        Key::Token if Token::read(bytes).is_none() => Some(token_fault(text)),
-        _ => None,
+        Key::Agent => StatedAgent::read(bytes).is_some(),
+        Key::Airline => AirlineCode::read(bytes).is_ok(),
+        Key::Period => PeriodCode::read(bytes).is_ok(),
+        Key::Document | Key::First | Key::Last => DocNumber::read_unchecked(bytes).is_ok(),
+        Key::Day => Day::read_text(bytes).is_ok(),
+        Key::Kind => MemoKind::read(text).is_some(),
+        Key::Reason => Reason::read(bytes).is_some(),
+        Key::Token => Token::read(bytes).is_some(),
+        Key::Amount => true,
     }
+}
+
+/// What is wrong with a text as the value of a key, if anything.
+fn text_fault(key: Key, text: &str) -> Option<ValueFault> {
+    if is_text_of(key, text) {
+        return None;
+    }
+    Some(match key {
+        Key::Day => day_fault(text),
+        Key::Reason => reason_fault(text),
+        Key::Token => token_fault(text),
+        _ => form_fault(text),
+    })
 }
 
 /// What is wrong with a number that is no whole one of 64 bits with a sign.
