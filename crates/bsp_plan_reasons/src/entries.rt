@@ -1,62 +1,58 @@
 //! Entries that differ: P08.
 
-use crate::line::Line;
 use bsp_calendar::{CommissionTax, Period, Plan, PlanText, Rate, Terms};
 use bsp_fields::Day;
-use itoa::Buffer;
+use bsp_plan_trial::{Shown, Words};
 
 /// What is said of two entries that differ.
 struct Sides {
-    /// After what the first has.
-    middle: &'static [u8],
-    /// After what the second has.
-    end: &'static [u8],
+    /// Of two rates: the airline, the day, and both rates.
+    rate: &'static str,
+    /// Of two taxes: the day, and both taxes.
+    tax: &'static str,
+    /// Of a day of two periods: both days.
+    day: &'static str,
     /// After two periods.
-    period_end: &'static [u8],
+    period_end: &'static str,
 }
 
 /// The first is in the text, and the second was published before.
 const PUBLISHED: Sides = Sides {
-    middle: b" here and ",
-    end: b" before",
-    period_end: b": a published period stays",
+    rate: "the rate of {} from {} is {} here and {} before: a new rate is a further [[rate]] from a later day",
+    tax: "the commission_tax from {} is {} here and {} before: a new tax is a further [[commission_tax]] from a later day",
+    day: " is {} here and {} before",
+    period_end: ": a published period stays",
 };
 
 /// Both are in the text, the first before the second.
 const OWN: Sides = Sides {
-    middle: b" in the first entry and ",
-    end: b" in the second",
-    period_end: b"",
+    rate: "the rate of {} from {} is {} in the first entry and {} in the second: a new rate is a further [[rate]] from a later day",
+    tax: "the commission_tax from {} is {} in the first entry and {} in the second: a new tax is a further [[commission_tax]] from a later day",
+    day: " is {} in the first entry and {} in the second",
+    period_end: "",
 };
 
-/// Says that a term is no longer what was published.
-fn say_change(line: &mut Line, name: &[u8], new: &[u8], old: &[u8]) {
-    let end = b" before: it stays as it was published";
-    line.say(&[name, b" is ", new, b" here and ", old, end]);
-}
+/// What is said of a term that is no longer what was published, after its name.
+const CHANGED: &str = " is {} here and {} before: it stays as it was published";
 
 /// Says that a number is no longer what was published.
-fn say_number(line: &mut Line, name: &[u8], new: u32, old: u32) {
-    let (mut one, mut other) = (Buffer::new(), Buffer::new());
-    let (new, old) = (one.format(new), other.format(old));
-    say_change(line, name, new.as_bytes(), old.as_bytes());
+fn say_number(words: &mut Words, name: &[u8], new: u64, old: u64) {
+    words.add(name);
+    words.say(CHANGED, &[Shown::Number(new), Shown::Number(old)]);
 }
 
 /// Says which term differs from the published one.
-fn say_term(line: &mut Line, old: Terms, new: Terms) {
+fn say_term(words: &mut Words, old: Terms, new: Terms) {
     if new.currency != old.currency {
         let (new, old) = (new.currency.letters(), old.currency.letters());
-        say_change(line, b"currency", &new, &old);
+        words.add(b"currency");
+        words.quote(CHANGED, &[&new, &old]);
     } else if new.review_days != old.review_days {
-        let (new, old) = (u32::from(new.review_days), u32::from(old.review_days));
-        say_number(line, b"review_days", new, old);
+        let (new, old) = (new.review_days, old.review_days);
+        say_number(words, b"review_days", u64::from(new), u64::from(old));
     } else {
-        say_number(
-            line,
-            b"documents_limit",
-            new.documents_limit,
-            old.documents_limit,
-        );
+        let (new, old) = (new.documents_limit, old.documents_limit);
+        say_number(words, b"documents_limit", u64::from(new), u64::from(old));
     }
 }
 
@@ -71,27 +67,20 @@ fn other_rate<'k>(known: &'k [Rate], rate: &Rate) -> Option<&'k Rate> {
 }
 
 /// Says that two rates differ.
-fn say_rate(line: &mut Line, sides: &Sides, rate: &Rate, other: &Rate) {
-    let (mut first, mut second) = (Buffer::new(), Buffer::new());
-    line.say(&[
-        b"the rate of ",
-        &rate.airline.digits(),
-        b" from ",
-        &rate.from.write_text(),
-        b" is ",
-        first.format(rate.hundredths).as_bytes(),
-        sides.middle,
-        second.format(other.hundredths).as_bytes(),
-        sides.end,
-        b": a new rate is a further [[rate]] from a later day",
-    ]);
+fn say_rate(words: &mut Words, sides: &Sides, rate: &Rate, other: &Rate) {
+    let (first, second) = (u64::from(rate.hundredths), u64::from(other.hundredths));
+    let (airline, from) = (Shown::Airline(rate.airline), Shown::Day(rate.from));
+    words.say(
+        sides.rate,
+        &[airline, from, Shown::Number(first), Shown::Number(second)],
+    );
 }
 
 /// Says which rate differs from one of these with its key, and answers whether one does.
-fn say_rates(line: &mut Line, sides: &Sides, known: &[Rate], rates: &[Rate]) -> bool {
+fn say_rates(words: &mut Words, sides: &Sides, known: &[Rate], rates: &[Rate]) -> bool {
     for rate in rates {
         if let Some(other) = other_rate(known, rate) {
-            say_rate(line, sides, rate, other);
+            say_rate(words, sides, rate, other);
             return true;
         }
     }
@@ -108,38 +97,38 @@ fn other_period<'k>(known: &'k [Period], period: &Period) -> Option<&'k Period> 
     None
 }
 
-/// Says in which days two periods differ.
-fn say_period(line: &mut Line, sides: &Sides, period: &Period, other: &Period) {
-    line.say(&[b"period ", &period.code.digits()]);
-    let mut before: &[u8] = b": ";
-    let days: [(&[u8], Day, Day); 3] = [
-        (b"first", period.first, other.first),
-        (b"last", period.last, other.last),
-        (b"remit", period.remittance, other.remittance),
-    ];
-    for (name, first, second) in days {
-        if first != second {
-            let (first, second) = (first.write_text(), second.write_text());
-            line.say(&[
-                before,
-                name,
-                b" is ",
-                &first,
-                sides.middle,
-                &second,
-                sides.end,
-            ]);
-            before = b", ";
-        }
+/// Says a day of a period that differs, and answers what comes before the next.
+fn say_day(
+    words: &mut Words,
+    sides: &Sides,
+    before: &'static str,
+    name: &[u8],
+    days: (Day, Day),
+) -> &'static str {
+    if days.0 == days.1 {
+        return before;
     }
-    line.say(&[sides.period_end]);
+    words.add(before.as_bytes());
+    words.add(name);
+    words.say(sides.day, &[Shown::Day(days.0), Shown::Day(days.1)]);
+    ", "
+}
+
+/// Says in which days two periods differ.
+fn say_period(words: &mut Words, sides: &Sides, period: &Period, other: &Period) {
+    words.say("period {}", &[Shown::Period(period.code)]);
+    let before = say_day(words, sides, ": ", b"first", (period.first, other.first));
+    let before = say_day(words, sides, before, b"last", (period.last, other.last));
+    let remittances = (period.remittance, other.remittance);
+    let _next = say_day(words, sides, before, b"remit", remittances);
+    words.add(sides.period_end.as_bytes());
 }
 
 /// Says which period differs from one of these with its code, and answers whether one does.
-fn say_periods(line: &mut Line, sides: &Sides, known: &[Period], periods: &[Period]) -> bool {
+fn say_periods(words: &mut Words, sides: &Sides, known: &[Period], periods: &[Period]) -> bool {
     for period in periods {
         if let Some(other) = other_period(known, period) {
-            say_period(line, sides, period, other);
+            say_period(words, sides, period, other);
             return true;
         }
     }
@@ -157,30 +146,25 @@ fn other_tax<'k>(known: &'k [CommissionTax], tax: &CommissionTax) -> Option<&'k 
 }
 
 /// Says that two taxes differ.
-fn say_tax(line: &mut Line, sides: &Sides, tax: &CommissionTax, other: &CommissionTax) {
-    let (mut first, mut second) = (Buffer::new(), Buffer::new());
-    line.say(&[
-        b"the commission_tax from ",
-        &tax.from.write_text(),
-        b" is ",
-        first.format(tax.hundredths).as_bytes(),
-        sides.middle,
-        second.format(other.hundredths).as_bytes(),
-        sides.end,
-        b": a new tax is a further [[commission_tax]] from a later day",
-    ]);
+fn say_tax(words: &mut Words, sides: &Sides, tax: &CommissionTax, other: &CommissionTax) {
+    let (first, second) = (u64::from(tax.hundredths), u64::from(other.hundredths));
+    let from = Shown::Day(tax.from);
+    words.say(
+        sides.tax,
+        &[from, Shown::Number(first), Shown::Number(second)],
+    );
 }
 
 /// Says which tax differs from one of these with its day, and answers whether one does.
 fn say_taxes(
-    line: &mut Line,
+    words: &mut Words,
     sides: &Sides,
     known: &[CommissionTax],
     taxes: &[CommissionTax],
 ) -> bool {
     for tax in taxes {
         if let Some(other) = other_tax(known, tax) {
-            say_tax(line, sides, tax, other);
+            say_tax(words, sides, tax, other);
             return true;
         }
     }
@@ -188,26 +172,32 @@ fn say_taxes(
 }
 
 /// Says which entry of a text differs from a published one, and answers whether one does.
-fn differs_from_plan(line: &mut Line, plan: &Plan, read: &PlanText) -> bool {
+fn differs_from_plan(words: &mut Words, plan: &Plan, read: &PlanText) -> bool {
     let sides = &PUBLISHED;
-    say_rates(line, sides, plan.rates(), &read.rates)
-        || say_periods(line, sides, plan.periods(), &read.periods)
-        || say_taxes(line, sides, plan.commission_taxes(), &read.commission_taxes)
+    say_rates(words, sides, plan.rates(), &read.rates)
+        || say_periods(words, sides, plan.periods(), &read.periods)
+        || say_taxes(
+            words,
+            sides,
+            plan.commission_taxes(),
+            &read.commission_taxes,
+        )
 }
 
 /// Says which two entries of a text differ, and answers whether two do.
-fn differs_in_itself(line: &mut Line, read: &PlanText) -> bool {
-    say_rates(line, &OWN, &read.rates, &read.rates)
-        || say_periods(line, &OWN, &read.periods, &read.periods)
-        || say_taxes(line, &OWN, &read.commission_taxes, &read.commission_taxes)
+fn differs_in_itself(words: &mut Words, read: &PlanText) -> bool {
+    let sides = &OWN;
+    say_rates(words, sides, &read.rates, &read.rates)
+        || say_periods(words, sides, &read.periods, &read.periods)
+        || say_taxes(words, sides, &read.commission_taxes, &read.commission_taxes)
 }
 
 /// Says which entry differs from a published one, or from another of the text.
-pub(crate) fn say_difference(line: &mut Line, plan: &Plan, read: &PlanText) {
+pub(crate) fn say_difference(words: &mut Words, plan: &Plan, read: &PlanText) {
     match plan.terms() {
-        Some(old) if old != read.terms => say_term(line, old, read.terms),
+        Some(old) if old != read.terms => say_term(words, old, read.terms),
         _ => {
-            let _said = differs_from_plan(line, plan, read) || differs_in_itself(line, read);
+            let _said = differs_from_plan(words, plan, read) || differs_in_itself(words, read);
         }
     }
 }

@@ -3,7 +3,6 @@
 
 mod entries;
 mod keys;
-mod line;
 mod order;
 mod reasons;
 mod tables;

@@ -1,70 +1,57 @@
 //! Periods that do not follow one another: P03. Rates and taxes that begin too early: P05.
 
-use crate::line::Line;
 use bsp_calendar::{Period, Plan, PlanText};
 use bsp_fields::Day;
+use bsp_plan_trial::{Shown, Words};
 
 /// Says what is wrong with the days of a period, and answers whether anything is.
-fn say_own_days(line: &mut Line, period: &Period) -> bool {
+fn say_own_days(words: &mut Words, period: &Period) -> bool {
     let (first, last, remit) = (period.first, period.last, period.remittance);
-    let code = period.code.digits();
-    let shown = last.write_text();
+    let code = Shown::Period(period.code);
     if first.number() > last.number() {
-        let first = first.write_text();
-        line.say(&[
-            b"period ",
-            &code,
-            b" begins ",
-            &first,
-            b", after its last day ",
-            &shown,
-        ]);
-        true
-    } else if last.number() < remit.number() {
-        false
-    } else {
-        let (middle, end) = (b", and its remit is ", b": it has to be after the last day");
-        let remit = remit.write_text();
-        line.say(&[b"period ", &code, b" ends ", &shown, middle, &remit, end]);
-        true
+        let text = "period {} begins {}, after its last day {}";
+        words.say(text, &[code, Shown::Day(first), Shown::Day(last)]);
+        return true;
     }
+    if last.number() < remit.number() {
+        return false;
+    }
+    let text = "period {} ends {}, and its remit is {}: it has to be after the last day";
+    words.say(text, &[code, Shown::Day(last), Shown::Day(remit)]);
+    true
 }
 
 /// Says on which day a period has to begin, after one that ends on this day.
-fn say_next(line: &mut Line, last: Day) {
+fn say_next(words: &mut Words, last: Day) {
     if let Ok(next) = Day::of_number(last.plus(1)) {
-        line.say(&[b": it has to begin ", &next.write_text()]);
+        words.say(": it has to begin {}", &[Shown::Day(next)]);
     }
 }
 
 /// Says that a period does not begin on the day after the one before it, and answers whether that is so.
-fn say_gap(line: &mut Line, before: Option<Period>, period: &Period) -> bool {
+fn say_gap(words: &mut Words, before: Option<Period>, period: &Period) -> bool {
     let Some(before) = before else {
         return false;
     };
     if before.last.number() + 1 == period.first.number() {
         return false;
     }
-    line.say(&[
-        b"period ",
-        &period.code.digits(),
-        b" begins ",
-        &period.first.write_text(),
-        b", and period ",
-        &before.code.digits(),
-        b" before it ends ",
-        &before.last.write_text(),
-    ]);
-    say_next(line, before.last);
+    let (code, first) = (Shown::Period(period.code), Shown::Day(period.first));
+    let (other, last) = (Shown::Period(before.code), Shown::Day(before.last));
+    words.say(
+        "period {} begins {}, and period {} before it ends {}",
+        &[code, first, other, last],
+    );
+    say_next(words, before.last);
     true
 }
 
 /// Says which new period does not follow the one before it.
-pub(crate) fn say_order(line: &mut Line, plan: &Plan, read: &PlanText) {
+pub(crate) fn say_order(words: &mut Words, plan: &Plan, read: &PlanText) {
     let mut before = plan.periods().last().copied();
     for period in &read.periods {
         if plan.period(period.code).is_none() {
-            if say_own_days(line, period) || say_gap(line, before, period) {
+            if say_own_days(words, period) || say_gap(words, before, period) {
                 return;
             }
             before = Some(*period);
@@ -73,37 +60,32 @@ pub(crate) fn say_order(line: &mut Line, plan: &Plan, read: &PlanText) {
 }
 
 /// Says that an entry begins too early.
-fn say_begun(line: &mut Line, entry: &[&[u8]], from: Day, day: Day) {
-    line.say(entry);
-    line.say(&[
-        b" begins ",
-        &from.write_text(),
-        b", and the business day is ",
-        &day.write_text(),
-        b": it has to begin on a later day",
-    ]);
+fn say_begun(words: &mut Words, from: Day, day: Day) {
+    let text = " begins {}, and the business day is {}: it has to begin on a later day";
+    words.say(text, &[Shown::Day(from), Shown::Day(day)]);
 }
 
 /// Says which new tax begins too early.
-fn say_late_tax(line: &mut Line, plan: &Plan, read: &PlanText) {
+fn say_late_tax(words: &mut Words, plan: &Plan, read: &PlanText) {
     let day = plan.day();
     for tax in &read.commission_taxes {
         if tax.from.number() <= day.number() && !plan.commission_taxes().contains(tax) {
-            say_begun(line, &[b"a commission_tax"], tax.from, day);
+            words.add(b"a commission_tax");
+            say_begun(words, tax.from, day);
             return;
         }
     }
 }
 
 /// Says which new rate or tax begins too early. No entry of the text differs from a published one.
-pub(crate) fn say_late(line: &mut Line, plan: &Plan, read: &PlanText) {
+pub(crate) fn say_late(words: &mut Words, plan: &Plan, read: &PlanText) {
     let day = plan.day();
     for rate in &read.rates {
         if rate.from.number() <= day.number() && !plan.rates().contains(rate) {
-            let airline = rate.airline.digits();
-            say_begun(line, &[b"a rate of ", &airline], rate.from, day);
+            words.say("a rate of {}", &[Shown::Airline(rate.airline)]);
+            say_begun(words, rate.from, day);
             return;
         }
     }
-    say_late_tax(line, plan, read);
+    say_late_tax(words, plan, read);
 }

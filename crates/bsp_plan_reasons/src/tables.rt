@@ -1,9 +1,9 @@
 //! The first key of a plan text that is missing, unknown or wrong: P02.
 
 use crate::keys::{Form, Key, PERIOD, RATE, TAX, TEXT, is_among, keys_of};
-use crate::line::Line;
 use crate::values::say_wrong;
 use crate::written::{Place, TOP, below_a_table, find_written};
+use bsp_plan_trial::{Shown, Words};
 use itoa::Buffer;
 use std::str;
 use toml::{Table, Value};
@@ -56,12 +56,13 @@ fn item_fault<'t>(value: &'t Value, keys: &[Key]) -> Option<TableFault<'t>> {
 }
 
 /// Says that a table has a key which it may not have.
-fn say_unknown(line: &mut Line, list: &str, name: &str) {
-    line.say(&[name.as_bytes()]);
+fn say_unknown(words: &mut Words, list: &str, name: &str) {
+    words.add(name.as_bytes());
     if !list.is_empty() && is_among(&TEXT, name) {
-        line.say(&[b" is a key of the text: write it above the first table"]);
+        words.add(b" is a key of the text: write it above the first table");
     } else {
-        line.say(&[b" is unknown: ", keys_of(list).as_bytes()]);
+        words.add(b" is unknown: ");
+        words.add(keys_of(list).as_bytes());
     }
 }
 
@@ -75,31 +76,33 @@ fn misplaced(text: &str, list: &str, key: Key) -> Option<usize> {
 }
 
 /// Says that a table lacks a key.
-fn say_missing(line: &mut Line, text: &str, list: &str, key: Key) {
+fn say_missing(words: &mut Words, text: &str, list: &str, key: Key) {
     let name = key.name.as_bytes();
     match misplaced(text, list, key) {
         Some(number) => {
-            let mut shown = Buffer::new();
-            let number = shown.format(number).as_bytes();
-            let end = b" is below the head of a table: write it above the first table";
-            line.say(&[b"line ", number, b": ", name, end]);
+            words.say("line {}: ", &[Shown::Number(number as u64)]);
+            words.add(name);
+            words.add(b" is below the head of a table: write it above the first table");
         }
-        None => line.say(&[name, b" is missing: it is ", key.form.wanted().as_bytes()]),
+        None => {
+            let wanted = key.form.wanted().as_bytes();
+            words.quote("{} is missing: it is {}", &[name, wanted]);
+        }
     }
 }
 
 /// Says what is wrong with a table.
-fn say_fault(line: &mut Line, text: &str, place: Place<'_>, fault: TableFault<'_>) {
+fn say_fault(words: &mut Words, text: &str, place: Place<'_>, fault: TableFault<'_>) {
     let list = place.list;
     match fault {
         TableFault::NoTable => {
-            let (start, end) = (b"it is no table: write [[", b"]] above its keys");
-            line.say(&[start, list.as_bytes(), end]);
+            let text = "it is no table: write [[{}]] above its keys";
+            words.quote(text, &[list.as_bytes()]);
         }
-        TableFault::Unknown(name) => say_unknown(line, list, name),
-        TableFault::Missing(key) => say_missing(line, text, list, key),
+        TableFault::Unknown(name) => say_unknown(words, list, name),
+        TableFault::Missing(key) => say_missing(words, text, list, key),
         TableFault::Wrong(key, value) => {
-            say_wrong(line, key, value, find_written(text, place, key.name));
+            say_wrong(words, key, value, find_written(text, place, key.name));
         }
     }
 }
@@ -113,24 +116,23 @@ fn code_of(item: &Value) -> Option<&str> {
 }
 
 /// Says the name of an item: the code of a period, or its number in the list.
-fn say_name(line: &mut Line, place: Place<'_>, item: &Value) {
-    let list = place.list.as_bytes();
+fn say_name(words: &mut Words, place: Place<'_>, item: &Value) {
+    words.add(place.list.as_bytes());
     if let Some(code) = code_of(item) {
-        line.say(&[list, b" ", code.as_bytes(), b": "]);
+        words.quote(" {}: ", &[code.as_bytes()]);
     } else {
-        let mut number = Buffer::new();
-        let number = number.format(place.entry.saturating_add(1));
-        line.say(&[list, b" ", number.as_bytes(), b": "]);
+        let number = (place.entry as u64).saturating_add(1);
+        words.say(" {}: ", &[Shown::Number(number)]);
     }
 }
 
 /// Says what is wrong with the first item of a list that is at fault, and answers whether one is.
-fn say_items(line: &mut Line, text: &str, list: &str, items: &[Value], keys: &[Key]) -> bool {
+fn say_items(words: &mut Words, text: &str, list: &str, items: &[Value], keys: &[Key]) -> bool {
     for (entry, item) in items.iter().enumerate() {
         if let Some(fault) = item_fault(item, keys) {
             let place = Place { list, entry };
-            say_name(line, place, item);
-            say_fault(line, text, place, fault);
+            say_name(words, place, item);
+            say_fault(words, text, place, fault);
             return true;
         }
     }
@@ -138,13 +140,13 @@ fn say_items(line: &mut Line, text: &str, list: &str, items: &[Value], keys: &[K
 }
 
 /// Says what is wrong with the list of tables at a key, and answers whether anything is.
-fn say_list(line: &mut Line, text: &str, document: &Table, list: &str, keys: &[Key]) -> bool {
+fn say_list(words: &mut Words, text: &str, document: &Table, list: &str, keys: &[Key]) -> bool {
     match document.get(list) {
-        Some(Value::Array(items)) => say_items(line, text, list, items, keys),
+        Some(Value::Array(items)) => say_items(words, text, list, items, keys),
         Some(_) => {
             let name = list.as_bytes();
-            let (middle, end) = (b" is no list: write [[", b"]] in place of [");
-            line.say(&[name, middle, name, end, name, b"]"]);
+            let text = "{} is no list: write [[{}]] in place of [{}]";
+            words.quote(text, &[name, name, name]);
             true
         }
         None => false,
@@ -152,47 +154,43 @@ fn say_list(line: &mut Line, text: &str, document: &Table, list: &str, keys: &[K
 }
 
 /// Says what is wrong with a number in the list of airlines.
-fn say_number(line: &mut Line, number: i64) {
-    let mut shown = Buffer::new();
-    let shown = shown.format(number).as_bytes();
-    if Form::Airline.fits_text(shown) {
-        let middle = b" has no quotes: write \"";
-        line.say(&[b"airline: ", shown, middle, shown, b"\""]);
+fn say_number(words: &mut Words, number: i64) {
+    let mut digits = Buffer::new();
+    let digits = digits.format(number).as_bytes();
+    if Form::Airline.fits_text(digits) {
+        let text = "airline: {} has no quotes: write \"{}\"";
+        words.quote(text, &[digits, digits]);
     } else {
-        line.say(&[
-            b"airline: ",
-            shown,
-            b" is not ",
-            Form::Airline.wanted().as_bytes(),
-        ]);
+        let text = "airline: {} is not {}";
+        words.quote(text, &[digits, Form::Airline.wanted().as_bytes()]);
     }
 }
 
 /// Says what is wrong with an item of the list of airlines.
-fn say_airline(line: &mut Line, item: &Value) {
+fn say_airline(words: &mut Words, item: &Value) {
     let wanted = Form::Airline.wanted().as_bytes();
     match item {
         Value::String(text) => {
-            line.say(&[b"airline: \"", text.as_bytes()]);
-            line.say(&[b"\" is not ", wanted]);
+            words.quote("airline: \"{}\" is not ", &[text.as_bytes()]);
+            words.add(wanted);
         }
-        Value::Integer(number) => say_number(line, *number),
-        _ => line.say(&[b"airline: each item is ", wanted]),
+        Value::Integer(number) => say_number(words, *number),
+        _ => words.quote("airline: each item is {}", &[wanted]),
     }
 }
 
 /// Says what is wrong with the list of airlines, and answers whether anything is.
-fn say_airlines(line: &mut Line, document: &Table) -> bool {
+fn say_airlines(words: &mut Words, document: &Table) -> bool {
     let Some(value) = document.get("airline") else {
         return false;
     };
     let Some(items) = value.as_array() else {
-        line.say(&[b"airline is no list: it is as [\"125\", \"220\"]"]);
+        words.add(b"airline is no list: it is as [\"125\", \"220\"]");
         return true;
     };
     for item in items {
         if !Form::Airline.fits(item) {
-            say_airline(line, item);
+            say_airline(words, item);
             return true;
         }
     }
@@ -200,21 +198,21 @@ fn say_airlines(line: &mut Line, document: &Table) -> bool {
 }
 
 /// Says what is wrong with the first list at fault, and answers whether one is.
-fn say_lists(line: &mut Line, text: &str, document: &Table) -> bool {
-    say_airlines(line, document)
-        || say_list(line, text, document, "rate", &RATE)
-        || say_list(line, text, document, "period", &PERIOD)
-        || say_list(line, text, document, "commission_tax", &TAX)
+fn say_lists(words: &mut Words, text: &str, document: &Table) -> bool {
+    say_airlines(words, document)
+        || say_list(words, text, document, "rate", &RATE)
+        || say_list(words, text, document, "period", &PERIOD)
+        || say_list(words, text, document, "commission_tax", &TAX)
 }
 
 /// Says what is wrong with the first key of a plan text that is missing, unknown or wrong.
-pub(crate) fn say_document_fault(line: &mut Line, text: &[u8], document: &Table) {
+pub(crate) fn say_document_fault(words: &mut Words, text: &[u8], document: &Table) {
     // It is UTF-8, as each TOML text is.
     let text = str::from_utf8(text).unwrap_or_default();
     match table_fault(document, &TEXT) {
-        Some(fault) => say_fault(line, text, TOP, fault),
+        Some(fault) => say_fault(words, text, TOP, fault),
         None => {
-            let _said = say_lists(line, text, document);
+            let _said = say_lists(words, text, document);
         }
     }
 }

@@ -1,9 +1,8 @@
 //! Why bytes are no TOML text: P01.
 
 use crate::keys::are_digits;
-use crate::line::Line;
 use crate::written::{header, key, line_of, value};
-use itoa::Buffer;
+use bsp_plan_trial::{Shown, Words};
 use std::str;
 use toml::de::Error;
 
@@ -41,28 +40,29 @@ fn is_bare(value: &str) -> bool {
 }
 
 /// Says why a line has no value.
-fn say_value(line: &mut Line, written: &str, message: &str) {
+fn say_value(words: &mut Words, written: &str, message: &str) {
     let value = value(written).unwrap_or_default();
     let shown = value.as_bytes();
     if let Some(digits) = without_zeros(value) {
-        line.say(&[shown, b" has a zero in front: write ", digits.as_bytes()]);
+        let text = "{} has a zero in front: write {}";
+        words.quote(text, &[shown, digits.as_bytes()]);
     } else if is_bare(value) {
-        let middle = b" is no value: a text is in quotes, as \"";
-        line.say(&[shown, middle, shown, b"\""]);
+        let text = "{} is no value: a text is in quotes, as \"{}\"";
+        words.quote(text, &[shown, shown]);
     } else {
-        line.say(&[message.as_bytes()]);
+        words.add(message.as_bytes());
     }
 }
 
 /// Says that a key or a table comes twice.
-fn say_twice(line: &mut Line, written: &str) {
+fn say_twice(words: &mut Words, written: &str) {
     match header(written) {
         Some(name) => {
             let name = name.as_bytes();
-            let (middle, end) = (b"] comes twice: write [[", b"]] above each ");
-            line.say(&[b"[", name, middle, name, end, name]);
+            let text = "[{}] comes twice: write [[{}]] above each {}";
+            words.quote(text, &[name, name, name]);
         }
-        None => line.say(&[key(written).as_bytes(), b" comes twice"]),
+        None => words.quote("{} comes twice", &[key(written).as_bytes()]),
     }
 }
 
@@ -80,41 +80,40 @@ fn plainer(message: &str) -> Option<&'static str> {
 }
 
 /// Says what is wrong in a line, of which this comes from the fault on.
-fn say_line(line: &mut Line, written: &str, rest: &str, message: &str) {
+fn say_line(words: &mut Words, written: &str, rest: &str, message: &str) {
     if let Some(text) = plainer(message) {
-        line.say(&[text.as_bytes()]);
+        words.add(text.as_bytes());
     } else if message.starts_with("duplicate key") {
-        say_twice(line, written);
+        say_twice(words, written);
     } else if message.starts_with("invalid value") {
-        say_value(line, written, message);
+        say_value(words, written, message);
     } else if message.starts_with("unexpected key or value") && value(written).is_some() {
-        let end = b"\": a number has no comma, and a line has one key";
-        line.say(&[b"after the value comes \"", rest.as_bytes(), end]);
+        let text = "after the value comes \"{}\": a number has no comma, and a line has one key";
+        words.quote(text, &[rest.as_bytes()]);
     } else {
-        let end = b": a plan is a TOML text, as currency = \"EUR\"";
-        line.say(&[message.as_bytes(), end]);
+        words.add(message.as_bytes());
+        words.add(b": a plan is a TOML text, as currency = \"EUR\"");
     }
 }
 
 /// Says what is wrong at a place of a text.
-fn say_at(line: &mut Line, text: &[u8], place: usize, message: &str) {
+fn say_at(words: &mut Words, text: &[u8], place: usize, message: &str) {
     let place = place.min(text.len());
     // The text before the fault is UTF-8.
     let before = str::from_utf8(&text[..place]).unwrap_or_default();
     let rest = str::from_utf8(&text[place..]).unwrap_or_default();
     let number = before.split('\n').count();
-    let mut shown = Buffer::new();
-    line.say(&[b"line ", shown.format(number).as_bytes(), b": "]);
+    words.say("line {}: ", &[Shown::Number(number as u64)]);
     let written = line_of(str::from_utf8(text).unwrap_or_default(), number);
-    say_line(line, written, line_of(rest, 1).trim_ascii(), message);
+    say_line(words, written, line_of(rest, 1).trim_ascii(), message);
 }
 
 /// Says why the bytes are no TOML text.
-pub(crate) fn say_toml_fault(line: &mut Line, text: &[u8], error: &Error) {
+pub(crate) fn say_toml_fault(words: &mut Words, text: &[u8], error: &Error) {
     let message = error.message();
     match (coding_fault(text), error.span()) {
-        (Some(fault), _) => line.say(&[fault.as_bytes()]),
-        (None, Some(span)) => say_at(line, text, span.start, message),
-        (None, None) => line.say(&[message.as_bytes()]),
+        (Some(fault), _) => words.add(fault.as_bytes()),
+        (None, Some(span)) => say_at(words, text, span.start, message),
+        (None, None) => words.add(message.as_bytes()),
     }
 }

@@ -1,7 +1,7 @@
 //! What is wrong with a value of a plan text.
 
 use crate::keys::{Form, Key, are_digits};
-use crate::line::Line;
+use bsp_plan_trial::Words;
 use toml::Value;
 
 /// Whether a text has the form of a day: digits and dashes.
@@ -15,45 +15,50 @@ fn is_like_a_day(text: &[u8]) -> bool {
 }
 
 /// Why a text in quotes is no day.
-fn day_fault(day: &[u8]) -> &'static [u8] {
+fn day_fault(day: &[u8]) -> &'static str {
     if !is_like_a_day(day) {
-        b", and not a day as \"2024-01-05\""
+        ", and not a day as \"2024-01-05\""
     } else if day.starts_with(b"20") {
-        b", which is no day of the calendar"
+        ", which is no day of the calendar"
     } else {
-        b", and not of the years 2000 to 2099"
+        ", and not of the years 2000 to 2099"
+    }
+}
+
+/// What is said of the form that a value is not in.
+fn wanted_text(form: Form, value: &Value) -> &'static str {
+    match form {
+        Form::Number(low, _) if low == 0 && value.as_str().is_none() =>
+            ", and not {}: 5.00 percent is 500",
+        Form::Number(_, _) if value.is_float() => ", and not {}, without a point",
+        _ => ", and not {}",
     }
 }
 
 /// Says why a value that is written in this way is not in its form.
-fn say_value(line: &mut Line, form: Form, value: &Value, written: &[u8]) {
-    let (middle, wanted) = (b", and not ", form.wanted().as_bytes());
+fn say_value(words: &mut Words, form: Form, value: &Value, written: &[u8]) {
     match (form, value.as_str()) {
-        (Form::Day, Some(day)) => line.say(&[day_fault(day.as_bytes())]),
+        (Form::Day, Some(day)) => words.add(day_fault(day.as_bytes()).as_bytes()),
         (Form::Number(_, _), Some(text)) if are_digits(text.as_bytes()) => {
-            line.say(&[b" in quotes, and not ", wanted]);
-            line.say(&[b", as ", text.as_bytes()]);
-        }
-        (Form::Number(0, _), None) => line.say(&[middle, wanted, b": 5.00 percent is 500"]),
-        (Form::Number(_, _), None) if value.is_float() => {
-            line.say(&[middle, wanted, b", without a point"]);
+            words.quote(" in quotes, and not {}", &[form.wanted().as_bytes()]);
+            words.quote(", as {}", &[text.as_bytes()]);
         }
         (form, None) if form.fits_text(written) => {
-            line.say(&[b" without quotes: write \"", written, b"\""]);
+            words.quote(" without quotes: write \"{}\"", &[written]);
         }
-        _ => line.say(&[middle, wanted]),
+        _ => words.quote(wanted_text(form, value), &[form.wanted().as_bytes()]),
     }
 }
 
 /// Says why the value at a key is wrong, of which this is written, if it is known.
-pub(crate) fn say_wrong(line: &mut Line, key: Key, value: &Value, written: Option<&str>) {
-    let name = key.name.as_bytes();
+pub(crate) fn say_wrong(words: &mut Words, key: Key, value: &Value, written: Option<&str>) {
+    words.add(key.name.as_bytes());
     if let Some(written) = written {
         let written = written.as_bytes();
-        line.say(&[name]);
-        line.say(&[b" is ", written]);
-        say_value(line, key.form, value, written);
+        words.quote(" is {}", &[written]);
+        say_value(words, key.form, value, written);
     } else {
-        line.say(&[name, b" is wrong: it is ", key.form.wanted().as_bytes()]);
+        let wanted = key.form.wanted().as_bytes();
+        words.quote(" is wrong: it is {}", &[wanted]);
     }
 }

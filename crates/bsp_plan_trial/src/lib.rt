@@ -7,8 +7,10 @@ mod entry;
 mod lines;
 mod plan_lines;
 mod plan_trial;
+mod words;
 mod writing;
 
 pub use lines::push_fields;
 pub use plan_trial::{PlanRefused, plan_before, try_plan};
+pub use words::{Shown, Words};
 pub use writing::plan_text;

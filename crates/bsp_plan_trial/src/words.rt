@@ -6,12 +6,16 @@ use std::alloc::{AllocError, Global};
 
 /// A value in a text.
 #[derive(Clone, Copy)]
-pub(crate) enum Value {
+pub enum Shown {
     /// Minor units, shown as money.
     Amount(i64),
-    Number(u32),
+    /// A number in decimal digits.
+    Number(u64),
+    /// A day, shown as 2024-01-05.
     Day(Day),
+    /// An airline's code.
     Airline(AirlineCode),
+    /// A period's code.
     Period(PeriodCode),
     /// The digits of an agent's code.
     Agent([u8; 8]),
@@ -21,16 +25,16 @@ pub(crate) enum Value {
     Tax([u8; 2]),
 }
 
-/// Words, as far as there was memory for them.
+/// Words for people, as far as there was memory for them.
 #[derive(Drop)]
-pub(crate) struct Words {
+pub struct Words {
     text: Vec<u8>,
     is_short: bool,
 }
 
 impl Words {
     /// No words.
-    pub(crate) fn new(alloc: Global) -> Words {
+    pub fn new(alloc: Global) -> Words {
         Words {
             text: Vec::new(alloc),
             is_short: false,
@@ -38,7 +42,7 @@ impl Words {
     }
 
     /// Adds a text as it is.
-    pub(crate) fn add(&mut self, text: &[u8]) {
+    pub fn add(&mut self, text: &[u8]) {
         self.is_short |= self.text.extend_from_slice(text).is_err();
     }
 
@@ -48,27 +52,27 @@ impl Words {
     }
 
     /// Adds a number in decimal digits.
-    fn add_number(&mut self, number: u32) {
+    fn add_number(&mut self, number: u64) {
         let mut digits = Buffer::new();
         self.add(digits.format(number).as_bytes());
     }
 
     /// Adds a value as it is shown.
-    fn add_value(&mut self, value: Value) {
+    fn add_value(&mut self, value: Shown) {
         match value {
-            Value::Amount(amount) => self.add_amount(amount),
-            Value::Number(number) => self.add_number(number),
-            Value::Day(day) => self.add(&day.write_text()),
-            Value::Airline(airline) => self.add(&airline.digits()),
-            Value::Period(period) => self.add(&period.digits()),
-            Value::Agent(agent) => self.add(&agent),
-            Value::Document(number) => self.add(&number),
-            Value::Tax(code) => self.add(&code),
+            Shown::Amount(amount) => self.add_amount(amount),
+            Shown::Number(number) => self.add_number(number),
+            Shown::Day(day) => self.add(&day.write_text()),
+            Shown::Airline(airline) => self.add(&airline.digits()),
+            Shown::Period(period) => self.add(&period.digits()),
+            Shown::Agent(agent) => self.add(&agent),
+            Shown::Document(number) => self.add(&number),
+            Shown::Tax(code) => self.add(&code),
         }
     }
 
     /// Adds a text with these values in the places of its `{}`, in their order.
-    pub(crate) fn say(&mut self, text: &str, values: &[Value]) {
+    pub fn say(&mut self, text: &str, values: &[Shown]) {
         let mut rest = text;
         for value in values {
             let Some((start, end)) = rest.split_once("{}") else {
@@ -81,24 +85,42 @@ impl Words {
         self.add(rest.as_bytes());
     }
 
+    /// Adds a text with these texts in the places of its `{}`, in their order.
+    pub fn quote(&mut self, text: &str, texts: &[&[u8]]) {
+        let mut rest = text;
+        for quoted in texts {
+            let Some((start, end)) = rest.split_once("{}") else {
+                break;
+            };
+            self.add(start.as_bytes());
+            self.add(quoted);
+            rest = end;
+        }
+        self.add(rest.as_bytes());
+    }
+
     /// Adds all words of others.
-    pub(crate) fn add_all(&mut self, others: &Words) {
+    pub fn add_all(&mut self, others: &Words) {
         self.add(&others.text);
         self.is_short |= others.is_short;
     }
 
     /// Records that there was no memory for what would be added.
-    pub(crate) fn run_short(&mut self) {
+    pub fn run_short(&mut self) {
         self.is_short = true;
     }
 
     /// Whether nothing was said.
-    pub(crate) fn is_empty(&self) -> bool {
+    pub fn is_empty(&self) -> bool {
         self.text.is_empty()
     }
 
-    /// The text, if there was memory for all of it.
-    pub(crate) fn finished(self) -> Result<Vec<u8>, AllocError> {
+    /// The text.
+    ///
+    /// # Errors
+    ///
+    /// There was no memory for all of it.
+    pub fn finished(self) -> Result<Vec<u8>, AllocError> {
         if self.is_short {
             Err(AllocError)
         } else {

@@ -1,8 +1,8 @@
 //! Which amount of a refused transaction is wrong, and what it has to be. The words are for people.
 
-use crate::words::{Value, Words};
 use bsp_calendar::Plan;
 use bsp_fields::{AirlineCode, Day};
+use bsp_plan_trial::{Shown, Words};
 use bsp_ret_records::{Amounts, ReportedDocument, Tax, Transaction, TransactionCode};
 use bsp_rules::{Item, amount_or_zero, card_amount, commission};
 
@@ -32,7 +32,7 @@ fn say_commission(words: &mut Words, text: &str, amounts: &Amounts, basis: i64) 
     if amounts.rate <= 10_000 {
         let (found, wanted) = (amounts.commission.get(), commission(amounts.rate, basis));
         if found != wanted {
-            words.say(text, &[Value::Amount(found), Value::Amount(wanted)]);
+            words.say(text, &[Shown::Amount(found), Shown::Amount(wanted)]);
         }
     }
 }
@@ -93,7 +93,7 @@ fn say_sign(words: &mut Words, transaction: &Transaction, name: &str, amount: i6
         " is {}, and no amount of a sale is below zero"
     };
     words.add(name.as_bytes());
-    words.say(text, &[Value::Amount(amount)]);
+    words.say(text, &[Shown::Amount(amount)]);
 }
 
 /// The first day of a published rate of an airline.
@@ -112,7 +112,7 @@ fn first_rate(plan: &Plan, airline: AirlineCode) -> Option<Day> {
 
 /// Says that no rate of an airline is published for a day.
 fn say_no_rate(words: &mut Words, airline: AirlineCode, issued: Day, first: Option<Day>) {
-    let airline = Value::Airline(airline);
+    let airline = Shown::Airline(airline);
     match first {
         None => words.say(
             "no rate of {} is published, so the rate is 00000",
@@ -120,7 +120,7 @@ fn say_no_rate(words: &mut Words, airline: AirlineCode, issued: Day, first: Opti
         ),
         Some(first) => words.say(
             "no rate of {} is published for {}, the first is from {}: see the date of issue in columns 34-39 of record 2 (YYMMDD)",
-            &[airline, Value::Day(issued), Value::Day(first)],
+            &[airline, Shown::Day(issued), Shown::Day(first)],
         ),
     }
 }
@@ -128,15 +128,15 @@ fn say_no_rate(words: &mut Words, airline: AirlineCode, issued: Day, first: Opti
 /// Says that a rate is above the published one.
 fn say_above(words: &mut Words, rate: u16, airline: AirlineCode, issued: Day, published: u16) {
     let text = "the rate is {}, and the published one of {} on {} is {}";
-    let (rate, published) = (u32::from(rate), u32::from(published));
-    let (airline, issued) = (Value::Airline(airline), Value::Day(issued));
+    let (rate, published) = (u64::from(rate), u64::from(published));
+    let (airline, issued) = (Shown::Airline(airline), Shown::Day(issued));
     words.say(
         text,
         &[
-            Value::Number(rate),
+            Shown::Number(rate),
             airline,
             issued,
-            Value::Number(published),
+            Shown::Number(published),
         ],
     );
 }
@@ -169,7 +169,7 @@ pub(crate) fn say_amounts(words: &mut Words, plan: &Plan, transaction: &Transact
         say_sign(words, transaction, name, amount);
     } else if gross != paid {
         let text = "fare + taxes are {}, forms {}";
-        words.say(text, &[Value::Amount(gross), Value::Amount(paid)]);
+        words.say(text, &[Shown::Amount(gross), Shown::Amount(paid)]);
     } else if transaction.code == TransactionCode::Tktt {
         say_rate(words, plan, transaction, amounts);
     }
@@ -217,15 +217,15 @@ fn greater_tax(ticket: &Amounts, amounts: &Amounts) -> Option<(Tax, Option<i64>)
 
 /// Says a tax of a refund beside that of the ticket.
 fn say_tax(words: &mut Words, tax: Tax, of_ticket: Option<i64>) {
-    let (code, amount) = (tax.code, Value::Amount(tax.amount.get()));
+    let (code, amount) = (tax.code, Shown::Amount(tax.amount.get()));
     match of_ticket {
         Some(most) => {
             let text = "the tax {} is {}, that of the ticket {}";
-            words.say(text, &[Value::Tax(code), amount, Value::Amount(most)]);
+            words.say(text, &[Shown::Tax(code), amount, Shown::Amount(most)]);
         }
         None => {
             let text = "the tax {} is {}, and the ticket has no tax {}";
-            words.say(text, &[Value::Tax(code), amount, Value::Tax(code)]);
+            words.say(text, &[Shown::Tax(code), amount, Shown::Tax(code)]);
         }
     }
 }
@@ -235,13 +235,13 @@ fn say_refund(words: &mut Words, ticket: &Amounts, amounts: &Amounts) {
     let (fare, of_ticket) = (amounts.fare.get(), ticket.fare.get());
     if fare.unsigned_abs() > of_ticket.unsigned_abs() {
         let text = "the fare is {}, that of the ticket {}";
-        words.say(text, &[Value::Amount(fare), Value::Amount(of_ticket)]);
+        words.say(text, &[Shown::Amount(fare), Shown::Amount(of_ticket)]);
     } else if let Some((tax, of_ticket)) = greater_tax(ticket, amounts) {
         say_tax(words, tax, of_ticket);
     } else if amounts.rate != ticket.rate {
-        let (rate, of_ticket) = (u32::from(amounts.rate), u32::from(ticket.rate));
+        let (rate, of_ticket) = (u64::from(amounts.rate), u64::from(ticket.rate));
         let text = "the rate is {}, that of the ticket {}";
-        words.say(text, &[Value::Number(rate), Value::Number(of_ticket)]);
+        words.say(text, &[Shown::Number(rate), Shown::Number(of_ticket)]);
     } else {
         say_commission(words, BY_FARE, amounts, fare);
     }
@@ -263,7 +263,7 @@ fn say_exchange(words: &mut Words, transaction: &Transaction, items: &[Item], am
         say_commission(words, text, amounts, basis);
     } else {
         let text = "EX is {}, fare + taxes of the tickets are {}";
-        words.say(text, &[Value::Amount(given), Value::Amount(value)]);
+        words.say(text, &[Shown::Amount(given), Shown::Amount(value)]);
     }
 }
 

@@ -1,7 +1,7 @@
 //! Why a ticket can not be given back, and what to do. The words are for people.
 
-use crate::words::{Value, Words};
 use bsp_calendar::Plan;
+use bsp_plan_trial::{Shown, Words};
 use bsp_ret_records::{ReportedDocument, Transaction, TransactionCode};
 use bsp_rules::Item;
 
@@ -43,8 +43,8 @@ fn say_end(words: &mut Words, number: &[u8; 10], item: &Item, remedy: &str) {
         TransactionCode::Rfnd => "{} was refunded by {}",
         TransactionCode::Tktt => "{} was exchanged for {}",
     };
-    words.say(text, &[Value::Document(*number), Value::Document(by)]);
-    words.say(remedy, &[Value::Document(by)]);
+    words.say(text, &[Shown::Document(*number), Shown::Document(by)]);
+    words.say(remedy, &[Shown::Document(by)]);
 }
 
 /// Says which ticket of a refund or an exchange has ended.
@@ -84,7 +84,7 @@ fn say_closed(words: &mut Words, number: &[u8; 10], item: &Item) {
     };
     words.say(
         text,
-        &[Value::Document(*number), Value::Period(item.period)],
+        &[Shown::Document(*number), Shown::Period(item.period)],
     );
 }
 

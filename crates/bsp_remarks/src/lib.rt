@@ -7,6 +7,5 @@
 mod amount_remarks;
 mod ended_remarks;
 mod remarks;
-mod words;
 
 pub use remarks::{Known, remarks_on};

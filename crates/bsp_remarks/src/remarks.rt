@@ -2,10 +2,10 @@
 
 use crate::amount_remarks::{say_against_tickets, say_amounts};
 use crate::ended_remarks::{say_cancellation, say_ended_ticket};
-use crate::words::{Value, Words};
 use bsp_book::ListBook;
 use bsp_calendar::{Period, Plan};
 use bsp_fields::{AgentCode, Day, DocNumber, write_digits};
+use bsp_plan_trial::{Shown, Words};
 use bsp_ret::{RetFile, transaction};
 use bsp_ret_records::{ReportedDocument, Transaction, TransactionCode};
 use bsp_rules::{Item, Range, Refusal, Verdict};
@@ -33,13 +33,13 @@ fn wrong_digit(document: &ReportedDocument) -> Option<DocNumber> {
 }
 
 /// Says the check digit of a number beside the one that its record has.
-fn say_beside_right(words: &mut Words, record: u32, found: u8, number: DocNumber) {
+fn say_beside_right(words: &mut Words, record: u64, found: u8, number: DocNumber) {
     let text = "record {} has the check digit {}, and that of {} is {}";
-    let (found, right) = (u32::from(found), u32::from(number.check_digit()));
-    let (found, number) = (Value::Number(found), Value::Document(number.digits()));
+    let (found, right) = (u64::from(found), u64::from(number.check_digit()));
+    let (found, number) = (Shown::Number(found), Shown::Document(number.digits()));
     words.say(
         text,
-        &[Value::Number(record), found, number, Value::Number(right)],
+        &[Shown::Number(record), found, number, Shown::Number(right)],
     );
 }
 
@@ -66,8 +66,8 @@ fn say_agents(words: &mut Words, transaction: &Transaction, agent: AgentCode) {
     words.say(
         text,
         &[
-            Value::Agent(transaction.agent),
-            Value::Agent(agent.digits()),
+            Shown::Agent(transaction.agent),
+            Shown::Agent(agent.digits()),
         ],
     );
 }
@@ -79,7 +79,7 @@ fn say_days(words: &mut Words, transaction: &Transaction, day: Day) {
     let issued = transaction.issued;
     words.say(
         text,
-        &[Value::Day(issued), Value::Day(day), Value::Day(issued)],
+        &[Shown::Day(issued), Shown::Day(day), Shown::Day(issued)],
     );
 }
 
@@ -95,12 +95,12 @@ fn text_before(ranges: usize) -> &'static str {
 /// Says a range.
 fn say_range(words: &mut Words, text: &str, range: &Range) {
     let (first, last) = (range.first.digits(), range.last.digits());
-    words.say(text, &[Value::Document(first), Value::Document(last)]);
+    words.say(text, &[Shown::Document(first), Shown::Document(last)]);
 }
 
 /// Says the number beside the agent's ranges.
 fn say_ranges(words: &mut Words, transaction: &Transaction, stock: &[Range]) {
-    let number = Value::Document(transaction.document.number);
+    let number = Shown::Document(transaction.document.number);
     words.say(text_before(stock.len()), &[number]);
     if let Some((first, others)) = stock.split_first() {
         say_range(words, "{}-{}", first);
@@ -130,7 +130,7 @@ fn say_used(words: &mut Words, transaction: &Transaction) {
     } else {
         "{} was accepted before, with other content: take another number"
     };
-    words.say(text, &[Value::Document(transaction.document.number)]);
+    words.say(text, &[Shown::Document(transaction.document.number)]);
 }
 
 /// What is said of a ticket that was not reported before what relates to it.
@@ -151,18 +151,18 @@ fn say_missing(words: &mut Words, transaction: &Transaction) {
     match &transaction.related {
         [Some(first), Some(second)] => {
             let (first, second) = (
-                Value::Document(first.number),
-                Value::Document(second.number),
+                Shown::Document(first.number),
+                Shown::Document(second.number),
             );
             let text = "{} or {} is no ticket of its airline that was reported before";
             words.say(text, &[first, second]);
         }
         [Some(first), None] => {
-            let (number, airline) = (Value::Document(first.number), Value::Airline(first.airline));
+            let (number, airline) = (Shown::Document(first.number), Shown::Airline(first.airline));
             words.say(text_of_missing(transaction.code), &[number, airline]);
         }
         _ => {
-            let number = Value::Document(transaction.document.number);
+            let number = Shown::Document(transaction.document.number);
             words.say("{} was accepted for another airline", &[number]);
         }
     }
@@ -184,12 +184,12 @@ const NOT_BEGUN: &str =
 
 /// Says why no period takes a transaction: the business day is before the period, or there is no later period.
 fn say_no_period(words: &mut Words, transaction: &Transaction, plan: &Plan) {
-    let (issued, day) = (Value::Day(transaction.issued), Value::Day(plan.day()));
+    let (issued, day) = (Shown::Day(transaction.issued), Shown::Day(plan.day()));
     if let Some(period) = open_period(plan, transaction.issued) {
         let first = period.first;
         words.say(
             NOT_BEGUN,
-            &[issued, Value::Day(first), day, Value::Day(first)],
+            &[issued, Shown::Day(first), day, Shown::Day(first)],
         );
     } else if let Some(last) = plan.periods().last() {
         let text = if plan.closed_count() == plan.periods().len() {
@@ -197,7 +197,7 @@ fn say_no_period(words: &mut Words, transaction: &Transaction, plan: &Plan) {
         } else {
             "it is issued {}, and the last period ends {}: a later period has to be published"
         };
-        words.say(text, &[issued, Value::Day(last.last)]);
+        words.say(text, &[issued, Shown::Day(last.last)]);
     } else {
         words.add(b"the plan has no period");
     }
@@ -210,18 +210,18 @@ fn say_limit(words: &mut Words, transaction: &Transaction, plan: &Plan) {
     };
     let text =
         "the documents limit of {} is reached for {} in {}: report it again after the close of {}";
-    let limit = Value::Number(terms.documents_limit);
-    let airline = Value::Airline(transaction.document.airline);
+    let limit = Shown::Number(u64::from(terms.documents_limit));
+    let airline = Shown::Airline(transaction.document.airline);
     let code = period.code;
     words.say(
         text,
-        &[limit, airline, Value::Period(code), Value::Period(code)],
+        &[limit, airline, Shown::Period(code), Shown::Period(code)],
     );
 }
 
 /// Says that an airline is not in the plan.
 fn say_airline(words: &mut Words, transaction: &Transaction) {
-    let airline = Value::Airline(transaction.document.airline);
+    let airline = Shown::Airline(transaction.document.airline);
     words.say("the airline {} is not in the plan", &[airline]);
 }
 
@@ -342,7 +342,7 @@ fn say_used_up(
     let cancelled = &transaction.document.number;
     if !has_sale(&items, cancelled) {
         lines.add(number);
-        lines.say(USED_UP, &[Value::Document(*cancelled)]);
+        lines.say(USED_UP, &[Shown::Document(*cancelled)]);
     }
 }
 
