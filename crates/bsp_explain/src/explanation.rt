@@ -9,11 +9,11 @@ ghost use Rattle.bsp_explain.specs.RetReasons.{Says, is_reason_of, is_without};
 use crate::before::{Before, text_after};
 use crate::field::Field;
 use crate::form::Form;
-use crate::hint::{Hint, hint_of, write_moved_day, write_short};
+use crate::hint::{Hint, hint_of, say_moved_day, say_short};
 use crate::name::Name;
 use crate::reason::Reason;
 use crate::ret_reasons::ret_reason;
-use bsp_fault_texts::Characters;
+use bsp_fault_texts::{Characters, Words};
 use bsp_records::first_line;
 use bsp_ret::RetFault;
 use std::fmt;
@@ -97,110 +97,145 @@ pub fn explain_ret(text: &[u8], fault: RetFault) -> Explanation
     }
 }
 
-/// Writes the columns at fault, where it is not the whole record.
-pub fn write_columns<W: fmt::Write>(
-    f: &mut fmt::Formatter<W>,
-    columns: Option<(u8, u8)>,
-) -> fmt::Result {
-    match columns {
-        Some((first, last)) if first == last => write!(f, ", column {first}"),
-        Some((first, last)) => write!(f, ", columns {first}-{last}"),
-        None => Ok(()),
+/// Says the columns at fault, where it is not the whole record.
+pub fn say_columns(words: &mut Words, columns: Option<(u8, u8)>) {
+    let Some((first, last)) = columns else {
+        return;
+    };
+    words.add(if first == last {
+        ", column "
+    } else {
+        ", columns "
+    });
+    words.show(first);
+    if first != last {
+        words.add("-");
+        words.show(last);
     }
 }
 
-/// Writes a field of letters or digits, or of another form, that is not in it, with its characters.
-fn write_characters<W: fmt::Write>(
-    f: &mut fmt::Formatter<W>,
-    field: Field,
-    found: Characters,
-) -> fmt::Result {
-    let name = field.name;
-    let width = field.last.saturating_sub(field.first).saturating_add(1);
-    match (field.form, name) {
-        (Form::Digits, _) if width == 1 => write!(f, "{name} {found} is not a digit"),
-        (Form::Digits, _) => write!(f, "{name} {found} is not {width} digits"),
-        (Form::Letters, _) => write!(f, "{name} {found} is not {width} capital letters"),
-        (Form::LettersOrDigits, Name::CardVendor) => write!(
-            f,
-            "{name} {found} is not 2 digits or capital letters, as `VI`: with CC comes the card"
-        ),
-        (Form::LettersOrDigits, _) => write!(
-            f,
-            "{name} {found} is not {width} digits or capital letters"
-        ),
-        (form, _) => write!(f, "{name} {found} {form}"),
-    }
+/// Says a field, its characters, and this of them.
+fn say_found(words: &mut Words, field: Field, found: Characters, text: &str) {
+    field.name.say(words);
+    words.add(" ");
+    found.say(words);
+    words.add(text);
 }
 
-/// Writes a field that is not in its form, with its characters.
-fn write_field<W: fmt::Write>(
-    f: &mut fmt::Formatter<W>,
-    field: Field,
-    found: Characters,
-) -> fmt::Result {
-    let name = field.name;
-    match (field.form, name) {
-        (Form::HeaderMark, _) if found.has_any(b"B") => write!(
-            f,
-            "{name} {found} is not `1`: a HOT file begins so, and `hotcheck` reads it"
-        ),
-        (Form::Above(before), _) => {
-            let (first, second) = ((before / 256) as u8 as char, (before % 256) as u8 as char);
-            write!(
-                f,
-                "{name} has {found} after `{first}{second}`: codes rise, and each comes once"
-            )
+/// Says a field that has not this many characters of a kind, with those that it has.
+fn say_kind(words: &mut Words, field: Field, found: Characters, kind: &str) {
+    say_found(words, field, found, " is not ");
+    words.show(field.last.saturating_sub(field.first).saturating_add(1));
+    words.add(kind);
+}
+
+/// Says a field of letters or digits, or of another form, that is not in it, with its characters.
+fn say_characters(words: &mut Words, field: Field, found: Characters) {
+    match (field.form, field.name) {
+        (Form::Digits, _) if field.first == field.last => {
+            say_found(words, field, found, " is not a digit");
         }
-        (Form::Unused, _) if field.last == 96 => write!(
-            f,
-            "{name} {found} {}, and the rate begins in column 97",
-            field.form
-        ),
-        (Form::Spaces, Name::CardVendor) => write!(
-            f,
-            "{name} {found} is not spaces: only a record 8 with CC has a card"
-        ),
-        (Form::Spaces, _) => write!(
-            f,
-            "only spaces may be here, and column {} begins `{}`",
-            found.first,
-            found.trimmed()
-        ),
-        _ => write_characters(f, field, found),
+        (Form::Digits, _) => say_kind(words, field, found, " digits"),
+        (Form::Letters, _) => say_kind(words, field, found, " capital letters"),
+        (Form::LettersOrDigits, Name::CardVendor) => {
+            let text = " is not 2 digits or capital letters, as `VI`: with CC comes the card";
+            say_found(words, field, found, text);
+        }
+        (Form::LettersOrDigits, _) => {
+            say_kind(words, field, found, " digits or capital letters");
+        }
+        (form, _) => {
+            say_found(words, field, found, " ");
+            form.say(words);
+        }
     }
+}
+
+/// Says that a tax code does not come after the one before it, which is this as a number.
+fn say_order(words: &mut Words, field: Field, found: Characters, before: u16) {
+    field.name.say(words);
+    words.add(" has ");
+    found.say(words);
+    words.add(" after `");
+    words.show((before / 256) as u8 as char);
+    words.show((before % 256) as u8 as char);
+    words.add("`: codes rise, and each comes once");
+}
+
+/// Says that columns have something, where only spaces may be.
+fn say_unused(words: &mut Words, found: Characters) {
+    words.add("only spaces may be here, and column ");
+    words.show(found.first);
+    words.add(" begins `");
+    words.add(found.trimmed());
+    words.add("`");
+}
+
+/// Says that a field is not in its form, with its characters.
+fn say_field(words: &mut Words, field: Field, found: Characters) {
+    match (field.form, field.name) {
+        (Form::HeaderMark, _) if found.has_any(b"B") => {
+            let text = " is not `1`: a HOT file begins so, and `hotcheck` reads it";
+            say_found(words, field, found, text);
+        }
+        (Form::Above(before), _) => say_order(words, field, found, before),
+        (Form::Unused, _) if field.last == 96 => {
+            say_characters(words, field, found);
+            words.add(", and the rate begins in column 97");
+        }
+        (Form::Spaces, Name::CardVendor) => {
+            let text = " is not spaces: only a record 8 with CC has a card";
+            say_found(words, field, found, text);
+        }
+        (Form::Spaces, _) => say_unused(words, found),
+        _ => say_characters(words, field, found),
+    }
+}
+
+/// Says that the transaction number is not the next one, with its characters.
+fn say_number(words: &mut Words, found: Characters, next: usize) {
+    words.add("the transaction number ");
+    found.say(words);
+    words.add(" is not ");
+    words.show_padded(next, 6);
+    words.add(
+        ": records 2 rise by one from 000001, and records 3, 5 and 8 have the number of their record 2",
+    );
+}
+
+/// Says that a related document is not above the one before it, with its characters.
+fn say_related(words: &mut Words, found: Characters) {
+    words.add("the related document ");
+    found.say(words);
+    words.add(
+        " is not above that of the record 3 before it, by airline and number: exchange the two, or take out the second",
+    );
 }
 
 impl Explanation {
-    /// Writes what is wrong with the record, with the characters that show it.
-    fn write_reason<W: fmt::Write>(&self, f: &mut fmt::Formatter<W>) -> fmt::Result {
-        match (self.reason, self.found) {
-            (Reason::Unfit(field), Some(found)) => match self.hint {
-                Some(hint) => write_moved_day(f, field, found, hint),
-                None => write_field(f, field, found),
-            },
-            (Reason::TransactionNumber(next), Some(found)) => write!(
-                f,
-                "the transaction number {found} is not {next:06}: records 2 rise by one from 000001, and records 3, 5 and 8 have the number of their record 2"
-            ),
-            (Reason::RelatedOrder, Some(found)) => write!(
-                f,
-                "the related document {found} is not above that of the record 3 before it, by airline and number: exchange the two, or take out the second"
-            ),
-            (Reason::Width { .. }, _) => match self.hint {
-                Some(Hint::Short(field)) => write_short(f, field),
-                _ => write!(f, "{}", self.reason),
-            },
-            (reason, _) => write!(f, "{reason}"),
+    /// Says what is wrong with the record, with the characters that show it.
+    fn say_reason(&self, words: &mut Words) {
+        match (self.reason, self.found, self.hint) {
+            (Reason::Unfit(field), Some(found), Some(hint)) => {
+                say_moved_day(words, field, found, hint);
+            }
+            (Reason::Unfit(field), Some(found), None) => say_field(words, field, found),
+            (Reason::TransactionNumber(next), Some(found), _) => say_number(words, found, next),
+            (Reason::RelatedOrder, Some(found), _) => say_related(words, found),
+            (Reason::Width { .. }, _, Some(Hint::Short(field))) => say_short(words, field),
+            (reason, _, _) => reason.say(words),
         }
     }
 }
 
 impl fmt::Display for Explanation {
     fn fmt<W: fmt::Write>(&self, f: &mut fmt::Formatter<W>) -> fmt::Result {
-        write!(f, "record {}", self.record)?;
-        write_columns(f, self.reason.columns())?;
-        f.write_str(": ")?;
-        self.write_reason(f)
+        let mut words = Words::new();
+        words.add("record ");
+        words.show(self.record);
+        say_columns(&mut words, self.reason.columns());
+        words.add(": ");
+        self.say_reason(&mut words);
+        f.write_str(words.text())
     }
 }

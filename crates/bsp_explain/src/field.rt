@@ -6,9 +6,9 @@ ghost use Rattle.bsp_explain.specs.Fields.{field_fits, all_fit, first_unfit, is_
 
 use crate::form::Form;
 use crate::name::Name;
-use std::fmt;
+use bsp_fault_texts::Words;
 
-/// A field of a record of 136 characters. It is displayed as one that is not in its form.
+/// A field of a record of 136 characters.
 #[derive(Clone, Copy)]
 pub struct Field {
     /// Its first column, counted from 1.
@@ -46,11 +46,12 @@ impl Field {
         let text = &line[self.first as usize - 1..self.last as usize];
         self.form.fits(text)
     }
-}
 
-impl fmt::Display for Field {
-    fn fmt<W: fmt::Write>(&self, f: &mut fmt::Formatter<W>) -> fmt::Result {
-        write!(f, "{} {}", self.name, self.form)
+    /// Says that the field is not in its form.
+    pub(crate) fn say(self, words: &mut Words) {
+        self.name.say(words);
+        words.add(" ");
+        self.form.say(words);
     }
 }
 

@@ -3,14 +3,13 @@
 ghost use Rattle.std.specs.Prelude.{◌≡◌, length, true};
 ghost use Rattle.bsp_explain.specs.Fields.{fits, is_document_code, is_file_form, is_form_of_payment, is_transaction_code, takes_width};
 
+use bsp_fault_texts::Words;
 use bsp_records::{
     all_digits, all_letters, all_letters_or_digits, all_spaces, is_amount, is_record_day, is_total,
     spells_at_most, tax_code,
 };
-use std::fmt;
 
-/// The form that the characters of a field have to have. It is displayed as what is wrong with a field
-/// that is not in it.
+/// The form that the characters of a field have to have.
 #[derive(Clone, Copy)]
 pub enum Form {
     /// `1`, the identifier of a header.
@@ -133,15 +132,18 @@ impl Form {
                 "is used after an unused one: used places come first, and an unused one is 13 spaces",
         }
     }
-}
 
-impl fmt::Display for Form {
-    fn fmt<W: fmt::Write>(&self, f: &mut fmt::Formatter<W>) -> fmt::Result {
-        f.write_str(self.text())?;
-        match self {
-            Form::AtMost(10_000) => f.write_str(" 10000: 5.00 percent is `00500`"),
-            Form::AtMost(most) => write!(f, " {most}"),
-            _ => Ok(()),
+    /// Says what is wrong with a field that is not in the form.
+    pub(crate) fn say(self, words: &mut Words) {
+        words.add(self.text());
+        if let Form::AtMost(most) = self {
+            words.add(" ");
+            words.show(most);
+            words.add(if most == 10_000 {
+                ": 5.00 percent is `00500`"
+            } else {
+                ""
+            });
         }
     }
 }

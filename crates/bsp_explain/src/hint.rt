@@ -4,9 +4,8 @@ use crate::field::Field;
 use crate::form::Form;
 use crate::reason::Reason;
 use crate::ret_reasons::record_field;
-use bsp_fault_texts::{Cause, Characters};
+use bsp_fault_texts::{Cause, Characters, Words};
 use bsp_records::is_record_day;
-use std::fmt;
 
 /// What a record shows of the mistake in it.
 #[derive(Clone, Copy)]
@@ -62,13 +61,15 @@ pub(crate) fn hint_of(line: &[u8], is_first: bool, reason: Reason) -> Option<Hin
     }
 }
 
-/// Writes that a record is a character too short, of which that field is the first out of its form.
-pub(crate) fn write_short<W: fmt::Write>(f: &mut fmt::Formatter<W>, field: Field) -> fmt::Result {
-    write!(
-        f,
-        "it has 135 characters, 1 too few: {} in columns {}-{} is the first field out of its form, so it or one before it is too short",
-        field.name, field.first, field.last
-    )
+/// Says that a record is a character too short, of which that field is the first out of its form.
+pub(crate) fn say_short(words: &mut Words, field: Field) {
+    words.add("it has 135 characters, 1 too few: ");
+    field.name.say(words);
+    words.add(" in columns ");
+    words.show(field.first);
+    words.add("-");
+    words.show(field.last);
+    words.add(" is the first field out of its form, so it or one before it is too short");
 }
 
 /// The fields between the first column and a day that begins in that one: of record 2, or of the header.
@@ -79,21 +80,17 @@ fn fields_before(first: u8) -> &'static str {
     }
 }
 
-/// Writes that a field has no day, which is a column away.
-pub(crate) fn write_moved_day<W: fmt::Write>(
-    f: &mut fmt::Formatter<W>,
-    field: Field,
-    found: Characters,
-    hint: Hint,
-) -> fmt::Result {
+/// Says that a field has no day, which is a column away.
+pub(crate) fn say_moved_day(words: &mut Words, field: Field, found: Characters, hint: Hint) {
     let (column, off) = match hint {
         Hint::Earlier => (field.first.saturating_sub(1), "short"),
         _ => (field.first.saturating_add(1), "long"),
     };
-    let before = fields_before(field.first);
-    write!(
-        f,
-        "{} {found} is not a day YYMMDD, and a day begins in column {column}: one of the fields before it is a column too {off} ({before})",
-        field.name
-    )
+    field.name.say(words);
+    words.add(" ");
+    found.say(words);
+    words.add(" is not a day YYMMDD, and a day begins in column ");
+    words.show(column);
+    words.add_all(&[": one of the fields before it is a column too ", off, " ("]);
+    words.add_all(&[fields_before(field.first), ")"]);
 }

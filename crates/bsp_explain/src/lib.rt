@@ -15,8 +15,8 @@ mod taxes;
 mod width;
 
 pub use before::Before;
-pub use bsp_fault_texts::{Cause, Money};
-pub use explanation::{Explanation, explain_ret, write_columns};
+pub use bsp_fault_texts::{Cause, Money, Words};
+pub use explanation::{Explanation, explain_ret, say_columns};
 pub use field::{Field, first_unfit};
 pub use form::Form;
 pub use hint::Hint;

@@ -1,8 +1,8 @@
 //! The names of fields.
 
-use std::fmt;
+use bsp_fault_texts::Words;
 
-/// What a field is. It is displayed as people name it.
+/// What a field is.
 #[derive(Clone, Copy)]
 pub enum Name {
     /// The kind of a record of a RET file.
@@ -157,14 +157,13 @@ impl Name {
             _ => None,
         }
     }
-}
 
-impl fmt::Display for Name {
-    fn fmt<W: fmt::Write>(&self, f: &mut fmt::Formatter<W>) -> fmt::Result {
-        f.write_str(self.text())?;
-        match self.tax_place() {
-            Some(number) => write!(f, " {number}"),
-            None => Ok(()),
+    /// Says the name as people call it.
+    pub(crate) fn say(self, words: &mut Words) {
+        words.add(self.text());
+        if let Some(number) = self.tax_place() {
+            words.add(" ");
+            words.show(number);
         }
     }
 }

@@ -6,12 +6,11 @@ ghost use Rattle.bsp_explain.specs.Reasons.{columns_of};
 use crate::before::Before;
 use crate::field::Field;
 use bsp_fault_texts::{
-    Cause, Money, Place, write_count, write_end, write_payment, write_place, write_sum, write_width,
+    Cause, Money, Place, Words, say_count, say_end, say_payment, say_place, say_sum, say_width,
 };
 use bsp_ret_records::FormOfPayment;
-use std::fmt;
 
-/// What is wrong with a record. It is displayed without its columns, by the text beside it here.
+/// What is wrong with a record. It is said without its columns.
 #[derive(Clone, Copy)]
 pub enum Reason {
     Width {
@@ -105,67 +104,76 @@ impl Reason {
         }
     }
 
-    /// What is displayed of a reason that shows no value.
+    /// What is said of a reason that shows no value.
     fn text(self) -> &'static str {
         match self {
             Reason::RelatedOrder => "the related document does not come after the one before it",
             Reason::AfterTrailer { .. } =>
                 "a line follows the trailer: remove it; if it begins with `1`, a second file begins here: send that as a file of its own",
             Reason::NoMemory => "out of memory",
-            // (`NotFound`: `fmt` displays all others)
+            // (`NotFound`: `say` says all others)
             _ => "the record has no such fault",
         }
     }
-}
 
-impl fmt::Display for Reason {
-    fn fmt<W: fmt::Write>(&self, f: &mut fmt::Formatter<W>) -> fmt::Result {
-        match *self {
-            Reason::Width { width, cause } => write_width(f, width, cause),
-            Reason::Character {
-                character,
-                cause,
-                ..
-            } => write!(
-                f,
-                "the character {character:#04x} is outside 0x20 to 0x7e{}",
-                cause.text()
-            ),
-            Reason::Unfit(field) => field.fmt(f),
-            Reason::Identifier('1') => f.write_str(
-                "a second header: a file has one header and one trailer",
-            ),
-            Reason::Identifier(first) => write!(
-                f,
-                "no record after the header begins with `{first}`: they begin with `2`, `3`, `5`, `8` or `Z`"
-            ),
-            Reason::TransactionNumber(next) => write!(f, "the transaction number is not {next:06}"),
-            Reason::Place { identifier, place } => write_place(f, identifier, place),
-            Reason::Payment { form, place } => write_payment(f, form, place),
-            Reason::NoTrailer { records, before } => write_end(
-                f,
+    /// Says what is wrong, where a count or the sum of a trailer is, or its place.
+    fn say_of_trailer(self, words: &mut Words) {
+        match self {
+            Reason::NoTrailer { records, before } => say_end(
+                words,
                 before.place,
                 records,
                 before.transactions,
                 before.sum,
             ),
-            Reason::AfterTrailer { width: 0 } => f.write_str(
-                "an empty line follows the trailer: remove it",
-            ),
-            Reason::RecordCount { stated, counted } => write_count(
-                f,
-                "records, header and trailer included,",
-                stated,
-                counted,
-            ),
-            Reason::TransactionCount { stated, counted } => write_count(
-                f,
-                "transactions",
-                stated,
-                counted,
-            ),
-            Reason::Sum { stated, summed } => write_sum(f, stated, summed),
-            _ => f.write_str(self.text()),
+            Reason::AfterTrailer { width: 0 } => {
+                words.add("an empty line follows the trailer: remove it");
+            }
+            Reason::RecordCount { stated, counted } => {
+                let what = "records, header and trailer included,";
+                say_count(words, what, stated, counted);
+            }
+            Reason::TransactionCount { stated, counted } => {
+                say_count(words, "transactions", stated, counted);
+            }
+            Reason::Sum { stated, summed } => say_sum(words, stated, summed),
+            _ => words.add(self.text()),
         }
     }
+
+    /// Says what is wrong.
+    pub fn say(self, words: &mut Words) {
+        match self {
+            Reason::Width { width, cause } => say_width(words, width, cause),
+            Reason::Character {
+                character,
+                cause,
+                ..
+            } => {
+                words.add("the character ");
+                words.show_byte(character);
+                words.add_all(&[" is outside 0x20 to 0x7e", cause.text()]);
+            }
+            Reason::Unfit(field) => field.say(words),
+            Reason::Identifier(first) => say_identifier(words, first),
+            Reason::TransactionNumber(next) => {
+                words.add("the transaction number is not ");
+                words.show_padded(next, 6);
+            }
+            Reason::Place { identifier, place } => say_place(words, identifier, place),
+            Reason::Payment { form, place } => say_payment(words, form, place),
+            _ => self.say_of_trailer(words),
+        }
+    }
+}
+
+/// Says that no record has this identifier after the header.
+fn say_identifier(words: &mut Words, first: char) {
+    if first == '1' {
+        words.add("a second header: a file has one header and one trailer");
+        return;
+    }
+    words.add("no record after the header begins with `");
+    words.show(first);
+    words.add("`: they begin with `2`, `3`, `5`, `8` or `Z`");
 }

@@ -1,6 +1,6 @@
 //! Why a line has another width, or another character, than a record may have.
 
-use std::fmt;
+use crate::words::Words;
 
 /// Why a line may have another width, or another character, than it shows. It is for people.
 #[derive(Clone, Copy)]
@@ -93,22 +93,20 @@ fn width_text(width: usize) -> &'static str {
     }
 }
 
-/// Writes that a line has that width, which is not 136.
-pub fn write_width<W: fmt::Write>(
-    f: &mut fmt::Formatter<W>,
-    width: usize,
-    cause: Cause,
-) -> fmt::Result {
+/// Says that a line has that width, which is not 136.
+pub fn say_width(words: &mut Words, width: usize, cause: Cause) {
     if width == 0 {
-        return f.write_str("it is an empty line: remove it");
+        words.add("it is an empty line: remove it");
+        return;
     }
-    let off = width.abs_diff(136);
+    words.add("it has ");
+    words.show(width);
     match cause {
-        Cause::Unknown | Cause::Accent => write!(
-            f,
-            "it has {width} characters, {off} {}",
-            width_text(width)
-        ),
-        _ => write!(f, "it has {width} characters, and not 136{}", cause.text()),
+        Cause::Unknown | Cause::Accent => {
+            words.add(" characters, ");
+            words.show(width.abs_diff(136));
+            words.add_all(&[" ", width_text(width)]);
+        }
+        _ => words.add_all(&[" characters, and not 136", cause.text()]),
     }
 }

@@ -1,12 +1,12 @@
 //! Characters of a record, to be shown.
 
-use std::fmt;
+use crate::words::Words;
 
 /// How many characters are shown at most: those of a total.
 const MOST: usize = 15;
 
 /// What a record has in some columns, for people: all of it, or where that is more than 15 characters,
-/// as many from the first on that is no space. It is displayed in `` ` ``.
+/// as many from the first on that is no space.
 #[derive(Clone, Copy)]
 pub struct Characters {
     /// The column of the first, counted from 1.
@@ -53,19 +53,19 @@ impl Characters {
         str::from_utf8(self.text().trim_ascii_end()).unwrap_or_default()
     }
 
+    /// Says the characters, in `` ` ``.
+    pub fn say(&self, words: &mut Words) {
+        if let Ok(text) = str::from_utf8(self.text()) {
+            words.add("`");
+            words.add(text);
+            words.add("`");
+        }
+    }
+
     /// Whether one of the characters is among these.
     pub fn has_any(&self, characters: &[u8]) -> bool {
         self.text()
             .iter()
             .any(|character| characters.contains(character))
-    }
-}
-
-impl fmt::Display for Characters {
-    fn fmt<W: fmt::Write>(&self, f: &mut fmt::Formatter<W>) -> fmt::Result {
-        match str::from_utf8(self.text()) {
-            Ok(text) => write!(f, "`{text}`"),
-            Err(_) => Ok(()),
-        }
     }
 }

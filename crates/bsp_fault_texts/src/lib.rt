@@ -8,12 +8,14 @@ mod money;
 mod order;
 mod place;
 mod trailer;
+mod words;
 mod zoned;
 
-pub use cause::{Cause, cause_of, write_width};
+pub use cause::{Cause, cause_of, say_width};
 pub use characters::Characters;
 pub use money::Money;
-pub use order::{write_payment, write_place};
+pub use order::{say_payment, say_place};
 pub use place::{Place, form_in, identifier};
-pub use trailer::{write_count, write_end, write_sum};
+pub use trailer::{say_count, say_end, say_sum};
+pub use words::Words;
 pub use zoned::ZonedTotal;

@@ -1,8 +1,8 @@
 //! Money as people read it.
 
-use std::fmt;
+use crate::words::Words;
 
-/// A sum in minor units, hundredths of the currency. It is displayed as units, a point and two
+/// A sum in minor units, hundredths of the currency. It is said as units, a point and two
 /// digits, with a minus in front below zero.
 #[derive(Clone, Copy)]
 pub struct Money {
@@ -10,11 +10,13 @@ pub struct Money {
     pub units: i128,
 }
 
-impl fmt::Display for Money {
-    fn fmt<W: fmt::Write>(&self, f: &mut fmt::Formatter<W>) -> fmt::Result {
-        let units = self.units;
-        let sign = if units < 0 { "-" } else { "" };
-        let size = units.unsigned_abs();
-        write!(f, "{sign}{}.{:02}", size / 100, size % 100)
+impl Money {
+    /// Says the sum.
+    pub fn say(self, words: &mut Words) {
+        let size = self.units.unsigned_abs();
+        words.add(if self.units < 0 { "-" } else { "" });
+        words.show(size / 100);
+        words.add(".");
+        words.show_padded(size % 100, 2);
     }
 }

@@ -1,8 +1,8 @@
 //! What people read of a record that may not follow those before it.
 
 use crate::place::Place;
+use crate::words::Words;
 use bsp_ret_records::{FormOfPayment, Profile, TransactionCode};
-use std::fmt;
 
 /// What comes after the records before a place.
 fn next_text(place: Place) -> &'static str {
@@ -99,28 +99,21 @@ pub(crate) fn ending_text(place: Place) -> Option<&'static str> {
     }
 }
 
-/// Writes that a record with that identifier may not come at a place.
-pub fn write_place<W: fmt::Write>(
-    f: &mut fmt::Formatter<W>,
-    identifier: char,
-    place: Place,
-) -> fmt::Result {
-    let text = place_text(identifier, place);
-    write!(f, "a record `{identifier}` is not allowed here: {text}")
+/// Says that a record with that identifier may not come at a place.
+pub fn say_place(words: &mut Words, identifier: char, place: Place) {
+    words.add("a record `");
+    words.show(identifier);
+    words.add_all(&["` is not allowed here: ", place_text(identifier, place)]);
 }
 
-/// Writes that a record 8 of that form may not come at a place.
-pub fn write_payment<W: fmt::Write>(
-    f: &mut fmt::Formatter<W>,
-    form: Option<FormOfPayment>,
-    place: Place,
-) -> fmt::Result {
+/// Says that a record 8 of that form may not come at a place.
+pub fn say_payment(words: &mut Words, form: Option<FormOfPayment>, place: Place) {
     let form_text = match form {
         Some(FormOfPayment::Cash) => " with CA",
         Some(FormOfPayment::Credit) => " with CC",
         Some(FormOfPayment::Exchange) => " with EX",
         None => "",
     };
-    let text = payment_text(form, place);
-    write!(f, "a record `8`{form_text} is not allowed here: {text}")
+    words.add_all(&["a record `8`", form_text, " is not allowed here: "]);
+    words.add(payment_text(form, place));
 }

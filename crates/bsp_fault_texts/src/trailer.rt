@@ -3,52 +3,44 @@
 use crate::money::Money;
 use crate::order::ending_text;
 use crate::place::Place;
+use crate::words::Words;
 use crate::zoned::ZonedTotal;
-use std::fmt;
 
-/// Writes that the number of these is not what a trailer states.
-pub fn write_count<W: fmt::Write>(
-    f: &mut fmt::Formatter<W>,
-    what: &str,
-    stated: u64,
-    counted: usize,
-) -> fmt::Result {
-    write!(
-        f,
-        "the number of {what} is {counted} and not {stated}: write `{counted:07}`"
-    )
+/// Says that the number of these is not what a trailer states.
+pub fn say_count(words: &mut Words, what: &'static str, stated: u64, counted: usize) {
+    words.add_all(&["the number of ", what, " is "]);
+    words.show(counted);
+    words.add(" and not ");
+    words.show(stated);
+    words.add(": write `");
+    words.show_padded(counted, 7);
+    words.add("`");
 }
 
-/// Writes that the sum is not what a trailer states.
-pub fn write_sum<W: fmt::Write>(
-    f: &mut fmt::Formatter<W>,
-    stated: Money,
-    summed: Money,
-) -> fmt::Result {
+/// Says that the sum is not what a trailer states.
+pub fn say_sum(words: &mut Words, stated: Money, summed: Money) {
     let total = ZonedTotal {
         units: summed.units,
     };
-    write!(
-        f,
-        "the sum of all records 8, EX included and refunds below zero, is {summed} and not {stated}: write `{total}`"
-    )
+    words.add("the sum of all records 8, EX included and refunds below zero, is ");
+    summed.say(words);
+    words.add(" and not ");
+    stated.say(words);
+    words.add(": write `");
+    total.say(words);
+    words.add("`");
 }
 
-/// Writes what a file lacks that ends at a place: a record of its last transaction, or else the trailer, which states
+/// Says what a file lacks that ends at a place: a record of its last transaction, or else the trailer, which states
 /// these numbers and the sum, in minor units.
-pub fn write_end<W: fmt::Write>(
-    f: &mut fmt::Formatter<W>,
-    place: Place,
-    records: usize,
-    transactions: usize,
-    sum: i128,
-) -> fmt::Result {
+pub fn say_end(words: &mut Words, place: Place, records: usize, transactions: usize, sum: i128) {
     if let Some(text) = ending_text(place) {
-        return write!(f, "the file ends here: {text}");
+        words.add_all(&["the file ends here: ", text]);
+        return;
     }
-    let total = ZonedTotal { units: sum };
-    write!(
-        f,
-        "the file ends without a trailer: write `Z{records:07}{transactions:07}{total}`, and 106 spaces up to 136 characters"
-    )
+    words.add("the file ends without a trailer: write `Z");
+    words.show_padded(records, 7);
+    words.show_padded(transactions, 7);
+    ZonedTotal { units: sum }.say(words);
+    words.add("`, and 106 spaces up to 136 characters");
 }

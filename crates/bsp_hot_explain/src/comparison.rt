@@ -3,14 +3,11 @@
 ghost use Rattle.std.specs.Prelude.{◌≡◌};
 ghost use Rattle.bsp_hot_explain.specs.Comparisons.{same_value, is_same, first_differing};
 
-use bsp_explain::{Money, Name};
+use bsp_explain::{Money, Name, Words};
 use bsp_fields::{AirlineCode, PeriodCode};
 use bsp_hot_records::{AgentDigits, DocumentCode};
-use std::fmt;
-use std::fmt::Display;
 
-/// A value of a record of a HOT file. It is displayed as the record has it, and money as people read
-/// it.
+/// A value of a record of a HOT file.
 #[derive(Clone, Copy)]
 pub enum Value {
     /// An airline.
@@ -166,35 +163,30 @@ pub(crate) fn first_differing(comparisons: &[Comparison]) -> Option<Comparison>
     None
 }
 
-/// Characters of one byte each.
-#[derive(Clone, Copy)]
-pub(crate) struct Characters<'a>(pub(crate) &'a [u8]);
-
-impl fmt::Display for Characters<'_> {
-    fn fmt<W: fmt::Write>(&self, f: &mut fmt::Formatter<W>) -> fmt::Result {
-        for byte in self.0 {
-            f.write_char(*byte as char)?;
-        }
-        Ok(())
+/// Says characters of one byte each.
+pub(crate) fn say_bytes(words: &mut Words, bytes: &[u8]) {
+    for byte in bytes {
+        words.show(*byte as char);
     }
 }
 
-impl fmt::Display for Value {
-    fn fmt<W: fmt::Write>(&self, f: &mut fmt::Formatter<W>) -> fmt::Result {
+/// Says the three letters of a currency.
+fn say_currency(words: &mut Words, currency: [u8; 3]) {
+    say_bytes(words, &currency);
+}
+
+impl Value {
+    /// Says the value as the record has it, and money as people read it.
+    pub(crate) fn say(&self, words: &mut Words) {
         match *self {
-            Value::Airline(airline) => airline.fmt(f),
-            Value::Period(period) => period.fmt(f),
-            Value::Agent(agent) => write!(f, "{:08}", agent.number()),
-            Value::Currency(currency) => write_currency(f, currency),
-            Value::Transaction(number) => write!(f, "{number:08}"),
-            Value::Code(code) => Characters(&code.text()).fmt(f),
-            Value::Count(count) => count.fmt(f),
-            Value::Amount(units) => Money { units }.fmt(f),
+            Value::Airline(airline) => words.show(airline),
+            Value::Period(period) => words.show(period),
+            Value::Agent(agent) => words.show_padded(agent.number(), 8),
+            Value::Currency(currency) => say_currency(words, currency),
+            Value::Transaction(number) => words.show_padded(number, 8),
+            Value::Code(code) => say_bytes(words, &code.text()),
+            Value::Count(count) => words.show(count),
+            Value::Amount(units) => Money { units }.say(words),
         }
     }
-}
-
-/// Writes the three letters of a currency.
-fn write_currency<W: fmt::Write>(f: &mut fmt::Formatter<W>, currency: [u8; 3]) -> fmt::Result {
-    Characters(&currency).fmt(f)
 }

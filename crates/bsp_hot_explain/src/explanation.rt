@@ -10,13 +10,13 @@ ghost use Rattle.bsp_hot_check.specs.Hot.{IsFirstFault};
 ghost use Rattle.bsp_hot_check.specs.Standings.{start, IsSmall};
 ghost use Rattle.bsp_hot_explain.specs.HotReasons.{SaysOfHot, record_name, stands_after};
 
-use crate::comparison::Characters;
+use crate::comparison::say_bytes;
 use crate::hot_reasons::{hot_reason, record_name};
 use crate::kind::Kind;
 use crate::next::Expected;
 use crate::reason::{HotReason, Shortness};
 use crate::walk::walk;
-use bsp_explain::write_columns;
+use bsp_explain::{Words, say_columns};
 use bsp_hot_check::{RecordFault, Standing};
 use bsp_hot_records::RecordName;
 use bsp_records::first_line;
@@ -87,30 +87,26 @@ fn missing(text: &[u8], at: &Standing) -> HotReason {
     }
 }
 
-/// Writes the number of a record, and the letters and the digits of its name, as `record 16 (BKS24)`,
-/// where it has one.
-fn write_record<W: fmt::Write>(
-    f: &mut fmt::Formatter<W>,
-    number: usize,
-    name: Option<RecordName>,
-) -> fmt::Result {
-    let Some(name) = name else {
-        return write!(f, "record {number}");
-    };
-    let (letters, digits) = (name.letters(), name.digits());
-    write!(
-        f,
-        "record {number} ({}{})",
-        Characters(&letters),
-        Characters(&digits)
-    )
+/// Says the number of a record, and the letters and the digits of its name, as `record 16 (BKS24)`, where it has one.
+fn say_record(words: &mut Words, number: usize, name: Option<RecordName>) {
+    words.add("record ");
+    words.show(number);
+    if let Some(name) = name {
+        words.add(" (");
+        say_bytes(words, &name.letters());
+        say_bytes(words, &name.digits());
+        words.add(")");
+    }
 }
 
 impl fmt::Display for HotExplanation {
     fn fmt<W: fmt::Write>(&self, f: &mut fmt::Formatter<W>) -> fmt::Result {
-        write_record(f, self.record, self.name)?;
-        write_columns(f, self.reason.columns())?;
-        write!(f, ": {}", self.reason)
+        let mut words = Words::new();
+        say_record(&mut words, self.record, self.name);
+        say_columns(&mut words, self.reason.columns());
+        words.add(": ");
+        self.reason.say(&mut words);
+        f.write_str(words.text())
     }
 }
 

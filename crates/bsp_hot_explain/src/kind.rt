@@ -1,8 +1,8 @@
 //! What a text that is no HOT file seems to be.
 
-use crate::comparison::Characters;
+use crate::comparison::say_bytes;
+use bsp_explain::Words;
 use bsp_records::first_line;
-use std::fmt;
 
 /// What a text that is no HOT file seems to be. It is for people.
 #[derive(Clone, Copy)]
@@ -87,43 +87,38 @@ impl Kind {
     }
 }
 
-/// Writes that a text is a refusal with that code.
-fn write_refusal<W: fmt::Write>(f: &mut fmt::Formatter<W>, code: [u8; 3]) -> fmt::Result {
-    let meaning = if code.as_slice() == b"H02".as_slice() {
-        ": the period is not published or not closed; ask again after the office has closed it"
-    } else {
-        ""
-    };
-    let code = Characters(&code);
-    write!(
-        f,
-        "this is no HOT file, but a refusal of the office: {code}{meaning} (`bsp_office explain {code}`)"
-    )
+/// Says that a text is a refusal with that code.
+fn say_refusal(words: &mut Words, code: [u8; 3]) {
+    words.add("this is no HOT file, but a refusal of the office: ");
+    say_bytes(words, &code);
+    if code.as_slice() == b"H02".as_slice() {
+        words.add(
+            ": the period is not published or not closed; ask again after the office has closed it",
+        );
+    }
+    words.add(" (`bsp_office explain ");
+    say_bytes(words, &code);
+    words.add("`)");
 }
 
-/// Writes how a text begins that is no HOT file.
-fn write_other<W: fmt::Write>(
-    f: &mut fmt::Formatter<W>,
-    first: [u8; 8],
-    count: usize,
-) -> fmt::Result {
-    let first = Characters(&first[..count.min(8)]);
-    write!(
-        f,
-        "this is no HOT file: it begins with `{first}`, and not with BFH"
-    )
+/// Says how a text begins that is no HOT file.
+fn say_other(words: &mut Words, first: [u8; 8], count: usize) {
+    words.add("this is no HOT file: it begins with `");
+    say_bytes(words, &first[..count.min(8)]);
+    words.add("`, and not with BFH");
 }
 
-impl fmt::Display for Kind {
-    fn fmt<W: fmt::Write>(&self, f: &mut fmt::Formatter<W>) -> fmt::Result {
-        match *self {
-            Kind::Empty => f.write_str("the file is empty"),
-            Kind::Ret => f.write_str("this is no HOT file, but a RET file: `check` reads it"),
-            Kind::Page => f.write_str(
+impl Kind {
+    /// Says what the text seems to be.
+    pub(crate) fn say(self, words: &mut Words) {
+        match self {
+            Kind::Empty => words.add("the file is empty"),
+            Kind::Ret => words.add("this is no HOT file, but a RET file: `check` reads it"),
+            Kind::Page => words.add(
                 "this is no HOT file, but a web page that was saved in its place: check the address and fetch it again",
             ),
-            Kind::Refusal(code) => write_refusal(f, code),
-            Kind::Other { first, count } => write_other(f, first, count),
+            Kind::Refusal(code) => say_refusal(words, code),
+            Kind::Other { first, count } => say_other(words, first, count),
         }
     }
 }

@@ -1,15 +1,13 @@
 //! What is wrong with a record of a HOT file.
 
-use crate::comparison::{Characters, Comparison, Value};
+use crate::comparison::{Comparison, Value, say_bytes};
 use crate::kind::Kind;
 use crate::next::Expected;
-use bsp_explain::{Cause, Name, Reason};
+use bsp_explain::{Cause, Name, Reason, Words};
 use bsp_fields::write_digits;
 use bsp_hot_check::DocumentKey;
 use bsp_hot_records::{AgentDigits, DocumentCode};
 use bsp_records::all_digits;
-use std::fmt;
-use std::fmt::Display;
 
 /// What to do with a file that was damaged: an airline writes none itself.
 const DAMAGED: &str = ": fetch the file again; if it stays so, ask the office";
@@ -34,7 +32,7 @@ pub enum Disorder {
     Documents(DocumentKey, DocumentKey),
 }
 
-/// What is wrong with a record of a HOT file. It is displayed without its columns.
+/// What is wrong with a record of a HOT file. It is said without its columns.
 #[derive(Clone, Copy)]
 pub enum HotReason {
     /// Its width, a character or a field.
@@ -86,8 +84,8 @@ impl HotReason {
         }
     }
 
-    /// What to do, where it may be a fault of a HOT file that was damaged. Of another text it is displayed
-    /// what to do.
+    /// What to do, where it may be a fault of a HOT file that was damaged. Of another text it is said what
+    /// to do.
     fn to_do(self) -> &'static str {
         match self {
             HotReason::Foreign(kind) if !kind.is_damage() => "",
@@ -97,7 +95,7 @@ impl HotReason {
     }
 }
 
-/// What is written before a value that a record says.
+/// What is said before a value that a record says.
 fn before(name: Name) -> &'static str {
     match name {
         Name::Documents | Name::Offices | Name::RecordCount => "it counts ",
@@ -163,35 +161,41 @@ fn after(stated: Value) -> &'static str {
     }
 }
 
-/// Writes which column differs, and both values.
-fn write_difference<W: fmt::Write>(
-    f: &mut fmt::Formatter<W>,
-    comparison: &Comparison,
-) -> fmt::Result {
+/// Says which column differs, and both values.
+fn say_difference(words: &mut Words, comparison: &Comparison) {
     let (name, stated, given) = (comparison.name, comparison.stated, comparison.given);
-    let (start, noun, end) = (before(name), counted(name, stated), after(stated));
+    let (noun, end) = (counted(name, stated), after(stated));
     let (middle, further) = (between(stated), giving(given, comparison.items));
-    write!(f, "{start}{stated}{noun}{middle}{further}{given}{end}")
+    words.add(before(name));
+    stated.say(words);
+    words.add_all(&[noun, middle, further]);
+    given.say(words);
+    words.add(end);
 }
 
-/// Writes what does not come after what.
-fn write_disorder<W: fmt::Write>(f: &mut fmt::Formatter<W>, disorder: Disorder) -> fmt::Result {
+/// Says a document.
+fn say_document(words: &mut Words, document: DocumentKey) {
+    say_bytes(words, &document.code.text());
+    words.add(" ");
+    words.show(document.number);
+}
+
+/// Says what does not come after what.
+fn say_disorder(words: &mut Words, disorder: Disorder) {
+    let text = " does not come after ";
     match disorder {
-        Disorder::Unknown => f.write_str("it does not come after the one before it"),
-        Disorder::Agents(agent, before) => write!(
-            f,
-            "the agent {:08} does not come after {:08}",
-            agent.number(),
-            before.number()
-        ),
-        Disorder::Documents(document, before) => write!(
-            f,
-            "{} {} does not come after {} {}",
-            Value::Code(document.code),
-            document.number,
-            Value::Code(before.code),
-            before.number
-        ),
+        Disorder::Unknown => words.add("it does not come after the one before it"),
+        Disorder::Agents(agent, before) => {
+            words.add("the agent ");
+            Value::Agent(agent).say(words);
+            words.add(text);
+            Value::Agent(before).say(words);
+        }
+        Disorder::Documents(document, before) => {
+            say_document(words, document);
+            words.add(text);
+            say_document(words, before);
+        }
     }
 }
 
@@ -204,21 +208,18 @@ fn sequence_cause(stated: &[u8], next: usize) -> &'static str {
     }
 }
 
-/// Writes that a sequence number is another one.
-fn write_sequence<W: fmt::Write>(
-    f: &mut fmt::Formatter<W>,
-    stated: &[u8],
-    next: usize,
-) -> fmt::Result {
-    if !all_digits(stated) {
-        return write!(f, "the sequence number is not {next:08}");
+/// Says that a sequence number is another one.
+fn say_sequence(words: &mut Words, stated: &[u8], next: usize) {
+    words.add("the sequence number is ");
+    if all_digits(stated) {
+        say_bytes(words, stated);
+        words.add(", and ");
     }
-    write!(
-        f,
-        "the sequence number is {}, and not {next:08}: {}",
-        Characters(stated),
-        sequence_cause(stated, next)
-    )
+    words.add("not ");
+    words.show_padded(next, 8);
+    if all_digits(stated) {
+        words.add_all(&[": ", sequence_cause(stated, next)]);
+    }
 }
 
 /// What people read of a line of another width, or with another character, that they did not write.
@@ -234,84 +235,78 @@ fn cause_text(cause: Cause) -> &'static str {
     }
 }
 
-/// Writes what is wrong with the form of a line that people did not write.
-fn write_form<W: fmt::Write>(f: &mut fmt::Formatter<W>, reason: Reason) -> fmt::Result {
+/// Says what is wrong with the form of a line that people did not write.
+fn say_form(words: &mut Words, reason: Reason) {
     match reason {
-        Reason::Width { width: 0, .. } => f.write_str("it is an empty line"),
+        Reason::Width { width: 0, .. } => words.add("it is an empty line"),
         Reason::Width { width, cause } => {
-            write!(
-                f,
-                "it has {width} characters, and not 136{}",
-                cause_text(cause)
-            )
+            words.add("it has ");
+            words.show(width);
+            words.add_all(&[" characters, and not 136", cause_text(cause)]);
         }
         Reason::Character {
             character,
             cause,
             ..
-        } => write!(
-            f,
-            "the character {character:#04x} is outside 0x20 to 0x7e{}",
-            cause_text(cause)
-        ),
-        _ => reason.fmt(f),
+        } => {
+            words.add("the character ");
+            words.show_byte(character);
+            words.add_all(&[" is outside 0x20 to 0x7e", cause_text(cause)]);
+        }
+        _ => reason.say(words),
     }
 }
 
-/// Writes why a line has fewer characters than a record.
-fn write_shortness<W: fmt::Write>(
-    f: &mut fmt::Formatter<W>,
-    width: usize,
-    shortness: Shortness,
-) -> fmt::Result {
-    match shortness {
-        Shortness::Cut => write!(f, "the file ends in it, after {width} of 136 characters"),
-        Shortness::Trimmed => write!(
-            f,
-            "it has {width} characters, and not 136: spaces at its end are missing"
+/// Says why a line has fewer characters than a record.
+fn say_shortness(words: &mut Words, width: usize, shortness: Shortness) {
+    let (start, end) = match shortness {
+        Shortness::Cut => ("the file ends in it, after ", " of 136 characters"),
+        Shortness::Trimmed => (
+            "it has ",
+            " characters, and not 136: spaces at its end are missing",
         ),
-    }
+    };
+    words.add(start);
+    words.show(width);
+    words.add(end);
 }
 
 impl HotReason {
-    /// What is displayed of a reason that has no value, in two pieces.
-    fn text(self) -> (&'static str, &'static str) {
+    /// Says a fault that has no value.
+    fn say_plain(self, words: &mut Words) {
         match self {
-            HotReason::NameDigits => ("no record has these digits in its name", ""),
-            HotReason::NameLetters => (
-                "the letters are not those of the name with these digits",
-                "",
-            ),
-            HotReason::Place(expected) => ("it is not allowed here: ", expected.text()),
-            HotReason::Missing(expected) => (
-                "the file ends before its last record BFT99: ",
-                expected.text(),
-            ),
-            // (`NotFound`: `write_fault` writes the others)
-            _ => ("the record has no such fault", ""),
-        }
-    }
-
-    /// Writes the fault, without what to do.
-    fn write_fault<W: fmt::Write>(&self, f: &mut fmt::Formatter<W>) -> fmt::Result {
-        match self {
-            HotReason::Form(reason) => write_form(f, *reason),
-            HotReason::Short { width, shortness } => write_shortness(f, *width, *shortness),
-            HotReason::Foreign(kind) => kind.fmt(f),
-            HotReason::Sequence { stated, next } => write_sequence(f, stated, *next),
-            HotReason::Differs(comparison) => write_difference(f, comparison),
-            HotReason::Order(disorder) => write_disorder(f, *disorder),
-            _ => {
-                let (fault, next) = self.text();
-                write!(f, "{fault}{next}")
+            HotReason::NameDigits => words.add("no record has these digits in its name"),
+            HotReason::NameLetters => {
+                words.add("the letters are not those of the name with these digits");
             }
+            HotReason::Place(expected) => {
+                words.add_all(&["it is not allowed here: ", expected.text()]);
+            }
+            HotReason::Missing(expected) => {
+                let fault = "the file ends before its last record BFT99: ";
+                words.add_all(&[fault, expected.text()]);
+            }
+            // (`NotFound`: `say` says the others)
+            _ => words.add("the record has no such fault"),
         }
     }
-}
 
-impl fmt::Display for HotReason {
-    fn fmt<W: fmt::Write>(&self, f: &mut fmt::Formatter<W>) -> fmt::Result {
-        self.write_fault(f)?;
-        f.write_str(self.to_do())
+    /// Says the fault, without what to do.
+    fn say_fault(&self, words: &mut Words) {
+        match self {
+            HotReason::Form(reason) => say_form(words, *reason),
+            HotReason::Short { width, shortness } => say_shortness(words, *width, *shortness),
+            HotReason::Foreign(kind) => kind.say(words),
+            HotReason::Sequence { stated, next } => say_sequence(words, stated, *next),
+            HotReason::Differs(comparison) => say_difference(words, comparison),
+            HotReason::Order(disorder) => say_disorder(words, *disorder),
+            _ => self.say_plain(words),
+        }
+    }
+
+    /// Says the fault, and what to do.
+    pub(crate) fn say(&self, words: &mut Words) {
+        self.say_fault(words);
+        words.add(self.to_do());
     }
 }
