@@ -5,14 +5,17 @@ ghost use Rattle.bsp_judge.specs.Unjudged.{IsRefusedAs};
 
 use crate::setup::{Earlier, JudgeFault, RefusedStep, Setup, Step};
 use bsp_book::ListBook;
+use bsp_calendar::{Period, Plan};
 use bsp_messages::{RequestRefusal, StockFault};
-use bsp_plan_trial::push_fields;
+use bsp_plan_trial::{Shown, Words};
 use bsp_rules::Range;
 use std::alloc::{AllocError, Global};
 
 /// The first range before a place that has a number of this one.
 fn met_range(stock: &[Range], place: usize) -> Option<Range> {
-    let range = stock.get(place)?;
+    let Some(range) = stock.get(place) else {
+        return None;
+    };
     for other in &stock[..place] {
         if other.first <= range.last && range.first <= other.last {
             return Some(*other);
@@ -21,51 +24,43 @@ fn met_range(stock: &[Range], place: usize) -> Option<Range> {
     None
 }
 
-/// Why a range is refused.
-fn push_range(
-    text: &mut Vec<u8>,
-    setup: &Setup<'_>,
-    place: usize,
-    fault: StockFault,
-) -> Result<(), AllocError> {
+/// Says why a range is refused.
+fn say_range(words: &mut Words, setup: &Setup<'_>, place: usize, fault: StockFault) {
     if let StockFault::FirstAfterLast = fault {
-        return text.extend_from_slice(b"the first number is after the last");
+        words.add(b"the first number is after the last");
+        return;
     }
-    match met_range(setup.stock, place) {
-        Some(other) => {
-            let (first, last) = (other.first.digits(), other.last.digits());
-            push_fields(text, &[b"it meets ", &first, b"-", &last])
-        }
-        None => Ok(()),
+    if let Some(other) = met_range(setup.stock, place) {
+        let (first, last) = (other.first.digits(), other.last.digits());
+        let text = "it meets {}-{}";
+        words.say(text, &[Shown::Document(first), Shown::Document(last)]);
     }
 }
 
-/// Why the close of a period is refused.
-fn push_close(
-    text: &mut Vec<u8>,
-    book: &ListBook,
-    setup: &Setup<'_>,
-    place: usize,
-) -> Result<(), AllocError> {
-    let plan = book.tables().plan();
-    let Some(Earlier::Closed(code)) = setup.earlier.get(place) else {
-        return Ok(());
-    };
-    let Some((period, _)) = plan.period(*code) else {
-        return text.extend_from_slice(b"no period of the plan has this code");
-    };
-    let day = plan.day().write_text();
+/// Says why the close of a period of a plan is refused, which is not the next, or ends after the business day.
+fn say_period(words: &mut Words, plan: &Plan, period: &Period) {
     match plan.periods().get(plan.closed_count()) {
-        Some(next) if next.code == *code => {
-            let last = period.last.write_text();
-            let beside = b", and the business day is ";
-            push_fields(text, &[b"it ends ", &last, beside, &day])
+        Some(next) if next.code == period.code => {
+            let (last, day) = (Shown::Day(period.last), Shown::Day(plan.day()));
+            words.say("it ends {}, and the business day is {}", &[last, day]);
         }
         Some(next) => {
-            let digits = next.code.digits();
-            push_fields(text, &[b"the period ", &digits, b" is to be closed first"])
+            let text = "the period {} is to be closed first";
+            words.say(text, &[Shown::Period(next.code)]);
         }
-        None => Ok(()),
+        None => {}
+    }
+}
+
+/// Says why the close of a period is refused.
+fn say_close(words: &mut Words, book: &ListBook, setup: &Setup<'_>, place: usize) {
+    let plan = book.tables().plan();
+    let Some(Earlier::Closed(code)) = setup.earlier.get(place) else {
+        return;
+    };
+    match plan.period(*code) {
+        Some((period, _)) => say_period(words, plan, &period),
+        None => words.add(b"no period of the plan has this code"),
     }
 }
 
@@ -77,17 +72,17 @@ fn reason_of(
     step: Step,
     refusal: RequestRefusal,
 ) -> Result<Vec<u8>, AllocError> {
-    let mut text = Vec::new(alloc);
+    let mut words = Words::new(alloc);
     match (step, refusal) {
         (Step::Stock(place), RequestRefusal::Stock(fault)) => {
-            push_range(&mut text, setup, place, fault)?;
+            say_range(&mut words, setup, place, fault);
         }
         (Step::Closed(place), RequestRefusal::Plan(_)) => {
-            push_close(&mut text, book, setup, place)?;
+            say_close(&mut words, book, setup, place);
         }
         _ => {}
     }
-    Ok(text)
+    words.finished()
 }
 
 /// The fault of a step that is refused, or want of memory.
