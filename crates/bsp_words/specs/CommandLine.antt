@@ -1,5 +1,5 @@
 -- The command line of the office, and the work that its words ask for.
-use Rattle.std.specs.Prelude.{◌≡◌, ℕ, ◌^◌, ◌&&◌, pos, nat_lt, Bool, List, [], ◌∷◌, Option, Some, None, Result, Ok, Err, true, false, codes, if◌then◌else◌, option_map, option_and_then, unwrap_or, map, take, drop, length, get_or, ◌==◌, ◌||◌, is_some}
+use Rattle.std.specs.Prelude.{◌≡◌, ◌++◌, ℕ, ◌^◌, ◌&&◌, pos, nat_lt, Bool, List, [], ◌∷◌, Option, Some, None, Result, Ok, Err, true, false, codes, if◌then◌else◌, option_map, option_and_then, unwrap_or, map, take, drop, length, get_or, ◌==◌, ◌||◌, is_some}
 use Rattle.std.specs.Borrow.{Bor}
 use Rattle.std.specs.Option.{option_map_or}
 use Rattle.std.specs.Result.{result_ok}
@@ -115,12 +115,16 @@ run_app = with_db (with_tokens (new_app (codes "run")))
 abbrev pub port_rule : Rule
 port_rule = record (number_option (codes "port") 1 65535) { required = true }
 
+-- the number that it has where it is absent
+abbrev pub limit_option : Text → ℕ → ℕ → Text → Rule
+limit_option id least most default = record (number_option id least most) { defaults = default ∷ [] }
+
 abbrev pub connections_rule : Rule
-connections_rule = record (number_option (codes "connections") 1 1000000) { defaults = codes "1000000" ∷ [] }
+connections_rule = limit_option (codes "connections") 1 1000000 (codes "1000000")
 
 -- the seconds for which a peer is waited for; 0 is without end
 abbrev pub timeout_rule : Rule
-timeout_rule = record (number_option (codes "timeout") 0 3600) { defaults = codes "30" ∷ [] }
+timeout_rule = limit_option (codes "timeout") 0 3600 (codes "30")
 
 -- --connections K, --timeout S and --log
 abbrev pub with_limits : App → App
@@ -134,18 +138,17 @@ abbrev pub needs_subcommand : Shape → Shape
 needs_subcommand s = record s { has_version = true; subcommand_required = true; disable_help_subcommand = true }
 
 -- the commands, in the order of the help
+abbrev pub file_shapes : List Shape
+file_shapes = check_app.top ∷ hotcheck_app.top ∷ judge_app.top ∷ []
+
+abbrev pub text_shapes : List Shape
+text_shapes = plan_app.top ∷ body_app.top ∷ explain_app.top ∷ []
+
+abbrev pub book_shapes : List Shape
+book_shapes = audit_app.top ∷ run_app.top ∷ serve_app.top ∷ []
+
 abbrev pub office_shapes : List Shape
-office_shapes =
-    check_app.top
-    ∷ hotcheck_app.top
-    ∷ judge_app.top
-    ∷ plan_app.top
-    ∷ body_app.top
-    ∷ explain_app.top
-    ∷ audit_app.top
-    ∷ run_app.top
-    ∷ serve_app.top
-    ∷ []
+office_shapes = file_shapes ++ text_shapes ++ book_shapes
 
 abbrev pub office : App
 office = with_subcommands (on_top needs_subcommand (new_app (codes "bsp_office"))) office_shapes

@@ -1,7 +1,7 @@
 -- The commands of the program by their rows.
 use Rattle.std.specs.Prelude.{map}
 use Rattle.clap.specs.Words.{Rule, Shape, Text, new_app, new_rule}
-use Rattle.bsp_words.specs.CommandLine.{connections_rule, flag_rule, named_option, needed_option, port_rule, repeated_option, some_option, timeout_rule, wanted_word}
+use Rattle.bsp_words.specs.CommandLine.{flag_rule, limit_option, named_option, needed_option, port_rule, repeated_option, some_option, wanted_word}
 use Rattle.bsp_words.specs.Filling.{with_rules}
 use Rattle.bsp_words.specs.declared.commands.Argument.{Argument}
 use Rattle.bsp_words.specs.declared.commands.Form.{Form}
@@ -18,8 +18,7 @@ rule_by id (form.Some value) = some_option id
 rule_by id form.Word = wanted_word id
 rule_by id form.OptionalWord = new_rule id
 rule_by id form.Port = port_rule
-rule_by id form.Connections = connections_rule
-rule_by id form.Timeout = timeout_rule
+rule_by id (form.Limit value least most default) = limit_option id least most default.now
 
 abbrev pub rule_at : Argument → Rule
 rule_at a = rule_by a.id.now a.form

@@ -2,11 +2,11 @@
 
 ghost use Rattle.std.specs.Prelude.{◌≡◌, ◌++◌, ◌∷◌, [], IfOk, IsOkAnd, OnOk, false, map};
 ghost use Rattle.clap.specs.Words.{app_of, new_rule, rule_of};
-ghost use Rattle.bsp_words.specs.CommandLine.{connections_rule, flag_rule, named_option, needed_option, office, port_rule, repeated_option, some_option, timeout_rule};
+ghost use Rattle.bsp_words.specs.CommandLine.{flag_rule, limit_option, named_option, needed_option, office, office_shapes, port_rule, repeated_option, some_option};
 ghost use Rattle.bsp_words.specs.Commands.{rule_at, shape_at};
 ghost use Rattle.bsp_words.specs.Filling.{of_one, rules_in, shapes_in};
 
-use crate::commands::{Argument, CommandRow, Form, commands};
+use crate::commands::{Argument, CommandRow, Form, book_commands, file_commands, text_commands};
 use clap::{Arg, ArgAction, Command};
 use std::alloc::{AllocError, Global};
 
@@ -65,22 +65,22 @@ fn port_option<'a>(alloc: Global, help: &'a str) -> Arg<'a>
         .value_parser(clap::value_parser!(u16).range(1..))
 }
 
-fn connections_option<'a>(alloc: Global, help: &'a str) -> Arg<'a>
-    ensures rule { rule_of result ≡ connections_rule }
+/// The option `--ID VALUE` with a number from the least to the most, which is the default where it is absent.
+fn limit<'a>(
+    alloc: Global,
+    id: &'a str,
+    value: &'a str,
+    least: u32,
+    most: u32,
+    default: &'a str,
+    help: &'a str,
+) -> Arg<'a>
+    ensures rule { rule_of result ≡ limit_option id.entry.now least most default.entry.now }
     ensures local { result.global ≡ false }
 {
-    option(alloc, "connections", "K", help)
-        .value_parser(clap::value_parser!(u32).range(1..=1_000_000))
-        .default_value("1000000")
-}
-
-fn timeout_option<'a>(alloc: Global, help: &'a str) -> Arg<'a>
-    ensures rule { rule_of result ≡ timeout_rule }
-    ensures local { result.global ≡ false }
-{
-    option(alloc, "timeout", "S", help)
-        .value_parser(clap::value_parser!(u32).range(0..=3600))
-        .default_value("30")
+    option(alloc, id, value, help)
+        .value_parser(clap::value_parser!(u32).range(i64::from(least)..=i64::from(most)))
+        .default_value(default)
 }
 
 /// A word, which may be absent.
@@ -105,8 +105,12 @@ fn argument<'a>(alloc: Global, row: &Argument) -> Arg<'a>
         Form::Word => word(alloc, row.id, row.help).required(true),
         Form::OptionalWord => word(alloc, row.id, row.help),
         Form::Port => port_option(alloc, row.help),
-        Form::Connections => connections_option(alloc, row.help),
-        Form::Timeout => timeout_option(alloc, row.help),
+        Form::Limit {
+            value,
+            least,
+            most,
+            default,
+        } => limit(alloc, row.id, value, least, most, default, row.help),
     }
 }
 
@@ -194,12 +198,22 @@ fn push_commands<'a>(
     Ok(())
 }
 
+/// Adds all commands, in the order of the program's help.
+fn push_office<'a>(alloc: Global, commands: &mut Vec<Command<'a>>) -> Result<(), AllocError>
+    ensures { OnOk result (shapes_in commands.new.items ≡ shapes_in commands.old.items ++ of_one office_shapes) }
+{
+    push_commands(alloc, commands, file_commands())?;
+    push_commands(alloc, commands, text_commands())?;
+    push_commands(alloc, commands, book_commands())?;
+    Ok(())
+}
+
 /// The command line of the program.
 pub(crate) fn office_command<'a>(alloc: Global) -> Result<Command<'a>, AllocError>
     ensures { IfOk result (λ c. app_of c ≡ office) }
 {
     let mut filled = Vec::new(alloc);
-    push_commands(alloc, &mut filled, commands())?;
+    push_office(alloc, &mut filled)?;
     Command::new(alloc, "bsp_office")
         .about("The office of a billing and settlement plan")
         .version(VERSION)

@@ -1,7 +1,7 @@
 //! The commands of the program, each with its arguments.
 
 ghost use Rattle.std.specs.Prelude.{◌≡◌, map};
-ghost use Rattle.bsp_words.specs.CommandLine.{office_shapes};
+ghost use Rattle.bsp_words.specs.CommandLine.{book_shapes, file_shapes, text_shapes};
 ghost use Rattle.bsp_words.specs.Commands.{shape_at};
 
 /// How an argument is given.
@@ -23,10 +23,13 @@ pub(crate) enum Form {
     OptionalWord,
     /// The option that names the port.
     Port,
-    /// The option that limits the connections.
-    Connections,
-    /// The option that limits the time for which a peer is waited for.
-    Timeout,
+    /// Such an option with a number from the least to the most, which is the default where it is absent.
+    Limit {
+        value: &'static str,
+        least: u32,
+        most: u32,
+        default: &'static str,
+    },
 }
 
 /// An argument of a command.
@@ -84,7 +87,8 @@ const DB: Argument = Argument {
     help: "the file that keeps the book, made where it is not there; without it the book is in memory",
 };
 
-static COMMANDS: [CommandRow; 9] = [
+/// The commands on a file that an agent or an airline has.
+static FILES: [CommandRow; 3] = [
     CommandRow {
         name: "check",
         about: "Reads a RET file and prints its transactions and their sum, or its first fault. \
@@ -150,6 +154,10 @@ static COMMANDS: [CommandRow; 9] = [
             FILE,
         ],
     },
+];
+
+/// The commands on a text.
+static TEXTS: [CommandRow; 3] = [
     CommandRow {
         name: "plan",
         about: "Tries a plan text: prints what it publishes, or why it is refused",
@@ -200,6 +208,10 @@ static COMMANDS: [CommandRow; 9] = [
             help: "a letter and two digits, as E07; without it all codes are listed",
         }],
     },
+];
+
+/// The commands over a book.
+static BOOKS: [CommandRow; 3] = [
     CommandRow {
         name: "audit",
         about: "Reads the book in a file and prints what it has, or what is wrong with it",
@@ -227,12 +239,22 @@ static COMMANDS: [CommandRow; 9] = [
             DB,
             Argument {
                 id: "connections",
-                form: Form::Connections,
+                form: Form::Limit {
+                    value: "K",
+                    least: 1,
+                    most: 1_000_000,
+                    default: "1000000",
+                },
                 help: "how many connections to serve, from 1 to 1000000",
             },
             Argument {
                 id: "timeout",
-                form: Form::Timeout,
+                form: Form::Limit {
+                    value: "S",
+                    least: 0,
+                    most: 3600,
+                    default: "30",
+                },
                 help: "how many seconds to wait for a peer, from 1 to 3600; with 0 without end",
             },
             Argument {
@@ -244,9 +266,23 @@ static COMMANDS: [CommandRow; 9] = [
     },
 ];
 
-/// The commands, in the order of the program's help.
-pub(crate) fn commands() -> &'static [CommandRow]
-    ensures { map shape_at result.now ≡ office_shapes }
+/// The first commands of the program's help, in their order.
+pub(crate) fn file_commands() -> &'static [CommandRow]
+    ensures { map shape_at result.now ≡ file_shapes }
 {
-    &COMMANDS
+    &FILES
+}
+
+/// Those that follow them.
+pub(crate) fn text_commands() -> &'static [CommandRow]
+    ensures { map shape_at result.now ≡ text_shapes }
+{
+    &TEXTS
+}
+
+/// The last of them.
+pub(crate) fn book_commands() -> &'static [CommandRow]
+    ensures { map shape_at result.now ≡ book_shapes }
+{
+    &BOOKS
 }

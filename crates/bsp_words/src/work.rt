@@ -1,6 +1,6 @@
 //! From the words of a command line to the work that they ask for.
 //!
-//! A further command is a row of `COMMANDS`, a variant of [`Work`], and a function that makes its work of the values
+//! A further command is a row of a table of `commands.rt`, a variant of [`Work`], and a function that makes its work of the values
 //! found. It also has a row in `work_in`.
 
 ghost use Rattle.std.specs.Prelude.{◌≡◌, IfOk, IfErr, [], map, option_map};

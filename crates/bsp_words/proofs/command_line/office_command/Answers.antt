@@ -8,6 +8,6 @@ use Rattle.bsp_words.proofs.command_line.office_command.Goals as goal
 pub returns : goal.returns
 returns c =
     let start : app_of c.disable_help_subcommand.result ≡ on_top needs_subcommand (new_app (codes "bsp_office")) = search rules in
-    filled_from c.disable_help_subcommand.result (on_top needs_subcommand (new_app (codes "bsp_office"))) c.push_commands.new.commands.items
+    filled_from c.disable_help_subcommand.result (on_top needs_subcommand (new_app (codes "bsp_office"))) c.push_office.new.commands.items
     office_shapes c.subcommands.result
-    start (rw (c.new-filled.ensures.items, c.commands.ensures) at c.in_ok-push_commands.ensures) c.subcommands.ensures
+    start (rw (c.new-filled.ensures.items) at c.in_ok-push_office.ensures) c.subcommands.ensures
