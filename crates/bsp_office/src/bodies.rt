@@ -1,12 +1,12 @@
 //! The command `body`: whether the route of a request reads a body, or which fault it has.
 
-use crate::remarks::{say_answer, say_known, say_reason};
+use crate::remarks::{say, say_answer, say_known, say_reason};
 use crate::whole_files::{bytes_of, printed, short_of_memory};
 use bsp_body_faults::{BodyFault, BodyForm, body_fault, body_form, body_line, body_text};
 use bsp_calendar::PlanFault;
 use bsp_check::{DONE, Explanation, REFUSED, Verdict};
 use bsp_desk::Asking;
-use bsp_explain::explain_ret;
+use bsp_explain::{Words, explain_ret};
 use bsp_fields::NoRoom;
 use bsp_http::Routes;
 use bsp_plan_reasons::refusal_reason;
@@ -78,8 +78,10 @@ fn report_body(rt: &HostRuntime, call: Call<&[u8]>, file: &str, body: &[u8]) -> 
 /// Reports on the body of a call, and answers the exit status. A call without a body ignores what comes.
 fn report_call(rt: &HostRuntime, request: &str, call: Call<&[u8]>, file: &str, body: &[u8]) -> u8 {
     if body_form(call) == BodyForm::NoBody {
-        let _ = eprintln!(rt;
-            "bsp_office: {request}: it has no body: what comes with it is ignored"
+        say(
+            rt,
+            request,
+            &"it has no body: what comes with it is ignored",
         );
         return printed(rt, b"OK\n", DONE);
     }
@@ -88,23 +90,22 @@ fn report_call(rt: &HostRuntime, request: &str, call: Call<&[u8]>, file: &str, b
 
 /// Reports that the path has other methods, and answers the exit status.
 fn report_method(rt: &HostRuntime, request: &str, methods: Methods) -> u8 {
-    let (allow, end) = (
-        methods.allow(),
-        if methods == Methods::GetAndPost {
-            "s"
-        } else {
-            ""
-        },
-    );
-    let _ = eprintln!(rt; "bsp_office: {request}: the path has the method{end} {allow}");
+    let start = if methods == Methods::GetAndPost {
+        "the path has the methods "
+    } else {
+        "the path has the method "
+    };
+    let mut words = Words::new();
+    words.add(start);
+    words.add(methods.allow());
+    say(rt, request, &words.text());
     printed(rt, b"N03\n", REFUSED)
 }
 
 /// Reports that a request is none, and answers the exit status.
 fn report_route(rt: &HostRuntime, request: &str) -> u8 {
-    let _ = eprintln!(rt;
-        "bsp_office: {request}: it is no request: write one of docs/ROUTES.md, as 'POST /office/day'"
-    );
+    let text = "it is no request: write one of docs/ROUTES.md, as 'POST /office/day'";
+    say(rt, request, &text);
     printed(rt, b"N02\n", REFUSED)
 }
 

@@ -1,5 +1,6 @@
 //! The file of a book: made for its owner alone, and why it is not opened.
 
+use crate::remarks::say;
 use bsp_store::{OpenFault, damage_at};
 use sqlite::{Error, ErrorCode, Wary};
 use std::fs::{self, OpenOptions};
@@ -49,10 +50,12 @@ fn refusal(rt: &HostRuntime, file: &str) -> io::Result<&'static str> {
 
 /// Says on standard error what damages the book, as far as it is found: a table, an index or a view, or the key of a row.
 fn say_damage(rt: &HostRuntime, file: &str, fault: &OpenFault) {
-    let _ = match damage_at(rt, file, Wary) {
-        Ok(damage) => eprintln!(rt; "bsp_office: {file}: {fault}: {damage}"),
-        Err(_) => eprintln!(rt; "bsp_office: {file}: {fault}"),
-    };
+    match damage_at(rt, file, Wary) {
+        Ok(damage) => {
+            let _ = eprintln!(rt; "bsp_office: {file}: {fault}: {damage}");
+        }
+        Err(_) => say(rt, file, fault),
+    }
 }
 
 /// Says on standard error why a file cannot be opened as a database.
@@ -76,8 +79,6 @@ pub(crate) fn say_unopened(rt: &HostRuntime, file: &str, fault: &OpenFault) {
         OpenFault::Failed(Error::SqliteFailure(ErrorCode::CannotOpen)) => {
             say_refusal(rt, file, fault);
         }
-        OpenFault::NoRoom | OpenFault::Failed(_) => {
-            let _ = eprintln!(rt; "bsp_office: {file}: {fault}");
-        }
+        OpenFault::NoRoom | OpenFault::Failed(_) => say(rt, file, fault),
     }
 }

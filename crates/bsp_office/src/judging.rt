@@ -6,9 +6,10 @@ use crate::remarks::{say_answer, say_lines, say_lines_of, say_reason};
 use crate::whole_files::{all_bytes, bytes_of, printed, short_of_memory};
 use bsp_check::{DONE, FAILED, REFUSED, check, exit_status};
 use bsp_connection::Noted;
+use bsp_explain::Words;
+use bsp_fields::PeriodCode;
 use bsp_judge::{Earlier, JudgeFault, Judged, Range, RefusedStep, Setup, Step, judge};
 use bsp_words::{Earlier as Named, Setting};
-use std::alloc::AllocError;
 use std::io;
 
 /// Reports on a RET file with a fault as `check` does, and answers the exit status.
@@ -44,43 +45,62 @@ fn report_earlier(rt: &HostRuntime, setting: &Setting<'_>, setup: &Setup<'_>, pl
     }
 }
 
-/// The option whose value the office refuses, with the value where the option may be repeated.
-fn option_of(rt: &HostRuntime, setting: &Setting<'_>, step: Step) -> Result<String, AllocError> {
-    let alloc = rt.alloc();
-    match step {
-        Step::Plan(_) => format!(in alloc; "--plan"),
-        Step::Day => format!(in alloc; "--day"),
-        Step::Agent => format!(in alloc; "--agent"),
-        Step::Stock(place) => match setting.stock.get(place) {
-            Some(range) => {
-                let (first, last) = (range.first, range.last);
-                format!(in alloc; "--stock {first}-{last}")
-            }
-            None => format!(in alloc; "--stock"),
-        },
-        Step::Closed(place) => match setting.earlier.get(place) {
-            Some(Named::Closed(period)) => format!(in alloc; "--closed {period}"),
-            _ => format!(in alloc; "--closed"),
-        },
-        Step::Closing(_) => match setting.statement {
-            Some(period) => format!(in alloc; "--statement {period}"),
-            None => format!(in alloc; "--statement"),
-        },
+/// Adds a range of the agent, if it is there.
+fn add_range(words: &mut Words, setting: &Setting<'_>, place: usize) {
+    if let Some(range) = setting.stock.get(place) {
+        words.add(" ");
+        words.show(range.first);
+        words.add("-");
+        words.show(range.last);
     }
 }
 
-/// Says why the office refuses a request.
-fn say_refused(
-    rt: &HostRuntime,
-    setting: &Setting<'_>,
-    refused: &RefusedStep,
-) -> Result<(), AllocError> {
-    let option = option_of(rt, setting, refused.step)?;
-    match str::from_utf8(&refused.reason) {
-        Ok(reason) if !reason.is_empty() => say_reason(rt, &option, reason),
-        _ => say_reason(rt, &option, "the office refuses it"),
+/// Adds a period, if there is one.
+fn add_period(words: &mut Words, period: Option<PeriodCode>) {
+    if let Some(period) = period {
+        words.add(" ");
+        words.show(period);
     }
-    Ok(())
+}
+
+/// The period that is closed at a place of what came before.
+fn closed_at(setting: &Setting<'_>, place: usize) -> Option<PeriodCode> {
+    match setting.earlier.get(place) {
+        Some(Named::Closed(period)) => Some(*period),
+        _ => None,
+    }
+}
+
+/// The option whose value the office refuses, with the value where the option may be repeated.
+fn option_of(setting: &Setting<'_>, step: Step) -> Words {
+    let mut words = Words::new();
+    match step {
+        Step::Plan(_) => words.add("--plan"),
+        Step::Day => words.add("--day"),
+        Step::Agent => words.add("--agent"),
+        Step::Stock(place) => {
+            words.add("--stock");
+            add_range(&mut words, setting, place);
+        }
+        Step::Closed(place) => {
+            words.add("--closed");
+            add_period(&mut words, closed_at(setting, place));
+        }
+        Step::Closing(_) => {
+            words.add("--statement");
+            add_period(&mut words, setting.statement);
+        }
+    }
+    words
+}
+
+/// Says why the office refuses a request.
+fn say_refused(rt: &HostRuntime, setting: &Setting<'_>, refused: &RefusedStep) {
+    let option = option_of(setting, refused.step);
+    match str::from_utf8(&refused.reason) {
+        Ok(reason) if !reason.is_empty() => say_reason(rt, option.text(), reason),
+        _ => say_reason(rt, option.text(), "the office refuses it"),
+    }
 }
 
 /// Reports which request of the office is refused, and answers the exit status.
@@ -102,14 +122,11 @@ fn report_refused(
             return report_trial(rt, &trial);
         }
     }
-    let code = code_in(refused.refusal.body());
-    let Ok(line) = format!(in rt.alloc(); "{code}\n") else {
-        return short_of_memory(rt);
-    };
-    if say_refused(rt, setting, refused).is_err() {
-        return short_of_memory(rt);
-    }
-    printed(rt, line.as_bytes(), REFUSED)
+    let mut line = Words::new();
+    line.add(code_in(refused.refusal.body()));
+    line.add("\n");
+    say_refused(rt, setting, refused);
+    printed(rt, line.text().as_bytes(), REFUSED)
 }
 
 /// Says what is known of the transactions of the earlier files.
@@ -135,10 +152,8 @@ fn report(rt: &HostRuntime, setting: &Setting<'_>, judged: &Judged) -> u8 {
 
 /// Reports that the plan has no period of the statement's code, and answers the exit status.
 fn report_unknown_period(rt: &HostRuntime, setting: &Setting<'_>) -> u8 {
-    let Ok(option) = option_of(rt, setting, Step::Closing(0)) else {
-        return short_of_memory(rt);
-    };
-    say_reason(rt, &option, "no period of the plan has this code");
+    let option = option_of(setting, Step::Closing(0));
+    say_reason(rt, option.text(), "no period of the plan has this code");
     printed(rt, b"S01\n", REFUSED)
 }
 

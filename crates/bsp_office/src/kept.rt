@@ -1,6 +1,9 @@
 //! What the program says of a book.
 
+use crate::remarks::say;
 use bsp_book::ListBook;
+use bsp_calendar::Plan;
+use bsp_explain::Words;
 use bsp_fields::Day;
 use bsp_store::SqlBook;
 use sqlite::{Alter, Error};
@@ -33,33 +36,42 @@ fn is_new(list: &ListBook) -> bool {
         && tables.airline_tokens().map().is_empty()
 }
 
-/// The end of a word that is counted.
-fn plural(count: usize) -> &'static str {
-    if count == 1 { "" } else { "s" }
+/// Adds a count, and what is counted.
+fn add_count(words: &mut Words, count: usize, noun: &str) {
+    words.add(", ");
+    words.show(count);
+    words.add(noun);
+    words.add(if count == 1 { "" } else { "s" });
+}
+
+/// The business day of a plan, and how many periods are closed.
+fn plan_words(plan: &Plan) -> Words {
+    let mut words = Words::new();
+    words.add("day ");
+    words.show(plan.day());
+    words.add(", ");
+    words.show(plan.closed_count());
+    words.add(" of ");
+    words.show(plan.periods().len());
+    words.add(" periods closed");
+    words
 }
 
 /// Says what a book has that is not new.
 fn say_counts(rt: &HostRuntime, file: &str, list: &ListBook) {
     let tables = list.tables();
-    let plan = tables.plan();
-    let (day, closed, periods) = (plan.day(), plan.closed_count(), plan.periods().len());
-    let agents = tables.agent_tokens().map().len();
-    let airlines = tables.airline_tokens().map().len();
-    let items = tables.item_table().map().len();
-    let memos = tables.memo_table().map().len();
-    let _ = eprintln!(rt;
-        "bsp_office: {file}: day {day}, {closed} of {periods} periods closed, {agents} agent{}, {airlines} airline{}, {items} item{}, {memos} memo{}",
-        plural(agents),
-        plural(airlines),
-        plural(items),
-        plural(memos)
-    );
+    let mut words = plan_words(tables.plan());
+    add_count(&mut words, tables.agent_tokens().map().len(), " agent");
+    add_count(&mut words, tables.airline_tokens().map().len(), " airline");
+    add_count(&mut words, tables.item_table().map().len(), " item");
+    add_count(&mut words, tables.memo_table().map().len(), " memo");
+    say(rt, file, &words.text());
 }
 
 /// Says on standard error which book was opened.
 pub(crate) fn say_opened(rt: &HostRuntime, file: &str, list: &ListBook) {
     if is_new(list) {
-        let _ = eprintln!(rt; "bsp_office: {file}: new book");
+        say(rt, file, &"new book");
     } else {
         say_counts(rt, file, list);
     }

@@ -4,6 +4,7 @@ use crate::audit::{report_empty, report_unsound};
 use crate::remarks::{say_known, say_reason};
 use crate::whole_files::{all_bytes, bytes_of, printed, short_of_memory};
 use bsp_check::{DONE, REFUSED};
+use bsp_explain::Words;
 use bsp_fields::Day;
 use bsp_plan_reasons::refusal_reason;
 use bsp_plan_trial::{PlanRefused, plan_text, try_plan};
@@ -38,14 +39,14 @@ fn report_refused(rt: &HostRuntime, trial: &Trial<'_>, refused: PlanRefused) -> 
     let Some(code) = refused.code() else {
         return short_of_memory(rt);
     };
-    let Ok(line) = format!(in rt.alloc(); "{code}\n") else {
-        return short_of_memory(rt);
-    };
+    let mut line = Words::new();
+    line.add(code);
+    line.add("\n");
     match refusal_reason(rt.alloc(), trial.texts, trial.day, trial.text, refused) {
         Ok(reason) => say_known(rt, file_of(trial, refused.place), &reason),
         Err(_) => return short_of_memory(rt),
     }
-    printed(rt, line.as_bytes(), REFUSED)
+    printed(rt, line.text().as_bytes(), REFUSED)
 }
 
 /// Tries a text over those published before, and answers the exit status.

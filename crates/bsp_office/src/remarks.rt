@@ -1,6 +1,7 @@
 //! What standard error says about the FILE of a command: one line, where something is wrong.
 
 use bsp_check::{Fault, Heading, Verdict};
+use bsp_explain::Words;
 use std::fmt::Display;
 use std::io;
 
@@ -20,7 +21,7 @@ fn cause(fault: Fault) -> &'static str {
 }
 
 /// Says what is wrong at a place.
-fn say<D: Display>(rt: &HostRuntime, place: &str, what: &D) {
+pub(crate) fn say<D: Display>(rt: &HostRuntime, place: &str, what: &D) {
     let _ = eprintln!(rt; "bsp_office: {place}: {what}");
 }
 
@@ -77,11 +78,12 @@ pub(crate) fn say_lines_of(rt: &HostRuntime, file: &str, lines: &[u8]) {
 
 /// Says of which airline and period a HOT file is.
 fn say_heading(rt: &HostRuntime, file: &str, heading: &Heading) {
-    let name = named(file);
-    let _ = eprintln!(rt;
-        "bsp_office: {name}: airline {}, period {}",
-        heading.airline, heading.period
-    );
+    let mut words = Words::new();
+    words.add("airline ");
+    words.show(heading.airline);
+    words.add(", period ");
+    words.show(heading.period);
+    say(rt, named(file), &words.text());
 }
 
 /// Says which fault a FILE has, of which airline and period it is, or why no whole report on it was written.

@@ -6,7 +6,7 @@ use crate::explaining::run_explain;
 use crate::input::Input;
 use crate::judging::run_judge;
 use crate::plans::{run_plan, run_plan_of};
-use crate::remarks::{say_answer, say_unopened};
+use crate::remarks::{say, say_answer, say_unopened};
 use crate::serving::{Port, run_office, serve_office};
 use crate::whole_files::short_of_memory;
 use bsp_check::{DONE, FAILED, Fault, Verdict, WRONG_WORDS, check, exit_status, hotcheck};
@@ -134,7 +134,7 @@ fn refuse(rt: &HostRuntime, fault: &WordsFault) -> u8 {
     match printed {
         Ok(()) => DONE,
         Err(error) => {
-            let _ = eprintln!(rt; "bsp_office: standard output: {error}");
+            say(rt, "standard output", &error);
             FAILED
         }
     }
