@@ -1,0 +1,4 @@
+-- What the contracts of serving many connections cite.
+pub mod Bounds
+pub mod Events
+pub mod Talks
