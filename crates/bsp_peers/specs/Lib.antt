@@ -1,4 +1,6 @@
 -- What the contracts of serving many connections cite.
 pub mod Bounds
 pub mod Events
+pub mod Serving
+pub mod Shares
 pub mod Talks

@@ -1,7 +1,6 @@
 //! What is said on connections, and what is asked for it.
 
 ghost use Rattle.std.specs.Prelude.{◌≡◌, ℕ, ◌≤◌, List, [], length, take, true, OnOk, OnErr};
-ghost use Rattle.std.specs.List.{FoldsTo};
 ghost use Rattle.bsp_peers.specs.Talks.{HasAsked, HasGot, HasSent, IsSame, IsTalk};
 
 use bsp_fields::NoRoom;
@@ -57,7 +56,7 @@ pub trait Protocol<D> {
     /// Goes on with what came, and answers one message of it at most.
     fn go_on(&self, connection: &mut Self::Connection, desk: &mut D)
         requires { IsTalk Self.talks connection.old }
-        ensures { (ys : List Self.Exchange) × FoldsTo Self.steps desk.old ys desk.new × HasAsked Self.talks ys connection.old connection.new };
+        ensures { HasAsked Self.talks Self.steps desk.old desk.new connection.old connection.new };
 
     /// The bytes that are to be sent next.
     fn output<'c>(&self, connection: &'c Self::Connection) -> &'c [u8]

@@ -1,0 +1,3 @@
+-- What the proofs of serving many connections share.
+pub mod ShareLemmas
+pub mod ServingLemmas
