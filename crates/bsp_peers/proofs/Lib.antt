@@ -1,3 +1,4 @@
 -- What the proofs of serving many connections share.
 pub mod ShareLemmas
-pub mod ServingLemmas
+pub mod TableLemmas
+pub mod TurnLemmas

@@ -67,7 +67,8 @@ pub trait Peers {
     fn next(&mut self) -> Happened
         ensures { Self.did self.old quiet self.new };
 
-    /// Accepts a connection under this number, if one waits. Answers whether it did.
+    /// Accepts a connection under this number, if one waits: bytes of its peer are waited for from then on. Answers whether
+    /// it did.
     fn accept(&mut self, number: u64) -> bool
         ensures { Self.did self.old quiet self.new };
 
@@ -76,7 +77,7 @@ pub trait Peers {
         ensures bound { MovesAtMost result room.new }
         ensures did { Self.did self.old (read_event number result room.new) self.new };
 
-    /// Writes a first part of the bytes to a connection.
+    /// Writes a first part of the bytes to a connection: as much as it takes now.
     fn write(&mut self, number: u64, bytes: &[u8]) -> Moved
         ensures bound { MovesAtMost result bytes.now }
         ensures did { Self.did self.old (write_event number result bytes.now) self.new };
@@ -85,7 +86,7 @@ pub trait Peers {
     fn watch(&mut self, number: u64, awaited: Awaited)
         ensures { Self.did self.old quiet self.new };
 
-    /// Closes a connection.
+    /// Closes a connection, whose number is not used again.
     fn close(&mut self, number: u64, ending: Ending)
         ensures { Self.did self.old (closed number ending) self.new };
 }

@@ -1,6 +1,7 @@
 //! Serving all connections.
 
-ghost use Rattle.std.specs.Prelude.{◌≡◌, ◌≤◌};
+ghost use Rattle.std.specs.Prelude.{◌≡◌, ◌≤◌, ◌<◌, ◌+◌, ◌⊎◌};
+ghost use Rattle.std.specs.BTreeMap.{btree_map_len};
 ghost use Rattle.bsp_peers.specs.Serving.{Goes, IsServing, Served};
 
 use crate::held::{Held, Table};
@@ -29,7 +30,8 @@ fn admit<P: Peers, D, R: Protocol<D>>(
     table: &mut Table<R::Connection>,
     protocol: &R,
 )
-    ensures { (d : D) → Goes P.did R.steps R.talks R.rests peers.old peers.new d d table.old table.new }
+    ensures goes { (d : D) → Goes P.did R.steps R.talks R.rests peers.old peers.new d d table.old table.new }
+    ensures given { (table.new.next ≡ table.old.next) ⊎ ((table.new.next ≡ table.old.next + 1) × (table.old.next < limits.in_all) × (btree_map_len table.old.held < limits.at_once)) }
 {
     let number = table.next;
     if table.held.len() >= limits.at_once || number >= limits.in_all {
@@ -54,9 +56,9 @@ fn drop_late<P: Peers, D, R: Protocol<D>>(
     number: u64,
     peers: &mut P,
     table: &mut Table<R::Connection>,
-    _protocol: &R,
 )
-    ensures { (d : D) → Goes P.did R.steps R.talks R.rests peers.old peers.new d d table.old table.new }
+    ensures goes { (d : D) → Goes P.did R.steps R.talks R.rests peers.old peers.new d d table.old table.new }
+    ensures given { table.new.next ≡ table.old.next }
 {
     let Some(_) = table.held.remove(&number) else {
         return;
@@ -74,7 +76,8 @@ fn attend<P: Peers, D, R: Protocol<D>>(
     desk: &mut D,
 )
     requires { IsServing P.did R.steps R.talks R.rests peers.old desk.old table.old }
-    ensures { Goes P.did R.steps R.talks R.rests peers.old peers.new desk.old desk.new table.old table.new }
+    ensures goes { Goes P.did R.steps R.talks R.rests peers.old peers.new desk.old desk.new table.old table.new }
+    ensures given { table.new.next ≡ table.old.next }
 {
     let Some(held) = table.held.get_mut(&number) else {
         return;
@@ -95,7 +98,8 @@ fn step<P: Peers, D, R: Protocol<D>>(
     desk: &mut D,
 ) -> bool
     requires { IsServing P.did R.steps R.talks R.rests peers.old desk.old table.old }
-    ensures { Goes P.did R.steps R.talks R.rests peers.old peers.new desk.old desk.new table.old table.new }
+    ensures goes { Goes P.did R.steps R.talks R.rests peers.old peers.new desk.old desk.new table.old table.new }
+    ensures given { table.old.next ≤ limits.in_all → table.new.next ≤ limits.in_all }
 {
     match peers.next() {
         Happened::Nothing => true,
@@ -108,7 +112,7 @@ fn step<P: Peers, D, R: Protocol<D>>(
             true
         }
         Happened::Late(number) => {
-            drop_late(number, peers, table, protocol);
+            drop_late::<P, D, R>(number, peers, table);
             true
         }
         Happened::Stop => false,
@@ -116,7 +120,11 @@ fn step<P: Peers, D, R: Protocol<D>>(
 }
 
 /// Serves connections until as many as `limits` has in all came and are gone, or the peers can be waited for no more.
-/// Answers how many came.
+/// Answers how many came: they have the numbers below that. Those that are held at the end are dropped.
+///
+/// Each connection that is ready has one turn, whatever the others do: at most one read, one answer and one write. It is
+/// read once no output waits and nothing that came can be answered, and answered while less than 65,536 bytes wait.
+/// A connection for which there is no memory is closed.
 pub fn serve_all<P: Peers, D, R: Protocol<D>>(
     alloc: Global,
     peers: &mut P,
@@ -125,6 +133,7 @@ pub fn serve_all<P: Peers, D, R: Protocol<D>>(
     desk: &mut D,
 ) -> u64
     ensures served { Served P.did R.steps R.talks R.rests peers.old peers.new desk.old desk.new result }
+    ensures within { result ≤ limits.in_all }
 {
     let mut table = Table {
         held: BTreeMap::new(alloc),

@@ -62,10 +62,11 @@ fn receive<P: Peers, D, R: Protocol<D>>(
     }
 }
 
-/// Answers a message, unless much output waits.
+/// Answers a message at most, and none while much output waits.
 fn answer<D, R: Protocol<D>>(held: &mut Held<R::Connection>, protocol: &R, desk: &mut D)
     requires { IsTalk R.talks held.old.connection }
-    ensures { HasAsked R.talks R.steps desk.old desk.new held.old.connection held.new.connection }
+    ensures asked { HasAsked R.talks R.steps desk.old desk.new held.old.connection held.new.connection }
+    ensures waits { OUTPUT_LIMIT ≤ length (R.front held.old.connection) → (held.new ≡ held.old) × (desk.new ≡ desk.old) }
 {
     if protocol.output(&held.connection).len() < OUTPUT_LIMIT {
         protocol.go_on(&mut held.connection, desk);
@@ -103,7 +104,8 @@ fn send<P: Peers, D, R: Protocol<D>>(
     }
 }
 
-/// What is waited for, where so many bytes of output wait, by whether the peer sends no more.
+/// What is waited for, where so many bytes of output wait, by whether the peer sends no more. It is something if and only if
+/// the connection can go on, output waits, or more of the peer is taken.
 fn awaited(state: State, waiting: usize, ended: bool) -> Awaited
     ensures { (result.reads || (result.writes || result.again)) ≡ (state.has_more || (not (waiting == 0) || not (ended || state.is_closed))) }
 {

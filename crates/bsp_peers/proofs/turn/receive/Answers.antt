@@ -1,6 +1,6 @@
-use Rattle.std.proofs.Common.{◌≡◌, ℕ, List, sym, subst}
+use Rattle.std.proofs.Common.{ℕ, List, sym, subst}
 use Rattle.bsp_peers.specs.Events.Event.{got}
-use Rattle.bsp_peers.proofs.ServingLemmas.{turns_failed, turns_got, turns_lost, turns_none, turns_quiet}
+use Rattle.bsp_peers.proofs.TurnLemmas.{turns_failed, turns_got, turns_lost, turns_none, turns_quiet}
 use Rattle.bsp_peers.proofs.turn.receive.Goals as goal
 
 pub returns-then-not-wants_bytes : goal.returns-then-not-wants_bytes

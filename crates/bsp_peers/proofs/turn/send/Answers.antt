@@ -1,6 +1,6 @@
-use Rattle.std.proofs.Common.{◌≡◌, ℕ, List, take, sym, subst}
+use Rattle.std.proofs.Common.{ℕ, List, take, subst}
 use Rattle.bsp_peers.specs.Events.Event.{sent}
-use Rattle.bsp_peers.proofs.ServingLemmas.{turns_failed, turns_quiet, turns_sent}
+use Rattle.bsp_peers.proofs.TurnLemmas.{turns_failed, turns_quiet, turns_sent}
 use Rattle.bsp_peers.proofs.turn.send.Goals as goal
 
 pub returns-in-Bytes : goal.returns-in-Bytes

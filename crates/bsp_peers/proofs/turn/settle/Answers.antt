@@ -1,4 +1,4 @@
-use Rattle.bsp_peers.proofs.ServingLemmas.{turns_quiet, turns_whole}
+use Rattle.bsp_peers.proofs.TurnLemmas.{turns_quiet, turns_whole}
 use Rattle.bsp_peers.proofs.turn.settle.Goals as goal
 
 pub returns-then-held : goal.returns-then-held

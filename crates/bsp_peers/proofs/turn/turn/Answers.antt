@@ -1,5 +1,5 @@
 use Rattle.std.proofs.Common.{Some}
-use Rattle.bsp_peers.proofs.ServingLemmas.{turns_asked, turns_on}
+use Rattle.bsp_peers.proofs.TurnLemmas.{turns_asked, turns_on}
 use Rattle.bsp_peers.proofs.turn.turn.Goals as goal
 
 pub receive-requires : goal.receive-requires
@@ -15,7 +15,7 @@ answer-requires g c =
 
 pub returns-in-Some-send : goal.returns-in-Some-send
 returns-in-Some-send g c =
-    let asked = turns_asked g.P.Peers.did g.R.Protocol.steps g.R.Protocol.talks g.R.Protocol.rests c.args.number _ _ _ _ _ c.answer.ensures in
+    let asked = turns_asked g.P.Peers.did g.R.Protocol.steps g.R.Protocol.talks g.R.Protocol.rests c.args.number _ _ _ _ _ c.answer.ensures.asked in
     let last = c.send.new.held.connection in
     let result = Some c.in-Some-send.ending in
     turns_on g.P.Peers.did g.R.Protocol.steps g.R.Protocol.talks g.R.Protocol.rests c.args.number _ _ last result _ _ _ _ _ _ (c.in_default.ensures c.args.desk.now)
@@ -23,7 +23,7 @@ returns-in-Some-send g c =
 
 pub returns : goal.returns
 returns g c =
-    let asked = turns_asked g.P.Peers.did g.R.Protocol.steps g.R.Protocol.talks g.R.Protocol.rests c.args.number _ _ _ _ _ c.answer.ensures in
+    let asked = turns_asked g.P.Peers.did g.R.Protocol.steps g.R.Protocol.talks g.R.Protocol.rests c.args.number _ _ _ _ _ c.answer.ensures.asked in
     turns_on g.P.Peers.did g.R.Protocol.steps g.R.Protocol.talks g.R.Protocol.rests c.args.number _ _ _ _ _ _ _ _ _ _ (c.in_default.ensures c.args.desk.now)
     (turns_on g.P.Peers.did g.R.Protocol.steps g.R.Protocol.talks g.R.Protocol.rests c.args.number _ _ _ _ _ _ _ _ _ _ asked
     (turns_on g.P.Peers.did g.R.Protocol.steps g.R.Protocol.talks g.R.Protocol.rests c.args.number _ _ _ _ _ _ _ _ _ _ (c.in_default-send.ensures c.answer.new.desk) (c.settle.ensures c.answer.new.desk)))
