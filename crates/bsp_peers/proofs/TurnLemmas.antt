@@ -1,7 +1,8 @@
 -- A turn of one connection.
 use Rattle.std.proofs.Common.{◌≡◌, ◌≢◌, ℕ, List, [], ◌∷◌, ◌++◌, Option, Some, None, refl, sym, ◌∙◌, subst, append-nil}
 use Rattle.bsp_peers.specs.Events.{Event}
-use Rattle.bsp_peers.specs.Events.Event.{quiet, got, sent}
+use Rattle.bsp_peers.specs.Events.Event.{quiet, got, sent, closed}
+use Rattle.bsp_peers.specs.Moves.{NotesSent, Reads, Settles, Stays, TakesPiece, Writes}
 use Rattle.bsp_peers.specs.Shares.{Share, share_of}
 use Rattle.bsp_peers.specs.Serving.{Ends, EndsAs, IsAfter, IsOngoing, IsServed, Turns, closed_as}
 use Rattle.bsp_peers.specs.Talks.{HasAsked, HasGot, HasSent, IsSame}
@@ -32,40 +33,64 @@ module _ {P D C X : Type 0} (did : P → Event → P → Type 0) (steps : D → 
     λ j ne. share_push j h.events e h.run ∙ others j ne (share_of j h.events h.run),
   )
 
-  pub turns_quiet : (number : ℕ) (c : C) (p q : P) (d : D) → did p quiet q → Turns did steps talks rests number c c None p q d d
-  turns_quiet number c p q d k = turns_event number c c None p q d quiet k (λ s on. subst (λ (t : Share X). IsOngoing talks rests c t) (sym (spares_quiet number s)) on) (λ j ne. spares_quiet j)
-
-  pub turns_failed : (number : ℕ) (c : C) (p q : P) (d : D) → did p quiet q → Turns did steps talks rests number c c (Some ending.Failed) p q d d
-  turns_failed number c p q d k =
-      turns_event number c c (Some ending.Failed) p q d quiet k (λ s on. ends_now talks rests ending.Failed _ c (subst (λ (t : Share X). IsOngoing talks rests c t) (sym (spares_quiet number s)) on) refl) (λ j ne. spares_quiet j)
-
-  pub turns_whole : (number : ℕ) (c : C) (p : P) (d : D) → rests c → Turns did steps talks rests number c c (Some ending.Whole) p p d d
-  turns_whole number c p d still p0 d0 h on = (h, ends_now talks rests ending.Whole _ c on (refl, still), λ j ne. refl)
-
   pub turns_late : (number : ℕ) (c : C) (p : P) (d : D) → Turns did steps talks rests number c c (Some ending.Late) p p d d
   turns_late number c p d p0 d0 h on = (h, ends_now talks rests ending.Late _ c on refl, λ j ne. refl)
 
-  -- bytes came
-  pub turns_got : (number : ℕ) (piece : List ℕ) (old new : C) (p q : P) (d : D) → did p (got number piece) q → HasGot talks piece old new → Turns did steps talks rests number old new None p q d d
-  turns_got number piece old new p q d k more =
+  turns_quiet : (number : ℕ) (c : C) (p q : P) (d : D) → did p quiet q → Turns did steps talks rests number c c None p q d d
+  turns_quiet number c p q d k = turns_event number c c None p q d quiet k (λ s on. subst (λ (t : Share X). IsOngoing talks rests c t) (sym (spares_quiet number s)) on) (λ j ne. spares_quiet j)
+
+  turns_failed : (number : ℕ) (c : C) (p q : P) (d : D) → did p quiet q → Turns did steps talks rests number c c (Some ending.Failed) p q d d
+  turns_failed number c p q d k =
+      turns_event number c c (Some ending.Failed) p q d quiet k (λ s on. ends_now talks rests ending.Failed _ c (subst (λ (t : Share X). IsOngoing talks rests c t) (sym (spares_quiet number s)) on) refl) (λ j ne. spares_quiet j)
+
+  turns_still : (number : ℕ) (old new : C) (result : Option Ending) (p q : P) (d : D) → did p quiet q → Stays old new result → Turns did steps talks rests number old new result p q d d
+  turns_still number old new None p q d k h = subst (λ (c : C). Turns did steps talks rests number old c None p q d d) (sym h) (turns_quiet number old p q d k)
+  turns_still number old new (Some ending.Failed) p q d k h = subst (λ (c : C). Turns did steps talks rests number old c (Some ending.Failed) p q d d) (sym h) (turns_failed number old p q d k)
+  turns_still number old new (Some ending.Whole) p q d k h = absurd h
+  turns_still number old new (Some ending.Late) p q d k h = absurd h
+  turns_still number old new (Some ending.NoRoom) p q d k h = absurd h
+
+  turns_got : (number : ℕ) (piece : List ℕ) (old new : C) (result : Option Ending) (p q : P) (d : D) → did p (got number piece) q → TakesPiece talks piece old new result → Turns did steps talks rests number old new result p q d d
+  turns_got number piece old new None p q d k more =
       turns_event number old new None p q d (got number piece) k
       (λ s on. subst (λ (t : Share X). IsOngoing talks rests new t) (sym (with_got number piece s)) (more s.got s.asked s.sent on.0, on.1))
       (λ j ne. spares_got j number piece ne)
-
-  -- and there was no memory for them
-  pub turns_lost : (number : ℕ) (piece : List ℕ) (old new : C) (p q : P) (d : D) → did p (got number piece) q → IsSame talks old new → Turns did steps talks rests number old new (Some ending.NoRoom) p q d d
-  turns_lost number piece old new p q d k more =
+  turns_got number piece old new (Some ending.NoRoom) p q d k more =
       turns_event number old new (Some ending.NoRoom) p q d (got number piece) k
       (λ s on. subst (λ (t : Share X). IsServed talks rests (closed_as ending.NoRoom t)) (sym (with_got number piece s))
       (can_end talks rests ending.NoRoom piece s.got _ new refl (more s.got s.asked s.sent on.0) on.1 tt))
       (λ j ne. spares_got j number piece ne)
+  turns_got number piece old new (Some ending.Whole) p q d k more = absurd more
+  turns_got number piece old new (Some ending.Late) p q d k more = absurd more
+  turns_got number piece old new (Some ending.Failed) p q d k more = absurd more
 
-  -- bytes were sent
-  pub turns_sent : (number : ℕ) (piece : List ℕ) (old new : C) (p q : P) (d : D) → did p (sent number piece) q → HasSent talks piece old new → Turns did steps talks rests number old new None p q d d
-  turns_sent number piece old new p q d k more =
+  turns_sent : (number : ℕ) (piece : List ℕ) (old new : C) (result : Option Ending) (p q : P) (d : D) → did p (sent number piece) q → NotesSent talks piece old new result → Turns did steps talks rests number old new result p q d d
+  turns_sent number piece old new None p q d k more =
       turns_event number old new None p q d (sent number piece) k
       (λ s on. subst (λ (t : Share X). IsOngoing talks rests new t) (sym (with_sent number piece s)) (more s.got s.asked s.sent on.0, on.1))
       (λ j ne. spares_sent j number piece ne)
+  turns_sent number piece old new (Some how) p q d k more = absurd more
+
+  -- one read, one write, and what is said at the end of a turn
+  pub turns_read : (number : ℕ) (old new : C) (result : Option Ending) (p q : P) (d : D) (event : Event) → did p event q → Reads talks number event old new result → Turns did steps talks rests number old new result p q d d
+  turns_read number old new result p q d quiet k h = turns_still number old new result p q d k h
+  turns_read number old new result p q d (got n piece) k h = turns_got number piece old new result p q d (subst (λ (i : ℕ). did p (got i piece) q) h.0 k) h.1
+  turns_read number old new result p q d (sent n bytes) k h = absurd h
+  turns_read number old new result p q d (closed n how) k h = absurd h
+
+  pub turns_write : (number : ℕ) (old new : C) (result : Option Ending) (p q : P) (d : D) (event : Event) → did p event q → Writes talks number event old new result → Turns did steps talks rests number old new result p q d d
+  turns_write number old new result p q d quiet k h = turns_still number old new result p q d k h
+  turns_write number old new result p q d (got n piece) k h = absurd h
+  turns_write number old new result p q d (sent n bytes) k h = turns_sent number bytes old new result p q d (subst (λ (i : ℕ). did p (sent i bytes) q) h.0 k) h.1
+  turns_write number old new result p q d (closed n how) k h = absurd h
+
+  pub turns_settled : (number : ℕ) (c : C) (result : Option Ending) (p q : P) (d : D) → Settles did rests p q c result → Turns did steps talks rests number c c result p q d d
+  turns_settled number c None p q d k = turns_quiet number c p q d k
+  turns_settled number c (Some ending.Whole) p q d k =
+      subst (λ (r : P). Turns did steps talks rests number c c (Some ending.Whole) p r d d) (sym k.0) (λ p0 d0 h on. (h, ends_now talks rests ending.Whole _ c on (refl, k.1), λ j ne. refl))
+  turns_settled number c (Some ending.Late) p q d k = absurd k
+  turns_settled number c (Some ending.Failed) p q d k = absurd k
+  turns_settled number c (Some ending.NoRoom) p q d k = absurd k
 
   -- the desk was asked
   pub turns_asked : (number : ℕ) (old new : C) (p : P) (d e : D) → HasAsked talks steps d e old new → Turns did steps talks rests number old new None p p d e

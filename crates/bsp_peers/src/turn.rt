@@ -1,6 +1,8 @@
 //! A turn of one connection: at most one read, one answer and one write.
 
 ghost use Rattle.std.specs.Prelude.{◌≡◌, ◌≤◌, ◌<◌, length, take, List, [], true, false, ◌||◌, not, ◌==◌};
+ghost use Rattle.bsp_peers.specs.Events.{Event};
+ghost use Rattle.bsp_peers.specs.Moves.{Reads, Settles, Writes};
 ghost use Rattle.bsp_peers.specs.Serving.{IsUnderWay, Turns};
 ghost use Rattle.bsp_peers.specs.Talks.{HasAsked, IsTalk};
 
@@ -26,12 +28,29 @@ fn wants_bytes<D, R: Protocol<D>>(held: &Held<R::Connection>, protocol: &R) -> b
         && protocol.output(&held.connection).is_empty()
 }
 
-/// The first bytes.
-fn up_to(room: &[u8], count: usize) -> &[u8]
-    requires { count ≤ length room.now }
-    ensures { result.now ≡ take count room.now }
+/// Reads once. Answers how the connection ends, if it does.
+fn read<P: Peers, D, R: Protocol<D>>(
+    number: u64,
+    held: &mut Held<R::Connection>,
+    room: &mut [u8],
+    peers: &mut P,
+    protocol: &R,
+) -> Option<Ending>
+    requires { IsTalk R.talks held.old.connection }
+    ensures { (event : Event) × P.did peers.old event peers.new × Reads R.talks number event held.old.connection held.new.connection result }
 {
-    &room[..count]
+    match peers.read(number, room) {
+        Moved::Bytes(count) => match protocol.feed(&mut held.connection, &room[..count]) {
+            Ok(()) => None,
+            Err(_) => Some(Ending::NoRoom),
+        },
+        Moved::NotNow => None,
+        Moved::Ended => {
+            held.ended = true;
+            None
+        }
+        Moved::Failed => Some(Ending::Failed),
+    }
 }
 
 /// Reads once, where the next bytes are wanted. Answers how the connection ends, if it does.
@@ -48,18 +67,7 @@ fn receive<P: Peers, D, R: Protocol<D>>(
     if !wants_bytes(held, protocol) {
         return None;
     }
-    match peers.read(number, room) {
-        Moved::Bytes(count) => match protocol.feed(&mut held.connection, up_to(room, count)) {
-            Ok(()) => None,
-            Err(_) => Some(Ending::NoRoom),
-        },
-        Moved::NotNow => None,
-        Moved::Ended => {
-            held.ended = true;
-            None
-        }
-        Moved::Failed => Some(Ending::Failed),
-    }
+    read(number, held, room, peers, protocol)
 }
 
 /// Answers a message at most, and none while much output waits.
@@ -81,6 +89,26 @@ fn is_due<D, R: Protocol<D>>(connection: &R::Connection, protocol: &R) -> bool
     waiting > 0 && (waiting >= WRITE_FROM || !protocol.state(connection).has_more)
 }
 
+/// Writes once. Answers how the connection ends, if it does.
+fn write<P: Peers, D, R: Protocol<D>>(
+    number: u64,
+    connection: &mut R::Connection,
+    peers: &mut P,
+    protocol: &R,
+) -> Option<Ending>
+    ensures { (event : Event) × P.did peers.old event peers.new × Writes R.talks number event connection.old connection.new result }
+{
+    match peers.write(number, protocol.output(connection)) {
+        Moved::Bytes(count) => {
+            protocol.sent(connection, count);
+            None
+        }
+        Moved::NotNow => None,
+        Moved::Ended => Some(Ending::Failed),
+        Moved::Failed => Some(Ending::Failed),
+    }
+}
+
 /// Writes once, where output is due. Answers how the connection ends, if it does.
 fn send<P: Peers, D, R: Protocol<D>>(
     number: u64,
@@ -93,15 +121,7 @@ fn send<P: Peers, D, R: Protocol<D>>(
     if !is_due(&held.connection, protocol) {
         return None;
     }
-    match peers.write(number, protocol.output(&held.connection)) {
-        Moved::Bytes(count) => {
-            protocol.sent(&mut held.connection, count);
-            None
-        }
-        Moved::NotNow => None,
-        Moved::Ended => Some(Ending::Failed),
-        Moved::Failed => Some(Ending::Failed),
-    }
+    write(number, &mut held.connection, peers, protocol)
 }
 
 /// What is waited for, where so many bytes of output wait, by whether the peer sends no more. It is something if and only if
@@ -124,7 +144,7 @@ fn settle<P: Peers, D, R: Protocol<D>>(
     peers: &mut P,
     protocol: &R,
 ) -> Option<Ending>
-    ensures { (d : D) → Turns P.did R.steps R.talks R.rests number held.now.connection held.now.connection result peers.old peers.new d d }
+    ensures { Settles P.did R.rests peers.old peers.new held.now.connection result }
 {
     let state = protocol.state(&held.connection);
     if state.is_done && (state.is_closed || held.ended) {

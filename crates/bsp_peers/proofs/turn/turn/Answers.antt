@@ -1,5 +1,5 @@
 use Rattle.std.proofs.Common.{Some}
-use Rattle.bsp_peers.proofs.TurnLemmas.{turns_asked, turns_on}
+use Rattle.bsp_peers.proofs.TurnLemmas.{turns_asked, turns_on, turns_settled}
 use Rattle.bsp_peers.proofs.turn.turn.Goals as goal
 
 pub receive-requires : goal.receive-requires
@@ -23,7 +23,8 @@ returns-in-Some-send g c =
 
 pub returns : goal.returns
 returns g c =
+    let settled = turns_settled g.P.Peers.did g.R.Protocol.steps g.R.Protocol.talks g.R.Protocol.rests c.args.number c.send.new.held.connection c.settle.result _ _ c.answer.new.desk c.settle.ensures in
     let asked = turns_asked g.P.Peers.did g.R.Protocol.steps g.R.Protocol.talks g.R.Protocol.rests c.args.number _ _ _ _ _ c.answer.ensures.asked in
     turns_on g.P.Peers.did g.R.Protocol.steps g.R.Protocol.talks g.R.Protocol.rests c.args.number _ _ _ _ _ _ _ _ _ _ (c.in_default.ensures c.args.desk.now)
     (turns_on g.P.Peers.did g.R.Protocol.steps g.R.Protocol.talks g.R.Protocol.rests c.args.number _ _ _ _ _ _ _ _ _ _ asked
-    (turns_on g.P.Peers.did g.R.Protocol.steps g.R.Protocol.talks g.R.Protocol.rests c.args.number _ _ _ _ _ _ _ _ _ _ (c.in_default-send.ensures c.answer.new.desk) (c.settle.ensures c.answer.new.desk)))
+    (turns_on g.P.Peers.did g.R.Protocol.steps g.R.Protocol.talks g.R.Protocol.rests c.args.number _ _ _ _ _ _ _ _ _ _ (c.in_default-send.ensures c.answer.new.desk) settled))
