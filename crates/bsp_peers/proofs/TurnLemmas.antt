@@ -5,7 +5,7 @@ use Rattle.bsp_peers.specs.Events.Event.{quiet, got, sent, closed}
 use Rattle.bsp_peers.specs.Moves.{NotesSent, Reads, Settles, Stays, TakesPiece, Writes}
 use Rattle.bsp_peers.specs.Shares.{Share, share_of}
 use Rattle.bsp_peers.specs.Serving.{Ends, EndsAs, IsAfter, IsOngoing, IsServed, Turns, closed_as}
-use Rattle.bsp_peers.specs.Talks.{HasAsked, HasGot, HasSent, IsSame}
+use Rattle.bsp_peers.specs.Talks.{HasAsked}
 use Rattle.bsp_peers.specs.declared.peers.Ending.{Ending}
 use Rattle.bsp_peers.specs.declared.peers.Ending.TheVariants as ending
 use Rattle.bsp_peers.proofs.ShareLemmas.{Spares, asked_more, did_more, share_asked, share_push, share_spared, spares_got, spares_quiet, spares_sent, with_event, with_got, with_sent}
