@@ -5,10 +5,11 @@ use Rattle.std.proofs.lemmas.Fn.{FoldsTo-push}
 use Rattle.std.proofs.lemmas.Grind.{flat_map-append}
 use Rattle.std.proofs.lemmas.List.{flat_map_more, map-append}
 use Rattle.std.specs.List.{FoldsTo, flat_map}
-use Rattle.bsp_peers.specs.Events.{Event, ends_in, got_in, sent_in}
-use Rattle.bsp_peers.specs.Events.Event.{quiet, got, sent, closed}
-use Rattle.bsp_peers.specs.Shares.{Asked, History, Share, asked_in, exchanges, share_of}
+use Rattle.bsp_peers.specs.Events.{Event, ends_in, got_in, happened_in, sent_in}
+use Rattle.bsp_peers.specs.Events.Event.{happened, quiet, got, sent, closed}
+use Rattle.bsp_peers.specs.Shares.{Asked, History, Share, asked_in, exchanges, happenings, share_of}
 use Rattle.bsp_peers.specs.declared.peers.Ending.{Ending}
+use Rattle.bsp_peers.specs.declared.peers.Happened.{Happened}
 
 abbrev pub share : {X : Type 0} → List ℕ → List X → List ℕ → List Ending → Share X
 share g a s e = record { got = g; asked = a; sent = s; ends = e }
@@ -31,12 +32,21 @@ push f xs x = sym (flat_map_more f [] xs x)
 pub share_push : {X : Type 0} (i : ℕ) (es : List Event) (e : Event) (run : List (Asked X)) → share_of i (es ++ e ∷ []) run ≡ with_event i e (share_of i es run)
 share_push i es e run = share_same _ _ _ _ _ _ _ _ (push (got_in i) es e) refl (push (sent_in i) es e) (push (ends_in i) es e)
 
+pub happenings_push : (es : List Event) (e : Event) → happenings (es ++ e ∷ []) ≡ happenings es ++ happened_in e
+happenings_push es e = push happened_in es e
+
+pub happenings_same : (es : List Event) (e : Event) → happened_in e ≡ [] → happenings (es ++ e ∷ []) ≡ happenings es
+happenings_same es e none = happenings_push es e ∙ ap (λ (l : List Happened). happenings es ++ l) none ∙ append-nil (happenings es)
+
 -- in which a connection has no part
 abbrev pub Spares : (X : Type 0) → ℕ → Event → Type 0
 Spares X j e = (s : Share X) → with_event j e s ≡ s
 
 pub spares_quiet : {X : Type 0} (j : ℕ) → Spares X j quiet
 spares_quiet j s = share_same _ _ _ _ _ _ _ _ (append-nil s.got) refl (append-nil s.sent) (append-nil s.ends)
+
+pub spares_happened : {X : Type 0} (j : ℕ) (what : Happened) → Spares X j (happened what)
+spares_happened j what s = share_same _ _ _ _ _ _ _ _ (append-nil s.got) refl (append-nil s.sent) (append-nil s.ends)
 
 pub spares_got : {X : Type 0} (j n : ℕ) (bytes : List ℕ) → j ≢ n → Spares X j (got n bytes)
 spares_got j n bytes ne s = share_same _ _ _ _ _ _ _ _ (ap (λ (b : Bool). s.got ++ (if b then bytes else [])) (ne_eqb j n ne) ∙ append-nil s.got) refl (append-nil s.sent) (append-nil s.ends)

@@ -1,10 +1,13 @@
 -- What is done with peers, and what of it is one connection's.
 use Rattle.std.specs.Prelude.{ℕ, ◌==◌, List, [], ◌∷◌, take, if◌then◌else◌}
 use Rattle.bsp_peers.specs.declared.peers.Ending.{Ending}
+use Rattle.bsp_peers.specs.declared.peers.Happened.{Happened}
 use Rattle.bsp_peers.specs.declared.peers.Moved.{Moved}
 use Rattle.bsp_peers.specs.declared.peers.Moved.TheVariants.{Bytes, NotNow, Ended, Failed}
 
 pub data Event : Type 0 where
+  -- the peers were waited for, and this happened
+  happened : (what : Happened) → Event
   -- nothing was read, written or closed
   quiet : Event
   -- these bytes came on the connection
@@ -29,6 +32,7 @@ write_event number Failed bytes = quiet
 
 -- the bytes that came on a connection
 abbrev pub got_in : ℕ → Event → List ℕ
+got_in i (happened what) = []
 got_in i quiet = []
 got_in i (got number bytes) = if i == number then bytes else []
 got_in i (sent number bytes) = []
@@ -36,6 +40,7 @@ got_in i (closed number how) = []
 
 -- the bytes that were sent on it
 abbrev pub sent_in : ℕ → Event → List ℕ
+sent_in i (happened what) = []
 sent_in i quiet = []
 sent_in i (got number bytes) = []
 sent_in i (sent number bytes) = if i == number then bytes else []
@@ -43,7 +48,16 @@ sent_in i (closed number how) = []
 
 -- how it was closed
 abbrev pub ends_in : ℕ → Event → List Ending
+ends_in i (happened what) = []
 ends_in i quiet = []
 ends_in i (got number bytes) = []
 ends_in i (sent number bytes) = []
 ends_in i (closed number how) = if i == number then how ∷ [] else []
+
+-- what happened
+abbrev pub happened_in : Event → List Happened
+happened_in (happened what) = what ∷ []
+happened_in quiet = []
+happened_in (got number bytes) = []
+happened_in (sent number bytes) = []
+happened_in (closed number how) = []

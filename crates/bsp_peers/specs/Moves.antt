@@ -1,7 +1,7 @@
 -- What one read, one write and the end of a turn do to a connection.
 use Rattle.std.specs.Prelude.{◌≡◌, ℕ, List, Option, Some, None}
 use Rattle.bsp_peers.specs.Events.{Event}
-use Rattle.bsp_peers.specs.Events.Event.{quiet, got, sent, closed}
+use Rattle.bsp_peers.specs.Events.Event.{happened, quiet, got, sent, closed}
 use Rattle.bsp_peers.specs.Talks.{HasGot, HasSent, IsSame}
 use Rattle.bsp_peers.specs.declared.peers.Ending.{Ending}
 use Rattle.bsp_peers.specs.declared.peers.Ending.TheVariants as ending
@@ -31,6 +31,7 @@ Stays old new (Some ending.NoRoom) = ⊥
 module _ {C X : Type 0} (talks : List ℕ → List X → List ℕ → C → Type 0) where
   -- one read of the connection of this number
   abbrev pub Reads : ℕ → Event → C → C → Option Ending → Type 0
+  Reads number (happened what) old new result = ⊥
   Reads number quiet old new result = Stays old new result
   Reads number (got n piece) old new result = (n ≡ number) × TakesPiece talks piece old new result
   Reads number (sent n bytes) old new result = ⊥
@@ -38,6 +39,7 @@ module _ {C X : Type 0} (talks : List ℕ → List X → List ℕ → C → Type
 
   -- one write of it
   abbrev pub Writes : ℕ → Event → C → C → Option Ending → Type 0
+  Writes number (happened what) old new result = ⊥
   Writes number quiet old new result = Stays old new result
   Writes number (got n piece) old new result = ⊥
   Writes number (sent n bytes) old new result = (n ≡ number) × NotesSent talks bytes old new result

@@ -1,8 +1,9 @@
 -- All that was done with peers and asked for them, and what of it is one connection's.
 use Rattle.std.specs.Prelude.{ℕ, ◌==◌, List, [], ◌∷◌, if◌then◌else◌, map}
 use Rattle.std.specs.List.{FoldsTo, flat_map}
-use Rattle.bsp_peers.specs.Events.{Event, ends_in, got_in, sent_in}
+use Rattle.bsp_peers.specs.Events.{Event, ends_in, got_in, happened_in, sent_in}
 use Rattle.bsp_peers.specs.declared.peers.Ending.{Ending}
+use Rattle.bsp_peers.specs.declared.peers.Happened.{Happened}
 
 -- what the desk was asked, and for which connection
 pub record Asked (X : Type 0) : Type 0 where
@@ -14,6 +15,10 @@ exchanges run = map (λ a. a.exchange) run
 
 abbrev pub asked_in : {X : Type 0} → ℕ → Asked X → List X
 asked_in i a = if i == a.by then a.exchange ∷ [] else []
+
+-- what happened at each wait
+abbrev pub happenings : List Event → List Happened
+happenings events = flat_map happened_in events
 
 -- what came on a connection, what the desk was asked for it, what was sent on it, and how it was closed
 pub record Share (X : Type 0) : Type 0 where

@@ -2,7 +2,7 @@
 
 ghost use Rattle.bsp_peers.specs.Bounds.{MovesAtMost};
 ghost use Rattle.bsp_peers.specs.Events.{Event, read_event, write_event};
-ghost use Rattle.bsp_peers.specs.Events.Event.{quiet, closed};
+ghost use Rattle.bsp_peers.specs.Events.Event.{happened, quiet, closed};
 
 /// What happened.
 #[derive(Clone, Copy)]
@@ -65,7 +65,7 @@ pub trait Peers {
 
     /// Waits until something happens.
     fn next(&mut self) -> Happened
-        ensures { Self.did self.old quiet self.new };
+        ensures { Self.did self.old (happened result) self.new };
 
     /// Accepts a connection under this number, if one waits: bytes of its peer are waited for from then on. Answers whether
     /// it did.

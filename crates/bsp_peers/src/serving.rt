@@ -2,7 +2,7 @@
 
 ghost use Rattle.std.specs.Prelude.{◌≡◌, ◌≤◌, ◌<◌, ◌+◌, ◌⊎◌};
 ghost use Rattle.std.specs.BTreeMap.{btree_map_len};
-ghost use Rattle.bsp_peers.specs.Serving.{Goes, IsServing, Served};
+ghost use Rattle.bsp_peers.specs.Serving.{Goes, IsServing, Served, Steps};
 
 use crate::held::{Held, Table};
 use crate::peers::{Ending, Happened, Peers};
@@ -98,7 +98,7 @@ fn step<P: Peers, D, R: Protocol<D>>(
     desk: &mut D,
 ) -> bool
     requires { IsServing P.did R.steps R.talks R.rests peers.old desk.old table.old }
-    ensures goes { Goes P.did R.steps R.talks R.rests peers.old peers.new desk.old desk.new table.old table.new }
+    ensures steps { Steps P.did R.steps R.talks R.rests peers.old peers.new desk.old desk.new table.old table.new result }
     ensures given { table.old.next ≤ limits.in_all → table.new.next ≤ limits.in_all }
 {
     match peers.next() {
@@ -119,8 +119,9 @@ fn step<P: Peers, D, R: Protocol<D>>(
     }
 }
 
-/// Serves connections until as many as `limits` has in all came and are gone, or the peers can be waited for no more.
-/// Answers how many came: they have the numbers below that. Those that are held at the end are dropped.
+/// Serves connections until as many as `limits` has in all came and are gone, or the peers can be waited for no more, or
+/// they were waited for 2^64 - 1 times. Answers how many came: they have the numbers below that. Those that are held at
+/// the end are dropped.
 ///
 /// Each connection that is ready has one turn, whatever the others do: at most one read, one answer and one write. It is
 /// read once no output waits and nothing that came can be answered, and answered while less than 65,536 bytes wait.
@@ -132,7 +133,7 @@ pub fn serve_all<P: Peers, D, R: Protocol<D>>(
     protocol: &R,
     desk: &mut D,
 ) -> u64
-    ensures served { Served P.did R.steps R.talks R.rests peers.old peers.new desk.old desk.new result }
+    ensures served { Served P.did R.steps R.talks R.rests peers.old peers.new desk.old desk.new limits.in_all result }
     ensures within { result ≤ limits.in_all }
 {
     let mut table = Table {

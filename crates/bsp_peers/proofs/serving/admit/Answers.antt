@@ -4,10 +4,10 @@ use Rattle.bsp_peers.proofs.TableLemmas.{goes_new, so_far_quiet, goes_refused, i
 use Rattle.bsp_peers.proofs.serving.admit.Goals as goal
 
 pub returns-then-len-limits-clause-goes : goal.returns-then-len-limits-clause-goes
-returns-then-len-limits-clause-goes g c = λ d p0 d0 h. h
+returns-then-len-limits-clause-goes g c = λ d p0 d0 waits h. h
 
 pub returns-then-not-accept-clause-goes : goal.returns-then-not-accept-clause-goes
-returns-then-not-accept-clause-goes g c = λ d p0 d0 h. so_far_quiet g.P.Peers.did g.R.Protocol.steps g.R.Protocol.talks g.R.Protocol.rests p0 _ _ d0 d c.args.table.now c.accept.ensures h
+returns-then-not-accept-clause-goes g c = λ d p0 d0 waits h. so_far_quiet g.P.Peers.did g.R.Protocol.steps g.R.Protocol.talks g.R.Protocol.rests p0 _ _ d0 d waits c.args.table.now c.accept.ensures h
 
 pub returns-in-Ok-clause-goes : goal.returns-in-Ok-clause-goes
 returns-in-Ok-clause-goes g c =

@@ -1,22 +1,24 @@
-use Rattle.bsp_peers.proofs.TableLemmas.{so_far_quiet}
+use Rattle.std.proofs.Common.{sym}
+use Rattle.std.proofs.lemmas.Bool.{false≢true}
+use Rattle.bsp_peers.proofs.TableLemmas.{so_far_waited}
 use Rattle.bsp_peers.proofs.serving.step.Goals as goal
 
 pub attend-requires : goal.attend-requires
 attend-requires g c =
     let h = c.requires in
-    (h.0, h.1, so_far_quiet g.P.Peers.did g.R.Protocol.steps g.R.Protocol.talks g.R.Protocol.rests h.0 _ _ h.1 _ _ c.next.ensures h.2)
+    (h.0, h.1, _, so_far_waited g.P.Peers.did g.R.Protocol.steps g.R.Protocol.talks g.R.Protocol.rests h.0 _ _ h.1 _ h.2 c.args.table.now c.next.result c.next.ensures h.3)
 
-pub returns-in-Nothing-clause-goes : goal.returns-in-Nothing-clause-goes
-returns-in-Nothing-clause-goes g c p0 d0 h = so_far_quiet g.P.Peers.did g.R.Protocol.steps g.R.Protocol.talks g.R.Protocol.rests p0 _ _ d0 _ _ c.next.ensures h
+pub returns-in-Nothing-clause-steps : goal.returns-in-Nothing-clause-steps
+returns-in-Nothing-clause-steps g c = (c.next.result, λ p0 d0 waits h. so_far_waited g.P.Peers.did g.R.Protocol.steps g.R.Protocol.talks g.R.Protocol.rests p0 _ _ d0 _ waits c.args.table.now c.next.result c.next.ensures h, λ stops. absurd (false≢true (sym stops)))
 
-pub returns-in-Arrival-clause-goes : goal.returns-in-Arrival-clause-goes
-returns-in-Arrival-clause-goes g c p0 d0 h = c.admit.ensures.goes _ p0 d0 (so_far_quiet g.P.Peers.did g.R.Protocol.steps g.R.Protocol.talks g.R.Protocol.rests p0 _ _ d0 _ _ c.next.ensures h)
+pub returns-in-Arrival-clause-steps : goal.returns-in-Arrival-clause-steps
+returns-in-Arrival-clause-steps g c = (c.next.result, λ p0 d0 waits h. c.admit.ensures.goes _ p0 d0 _ (so_far_waited g.P.Peers.did g.R.Protocol.steps g.R.Protocol.talks g.R.Protocol.rests p0 _ _ d0 _ waits c.args.table.now c.next.result c.next.ensures h), λ stops. absurd (false≢true (sym stops)))
 
-pub returns-in-Ready-clause-goes : goal.returns-in-Ready-clause-goes
-returns-in-Ready-clause-goes g c p0 d0 h = c.attend.ensures.goes p0 d0 (so_far_quiet g.P.Peers.did g.R.Protocol.steps g.R.Protocol.talks g.R.Protocol.rests p0 _ _ d0 _ _ c.next.ensures h)
+pub returns-in-Ready-clause-steps : goal.returns-in-Ready-clause-steps
+returns-in-Ready-clause-steps g c = (c.next.result, λ p0 d0 waits h. c.attend.ensures.goes p0 d0 _ (so_far_waited g.P.Peers.did g.R.Protocol.steps g.R.Protocol.talks g.R.Protocol.rests p0 _ _ d0 _ waits c.args.table.now c.next.result c.next.ensures h), λ stops. absurd (false≢true (sym stops)))
 
-pub returns-in-Late-clause-goes : goal.returns-in-Late-clause-goes
-returns-in-Late-clause-goes g c p0 d0 h = c.drop_late.ensures.goes _ p0 d0 (so_far_quiet g.P.Peers.did g.R.Protocol.steps g.R.Protocol.talks g.R.Protocol.rests p0 _ _ d0 _ _ c.next.ensures h)
+pub returns-in-Late-clause-steps : goal.returns-in-Late-clause-steps
+returns-in-Late-clause-steps g c = (c.next.result, λ p0 d0 waits h. c.drop_late.ensures.goes _ p0 d0 _ (so_far_waited g.P.Peers.did g.R.Protocol.steps g.R.Protocol.talks g.R.Protocol.rests p0 _ _ d0 _ waits c.args.table.now c.next.result c.next.ensures h), λ stops. absurd (false≢true (sym stops)))
 
-pub returns-in-Stop-clause-goes : goal.returns-in-Stop-clause-goes
-returns-in-Stop-clause-goes g c p0 d0 h = so_far_quiet g.P.Peers.did g.R.Protocol.steps g.R.Protocol.talks g.R.Protocol.rests p0 _ _ d0 _ _ c.next.ensures h
+pub returns-in-Stop-clause-steps : goal.returns-in-Stop-clause-steps
+returns-in-Stop-clause-steps g c = (c.next.result, λ p0 d0 waits h. so_far_waited g.P.Peers.did g.R.Protocol.steps g.R.Protocol.talks g.R.Protocol.rests p0 _ _ d0 _ waits c.args.table.now c.next.result c.next.ensures h, λ stops. c.in-Stop.is)
