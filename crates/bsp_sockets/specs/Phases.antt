@@ -1,0 +1,23 @@
+-- What of a connection has a time.
+use Rattle.std.specs.Prelude.{◌≡◌, false, Option, None}
+use Rattle.bsp_peers.specs.declared.peers.Awaited.{Awaited}
+use Rattle.bsp_sockets.specs.declared.phase.Begun.{Begun}
+use Rattle.bsp_sockets.specs.declared.phase.Unread.{Unread}
+use Rattle.bsp_sockets.specs.declared.phase.Phase.{Phase}
+use Rattle.bsp_sockets.specs.declared.phase.Phase.TheVariants.{Resting, Busy, Leaving}
+
+-- the message that is begun
+abbrev pub message_of : Phase → Option Begun
+message_of (Resting since) = None
+message_of (Busy message output) = message
+message_of (Leaving since) = None
+
+-- the output that waits
+abbrev pub output_of : Phase → Option Unread
+output_of (Resting since) = None
+output_of (Busy message output) = output
+output_of (Leaving since) = None
+
+-- no message is begun, no output waits, and no turn comes again
+abbrev pub IsBetween : Awaited → Type 0
+IsBetween awaited = (awaited.message ≡ None) × (awaited.writes ≡ false) × (awaited.again ≡ false)

@@ -1,0 +1,292 @@
+//! The sockets of a server.
+
+use crate::connections::Connections;
+use crate::door::{Door, LISTENER};
+use crate::limits::{Limits, earlier};
+use bsp_peers::{Awaited, Ending, Happened, Moved, Peers};
+use mio::net::TcpListener;
+use mio::{Events, Interest, Poll, Token};
+use std::alloc::Global;
+use std::io;
+use std::net::{Net, SocketAddr};
+use std::time::{Clock, Duration, Instant};
+
+/// The events that are taken at once.
+const EVENTS: usize = 256;
+
+/// The most connections at once.
+const MOST: usize = 10_000;
+
+/// The seconds in which what a peer sends is dropped after the end, where messages have no time.
+const LINGERING: u64 = 5;
+
+/// How many connections there are at once, and how long they are waited for.
+#[derive(Clone, Copy)]
+pub struct Settings {
+    /// The most connections at once, 1 to 10,000: 0 counts as 1, and more as 10,000.
+    pub at_once: usize,
+    /// How long a message may take from its first byte to its last, and a peer for each 65,536 bytes that it is sent;
+    /// none: without end.
+    pub timeout: Option<Duration>,
+    /// How long a connection may be between messages; none: without end.
+    pub idle: Option<Duration>,
+}
+
+/// A listener and its connections, in one thread.
+///
+/// Turns: the connections that are ready are in a queue, first in first out, and one whose turn comes again is put at
+/// its end. Between two rounds the system is asked which others are ready.
+///
+/// Times: a connection is late where a message is begun and not whole after [`Settings::timeout`], a peer takes fewer
+/// than 65,536 bytes and not all within it, or nothing comes for [`Settings::idle`] between messages.
+///
+/// Places: while there are [`Settings::at_once`] connections, no other is accepted. Where peers wait then, one that is
+/// closed and whose peer did not end gives its place, or else the connection that has been between messages longest,
+/// for a second at least and where there is more than one place.
+///
+/// The end: a connection that is closed as whole is shut down for writing, and what its peer sends is dropped until the
+/// peer ends, but for [`Settings::timeout`] at most, or 5 seconds. Otherwise a connection that is closed with bytes
+/// unread is reset, and the last response may be lost (RFC 9112, 9.6).
+#[derive(Drop)]
+pub struct Sockets<'c, C> {
+    clock: &'c C,
+    at_once: usize,
+    limits: Limits,
+    poll: Poll,
+    events: Events,
+    door: Door,
+    connections: Connections,
+    // When the last wait ended: what came before then has had its turn.
+    waited: Instant,
+}
+
+/// How long connections may do what they do by these settings.
+fn limits_of(settings: Settings) -> Limits {
+    let lingering = settings.timeout.unwrap_or(Duration::from_secs(LINGERING));
+    Limits {
+        resting: settings.idle,
+        busy: settings.timeout,
+        leaving: Some(lingering),
+    }
+}
+
+impl<'c, C: Clock + Net> Sockets<'c, C> {
+    /// The connections of a listener whose `accept` does not wait.
+    fn of(
+        alloc: Global,
+        host: &'c C,
+        listener: TcpListener,
+        settings: Settings,
+    ) -> io::Result<Sockets<'c, C>> {
+        let waited = Instant::now(host)?;
+        let events = Events::with_capacity(alloc, EVENTS)?;
+        let poll = Poll::new(host)?;
+        let door = Door::new(listener, poll.registry())?;
+        Ok(Sockets {
+            clock: host,
+            at_once: settings.at_once.clamp(1, MOST),
+            limits: limits_of(settings),
+            poll,
+            events,
+            door,
+            connections: Connections::new(alloc),
+            waited,
+        })
+    }
+
+    /// The connections of this listener. Its `accept` no longer waits, whoever calls it.
+    ///
+    /// # Errors
+    ///
+    /// Of the system, and where an allocation was refused.
+    pub fn new(
+        alloc: Global,
+        host: &'c C,
+        listener: std::net::TcpListener,
+        settings: Settings,
+    ) -> io::Result<Sockets<'c, C>> {
+        listener.set_nonblocking(true)?;
+        Sockets::of(alloc, host, TcpListener::from_std(listener), settings)
+    }
+
+    /// The connections of a listener at this address; port 0 is one that the system chooses.
+    ///
+    /// # Errors
+    ///
+    /// Of the system, as where the port is taken, and where an allocation was refused.
+    pub fn listen(
+        alloc: Global,
+        host: &'c C,
+        address: SocketAddr,
+        settings: Settings,
+    ) -> io::Result<Sockets<'c, C>> {
+        let listener = TcpListener::bind(host, address)?;
+        Sockets::of(alloc, host, listener, settings)
+    }
+}
+
+impl<C: Clock> Sockets<'_, C> {
+    /// Where the listener listens.
+    ///
+    /// # Errors
+    ///
+    /// Of the system.
+    pub fn address(&self) -> io::Result<SocketAddr> {
+        self.door.address()
+    }
+
+    /// Drops all connections but those that are closed, and waits until the peers of these end, or their time is over.
+    pub fn finish(&mut self) {
+        self.connections.keep_leaving();
+        for _ in 0..u64::MAX {
+            if self.connections.count() == 0 {
+                return;
+            }
+            if let Happened::Stop = self.next() {
+                return;
+            }
+        }
+    }
+
+    /// The time, or where the clock fails the time of the last wait.
+    fn now(&self) -> Instant {
+        Instant::now(self.clock).unwrap_or(self.waited)
+    }
+
+    /// Whether one more connection has a place.
+    fn has_place(&self) -> bool {
+        self.connections.count() < self.at_once
+    }
+
+    /// The connection that gives its place to a peer that waits.
+    fn gives_place(&self) -> Option<u64> {
+        if self.has_place() || !self.door.is_waited_at() {
+            return None;
+        }
+        let times = &self.connections.times;
+        match times.first_leaving() {
+            Some(number) => Some(number),
+            None if self.at_once > 1 => times.first_resting(self.waited),
+            None => None,
+        }
+    }
+
+    /// The connection whose time is over, or that gives its place.
+    fn over(&self) -> Option<u64> {
+        match self.connections.times.over(self.limits, self.waited) {
+            Some(number) => Some(number),
+            None => self.gives_place(),
+        }
+    }
+
+    /// When a peer that waits may be accepted.
+    fn next_arrival(&self) -> Option<Instant> {
+        if self.has_place() {
+            return self.door.opens();
+        }
+        if self.at_once > 1 && self.door.is_waited_at() {
+            return self.connections.times.rest_end();
+        }
+        None
+    }
+
+    /// How long nothing is to be done if nothing comes; none: without end.
+    fn patience(&self) -> Option<Duration> {
+        let is_due = self.has_place() && self.door.is_open(self.waited);
+        if is_due || !self.connections.turns.is_empty() {
+            return Some(Duration::ZERO);
+        }
+        let end = earlier(self.connections.times.end(self.limits), self.next_arrival())?;
+        Some(end.duration_since(self.now()))
+    }
+
+    /// Notes what the system reported.
+    fn note(&mut self) {
+        for event in self.events.iter() {
+            let token = event.token().0;
+            if token == LISTENER {
+                self.door.note();
+            } else {
+                self.connections.queue(self.poll.registry(), token as u64);
+            }
+        }
+    }
+
+    /// Waits, and begins a round.
+    fn wait(&mut self) -> io::Result<()> {
+        if self.connections.take_dropped() {
+            self.door.reopen();
+        }
+        let patience = self.patience();
+        self.poll.poll(&mut self.events, patience)?;
+        self.waited = Instant::now(self.clock)?;
+        self.note();
+        self.connections.turns.begin_round();
+        self.door.begin_round();
+        Ok(())
+    }
+}
+
+impl<C: Clock> Peers for Sockets<'_, C> {
+    ghost did = { λ _ _ _. Unit {0} };
+
+    fn next(&mut self) -> Happened {
+        if let Some(number) = self.connections.turns.take() {
+            return self.connections.turn(self.poll.registry(), number);
+        }
+        if self.has_place() && self.door.take(self.waited) {
+            return Happened::Arrival;
+        }
+        if let Some(number) = self.over() {
+            return self.connections.end(number);
+        }
+        match self.wait() {
+            Ok(()) => Happened::Nothing,
+            Err(_) => Happened::Stop,
+        }
+    }
+
+    fn accept(&mut self, number: u64) -> bool {
+        let now = self.now();
+        let registry = self.poll.registry();
+        let has_places = self.connections.count() + 1 < self.at_once;
+        let Some(mut stream) = self.door.accept(registry, has_places, now) else {
+            return false;
+        };
+        let _ = stream.set_nodelay(true);
+        let token = Token(number as usize);
+        let registered = registry.register(&mut stream, token, Interest::READABLE);
+        registered.is_ok() && self.connections.add(number, stream, now)
+    }
+
+    fn read(&mut self, number: u64, room: &mut [u8]) -> Moved {
+        match self.connections.streams.get_mut(&number) {
+            Some(watched) => watched.read(room),
+            None => Moved::Failed,
+        }
+    }
+
+    fn write(&mut self, number: u64, bytes: &[u8]) -> Moved {
+        match self.connections.streams.get_mut(&number) {
+            Some(watched) => watched.write(bytes),
+            None => Moved::Failed,
+        }
+    }
+
+    fn watch(&mut self, number: u64, awaited: Awaited) {
+        let now = self.now();
+        self.connections
+            .watch(self.poll.registry(), number, awaited, now);
+    }
+
+    fn close(&mut self, number: u64, ending: Ending) {
+        let now = self.now();
+        let is_left = match ending {
+            Ending::Whole => self.connections.leave(self.poll.registry(), number, now),
+            Ending::Late | Ending::Failed | Ending::NoRoom => false,
+        };
+        if !is_left {
+            self.connections.remove(number);
+        }
+    }
+}
