@@ -1,5 +1,7 @@
 //! The listener, and whether peers wait to be accepted.
 
+ghost use Rattle.std.specs.Prelude.{◌≡◌, ◌≢◌, ◌+◌, ◌<◌, true, false};
+
 use crate::limits::{end_of, is_over};
 use mio::net::{TcpListener, TcpStream};
 use mio::{Interest, Registry, Token};
@@ -37,7 +39,10 @@ pub(crate) struct Door {
 }
 
 /// Whether peers wait after an accept that failed so.
-fn waiting_after(kind: ErrorKind, now: Instant) -> Waiting {
+fn waiting_after(kind: ErrorKind, now: Instant) -> Waiting
+    ensures none { kind ≡ ErrorKind.WouldBlock → result ≡ Waiting.None }
+    ensures refused { kind ≢ ErrorKind.WouldBlock → kind ≢ ErrorKind.Interrupted → kind ≢ ErrorKind.ConnectionAborted → result ≡ Waiting.Refused now }
+{
     match kind {
         ErrorKind::WouldBlock => Waiting::None,
         ErrorKind::Interrupted | ErrorKind::ConnectionAborted => Waiting::Some,
@@ -92,7 +97,10 @@ impl Door {
     }
 
     /// Whether a peer is to be accepted now. What more there are, the accept or the system reports.
-    pub(crate) fn take(&mut self, now: Instant) -> bool {
+    pub(crate) fn take(&mut self, now: Instant) -> bool
+        ensures taken { result ≡ true → (0 < self.old.left) × (self.new.left + 1 ≡ self.old.left) × (self.new.waiting ≡ Waiting.None) }
+        ensures same { result ≡ false → self.new ≡ self.old }
+    {
         if self.left == 0 || !self.is_open(now) {
             return false;
         }

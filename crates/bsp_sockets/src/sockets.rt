@@ -11,9 +11,6 @@ use std::io;
 use std::net::{Net, SocketAddr};
 use std::time::{Clock, Duration, Instant};
 
-/// The events that are taken at once.
-const EVENTS: usize = 256;
-
 /// The most connections at once.
 const MOST: usize = 10_000;
 
@@ -78,13 +75,15 @@ impl<'c, C: Clock + Net> Sockets<'c, C> {
         listener: TcpListener,
         settings: Settings,
     ) -> io::Result<Sockets<'c, C>> {
+        let at_once = settings.at_once.clamp(1, MOST);
         let waited = Instant::now(host)?;
-        let events = Events::with_capacity(alloc, EVENTS)?;
+        // room for each connection and the listener, so that no time is over of one that is ready and not reported
+        let events = Events::with_capacity(alloc, at_once + 1)?;
         let poll = Poll::new(host)?;
         let door = Door::new(listener, poll.registry())?;
         Ok(Sockets {
             clock: host,
-            at_once: settings.at_once.clamp(1, MOST),
+            at_once,
             limits: limits_of(settings),
             poll,
             events,
