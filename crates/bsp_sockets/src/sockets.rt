@@ -74,7 +74,7 @@ impl<'c, C: Clock + Net> Sockets<'c, C> {
         host: &'c C,
         listener: TcpListener,
         settings: Settings,
-    ) -> io::Result<Sockets<'c, C>> {
+    ) -> Result<Sockets<'c, C>, io::Error> {
         let at_once = settings.at_once.clamp(1, MOST);
         let waited = Instant::now(host)?;
         // room for each connection and the listener, so that no time is over of one that is ready and not reported
@@ -103,7 +103,7 @@ impl<'c, C: Clock + Net> Sockets<'c, C> {
         host: &'c C,
         listener: std::net::TcpListener,
         settings: Settings,
-    ) -> io::Result<Sockets<'c, C>> {
+    ) -> Result<Sockets<'c, C>, io::Error> {
         listener.set_nonblocking(true)?;
         Sockets::of(alloc, host, TcpListener::from_std(listener), settings)
     }
@@ -118,7 +118,7 @@ impl<'c, C: Clock + Net> Sockets<'c, C> {
         host: &'c C,
         address: SocketAddr,
         settings: Settings,
-    ) -> io::Result<Sockets<'c, C>> {
+    ) -> Result<Sockets<'c, C>, io::Error> {
         let listener = TcpListener::bind(host, address)?;
         Sockets::of(alloc, host, listener, settings)
     }
@@ -130,7 +130,7 @@ impl<C: Clock> Sockets<'_, C> {
     /// # Errors
     ///
     /// Of the system.
-    pub fn address(&self) -> io::Result<SocketAddr> {
+    pub fn address(&self) -> Result<SocketAddr, io::Error> {
         self.door.address()
     }
 
