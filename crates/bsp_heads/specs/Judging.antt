@@ -3,6 +3,7 @@ use Rattle.std.specs.Prelude.{ℕ, Bool, ◌&&◌, ◌||◌, not, List, length, 
 use Rattle.std.specs.List.{list_any}
 use Rattle.std.specs.Cmp.Lexicographic.{pointwise}
 use Rattle.bsp_heads.specs.Fields.{Header, values, is_close, is_expect}
+use Rattle.bsp_heads.specs.Hosts.{are_hosts}
 use Rattle.bsp_heads.specs.Lengths.{framed}
 use Rattle.bsp_heads.specs.declared.parts.Wanted.{Wanted}
 use Rattle.bsp_heads.specs.declared.fault.HeadFault.{HeadFault}
@@ -15,7 +16,7 @@ is_method name method = pointwise (λ a b. a == b) method name
 -- the first fault that applies, or the body's length
 abbrev pub body_of : ℕ → List ℕ → List Header → Result ℕ HeadFault
 body_of minor method headers =
-    if minor == 1 && not (length (values (codes "host") headers) == 1) then Err Malformed
+    if not (are_hosts minor (values (codes "host") headers)) then Err Malformed
     else if not (length (values (codes "transfer-encoding") headers) == 0) then Err TransferCoding
     else framed (is_method (codes "POST") method) (values (codes "content-length") headers)
 

@@ -3,10 +3,12 @@ ghost use Rattle.std.specs.Prelude.{◌≡◌, ℕ, ◌≤◌, List, [], ◌∷�
 ghost use Rattle.std.specs.List.{list_any};
 ghost use Rattle.httparse.specs.Spans.{header_bytes, span_bytes, IsHeaderWithin, IsWithin};
 ghost use Rattle.bsp_heads.specs.Fields.{values, is_close, is_expect};
+ghost use Rattle.bsp_heads.specs.Hosts.{are_hosts};
 ghost use Rattle.bsp_heads.specs.Lengths.{framed};
 ghost use Rattle.bsp_heads.specs.Judging.{is_method, body_of, wanted, judge};
 
 use crate::fields::{find_all, has_close, has_expect};
+use crate::host::are_hosts;
 use crate::length::frame;
 use crate::{HeadFault, Wanted};
 use httparse::spans::HeaderSpan;
@@ -29,7 +31,7 @@ fn find_length(
     ensures { result ≡ body_of minor method.now (map (header_bytes text.now) headers.now) }
 {
     let hosts = find_all(text, headers, b"host");
-    if minor == 1 && hosts.count != 1 {
+    if !are_hosts(minor, hosts.count, hosts.last.of(text)) {
         return Err(HeadFault::Malformed);
     }
     let codings = find_all(text, headers, b"transfer-encoding");

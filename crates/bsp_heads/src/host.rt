@@ -1,0 +1,116 @@
+//! The field `Host` of a request (RFC 9110, 7.2; RFC 9112, 3.2), whose value is a host and its port (RFC 3986, 3.2.2 and 3.2.3).
+ghost use Rattle.std.specs.Prelude.{◌≡◌, ℕ, List, [], ◌∷◌, length};
+ghost use Rattle.std.specs.List.{list_all};
+ghost use Rattle.std.specs.Char.{is_ascii_digit, is_ascii_hexdigit};
+ghost use Rattle.bsp_heads.specs.Hosts.{is_name_byte, begins_with_hex, is_name, is_filled, is_address_byte, is_later_byte, is_versioned, is_literal, is_bare_host, is_host, are_hosts};
+
+use memchr::{memchr, memrchr};
+
+fn is_name_byte(b: u8) -> bool
+    ensures { result ≡ is_name_byte b }
+{
+    b.is_ascii_alphanumeric() || b"-._~!$&'()*+,;=".contains(&b)
+}
+
+fn begins_with_hex(text: &[u8]) -> bool
+    ensures { result ≡ begins_with_hex text.now }
+{
+    match text {
+        [high, low, ..] => high.is_ascii_hexdigit() && low.is_ascii_hexdigit(),
+        _ => false,
+    }
+}
+
+/// Whether the text is a registered name.
+fn is_name(text: &[u8]) -> bool
+    ensures { result ≡ is_name text.now }
+{
+    text.iter().all(|b| *b == b'%' || is_name_byte(*b))
+        && text.split(|b| *b == b'%').skip(1).all(begins_with_hex)
+}
+
+fn is_address_byte(b: u8) -> bool
+    ensures { result ≡ is_address_byte b }
+{
+    b.is_ascii_hexdigit() || b == b':' || b == b'.'
+}
+
+fn is_later_byte(b: u8) -> bool
+    ensures { result ≡ is_later_byte b }
+{
+    is_name_byte(b) || b == b':'
+}
+
+/// Whether the text is an address of version 6, by its characters.
+fn is_address(text: &[u8]) -> bool
+    ensures { result ≡ is_filled is_address_byte text.now }
+{
+    !text.is_empty() && text.iter().all(|b| is_address_byte(*b))
+}
+
+fn is_version(text: &[u8]) -> bool
+    ensures { result ≡ is_filled is_ascii_hexdigit text.now }
+{
+    !text.is_empty() && text.iter().all(|b| b.is_ascii_hexdigit())
+}
+
+fn is_of_version(text: &[u8]) -> bool
+    ensures { result ≡ is_filled is_later_byte text.now }
+{
+    !text.is_empty() && text.iter().all(|b| is_later_byte(*b))
+}
+
+fn is_port(text: &[u8]) -> bool
+    ensures { result ≡ list_all is_ascii_digit text.now }
+{
+    text.iter().all(|b| b.is_ascii_digit())
+}
+
+/// Whether the text is a version and its address.
+fn is_versioned(text: &[u8]) -> bool
+    ensures { result ≡ is_versioned text.now }
+{
+    match memchr(b'.', text) {
+        Some(dot) => is_version(&text[..dot]) && is_of_version(&text[dot + 1..]),
+        None => false,
+    }
+}
+
+/// Whether the text is an address in brackets.
+fn is_literal(text: &[u8]) -> bool
+    ensures { result ≡ is_literal text.now }
+{
+    match text {
+        [b'[', b'v' | b'V', inner @ .., b']'] => is_versioned(inner),
+        [b'[', inner @ .., b']'] => is_address(inner),
+        _ => false,
+    }
+}
+
+fn is_bare_host(text: &[u8]) -> bool
+    ensures { result ≡ is_bare_host text.now }
+{
+    is_literal(text) || is_name(text)
+}
+
+/// Whether the text is a host, with a port or without.
+fn is_host(value: &[u8]) -> bool
+    ensures { result ≡ is_host value.now }
+{
+    is_bare_host(value)
+        || match memrchr(b':', value) {
+            Some(colon) => is_bare_host(&value[..colon]) && is_port(&value[colon + 1..]),
+            None => false,
+        }
+}
+
+/// Whether the `Host` fields are as HTTP/1.`minor` asks, by how many there are and the value of the last one.
+pub(crate) fn are_hosts(minor: u8, count: usize, value: &[u8]) -> bool
+    ensures { (values : List (List ℕ)) → length values ≡ count → ((one : List ℕ) → values ≡ one ∷ [] → value.now ≡ one) → result ≡ are_hosts minor values }
+{
+    match count {
+        0 => minor != 1,
+        1 => is_host(value),
+        _ => false,
+    }
+}
