@@ -26,7 +26,10 @@ fn is_name(text: &[u8]) -> bool
     ensures { result ≡ is_name text.now }
 {
     text.iter().all(|b| *b == b'%' || is_name_byte(*b))
-        && text.split(|b| *b == b'%').skip(1).all(begins_with_hex)
+        && text
+            .split(|b| *b == b'%')
+            .skip(1)
+            .all(|part| begins_with_hex(part))
 }
 
 fn is_address_byte(b: u8) -> bool
