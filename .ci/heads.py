@@ -69,9 +69,19 @@ NO_HEADS = [head("GET /x HTTP/2.0", HOST), head("GET  /x", HOST), head(GET, "Hos
             b"GET /x\r\nHost: a\r\n\r\n", b"no head\r\n\r\n", head(" /x", HOST), head("GET /office/settlement/ 24011", HOST),
             head("GET /agents/\x7f/stock", HOST), b"GET /\xff HTTP/1.1\r\nHost: a\r\n\r\n"]
 
+# values of Host: those that are no host, and those that are one, with a port or without
+NO_HOSTS = ["a b", "a\tb", "a@b", "u:p@a", "a/b", "a/", "http://a", "a?b", "a#b", "a\\b", '"a"', "a|b", "M\xfcller", "a:b",
+            "a:80x", "a:-1", "a:1:2", "a::1", "::1", "%", "a%", "%4", "%4g", "%g4", "%%41", "[", "[]", "[]:80", "[::1",
+            "::1]", "[::1]80", "[::1]:x", "a[::1]", "[g::1]", "[::1%251]", "[[::1]]", "[v]", "[v1]", "[v1.]", "[v.a]",
+            "[vg.a]", "[v1.a@b]", "[w1.a]"]
+HOSTS = ["", "bsp", "BSP.example:", "bsp:8080", ":80", ":", "10.0.0.5:65536", "a_b", "a%20b", "%C3%bc:1", "-._~!$&'()*+,;=",
+         "0:0", "\t bsp \t", "[::1]", "[::]:", "[2001:DB8::a]:443", "[::ffff:10.0.0.5]", "[v1F.a:~]:1", "[VA.(:)]"]
+
 # heads that are refused, behind the code, the last ones for the first of several faults: to a HEAD without the text
 REFUSED = [
-    ("T01", GET), ("T01", HEAD), ("T01", GET, HOST, "host: a"), ("T01", HEAD, HOST, HOST),
+    ("T01", GET), ("T01", HEAD), ("T01", GET, HOST, "host: a"), ("T01", HEAD, HOST, HOST), ("T01", OLD_GET, HOST, "Host: b"),
+    *(("T01", GET, f"Host: {it}") for it in NO_HOSTS), ("T01", OLD_GET, "Host: a b"), ("T01", HEAD, "Host: a@b"),
+    ("T01", OLD_POST, HOST, HOST, CHUNKED), ("T01", POST, "Host: a b", CHUNKED), ("T01", POST, "Host: a b", LONGER),
     ("T01", POST, HOST, "Content-Length:"), ("T01", POST, HOST, "Content-Length: +5"),
     ("T01", POST, HOST, "Content-Length: 5, 5"), ("T01", POST, HOST, WRONG), ("T01", POST, HOST, FIVE, FIVE),
     ("T02", POST, HOST), ("T02", "POST /office/day", HOST), ("T02", OLD_POST), ("T03", POST, HOST, LONGER),
@@ -94,7 +104,8 @@ ANSWERED = [
         ("get /office/settlement/24011", "GET"), ("PUT /office/day", "POST"), ("DELETE /airlines/125/memos", "GET, POST"))),
     *((head(f"HEAD {path}", HOST, CLOSE), refusal("N03", f"Allow: {methods}", CLOSE, bare=True)) for path, methods in (
         ("/office/settlement/24011", "GET"), ("/office/day", "POST"), ("/airlines/125/memos", "GET, POST"))),
-    (head(OLD_GET), CLOSING), (head(OLD_GET, HOST, "Host: b", "Connection: keep-alive"), CLOSING),
+    *((head(GET, f"Host: {it}"), NO_ROUTE) for it in HOSTS), (head(OLD_GET, "Host: [::1]:80"), CLOSING),
+    (head(OLD_GET), CLOSING), (head(OLD_GET, HOST, "Connection: keep-alive"), CLOSING),
     (head(GET, HOST, CLOSE), CLOSING), (head(GET, HOST, "CONNECTION: keep-alive ,\tCLOSE "), CLOSING),
     (head(GET, HOST, "Connection: x", "Connection: ,close,"), CLOSING), (head(GET, HOST, "Keep: close"), NO_ROUTE),
     (head(GET, HOST, "Connection: closed, clos, close x"), NO_ROUTE),

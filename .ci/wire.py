@@ -64,6 +64,8 @@ REFUSED = [
     ("GET /x HTTP/1.1", "400 Bad Request", "T01"),
     ("GET /x", "400 Bad Request", "T01"),
     ("GET /x HTTP/1.1\r\nHost: bsp\r\nHost: bsp", "400 Bad Request", "T01"),
+    ("GET /x HTTP/1.0\r\nHost: bsp\r\nHost: bsp", "400 Bad Request", "T01"),
+    ("GET /x HTTP/1.1\r\nHost: office@bsp", "400 Bad Request", "T01"),
     ("POST /office/day HTTP/1.1\r\nHost: bsp\r\nContent-Length: 1\r\nContent-Length: 1", "400 Bad Request", "T01"),
     ("POST /office/day HTTP/1.1\r\nHost: bsp\r\nContent-Length: +1", "400 Bad Request", "T01"),
     ("POST /x HTTP/1.1\r\nHost: bsp", "411 Length Required", "T02"),

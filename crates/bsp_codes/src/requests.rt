@@ -75,7 +75,7 @@ pub(crate) const HEADS: [Row; 5] = [
     (
         "T01",
         "400",
-        "The head is no head of an HTTP/1.1 request. Or there is not exactly one `Host`, or `Content-Length` comes twice, is empty or is no number",
+        "The head is no head of an HTTP/1.1 request. Or there is not exactly one `Host`, or its value is no host. Or `Content-Length` comes twice, is empty or is no number",
         "Send it with an HTTP client, such as `curl`. An address begins with `http://`",
         &[],
     ),

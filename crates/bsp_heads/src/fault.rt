@@ -2,13 +2,13 @@
 
 /// Why a head is refused. After each of them the connection closes.
 ///
-/// The first that applies is answered. The order is: too large, malformed (no head, or not one
+/// The first that applies is answered. The order is: too large, malformed (no head, or a fault of
 /// `Host`), a transfer coding, and a length that is malformed, missing or too large.
 #[derive(Clone, Copy, PartialEq, Eq)]
 pub enum HeadFault {
-    /// The text is no head of a request, or an HTTP/1.1 head has not exactly one `Host` (RFC 9112,
-    /// 3.2). Or the head's `Content-Length` comes twice or is not made of digits (RFC 9110, 8.6).
-    /// Status 400, T01.
+    /// The text is no head of a request. Or it has several `Host` fields, one whose value is no host,
+    /// or none on HTTP/1.1 (RFC 9112, 3.2). Or its `Content-Length` comes twice or is not made of
+    /// digits (RFC 9110, 8.6). Status 400, T01.
     Malformed,
     /// A POST has no `Content-Length` (RFC 9110, 15.5.12). Status 411, T02.
     LengthRequired,
