@@ -1,5 +1,5 @@
 -- Names by their parts between percent signs, and the cuts at a last colon and at a first dot.
-use Rattle.std.proofs.Common.{◌≡◌, ℕ, ◌+◌, ◌-◌, Bool, true, false, ◌&&◌, ◌||◌, not, List, [], ◌∷◌, length, take, drop, get_or, refl, sym, ap, ◌∙◌, subst, arith, ◌==◌, Some, None}
+use Rattle.std.proofs.Common.{◌≡◌, ℕ, ◌+◌, ◌-◌, Bool, true, false, ◌&&◌, ◌||◌, not, List, [], ◌∷◌, length, take, drop, get_or, refl, sym, ap, ◌∙◌, subst, arith, ◌==◌, Some, None, Result, Ok, Err, is_ok, is_some, append-nil, ne_eqb, ◌↔◌}
 use Rattle.std.specs.List.{list_all, list_any, slice_split, onto_first, before_first, after_first, before_last, after_last, suffix_len, position_or_len}
 use Rattle.std.specs.Char.{is_ascii_hexdigit, is_ascii_digit}
 use Rattle.std.proofs.Math.ListN.{drop_of_length-le}
@@ -8,8 +8,14 @@ use Rattle.std.proofs.lemmas.List.{get_or_default}
 use Rattle.std.proofs.lemmas.List.Folds.{list_any_at, list_any_none}
 use Rattle.std.proofs.lemmas.List.Splits.{slice_split-cons_yes, slice_split-cons_no}
 use Rattle.std.proofs.lemmas.List.Sums.{suffix_len_is, position_or_len_is}
+use Rattle.std.proofs.lemmas.Bool.{false≢true}
+use Rattle.std.specs.declared.net.ipv6_addr.Ipv6Addr.{Ipv6Addr}
+use Rattle.std.specs.Net.Addr.{ipv6_segments}
+use Rattle.std.specs.Net.Grammar.{Parses, IsIpv6Text, IsColonHex}
+use Rattle.std.specs.Net.Reader.{Read, read_ipv6, whole_value}
+use Rattle.std.proofs.NetLemmas.Ipv6.{read_ipv6_sound, read_ipv6_complete, EndsGroups-nil}
 use Rattle.memchr.specs.Find.{IsFirstByte, IsLastByte, is_byte}
-use Rattle.bsp_heads.specs.Hosts.{is_name_byte, begins_with_hex, is_name, is_filled, is_later_byte, is_versioned, is_dot, is_colon, is_bare_host, is_host}
+use Rattle.bsp_heads.specs.Hosts.{is_address, is_name_byte, begins_with_hex, is_name, is_filled, is_later_byte, is_versioned, is_dot, is_colon, is_bare_host, is_host}
 
 abbrev pub is_percent : ℕ → Bool
 is_percent b = b == 37
@@ -134,3 +140,21 @@ no_version text none =
     let end : position_or_len is_dot text ≡ length text = position_or_len_is is_dot text (length text) 0 (omega arith) (λ k below. false_of _ (none k (omega arith) below)) (λ below. absurd (omega arith)) in
     let empty : after_first is_dot text ≡ [] = drop_of_length-le text (omega arith) in
     ap (λ (l : List ℕ). is_filled is_ascii_hexdigit (before_first is_dot text) && is_filled is_later_byte l) empty ∙ and_false _
+
+-- What a parser of addresses answers: whether the text is one, by its reader and by the grammar.
+pub known : {E : Type 0} (text : List ℕ) (r : Result Ipv6Addr E) → Parses IsIpv6Text text r → is_ok r ≡ is_address text
+known text (Ok a) spells =
+    let reads : read_ipv6 text ≡ Some (ipv6_segments a, []) = rw append-nil at (read_ipv6_complete text (ipv6_segments a) [] spells EndsGroups-nil) in
+    sym (ap (λ x. is_some (whole_value x)) reads)
+known text (Err e) none = by (read_ipv6 text) refl
+  where
+    by : (x : Read (List ℕ)) → read_ipv6 text ≡ x → false ≡ is_some (whole_value x)
+    by None is = refl
+    by (Some (segments, [])) is =
+        let found = read_ipv6_sound text segments [] is in
+        absurd (none (record { segments = segments }) (subst (λ t. IsColonHex t segments) (sym (found.1 ∙ append-nil found.0)) found.2))
+    by (Some (segments, (c ∷ rest))) is = rw (ne_eqb (length (c ∷ rest)) 0 (omega arith)) refl
+
+pub by_grammar : {E : Type 0} (text : List ℕ) (r : Result Ipv6Addr E) → Parses IsIpv6Text text r → (is_ok r ≡ true) ↔ ((segments : List ℕ) × IsColonHex text segments)
+by_grammar text (Ok a) spells = (λ _. (ipv6_segments a, spells), λ _. refl)
+by_grammar text (Err e) none = (λ is. absurd (false≢true is), λ h. absurd (none (record { segments = h.0 }) h.1))

@@ -1,11 +1,16 @@
-//! The field `Host` of a request (RFC 9110, 7.2; RFC 9112, 3.2), whose value is a host and its port (RFC 3986, 3.2.2 and 3.2.3).
-ghost use Rattle.std.specs.Prelude.{◌≡◌, ℕ, List, [], ◌∷◌, length};
+//! The field `Host` of a request (RFC 9110, 7.2; RFC 9112, 3.2).
+//!
+//! Its value is a host, with a port or without (RFC 3986, 3.2.2 and 3.2.3).
+ghost use Rattle.std.specs.Prelude.{◌≡◌, ◌↔◌, IsTrue, ℕ, List, [], ◌∷◌, length};
 ghost use Rattle.std.specs.List.{list_all};
+ghost use Rattle.std.specs.Net.Grammar.{IsColonHex};
 ghost use Rattle.std.specs.Char.{is_ascii_digit, is_ascii_hexdigit};
-ghost use Rattle.bsp_heads.specs.Hosts.{is_name_byte, begins_with_hex, is_name, is_filled, is_address_byte, is_later_byte, is_versioned, is_literal, is_bare_host, is_host, are_hosts};
+ghost use Rattle.bsp_heads.specs.Hosts.{is_name_byte, begins_with_hex, is_name, is_filled, is_address, is_later_byte, is_versioned, is_literal, is_bare_host, is_host, are_hosts};
 
 use memchr::{memchr, memrchr};
+use std::net::Ipv6Addr;
 
+/// Whether the byte is an unreserved character or a sub-delimiter.
 fn is_name_byte(b: u8) -> bool
     ensures { result ≡ is_name_byte b }
 {
@@ -21,7 +26,7 @@ fn begins_with_hex(text: &[u8]) -> bool
     }
 }
 
-/// Whether the text is a registered name.
+/// Whether the text is a registered name, as an IPv4 address is. It may be empty.
 fn is_name(text: &[u8]) -> bool
     ensures { result ≡ is_name text.now }
 {
@@ -32,23 +37,18 @@ fn is_name(text: &[u8]) -> bool
             .all(|part| begins_with_hex(part))
 }
 
-fn is_address_byte(b: u8) -> bool
-    ensures { result ≡ is_address_byte b }
-{
-    b.is_ascii_hexdigit() || b == b':' || b == b'.'
-}
-
 fn is_later_byte(b: u8) -> bool
     ensures { result ≡ is_later_byte b }
 {
     is_name_byte(b) || b == b':'
 }
 
-/// Whether the text is an address of version 6, by its characters.
+/// Whether the text is an address of version 6.
 fn is_address(text: &[u8]) -> bool
-    ensures { result ≡ is_filled is_address_byte text.now }
+    ensures value { result ≡ is_address text.now }
+    ensures grammar { IsTrue result ↔ ((segments : List ℕ) × IsColonHex text.now segments) }
 {
-    !text.is_empty() && text.iter().all(|b| is_address_byte(*b))
+    Ipv6Addr::parse_ascii(text).is_ok()
 }
 
 fn is_version(text: &[u8]) -> bool

@@ -1,12 +1,11 @@
-use Rattle.std.proofs.Common.{rules, tests, sym, ◌∙◌}
-use Rattle.std.proofs.lemmas.Iterator.{YieldsList-from_slice}
-use Rattle.std.proofs.lemmas.Iterator.Search.{all_from_yields_List}
-use Rattle.bsp_heads.specs.Hosts.{is_address_byte}
-use Rattle.bsp_heads.proofs.HostLemmas.{filled}
+use Rattle.std.proofs.Common.{sym, ◌∙◌}
+use Rattle.bsp_heads.proofs.HostLemmas.{known, by_grammar}
 use Rattle.bsp_heads.proofs.host.is_address.Goals as goal
 
-pub returns-then-not-is_empty : goal.returns-then-not-is_empty
-returns-then-not-is_empty c =
-    let text = c.args.text.now in
-    let each = all_from_yields_List is_address_byte _ _ c.all.result c.all.ensures.ran (YieldsList-from_slice text cc) (λ x b q k. search (rules, tests)) in
-    filled is_address_byte text _ (sym c.is_empty.ensures ∙ c.if-not-is_empty.true) each
+pub returns-clause-value : goal.returns-clause-value
+returns-clause-value c = c.is_ok.ensures.value ∙ known c.args.text.now c.parse_ascii.result c.parse_ascii.ensures
+
+pub returns-clause-grammar : goal.returns-clause-grammar
+returns-clause-grammar c =
+    let both = by_grammar c.args.text.now c.parse_ascii.result c.parse_ascii.ensures in
+    (λ is. both.0 (sym c.is_ok.ensures.value ∙ is), λ is. c.is_ok.ensures.value ∙ both.1 is)
