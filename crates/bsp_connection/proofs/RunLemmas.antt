@@ -3,7 +3,7 @@ use Rattle.std.proofs.Common.{ℕ, List, [], ◌∷◌, ◌++◌, refl, sym, ap,
 use Rattle.std.specs.List.{FoldsTo}
 use Rattle.bsp_connection.specs.Conversations.{Closes, Connection, Conversation, EndsBy, IsRun, KeepsOpen, at_start}
 use Rattle.bsp_connection.specs.Conversations.Closes.{refused, unroomed, answered}
-use Rattle.bsp_peer.specs.Exchanges.{Exchange, Meaning}
+use Rattle.bsp_connection.specs.Exchanges.{Exchange, Meaning}
 use Rattle.bsp_connection.specs.declared.end.End.{End}
 use Rattle.bsp_connection.specs.declared.end.End.TheVariants.{Clean, Cut, Closed}
 

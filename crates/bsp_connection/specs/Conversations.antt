@@ -9,11 +9,11 @@ use Rattle.bsp_heads.specs.declared.fault.HeadFault.TheVariants.{HeadTooLarge}
 use Rattle.bsp_heads.specs.declared.fault.Refused.{Refused}
 use Rattle.bsp_heads.specs.declared.parts.Wanted.{Wanted}
 use Rattle.bsp_heads.specs.Responses.{refusal_reply, response}
-use Rattle.bsp_peer.specs.Exchanges.{Exchange, Meaning, RequestText, interim, used}
+use Rattle.bsp_connection.specs.Exchanges.{Exchange, Meaning, RequestText, interim, used}
 use Rattle.bsp_connection.specs.declared.end.End.{End}
 use Rattle.bsp_connection.specs.declared.end.End.TheVariants.{Clean, Cut, Closed}
-use Rattle.bsp_peer.specs.declared.service.BodyUse.{BodyUse}
-use Rattle.bsp_peer.specs.declared.service.BodyUse.TheVariants.{Ignored}
+use Rattle.bsp_connection.specs.declared.service.BodyUse.{BodyUse}
+use Rattle.bsp_connection.specs.declared.service.BodyUse.TheVariants.{Ignored}
 
 abbrev pub message_limit : ℕ
 message_limit = 65536

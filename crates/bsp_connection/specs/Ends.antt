@@ -1,14 +1,14 @@
--- How a connection ends, and how many messages are then answered.
-use Rattle.std.specs.Prelude.{◌≡◌, ℕ, ◌+◌, ◌⊎◌}
+-- How a connection ends.
+use Rattle.std.specs.Prelude.{◌≡◌, ℕ, ◌⊎◌, Result, Ok, Err}
 use Rattle.bsp_connection.specs.declared.end.End.{End}
-use Rattle.bsp_connection.specs.declared.end.End.TheVariants.{Clean, Cut, Closed}
+use Rattle.bsp_connection.specs.declared.end.End.TheVariants.{Clean, Cut}
+use Rattle.bsp_connection.specs.declared.end.ServeFault.{ServeFault}
 use Rattle.bsp_connection.specs.declared.end.Served.{Served}
 
--- so many messages were answered before the last turn, which ended so
-abbrev pub served_until : ℕ → End → Served
-served_until count Clean = record { messages = count; end = Clean }
-served_until count Cut = record { messages = count; end = Cut }
-served_until count Closed = record { messages = count + 1; end = Closed }
+-- so many messages were answered, and the connection ended so
+abbrev pub served_by : ℕ → Result End ServeFault → Result Served ServeFault
+served_by count (Ok end) = Ok (record { messages = count; end = end })
+served_by count (Err fault) = Err fault
 
 -- the input ended
 abbrev pub IsInputEnd : End → Type 0

@@ -1,9 +1,17 @@
 -- What the contracts of a connection cite.
-pub mod Responding
-pub mod Ends
+pub mod Noted
+pub mod Written
+pub mod Exchanges
+pub mod Bodies
 pub mod Conversations
-pub mod Turns
-pub mod Serving
+pub mod Outputs
+pub mod Messages
+pub mod Seeking
+pub mod Begun
+pub mod Talks
+pub mod Progress
+pub mod Ends
 pub mod Reads
-pub use Rattle.bsp_peer.specs.Exchanges
-pub use Rattle.bsp_peer.specs.declared.service.BodyUse
+pub mod Serving
+pub mod Steps
+pub use Rattle.bsp_connection.specs.declared.service.BodyUse

@@ -4,7 +4,7 @@ use Rattle.std.specs.List.{FoldsTo}
 use Rattle.std.specs.Io.KnownBytes.{Appends, Keeps}
 use Rattle.httparse.specs.Grammar.{RequestHead}
 use Rattle.bsp_heads.specs.declared.parts.Wanted.{Wanted}
-use Rattle.bsp_peer.specs.Exchanges.{Exchange, Meaning, interim}
+use Rattle.bsp_connection.specs.Exchanges.{Exchange, Meaning, interim}
 use Rattle.bsp_connection.specs.Conversations.{Closes, Connection, Conversation, HasHead, IsRun, KeepsOpen, at_start, connection}
 use Rattle.bsp_connection.specs.Ends.{IsInputEnd}
 use Rattle.bsp_connection.specs.declared.end.End.{End}

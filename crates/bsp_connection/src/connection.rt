@@ -1,60 +1,172 @@
-//! Serving one connection.
+//! One connection.
 
-ghost use Rattle.std.specs.Prelude.{◌≡◌, ℕ, ◌+◌, ◌≤◌, true, List, Err, IfOk};
-ghost use Rattle.std.specs.Io.KnownBytes.{Consumes, IsAtEnd};
-ghost use Rattle.bsp_connection.specs.Ends.{IsInputEnd};
-ghost use Rattle.bsp_connection.specs.Reads.{failed_by_reads, most_empty};
-ghost use Rattle.bsp_connection.specs.Serving.{Serves};
+ghost use Rattle.std.specs.Prelude.{◌≡◌, ◌≤◌, ◌<◌, ◌+◌, [], length, take, true, false, IfOk, OnOk, OnErr, vec_capacity};
+ghost use Rattle.bsp_connection.specs.Begun.{HasUnread, pending};
+ghost use Rattle.bsp_connection.specs.Steps.{EndsAt};
+ghost use Rattle.bsp_connection.specs.Talks.{HasTaken, IsFresh, IsSame, IsSent};
 
-use crate::end::{ServeFault, Served};
-use crate::turn::turn;
-use bsp_peer::{Noted, Room, Service};
-use std::alloc::Global;
-use std::io::{Read, Write};
+use crate::begun::Begun;
+use crate::end::End;
+use crate::kept::KeptBody;
+use crate::output::Output;
+use crate::ret_body::RetBody;
+use bsp_fields::NoRoom;
+use bsp_heads::Scan;
+use std::alloc::{AllocError, Global};
 
-/// The most messages that a connection may have. The response to the last of them closes it.
-pub const MESSAGE_LIMIT: usize = 65_536;
+/// The most bytes that wait to be used, and those of one piece.
+const ROOM: usize = 32_768;
 
-/// Serves one connection to its end: reads its messages, one behind the other, has each answered at the desk, and
-/// writes the responses.
-///
-/// A writer that holds bytes back, as a `BufWriter` does, is flushed before the peer is waited for; who passes one
-/// flushes it in the end.
-///
-/// It takes memory for the connection, of a fixed size, and for bodies.
-///
-/// # Errors
-///
-/// `Memory` before anything was read or written. `Read` where a read failed: exactly the messages that were
-/// complete were answered. `Write` where a write failed, or took no byte: a first part of the responses was
-/// written, and what the desk was asked before stays. No more is written once a call of the writer has failed.
-pub fn serve<R: Read, W: Write, D, S: Service<D>>(
-    alloc: Global,
-    reader: &mut Noted<R>,
-    writer: &mut Noted<W>,
-    service: &S,
-    desk: &mut D,
-) -> Result<Served, ServeFault>
-    ensures conversation { (got : List ℕ) × Consumes (R.remaining reader.old.inner) (R.remaining reader.new.inner) got
-        × Serves S.means got desk.old desk.new (W.contents writer.old.inner) (W.contents writer.new.inner) result }
-    ensures end { IfOk result (λ served. IsInputEnd served.end → IsAtEnd (R.remaining reader.new.inner)) }
-    ensures read_cause { reader.new.failed ≡ failed_by_reads reader.old.failed result }
-    ensures write_cause { result ≡ Err ServeFault.Write → writer.new.failed ≡ true }
-    ensures noted { writer.old.failed ≡ true → writer.new.failed ≡ true }
-    ensures reads { reader.new.empty ≤ reader.old.empty + most_empty result }
-{
-    let Ok(mut room) = Room::new(alloc) else {
-        return Err(ServeFault::Memory);
-    };
-    for count in 0..MESSAGE_LIMIT {
-        let turned = match turn(count, &mut room, reader, writer, service, desk) {
-            Ok(turned) => turned,
-            Err(fault) => return Err(fault),
-        };
-        match turned {
-            None => {}
-            Some(end) => return Ok(end.after(count)),
+/// One connection: what came of the peer and is in no message yet, and what is to be sent.
+#[derive(Drop)]
+pub struct Connection<F> {
+    pub(crate) alloc: Global,
+    // For what is noted of its replies.
+    pub(crate) number: u64,
+    // What was received, a head that is read at its front; of a body that is begun what was passed on is dropped.
+    pub(crate) received: Vec<u8>,
+    // The search for the end of a head, and how many bytes it has seen.
+    pub(crate) scan: Scan,
+    pub(crate) seen: usize,
+    pub(crate) begun: Option<Begun<F>>,
+    // A body that is kept whole, and one that is read as a RET file.
+    pub(crate) kept: KeptBody,
+    pub(crate) file: RetBody,
+    pub(crate) out: Output,
+    // How many messages were answered.
+    pub(crate) count: usize,
+    // Whether the last answer closed the connection.
+    pub(crate) closed: bool,
+    // Whether what was received may have a message that is not answered.
+    pub(crate) has_more: bool,
+}
+
+impl<F> Connection<F> {
+    /// The connection of this number, of which nothing came. It takes no memory.
+    pub fn new(alloc: Global, number: u64) -> Connection<F>
+        ensures { IsFresh result }
+    {
+        Connection {
+            alloc,
+            number,
+            received: Vec::new(alloc),
+            scan: Scan::start(),
+            seen: 0,
+            begun: None,
+            kept: KeptBody::new(alloc),
+            file: RetBody::new(alloc),
+            out: Output::new(alloc),
+            count: 0,
+            closed: false,
+            has_more: false,
         }
     }
-    unreachable!()
+
+    /// The connection of this number, of which nothing came, with room for what may wait to be used and one piece of
+    /// 16,384 bytes.
+    ///
+    /// # Errors
+    ///
+    /// `AllocError` where the room was refused.
+    pub(crate) fn with_room(alloc: Global, number: u64) -> Result<Connection<F>, AllocError>
+        ensures fresh { IfOk result IsFresh }
+        ensures room { IfOk result (λ c. 32768 ≤ vec_capacity c.received) }
+    {
+        let mut received = Vec::new(alloc);
+        received.reserve(ROOM)?;
+        let mut connection = Connection::new(alloc, number);
+        connection.received = received;
+        Ok(connection)
+    }
+
+    /// Takes the next bytes of the peer. After an answer that closes the connection they are dropped.
+    ///
+    /// # Errors
+    ///
+    /// `NoRoom` where an allocation was refused. None of the bytes is taken then.
+    pub fn feed(&mut self, piece: &[u8]) -> Result<(), NoRoom>
+        ensures taken { OnOk result (HasTaken self.old piece.now self.new) }
+        ensures refused { OnErr result (IsSame self.old self.new) }
+        ensures full { OnErr result (vec_capacity self.old.received < length self.old.received.items + length piece.now) }
+        ensures room { vec_capacity self.old.received ≤ vec_capacity self.new.received }
+    {
+        if self.closed {
+            return Ok(());
+        }
+        self.received.extend_from_slice(piece)?;
+        self.has_more = true;
+        Ok(())
+    }
+
+    /// Gives the memory of what was received back, where all of it is used.
+    pub(crate) fn give_back(&mut self)
+        ensures { IsSame self.old self.new }
+    {
+        if self.received.is_empty() {
+            self.received = Vec::new(self.alloc);
+        }
+    }
+
+    /// What is sent next: none if and only if all is sent.
+    pub fn output(&self) -> &[u8]
+        ensures { result.now ≡ self.now.out.front }
+    {
+        self.out.front()
+    }
+
+    /// Drops the first bytes of [`Connection::output`], which were sent.
+    pub fn sent(&mut self, count: usize)
+        requires { count ≤ length self.old.out.front }
+        ensures { IsSent self.old (take count self.old.out.front) self.new }
+    {
+        self.out.sent(count);
+    }
+
+    /// Whether a message of what came may be answered by [`go_on`](crate::go_on).
+    pub fn has_more(&self) -> bool
+        ensures { result ≡ self.now.has_more }
+    {
+        self.has_more
+    }
+
+    /// Whether nothing more of the peer is taken.
+    pub fn is_closed(&self) -> bool
+        ensures { result ≡ self.now.closed }
+    {
+        self.closed
+    }
+
+    /// How the input ends, where it ends here.
+    pub(crate) fn end_of_input(&self) -> End
+        ensures { EndsAt self.now result }
+    {
+        if self.begun.is_none() && self.received.is_empty() {
+            End::Clean
+        } else {
+            End::Cut
+        }
+    }
+
+    /// Whether all that was put out is sent, and nothing that came can be answered.
+    pub fn is_done(&self) -> bool
+        ensures sent { result ≡ true → self.now.out.bytes ≡ [] }
+        ensures waits { result ≡ true → self.now.closed ≡ false → self.now.has_more ≡ false }
+    {
+        self.out.is_empty() && (self.closed || !self.has_more)
+    }
+
+    /// How many messages were answered.
+    pub(crate) fn count(&self) -> usize
+        ensures { result ≡ self.now.count }
+    {
+        self.count
+    }
+
+    /// The message that is begun and not whole, by how many were answered before it; none between messages.
+    pub fn begun(&self) -> Option<usize> {
+        if self.begun.is_none() && self.received.is_empty() {
+            return None;
+        }
+        Some(self.count)
+    }
 }

@@ -1,8 +1,5 @@
 //! How a connection ends.
 
-ghost use Rattle.std.specs.Prelude.{◌≡◌, ◌<◌};
-ghost use Rattle.bsp_connection.specs.Ends.{served_until};
-
 use thiserror::Error;
 
 /// How a connection ended.
@@ -37,21 +34,4 @@ pub struct Served {
     pub messages: usize,
     /// How the connection ended.
     pub end: End,
-}
-
-impl End {
-    // What was served where so many messages were answered before the last turn.
-    pub(crate) fn after(self, count: usize) -> Served
-        requires { count < 65536 }
-        ensures { result ≡ served_until count self }
-    {
-        let messages = match self {
-            End::Closed => count + 1,
-            End::Clean | End::Cut => count,
-        };
-        Served {
-            messages,
-            end: self,
-        }
-    }
 }

@@ -1,20 +1,37 @@
-//! One connection of HTTP/1.1 (RFC 9112), over any reader, any writer and any service that answers its messages.
+//! Connections of HTTP/1.1 (RFC 9112), over any service that answers their messages.
 //!
-//! [`serve`] cuts the input into messages, has each answered, and writes the responses, as `docs/HTTP.md` has it.
-//! What it reads, what the service is asked and what is written are one relation, `Conversation` of `specs/`.
-//!
-//! Below it, `bsp_peer` has what comes from the peer and goes to it. What the callers of [`serve`] need of it is given
-//! here too.
+//! A [`Connection`] has no input and output: [`Connection::feed`] takes the bytes of the peer as they come, in any pieces,
+//! [`go_on`] has at most one message answered, and [`Connection::output`] is what is to be sent next. What others ask of the
+//! desk in the meantime makes no difference to what the bytes are cut into, as `docs/HTTP.md` has it. [`Http`] is all this
+//! for the loop over many connections, `bsp_peers`. [`serve`] reads and writes one connection to its end.
 #![tactic(auto)]
 
+mod answering;
+mod apart;
+mod begun;
 mod connection;
 mod end;
-mod responding;
-mod turn;
+mod heads;
+mod kept;
+mod noted;
+mod output;
+mod protocol;
+mod ret_body;
+mod sending;
+mod service;
+mod serving;
+mod sink;
 
-pub use bsp_peer::{
-    Answer, BodySink, BodyUse, CAPACITY, IgnoredBody, KeptBody, Message, Noted, ReadFault,
-    Received, RetBody, Service, Short, WriteFault, pass, read_from, send,
-};
-pub use connection::{MESSAGE_LIMIT, serve};
+pub use answering::go_on;
+pub use begun::Begun;
+pub use connection::Connection;
 pub use end::{End, ServeFault, Served};
+pub use kept::KeptBody;
+pub use noted::Noted;
+pub use output::Output;
+pub use protocol::Http;
+pub use ret_body::RetBody;
+pub use sending::{WriteFault, send, send_on};
+pub use serving::serve;
+pub use service::{Answer, BodyUse, Message, Service};
+pub use sink::BodySink;

@@ -2,3 +2,4 @@
 pub mod Replies
 pub mod Messages
 pub mod Laws
+pub mod Serving

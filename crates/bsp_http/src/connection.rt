@@ -1,16 +1,21 @@
-//! Serving one connection at the office's desk.
+//! Serving connections at the office's desk: one, or all of a listener.
 
 ghost use Rattle.std.specs.Prelude.{◌≡◌, ℕ, ◌+◌, ◌≤◌, true, List, Err, IfOk};
 ghost use Rattle.std.specs.Io.KnownBytes.{Consumes, IsAtEnd};
 ghost use Rattle.bsp_connection.specs.Ends.{IsInputEnd};
 ghost use Rattle.bsp_connection.specs.Reads.{failed_by_reads, most_empty};
 ghost use Rattle.bsp_connection.specs.Serving.{Serves};
+ghost use Rattle.bsp_connection.specs.Conversations.{IsRun};
+ghost use Rattle.bsp_connection.specs.Exchanges.{Exchange};
 ghost use Rattle.bsp_http.specs.Messages.{at_desk};
+ghost use Rattle.bsp_http.specs.Serving.{IsServedAll};
 
 use crate::journal::Journal;
 use crate::office::Office;
 use bsp_connection::{Noted, ServeFault, Served};
 use bsp_desk::{Book, Desk};
+use bsp_connection::Http;
+use bsp_peers::{Limits, Peers};
 use bsp_routes::Routes;
 use std::alloc::Global;
 use std::io::{Read, Write};
@@ -45,4 +50,31 @@ pub fn serve<R: Read, W: Write, B: Book, J: Journal<B>>(
     ensures reads { reader.new.empty ≤ reader.old.empty + most_empty result }
 {
     bsp_connection::serve(alloc, reader, writer, &Office { routes, journal }, desk)
+}
+
+/// Serves the connections of all peers in one thread, until as many as `limits` has in all came and are gone, or the peers
+/// can be waited for no more. Answers how many came. The journal takes note of each reply before it is put out.
+///
+/// What the desk is asked is one list over all connections. The bytes of each connection are the responses to its own
+/// messages, in order.
+///
+/// It takes memory for each connection by what came of it and is not used, for bodies, for what the desk answers, and for
+/// small responses that are sent together.
+pub fn serve_all<P: Peers, B: Book, J: Journal<B>>(
+    alloc: Global,
+    routes: &Routes,
+    journal: &J,
+    peers: &mut P,
+    limits: Limits,
+    desk: &mut Desk<B>,
+) -> u64
+    ensures served { IsServedAll P.did (at_desk B.means) peers.old peers.new desk.old desk.new result }
+    ensures run { (exchanges : List Exchange) × IsRun (at_desk B.means) desk.old exchanges desk.new }
+{
+    let office = Office { routes, journal };
+    let protocol = Http {
+        alloc,
+        service: &office,
+    };
+    bsp_peers::serve_all(alloc, peers, limits, &protocol, desk)
 }

@@ -10,8 +10,18 @@ pub trait Journal<B: Book> {
     /// file while it comes there is none.
     fn note_body(&self, asking: Asking<&[u8]>, body: &[u8], reply: &Reply<'_>);
 
-    /// Takes note of a reply before it is written: of the message too, where its head was read.
-    fn note(&self, desk: &Desk<B>, message: Option<&Message<'_>>, reply: &Reply<'_>);
+    /// Takes note that the desk is asked next.
+    fn note_asking(&self);
+
+    /// Takes note of a reply before it is written, with the number of its connection: of the message too, where its head
+    /// was read.
+    fn note(
+        &self,
+        desk: &Desk<B>,
+        connection: u64,
+        message: Option<&Message<'_>>,
+        reply: &Reply<'_>,
+    );
 }
 
 /// Takes note of nothing.
@@ -21,5 +31,13 @@ pub struct NoJournal;
 impl<B: Book> Journal<B> for NoJournal {
     fn note_body(&self, _asking: Asking<&[u8]>, _body: &[u8], _reply: &Reply<'_>) {}
 
-    fn note(&self, _desk: &Desk<B>, _message: Option<&Message<'_>>, _reply: &Reply<'_>) {}
+    fn note_asking(&self) {}
+
+    fn note(
+        &self,
+        _desk: &Desk<B>,
+        _connection: u64,
+        _message: Option<&Message<'_>>,
+        _reply: &Reply<'_>,
+    ) {}
 }

@@ -1,7 +1,7 @@
 //! The office over HTTP: a connection is served at its desk, by its routes.
 //!
 //! [`serve`] cuts messages from what a peer sends, has the desk answer them, and writes the responses, as
-//! `docs/HTTP.md` has it. [`messages_are_run`] is the law that what a connection asks of a desk is a run of requests,
+//! `docs/HTTP.md` has it. [`serve_all`] does so for many connections at once, in one thread. [`messages_are_run`] is the law that what a connection asks of a desk is a run of requests,
 //! so that all that holds of a run holds of a connection.
 #![tactic(auto)]
 
@@ -13,7 +13,8 @@ mod replies;
 
 pub use bsp_connection::{End, Message, Noted, ServeFault, Served};
 pub use bsp_heads::{Reply, Status};
+pub use bsp_peers::{Awaited, Ending, Happened, Limits, Moved, Peers};
 pub use bsp_routes::Routes;
-pub use connection::serve;
+pub use connection::{serve, serve_all};
 pub use journal::{Journal, NoJournal};
 pub use laws::{messages_are_read, messages_are_run};

@@ -60,8 +60,14 @@ impl<'r, B: Book, J: Journal<B>> Service<Desk<B>> for Office<'r, J> {
         }
     }
 
-    fn note(&self, desk: &Desk<B>, message: Option<&Message<'_>>, reply: &Reply<'_>) {
-        self.journal.note(desk, message, reply);
+    fn note(
+        &self,
+        desk: &Desk<B>,
+        connection: u64,
+        message: Option<&Message<'_>>,
+        reply: &Reply<'_>,
+    ) {
+        self.journal.note(desk, connection, message, reply);
     }
 
     fn no_room(&self) -> Answer {
@@ -81,6 +87,7 @@ impl<'r, B: Book, J: Journal<B>> Service<Desk<B>> for Office<'r, J> {
             call,
             content: Content::Bytes(body),
         };
+        self.journal.note_asking();
         let answer = answer_with(desk.answer(&request), call);
         self.journal.note_body(call, body, &answer.reply());
         answer
@@ -99,6 +106,7 @@ impl<'r, B: Book, J: Journal<B>> Service<Desk<B>> for Office<'r, J> {
             call,
             content: content_of(file),
         };
+        self.journal.note_asking();
         answer_with(desk.answer(&request), call)
     }
 }

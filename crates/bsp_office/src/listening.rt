@@ -1,150 +1,152 @@
 //! Serving the connections of a listener.
 
-ghost use Rattle.std.specs.Prelude.{◌≡◌, List, Ok, Err};
+ghost use Rattle.std.specs.Prelude.{◌≡◌, List};
 ghost use Rattle.bsp_connection.specs.Conversations.{IsRun};
 ghost use Rattle.bsp_connection.specs.Exchanges.{Exchange};
 ghost use Rattle.bsp_http.specs.Messages.{at_desk};
-ghost use Rattle.bsp_office.specs.Listening.{AreVisited, IsVisited, Visit, counts};
 
 use crate::kept::Failing;
 use crate::log::Log;
-use crate::socket::{Receiving, Sending};
-use bsp_connection::Noted;
 use bsp_desk::{Book, Desk};
-use bsp_http::{End, Routes, ServeFault, Served, serve};
-use std::alloc::Global;
-use std::io::{BufWriter, ErrorKind, Read, Write};
-use std::net::{Shutdown, TcpListener, TcpStream};
+use bsp_http::{
+    Awaited, Ending, Happened, Limits, Moved, Peers, Routes, ServeFault, serve_all,
+};
+use bsp_sockets::{Settings, Sockets};
+use bsp_words::Limits as PortLimits;
+use std::io::ErrorKind;
+use std::net::TcpListener;
 use std::time::Duration;
 use thiserror::Error;
 
-/// The bytes of a peer that are read and dropped behind the last response to it: twice the most that a body may have.
-const LINGERING: usize = 8_388_608;
-
-/// The bytes that are read at once there.
-const PIECE: usize = 8192;
+/// A port of 127.0.0.1, and how it is served.
+#[derive(Clone, Copy)]
+pub struct Port {
+    /// From 1 to 65,535.
+    pub port: u16,
+    /// How many connections are served, and how long they are waited for.
+    pub limits: PortLimits,
+    /// Whether standard error has a line for each reply.
+    pub log: bool,
+}
 
 /// Why the office stopped before its last connection.
 #[derive(Clone, Copy, Debug, PartialEq, Eq, Error)]
 pub enum ListenFault {
-    /// A connection could not be accepted.
-    #[error("a connection could not be accepted: {0}")]
-    Accept(ErrorKind),
-    /// There was no memory for a connection.
-    #[error("no memory for a connection")]
-    Memory,
+    /// The listener could not be watched.
+    #[error("the port could not be watched: {0}")]
+    Watch(ErrorKind),
+    /// The peers could be waited for no more.
+    #[error("the peers could be waited for no more")]
+    Wait,
 }
 
-/// Reads and drops what a peer sends: about `LINGERING` bytes at most, and until it ends, or a read fails.
-fn drop_rest<R: Read>(reader: &mut R) {
-    let mut room = [0; PIECE];
-    let mut left = LINGERING;
-    for _ in 0..LINGERING {
-        match reader.read(&mut room) {
-            Ok(0) | Err(_) => return,
-            Ok(count) => left = left.saturating_sub(count),
+/// The sockets of a port, of which what goes wrong is logged.
+#[derive(Drop)]
+struct Logged<'l> {
+    sockets: Sockets<'l, HostRuntime>,
+    log: &'l Log<'l>,
+    timeout: u32,
+}
+
+impl Peers for Logged<'_> {
+    ghost did = { λ _ _ _. Unit {0} };
+
+    fn next(&mut self) -> Happened {
+        self.sockets.next()
+    }
+
+    fn accept(&mut self, number: u64) -> bool {
+        self.sockets.accept(number)
+    }
+
+    fn read(&mut self, number: u64, room: &mut [u8]) -> Moved {
+        let moved = self.sockets.read(number, room);
+        if let Moved::Failed = moved {
+            self.log.failed(number, ServeFault::Read);
         }
-        if left == 0 {
-            return;
+        moved
+    }
+
+    fn write(&mut self, number: u64, bytes: &[u8]) -> Moved {
+        let moved = self.sockets.write(number, bytes);
+        if let Moved::Failed = moved {
+            self.log.failed(number, ServeFault::Write);
         }
+        moved
+    }
+
+    fn watch(&mut self, number: u64, awaited: Awaited) {
+        self.sockets.watch(number, awaited);
+    }
+
+    fn close(&mut self, number: u64, ending: Ending) {
+        match ending {
+            Ending::Late if !self.sockets.was_resting() => {
+                self.log.late(number, self.timeout);
+            }
+            Ending::NoRoom => self.log.failed(number, ServeFault::Memory),
+            Ending::Whole | Ending::Late | Ending::Failed => {}
+        }
+        self.sockets.close(number, ending);
     }
 }
 
-/// Closes a connection behind its last response (RFC 9112, 9.6): the peer is sent the end, and what it sends meanwhile
-/// is dropped, since a connection that is closed with bytes unread is reset, and the response may be lost.
-fn linger(stream: &TcpStream, served: Result<Served, ServeFault>) {
-    if let Ok(
-        Served {
-            end: End::Closed,
-            ..
-        },
-    ) = served
-    {
-        let _ = stream.shutdown(Shutdown::Write);
-        drop_rest(&mut Noted::new(stream));
+/// A time of so many seconds; with 0 without end.
+fn patience(seconds: u32) -> Option<Duration> {
+    match seconds {
+        0 => None,
+        seconds => Some(Duration::from_secs(u64::from(seconds))),
     }
 }
 
-/// Serves one connection.
-fn visit<R: Read, W: Write, B: Book + Failing>(
-    alloc: Global,
-    log: &Log<'_>,
-    routes: &Routes,
-    reader: &mut Noted<R>,
-    writer: &mut Noted<W>,
-    desk: &mut Desk<B>,
-) -> Result<Served, ServeFault>
-    ensures { (visit : Visit) × (visit.ended ≡ result) × IsVisited (at_desk B.means) desk.old visit desk.new }
-{
-    serve(alloc, routes, log, reader, writer, desk)
-}
-
-/// Serves one connection of TCP. The responses to messages that came together are sent together, and none is kept
-/// back for more to come (RFC 9293, 3.7.4). A peer is waited for as long as the timeout says. The number is the
-/// connection's, from 0.
-fn serve_stream<B: Book + Failing>(
-    alloc: Global,
-    stream: &TcpStream,
-    number: u32,
-    timeout: Option<Duration>,
-    log: &Log<'_>,
-    routes: &Routes,
-    desk: &mut Desk<B>,
-) -> Result<Served, ServeFault>
-    ensures { (visit : Visit) × (visit.ended ≡ result) × IsVisited (at_desk B.means) desk.old visit desk.new }
-{
-    let _ = stream.set_nodelay(true);
-    let _ = stream.set_read_timeout(timeout);
-    let _ = stream.set_write_timeout(timeout);
-    let Ok(output) = BufWriter::new(alloc, Sending::new(stream, timeout.is_some())) else {
-        return Err(ServeFault::Memory);
+/// The sockets of the listener.
+fn sockets_of<'l>(
+    rt: &'l HostRuntime,
+    listener: TcpListener,
+    limits: PortLimits,
+) -> Result<Sockets<'l, HostRuntime>, ListenFault> {
+    let settings = Settings {
+        at_once: limits.peers as usize,
+        timeout: patience(limits.timeout),
+        idle: patience(limits.idle),
     };
-    let (mut input, mut output) = (Noted::new(Receiving::new(stream)), Noted::new(output));
-    let served = visit(alloc, log, routes, &mut input, &mut output, desk);
-    if !output.has_failed() {
-        let _ = output.flush();
+    match Sockets::new(rt.alloc(), rt, listener, settings) {
+        Ok(sockets) => Ok(sockets),
+        Err(error) => Err(ListenFault::Watch(error.kind())),
     }
-    linger(stream, served);
-    let waited = if input.into_inner().has_timed_out() {
-        timeout
-    } else {
-        None
-    };
-    log.ended(number, served, waited);
-    served
 }
 
-/// Serves so many connections of the listener, one after the other. A connection that ends by a fault of reading or
-/// writing, as where the timeout is over, counts as one.
+/// Serves the connections of a listener, so many at once, until as many as are wanted came and are gone.
 ///
-/// It takes memory as [`serve`] does.
+/// It takes memory as [`serve_all`] does.
 ///
 /// # Errors
 ///
-/// `Accept` where a connection could not be accepted, `Memory` where there was no memory for one. What the desk was
-/// asked before stays.
+/// `Watch` before a connection was accepted, `Wait` where the system reports no more. What the desk was asked before stays.
 pub fn serve_on<B: Book + Failing>(
-    alloc: Global,
-    listener: &TcpListener,
-    connections: u32,
-    timeout: Option<Duration>,
+    rt: &HostRuntime,
+    listener: TcpListener,
+    wanted: PortLimits,
     log: &Log<'_>,
     routes: &Routes,
     desk: &mut Desk<B>,
 ) -> Result<(), ListenFault>
-    ensures visits { (visits : List Visit) × AreVisited (at_desk B.means) desk.old visits desk.new × counts connections visits result }
-    ensures run { (exchanges : List Exchange) × IsRun (at_desk B.means) desk.old exchanges desk.new }
+    ensures { (exchanges : List Exchange) × IsRun (at_desk B.means) desk.old exchanges desk.new }
 {
-    for number in 0..connections {
-        let stream = match listener.accept() {
-            Ok((stream, _)) => stream,
-            Err(error) => return Err(ListenFault::Accept(error.kind())),
-        };
-        if let Err(ServeFault::Memory) = serve_stream(
-            alloc, &stream, number, timeout, log, routes, desk,
-        ) {
-            return Err(ListenFault::Memory);
-        }
+    let sockets = sockets_of(rt, listener, wanted)?;
+    let mut peers = Logged {
+        sockets,
+        log,
+        timeout: wanted.timeout,
+    };
+    let limits = Limits {
+        at_once: wanted.peers as usize,
+        in_all: u64::from(wanted.connections),
+    };
+    let count = serve_all(rt.alloc(), routes, log, &mut peers, limits, desk);
+    if count < limits.in_all {
+        return Err(ListenFault::Wait);
     }
+    peers.sockets.finish();
     Ok(())
 }

@@ -1,14 +1,15 @@
 //! What standard error says of an office that serves: its book, its replies and its connections.
 
 use crate::kept::Failing;
+use crate::lines::Lines;
 use bsp_body_faults::cause_text;
 use bsp_desk::{Asking, Book, Desk};
-use bsp_http::{Journal, Message, Reply, ServeFault, Served, Status};
+use bsp_http::{Journal, Message, Reply, ServeFault, Status};
 use std::alloc::{AllocError, Global};
 use std::cell::Cell;
 use std::fmt;
 use std::fmt::Display;
-use std::time::Duration;
+use std::time::Instant;
 
 /// The most bytes of a malformed body whose cause is sought: no body that is read needs as many.
 const MOST_SOUGHT: usize = 65_536;
@@ -17,10 +18,13 @@ const MOST_SOUGHT: usize = 65_536;
 #[derive(Drop)]
 pub struct Log<'a> {
     rt: &'a HostRuntime,
+    lines: Lines<'a>,
     // Whether each reply has a line, or a 503 alone.
     whole: bool,
     // Why the body of the request is malformed whose reply is noted next.
     cause: Cell<Option<String>>,
+    // When the desk was asked whose reply is noted next.
+    asked: Cell<Option<Instant>>,
 }
 
 /// Why a body is malformed, as a text. None where it is not, or where there is no memory for the cause.
@@ -51,25 +55,29 @@ pub(crate) fn code_in(body: &[u8]) -> &str {
     }
 }
 
-/// The line of a reply: `POST /office/day 403 N01 14`. Where no head was read it begins with `- -`.
-fn reply_line(
-    alloc: Global,
+/// The target without its query, which may have what is nobody else's (RFC 3986, 3.4).
+fn path_of(target: &[u8]) -> &[u8] {
+    target.split(|byte| *byte == b'?').next().unwrap_or(target)
+}
+
+/// Appends what is said of a reply: `POST /office/day 403 N01 14`. Where no head was read it begins with `- -`.
+fn push_reply(
+    line: &mut String,
     message: Option<&Message<'_>>,
     reply: &Reply<'_>,
-) -> Result<String, AllocError> {
-    let mut line = String::new(alloc);
+) -> Result<(), AllocError> {
     match message {
         Some(message) => {
-            push_escaped(&mut line, message.method)?;
+            push_escaped(line, message.method)?;
             line.push(' ')?;
-            push_escaped(&mut line, message.target)?;
+            push_escaped(line, path_of(message.target))?;
         }
         None => line.push_str("- -")?,
     }
     let status = reply.status.code();
     let (code, count) = (code_in(reply.body), reply.body.len());
     write!(line, " {status} {code} {count}")?;
-    Ok(line)
+    Ok(())
 }
 
 /// A number of at most 1,000,000, with a comma before each three digits.
@@ -92,7 +100,7 @@ impl Display for Grouped {
 
 /// A time, as `30 seconds`.
 #[derive(Clone, Copy)]
-struct Seconds(u64);
+struct Seconds(u32);
 
 impl Display for Seconds {
     fn fmt<W: fmt::Write>(&self, f: &mut fmt::Formatter<W>) -> fmt::Result {
@@ -106,37 +114,49 @@ impl<'a> Log<'a> {
     pub(crate) fn new(rt: &'a HostRuntime, whole: bool) -> Log<'a> {
         Log {
             rt,
+            lines: Lines::new(rt),
             whole,
             cause: Cell::new(None),
+            asked: Cell::new(None),
         }
     }
 
-    /// One line where a connection, counted from 0, ended by a failed read or write. `waited`: for how long nothing came
-    /// before the read failed, where that is why.
-    pub(crate) fn ended(
-        &self,
-        number: u32,
-        served: Result<Served, ServeFault>,
-        waited: Option<Duration>,
-    ) {
-        let number = u64::from(number) + 1;
-        let _ = match (served, waited) {
-            (Err(ServeFault::Read), Some(waited)) => {
-                let time = Seconds(waited.as_secs());
-                eprintln!(self.rt; "bsp_office: connection {number}: nothing came for {time}")
-            }
-            (Err(fault @ (ServeFault::Read | ServeFault::Write)), _) => {
-                eprintln!(self.rt; "bsp_office: connection {number}: {fault}")
-            }
-            _ => Ok(()),
+    /// One line on a connection, which is counted from 0.
+    fn say_of(&self, connection: u64, what: &str) {
+        let number = connection.saturating_add(1);
+        if let Ok(line) = format!(in self.rt.alloc(); "connection {number}: {what}") {
+            self.lines.say(&line);
+        }
+    }
+
+    /// One line where a read or a write of a connection failed.
+    pub(crate) fn failed(&self, connection: u64, fault: ServeFault) {
+        let what = match fault {
+            ServeFault::Read => "the peer's bytes could not be read",
+            ServeFault::Write => "a response could not be written",
+            ServeFault::Memory => "out of memory for what the peer sent",
         };
+        self.say_of(connection, what);
+    }
+
+    /// One line where a message was not whole, or a response not read, after so many seconds.
+    pub(crate) fn late(&self, connection: u64, seconds: u32) {
+        let number = connection.saturating_add(1);
+        let time = Seconds(seconds);
+        if let Ok(line) = format!(in self.rt.alloc();
+            "connection {number}: a message was not whole, or a response not read, after {time}"
+        ) {
+            self.lines.say(&line);
+        }
     }
 
     /// One line at the end, after so many connections.
     pub(crate) fn all_served(&self, connections: u32) {
         let count = Grouped(connections);
         let end = if connections == 1 { "" } else { "s" };
-        let _ = eprintln!(self.rt; "bsp_office: {count} connection{end} served");
+        if let Ok(line) = format!(in self.rt.alloc(); "{count} connection{end} served") {
+            self.lines.say(&line);
+        }
     }
 }
 
@@ -148,23 +168,70 @@ impl<B: Book + Failing> Journal<B> for Log<'_> {
         }
     }
 
+    /// Notes the time.
+    fn note_asking(&self) {
+        if self.whole {
+            self.asked.set(Instant::now(self.rt).ok());
+        }
+    }
+
     /// One line. That of a 503 says with which error of the store the book failed, that of an N04 why the body is malformed.
-    fn note(&self, desk: &Desk<B>, message: Option<&Message<'_>>, reply: &Reply<'_>) {
+    /// Where each reply has a line, it has the number of the connection too, counted from 1, and the microseconds from when
+    /// the desk was asked.
+    fn note(
+        &self,
+        desk: &Desk<B>,
+        connection: u64,
+        message: Option<&Message<'_>>,
+        reply: &Reply<'_>,
+    ) {
         let refused = reply.status == Status::ServiceUnavailable;
         if !self.whole && !refused {
             return;
         }
-        let cause = self.cause.take();
-        let Ok(line) = reply_line(self.rt.alloc(), message, reply) else {
-            return;
+        let cause = match desk.book().store_error() {
+            Some(error) if refused => Some(error),
+            _ => None,
         };
-        if let Some(cause) = cause {
-            let _ = eprintln!(self.rt; "bsp_office: {line}: {cause}");
-            return;
+        let _ = self.say_reply(connection, message, reply, cause);
+    }
+}
+
+impl Log<'_> {
+    /// The microseconds since the desk was asked; 0 where it was not.
+    fn took(&self) -> u128 {
+        let Some(asked) = self.asked.take() else {
+            return 0;
+        };
+        match Instant::now(self.rt) {
+            Ok(now) => now.duration_since(asked).as_micros(),
+            Err(_) => 0,
         }
-        let _ = match desk.book().store_error() {
-            Some(cause) if refused => eprintln!(self.rt; "bsp_office: {line}: {cause}"),
-            _ => eprintln!(self.rt; "bsp_office: {line}"),
-        };
+    }
+
+    /// Writes the line of a reply, with the cause of an error, or why a body is malformed.
+    fn say_reply<E: Display + Drop>(
+        &self,
+        connection: u64,
+        message: Option<&Message<'_>>,
+        reply: &Reply<'_>,
+        error: Option<E>,
+    ) -> Result<(), AllocError> {
+        let mut line = String::new(self.rt.alloc());
+        if self.whole {
+            let number = connection.saturating_add(1);
+            write!(line, "{number} ")?;
+        }
+        push_reply(&mut line, message, reply)?;
+        if self.whole {
+            write!(line, " {}", self.took())?;
+        }
+        if let Some(cause) = self.cause.take() {
+            write!(line, ": {cause}")?;
+        } else if let Some(error) = error {
+            write!(line, ": {error}")?;
+        }
+        self.lines.say(&line);
+        Ok(())
     }
 }

@@ -12,21 +12,23 @@ mod explaining;
 mod input;
 mod judging;
 mod kept;
+mod lines;
 mod listening;
 mod log;
 mod plans;
 mod remarks;
 mod run;
 mod serving;
-mod socket;
+mod standard;
 mod token_file;
 mod whole_files;
 
 pub use kept::Failing;
-pub use listening::{ListenFault, serve_on};
+pub use listening::{ListenFault, Port, serve_on};
 pub use log::Log;
 use std::process::ExitCode;
 
 fn main(rt: HostRuntime) -> ExitCode {
+    let _standard = standard::hold(&rt);
     ExitCode::from(run::run(&rt))
 }

@@ -6,8 +6,9 @@ use crate::explaining::run_explain;
 use crate::input::Input;
 use crate::judging::run_judge;
 use crate::plans::{run_plan, run_plan_of};
+use crate::listening::Port;
 use crate::remarks::{say, say_answer, say_unopened};
-use crate::serving::{Port, run_office, serve_office};
+use crate::serving::{run_office, serve_office};
 use crate::whole_files::short_of_memory;
 use bsp_check::{DONE, FAILED, Fault, Verdict, WRONG_WORDS, check, exit_status, hotcheck};
 use bsp_connection::Noted;
@@ -77,14 +78,12 @@ fn run_work(rt: &HostRuntime, work: &Work<'_>) -> u8 {
             port,
             token,
             book,
-            connections,
-            timeout,
+            limits,
             log,
         } => {
             let port = Port {
                 port: *port,
-                connections: *connections,
-                timeout: *timeout,
+                limits: *limits,
                 log: *log,
             };
             serve_office(rt, port, token, book)

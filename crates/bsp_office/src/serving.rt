@@ -6,9 +6,9 @@ ghost use Rattle.bsp_store.specs.Faults.{is_refusal};
 
 use crate::book_file::{make_private, say_unopened};
 use crate::kept::{Failing, say_opened};
-use crate::listening::serve_on;
+use crate::listening::{Port, serve_on};
 use crate::log::Log;
-use crate::token_file::{is_directory, read_token};
+use crate::token_file::{is_directory, is_private, read_token};
 use bsp_book::ListBook;
 use bsp_check::{DONE, FAILED, REFUSED, WRONG_WORDS};
 use bsp_connection::Noted;
@@ -20,7 +20,6 @@ use bsp_words::{BookSource, TokenSource};
 use sqlite::{Alter, Start, Wary};
 use std::io;
 use std::net::{Ipv4Addr, SocketAddr, TcpListener};
-use std::time::Duration;
 
 /// Where an office answers.
 #[derive(Clone, Copy)]
@@ -29,19 +28,6 @@ enum Place {
     Standard,
     /// A port of 127.0.0.1.
     Port(Port),
-}
-
-/// A port of 127.0.0.1, and what is served there.
-#[derive(Clone, Copy)]
-pub(crate) struct Port {
-    /// From 1 to 65,535.
-    pub(crate) port: u16,
-    /// How many connections are served.
-    pub(crate) connections: u32,
-    /// For how many seconds a peer is waited for; with 0 without end.
-    pub(crate) timeout: u32,
-    /// Whether standard error has a line for each reply.
-    pub(crate) log: bool,
 }
 
 /// An office: its routes, and its desk.
@@ -63,7 +49,12 @@ impl<B: Book + Failing + Drop> Office<B> {
 /// The token in a file. Where there is none it says so on standard error, and answers the exit status.
 fn token_in(rt: &HostRuntime, file: &str) -> Result<Token, u8> {
     match read_token(rt, file) {
-        Ok(Some(token)) => Ok(token),
+        Ok(Some(token)) => {
+            if !is_private(rt, file) {
+                let _ = eprintln!(rt; "bsp_office: {file}: others can read it");
+            }
+            Ok(token)
+        }
         Ok(None) => {
             let _ = eprintln!(rt;
                 "bsp_office: {file}: its first line is not 16 to 64 letters and digits"
@@ -134,14 +125,6 @@ fn listen(rt: &HostRuntime, port: u16) -> Option<TcpListener> {
     }
 }
 
-/// How long a peer is waited for; with none without end.
-fn patience(seconds: u32) -> Option<Duration> {
-    match seconds {
-        0 => None,
-        seconds => Some(Duration::from_secs(u64::from(seconds))),
-    }
-}
-
 /// Serves the connections of a port, and says on standard error why it ends.
 fn serve_connections<B: Book + Failing>(
     rt: &HostRuntime,
@@ -151,16 +134,15 @@ fn serve_connections<B: Book + Failing>(
     let listener = listen(rt, port.port).ok_or(FAILED)?;
     let log = Log::new(rt, port.log);
     match serve_on(
-        rt.alloc(),
-        &listener,
-        port.connections,
-        patience(port.timeout),
+        rt,
+        listener,
+        port.limits,
         &log,
         &office.routes,
         &mut office.desk,
     ) {
         Ok(()) => {
-            log.all_served(port.connections);
+            log.all_served(port.limits.connections);
             Ok(())
         }
         Err(fault) => {

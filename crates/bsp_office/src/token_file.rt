@@ -5,6 +5,7 @@ use bsp_connection::Noted;
 use bsp_fields::Token;
 use std::fs::{self, File};
 use std::io;
+use std::os::unix::fs::PermissionsExt;
 
 /// The most bytes that such a file may have.
 const MOST: usize = 4096;
@@ -20,6 +21,14 @@ pub(crate) fn is_directory(rt: &HostRuntime, file: &str) -> bool {
     match fs::metadata(rt, file) {
         Ok(found) => found.is_dir(),
         Err(_) => false,
+    }
+}
+
+/// Whether the file is its owner's alone: no other may read it. So is one of which nothing is found.
+pub(crate) fn is_private(rt: &HostRuntime, file: &str) -> bool {
+    match fs::metadata(rt, file) {
+        Ok(found) => found.permissions().mode() & 0o044 == 0,
+        Err(_) => true,
     }
 }
 

@@ -23,6 +23,7 @@ use Rattle.bsp_words.specs.declared.work.Work.{Work}
 use Rattle.bsp_words.specs.declared.work.Work.TheVariants.{Audit, Body, Check, Explain, Hotcheck, Judge, Plan, PlanOf, Run, Serve}
 use Rattle.bsp_words.specs.Order.{in_order, marks_in}
 use Rattle.bsp_words.specs.declared.work.Earlier.{Earlier}
+use Rattle.bsp_words.specs.declared.work.Limits.{Limits}
 use Rattle.bsp_words.specs.declared.work.Range.{Range}
 use Rattle.bsp_words.specs.declared.setting.Lists.{Lists}
 use Rattle.bsp_words.specs.declared.work.Setting.{Setting}
@@ -122,13 +123,20 @@ limit_option id least most default = record (number_option id least most) { defa
 abbrev pub connections_rule : Rule
 connections_rule = limit_option (codes "connections") 1 1000000 (codes "1000000")
 
--- the seconds for which a peer is waited for; 0 is without end
+abbrev pub peers_rule : Rule
+peers_rule = limit_option (codes "peers") 1 10000 (codes "256")
+
+-- the seconds that a message may take; 0 is without end
 abbrev pub timeout_rule : Rule
 timeout_rule = limit_option (codes "timeout") 0 3600 (codes "30")
 
--- --connections K, --timeout S and --log
+-- the seconds between messages; 0 is without end
+abbrev pub idle_rule : Rule
+idle_rule = limit_option (codes "idle") 0 3600 (codes "60")
+
+-- --connections K, --peers N, --timeout S, --idle S and --log
 abbrev pub with_limits : App → App
-with_limits a = with_rule (with_rule (with_rule a connections_rule) timeout_rule) (flag_rule (codes "log"))
+with_limits a = with_rule (with_rule (with_rule (with_rule (with_rule a connections_rule) peers_rule) timeout_rule) idle_rule) (flag_rule (codes "log"))
 
 abbrev pub serve_app : App
 serve_app = with_limits (with_db (with_tokens (with_rule (new_app (codes "serve")) port_rule)))
@@ -209,7 +217,7 @@ pub data AskedWork : Type 0 where
   hotcheck : Text → Bool → Bool → AskedWork
   audit : Text → AskedWork
   run : AskedToken → AskedBook → AskedWork
-  serve : ℕ → AskedToken → AskedBook → ℕ → ℕ → Bool → AskedWork
+  serve : ℕ → AskedToken → AskedBook → Limits → Bool → AskedWork
 
 abbrev pub work_of : Work → AskedWork
 work_of (Check file quiet) = check file.now quiet
@@ -221,7 +229,7 @@ work_of (Body request file) = body request.now file.now
 work_of (Explain code) = explain (option_map (λ c. c.now) code)
 work_of (Audit file) = audit file.now
 work_of (Run token book) = run (token_of token) (book_of book)
-work_of (Serve port token book connections timeout log) = serve port (token_of token) (book_of book) connections timeout log
+work_of (Serve port token book limits log) = serve port (token_of token) (book_of book) limits log
 
 -- a flag is there: `clap` then finds the value true
 abbrev pub is_set : Text → List Row → Bool
@@ -370,14 +378,20 @@ number_read k text =
 abbrev pub number_in : ℕ → Text → List Row → Option ℕ
 number_in k id rows = option_and_then (number_read k) (one_of id rows)
 
+abbrev pub limits_in : List Row → Option Limits
+limits_in rows =
+    option_and_then
+    (λ connections. option_and_then
+    (λ peers. option_and_then (λ timeout. option_map (λ idle. record { connections = connections; peers = peers; timeout = timeout; idle = idle }) (number_in 32 (codes "idle") rows)) (number_in 32 (codes "timeout") rows))
+    (number_in 32 (codes "peers") rows))
+    (number_in 32 (codes "connections") rows)
+
 abbrev pub serve_work : List Row → Option AskedWork
 serve_work rows =
     option_and_then
     (λ port. option_and_then
-    (λ connections. option_and_then
-    (λ timeout. option_and_then (λ token. option_map (λ book. serve port token book connections timeout (is_set (codes "log") rows)) (asked_book rows)) (asked_token rows))
-    (number_in 32 (codes "timeout") rows))
-    (number_in 32 (codes "connections") rows))
+    (λ limits. option_and_then (λ token. option_map (λ book. serve port token book limits (is_set (codes "log") rows)) (asked_book rows)) (asked_token rows))
+    (limits_in rows))
     (number_in 16 (codes "port") rows)
 
 -- the work on files that need no office

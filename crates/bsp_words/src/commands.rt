@@ -226,7 +226,7 @@ static BOOKS: [CommandRow; 3] = [
     },
     CommandRow {
         name: "serve",
-        about: "Serves HTTP on a port of 127.0.0.1, one connection after the other",
+        about: "Serves HTTP on a port of 127.0.0.1, many connections at once",
         example: "Example: bsp_office serve --port 8080 --token-file office.token --db office.db",
         arguments: &[
             Argument {
@@ -248,6 +248,16 @@ static BOOKS: [CommandRow; 3] = [
                 help: "how many connections to serve, from 1 to 1000000",
             },
             Argument {
+                id: "peers",
+                form: Form::Limit {
+                    value: "N",
+                    least: 1,
+                    most: 10_000,
+                    default: "256",
+                },
+                help: "how many of them at once, from 1 to 10000",
+            },
+            Argument {
                 id: "timeout",
                 form: Form::Limit {
                     value: "S",
@@ -255,7 +265,17 @@ static BOOKS: [CommandRow; 3] = [
                     most: 3600,
                     default: "30",
                 },
-                help: "how many seconds to wait for a peer, from 1 to 3600; with 0 without end",
+                help: "how many seconds a message may take, from 1 to 3600; with 0 without end",
+            },
+            Argument {
+                id: "idle",
+                form: Form::Limit {
+                    value: "S",
+                    least: 0,
+                    most: 3600,
+                    default: "60",
+                },
+                help: "how many seconds a connection may be between messages; with 0 without end",
             },
             Argument {
                 id: "log",

@@ -5,7 +5,7 @@
 
 ghost use Rattle.std.specs.Prelude.{◌≡◌, IfOk, IfErr, [], map, option_map};
 ghost use Rattle.clap.specs.Words.{HasKind, fault_of, found_of, rows_of, subcommand_of, subcommand_rows_of};
-ghost use Rattle.bsp_words.specs.CommandLine.{AnswersWords, asked_book, asked_token, audit_work, body_work, book_of, check_work, explain_work, hotcheck_work, office, run_work, serve_work, token_of, trial_in, work_from, work_in, work_of};
+ghost use Rattle.bsp_words.specs.CommandLine.{AnswersWords, asked_book, asked_token, audit_work, body_work, book_of, check_work, explain_work, hotcheck_work, limits_in, office, run_work, serve_work, token_of, trial_in, work_from, work_in, work_of};
 
 use crate::command_line::office_command;
 use crate::plan::{plan_given, plan_misfit};
@@ -128,13 +128,25 @@ pub enum Work<'a> {
         port: u16,
         token: TokenSource<'a>,
         book: BookSource<'a>,
-        /// From 1 to 1,000,000.
-        connections: u32,
-        /// For how many seconds a peer is waited for, at most 3,600. With 0 without end.
-        timeout: u32,
+        /// How many connections, and how long they are waited for.
+        limits: Limits,
         /// `--log`: standard error has a line for each reply.
         log: bool,
     },
+}
+
+/// How many connections are served, and how long they are waited for.
+#[derive(Clone, Copy)]
+pub struct Limits {
+    /// From 1 to 1,000,000, in all.
+    pub connections: u32,
+    /// From 1 to 10,000, at once.
+    pub peers: u32,
+    /// The seconds that a message may take, and a peer for each 65,536 bytes of a response, at most 3,600. With 0 without
+    /// end.
+    pub timeout: u32,
+    /// The seconds that a connection may be between messages, at most 3,600. With 0 without end.
+    pub idle: u32,
 }
 
 /// Which value is out of its form. It is for people: no clause says which.
@@ -265,16 +277,36 @@ fn run_given<'a>(matches: &ArgMatches<'a>) -> Option<Work<'a>>
     Some(Work::Run { token, book })
 }
 
+fn limits_given(matches: &ArgMatches<'_>) -> Option<Limits>
+    ensures { result ≡ limits_in (rows_of (found_of matches.now)) }
+{
+    let Some(connections) = number_given(matches, "connections") else {
+        return None;
+    };
+    let Some(peers) = number_given(matches, "peers") else {
+        return None;
+    };
+    let Some(timeout) = number_given(matches, "timeout") else {
+        return None;
+    };
+    let Some(idle) = number_given(matches, "idle") else {
+        return None;
+    };
+    Some(Limits {
+        connections,
+        peers,
+        timeout,
+        idle,
+    })
+}
+
 fn serve_given<'a>(matches: &ArgMatches<'a>) -> Option<Work<'a>>
     ensures { option_map work_of result ≡ serve_work (rows_of (found_of matches.now)) }
 {
     let Some(port) = port_given(matches) else {
         return None;
     };
-    let Some(connections) = number_given(matches, "connections") else {
-        return None;
-    };
-    let Some(timeout) = number_given(matches, "timeout") else {
+    let Some(limits) = limits_given(matches) else {
         return None;
     };
     let log = flag_given(matches, "log");
@@ -288,8 +320,7 @@ fn serve_given<'a>(matches: &ArgMatches<'a>) -> Option<Work<'a>>
         port,
         token,
         book,
-        connections,
-        timeout,
+        limits,
         log,
     })
 }

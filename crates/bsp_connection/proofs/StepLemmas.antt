@@ -1,0 +1,406 @@
+-- One step of a connection.
+use Rattle.std.proofs.Common.{◌≡◌, ◌≢◌, ◌⊎◌, inl, inr, ℕ, ◌+◌, ◌-◌, ◌<◌, ◌≤◌, Bool, true, false, ◌||◌, ◌==◌, List, [], ◌∷◌, ◌++◌, length, take, drop, Option, Some, None, refl, sym, ap, ◌∙◌, subst, append_assoc, append-nil, length-append, arith, eqb, min, length-drop, IfSome}
+use Rattle.std.proofs.lemmas.Bool.{false≢true}
+use Rattle.std.proofs.lemmas.Bool.Decides.{eqb_tells}
+use Rattle.std.proofs.Math.Seq.{take-append_seam, take-length, drop-append_seam}
+use Rattle.std.proofs.lemmas.List.{drop-drop, drop_all, length-take-le, take-append-drop}
+use Rattle.std.specs.List.{FoldsTo}
+use Rattle.std.specs.Option.{option_map}
+use Rattle.httparse.specs.Grammar.{RequestHead}
+use Rattle.httparse.specs.Spans.{IsWithin, span_bytes}
+use Rattle.bsp_heads.proofs.ScanLemmas.{head_len-more, head_len-le}
+use Rattle.bsp_heads.specs.Fields.{token_of}
+use Rattle.bsp_heads.specs.Head.{AreParts, IsHead, head_limit, headers_of, judgement}
+use Rattle.bsp_heads.specs.Responses.{ReplyText, refusal_reply, response}
+use Rattle.bsp_heads.specs.Scan.{HasScanned, head_len}
+use Rattle.bsp_heads.specs.declared.fault.Refused.{Refused}
+use Rattle.bsp_heads.specs.declared.parts.HeadParts.{HeadParts}
+use Rattle.bsp_heads.specs.declared.scan.Scan.{Scan}
+use Rattle.bsp_connection.specs.Exchanges.{Exchange, Meaning, RequestText, interim, used}
+use Rattle.bsp_connection.specs.declared.service.BodyUse.{BodyUse}
+use Rattle.bsp_connection.specs.declared.service.BodyUse.TheVariants.{Ignored, Kept, RetFile}
+use Rattle.bsp_connection.specs.Bodies.{HasRet}
+use Rattle.bsp_ret.specs.Pieces.{Fed}
+use Rattle.bsp_connection.specs.Conversations.{HasHead, HasMessage, HasRefusal, message_limit}
+use Rattle.bsp_connection.proofs.SeekLemmas.{exact}
+use Rattle.bsp_connection.specs.Begun.{HasBegun, HasBody, HasUnread, IsBegunAs, IsFound, IsRead, IsSought, pending}
+use Rattle.bsp_connection.specs.Messages.{AreTaken, Item, Takes, asked, item, left, texts}
+use Rattle.bsp_connection.specs.Messages.Takes.{answered, refused, unroomed}
+use Rattle.bsp_connection.specs.Outputs.{Put}
+use Rattle.bsp_connection.specs.Progress.{IsAtRest, IsFurther, to_come}
+use Rattle.bsp_connection.specs.Talks.{HasPassed, IsAnswered, IsMoved, IsRefused, Moves}
+use Rattle.bsp_connection.specs.declared.begun.Begun.{Begun}
+use Rattle.bsp_connection.specs.declared.connection.Connection.{Connection}
+
+-- ---- texts
+
+-- a text that is put out where no message is begun, and none is then
+alone : {F : Type 0} (o p : Option (Begun F)) (xs : List Exchange) (text : List ℕ) → o ≡ None → p ≡ None → pending o ++ text ≡ texts (item xs text ∷ []) ++ pending p
+alone {F} o p xs text none gone =
+    ap (λ (q : Option (Begun F)). pending q ++ text) none ∙ sym (append-nil text) ∙ sym (append-nil (text ++ [])) ∙ ap (λ (q : Option (Begun F)). (text ++ []) ++ pending q) (sym gone)
+
+-- a response to a message that is begun
+behind : {F : Type 0} (o p : Option (Begun F)) (b : Begun F) (xs : List Exchange) (text : List ℕ) → o ≡ Some b → p ≡ None
+    → pending o ++ text ≡ texts (item xs (interim b.parts.wanted.expects ++ text) ∷ []) ++ pending p
+behind {F} o p b xs text some gone =
+    let all : List ℕ = interim b.parts.wanted.expects ++ text in
+    ap (λ (q : Option (Begun F)). pending q ++ text) some ∙ sym (append-nil all) ∙ sym (append-nil (all ++ [])) ∙ ap (λ (q : Option (Begun F)). (all ++ []) ++ pending q) (sym gone)
+
+-- ---- heads
+
+pub front_of : (a b : List ℕ) (n : ℕ) → length a ≡ n → take n (a ++ b) ≡ a
+front_of a b n e = subst (λ (m : ℕ). take m (a ++ b) ≡ a) e (take-append_seam a b)
+
+back_of : (a b : List ℕ) (n : ℕ) → length a ≡ n → drop n (a ++ b) ≡ b
+back_of a b n e = subst (λ (m : ℕ). drop m (a ++ b) ≡ b) e (drop-append_seam a b)
+
+pub is_read : (received : List ℕ) (len : ℕ) (parts : HeadParts) → head_len received ≡ Some len → len ≤ 16384 → AreParts (take len received) parts → IsWithin (length (take len received)) parts.method
+    → IsWithin (length (take len received)) parts.target → IfSome parts.token (IsWithin (length (take len received))) → IsRead received len parts
+is_read received len parts found short are method target token =
+    let within = head_len-le received len found in
+    let size : length (take len received) ≡ len = length-take-le len received within in record {
+      within = within;
+      short = short;
+      ends = exact received len found;
+      parts_are = are;
+      method = subst (λ (n : ℕ). IsWithin n parts.method) size method;
+      target = subst (λ (n : ℕ). IsWithin n parts.target) size target;
+      token = subst (λ (n : ℕ). IfSome parts.token (IsWithin n)) size token;
+    }
+
+-- the head is at the front of whatever comes after it
+pub has_head : (received more : List ℕ) (len : ℕ) (parts : HeadParts) (read : IsRead received len parts) → HasHead (take len received ++ more) len read.parts_are.0 parts.wanted
+has_head received more len parts read =
+    let size : length (take len received) ≡ len = length-take-le len received read.within in record {
+      ends = head_len-more (take len received) more len read.ends;
+      short = read.short;
+      head = subst (λ (l : List ℕ). IsHead l read.parts_are.0) (sym (front_of (take len received) more len size)) read.parts_are.1;
+      judged = read.parts_are.2;
+    }
+
+-- so much of a body as came, and is to come
+pub record IsPart (received : List ℕ) (head left count : ℕ) : Type 0 where
+  pub size : length (take count (drop head received)) ≡ count
+  pub behind : drop head received ≡ take count (drop head received) ++ drop (head + count) received
+  pub within : count ≤ left
+  pub waits : eqb (left - count) 0 ≡ false → (0 < left - count) × (drop (head + count) received ≡ [])
+
+pub part_of : (received : List ℕ) (head left count : ℕ) → head ≤ length received → count ≡ min left (length received - head) → IsPart received head left count
+part_of received head left count within is =
+    let rest : length (drop head received) ≡ length received - head = length-drop head received in
+    let few : count ≤ length (drop head received) = omega (arith, is, rest) in record {
+      size = length-take-le count (drop head received) few;
+      behind = sym (take-append-drop count (drop head received)) ∙ ap (λ (l : List ℕ). take count (drop head received) ++ l) (drop-drop count head received);
+      within = omega (arith, is);
+      waits = λ some. elim (eqb_tells (left - count) 0) [
+        | inl none ↦ absurd (false≢true (sym some ∙ none.0))
+        | inr other ↦ let more = other.1 in (omega (arith, more), drop_all (head + count) received (omega (arith, is, more)))
+      ];
+    }
+
+-- what takes a body has nothing of it yet
+pub fresh_body : (kind : BodyUse) (kept : List ℕ) (file : Fed) → kept ≡ [] → HasRet file [] → HasBody kind kept file []
+fresh_body Ignored kept file none ret = tt
+fresh_body Kept kept file none ret = none
+fresh_body RetFile kept file none ret = ret
+
+-- ---- steps
+
+module _ {D F : Type 0} (m : Meaning D) (finds : List ℕ → List ℕ → F → Type 0) where
+  -- what a connection has between two messages
+  sought : (c : Connection F) (unread : List ℕ) → c.closed ≡ false → c.begun ≡ None → HasUnread finds m.uses c unread
+      → (c.count < message_limit) × IsSought c.received.items c.scan c.seen c.has_more unread
+  sought c unread unclosed none has =
+      let h = has unclosed in
+      (h.0, subst (λ (o : Option (Begun F)). HasBegun finds m.uses o c.received.items c.scan c.seen c.kept c.file c.has_more unread) none h.1)
+
+  -- what it has within one
+  pub within : (c : Connection F) (unread : List ℕ) (b : Begun F) → c.closed ≡ false → c.begun ≡ Some b → HasUnread finds m.uses c unread
+      → (c.count < message_limit) × IsBegunAs finds m.uses b c.received.items c.kept c.file c.has_more unread
+  within c unread b unclosed some has =
+      let h = has unclosed in
+      (h.0, subst (λ (o : Option (Begun F)). HasBegun finds m.uses o c.received.items c.scan c.seen c.kept c.file c.has_more unread) some h.1)
+
+  closed_has : (c : Connection F) (rest : List ℕ) → c.closed ≡ true → HasUnread finds m.uses c rest
+  closed_has c rest closed = λ unclosed. absurd (false≢true (sym unclosed ∙ closed))
+
+  -- a head is refused
+  pub refused_moves : (old new : Connection F) (d : D) (why : Refused) (head : ℕ) → HasRefusal old.received.items why → old.begun ≡ None → old.closed ≡ false
+      → IsAnswered head (response why.bare true (refusal_reply why.fault)) true old new → Moves m finds old new d d
+  refused_moves old new d why head has none unclosed a unread was =
+      let s = sought old unread unclosed none was in
+      let text : List ℕ = response why.bare true (refusal_reply why.fault) in record {
+        items = item [] text ∷ [];
+        rest = new.received.items;
+        more = text;
+        run = refl;
+        taken = (left new.count new.received.items new.closed, refused why unclosed (subst (λ (l : List ℕ). HasRefusal l why) (sym s.1.is) has) refl a.count a.closed, refl);
+        has = closed_has new new.received.items a.closed;
+        out = a.out;
+        text = alone old.begun new.begun [] text none a.begun;
+      }
+
+  -- a message is begun
+  pub begun_moves : (old new : Connection F) (d : D) (b : Begun F) → IsRead old.received.items b.head b.parts → IsFound finds m.uses (take b.head old.received.items) b.parts b.found b.kind → b.left ≡ b.parts.wanted.body → old.begun ≡ None
+      → old.closed ≡ false → new.received.items ≡ old.received.items → new.begun ≡ Some b → new.count ≡ old.count → new.closed ≡ old.closed → new.has_more ≡ true → HasBody b.kind new.kept new.file []
+      → new.out.bytes ≡ old.out.bytes ++ interim b.parts.wanted.expects → Moves m finds old new d d
+  begun_moves old new d b read found all none unclosed same begun count closed more body out unread was =
+      let s = sought old unread unclosed none was in
+      let parts : List ℕ = take b.head old.received.items ++ ([] ++ drop b.head old.received.items) in
+      let has : IsBegunAs finds m.uses b old.received.items new.kept new.file new.has_more unread = record {
+        read = read;
+        found = found;
+        body = [];
+        is = s.1.is ∙ sym (take-append-drop b.head old.received.items);
+        sized = omega (arith, all);
+        has = body;
+        waits = λ waits. absurd (false≢true (sym waits ∙ more));
+      } in
+      let text : List ℕ = interim b.parts.wanted.expects in record {
+        items = [];
+        rest = unread;
+        more = text;
+        run = refl;
+        taken = ap (λ (n : ℕ). left n unread old.closed) (sym count) ∙ ap (λ (t : Bool). left new.count unread t) (sym closed);
+        has = λ still. (
+          subst (λ (n : ℕ). n < message_limit) (sym count) s.0,
+          subst (λ (o : Option (Begun F)). HasBegun finds m.uses o new.received.items new.scan new.seen new.kept new.file new.has_more unread) (sym begun) (subst (λ (l : List ℕ). IsBegunAs finds m.uses b l new.kept new.file new.has_more unread) (sym same) has),
+        );
+        out = out;
+        text = ap (λ (o : Option (Begun F)). pending o ++ text) none ∙ ap (λ (o : Option (Begun F)). pending o) (sym begun);
+      }
+
+  -- nothing more can be found
+  pub waiting_moves : (old new : Connection F) (d : D) → old.begun ≡ None → old.closed ≡ false → new.received.items ≡ old.received.items → new.begun ≡ old.begun → new.count ≡ old.count → new.closed ≡ old.closed
+      → new.seen ≡ length old.received.items → HasScanned old.received.items new.scan → (head_len old.received.items ≡ None) × (length old.received.items < 16384) → new.out ≡ old.out → Moves m finds old new d d
+  waiting_moves old new d none unclosed same begun count closed seen scanned waits out unread was =
+      let s = sought old unread unclosed none was in
+      let has : IsSought old.received.items new.scan (length old.received.items) new.has_more unread = record {
+        is = s.1.is;
+        within = omega arith;
+        scanned = subst (λ (l : List ℕ). HasScanned l new.scan) (sym (take-length old.received.items)) scanned;
+        waits = λ e. waits;
+      } in record {
+        items = [];
+        rest = unread;
+        more = [];
+        run = refl;
+        taken = ap (λ (n : ℕ). left n unread old.closed) (sym count) ∙ ap (λ (t : Bool). left new.count unread t) (sym closed);
+        has = λ still. (
+          subst (λ (n : ℕ). n < message_limit) (sym count) s.0,
+          subst (λ (o : Option (Begun F)). HasBegun finds m.uses o new.received.items new.scan new.seen new.kept new.file new.has_more unread) (sym (begun ∙ none))
+              (subst (λ (l : List ℕ). IsSought l new.scan new.seen new.has_more unread) (sym same) (subst (λ (n : ℕ). IsSought old.received.items new.scan n new.has_more unread) (sym seen) has)),
+        );
+        out = ap (λ (o : Put). o.bytes) out ∙ sym (append-nil old.out.bytes);
+        text = append-nil (pending old.begun) ∙ ap (λ (o : Option (Begun F)). pending o) (sym begun);
+      }
+
+  -- nothing is done
+  pub still_moves : (c : Connection F) (d : D) → Moves m finds c c d d
+  still_moves c d unread was = record { items = []; rest = unread; more = []; run = refl; taken = refl; has = was; out = sym (append-nil c.out.bytes); text = append-nil (pending c.begun) }
+
+  -- ---- bodies
+
+  read_front : (received more : List ℕ) (len : ℕ) (parts : HeadParts) → IsRead received len parts → IsRead (take len received ++ more) len parts
+  read_front received more len parts read =
+      let size : length (take len received) ≡ len = length-take-le len received read.within in
+      let front : take len (take len received ++ more) ≡ take len received = front_of (take len received) more len size in record {
+        within = omega (arith, length-append (take len received) more, size);
+        short = read.short;
+        ends = ap head_len front ∙ read.ends;
+        parts_are = subst (λ (l : List ℕ). AreParts l parts) (sym front) read.parts_are;
+        method = read.method;
+        target = read.target;
+        token = read.token;
+      }
+
+  more_body : (b now : Begun F) (old new : Connection F) (unread : List ℕ) (p : HasPassed b old new now) → IsBegunAs finds m.uses b old.received.items old.kept old.file old.has_more unread
+      → IsBegunAs finds m.uses (record { head = b.head; parts = b.parts; found = b.found; kind = b.kind; left = b.left - length p.piece }) (take b.head old.received.items ++ p.rest) new.kept new.file new.has_more unread
+  more_body b now old new unread p h =
+      let front : List ℕ = take b.head old.received.items in
+      let size : length front ≡ b.head = length-take-le b.head old.received.items h.read.within in
+      let same : take b.head (front ++ p.rest) ≡ front = front_of front p.rest b.head size in
+      let after : drop b.head (front ++ p.rest) ≡ p.rest = back_of front p.rest b.head size in record {
+        read = read_front old.received.items p.rest b.head b.parts h.read;
+        found = subst (λ (l : List ℕ). IsFound finds m.uses l b.parts b.found b.kind) (sym same) h.found;
+        body = h.body ++ p.piece;
+        is = h.is ∙ ap (λ (l : List ℕ). front ++ (h.body ++ l)) p.behind ∙ ap (λ (l : List ℕ). front ++ l) (sym (append_assoc h.body p.piece p.rest)) ∙ ap (λ (l : List ℕ). front ++ ((h.body ++ p.piece) ++ l)) (sym after)
+            ∙ ap (λ (l : List ℕ). l ++ ((h.body ++ p.piece) ++ drop b.head (front ++ p.rest))) (sym same);
+        sized = omega (arith, length-append h.body p.piece, h.sized, p.within);
+        has = p.body h.body h.has;
+        waits = λ none.
+            let w = p.waits none in
+            (subst (λ (n : Begun F). 0 < n.left) p.now_is w.0, ap (λ (l : List ℕ). length (front ++ l)) w.1 ∙ ap (λ (l : List ℕ). length l) (append-nil front) ∙ size);
+      }
+
+  -- what a connection has after a piece of a body is what it had
+  pub passed_has : (b now : Begun F) (old new : Connection F) (unread : List ℕ) → old.begun ≡ Some b → old.closed ≡ false → HasPassed b old new now → HasUnread finds m.uses old unread → HasUnread finds m.uses new unread
+  passed_has b now old new unread some unclosed p was still =
+      let h = within old unread b unclosed some was in
+      let more = subst (λ (n : Begun F). IsBegunAs finds m.uses n (take b.head old.received.items ++ p.rest) new.kept new.file new.has_more unread) (sym p.now_is) (more_body b now old new unread p h.1) in (
+        subst (λ (n : ℕ). n < message_limit) (sym p.count) h.0,
+        subst (λ (o : Option (Begun F)). HasBegun finds m.uses o new.received.items new.scan new.seen new.kept new.file new.has_more unread) (sym p.begun)
+            (subst (λ (l : List ℕ). IsBegunAs finds m.uses now l new.kept new.file new.has_more unread) (sym p.received) more),
+      )
+
+  same_pending : (b now : Begun F) (old new : Connection F) → old.begun ≡ Some b → HasPassed b old new now → pending old.begun ≡ pending new.begun
+  same_pending b now old new some p =
+      ap (λ (o : Option (Begun F)). pending o) some ∙ ap (λ (n : Begun F). interim n.parts.wanted.expects) (sym p.now_is) ∙ ap (λ (o : Option (Begun F)). pending o) (sym p.begun)
+
+  pub passed_moves : (b now : Begun F) (old new : Connection F) (d : D) → old.begun ≡ Some b → old.closed ≡ false → HasPassed b old new now → Moves m finds old new d d
+  passed_moves b now old new d some unclosed p unread was = record {
+    items = [];
+    rest = unread;
+    more = [];
+    run = refl;
+    taken = ap (λ (n : ℕ). left n unread old.closed) (sym p.count) ∙ ap (λ (t : Bool). left new.count unread t) (sym p.closed);
+    has = passed_has b now old new unread some unclosed p was;
+    out = ap (λ (o : Put). o.bytes) p.out ∙ sym (append-nil old.out.bytes);
+    text = append-nil (pending old.begun) ∙ same_pending b now old new some p;
+  }
+
+  -- what is done after a piece was passed on
+  pub after_passed : (b now : Begun F) (old mid new : Connection F) (d e : D) → old.begun ≡ Some b → old.closed ≡ false → HasPassed b old mid now → Moves m finds mid new d e → Moves m finds old new d e
+  after_passed b now old mid new d e some unclosed p moves unread was =
+      let x = moves unread (passed_has b now old mid unread some unclosed p was) in record {
+        items = x.items;
+        rest = x.rest;
+        more = x.more;
+        run = x.run;
+        taken = subst (λ (n : ℕ). AreTaken m (left n unread old.closed) x.items (left new.count x.rest new.closed)) p.count
+            (subst (λ (t : Bool). AreTaken m (left mid.count unread t) x.items (left new.count x.rest new.closed)) p.closed x.taken);
+        has = x.has;
+        out = x.out ∙ ap (λ (o : Put). o.bytes ++ x.more) p.out;
+        text = ap (λ (l : List ℕ). l ++ x.more) (same_pending b now old mid some p) ∙ x.text;
+      }
+
+  -- there was no memory for the body
+  pub unroomed_moves : (b : Begun F) (old mid new : Connection F) (d : D) (head : ℕ) → old.begun ≡ Some b → old.closed ≡ false → b.kind ≢ Ignored
+      → ((body : List ℕ) → HasBody b.kind old.kept old.file body → length body + b.left ≡ b.parts.wanted.body → 0 < b.parts.wanted.body) → mid.out ≡ old.out → mid.count ≡ old.count
+      → IsAnswered head (response b.parts.wanted.bare true m.no_room) true mid new → Moves m finds old new d d
+  unroomed_moves b old mid new d head some unclosed kind body out count a unread was =
+      let h = (within old unread b unclosed some was).1 in
+      let text : List ℕ = response b.parts.wanted.bare true m.no_room in
+      let are = h.read.parts_are in
+      let there = subst (λ (l : List ℕ). HasHead l b.head are.0 b.parts.wanted) (sym h.is) (has_head old.received.items (h.body ++ drop b.head old.received.items) b.head b.parts h.read) in
+      let uses : m.uses are.0.method are.0.target b.kind = subst (λ (l : List ℕ). m.uses l are.0.target b.kind) are.3 (subst (λ (l : List ℕ). m.uses (span_bytes (take b.head old.received.items) b.parts.method) l b.kind) are.4 h.found.1) in record {
+        items = item [] (interim b.parts.wanted.expects ++ text) ∷ [];
+        rest = new.received.items;
+        more = text;
+        run = refl;
+        taken = (
+          left new.count new.received.items new.closed,
+          unroomed b.head are.0 b.parts.wanted b.kind unclosed there (body h.body h.has h.sized) uses kind refl (a.count ∙ ap (λ (n : ℕ). n + 1) count) a.closed,
+          refl,
+        );
+        has = closed_has new new.received.items a.closed;
+        out = a.out ∙ ap (λ (o : Put). o.bytes ++ text) out;
+        text = behind old.begun new.begun b [] text some a.begun;
+      }
+
+  -- ---- answers
+
+  -- a request, as a message has it
+  abbrev pub request : List ℕ → List ℕ → Option (List ℕ) → List ℕ → RequestText
+  request method target token body = record { method = method; target = target; token = token; body = body }
+
+  same_request : (m1 m2 t1 t2 b1 b2 : List ℕ) (k1 k2 : Option (List ℕ)) → m1 ≡ m2 → t1 ≡ t2 → k1 ≡ k2 → b1 ≡ b2 → request m1 t1 k1 b1 ≡ request m2 t2 k2 b2
+  same_request m1 m2 t1 t2 b1 b2 k1 k2 e f g h =
+      ap (λ (x : List ℕ). request x t1 k1 b1) e ∙ ap (λ (x : List ℕ). request m2 x k1 b1) f ∙ ap (λ (x : Option (List ℕ)). request m2 t2 x b1) g ∙ ap (λ (x : List ℕ). request m2 t2 k2 x) h
+
+  -- the message is whole
+  has_message : (b : Begun F) (c : Connection F) (unread : List ℕ) (method target : List ℕ) (token : Option (List ℕ)) → b.left ≡ 0 → (h : IsBegunAs finds m.uses b c.received.items c.kept c.file c.has_more unread)
+      → method ≡ span_bytes (take b.head c.received.items) b.parts.method → target ≡ span_bytes (take b.head c.received.items) b.parts.target → token ≡ option_map (span_bytes (take b.head c.received.items)) b.parts.token
+      → HasMessage m unread (request method target token (used b.kind h.body)) b.parts.wanted (drop b.head c.received.items)
+  has_message b c unread method target token whole h em et ek =
+      let front : List ℕ = take b.head c.received.items in
+      let rest : List ℕ = drop b.head c.received.items in
+      let size : length front ≡ b.head = length-take-le b.head c.received.items h.read.within in
+      let are = h.read.parts_are in
+      let sized : length h.body ≡ b.parts.wanted.body = omega (arith, h.sized, whole) in
+      let after : drop b.head unread ≡ h.body ++ rest = ap (drop b.head) h.is ∙ back_of front (h.body ++ rest) b.head size in
+      let both : drop (b.head + b.parts.wanted.body) unread ≡ rest
+      = ap (drop (b.head + b.parts.wanted.body)) (h.is ∙ sym (append_assoc front h.body rest)) ∙ back_of (front ++ h.body) rest (b.head + b.parts.wanted.body) (length-append front h.body ∙ omega (arith, size, sized)) in
+      let body : h.body ≡ take b.parts.wanted.body (drop b.head unread) = sym (ap (take b.parts.wanted.body) after ∙ front_of h.body rest b.parts.wanted.body sized) in
+      record {
+        len = b.head;
+        head = are.0;
+        has = subst (λ (l : List ℕ). HasHead l b.head are.0 b.parts.wanted) (sym h.is) (has_head c.received.items (h.body ++ rest) b.head b.parts h.read);
+        kind = b.kind;
+        use_is = subst (λ (l : List ℕ). m.uses l are.0.target b.kind) are.3 (subst (λ (l : List ℕ). m.uses (span_bytes front b.parts.method) l b.kind) are.4 h.found.1);
+        whole = omega (arith, ap (λ (l : List ℕ). length l) h.is, length-append front (h.body ++ rest), length-append h.body rest, size, sized);
+        request_is = same_request method are.0.method target are.0.target (used b.kind h.body) (used b.kind (take b.parts.wanted.body (drop b.head unread))) token (token_of (headers_of are.0))
+            (em ∙ are.3) (et ∙ are.4) (ek ∙ are.5) (ap (used b.kind) body);
+        rest_is = sym both;
+      }
+
+  few_left : (wants : Bool) (count : ℕ) → count < 65536 → (wants || count + 1 == 65536) ≡ false → count + 1 < 65536
+  few_left true count few e = absurd (false≢true (sym e))
+  few_left false count few e = elim (eqb_tells (count + 1) 65536) [
+    | inl same ↦ absurd (false≢true (sym e ∙ same.0))
+    | inr other ↦ let apart = other.1 in omega (arith, few, apart)
+  ]
+
+  fresh_has : (new : Connection F) (closes : Bool) → (closes ≡ false → new.count < 65536) → new.begun ≡ None → new.closed ≡ closes → new.seen ≡ 0 → HasScanned [] new.scan → (new.has_more ≡ false → (closes ≡ true) ⊎ (new.received.items ≡ []))
+      → HasUnread finds m.uses new new.received.items
+  fresh_has new closes few none closed seen scanned more still =
+      let has : IsSought new.received.items new.scan 0 new.has_more new.received.items = record {
+        is = refl;
+        within = omega arith;
+        scanned = scanned;
+        waits = λ waits. elim (more waits) [
+          | inl is ↦ absurd (false≢true (sym still ∙ closed ∙ is))
+          | inr empty ↦ (ap head_len empty, omega (arith, ap (λ (l : List ℕ). length l) empty))
+        ];
+      } in (
+        few (sym closed ∙ still),
+        subst (λ (o : Option (Begun F)). HasBegun finds m.uses o new.received.items new.scan new.seen new.kept new.file new.has_more new.received.items) (sym none)
+            (subst (λ (n : ℕ). IsSought new.received.items new.scan n new.has_more new.received.items) (sym seen) has),
+      )
+
+  -- the message is answered
+  pub answered_moves : (b : Begun F) (old mid new : Connection F) (d e : D) (method target : List ℕ) (token : Option (List ℕ)) (reply : ReplyText) (closes : Bool) → old.begun ≡ Some b → old.closed ≡ false → b.left ≡ 0
+      → method ≡ span_bytes (take b.head old.received.items) b.parts.method → target ≡ span_bytes (take b.head old.received.items) b.parts.target → token ≡ option_map (span_bytes (take b.head old.received.items)) b.parts.token
+      → ((bytes : List ℕ) → HasBody b.kind old.kept old.file bytes → m.steps d (request method target token (used b.kind bytes)) reply e)
+      → closes ≡ (b.parts.wanted.closes || old.count + 1 == 65536) → mid.received.items ≡ old.received.items → mid.out ≡ old.out → mid.count ≡ old.count
+      → IsAnswered b.head (response b.parts.wanted.bare closes reply) closes mid new → Moves m finds old new d e
+  answered_moves b old mid new d e method target token reply closes some unclosed whole em et ek steps closes_is same out count a unread was =
+      let h = within old unread b unclosed some was in
+      let text : List ℕ = response b.parts.wanted.bare closes reply in
+      let x : Exchange = record { request = request method target token (used b.kind h.1.body); reply = reply } in
+      let rest : new.received.items ≡ drop b.head old.received.items = a.received ∙ ap (drop b.head) same in
+      let counted : new.count ≡ old.count + 1 = a.count ∙ ap (λ (n : ℕ). n + 1) count in
+      let message = subst (λ (l : List ℕ). HasMessage m unread x.request b.parts.wanted l) (sym rest) (has_message b old unread method target token whole h.1 em et ek) in
+      let closed : new.closed ≡ (b.parts.wanted.closes || new.count == message_limit) = a.closed ∙ closes_is ∙ ap (λ (n : ℕ). b.parts.wanted.closes || n == 65536) (sym counted) in record {
+        items = item (x ∷ []) (interim b.parts.wanted.expects ++ text) ∷ [];
+        rest = new.received.items;
+        more = text;
+        run = (e, steps h.1.body h.1.has, refl);
+        taken = (
+          left new.count new.received.items new.closed,
+          answered x b.parts.wanted unclosed message (ap (λ (t : Bool). item (x ∷ []) (interim b.parts.wanted.expects ++ response b.parts.wanted.bare t reply)) (sym a.closed)) counted closed,
+          refl,
+        );
+        has = fresh_has new closes (λ keeps. subst (λ (n : ℕ). n < 65536) (sym counted) (few_left b.parts.wanted.closes old.count h.0 (sym closes_is ∙ keeps))) a.begun a.closed a.seen a.scanned a.more;
+        out = a.out ∙ ap (λ (o : Put). o.bytes ++ text) out;
+        text = behind old.begun new.begun b (x ∷ []) text some a.begun;
+      }
+
+-- a connection whose message is not whole after a piece of its body
+pub passed_on : {F : Type 0} (b now : Begun F) (old new : Connection F) → old.begun ≡ Some b → b.head ≤ length old.received.items → HasPassed b old new now → 0 < now.left → IsFurther old new
+passed_on {F} b now old new some there p more =
+    let front : List ℕ = take b.head old.received.items in
+    let size : length front ≡ b.head = length-take-le b.head old.received.items there in
+    let w = p.waits (p.rests more) in
+    let all : new.received.items ≡ front = p.received ∙ ap (λ (l : List ℕ). front ++ l) w.1 ∙ append-nil front in
+    let long : length new.received.items ≡ b.head = ap (λ (l : List ℕ). length l) all ∙ size in
+    let came : length old.received.items - b.head ≡ length p.piece = sym (length-drop b.head old.received.items) ∙ ap (λ (l : List ℕ). length l) (p.behind ∙ ap (λ (l : List ℕ). p.piece ++ l) w.1 ∙ append-nil p.piece) in
+    let head : now.head ≡ b.head = ap (λ (n : Begun F). n.head) p.now_is in
+    let left_is : now.left ≡ b.left - length p.piece = ap (λ (n : Begun F). n.left) p.now_is in
+    let same : to_come new.begun new.received.items ≤ to_come old.begun old.received.items =
+    subst (λ (o : Option (Begun F)). to_come o new.received.items ≤ to_come old.begun old.received.items) (sym p.begun)
+    (subst (λ (o : Option (Begun F)). to_come (Some now) new.received.items ≤ to_come o old.received.items) (sym some) (omega (arith, long, came, head, left_is))) in
+    record {
+      rest = λ none. subst (λ (o : Option (Begun F)). IsAtRest o new.received.items) (sym p.begun) (long ∙ sym head, more);
+      further = inr (p.count, λ has. absurd (false≢true (sym (p.rests more) ∙ has)), λ none. same);
+    }

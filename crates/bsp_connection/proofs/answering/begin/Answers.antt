@@ -1,0 +1,25 @@
+use Rattle.std.proofs.Common.{◌≡◌, ℕ, List, ◌++◌, take, refl, sym, ap, ◌∙◌, subst}
+use Rattle.httparse.specs.Spans.{span_bytes}
+use Rattle.bsp_connection.specs.Exchanges.{interim}
+use Rattle.bsp_connection.proofs.StepLemmas.{begun_moves, fresh_body}
+use Rattle.bsp_connection.specs.Begun.{IsFound}
+use Rattle.bsp_connection.proofs.answering.begin.Goals as goal
+
+pub returns-clause-moves : goal.returns-clause-moves
+returns-clause-moves g c d =
+    let finds = g.S.Service.finds in
+    let uses = g.S.Service.means.uses in
+    let found = c.find-found.result in
+    let kind = c.body_use-kind.result in
+    let head : List ℕ = take c.args.head c.args.c.now.received.items in
+    let told = c.message_of-message.ensures in
+    let text = ap (λ (l : List ℕ). take c.args.head l) c.deref.ensures.value in
+    let method : c.message_of-message.result.method.now ≡ span_bytes head c.args.parts.method = told.method ∙ ap (λ (l : List ℕ). span_bytes l c.args.parts.method) text in
+    let target : c.message_of-message.result.target.now ≡ span_bytes head c.args.parts.target = told.target ∙ ap (λ (l : List ℕ). span_bytes l c.args.parts.target) text in
+    begun_moves g.S.Service.means finds c.args.c.now _ d (record { head = c.args.head; parts = c.args.parts; found = found; kind = kind; left = c.args.parts.wanted.body }) c.requires.read (
+      subst (λ (l : List ℕ). finds (span_bytes head c.args.parts.method) l found) target (subst (λ (l : List ℕ). finds l c.message_of-message.result.target.now found) method c.find-found.ensures),
+      subst (λ (l : List ℕ). uses (span_bytes head c.args.parts.method) l kind) target (subst (λ (l : List ℕ). uses l c.message_of-message.result.target.now kind) method c.body_use-kind.ensures),
+    )
+    refl c.requires.none c.requires.unclosed refl refl refl refl refl
+    (fresh_body kind c.start.new.self c.start-2.new.self c.start.ensures c.start-2.ensures)
+    (c.put.ensures ∙ ap (λ (l : List ℕ). c.args.c.now.out.bytes ++ l) c.interim.ensures)

@@ -1,0 +1,31 @@
+use Rattle.std.proofs.Common.{◌≡◌, ◌<◌, ◌≤◌, ℕ, ◌+◌, ◌-◌, List, ◌++◌, length, take, drop, min, refl, sym, ap, ◌∙◌, subst, arith}
+use Rattle.std.proofs.lemmas.Bool.{ne_eqb}
+use Rattle.bsp_connection.proofs.StepLemmas.{part_of}
+use Rattle.bsp_connection.specs.Begun.{HasBody}
+use Rattle.bsp_connection.proofs.answering.pass_on.Goals as goal
+
+no_less : (n : ℕ) → 0 < n → n ≡ 0 → ⊥
+no_less n some none = omega (arith, some, none)
+
+pub returns-clause-passed : goal.returns-clause-passed
+returns-clause-passed g c =
+    let b = c.args.begun in
+    let received : List ℕ = c.args.c.now.received.items in
+    let count : ℕ = c.min-count.result in
+    let p = part_of received b.head b.left count c.requires.within (c.min-count.ensures ∙ ap (λ (n : ℕ). min b.left (n - b.head)) (c.len.ensures ∙ sym c.deref.ensures.len ∙ ap (λ (l : List ℕ). length l) c.deref.ensures.value)) in
+    let piece : c.part-piece.result.now ≡ take count (drop b.head received) = c.part-piece.ensures ∙ ap (λ (l : List ℕ). take count (drop b.head l)) c.deref.ensures.value in
+    record {
+      piece = take count (drop b.head received);
+      rest = drop (b.head + count) received;
+      behind = p.behind;
+      received = c.cut_out.ensures.items;
+      within = subst (λ (n : ℕ). n ≤ b.left) (sym p.size) p.within;
+      now_is = ap (λ (n : ℕ). record { head = b.head; parts = b.parts; found = b.found; kind = b.kind; left = b.left - n }) (sym p.size);
+      begun = refl;
+      body = λ bytes has. subst (λ (l : List ℕ). HasBody b.kind c.pass.new.kept c.pass.new.file (bytes ++ l)) piece (c.in_ok-pass.ensures.taken bytes has);
+      waits = p.waits;
+      rests = λ more. ne_eqb (b.left - count) 0 (λ none. no_less (b.left - count) more none);
+      out = refl;
+      count = refl;
+      closed = refl;
+    }

@@ -1,0 +1,369 @@
+//! Answering the messages of a connection.
+
+ghost use Rattle.std.specs.Prelude.{◌≡◌, ◌≢◌, ◌≤◌, ◌<◌, ◌+◌, ◌||◌, ◌==◌, ℕ, List, [], ◌∷◌, ◌++◌, length, take, drop, true, false, None, Some, IfOk, OnOk, OnErr, vec_capacity};
+ghost use Rattle.bsp_connection.specs.Bodies.{HasRet};
+ghost use Rattle.bsp_connection.specs.Exchanges.{answer_text, request_of, used};
+ghost use Rattle.bsp_connection.specs.Conversations.{HasRefusal};
+ghost use Rattle.bsp_heads.specs.Responses.{response};
+ghost use Rattle.bsp_heads.specs.Scan.{head_len};
+ghost use Rattle.bsp_connection.specs.Begun.{HasBody, HasUnread, IsRead};
+ghost use Rattle.bsp_connection.specs.Progress.{IsFurther, IsOn};
+ghost use Rattle.bsp_connection.specs.Talks.{HasPassed, IsAnswered, IsRefused, Moves};
+
+use crate::begun::{Begun, message_of, up_to};
+use crate::connection::Connection;
+use crate::heads::{Sought, seek};
+use crate::kept::KeptBody;
+use crate::ret_body::RetBody;
+use crate::service::{Answer, BodyUse, Message, Service};
+use crate::sink::BodySink;
+use bsp_fields::NoRoom;
+use bsp_heads::{HeadFault, HeadParts, Refused, Scan, interim, read_head, refusal};
+use std::borrow::CowSlice;
+
+/// The messages that were answered before the last that a connection may have.
+const LAST: usize = 65_535;
+
+/// The refusal of a head that does not end within the limit.
+const TOO_LARGE: Refused = Refused {
+    fault: HeadFault::HeadTooLarge,
+    bare: false,
+};
+
+/// So many bytes from a place on.
+fn part(bytes: &[u8], at: usize, count: usize) -> &[u8]
+    requires { at + count ≤ length bytes.now }
+    ensures { result.now ≡ take count (drop at bytes.now) }
+{
+    &bytes[at..at + count]
+}
+
+/// Drops so many bytes from a place on.
+fn cut_out(bytes: &mut Vec<u8>, at: usize, count: usize)
+    requires { at + count ≤ length bytes.old.items }
+    ensures items { bytes.new.items ≡ take at bytes.old.items ++ drop (at + count) bytes.old.items }
+    ensures room { vec_capacity bytes.new ≡ vec_capacity bytes.old }
+{
+    bytes.drain(at..at + count);
+}
+
+/// Passes a piece of a body on to what takes it.
+///
+/// # Errors
+///
+/// `NoRoom` where an allocation was refused; the body is one that is used, and the piece has a byte.
+fn pass(kept: &mut KeptBody, file: &mut RetBody, kind: BodyUse, piece: &[u8]) -> Result<(), NoRoom>
+    ensures taken { OnOk result ((bytes : List ℕ) → HasBody kind kept.old file.old bytes → HasBody kind kept.new file.new (bytes ++ piece.now)) }
+    ensures refused { OnErr result ((kind ≢ BodyUse.Ignored) × (0 < length piece.now)) }
+{
+    match kind {
+        BodyUse::Ignored => Ok(()),
+        BodyUse::Kept => kept.feed(piece),
+        BodyUse::RetFile => file.feed(piece),
+    }
+}
+
+/// Asks the service with the RET file that the body is, or its first fault.
+///
+/// # Errors
+///
+/// `NoRoom` where there was no memory for the file. The desk is then as it was.
+fn ask_with_file<D, S: Service<D>>(
+    file: &mut RetBody,
+    service: &S,
+    desk: &mut D,
+    message: &Message<'_>,
+    found: S::Found,
+) -> Result<Answer, NoRoom>
+    requires finds { S.finds message.now.method.now message.now.target.now found }
+    requires use_is { S.means.uses message.now.method.now message.now.target.now BodyUse.RetFile }
+    ensures answered { IfOk result (λ answer. (bytes : List ℕ) → HasRet file.old bytes → S.means.steps desk.old (request_of message.now bytes) (answer_text answer) desk.new) }
+    ensures refused { OnErr result ((desk.new ≡ desk.old) × ((bytes : List ℕ) → HasRet file.old bytes → 0 < length bytes)) }
+{
+    if let Err(fault) = file.finish() {
+        return Ok(service.answer_file(desk, message, found, Err(fault)));
+    }
+    match file.file() {
+        Ok(read) => Ok(service.answer_file(desk, message, found, Ok(&read))),
+        Err(_) => Err(NoRoom),
+    }
+}
+
+/// Asks the service with the body that came.
+///
+/// # Errors
+///
+/// `NoRoom` where there was no memory for the file that the body is. The desk is then as it was.
+fn ask<D, S: Service<D>>(
+    kept: &KeptBody,
+    file: &mut RetBody,
+    kind: BodyUse,
+    service: &S,
+    desk: &mut D,
+    message: &Message<'_>,
+    found: S::Found,
+) -> Result<Answer, NoRoom>
+    requires finds { S.finds message.now.method.now message.now.target.now found }
+    requires use_is { S.means.uses message.now.method.now message.now.target.now kind }
+    ensures answered { IfOk result (λ answer. (bytes : List ℕ) → HasBody kind kept.now file.old bytes → S.means.steps desk.old (request_of message.now (used kind bytes)) (answer_text answer) desk.new) }
+    ensures refused { OnErr result ((desk.new ≡ desk.old) × (kind ≢ BodyUse.Ignored) × ((bytes : List ℕ) → HasBody kind kept.now file.old bytes → 0 < length bytes)) }
+{
+    match kind {
+        BodyUse::Ignored => Ok(service.answer(desk, message, found, b"")),
+        BodyUse::Kept => Ok(service.answer(desk, message, found, kept.bytes())),
+        BodyUse::RetFile => ask_with_file(file, service, desk, message, found),
+    }
+}
+
+/// Puts out the response to the message whose head has so many bytes, and goes on after it.
+fn end_message<F: Copy>(
+    c: &mut Connection<F>,
+    head: usize,
+    answer: Answer,
+    bare: bool,
+    closes: bool,
+)
+    requires within { head ≤ length c.old.received.items }
+    requires free { c.old.out.apart ≡ false }
+    requires few { c.old.count < 65536 }
+    ensures answered { IsAnswered head (response bare closes (answer_text answer)) closes c.old c.new }
+    ensures room { vec_capacity c.new.received ≡ vec_capacity c.old.received }
+{
+    c.out.respond(answer, bare, closes);
+    c.received.drain(..head);
+    c.begun = None;
+    c.scan = Scan::start();
+    c.seen = 0;
+    c.kept = KeptBody::new(c.alloc);
+    c.file = RetBody::new(c.alloc);
+    c.count += 1;
+    c.closed = closes;
+    c.has_more = !closes && !c.received.is_empty();
+}
+
+/// Refuses the head at the front, and closes the connection.
+fn refuse<D, S: Service<D>>(c: &mut Connection<S::Found>, refused: Refused, service: &S, desk: &D)
+    requires why { HasRefusal c.old.received.items refused }
+    requires none { c.old.begun ≡ None }
+    requires unclosed { c.old.closed ≡ false }
+    requires free { c.old.out.apart ≡ false }
+    requires few { c.old.count < 65536 }
+    ensures moves { Moves S.means S.finds c.old c.new desk.now desk.now }
+    ensures closed { c.new.closed ≡ true }
+    ensures shut { c.new.begun ≡ None }
+    ensures room { vec_capacity c.new.received ≡ vec_capacity c.old.received }
+{
+    let reply = refusal(refused.fault);
+    service.note(desk, c.number, None, &reply);
+    let answer = Answer {
+        status: reply.status,
+        media: reply.media,
+        allow: reply.allow,
+        body: CowSlice::Borrowed(reply.body),
+    };
+    let all = c.received.len();
+    end_message(c, all, answer, refused.bare, true);
+}
+
+/// Begins the message whose head was read.
+fn begin<D, S: Service<D>>(c: &mut Connection<S::Found>, head: usize, parts: HeadParts, service: &S)
+    requires read { IsRead c.old.received.items head parts }
+    requires none { c.old.begun ≡ None }
+    requires unclosed { c.old.closed ≡ false }
+    requires free { c.old.out.apart ≡ false }
+    ensures moves { (d : D) → Moves S.means S.finds c.old c.new d d }
+    ensures further { IsFurther c.old c.new }
+    ensures unclosed { c.new.closed ≡ false }
+    ensures room { vec_capacity c.new.received ≡ vec_capacity c.old.received }
+{
+    let message = message_of(&c.received, head, &parts);
+    let found = service.find(message.method, message.target);
+    let kind = service.body_use(&message, found);
+    c.kept.start(0);
+    c.file.start(0);
+    c.out.put(interim(parts.wanted.expects));
+    c.begun = Some(Begun {
+        head,
+        parts,
+        found,
+        kind,
+        left: parts.wanted.body,
+    });
+    c.has_more = true;
+}
+
+/// Reads the head that was found at the front: begins its message, or refuses it.
+fn take_found<D, S: Service<D>>(c: &mut Connection<S::Found>, head: usize, service: &S, desk: &D)
+    requires found { head_len c.old.received.items ≡ Some head }
+    requires short { head ≤ 16384 }
+    requires none { c.old.begun ≡ None }
+    requires unclosed { c.old.closed ≡ false }
+    requires free { c.old.out.apart ≡ false }
+    requires few { c.old.count < 65536 }
+    ensures moves { Moves S.means S.finds c.old c.new desk.now desk.now }
+    ensures goes_on { IsOn c.old c.new }
+    ensures shut { c.new.closed ≡ true → c.new.begun ≡ None }
+    ensures room { vec_capacity c.new.received ≡ vec_capacity c.old.received }
+{
+    match read_head(up_to(&c.received, head)) {
+        Ok(parts) => begin::<D, S>(c, head, parts, service),
+        Err(refused) => refuse(c, refused, service, desk),
+    }
+}
+
+/// Seeks the head of the next message.
+fn take_head<D, S: Service<D>>(c: &mut Connection<S::Found>, service: &S, desk: &D)
+    requires none { c.old.begun ≡ None }
+    requires unclosed { c.old.closed ≡ false }
+    requires free { c.old.out.apart ≡ false }
+    requires has { (unread : List ℕ) × HasUnread S.finds S.means.uses c.old unread }
+    ensures moves { Moves S.means S.finds c.old c.new desk.now desk.now }
+    ensures goes_on { IsOn c.old c.new }
+    ensures shut { c.new.closed ≡ true → c.new.begun ≡ None }
+    ensures room { vec_capacity c.new.received ≡ vec_capacity c.old.received }
+{
+    let mut scan = c.scan;
+    match seek(&mut scan, &c.received, c.seen) {
+        Sought::Head(head) => take_found(c, head, service, desk),
+        Sought::TooLong => refuse(c, TOO_LARGE, service, desk),
+        Sought::Nothing => {
+            c.seen = c.received.len();
+            c.scan = scan;
+            c.has_more = false;
+        }
+    }
+}
+
+/// Whether the connection closes after the response to a message that came after so many.
+fn closes_after(wants_close: bool, count: usize) -> bool
+    ensures { result ≡ (wants_close || count + 1 == 65536) }
+{
+    wants_close || count == LAST
+}
+
+/// Passes on what came of the body. Answers the message as it is begun then.
+///
+/// # Errors
+///
+/// `NoRoom` where there was no memory for it.
+fn pass_on<F: Copy>(c: &mut Connection<F>, begun: Begun<F>) -> Result<Begun<F>, NoRoom>
+    requires begun { c.old.begun ≡ Some begun }
+    requires within { begun.head ≤ length c.old.received.items }
+    ensures passed { IfOk result (HasPassed begun c.old c.new) }
+    ensures refused { OnErr result (IsRefused begun c.old c.new) }
+    ensures room { vec_capacity c.new.received ≡ vec_capacity c.old.received }
+{
+    let count = begun.left.min(c.received.len() - begun.head);
+    let piece = part(&c.received, begun.head, count);
+    pass(&mut c.kept, &mut c.file, begun.kind, piece)?;
+    cut_out(&mut c.received, begun.head, count);
+    let now = Begun {
+        left: begun.left - count,
+        ..begun
+    };
+    c.begun = Some(now);
+    c.has_more = now.left == 0;
+    Ok(now)
+}
+
+/// Answers that there was no memory for the body of the message, and closes the connection.
+fn unroomed<D, S: Service<D>>(
+    c: &mut Connection<S::Found>,
+    begun: Begun<S::Found>,
+    service: &S,
+    desk: &D,
+)
+    requires read { IsRead c.old.received.items begun.head begun.parts }
+    requires free { c.old.out.apart ≡ false }
+    requires few { c.old.count < 65536 }
+    ensures answered { IsAnswered (length c.old.received.items) (response begun.parts.wanted.bare true S.means.no_room) true c.old c.new }
+    ensures room { vec_capacity c.new.received ≡ vec_capacity c.old.received }
+{
+    let answer = service.no_room();
+    let message = message_of(&c.received, begun.head, &begun.parts);
+    service.note(desk, c.number, Some(&message), &answer.reply());
+    let all = c.received.len();
+    end_message(c, all, answer, begun.parts.wanted.bare, true);
+}
+
+/// Has the message answered whose body is whole.
+fn finish<D, S: Service<D>>(
+    c: &mut Connection<S::Found>,
+    begun: Begun<S::Found>,
+    service: &S,
+    desk: &mut D,
+)
+    requires begun { c.old.begun ≡ Some begun }
+    requires whole { begun.left ≡ 0 }
+    requires unclosed { c.old.closed ≡ false }
+    requires free { c.old.out.apart ≡ false }
+    requires has { (unread : List ℕ) × HasUnread S.finds S.means.uses c.old unread }
+    ensures moves { Moves S.means S.finds c.old c.new desk.old desk.new }
+    ensures goes_on { IsOn c.old c.new }
+    ensures shut { c.new.closed ≡ true → c.new.begun ≡ None }
+    ensures room { vec_capacity c.new.received ≡ vec_capacity c.old.received }
+{
+    let message = message_of(&c.received, begun.head, &begun.parts);
+    let asked = ask(
+        &c.kept,
+        &mut c.file,
+        begun.kind,
+        service,
+        desk,
+        &message,
+        begun.found,
+    );
+    let Ok(answer) = asked else {
+        return unroomed(c, begun, service, desk);
+    };
+    service.note(desk, c.number, Some(&message), &answer.reply());
+    let wanted = begun.parts.wanted;
+    let closes = closes_after(wanted.closes, c.count);
+    end_message(c, begun.head, answer, wanted.bare, closes);
+}
+
+/// Goes on with the body of the message that is begun.
+fn take_body<D, S: Service<D>>(
+    c: &mut Connection<S::Found>,
+    begun: Begun<S::Found>,
+    service: &S,
+    desk: &mut D,
+)
+    requires begun { c.old.begun ≡ Some begun }
+    requires unclosed { c.old.closed ≡ false }
+    requires free { c.old.out.apart ≡ false }
+    requires has { (unread : List ℕ) × HasUnread S.finds S.means.uses c.old unread }
+    ensures moves { Moves S.means S.finds c.old c.new desk.old desk.new }
+    ensures goes_on { IsOn c.old c.new }
+    ensures shut { c.new.closed ≡ true → c.new.begun ≡ None }
+    ensures room { vec_capacity c.new.received ≡ vec_capacity c.old.received }
+{
+    match pass_on(c, begun) {
+        Ok(now) => {
+            if now.left == 0 {
+                finish(c, now, service, desk);
+            }
+        }
+        Err(_) => unroomed(c, begun, service, desk),
+    }
+}
+
+/// Goes on with what came, and has one message of it answered at the most. While the last response is not sent whose
+/// parts were not copied, nothing is done.
+///
+/// Where there is no memory for a body the answer says so, and the connection closes.
+pub fn go_on<D, S: Service<D>>(c: &mut Connection<S::Found>, service: &S, desk: &mut D)
+    requires { (unread : List ℕ) × HasUnread S.finds S.means.uses c.old unread }
+    ensures moves { Moves S.means S.finds c.old c.new desk.old desk.new }
+    ensures goes_on { c.old.closed ≡ false → c.old.out.apart ≡ false → IsOn c.old c.new }
+    ensures shut { c.old.closed ≡ false → c.new.closed ≡ true → c.new.begun ≡ None }
+    ensures room { vec_capacity c.new.received ≡ vec_capacity c.old.received }
+{
+    if c.closed || !c.out.is_free() {
+        return;
+    }
+    match c.begun {
+        Some(begun) => take_body(c, begun, service, desk),
+        None => take_head(c, service, desk),
+    }
+}

@@ -1,0 +1,199 @@
+//! What is put out on a connection and not yet sent.
+
+ghost use Rattle.std.specs.Prelude.{◌≡◌, ◌≤◌, ◌-◌, ◌+◌, List, ℕ, [], ◌++◌, length, take, drop, not, Bool, true, false, if◌then◌else◌};
+ghost use Rattle.std.specs.Cow.{cow_slice_items};
+ghost use Rattle.bsp_heads.specs.ResponseHeads.{head_text};
+ghost use Rattle.bsp_heads.specs.Responses.{reply_head, response};
+ghost use Rattle.bsp_connection.specs.Exchanges.{answer_text};
+
+use crate::apart::{Apart, after, bytes_of, from};
+use crate::service::Answer;
+use bsp_heads::{HeadText, ResponseHead};
+use std::alloc::Global;
+use std::borrow::CowSlice;
+use std::marker::Model;
+
+/// The most bytes of a body that is copied to its head, so that both are sent by one write.
+const COPIED: usize = 2048;
+
+/// What is to be sent: texts that were put together, and after them at most one response whose parts are kept apart. A
+/// contract sees the bytes that are not yet sent, those that are sent next, and whether there is such a response.
+#[derive(Drop)]
+pub struct Output {
+    alloc: Global,
+    texts: Vec<u8>,
+    // How much of the texts was sent.
+    sent: usize,
+    apart: Option<Apart>,
+}
+
+impl Model for Output {
+    ghost use Rattle.std.specs.Prelude.{length, ◌≤◌};
+    ghost use Rattle.bsp_connection.specs.Outputs.{Put, put_of};
+
+    ghost Value = { Put };
+
+    ghost view = { λ o. put_of o.texts.items o.sent o.apart };
+
+    ghost invariant = { λ o. o.sent ≤ length o.texts.items };
+}
+
+/// Appends both texts, or none where there is no room.
+fn append(texts: &mut Vec<u8>, head: &[u8], body: &[u8]) -> bool
+    ensures { texts.new.items ≡ (if result then texts.old.items ++ (head.now ++ body.now) else texts.old.items) }
+{
+    if texts
+        .reserve(head.len().saturating_add(body.len()))
+        .is_err()
+    {
+        return false;
+    }
+    let _ = texts.extend_from_slice(head);
+    let _ = texts.extend_from_slice(body);
+    true
+}
+
+/// The head of the response with this answer.
+fn head_for(answer: &Answer, closes: bool) -> HeadText
+    ensures { result ≡ head_text (reply_head closes (answer_text answer.now)) }
+{
+    let head = ResponseHead {
+        status: answer.status,
+        media: answer.media,
+        length: bytes_of(&answer.body).len(),
+        allow: answer.allow,
+        closes,
+    };
+    head.text()
+}
+
+impl Output {
+    /// Nothing that is to be sent. It takes no memory.
+    pub fn new(alloc: Global) -> Output
+        ensures none { result.bytes ≡ [] }
+        ensures free { result.apart ≡ false }
+    {
+        Output {
+            alloc,
+            texts: Vec::new(alloc),
+            sent: 0,
+            apart: None,
+        }
+    }
+
+    /// Whether something more may be put out.
+    pub fn is_free(&self) -> bool
+        ensures { result ≡ not self.now.apart }
+    {
+        self.apart.is_none()
+    }
+
+    /// All that is to be sent, in three parts.
+    pub(crate) fn parts(&self) -> (&[u8], &[u8], &[u8])
+        ensures { result.0.now ++ (result.1.now ++ result.2.now) ≡ self.now.bytes }
+    {
+        let (head, body): (&[u8], &[u8]) = match &self.apart {
+            Some(apart) => apart.parts(),
+            None => (b"", b""),
+        };
+        (from(&self.texts, self.sent), head, body)
+    }
+
+    /// Drops all of it, which was sent. The memory of the texts is used again.
+    pub(crate) fn clear(&mut self)
+        ensures none { self.new.bytes ≡ [] }
+        ensures free { self.new.apart ≡ false }
+    {
+        self.texts.clear();
+        self.sent = 0;
+        self.apart = None;
+    }
+
+    /// Whether all is sent.
+    pub fn is_empty(&self) -> bool
+        ensures { result ≡ true → self.now.bytes ≡ [] }
+    {
+        self.sent == self.texts.len() && self.apart.is_none()
+    }
+
+    /// What is sent next: none if and only if all is sent.
+    pub fn front(&self) -> &[u8]
+        ensures { result.now ≡ self.now.front }
+    {
+        if self.sent < self.texts.len() {
+            return from(&self.texts, self.sent);
+        }
+        match &self.apart {
+            Some(apart) => apart.front(),
+            None => b"",
+        }
+    }
+
+    /// Drops the first bytes of [`Output::front`], which were sent.
+    pub fn sent(&mut self, count: usize)
+        requires { count ≤ length self.old.front }
+        ensures { self.old.bytes ≡ take count self.old.front ++ self.new.bytes }
+    {
+        if self.sent < self.texts.len() {
+            self.sent = after(&self.texts, self.sent, count);
+            self.drop_texts();
+            return;
+        }
+        if let Some(apart) = &mut self.apart {
+            apart.sent(count);
+        }
+        self.drop_apart();
+    }
+
+    /// Gives the memory of the texts back, where all of them were sent.
+    fn drop_texts(&mut self)
+        ensures { self.new.bytes ≡ self.old.bytes }
+    {
+        if self.sent == self.texts.len() {
+            self.texts = Vec::new(self.alloc);
+            self.sent = 0;
+        }
+    }
+
+    /// Drops the response that is apart, where all of it was sent.
+    fn drop_apart(&mut self)
+        ensures { self.new.bytes ≡ self.old.bytes }
+    {
+        let is_sent = match &self.apart {
+            Some(apart) => apart.is_empty(),
+            None => false,
+        };
+        if is_sent {
+            self.apart = None;
+        }
+    }
+
+    /// Puts out a text.
+    pub fn put(&mut self, text: &'static [u8])
+        requires { self.old.apart ≡ false }
+        ensures { self.new.bytes ≡ self.old.bytes ++ text.now }
+    {
+        if !append(&mut self.texts, text, b"") {
+            self.apart = Some(Apart::new(None, CowSlice::Borrowed(text)));
+        }
+    }
+
+    /// Puts out the response with this answer. `bare`: its body is left out (RFC 9110, 9.3.2). `closes`: the connection
+    /// closes after it. It always succeeds: where there is no memory for a copy, its parts are kept apart.
+    pub fn respond(&mut self, answer: Answer, bare: bool, closes: bool)
+        requires { self.old.apart ≡ false }
+        ensures { self.new.bytes ≡ self.old.bytes ++ response bare closes (answer_text answer) }
+    {
+        let head = head_for(&answer, closes);
+        let body = if bare {
+            CowSlice::Borrowed(b"")
+        } else {
+            answer.body
+        };
+        let bytes = bytes_of(&body);
+        if bytes.len() <= COPIED && append(&mut self.texts, head.as_bytes(), bytes) {
+            return;
+        }
+        self.apart = Some(Apart::new(Some(head), body));
+    }
+}

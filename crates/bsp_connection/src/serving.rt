@@ -1,0 +1,197 @@
+//! Serving one connection.
+
+ghost use Rattle.std.specs.Prelude.{◌≡◌, ◌≢◌, ◌⊎◌, ◌<◌, ◌≤◌, ◌+◌, ◌==◌, ℕ, true, false, List, [], ◌++◌, length, None, Some, Ok, Err, IfOk, OnOk, OnErr, vec_capacity};
+ghost use Rattle.std.specs.Io.KnownBytes.{Appends, Consumes, IsAtEnd, Keeps};
+ghost use Rattle.bsp_connection.specs.Begun.{HasUnread};
+ghost use Rattle.bsp_connection.specs.Ends.{IsInputEnd, served_by};
+ghost use Rattle.bsp_connection.specs.Progress.{IsAtRest};
+ghost use Rattle.bsp_connection.specs.Reads.{failed_by_reads, most_empty, most_empty_of_turn};
+ghost use Rattle.bsp_connection.specs.Serving.{Serves};
+ghost use Rattle.bsp_connection.specs.Steps.{WasRead, WasStep};
+ghost use Rattle.bsp_connection.specs.Noted.{empty_reads, failed_by};
+ghost use Rattle.bsp_connection.specs.Talks.{IsFresh, IsSame, IsSent};
+ghost use Rattle.bsp_connection.specs.Written.{IsWritten};
+
+use crate::answering::go_on;
+use crate::begun::up_to;
+use crate::connection::Connection;
+use crate::end::{End, ServeFault, Served};
+use crate::noted::Noted;
+use crate::sending::{WriteFault, send_all, send_on};
+use crate::service::Service;
+use std::alloc::Global;
+use std::io::{Read, Write};
+
+/// The number of a connection that is served alone.
+const ALONE: u64 = 0;
+
+/// The bytes that are read at once.
+const PIECE: usize = 16_384;
+
+/// Whether the texts have no byte.
+fn are_empty(texts: (&[u8], &[u8], &[u8])) -> bool
+    ensures { result ≡ (length (texts.entry.0.now ++ (texts.entry.1.now ++ texts.entry.2.now)) == 0) }
+{
+    texts.0.is_empty() && texts.1.is_empty() && texts.2.is_empty()
+}
+
+/// Writes all that is put out. Where nothing is, the writer is not called.
+fn send_out<W: Write, F>(
+    c: &mut Connection<F>,
+    writer: &mut Noted<W>,
+) -> Result<(), WriteFault>
+    ensures written { IsWritten (W.contents writer.old.inner) (W.contents writer.new.inner) c.old.out.bytes result }
+    ensures sent { OnOk result (IsSent c.old c.old.out.bytes c.new) }
+    ensures free { OnOk result ((c.new.out.bytes ≡ []) × (c.new.out.apart ≡ false)) }
+    ensures kept { OnErr result (IsSame c.old c.new) }
+    ensures some { OnErr result (c.old.out.bytes ≢ []) }
+    ensures cause { OnErr result (writer.new.failed ≡ true) }
+    ensures noted { writer.old.failed ≡ true → writer.new.failed ≡ true }
+    ensures room { vec_capacity c.new.received ≡ vec_capacity c.old.received }
+{
+    let texts = c.out.parts();
+    if !are_empty(texts) {
+        send_all(writer, texts)?;
+    }
+    c.out.clear();
+    Ok(())
+}
+
+/// Reads once, and has the connection take what came.
+fn receive<R: Read, F>(
+    c: &mut Connection<F>,
+    room: &mut [u8],
+    reader: &mut Noted<R>,
+) -> Result<Option<End>, ServeFault>
+    requires short { length c.old.received.items ≤ 16384 }
+    requires unclosed { c.old.closed ≡ false }
+    requires capacity { 32768 ≤ vec_capacity c.old.received }
+    requires piece { length room.old ≡ 16384 }
+    ensures read { (got : List ℕ) × Consumes (R.remaining reader.old.inner) (R.remaining reader.new.inner) got × WasRead got c.old c.new result }
+    ensures end { IfOk result (λ end. end ≢ None → IsAtEnd (R.remaining reader.new.inner)) }
+    ensures failed { reader.new.failed ≡ failed_by_reads reader.old.failed result }
+    ensures empty { reader.new.empty ≤ reader.old.empty + most_empty_of_turn result }
+    ensures room { vec_capacity c.old.received ≤ vec_capacity c.new.received }
+    ensures piece { length room.new ≡ 16384 }
+{
+    let count = match reader.read(room) {
+        Ok(0) => return Ok(Some(c.end_of_input())),
+        Ok(count) => count,
+        Err(_) => return Err(ServeFault::Read),
+    };
+    let Ok(()) = c.feed(up_to(room, count)) else {
+        unreachable!()
+    };
+    Ok(None)
+}
+
+/// Goes on with what came, writes what is put out for it, and where nothing more can be answered reads once. None: the
+/// connection goes on.
+fn step<R: Read, W: Write, D, S: Service<D>>(
+    c: &mut Connection<S::Found>,
+    room: &mut [u8],
+    reader: &mut Noted<R>,
+    writer: &mut Noted<W>,
+    service: &S,
+    desk: &mut D,
+) -> Result<Option<End>, ServeFault>
+    requires has { (unread : List ℕ) × HasUnread S.finds S.means.uses c.old unread }
+    requires none { c.old.out.bytes ≡ [] }
+    requires free { c.old.out.apart ≡ false }
+    requires unclosed { c.old.closed ≡ false }
+    requires capacity { 32768 ≤ vec_capacity c.old.received }
+    requires piece { length room.old ≡ 16384 }
+    ensures step { (got : List ℕ) × (text : List ℕ) × Consumes (R.remaining reader.old.inner) (R.remaining reader.new.inner) got
+        × Appends (W.contents writer.old.inner) (W.contents writer.new.inner) text × WasStep S.means S.finds got text c.old c.new desk.old desk.new result }
+    ensures end { IfOk result (λ end. (end ≡ Some End.Clean) ⊎ (end ≡ Some End.Cut) → IsAtEnd (R.remaining reader.new.inner)) }
+    ensures failed { reader.new.failed ≡ failed_by_reads reader.old.failed result }
+    ensures empty { reader.new.empty ≤ reader.old.empty + most_empty_of_turn result }
+    ensures cause { result ≡ Err ServeFault.Write → writer.new.failed ≡ true }
+    ensures noted { writer.old.failed ≡ true → writer.new.failed ≡ true }
+    ensures room { vec_capacity c.old.received ≤ vec_capacity c.new.received }
+    ensures piece { length room.new ≡ 16384 }
+{
+    go_on(c, service, desk);
+    match send_out(c, writer) {
+        Ok(()) => {}
+        Err(_) => return Err(ServeFault::Write),
+    }
+    if c.is_closed() {
+        return Ok(Some(End::Closed));
+    }
+    if c.has_more() {
+        return Ok(None);
+    }
+    send_on(writer);
+    receive(c, room, reader)
+}
+
+/// Serves the connection to its end, with a room for what is read at once.
+fn serve_with<R: Read, W: Write, D, S: Service<D>>(
+    c: &mut Connection<S::Found>,
+    room: &mut [u8],
+    reader: &mut Noted<R>,
+    writer: &mut Noted<W>,
+    service: &S,
+    desk: &mut D,
+) -> Result<End, ServeFault>
+    requires fresh { IsFresh c.old }
+    requires capacity { 32768 ≤ vec_capacity c.old.received }
+    requires piece { length room.old ≡ 16384 }
+    ensures conversation { (got : List ℕ) × Consumes (R.remaining reader.old.inner) (R.remaining reader.new.inner) got
+        × Serves S.means got desk.old desk.new (W.contents writer.old.inner) (W.contents writer.new.inner) (served_by c.new.count result) }
+    ensures end { IfOk result (λ end. IsInputEnd end → IsAtEnd (R.remaining reader.new.inner)) }
+    ensures read_cause { reader.new.failed ≡ failed_by_reads reader.old.failed result }
+    ensures write_cause { result ≡ Err ServeFault.Write → writer.new.failed ≡ true }
+    ensures noted { writer.old.failed ≡ true → writer.new.failed ≡ true }
+    ensures reads { reader.new.empty ≤ reader.old.empty + most_empty (served_by c.new.count result) }
+{
+    'steps: loop {
+        match step(c, room, reader, writer, service, desk) {
+            Ok(None) => {}
+            Ok(Some(end)) => return Ok(end),
+            Err(fault) => return Err(fault),
+        }
+    }
+}
+
+/// Serves one connection to its end: reads its messages, one after the other, has each answered at the desk, and writes
+/// the responses.
+///
+/// A writer that holds bytes back, as a `BufWriter` does, is flushed before the peer is waited for; who passes one
+/// flushes it in the end.
+///
+/// It takes memory for the connection, of a fixed size, for bodies, and for small responses that are written together.
+///
+/// # Errors
+///
+/// `Memory` before anything was read or written. `Read` where a read failed: exactly the messages that were
+/// complete were answered. `Write` where a write failed, or took no byte: a first part of the responses was
+/// written, and what the desk was asked before stays. No more is written once a call of the writer has failed.
+pub fn serve<R: Read, W: Write, D, S: Service<D>>(
+    alloc: Global,
+    reader: &mut Noted<R>,
+    writer: &mut Noted<W>,
+    service: &S,
+    desk: &mut D,
+) -> Result<Served, ServeFault>
+    ensures conversation { (got : List ℕ) × Consumes (R.remaining reader.old.inner) (R.remaining reader.new.inner) got
+        × Serves S.means got desk.old desk.new (W.contents writer.old.inner) (W.contents writer.new.inner) result }
+    ensures end { IfOk result (λ served. IsInputEnd served.end → IsAtEnd (R.remaining reader.new.inner)) }
+    ensures read_cause { reader.new.failed ≡ failed_by_reads reader.old.failed result }
+    ensures write_cause { result ≡ Err ServeFault.Write → writer.new.failed ≡ true }
+    ensures noted { writer.old.failed ≡ true → writer.new.failed ≡ true }
+    ensures reads { reader.new.empty ≤ reader.old.empty + most_empty result }
+{
+    let (Ok(mut c), Ok(mut room)) = (Connection::with_room(alloc, ALONE), vec![in alloc; 0; PIECE])
+    else {
+        return Err(ServeFault::Memory);
+    };
+    match serve_with(&mut c, &mut room, reader, writer, service, desk) {
+        Ok(end) => Ok(Served {
+            messages: c.count(),
+            end,
+        }),
+        Err(fault) => Err(fault),
+    }
+}

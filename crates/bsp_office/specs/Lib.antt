@@ -1,2 +1,0 @@
--- What the contracts of the program cite.
-pub mod Listening
