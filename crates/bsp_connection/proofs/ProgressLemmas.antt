@@ -48,8 +48,8 @@ module _ {F : Type 0} where
   pub less_by_read : (old new : Connection F) (piece : List ℕ) → IsAtRest old.begun old.received.items → 0 < length piece → new.received.items ≡ old.received.items ++ piece → IsLike old new → most_to_come new < most_to_come old
   less_by_read old new piece rest some is l =
       same_less old.count new.count (to_come new.begun new.received.items) (to_come old.begun old.received.items) l.count
-          (subst (λ (o : Option (Begun F)). to_come o new.received.items < to_come old.begun old.received.items) (sym l.begun)
-          (subst (λ (x : List ℕ). to_come old.begun x < to_come old.begun old.received.items) (sym is) (less_by_piece old.begun old.received.items piece rest some)))
+      (subst (λ (o : Option (Begun F)). to_come o new.received.items < to_come old.begun old.received.items) (sym l.begun)
+      (subst (λ (x : List ℕ). to_come old.begun x < to_come old.begun old.received.items) (sym is) (less_by_piece old.begun old.received.items piece rest some)))
 
   same_to_come : (old new : Connection F) → IsLike old new → new.received.items ≡ old.received.items → most_to_come new ≡ most_to_come old
   same_to_come old new l is =
@@ -62,7 +62,7 @@ module _ {F : Type 0} where
   like_most old mid new l is less = subst (λ (n : ℕ). n ≤ most_to_come old) (sym (same_to_come mid new l is)) less
 
   pub still_further : (old new : Connection F) → IsOn old new → new.closed ≡ false → IsFurther old new
-  still_further old new on still = elim on [ | inl shut ↦ absurd (false≢true (sym still ∙ shut)) | inr further ↦ further ]
+  still_further old new on still = elim on [ inl shut ↦ absurd (false≢true (sym still ∙ shut)) | inr further ↦ further ]
 
   pub like_rest : (old new : Connection F) → IsLike old new → new.received.items ≡ old.received.items → IsAtRest old.begun old.received.items → IsAtRest new.begun new.received.items
   like_rest old new l is rest = subst (λ (o : Option (Begun F)). IsAtRest o new.received.items) (sym l.begun) (subst (λ (x : List ℕ). IsAtRest old.begun x) (sym is) rest)
@@ -93,12 +93,11 @@ module _ {D F : Type 0} (m : Meaning D) (finds : List ℕ → List ℕ → F →
       → WasRead got mid new result → WasStep m finds got text old new d e result
   step_read old mid new d e got text (Ok None) goes is_open none most rest read = elim read.0 [
     | inl dropped ↦ absurd (false≢true (sym is_open.2 ∙ dropped.0))
-    | inr came ↦
-        (
-          goes_read old mid new d e got text goes read.0,
-          (ap (λ (o : Put). o.bytes) came.3 ∙ is_open.0, ap (λ (o : Put). o.apart) came.3 ∙ is_open.1, came.2.closed ∙ is_open.2),
-          (let less = less_by_read mid new got rest read.1 came.0 came.2 in omega (arith, less, most)),
-        )
+    | inr came ↦ (
+      goes_read old mid new d e got text goes read.0,
+      (ap (λ (o : Put). o.bytes) came.3 ∙ is_open.0, ap (λ (o : Put). o.apart) came.3 ∙ is_open.1, came.2.closed ∙ is_open.2),
+      (let less = less_by_read mid new got rest read.1 came.0 came.2 in omega (arith, less, most)),
+    )
   ]
   step_read old mid new d e got text (Ok (Some Closed)) goes is_open none most rest read = absurd read.2
   step_read old mid new d e got text (Ok (Some Clean)) goes is_open none most rest read =

@@ -74,8 +74,7 @@ module _ {D : Type 0} (m : Meaning D) where
   keeps_open p (i ∷ items) q d e written h run still =
       let k = kept p i h.0 d e written (asked items) h.1 (unclosed_before h.0 items q h.2 still) run in
       let later = keeps_open h.0 items q k.mid e (written ++ i.text) h.2 k.run still in
-      subst (λ (xs : List Exchange). FoldsTo (KeepsOpen m) (connection p.count p.unread d written) (xs ++ asked items) (connection q.count q.unread e (written ++ (i.text ++ texts items)))) (sym k.asked_are)
-      (
+      subst (λ (xs : List Exchange). FoldsTo (KeepsOpen m) (connection p.count p.unread d written) (xs ++ asked items) (connection q.count q.unread e (written ++ (i.text ++ texts items)))) (sym k.asked_are) (
         connection h.0.count h.0.unread k.mid (written ++ i.text),
         k.keeps,
         subst (λ (l : List ℕ). FoldsTo (KeepsOpen m) (connection h.0.count h.0.unread k.mid (written ++ i.text)) (asked items) (connection q.count q.unread e l)) (append_assoc written i.text (texts items)) later,
@@ -272,7 +271,7 @@ module _ {D F : Type 0} (m : Meaning D) (finds : List ℕ → List ℕ → F →
       let cut = subst (λ (is : List Item). AreTaken m (left 0 (got ++ more) false) is (left c.count (t.rest ++ more) c.closed)) same (cut_with got sent more xs c t) in
       let first = kept m (left 0 (got ++ more) false) i cut.0 old new [] (asked items) cut.1 (unclosed_before m cut.0 items (left c.count (t.rest ++ more) c.closed) cut.2 still) (subst (λ (is : List Item). IsRun m old (asked is) new) same (run_of got sent xs c t old new run)) in
       let l = last_step (KeepsOpen m) (at_start (got ++ more) old) (connection c.count (t.rest ++ more) new (texts t.items)) first.x (asked items)
-          (subst (λ (ys : List Exchange). FoldsTo (KeepsOpen m) (at_start (got ++ more) old) (ys ++ asked items) (connection c.count (t.rest ++ more) new (texts t.items))) first.asked_are runs) in record {
+      (subst (λ (ys : List Exchange). FoldsTo (KeepsOpen m) (at_start (got ++ more) old) (ys ++ asked items) (connection c.count (t.rest ++ more) new (texts t.items))) first.asked_are runs) in record {
         firsts = l.init;
         before = l.mid;
         runs = l.runs;
@@ -315,12 +314,24 @@ module _ {D F : Type 0} (m : Meaning D) (finds : List ℕ → List ℕ → F →
       → (end : End) × IsInputEnd end × ((messages : ℕ) × Conversation m got old xs sent new end messages)
   stopped got sent xs c old new t None [] is empty still out none run =
       (Clean, inl refl, (c.count, subst (λ (l : List ℕ). Conversation m l old xs sent new Clean c.count) (append-nil got) (talk_clean got sent [] xs c old new t still out is (no_rest got sent xs c t still is empty) run refl)))
-  stopped got sent xs c old new t None (b ∷ received) is some still out none run =
-      (Cut, inr refl, (c.count, subst (λ (l : List ℕ). Conversation m l old xs sent new Cut c.count) (append-nil got)
-          (talk_cut got sent [] xs c old new t still out (cut_rest c.begun c.received.items c.scan c.seen c.kept c.file t.rest (has_of got sent xs c t still none) (λ e f. some_byte b received (sym some ∙ f))) run refl)))
-  stopped got sent xs c old new t (Some b) received is same still out none run =
-      (Cut, inr refl, (c.count, subst (λ (l : List ℕ). Conversation m l old xs sent new Cut c.count) (append-nil got)
-          (talk_cut got sent [] xs c old new t still out (cut_rest c.begun c.received.items c.scan c.seen c.kept c.file t.rest (has_of got sent xs c t still none) (λ e. absurd (some_begun b (sym is ∙ e)))) run refl)))
+  stopped got sent xs c old new t None (b ∷ received) is some still out none run = (
+    Cut,
+    inr refl,
+    (
+      c.count,
+      subst (λ (l : List ℕ). Conversation m l old xs sent new Cut c.count) (append-nil got)
+          (talk_cut got sent [] xs c old new t still out (cut_rest c.begun c.received.items c.scan c.seen c.kept c.file t.rest (has_of got sent xs c t still none) (λ e f. some_byte b received (sym some ∙ f))) run refl),
+    ),
+  )
+  stopped got sent xs c old new t (Some b) received is same still out none run = (
+    Cut,
+    inr refl,
+    (
+      c.count,
+      subst (λ (l : List ℕ). Conversation m l old xs sent new Cut c.count) (append-nil got)
+          (talk_cut got sent [] xs c old new t still out (cut_rest c.begun c.received.items c.scan c.seen c.kept c.file t.rest (has_of got sent xs c t still none) (λ e. absurd (some_begun b (sym is ∙ e)))) run refl),
+    ),
+  )
 
   served_end : (got more text later : List ℕ) (xs : List Exchange) (c last : Connection F) (old mid new : D) (a b z : Option (List ℕ)) (end : End) → Appends a b text → Appends b z later → IsRun m old xs mid → Talks m finds got xs text c
       → WasStep m finds more later c last mid new (Ok (Some end)) → Serves m (got ++ more) old new a z (Ok (record { messages = last.count; end = end }))
@@ -347,8 +358,7 @@ module _ {D F : Type 0} (m : Meaning D) (finds : List ℕ → List ℕ → F →
   served_fault got more text later xs c last old mid new a b z Write wrote writes run t w =
       let k = w.0 got text xs t in
       let whole = run_on m old mid new xs k.0 run k.1 in
-      let said : Talks m finds (got ++ more) (xs ++ k.0) text last = subst (λ (l : List ℕ). Talks m finds (got ++ more) (xs ++ k.0) l last) (append-nil text) k.2 in
-      (
+      let said : Talks m finds (got ++ more) (xs ++ k.0) text last = subst (λ (l : List ℕ). Talks m finds (got ++ more) (xs ++ k.0) l last) (append-nil text) k.2 in (
         text ++ last.out.bytes,
         xs ++ k.0,
         text ++ later,

@@ -8,6 +8,7 @@ use Rattle.std.specs.List.{FoldsTo}
 use Rattle.std.specs.Option.{option_map}
 use Rattle.httparse.specs.Grammar.{RequestHead}
 use Rattle.httparse.specs.Spans.{IsWithin, span_bytes}
+use Rattle.bsp_heads.proofs.BodyLemmas.{body_limited}
 use Rattle.bsp_heads.proofs.ScanLemmas.{head_len-more, head_len-le}
 use Rattle.bsp_heads.specs.Fields.{token_of}
 use Rattle.bsp_heads.specs.Head.{AreParts, IsHead, head_limit, headers_of, judgement}
@@ -385,6 +386,17 @@ module _ {D F : Type 0} (m : Meaning D) (finds : List ℕ → List ℕ → F →
         out = a.out ∙ ap (λ (o : Put). o.bytes ++ text) out;
         text = behind old.begun new.begun b (x ∷ []) text some a.begun;
       }
+
+-- a connection whose message is begun
+pub begun_further : {F : Type 0} (b : Begun F) (old new : Connection F) → IsRead old.received.items b.head b.parts → b.left ≡ b.parts.wanted.body → old.begun ≡ None → new.received.items ≡ old.received.items → new.begun ≡ Some b → new.count ≡ old.count → new.has_more ≡ true
+    → IsFurther old new
+begun_further {F} b old new read all none same some count more =
+    let few : b.parts.wanted.body ≤ 4194304 = body_limited read.parts_are.0 b.parts.wanted read.parts_are.2 in
+    let long : length new.received.items ≡ length old.received.items = ap (λ (l : List ℕ). length l) same in
+    let less : to_come new.begun new.received.items < to_come old.begun old.received.items =
+    subst (λ (o : Option (Begun F)). to_come o new.received.items < to_come old.begun old.received.items) (sym some)
+    (subst (λ (o : Option (Begun F)). to_come (Some b) new.received.items < to_come o old.received.items) (sym none) (omega (arith, few, all, long))) in
+    record { rest = λ rests. absurd (false≢true (sym rests ∙ more)); further = inr (count, λ has. less, λ rests. absurd (false≢true (sym rests ∙ more))) }
 
 -- a connection whose message is not whole after a piece of its body
 pub passed_on : {F : Type 0} (b now : Begun F) (old new : Connection F) → old.begun ≡ Some b → b.head ≤ length old.received.items → HasPassed b old new now → 0 < now.left → IsFurther old new

@@ -14,4 +14,3 @@ pub mod Ends
 pub mod Reads
 pub mod Serving
 pub mod Steps
-pub use Rattle.bsp_connection.specs.declared.service.BodyUse

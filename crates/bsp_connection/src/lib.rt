@@ -32,6 +32,6 @@ pub use output::Output;
 pub use protocol::Http;
 pub use ret_body::RetBody;
 pub use sending::{WriteFault, send, send_on};
-pub use serving::serve;
 pub use service::{Answer, BodyUse, Message, Service};
+pub use serving::serve;
 pub use sink::BodySink;

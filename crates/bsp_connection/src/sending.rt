@@ -34,11 +34,7 @@ pub fn send<W: Write>(writer: &mut Noted<W>, bytes: &[u8]) -> Result<(), WriteFa
 }
 
 /// Writes two texts.
-fn send_both<W: Write>(
-    writer: &mut Noted<W>,
-    first: &[u8],
-    second: &[u8],
-) -> Result<(), WriteFault>
+fn send_both<W: Write>(writer: &mut Noted<W>, first: &[u8], second: &[u8]) -> Result<(), WriteFault>
     ensures written { IsWritten (W.contents writer.old.inner) (W.contents writer.new.inner) (first.now ++ second.now) result }
     ensures cause { OnErr result (writer.new.failed ≡ true) }
     ensures noted { writer.old.failed ≡ true → writer.new.failed ≡ true }

@@ -36,10 +36,7 @@ fn are_empty(texts: (&[u8], &[u8], &[u8])) -> bool
 }
 
 /// Writes all that is put out. Where nothing is, the writer is not called.
-fn send_out<W: Write, F>(
-    c: &mut Connection<F>,
-    writer: &mut Noted<W>,
-) -> Result<(), WriteFault>
+fn send_out<W: Write, F>(c: &mut Connection<F>, writer: &mut Noted<W>) -> Result<(), WriteFault>
     ensures written { IsWritten (W.contents writer.old.inner) (W.contents writer.new.inner) c.old.out.bytes result }
     ensures sent { OnOk result (IsSent c.old c.old.out.bytes c.new) }
     ensures free { OnOk result ((c.new.out.bytes ≡ []) × (c.new.out.apart ≡ false)) }
@@ -183,8 +180,10 @@ pub fn serve<R: Read, W: Write, D, S: Service<D>>(
     ensures noted { writer.old.failed ≡ true → writer.new.failed ≡ true }
     ensures reads { reader.new.empty ≤ reader.old.empty + most_empty result }
 {
-    let (Ok(mut c), Ok(mut room)) = (Connection::with_room(alloc, ALONE), vec![in alloc; 0; PIECE])
-    else {
+    let (Ok(mut c), Ok(mut room)) = (
+        Connection::with_room(alloc, ALONE),
+        vec![in alloc; 0; PIECE],
+    ) else {
         return Err(ServeFault::Memory);
     };
     match serve_with(&mut c, &mut room, reader, writer, service, desk) {

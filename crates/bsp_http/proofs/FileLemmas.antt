@@ -4,7 +4,7 @@ use Rattle.std.specs.Borrow.{Bor}
 use Rattle.std.specs.Option.{option_map}
 use Rattle.bsp_desk.specs.Reading.{token_text}
 use Rattle.bsp_connection.specs.Exchanges.{IsFileRead}
-use Rattle.bsp_connection.specs.BodyUse.TheVariants.{RetFile}
+use Rattle.bsp_connection.specs.declared.service.BodyUse.TheVariants.{RetFile}
 use Rattle.bsp_ret.specs.Lines.{lines}
 use Rattle.bsp_ret.proofs.AnswerLemmas.{faulty}
 use Rattle.bsp_ret.proofs.LawLemmas.{is_read}

@@ -3,8 +3,8 @@ use Rattle.std.specs.Prelude.{◌≡◌, ℕ, List, Result, Ok, Err}
 use Rattle.std.specs.Borrow.{Bor}
 use Rattle.bsp_desk.specs.BookCalls.{Meaning}
 use Rattle.bsp_connection.specs.Exchanges.{Meaning as Answering, RequestText}
-use Rattle.bsp_connection.specs.BodyUse.{BodyUse}
-use Rattle.bsp_connection.specs.BodyUse.TheVariants.{Ignored, Kept, RetFile}
+use Rattle.bsp_connection.specs.declared.service.BodyUse.{BodyUse}
+use Rattle.bsp_connection.specs.declared.service.BodyUse.TheVariants.{Ignored, Kept, RetFile}
 use Rattle.bsp_desk.specs.Reading.{token_text}
 use Rattle.bsp_desk.specs.Steps.{Answers}
 use Rattle.bsp_desk.specs.declared.desk.Desk.{Desk}

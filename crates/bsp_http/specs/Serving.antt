@@ -8,5 +8,5 @@ use Rattle.bsp_peers.specs.Events.{Event}
 use Rattle.bsp_peers.specs.Serving.{Served}
 
 -- all connections of HTTP over a service that finds and answers so
-abbrev pub IsServedAll : {P B : Type 0} → (P → Event → P → Type 0) → Meaning (Desk B) → P → P → Desk B → Desk B → ℕ → Type 0
-IsServedAll did m p q d e count = Served did (λ old x new. m.steps old x.request x.reply new) (Talks m IsRouteOf) (Rests m IsRouteOf) p q d e count
+abbrev pub IsServedAll : {P B : Type 0} → (P → Event → P → Type 0) → Meaning (Desk B) → P → P → Desk B → Desk B → ℕ → ℕ → Type 0
+IsServedAll did m p q d e in_all count = Served did (λ old x new. m.steps old x.request x.reply new) (Talks m IsRouteOf) (Rests m IsRouteOf) p q d e in_all count

@@ -12,9 +12,8 @@ ghost use Rattle.bsp_http.specs.Serving.{IsServedAll};
 
 use crate::journal::Journal;
 use crate::office::Office;
-use bsp_connection::{Noted, ServeFault, Served};
+use bsp_connection::{Http, Noted, ServeFault, Served};
 use bsp_desk::{Book, Desk};
-use bsp_connection::Http;
 use bsp_peers::{Limits, Peers};
 use bsp_routes::Routes;
 use std::alloc::Global;
@@ -68,7 +67,7 @@ pub fn serve_all<P: Peers, B: Book, J: Journal<B>>(
     limits: Limits,
     desk: &mut Desk<B>,
 ) -> u64
-    ensures served { IsServedAll P.did (at_desk B.means) peers.old peers.new desk.old desk.new result }
+    ensures served { IsServedAll P.did (at_desk B.means) peers.old peers.new desk.old desk.new limits.in_all result }
     ensures run { (exchanges : List Exchange) × IsRun (at_desk B.means) desk.old exchanges desk.new }
 {
     let office = Office { routes, journal };

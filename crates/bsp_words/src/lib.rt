@@ -9,4 +9,6 @@ mod setting;
 mod values;
 mod work;
 
-pub use work::{BookSource, Earlier, Limits, Misfit, Range, Setting, TokenSource, WordsFault, Work, words};
+pub use work::{
+    BookSource, Earlier, Limits, Misfit, Range, Setting, TokenSource, WordsFault, Work, words,
+};

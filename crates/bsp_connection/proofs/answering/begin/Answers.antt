@@ -1,7 +1,7 @@
 use Rattle.std.proofs.Common.{◌≡◌, ℕ, List, ◌++◌, take, refl, sym, ap, ◌∙◌, subst}
 use Rattle.httparse.specs.Spans.{span_bytes}
 use Rattle.bsp_connection.specs.Exchanges.{interim}
-use Rattle.bsp_connection.proofs.StepLemmas.{begun_moves, fresh_body}
+use Rattle.bsp_connection.proofs.StepLemmas.{begun_further, begun_moves, fresh_body}
 use Rattle.bsp_connection.specs.Begun.{IsFound}
 use Rattle.bsp_connection.proofs.answering.begin.Goals as goal
 
@@ -23,3 +23,7 @@ returns-clause-moves g c d =
     refl c.requires.none c.requires.unclosed refl refl refl refl refl
     (fresh_body kind c.start.new.self c.start-2.new.self c.start.ensures c.start-2.ensures)
     (c.put.ensures ∙ ap (λ (l : List ℕ). c.args.c.now.out.bytes ++ l) c.interim.ensures)
+
+pub returns-clause-further : goal.returns-clause-further
+returns-clause-further g c =
+    begun_further (record { head = c.args.head; parts = c.args.parts; found = c.find-found.result; kind = c.body_use-kind.result; left = c.args.parts.wanted.body }) c.args.c.now _ c.requires.read refl c.requires.none refl refl refl refl

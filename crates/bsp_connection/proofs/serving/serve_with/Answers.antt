@@ -45,8 +45,7 @@ steps-preserved g c =
 pub returns-in-Ok-Some-clause-conversation : goal.returns-in-Ok-Some-clause-conversation
 returns-in-Ok-Some-clause-conversation g c =
     let t = c.steps.invariant.talk in
-    let s = rw c.in-Ok-Some.field-0-is at c.in-Ok-Some.ensures.step in
-    (
+    let s = rw c.in-Ok-Some.field-0-is at c.in-Ok-Some.ensures.step in (
       t.0 ++ s.0,
       Consumes-trans _ _ _ t.0 s.0 t.1 s.2,
       so_far_end g.S.Service.means g.S.Service.finds c.args.desk.now (g.W.Write.contents c.args.writer.now.inner) (g.W.Write.contents c.steps.writer.inner) (g.W.Write.contents c.step.new.writer.inner) c.steps.c c.step.new.c c.steps.desk c.step.new.desk t.0 s.0 s.1 c.in-Ok-Some.end t.2 s.3 s.4,
@@ -55,8 +54,7 @@ returns-in-Ok-Some-clause-conversation g c =
 pub returns-in-Err-clause-conversation : goal.returns-in-Err-clause-conversation
 returns-in-Err-clause-conversation g c =
     let t = c.steps.invariant.talk in
-    let s = c.in-Err.ensures.step in
-    (
+    let s = c.in-Err.ensures.step in (
       t.0 ++ s.0,
       Consumes-trans _ _ _ t.0 s.0 t.1 s.2,
       so_far_fault g.S.Service.means g.S.Service.finds c.args.desk.now (g.W.Write.contents c.args.writer.now.inner) (g.W.Write.contents c.steps.writer.inner) (g.W.Write.contents c.step.new.writer.inner) c.steps.c c.step.new.c c.steps.desk c.step.new.desk t.0 s.0 s.1 c.in-Err.fault t.2 s.3 s.4,

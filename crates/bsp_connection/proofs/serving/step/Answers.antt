@@ -11,16 +11,17 @@ returns-in-Err-clause-step g c =
     let m = g.S.Service.means in
     let finds = g.S.Service.finds in
     let w = c.in-Err.ensures in
-    let same : c.send_out.new.c.out.bytes ≡ c.go_on.new.c.out.bytes = ap (λ (o : Put). o.bytes) w.kept.3 in
-    (
+    let same : c.send_out.new.c.out.bytes ≡ c.go_on.new.c.out.bytes = ap (λ (o : Put). o.bytes) w.kept.3 in (
       [],
       w.written.0,
       Consumes-nil _,
       w.written.3,
-      (goes_unsent m finds c.args.c.now c.go_on.new.c c.send_out.new.c c.args.desk.now c.go_on.new.desk c.go_on.ensures.moves w.kept,
-      (w.written.1, same ∙ w.written.2),
-      λ none. w.some (sym same ∙ none),
-      λ shut. w.kept.2.begun ∙ c.go_on.ensures.shut c.requires.unclosed (sym w.kept.2.closed ∙ shut)),
+      (
+        goes_unsent m finds c.args.c.now c.go_on.new.c c.send_out.new.c c.args.desk.now c.go_on.new.desk c.go_on.ensures.moves w.kept,
+        (w.written.1, same ∙ w.written.2),
+        λ none. w.some (sym same ∙ none),
+        λ shut. w.kept.2.begun ∙ c.go_on.ensures.shut c.requires.unclosed (sym w.kept.2.closed ∙ shut),
+      ),
     )
 
 pub returns-then-is_closed-clause-step : goal.returns-then-is_closed-clause-step
@@ -28,16 +29,17 @@ returns-then-is_closed-clause-step g c =
     let m = g.S.Service.means in
     let finds = g.S.Service.finds in
     let w = c.in-Ok.ensures in
-    let shut : c.send_out.new.c.closed ≡ true = sym c.is_closed.ensures ∙ c.if-is_closed.true in
-    (
+    let shut : c.send_out.new.c.closed ≡ true = sym c.is_closed.ensures ∙ c.if-is_closed.true in (
       [],
       c.go_on.new.c.out.bytes,
       Consumes-nil _,
       w.written,
-      (goes_sent m finds c.args.c.now c.go_on.new.c c.send_out.new.c c.args.desk.now c.go_on.new.desk c.go_on.new.c.out.bytes c.go_on.ensures.moves w.sent,
-      w.free.0,
-      shut,
-      w.sent.3.begun ∙ c.go_on.ensures.shut c.requires.unclosed (sym w.sent.3.closed ∙ shut)),
+      (
+        goes_sent m finds c.args.c.now c.go_on.new.c c.send_out.new.c c.args.desk.now c.go_on.new.desk c.go_on.new.c.out.bytes c.go_on.ensures.moves w.sent,
+        w.free.0,
+        shut,
+        w.sent.3.begun ∙ c.go_on.ensures.shut c.requires.unclosed (sym w.sent.3.closed ∙ shut),
+      ),
     )
 
 pub returns-then-has_more-clause-step : goal.returns-then-has_more-clause-step
@@ -48,15 +50,16 @@ returns-then-has_more-clause-step g c =
     let still : c.send_out.new.c.closed ≡ false = sym c.is_closed.ensures ∙ c.if-is_closed.false in
     let more : c.go_on.new.c.has_more ≡ true = sym w.sent.2 ∙ sym c.has_more.ensures ∙ c.if-has_more.true in
     let further = still_further c.args.c.now c.go_on.new.c (c.go_on.ensures.goes_on c.requires.unclosed c.requires.free) (sym w.sent.3.closed ∙ still) in
-    let few = (c.requires.has.1 c.requires.unclosed).0 in
-    (
+    let few = (c.requires.has.1 c.requires.unclosed).0 in (
       [],
       c.go_on.new.c.out.bytes,
       Consumes-nil _,
       w.written,
-      (goes_sent m finds c.args.c.now c.go_on.new.c c.send_out.new.c c.args.desk.now c.go_on.new.desk c.go_on.new.c.out.bytes c.go_on.ensures.moves w.sent,
-      (w.free.0, w.free.1, still),
-      like_less c.args.c.now c.go_on.new.c c.send_out.new.c w.sent.3 w.sent.1 (less_with_more c.args.c.now c.go_on.new.c few further more)),
+      (
+        goes_sent m finds c.args.c.now c.go_on.new.c c.send_out.new.c c.args.desk.now c.go_on.new.desk c.go_on.new.c.out.bytes c.go_on.ensures.moves w.sent,
+        (w.free.0, w.free.1, still),
+        like_less c.args.c.now c.go_on.new.c c.send_out.new.c w.sent.3 w.sent.1 (less_with_more c.args.c.now c.go_on.new.c few further more),
+      ),
     )
 
 pub returns-clause-step : goal.returns-clause-step
@@ -69,8 +72,7 @@ returns-clause-step g c =
     let further = still_further c.args.c.now c.go_on.new.c (c.go_on.ensures.goes_on c.requires.unclosed c.requires.free) (sym w.sent.3.closed ∙ still) in
     let few = (c.requires.has.1 c.requires.unclosed).0 in
     let rests : c.go_on.new.c.has_more ≡ false = sym w.sent.2 ∙ none in
-    let read = c.receive.ensures.read in
-    (
+    let read = c.receive.ensures.read in (
       read.0,
       c.go_on.new.c.out.bytes,
       read.1,

@@ -2,7 +2,7 @@ use Rattle.std.proofs.Common.{◌≡◌, ap, sym, subst, ◌∙◌}
 use Rattle.bsp_desk.specs.RoutesCalls.{asking_text}
 use Rattle.bsp_desk.specs.Contents.{IsAskedWith}
 use Rattle.bsp_desk.specs.Content.{Content}
-use Rattle.bsp_connection.specs.BodyUse.TheVariants.{RetFile}
+use Rattle.bsp_connection.specs.declared.service.BodyUse.TheVariants.{RetFile}
 use Rattle.bsp_http.specs.Messages.{use_of}
 use Rattle.bsp_http.proofs.FileLemmas.{as_file, same_token}
 use Rattle.bsp_http.proofs.office.OfficeServiceDesk.answer_file.Goals as goal
