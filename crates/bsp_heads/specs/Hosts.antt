@@ -44,7 +44,8 @@ abbrev pub is_literal : List ℕ → Bool
 is_literal text =
     let end = length text - 1 in
     (slice_index text 0 == 91 && slice_index text end == 93)
-    && (if slice_index text 1 == 118 || slice_index text 1 == 86 then is_versioned (slice_range text 2 end) else is_address (slice_range text 1 end))
+    && (if slice_index text 1 == 118 || slice_index text 1 == 86 then is_versioned (slice_range text 2 end)
+    else is_address (slice_range text 1 end))
 
 abbrev pub is_bare_host : List ℕ → Bool
 is_bare_host text = is_literal text || is_name text
