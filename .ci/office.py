@@ -7,9 +7,11 @@ and a comparison that counts what differs.
         office.expect("a settlement", 200, status)
     office.finish("settlements are as docs/ROUTES.md says")
 """
+import argparse
 import http.client
 import os
 import pathlib
+import random
 import re
 import resource
 import select
@@ -28,6 +30,20 @@ def program():
     if not os.access(path, os.X_OK):
         sys.exit(f"{path} is not built")
     return path
+
+
+def seeded(usage):
+    """The program and the random numbers of a command line `[PROGRAM] [--program PATH] [--seed N]`. Prints the seed."""
+    words = argparse.ArgumentParser(description=usage, formatter_class=argparse.RawDescriptionHelpFormatter)
+    words.add_argument("place", nargs="?", metavar="PROGRAM", default=f"{TOP}/crates/bsp_office/out/bsp_office")
+    words.add_argument("--program", metavar="PATH")
+    words.add_argument("--seed", type=int, default=random.randrange(1_000_000))
+    given = words.parse_args()
+    path = os.path.abspath(given.program or given.place)
+    if not os.access(path, os.X_OK):
+        sys.exit(f"{path} is not built")
+    print(f"{os.path.basename(sys.argv[0])}: seed {given.seed}", flush=True)
+    return path, random.Random(given.seed)
 
 
 def crates():
@@ -71,6 +87,18 @@ def replies(out):
         at = len(head) + 4 + int(length[1])
         found.append(out[:at])
         out = out[at:]
+    return found
+
+
+def reply_on(peer):
+    """The next reply on a connection that sends no other before it is asked; what came, where it ends before."""
+    found = b""
+    while piece := peer.recv(65536):
+        found += piece
+        head, end, body = found.partition(b"\r\n\r\n")
+        length = re.search(rb"Content-Length: (\d+)", head)
+        if end and length and len(body) >= int(length[1]):
+            break
     return found
 
 
