@@ -51,8 +51,11 @@ def connected(port, room=None):
 
 def asks(peer, asked=ASKED):
     """What the peer gets for this."""
-    peer.sendall(asked)
-    return office.reply_on(peer)
+    try:
+        peer.sendall(asked)
+        return office.reply_on(peer)
+    except OSError as fault:
+        return repr(fault)
 
 
 def fresh(port):
@@ -249,7 +252,7 @@ def places():
             fourth.sendall(ASKED)
             expect("a fourth of three: its answer comes", True, answered_within(fourth, 1 + SLACK))
             print(f"a fourth of three: answered after {time.monotonic() - begun:.1f} seconds", flush=True)
-            expect("a fourth of three", FORBIDDEN, office.reply_on(fourth))
+            expect("a fourth of three", FORBIDDEN, asks(fourth, b""))
             expect("the one that was idle longest is closed", True, ended(three[0]))
             for peer in three[1:]:
                 expect("the others are not closed", FORBIDDEN, asks(peer))
