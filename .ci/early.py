@@ -106,7 +106,8 @@ def with_requests(port, status):
 def asks(client, port):
     """The client asks for each status in turn, and says how long that took."""
     name = client.__name__.removeprefix("with_").replace("_", ".")
-    for status in FIELDS:
+    # `requests` sends a length with each POST
+    for status in (it for it in FIELDS if (name, it) != ("requests", 411)):
         begun, came = time.monotonic(), 0
         for _ in range(TIMES):
             try:
