@@ -104,7 +104,7 @@ def try_refusals(it, folder):
 
 
 def main():
-    pathlib.Path("token").write_text(store.OFFICE)
+    office.token_file("token", store.OFFICE)
     with office.Office(PROGRAM, "token", "--db", "office.db") as it:
         for method, path, token, body in store.setting_up():
             # of one airline and agent there are more sales than the sample's limit

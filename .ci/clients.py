@@ -158,8 +158,7 @@ def as_a_service():
     path, *words = re.search("^ExecStart=(.*)$", unit, re.MULTILINE)[1].split()
     names = {"/etc/bsp_office.token": "service.token", "/var/lib/bsp_office/office.db": "service.db"}
     words = [names.get(word, word) for word in words]
-    with open("service.token", "w", encoding="utf-8") as file:
-        file.write(f"{OFFICE}\n")
+    office.token_file("service.token", f"{OFFICE}\n")
     with office.Office(PROGRAM, "service.token", "--db", "service.db") as it:
         expect("as a service: the words", words, ["serve", "--port", "8080", *it.words[3:]])
         expect("as a service: it answers", 200, it.ask("POST", "/office/day", OFFICE, '{"day":"2024-01-05"}')[0])
@@ -296,16 +295,14 @@ def refused():
     cannot_serve("no such file", 3, "bsp_office: missing: .*\n", "run", "--token-file", "missing")
     cannot_serve("a directory", 3, "bsp_office: .: .*\n", "run", "--token-file", ".")
     for text in "short\n", "", f"{OFFICE} \n", f"\n{OFFICE}\n", f"{OFFICE}\n" * 1000:
-        with open("token", "w", encoding="utf-8") as it:
-            it.write(text)
+        office.token_file("token", text)
         cannot_serve(f"the token file {text[:20]!r}", 2, "bsp_office: token: its first line .*\n", "run", "--token-file", "token")
 
 
 def run_on_standard_input():
     reply = b'HTTP/1.1 403 Forbidden\r\nContent-Type: application/json\r\nContent-Length: 14\r\n\r\n{"code":"N01"}'
     for end in "", "\n", "\r\n", "\nmore\n":
-        with open("token", "w", encoding="utf-8", newline="") as it:
-            it.write(OFFICE + end)
+        office.token_file("token", OFFICE + end)
         expect_end(f"run, the token file ends by {end!r}", (0, reply, b""), [PROGRAM, "run", "--token-file", "token"], input=ASKED)
     for length in range(len(ASKED)):
         expect_end(f"run of {length} bytes", (0, b"", b""), [PROGRAM, "run", "--token", OFFICE], input=ASKED[:length])
@@ -319,8 +316,7 @@ def run_twice():
     plan = office.sample("plan.toml")
     head = f"POST /office/plan HTTP/1.1\r\nHost: bsp\r\nBsp-Token: {OFFICE}\r\nContent-Length: {len(plan)}\r\n\r\n"
     reply = 'HTTP/1.1 200 OK\r\nContent-Type: application/json\r\nContent-Length: 17\r\n\r\n{"result":"%s"}'
-    with open("token", "w", encoding="utf-8") as it:
-        it.write(f"{OFFICE}\n")
+    office.token_file("token", f"{OFFICE}\n")
     memory = ["--token", OFFICE], [f"--token={OFFICE}"], ["--token-file", "token"]
     for words, second in *((words, "done") for words in memory), (["--token", OFFICE, "--db", "office.db"], "held"):
         before = os.listdir()

@@ -337,7 +337,7 @@ def run_all(program, files):
     """How many requests were made, and the differences, each with the ways that have it."""
     jobs, count, found, bodies = checked(files), 0, {}, {}
     with tempfile.TemporaryDirectory() as folder, concurrent.futures.ProcessPoolExecutor(4) as pool:
-        pathlib.Path(folder, "token").write_text(TOKEN + "\n", encoding="utf-8")
+        office.token_file(f"{folder}/token", TOKEN + "\n")
         runs = [pool.submit(run, program, folder, *job, way) for way in reversed(WAYS) for job in jobs]
         for name, requests, differing, wholes in (it.result() for it in runs):
             count += requests

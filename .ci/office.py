@@ -61,6 +61,12 @@ def sample(name):
     return (TOP / "samples" / name).read_bytes()
 
 
+def token_file(path, text):
+    """Makes a file of a token, which its user alone can read, or writes it again; with the line ends that the text has."""
+    with open(os.open(path, os.O_WRONLY | os.O_CREAT | os.O_TRUNC, 0o600), "w", encoding="utf-8", newline="") as it:
+        it.write(text)
+
+
 def free_port():
     """A port of loopback on which nothing listens."""
     with socket.socket() as it:
