@@ -124,7 +124,7 @@ def behind_nginx():
         print("no nginx is on the path: samples/nginx.conf is not tried")
         return
     text = office.sample("nginx.conf").decode()
-    it, port = serving(6), office.free_port()
+    it, port = serving(1000), office.free_port()
     text = text.replace("8081", str(port)).replace("8080", str(it.port))
     places = "pid nginx.pid; error_log error.log; "
     with open("nginx.conf", "w", encoding="utf-8") as file:
@@ -145,11 +145,18 @@ def behind_nginx():
         file.write(b"1" * 5_000_000)
     long = curl(it, *token, "-H", "Expect:", "-w", "%{http_code}", "--data-binary", "@long", f"{at}/ret")
     expect("behind nginx: a body that is too long", '{"code":"T03"}413', long)
+    expect("behind nginx: a field of 8 KB", stock.replace("0}", "1}"), curl(it, *token, "-H", f"X: {'x' * 8192}", f"{at}/stock"))
+    large = curl(it, *token, "-H", f"X: {'x' * 20_000}", "-w", "%{http_code}", f"{at}/stock")
+    expect("behind nginx: a head that is too long", '{"code":"T04"}431', large)
+    expect("behind nginx: no Host", '{"code":"T01"}400', curl(it, "-H", "Host:", "-w", "%{http_code}", f"{at}/stock"))
+    it.end()
+    ended = curl(it, "-i", *token, f"{at}/stock")
+    expect("behind nginx: no office", (True, "1", '{"code":"B01"}'),
+           (ended.startswith("HTTP/1.1 503 "), *re.findall("^Retry-After: (.*)$", ended, re.MULTILINE), ended.splitlines()[-1]))
     idle.close()
     half.close()
     proxy.terminate()
     proxy.wait(10)
-    expect("behind nginx: the end", (0, "bsp_office: 6 connections served\n"), it.ended())
 
 
 def as_a_service():
