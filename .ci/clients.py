@@ -267,7 +267,8 @@ def replies_before_bodies():
 
 
 def logged():
-    """With --log each reply has a line: the method, the target, the status, the code and the bytes of the body."""
+    """With --log each reply has a line: the connection, the method, the path, the status, the code, the bytes of the body and
+    microseconds."""
     it = office.Office(PROGRAM, None, "--token", OFFICE, "--log", "--connections", 3, seconds=10)
     expect("logged: a day", 200, it.ask("POST", "/office/day", OFFICE, '{"day":"2024-01-05"}')[0])
     expect("logged: no route", 404, it.ask("GET", "/x?token=1")[0])
@@ -276,9 +277,11 @@ def logged():
         with socket.create_connection(("127.0.0.1", it.port), timeout=10) as raw:
             raw.sendall(text)
             expect("logged: it is answered", True, raw.recv(12).startswith(b"HTTP/1.1 4"))
-    lines = ["POST /office/day 200 - 17", "GET /x?token=1 404 N02 14", "GET /a\\xc3\\xa9\\ 404 N02 14", "- - 400 T01 14",
+    lines = ["1 POST /office/day 200 - 17 T", "1 GET /x 404 N02 14 T", "2 GET /a\\xc3\\xa9\\ 404 N02 14 T", "3 - - 400 T01 14 T",
              "3 connections served"]
-    expect("logged: the lines", (0, "".join(f"bsp_office: {line}\n" for line in lines)), it.ended())
+    status, said = it.ended()
+    said = re.sub(r" \d+$", " T", said, flags=re.MULTILINE)
+    expect("logged: the lines", (0, "".join(f"bsp_office: {line}\n" for line in lines)), (status, said))
 
 
 def cannot_serve(what, status, error, *words, text=b""):
