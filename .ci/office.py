@@ -21,6 +21,8 @@ import subprocess
 import sys
 
 TOP = pathlib.Path(__file__).resolve().parents[1]
+# of a script with a seed
+SECONDS = 60
 failures = []
 
 
@@ -32,8 +34,16 @@ def program():
     return path
 
 
+def is_over(*_):
+    """Ends a script whose time is over, and with it what it started."""
+    sys.exit(f"it did not end in {SECONDS} seconds, with {len(failures)} differences before")
+
+
 def seeded(usage):
-    """The program and the random numbers of a command line `[PROGRAM] [--program PATH] [--seed N]`. Prints the seed."""
+    """The program and the random numbers of a command line `[PROGRAM] [--program PATH] [--seed N]`. Prints the seed. The script
+    has a minute: it is made to end within 20 seconds."""
+    signal.signal(signal.SIGALRM, is_over)
+    signal.alarm(SECONDS)
     words = argparse.ArgumentParser(description=usage, formatter_class=argparse.RawDescriptionHelpFormatter)
     words.add_argument("place", nargs="?", metavar="PROGRAM", default=f"{TOP}/crates/bsp_office/out/bsp_office")
     words.add_argument("--program", metavar="PATH")
