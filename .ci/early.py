@@ -30,7 +30,7 @@ PHRASES = {400: "Bad Request", 411: "Length Required", 413: "Payload Too Large",
 CODES = {400: "T01", 411: "T02", 413: "T03", 431: "T04", 501: "T05"}
 BODY = RANDOM.randbytes(LONG)
 PATH = "/office/plan"
-# the fields that are refused, behind the status, and whether a body or chunks follow
+# the fields that are refused, by the status; of 413 and 501 a body or chunks follow
 FIELDS = {400: {"Content-Length": "5x"}, 411: {}, 413: {"Content-Length": str(LONG)}, 431: {"X": "x" * 20_000}, 501: {"Transfer-Encoding": "chunked"}}
 
 

@@ -2,9 +2,10 @@
 """Tries that nobody who connects to the built program holds up another. Beside 200 idle connections, 5 that send a byte each
 second and 3 that never read their response, the requests of a fresh client take at most 5 times what they take alone. Those
 that are slow are closed after `--timeout`, those that are idle after `--idle`, and a slow reader that keeps to its time is
-not. Two clients that keep their connections do not wait for each other. With `--peers 3`, where three connections are idle, a
-fourth gets its answer, and where three have begun a message it waits. With `--peers 1` one is served after the other.
-Prints the numbers, and exits with the number of cases that differ.
+not. Many messages of one client are answered in turn with those of others. Two clients that keep their connections do not
+wait for each other. With `--peers 3`, where three connections are idle, a fourth gets its answer, and where three have begun
+a message it waits. With `--peers 1` one is served after the other. Prints the numbers, and exits with the number of cases
+that differ.
 
 usage: .ci/peers.py [PROGRAM] [--program PATH] [--seed N]   (with no PROGRAM it takes the one that is built)
 """
@@ -31,6 +32,8 @@ IDLE_PEERS, DRIPPING, NEVER_READING = 200, 5, 3
 TIMES, MOST = 100, 5
 # so many ranges make a long response; so many of these are more than the buffers of two sockets hold
 RANGES, RESPONSES = 3_000, 60
+# so many of them take a second to answer
+FLOOD = 1_000
 # what a slow reader takes in a second: twice what it has to take in the whole timeout
 READ_EACH_SECOND = 131_072
 
@@ -196,11 +199,25 @@ def rest_of_replies(peer, most):
     return count
 
 
+def flood(port, length):
+    """A client that asks now is answered between the many messages of another, which were sent before."""
+    with connected(port) as peer, concurrent.futures.ThreadPoolExecutor(1) as pool:
+        begun = time.monotonic()
+        peer.sendall(STOCK * FLOOD)
+        count = pool.submit(rest_of_replies, peer, length * FLOOD)
+        between = sum(fresh(port) for _ in range(5))
+        expect("many messages of one client: bytes", length * FLOOD, count.result())
+        whole = time.monotonic() - begun
+    print(f"beside {FLOOD:,} messages of one client, which take {whole:.2f} seconds: 5 fresh clients take {between:.2f}", flush=True)
+    expect("many messages of one client do not hold up others", True, between < whole / 2)
+
+
 def beside():
     """A fresh client asks two offices in turn: one that serves it alone, and one that serves a crowd."""
     words = "--peers", 256, "--timeout", TIMEOUT, "--idle", IDLE
     with serving() as alone, serving(*words) as busy, concurrent.futures.ThreadPoolExecutor(1) as pool:
         length = set_up(busy.port)
+        flood(busy.port, length)
         reader = pool.submit(slow_reader, busy.port, length)
         crowd = Crowd(busy.port)
         times = []
