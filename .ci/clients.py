@@ -151,7 +151,7 @@ def behind_nginx():
     expect("behind nginx: no Host", '{"code":"T01"}400', curl(it, "-H", "Host:", "-w", "%{http_code}", f"{at}/stock"))
     it.end()
     ended = curl(it, "-i", *token, f"{at}/stock")
-    expect("behind nginx: no office", (True, "1", '{"code":"B01"}'),
+    expect("behind nginx: no office", (True, "5", '{"code":"B01"}'),
            (ended.startswith("HTTP/1.1 503 "), *re.findall("^Retry-After: (.*)$", ended, re.MULTILINE), ended.splitlines()[-1]))
     idle.close()
     half.close()
