@@ -21,6 +21,8 @@ pub(crate) struct Connections {
     pub(crate) times: Times,
     // Whether one was dropped since that was asked.
     has_dropped: bool,
+    // Whether the last that was late was between messages.
+    pub(crate) was_resting: bool,
 }
 
 impl Connections {
@@ -31,6 +33,7 @@ impl Connections {
             turns: Turns::new(alloc),
             times: Times::new(alloc),
             has_dropped: false,
+            was_resting: false,
         }
     }
 
@@ -161,6 +164,7 @@ impl Connections {
             self.remove(number);
             return Happened::Nothing;
         }
+        self.was_resting = watched.is_resting();
         self.enter(number, Phase::OVER);
         Happened::Late(number)
     }

@@ -134,6 +134,11 @@ impl<C: Clock> Sockets<'_, C> {
         self.door.address()
     }
 
+    /// Whether the connection that was late last was between messages.
+    pub fn was_resting(&self) -> bool {
+        self.connections.was_resting
+    }
+
     /// Drops all connections but those that are closed, and waits until the peers of these end, or their time is over.
     pub fn finish(&mut self) {
         self.connections.keep_leaving();

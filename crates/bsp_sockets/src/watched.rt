@@ -61,6 +61,15 @@ impl Watched {
         }
     }
 
+    /// Whether it is between messages.
+    pub(crate) fn is_resting(&self) -> bool {
+        match self.phase {
+            Phase::Resting(_) => true,
+            Phase::Leaving(_) => false,
+            Phase::Busy { .. } => false,
+        }
+    }
+
     /// Reads what came.
     pub(crate) fn read(&mut self, room: &mut [u8]) -> Moved
         ensures { MovesAtMost result room.new }
