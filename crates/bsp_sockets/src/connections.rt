@@ -154,8 +154,9 @@ impl Connections {
         true
     }
 
-    /// The connection that is closed and dropped, or is late, as its time is over.
-    pub(crate) fn end(&mut self, number: u64) -> Happened {
+    /// What is done with a connection whose time is over. It is dropped where it is closed, has one more turn where its
+    /// output waits, and otherwise is late.
+    pub(crate) fn end(&mut self, number: u64, now: Instant) -> Happened {
         let Some(watched) = self.streams.get_mut(&number) else {
             return Happened::Nothing;
         };
@@ -163,6 +164,10 @@ impl Connections {
             let _ = watched.drop_pieces();
             self.remove(number);
             return Happened::Nothing;
+        }
+        if let Some(phase) = watched.phase.once_more(now) {
+            self.enter(number, phase);
+            return Happened::Ready(number);
         }
         self.was_resting = watched.is_resting();
         self.enter(number, Phase::OVER);

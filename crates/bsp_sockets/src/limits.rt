@@ -37,6 +37,13 @@ pub(crate) fn end_of(since: Instant, limit: Option<Duration>) -> Option<Instant>
     since.checked_add(limit?)
 }
 
+/// Whether the one time is no later than the other.
+pub(crate) fn is_by(one: Instant, other: Instant) -> bool
+    ensures { IsTrue result ↔ (instant_nanos one ≤ instant_nanos other) }
+{
+    one.duration_since(other).as_nanos() == 0
+}
+
 /// The earlier of two times; none: never.
 pub(crate) fn earlier(one: Option<Instant>, other: Option<Instant>) -> Option<Instant>
     ensures one { other ≡ None → result ≡ one }

@@ -22,8 +22,8 @@ const LINGERING: u64 = 5;
 pub struct Settings {
     /// The most connections at once, 1 to 10,000: 0 counts as 1, and more as 10,000.
     pub at_once: usize,
-    /// How long a message may take from its first byte to its last, and a peer for each 65,536 bytes that it is sent;
-    /// none: without end.
+    /// How long a message may take from its first byte to its last; none: without end. A peer that is sent something has
+    /// twice as long for each 65,536 bytes.
     pub timeout: Option<Duration>,
     /// How long a connection may be between messages; none: without end.
     pub idle: Option<Duration>,
@@ -35,7 +35,12 @@ pub struct Settings {
 /// its end. Between two rounds the system is asked which others are ready.
 ///
 /// Times: a connection is late where a message is begun and not whole after [`Settings::timeout`], a peer takes fewer
-/// than 65,536 bytes and not all within it, or nothing comes for [`Settings::idle`] between messages.
+/// than 65,536 bytes and not all within twice that, or nothing comes for [`Settings::idle`] between messages.
+///
+/// What a peer takes is what a write finds room for. One is tried at the end of each timeout, since the system reports
+/// room only where that is a third of its send buffer, megabytes as a rule. Room is seen in steps, each of less than the
+/// peer's receive buffer holds. So a peer with a buffer of 131,072 bytes, as Linux gives at first, is not late where it
+/// reads 65,536 bytes in each timeout. One with a larger buffer may be, unless it reads as much as that in two of them.
 ///
 /// Places: while there are [`Settings::at_once`] connections, no other is accepted. Where peers wait then, one that is
 /// closed and whose peer did not end gives its place, or else the connection that has been between messages longest,
@@ -242,7 +247,7 @@ impl<C: Clock> Peers for Sockets<'_, C> {
             return Happened::Arrival;
         }
         if let Some(number) = self.over() {
-            return self.connections.end(number);
+            return self.connections.end(number, self.waited);
         }
         match self.wait() {
             Ok(()) => Happened::Nothing,
