@@ -18,7 +18,7 @@ sized_small len n e = grind arith
 framed_small : (posts : Bool) (texts : List (List ℕ)) (n : ℕ) → framed posts texts ≡ Ok n → n ≤ body_limit
 framed_small true [] n e = cc
 framed_small false [] n e = let zero : 0 ≡ n = cc in omega (arith, zero)
-framed_small posts (text ∷ []) n e = elim (is_number text) as (λ t. (if t then sized (digits_value 10 text) else Err Malformed) ≡ Ok n → n ≤ body_limit) [ | true ↦ λ h. sized_small (digits_value 10 text) n h | false ↦ λ h. cc ] e
+framed_small posts (text ∷ []) n e = elim (is_number text) as (λ t. (if t then sized (digits_value 10 text) else Err Malformed) ≡ Ok n → n ≤ body_limit) [ true ↦ λ h. sized_small (digits_value 10 text) n h | false ↦ λ h. cc ] e
 framed_small posts (text ∷ (other ∷ more)) n e = cc
 
 body_small : (minor : ℕ) (method : List ℕ) (headers : List Header) (n : ℕ) → body_of minor method headers ≡ Ok n → n ≤ body_limit
@@ -27,9 +27,9 @@ body_small minor method headers n e =
     elim (not (are_hosts minor (values (codes "host") headers))) as (λ t. (if t then Err Malformed else if not (length (values (codes "transfer-encoding") headers) == 0) then Err TransferCoding else lengths) ≡ Ok n → n ≤ body_limit) [
       | true ↦ λ h. cc
       | false ↦ elim (not (length (values (codes "transfer-encoding") headers) == 0)) as (λ t. (if t then Err TransferCoding else lengths) ≡ Ok n → n ≤ body_limit) [
-          | true ↦ λ h. cc
-          | false ↦ λ h. framed_small (is_method (codes "POST") method) (values (codes "content-length") headers) n h
-        ]
+        | true ↦ λ h. cc
+        | false ↦ λ h. framed_small (is_method (codes "POST") method) (values (codes "content-length") headers) n h
+      ]
     ] e
 
 wanted_small : (minor : ℕ) (method : List ℕ) (headers : List Header) (r : Result ℕ HeadFault) (w : Wanted) → ((n : ℕ) → r ≡ Ok n → n ≤ body_limit) → wanted_or (wanted minor method headers) r ≡ Ok w → w.body ≤ body_limit

@@ -8,9 +8,7 @@ ghost use Rattle.bsp_http.specs.Messages.{at_desk};
 use crate::kept::Failing;
 use crate::log::Log;
 use bsp_desk::{Book, Desk};
-use bsp_http::{
-    Awaited, Ending, Happened, Limits, Moved, Peers, Routes, ServeFault, serve_all,
-};
+use bsp_http::{Awaited, Ending, Happened, Limits, Moved, Peers, Routes, ServeFault, serve_all};
 use bsp_sockets::{Settings, Sockets};
 use bsp_words::Limits as PortLimits;
 use std::io::ErrorKind;
