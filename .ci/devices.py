@@ -78,13 +78,10 @@ PEERS = [
     ("a peer that has reset", 3, [(ASKED, RESET), (ASKED, FORBIDDEN)]),
     ("more peers than connections", 2, [(ASKED, FORBIDDEN), (ASKED, b"")]),
 ]
-# further words of `serve`, and how many connections it then serves
-CONNECTIONS = {
-    "": 1_000_000,
-    " --connections 1000000": 1_000_000,
-    " --connections 0999999": 999_999,
-    " --connections 1": 1,
-}
+# how many connections `serve` serves, as it is told
+CONNECTIONS = "1", "02", "1000"
+# the first descriptor of a listener: three of /dev/null come before it
+LISTENER = 6
 INPUTS = {"check": "v1.ret", "hotcheck": "v3.hot"}
 CUT = {"check": "record 2: the file ends without a trailer: write `Z0000002000000000000000000000{`, and 106 spaces up to 136 characters",
        "hotcheck": "record 2: the file ends before its last record BFT99: after BFH01 comes BCH02: fetch the file again; if it stays so, ask the office"}
@@ -244,35 +241,32 @@ def peers():
 
 
 def accepting():
-    """The second connection cannot be accepted; or accepting is interrupted, and tried again."""
-    for steps, status in ("accept4 3 1 fails", 3), ("accept4 3 1 interrupted", 0):
+    """The second connection cannot be accepted, or accepting is interrupted: it is tried again."""
+    for how in "fails", "interrupted":
+        steps = f"accept4 {LISTENER} 1 {how}"
         with stepped(steps):
             it = serve("--connections", 2)
-        office.expect(f"{steps}: the first", FORBIDDEN, received(peer(it.port, ASKED)))
-        if status == 0:
-            office.expect(f"{steps}: the second", FORBIDDEN, received(peer(it.port, ASKED)))
-        line = "2 connections served" if status == 0 else "a connection could not be accepted: "
-        ended, said = it.ended()
-        office.expect(f"{steps}: end", (status, True), (ended, said.startswith(f"bsp_office: {line}")))
+        for number in "first", "second":
+            office.expect(f"{steps}: the {number}", FORBIDDEN, received(peer(it.port, ASKED)))
+        office.expect(f"{steps}: end", (0, "bsp_office: 2 connections served\n"), it.ended())
         made_calls(steps, steps)
 
 
 def ports():
     """The port that is bound is the one of the words."""
     for port in "1", "8080", "65535":
-        found = run("bind 3 fails", ["serve", "--port", port, "--token", TOKEN])
+        found = run(f"bind {LISTENER} fails", ["serve", "--port", port, "--token", TOKEN])
         office.expect(f"port {port}", (3, b"", f"bsp_office: port {port}: Input/output error (os error 5)\n", 0), found)
 
 
 def connections():
-    """The office ends after as many connections as the words say, or a million."""
-    begun = []
-    for words, count in CONNECTIONS.items():
-        with stepped("accept4 3 nobody", f"log of{words}"):
-            begun.append((words, count, serve(*words.split(), seconds=100)))
-    for words, count, it in begun:
-        office.expect(f"serve{words}: end", (0, f"bsp_office: {count:,} connection{'s' * (count != 1)} served\n"), it.ended())
-        office.expect(f"serve{words}: connections", count, office.logged(f"log of{words}")[0])
+    """The office ends after as many connections as the words say."""
+    for count in CONNECTIONS:
+        it = serve("--connections", count)
+        for _ in range(int(count)):
+            office.expect(f"{count} connections: a peer that sends nothing", b"", received(peer(it.port, b"")))
+        served = f"{int(count):,} connection{'s' * (int(count) != 1)} served"
+        office.expect(f"{count} connections: end", (0, f"bsp_office: {served}\n"), it.ended())
 
 
 def main():

@@ -5,13 +5,11 @@
    a star, as "1*", is that of all later calls, too. The function is read, write, bind or accept4; one
    that moves no bytes is as without this where its step is a number. STEPS has at most 8,191
    characters: a process with more is ended by abort.
-   A step "nobody" has this and all later calls of accept4 answer a peer that sends nothing and ends.
    When the process ends, the file that STEPS_LOG names has how many calls there were, and how many
    bytes they moved. */
 #define _GNU_SOURCE
 #include <errno.h>
 #include <fcntl.h>
-#include <netinet/in.h>
 #include <stdio.h>
 #include <stdlib.h>
 #include <string.h>
@@ -21,7 +19,7 @@
 
 static char steps[8192];
 static char *rest, *function;
-static int descriptor = -1, is_nobody;
+static int descriptor = -1;
 static long calls, moved;
 
 __attribute__((constructor)) static void begin(void) {
@@ -64,9 +62,6 @@ static ssize_t next(const char *name, int fd, size_t count) {
   const char *step = step_of_call();
   if (!step)
     return count;
-  is_nobody = strcmp(step, "nobody") == 0;
-  if (is_nobody)
-    return count;
   if (step[0] >= '0' && step[0] <= '9') {
     size_t most = strtoul(step, NULL, 10);
     return count < most ? count : most;
@@ -102,25 +97,8 @@ int bind(int fd, const struct sockaddr *address, socklen_t length) {
   return syscall(SYS_bind, fd, address, length);
 }
 
-/* A peer that sends nothing and ends. */
-static int nobody(struct sockaddr *address, socklen_t *length) {
-  struct sockaddr_in peer = {.sin_family = AF_INET, .sin_port = htons(1)};
-  peer.sin_addr.s_addr = htonl(INADDR_LOOPBACK);
-  memcpy(address, &peer, sizeof peer);
-  *length = sizeof peer;
-  return open("/dev/null", O_RDWR | O_CLOEXEC);
-}
-
-ssize_t recv(int fd, void *bytes, size_t count, int flags) {
-  if (is_nobody)
-    return 0;
-  return syscall(SYS_recvfrom, fd, bytes, count, flags, NULL, NULL);
-}
-
 int accept4(int fd, struct sockaddr *address, socklen_t *length, int flags) {
   if (next("accept4", fd, 1) < 0)
     return -1;
-  if (is_nobody)
-    return nobody(address, length);
   return syscall(SYS_accept4, fd, address, length, flags);
 }
