@@ -7,7 +7,7 @@ use bsp_fields::NoRoom;
 use std::alloc::Global;
 use std::marker::Model;
 
-/// Keeps the bytes of a body once, in a buffer that the next body uses again. A contract sees the
+/// Keeps the bytes of a body once, in a buffer that grows as they come. A contract sees the
 /// bytes.
 #[derive(Drop)]
 pub struct KeptBody {

@@ -54,12 +54,14 @@ fn send_out<W: Write, F>(c: &mut Connection<F>, writer: &mut Noted<W>) -> Result
     Ok(())
 }
 
-/// Reads once, and has the connection take what came.
-fn receive<R: Read, F>(
+/// Reads once, and has the connection take what came. The peer was sent what the writer held back.
+fn receive<R: Read, W: Write, F>(
     c: &mut Connection<F>,
     room: &mut [u8],
     reader: &mut Noted<R>,
+    _writer: &Noted<W>,
 ) -> Result<Option<End>, ServeFault>
+    requires sent { _writer.now.pending ≡ false }
     requires short { length c.old.received.items ≤ 16384 }
     requires unclosed { c.old.closed ≡ false }
     requires capacity { 32768 ≤ vec_capacity c.old.received }
@@ -120,7 +122,7 @@ fn step<R: Read, W: Write, D, S: Service<D>>(
         return Ok(None);
     }
     send_on(writer);
-    receive(c, room, reader)
+    receive(c, room, reader, writer)
 }
 
 /// Serves the connection to its end, with a room for what is read at once.

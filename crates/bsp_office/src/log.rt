@@ -121,22 +121,12 @@ impl<'a> Log<'a> {
         }
     }
 
-    /// One line on a connection, which is counted from 0.
-    fn say_of(&self, connection: u64, what: &str) {
+    /// One line where a read or a write of a connection failed, or there was no memory for it.
+    pub(crate) fn failed(&self, connection: u64, fault: ServeFault) {
         let number = connection.saturating_add(1);
-        if let Ok(line) = format!(in self.rt.alloc(); "connection {number}: {what}") {
+        if let Ok(line) = format!(in self.rt.alloc(); "connection {number}: {fault}") {
             self.lines.say(&line);
         }
-    }
-
-    /// One line where a read or a write of a connection failed.
-    pub(crate) fn failed(&self, connection: u64, fault: ServeFault) {
-        let what = match fault {
-            ServeFault::Read => "the peer's bytes could not be read",
-            ServeFault::Write => "a response could not be written",
-            ServeFault::Memory => "out of memory for what the peer sent",
-        };
-        self.say_of(connection, what);
     }
 
     /// One line where a message was not whole, or a response not read, after so many seconds.
