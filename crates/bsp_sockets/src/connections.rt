@@ -2,6 +2,7 @@
 
 ghost use Rattle.std.specs.Prelude.{◌<◌, ◌^◌};
 
+use crate::limits::Limits;
 use crate::phase::Phase;
 use crate::times::Times;
 use crate::turns::Turns;
@@ -156,7 +157,7 @@ impl Connections {
 
     /// What is done with a connection whose time is over. It is dropped where it is closed, has one more turn where its
     /// output waits, and otherwise is late.
-    pub(crate) fn end(&mut self, number: u64, now: Instant) -> Happened {
+    pub(crate) fn end(&mut self, number: u64, limits: Limits, now: Instant) -> Happened {
         let Some(watched) = self.streams.get_mut(&number) else {
             return Happened::Nothing;
         };
@@ -165,7 +166,7 @@ impl Connections {
             self.remove(number);
             return Happened::Nothing;
         }
-        if let Some(phase) = watched.phase.once_more(now) {
+        if let Some(phase) = watched.phase.once_more(limits.busy, now) {
             self.enter(number, phase);
             return Happened::Ready(number);
         }

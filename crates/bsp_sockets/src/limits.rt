@@ -12,8 +12,10 @@ use std::time::{Duration, Instant};
 pub(crate) struct Limits {
     /// Between messages.
     pub(crate) resting: Option<Duration>,
-    /// Within a message, and for each 65,536 bytes of output.
+    /// Within a message.
     pub(crate) busy: Option<Duration>,
+    /// In a span while output waits.
+    pub(crate) unread: Option<Duration>,
     /// After they are closed.
     pub(crate) leaving: Option<Duration>,
 }
@@ -35,13 +37,6 @@ pub(crate) fn end_of(since: Instant, limit: Option<Duration>) -> Option<Instant>
     ensures limited { (most : Duration) → limit ≡ Some most → IfSome result (λ end. instant_nanos end ≡ instant_nanos since + as_nanos most) }
 {
     since.checked_add(limit?)
-}
-
-/// Whether the one time is no later than the other.
-pub(crate) fn is_by(one: Instant, other: Instant) -> bool
-    ensures { IsTrue result ↔ (instant_nanos one ≤ instant_nanos other) }
-{
-    one.duration_since(other).as_nanos() == 0
 }
 
 /// The earlier of two times; none: never.

@@ -1,17 +1,23 @@
 //! What a connection does, and since when.
 
-ghost use Rattle.std.specs.Prelude.{◌≡◌, ◌≢◌, ◌+◌, ◌<◌, ◌≤◌, ℕ, true, false, None, Some};
+ghost use Rattle.std.specs.Prelude.{◌≡◌, ◌≢◌, ◌+◌, ◌-◌, ◌<◌, ◌≤◌, ℕ, true, false, None, Some, IfSome};
 ghost use Rattle.bsp_sockets.specs.declared.phase.Begun.{Begun};
 ghost use Rattle.bsp_sockets.specs.declared.phase.Unread.{Unread};
+ghost use Rattle.std.specs.declared.time.Duration.{Duration};
 ghost use Rattle.std.specs.declared.time.Instant.{Instant};
+ghost use Rattle.std.specs.Duration.{as_nanos};
 ghost use Rattle.std.specs.Time.{instant_nanos};
 
-use crate::limits::{earlier, is_by};
+use crate::limits::is_over;
 use bsp_peers::Awaited;
-use std::time::Instant;
+use std::time::{Duration, Instant};
 
-/// The bytes that a peer must take within both its times.
-const PIECE: usize = 65_536;
+/// The bytes that a peer must take within twice the time: half of what one reads within the time, since what it reads is
+/// seen in steps.
+const PIECE: usize = 32_768;
+
+/// The spans of twice the time, each with a write at its end.
+const SPANS: usize = 8;
 
 /// A message that is begun.
 #[derive(Clone, Copy)]
@@ -22,15 +28,15 @@ pub(crate) struct Begun {
     pub(crate) since: Instant,
 }
 
-/// Which time a peer has for a piece of 65,536 bytes. It has two, as what it reads is seen in steps of more.
+/// Where the bytes go that are written to a peer.
 #[derive(Clone, Copy)]
-pub(crate) enum Chance {
-    /// The first.
-    First,
-    /// The second.
-    Second,
-    /// Both are over, and one more write shows what it took.
-    Over,
+pub(crate) enum Stage {
+    /// To the peer, or to the system's own buffer.
+    Fresh,
+    /// To the system's own buffer, by the write that fills it.
+    Filling,
+    /// To the peer, in place of bytes that it took.
+    Full,
 }
 
 /// Output that waits for the peer.
@@ -38,10 +44,12 @@ pub(crate) enum Chance {
 pub(crate) struct Unread {
     /// How many bytes the peer took of this piece.
     pub(crate) taken: usize,
-    /// Since when it has this time.
+    /// Since when this span lasts.
     pub(crate) since: Instant,
-    /// Which time that is.
-    pub(crate) chance: Chance,
+    /// How many spans are over.
+    pub(crate) spans: usize,
+    /// Where the bytes go.
+    pub(crate) stage: Stage,
 }
 
 /// What came and went on a connection in one turn.
@@ -87,49 +95,75 @@ fn begun_after(before: Option<Begun>, message: Option<usize>, now: Instant) -> O
     }
 }
 
-/// The output that waits after a turn in which the peer took so many bytes. Its time starts where none waited before,
-/// and again with each piece that the peer took.
+/// The output that waits after a turn in which so many bytes were written. Its time starts where none waited before, and
+/// again with each piece that the peer took.
 fn unread_after(before: Option<Unread>, waits: bool, sent: usize, now: Instant) -> Option<Unread>
     ensures none { waits ≡ false → result ≡ None }
-    ensures first { waits ≡ true → before ≡ None → result ≡ Some (record { taken = 0; since = now; chance = Chance.First }) }
-    ensures less { (old : Unread) → waits ≡ true → before ≡ Some old → old.taken + sent < PIECE → result ≡ Some (record { taken = old.taken + sent; since = old.since; chance = old.chance }) }
-    ensures piece { (old : Unread) → waits ≡ true → before ≡ Some old → PIECE ≤ old.taken + sent → result ≡ Some (record { taken = 0; since = now; chance = Chance.First }) }
+    ensures first { waits ≡ true → before ≡ None → result ≡ Some (record { taken = 0; since = now; spans = 0; stage = Stage.Fresh }) }
+    ensures filled { (old : Unread) → waits ≡ true → before ≡ Some old → old.stage ≡ Stage.Filling → result ≡ Some (record { taken = 0; since = old.since; spans = old.spans; stage = Stage.Full }) }
+    ensures less { (old : Unread) → waits ≡ true → before ≡ Some old → old.stage ≢ Stage.Filling → old.taken + sent < PIECE → result ≡ Some (record { taken = old.taken + sent; since = old.since; spans = old.spans; stage = old.stage }) }
+    ensures piece { (old : Unread) → waits ≡ true → before ≡ Some old → old.stage ≢ Stage.Filling → PIECE ≤ old.taken + sent → result ≡ Some (record { taken = 0; since = now; spans = 0; stage = old.stage }) }
 {
     if !waits {
         return None;
     }
-    match before {
-        Some(old) if old.taken < PIECE && sent < PIECE - old.taken => Some(Unread {
-            taken: old.taken + sent,
-            since: old.since,
-            chance: old.chance,
-        }),
-        _ => Some(Unread {
+    let Some(old) = before else {
+        return Some(Unread {
             taken: 0,
             since: now,
-            chance: Chance::First,
-        }),
+            spans: 0,
+            stage: Stage::Fresh,
+        });
+    };
+    Some(unread_on(old, sent, now))
+}
+
+/// Output that waits again after a turn.
+fn unread_on(old: Unread, sent: usize, now: Instant) -> Unread
+    ensures filled { old.stage ≡ Stage.Filling → result ≡ record { taken = 0; since = old.since; spans = old.spans; stage = Stage.Full } }
+    ensures less { old.stage ≢ Stage.Filling → old.taken + sent < PIECE → result ≡ record { taken = old.taken + sent; since = old.since; spans = old.spans; stage = old.stage } }
+    ensures piece { old.stage ≢ Stage.Filling → PIECE ≤ old.taken + sent → result ≡ record { taken = 0; since = now; spans = 0; stage = old.stage } }
+{
+    match old.stage {
+        Stage::Filling => Unread {
+            taken: 0,
+            stage: Stage::Full,
+            ..old
+        },
+        _ if old.taken < PIECE && sent < PIECE - old.taken => Unread {
+            taken: old.taken + sent,
+            ..old
+        },
+        _ => Unread {
+            taken: 0,
+            since: now,
+            spans: 0,
+            stage: old.stage,
+        },
     }
 }
 
-/// The output that waits, before one more write, after the time of its peer is over. None: the peer is late.
+/// The output that waits, before one more write, after a span is over. None: the peer is late.
 fn once_more(unread: Unread, now: Instant) -> Option<Unread>
-    ensures first { unread.chance ≡ Chance.First → result ≡ Some (record { taken = unread.taken; since = now; chance = Chance.Second }) }
-    ensures second { unread.chance ≡ Chance.Second → result ≡ Some (record { taken = unread.taken; since = unread.since; chance = Chance.Over }) }
-    ensures over { unread.chance ≡ Chance.Over → result ≡ None }
+    ensures span { unread.spans + 1 < SPANS → (next : Unread) × (result ≡ Some next) × (next.taken ≡ unread.taken) × (next.since ≡ now) × (next.spans ≡ unread.spans + 1) }
+    ensures last { unread.spans + 1 ≡ SPANS → (next : Unread) × (result ≡ Some next) × (next.taken ≡ unread.taken) × (next.since ≡ unread.since) × (next.spans ≡ SPANS) }
+    ensures over { SPANS ≤ unread.spans → result ≡ None }
+    ensures full { unread.stage ≢ Stage.Fresh → IfSome result (λ next. next.stage ≡ unread.stage) }
 {
-    match unread.chance {
-        Chance::First => Some(Unread {
-            since: now,
-            chance: Chance::Second,
-            ..unread
-        }),
-        Chance::Second => Some(Unread {
-            chance: Chance::Over,
-            ..unread
-        }),
-        Chance::Over => None,
+    let stage = match unread.stage {
+        Stage::Fresh => Stage::Filling,
+        stage => stage,
+    };
+    if unread.spans >= SPANS {
+        return None;
     }
+    let spans = unread.spans + 1;
+    Some(Unread {
+        taken: unread.taken,
+        since: if spans < SPANS { now } else { unread.since },
+        spans,
+        stage,
+    })
 }
 
 impl Phase {
@@ -183,7 +217,7 @@ impl Phase {
         ensures still { (since : Instant) → IsBetween awaited → self ≡ Resting since → traffic.came ≡ false → traffic.sent ≡ 0 → result ≡ self }
         ensures byte { (begun : Begun) → awaited.reads ≡ true → awaited.message ≡ Some begun.before → message_of self ≡ Some begun → message_of result ≡ Some begun }
         ensures message { (count : ℕ) → awaited.reads ≡ true → awaited.message ≡ Some count → message_of self ≡ None → message_of result ≡ Some (record { before = count; since = now }) }
-        ensures output { (old : Unread) → awaited.writes ≡ true → output_of self ≡ Some old → old.taken + traffic.sent < PIECE → output_of result ≡ Some (record { taken = old.taken + traffic.sent; since = old.since; chance = old.chance }) }
+        ensures output { (old : Unread) → awaited.writes ≡ true → output_of self ≡ Some old → old.stage ≢ Stage.Filling → old.taken + traffic.sent < PIECE → output_of result ≡ Some (record { taken = old.taken + traffic.sent; since = old.since; spans = old.spans; stage = old.stage }) }
     {
         if awaited.message.is_none() && !awaited.writes && !awaited.again {
             return Phase::Resting(self.rested(traffic, now));
@@ -196,18 +230,17 @@ impl Phase {
         }
     }
 
-    /// What a connection does, before one more turn, after its time is over. None: it is late, as each is but one whose
-    /// output waits and whose message is not late itself.
-    pub(crate) fn once_more(self, now: Instant) -> Option<Phase>
+    /// What a connection does, before one more turn, after its time is over, or a span of output that waits. None: it is
+    /// late.
+    pub(crate) fn once_more(self, limit: Option<Duration>, now: Instant) -> Option<Phase>
         ensures none { output_of self ≡ None → result ≡ None }
-        ensures message { (begun : Begun) (old : Unread) → message_of self ≡ Some begun → output_of self ≡ Some old → instant_nanos begun.since ≤ instant_nanos old.since → result ≡ None }
-        ensures first { (old : Unread) → message_of self ≡ None → output_of self ≡ Some old → old.chance ≡ Chance.First → result ≡ Some (Busy None (Some (record { taken = old.taken; since = now; chance = Chance.Second }))) }
-        ensures second { (old : Unread) → message_of self ≡ None → output_of self ≡ Some old → old.chance ≡ Chance.Second → result ≡ Some (Busy None (Some (record { taken = old.taken; since = old.since; chance = Chance.Over }))) }
-        ensures over { (old : Unread) → output_of self ≡ Some old → old.chance ≡ Chance.Over → result ≡ None }
+        ensures message { (begun : Begun) (most : Duration) → message_of self ≡ Some begun → limit ≡ Some most → as_nanos most ≤ instant_nanos now - instant_nanos begun.since → result ≡ None }
+        ensures span { (old : Unread) → message_of self ≡ None → output_of self ≡ Some old → old.spans < SPANS → (next : Unread) × (result ≡ Some (Busy None (Some next))) × (next.taken ≡ old.taken) × (next.spans ≡ old.spans + 1) }
+        ensures over { (old : Unread) → output_of self ≡ Some old → SPANS ≤ old.spans → result ≡ None }
     {
         let unread = self.output()?;
         match self.message() {
-            Some(begun) if is_by(begun.since, unread.since) => None,
+            Some(begun) if is_over(begun.since, limit, now) => None,
             message => Some(Phase::Busy {
                 message,
                 output: Some(once_more(unread, now)?),
@@ -215,19 +248,23 @@ impl Phase {
         }
     }
 
-    /// Since when it has been waited for, of a message and output the longer; none: it is not waited for.
+    /// Since when it has been waited for, but for output; none: it is not waited for.
     pub(crate) fn since(self) -> Option<Instant>
         ensures resting { (since : Instant) → self ≡ Resting since → result ≡ Some since }
         ensures leaving { (since : Instant) → self ≡ Leaving since → result ≡ Some since }
+        ensures busy { (begun : Begun) → message_of self ≡ Some begun → result ≡ Some begun.since }
     {
         match self {
             Phase::Resting(since) => Some(since),
-            Phase::Busy { message, output } => {
-                let message = message.map(|it| it.since);
-                let output = output.map(|it| it.since);
-                earlier(message, output)
-            }
+            Phase::Busy { message, .. } => message.map(|it| it.since),
             Phase::Leaving(since) => Some(since),
         }
+    }
+
+    /// Since when a span of output that waits lasts; none: none waits.
+    pub(crate) fn unread_since(self) -> Option<Instant>
+        ensures { (unread : Unread) → output_of self ≡ Some unread → result ≡ Some unread.since }
+    {
+        self.output().map(|it| it.since)
     }
 }

@@ -14,6 +14,9 @@ use std::time::{Clock, Duration, Instant};
 /// The most connections at once.
 const MOST: usize = 10_000;
 
+/// The spans of [`Settings::timeout`] while output waits.
+const IN_TIMEOUT: u32 = 4;
+
 /// The seconds in which what a peer sends is dropped after the end, where messages have no time.
 const LINGERING: u64 = 5;
 
@@ -22,8 +25,8 @@ const LINGERING: u64 = 5;
 pub struct Settings {
     /// The most connections at once, 1 to 10,000: 0 counts as 1, and more as 10,000.
     pub at_once: usize,
-    /// How long a message may take from its first byte to its last; none: without end. A peer that is sent something has
-    /// twice as long for each 65,536 bytes.
+    /// How long a message may take from its first byte to its last, and a peer for each 65,536 bytes that it is sent, as
+    /// [`Sockets`] says; none: without end.
     pub timeout: Option<Duration>,
     /// How long a connection may be between messages; none: without end.
     pub idle: Option<Duration>,
@@ -34,13 +37,15 @@ pub struct Settings {
 /// Turns: the connections that are ready are in a queue, first in first out, and one whose turn comes again is put at
 /// its end. Between two rounds the system is asked which others are ready.
 ///
-/// Times: a connection is late where a message is begun and not whole after [`Settings::timeout`], a peer takes fewer
-/// than 65,536 bytes and not all within twice that, or nothing comes for [`Settings::idle`] between messages.
+/// Times: a connection is late where a message is begun and not whole after [`Settings::timeout`], or nothing comes for
+/// [`Settings::idle`] between messages. A peer that is sent something is late where, within twice the timeout, it takes
+/// fewer than 32,768 bytes and not all.
 ///
-/// What a peer takes is what a write finds room for. One is tried at the end of each timeout, since the system reports
-/// room only where that is a third of its send buffer, megabytes as a rule. Room is seen in steps, each of less than the
-/// peer's receive buffer holds. So a peer with a buffer of 131,072 bytes, as Linux gives at first, is not late where it
-/// reads 65,536 bytes in each timeout. One with a larger buffer may be, unless it reads as much as that in two of them.
+/// What a peer takes is seen by writes. The system reports room only where that is a third of its send buffer, which may
+/// have megabytes, and so one write is tried at the end of each quarter of the timeout. The first of these fills the
+/// buffer and does not count. The peer's system makes room in steps, each smaller than its receive buffer. So a peer whose
+/// buffer has 131,072 bytes, as Linux gives at first, is not late where it reads 65,536 bytes in each timeout. One with a
+/// larger buffer may be, unless it reads as much as that in two timeouts: until then nothing shows that it reads.
 ///
 /// Places: while there are [`Settings::at_once`] connections, no other is accepted. Where peers wait then, one that is
 /// closed and whose peer did not end gives its place, or else the connection that has been between messages longest,
@@ -64,10 +69,15 @@ pub struct Sockets<'c, C> {
 
 /// How long connections may do what they do by these settings.
 fn limits_of(settings: Settings) -> Limits {
+    let span = match settings.timeout {
+        Some(timeout) => timeout.checked_div(IN_TIMEOUT),
+        None => None,
+    };
     let lingering = settings.timeout.unwrap_or(Duration::from_secs(LINGERING));
     Limits {
         resting: settings.idle,
         busy: settings.timeout,
+        unread: span,
         leaving: Some(lingering),
     }
 }
@@ -247,7 +257,7 @@ impl<C: Clock> Peers for Sockets<'_, C> {
             return Happened::Arrival;
         }
         if let Some(number) = self.over() {
-            return self.connections.end(number, self.waited);
+            return self.connections.end(number, self.limits, self.waited);
         }
         match self.wait() {
             Ok(()) => Happened::Nothing,

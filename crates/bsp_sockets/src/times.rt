@@ -14,6 +14,7 @@ const REST: u64 = 1;
 pub(crate) struct Times {
     resting: BTreeSet<(Instant, u64)>,
     busy: BTreeSet<(Instant, u64)>,
+    unread: BTreeSet<(Instant, u64)>,
     leaving: BTreeSet<(Instant, u64)>,
 }
 
@@ -43,6 +44,7 @@ impl Times {
         Times {
             resting: BTreeSet::new(alloc),
             busy: BTreeSet::new(alloc),
+            unread: BTreeSet::new(alloc),
             leaving: BTreeSet::new(alloc),
         }
     }
@@ -58,9 +60,13 @@ impl Times {
 
     /// Adds a connection that does this. Answers whether there was memory.
     pub(crate) fn add(&mut self, number: u64, phase: Phase) -> bool {
-        match phase.since() {
+        let is_added = match phase.since() {
             Some(since) => self.of(phase).insert((since, number)).is_ok(),
             None => true,
+        };
+        match phase.unread_since() {
+            Some(since) => is_added && self.unread.insert((since, number)).is_ok(),
+            None => is_added,
         }
     }
 
@@ -69,12 +75,16 @@ impl Times {
         if let Some(since) = phase.since() {
             self.of(phase).remove(&(since, number));
         }
+        if let Some(since) = phase.unread_since() {
+            self.unread.remove(&(since, number));
+        }
     }
 
     /// Forgets those that are not closed.
     pub(crate) fn keep_leaving(&mut self) {
         self.resting.clear();
         self.busy.clear();
+        self.unread.clear();
     }
 
     /// A connection whose time is over.
@@ -85,6 +95,9 @@ impl Times {
         if let Some(number) = first_over(&self.busy, limits.busy, now) {
             return Some(number);
         }
+        if let Some(number) = first_over(&self.unread, limits.unread, now) {
+            return Some(number);
+        }
         first_over(&self.resting, limits.resting, now)
     }
 
@@ -92,8 +105,9 @@ impl Times {
     pub(crate) fn end(&self, limits: Limits) -> Option<Instant> {
         let leaving = first_end(&self.leaving, limits.leaving);
         let busy = first_end(&self.busy, limits.busy);
+        let unread = first_end(&self.unread, limits.unread);
         let resting = first_end(&self.resting, limits.resting);
-        earlier(leaving, earlier(busy, resting))
+        earlier(earlier(leaving, busy), earlier(unread, resting))
     }
 
     /// The connection that is closed first.
