@@ -1,13 +1,14 @@
 #!/usr/bin/env python3
 """Tries that a reply which comes before the request was read arrives: 400, 411, 413 with a body of 20 MB, 431, and 501 with
-chunks of 20 MB. Python's http.client, a raw socket, curl and `requests`, the last two where the machine has them, ask 20 times
-each; each of the 20 has the reply, whole. One that goes on sending for longer than the timeout is cut off. Prints how
+chunks of 20 MB. Python's http.client, a raw socket, curl, `requests` and node, the last three where the machine has them, ask 20
+times each; each of the 20 has the reply, whole. One that goes on sending for longer than the timeout is cut off. Prints how
 long each took, and exits with the number of cases that differ.
 
 usage: .ci/early.py [PROGRAM] [--program PATH] [--seed N]   (with no PROGRAM it takes the one that is built)
 """
 import concurrent.futures
 import http.client
+import json
 import os
 import shutil
 import socket
@@ -103,11 +104,32 @@ def with_requests(port, status):
     return reply.status_code, reply.content
 
 
+# sends the head of a POST and then the file, with its length or in chunks, and prints the status and the text
+NODE = """
+const [port, path, file, fields] = process.argv.slice(1);
+const request = require("http").request({host: "127.0.0.1", port, path, method: "POST", headers: JSON.parse(fields)}, reply => {
+  let text = "";
+  reply.on("data", piece => text += piece);
+  reply.on("end", () => { console.log(reply.statusCode + " " + text); process.exit(0); });
+});
+request.on("error", fault => setTimeout(() => { console.log(fault.message); process.exit(1); }, 1000));
+file ? require("fs").createReadStream(file).pipe(request) : request.end();
+"""
+
+
+def with_node(port, status):
+    fields = {name: value for name, value in FIELDS[status].items() if name != "Transfer-Encoding"}
+    ended = subprocess.run(["node", "-e", NODE, str(port), PATH, "long" if status in (413, 501) else "", json.dumps(fields)],
+                           capture_output=True, timeout=2 * SECONDS)
+    code, _, text = ended.stdout.strip().partition(b" ")
+    return (int(code), text) if code.isdigit() else (ended.returncode, ended.stdout + ended.stderr)
+
+
 def asks(client, port):
     """The client asks for each status in turn, and says how long that took."""
     name = client.__name__.removeprefix("with_").replace("_", ".")
-    # `requests` sends a length with each POST
-    for status in (it for it in FIELDS if (name, it) != ("requests", 411)):
+    # `requests` and node send a length with each POST, and node none that is no number
+    for status in (it for it in FIELDS if (name, it) not in (("requests", 411), ("node", 411), ("node", 400))):
         begun, came = time.monotonic(), 0
         for _ in range(TIMES):
             try:
@@ -141,7 +163,7 @@ def goes_on(port, seconds):
 
 def main():
     clients = [with_http_client, with_socket]
-    for name, client, is_there in ("curl", with_curl, shutil.which("curl")), ("requests", with_requests, requests):
+    for name, client, is_there in ("curl", with_curl, shutil.which("curl")), ("requests", with_requests, requests), ("node", with_node, shutil.which("node")):
         if is_there:
             clients.append(client)
         else:
