@@ -80,8 +80,8 @@ PEERS = [
 ]
 # how many connections `serve` serves, as it is told
 CONNECTIONS = "1", "02", "1000"
-# the first descriptor of a listener: three of /dev/null come before it
-LISTENER = 6
+# the descriptor of the listener
+LISTENER = 3
 INPUTS = {"check": "v1.ret", "hotcheck": "v3.hot"}
 CUT = {"check": "record 2: the file ends without a trailer: write `Z0000002000000000000000000000{`, and 106 spaces up to 136 characters",
        "hotcheck": "record 2: the file ends before its last record BFT99: after BFH01 comes BCH02: fetch the file again; if it stays so, ask the office"}

@@ -252,7 +252,7 @@ def served():
         with contextlib.suppress(TimeoutError):
             peer.sendall(NEXT * MESSAGES)
         said = ("bsp_office: connection 1: the peer's bytes could not be read\n"
-                "bsp_office: connection 2: a response could not be written\nbsp_office: 2 connections served\n")
+                "bsp_office: connection 2: a message was not whole, or a response not read, after 1 second\nbsp_office: 2 connections served\n")
         office.expect("what is said of connections", (0, said), it.ended())
 
 

@@ -1,6 +1,6 @@
 //! One connection.
 
-ghost use Rattle.std.specs.Prelude.{◌≡◌, ◌≤◌, ◌<◌, ◌+◌, [], length, take, true, false, IfOk, OnOk, OnErr, vec_capacity};
+ghost use Rattle.std.specs.Prelude.{not, ◌&&◌, ◌≡◌, ◌≤◌, ◌<◌, ◌+◌, [], length, take, true, false, IfOk, OnOk, OnErr, vec_capacity};
 ghost use Rattle.bsp_connection.specs.Begun.{HasUnread, pending};
 ghost use Rattle.bsp_connection.specs.Steps.{EndsAt};
 ghost use Rattle.bsp_connection.specs.Talks.{HasTaken, IsFresh, IsSame, IsSent};
@@ -123,10 +123,17 @@ impl<F> Connection<F> {
     }
 
     /// Whether a message of what came may be answered by [`go_on`](crate::go_on).
-    pub fn has_more(&self) -> bool
+    pub(crate) fn has_more(&self) -> bool
         ensures { result ≡ self.now.has_more }
     {
         self.has_more
+    }
+
+    /// Whether [`go_on`](crate::go_on) can go on with what came: more may be answered, and may be put out.
+    pub fn can_go_on(&self) -> bool
+        ensures { result ≡ (self.now.has_more && not self.now.out.apart) }
+    {
+        self.has_more && self.out.is_free()
     }
 
     /// Whether nothing more of the peer is taken.

@@ -57,7 +57,7 @@ impl<'s, D, S: Service<D>> Protocol<D> for Http<'s, S> {
 
     fn state(&self, connection: &Connection<S::Found>) -> State {
         State {
-            has_more: connection.has_more(),
+            has_more: connection.can_go_on(),
             is_closed: connection.is_closed(),
             is_done: connection.is_done(),
             message: connection.begun(),
