@@ -120,7 +120,7 @@ def book_alone(what, book):
 
 
 def runs_with_closed_descriptors():
-    """So is `run`: it has no input where standard input is closed, and its responses go nowhere where standard output is."""
+    """So is `run`, which ends with status 3 where standard input or standard output is closed."""
     sent, wanted = b"".join(it[0] for it in TALK), b"".join(reply(*rest) for _, *rest in TALK)
     for count in range(1, 4):
         for closed in itertools.combinations(range(3), count):
@@ -128,8 +128,8 @@ def runs_with_closed_descriptors():
             words = [PROGRAM, "run", "--token", OFFICE, "--db", book]
             ended = subprocess.run(words, input=sent, stdout=subprocess.PIPE, stderr=subprocess.PIPE, timeout=SECONDS,
                                    preexec_fn=lambda numbers=closed: [os.close(number) for number in numbers])
-            output = b"" if {0, 1} & set(closed) else wanted
-            expect(what, (0, output), (ended.returncode, ended.stdout))
+            status, output = (3, b"") if {0, 1} & set(closed) else (0, wanted)
+            expect(what, (status, output), (ended.returncode, ended.stdout))
             book_alone(what, book)
 
 
