@@ -150,7 +150,7 @@ PIECES = 1, 7, 100, 1024, 8191, 8192, 8193, 16_384
 # written, and whether less than the message (-1), the message (0) or more (1) is read
 REFUSING = [
     (post("/agents/12345675/ret", SALE), {(0, NO_ROOM, -1)}, {(3, b"", -1), (0, NO_ROOM, 0), (0, FORBIDDEN + NEXT_REPLY, 1)}),
-    (post("/office/day", DAY), {(0, DONE + NEXT_REPLY, 1)}, {(3, b"", -1), (0, refusal("B01") + NEXT_REPLY, 1)})]
+    (post("/office/day", DAY), {(0, DONE + NEXT_REPLY, 1)}, {(3, b"", -1), (0, NO_ROOM, -1), (0, refusal("B01") + NEXT_REPLY, 1)})]
 
 
 # ---- parts

@@ -127,11 +127,13 @@ class Crowd:
         self.never = [connected(port, 4096) for _ in range(NEVER_READING)]
         for peer in self.never:
             sends(peer, STOCK * RESPONSES)
-        self.idle = [connected(port) for _ in range(IDLE_PEERS)]
-        for peer in self.idle:
-            # half of them have been answered before
-            if RANDOM.random() < 0.5:
-                expect("a peer before it is idle", FORBIDDEN, asks(peer))
+        self.idle = []
+        for _ in range(IDLE_PEERS):
+            self.since[peer := connected(port)] = time.monotonic()
+            self.idle.append(peer)
+        # half of them have been answered before
+        for peer in RANDOM.sample(self.idle, IDLE_PEERS // 2):
+            expect("a peer before it is idle", FORBIDDEN, asks(peer))
             self.since[peer] = time.monotonic()
         self.dripping = [connected(port) for _ in range(DRIPPING)]
         self.at = dict.fromkeys(self.dripping, RANDOM.randrange(1, 90))
@@ -231,6 +233,8 @@ def beside():
         crowd.watch(IDLE + SLACK)
         in_time("peers that drip", TIMEOUT, *crowd.lasted(crowd.dripping))
         in_time("idle peers", IDLE, *crowd.lasted(crowd.idle))
+        # one that never reads is late after one span of twice the timeout, or after two
+        time.sleep(max(0, crowd.begun + 4 * TIMEOUT + 1 - time.monotonic()))
         for peer in crowd.never:
             count = rest_of(peer)
             print(f"a peer that never read: {count:,} of {length * RESPONSES:,} bytes were sent", flush=True)
