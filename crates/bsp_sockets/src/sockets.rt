@@ -35,7 +35,8 @@ pub struct Settings {
 /// A listener and its connections, in one thread.
 ///
 /// Turns: the connections that are ready are in a queue, first in first out, and one whose turn comes again is put at
-/// its end. Between two rounds the system is asked which others are ready.
+/// its end. Between two rounds the system is asked which others are ready. A round has a turn for each that is ready at its
+/// beginning, and 32 turns at least while any is ready.
 ///
 /// Times: a connection is late where a message is begun and not whole after [`Settings::timeout`], or nothing comes for
 /// [`Settings::idle`] between messages. A peer that is sent something is late where, within twice the timeout, it takes

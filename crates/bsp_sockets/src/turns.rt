@@ -1,12 +1,15 @@
 //! The order in which connections have their turns.
 
-ghost use Rattle.std.specs.Prelude.{◌≡◌, ◌-◌, ◌<◌, ◌==◌, true, false, [], ◌∷◌, ◌++◌, IsSome, IfSome, IfNone};
+ghost use Rattle.std.specs.Prelude.{◌≡◌, ◌-◌, ◌<◌, ◌≤◌, ◌==◌, true, false, [], ◌∷◌, ◌++◌, IsSome, IfSome, IfNone};
 ghost use Rattle.std.specs.VecDeque.{deque_len};
 
 use std::alloc::Global;
 use std::collections::VecDeque;
 
-/// The connections whose turns come, first in first out, and how many of them are of this round.
+/// The least turns of a round, so that few connections do not ask the system for each turn.
+const TURNS: usize = 32;
+
+/// The connections whose turns come, first in first out, and how many turns this round still has.
 #[derive(Drop)]
 pub(crate) struct Turns {
     pub(crate) queue: VecDeque<u64>,
@@ -61,11 +64,13 @@ impl Turns {
         self.queue.pop_front()
     }
 
-    /// Begins a round, of the connections whose turns come by now.
+    /// Begins a round: a turn of each connection whose turn comes by now, and where these are few, further turns.
     pub(crate) fn begin_round(&mut self)
         ensures queue { self.new.queue.items ≡ self.old.queue.items }
-        ensures round { self.new.left ≡ deque_len self.old.queue }
+        ensures few { deque_len self.old.queue < TURNS → self.new.left ≡ TURNS }
+        ensures many { TURNS ≤ deque_len self.old.queue → self.new.left ≡ deque_len self.old.queue }
     {
-        self.left = self.queue.len();
+        let count = self.queue.len();
+        self.left = if count < TURNS { TURNS } else { count };
     }
 }
