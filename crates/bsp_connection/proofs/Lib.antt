@@ -1,11 +1,9 @@
 -- Lemmas of this crate.
 pub mod NotedLemmas
 pub mod WriteLemmas
-pub mod FileLemmas
-pub mod RetLemmas
-pub mod RunLemmas
 pub mod SeekLemmas
 pub mod StepLemmas
 pub mod TalkLemmas
 pub mod ServeLemmas
 pub mod ProgressLemmas
+pub mod OutputLemmas

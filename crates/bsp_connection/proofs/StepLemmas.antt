@@ -1,5 +1,5 @@
 -- One step of a connection.
-use Rattle.std.proofs.Common.{◌≡◌, ◌≢◌, ◌⊎◌, inl, inr, ℕ, ◌+◌, ◌-◌, ◌<◌, ◌≤◌, Bool, true, false, ◌||◌, ◌==◌, List, [], ◌∷◌, ◌++◌, length, take, drop, Option, Some, None, refl, sym, ap, ◌∙◌, subst, append_assoc, append-nil, length-append, arith, eqb, min, length-drop, IfSome}
+use Rattle.std.proofs.Common.{◌≡◌, ◌⊎◌, inl, inr, ℕ, ◌+◌, ◌-◌, ◌<◌, ◌≤◌, Bool, true, false, ◌||◌, ◌==◌, List, [], ◌∷◌, ◌++◌, length, take, drop, Option, Some, None, is_some, refl, sym, ap, ◌∙◌, subst, append_assoc, append-nil, length-append, arith, eqb, min, length-drop, IfSome}
 use Rattle.std.proofs.lemmas.Bool.{false≢true}
 use Rattle.std.proofs.lemmas.Bool.Decides.{eqb_tells}
 use Rattle.std.proofs.Math.Seq.{take-append_seam, take-length, drop-append_seam}
@@ -17,11 +17,7 @@ use Rattle.bsp_heads.specs.Scan.{HasScanned, head_len}
 use Rattle.bsp_heads.specs.declared.fault.Refused.{Refused}
 use Rattle.bsp_heads.specs.declared.parts.HeadParts.{HeadParts}
 use Rattle.bsp_heads.specs.declared.scan.Scan.{Scan}
-use Rattle.bsp_connection.specs.Exchanges.{Exchange, Meaning, RequestText, interim, used}
-use Rattle.bsp_connection.specs.declared.service.BodyUse.{BodyUse}
-use Rattle.bsp_connection.specs.declared.service.BodyUse.TheVariants.{Ignored, Kept, RetFile}
-use Rattle.bsp_connection.specs.Bodies.{HasRet}
-use Rattle.bsp_ret.specs.Pieces.{Fed}
+use Rattle.bsp_connection.specs.Exchanges.{Exchange, Meaning, Reading, RequestText, interim, used}
 use Rattle.bsp_connection.specs.Conversations.{HasHead, HasMessage, HasRefusal, message_limit}
 use Rattle.bsp_connection.proofs.SeekLemmas.{exact}
 use Rattle.bsp_connection.specs.Begun.{HasBegun, HasBody, HasUnread, IsBegunAs, IsFound, IsRead, IsSought, pending}
@@ -100,34 +96,33 @@ part_of received head left count within is =
     }
 
 -- what takes a body has nothing of it yet
-pub fresh_body : (kind : BodyUse) (kept : List ℕ) (file : Fed) → kept ≡ [] → HasRet file [] → HasBody kind kept file []
-fresh_body Ignored kept file none ret = tt
-fresh_body Kept kept file none ret = none
-fresh_body RetFile kept file none ret = ret
+pub fresh_body : {F B : Type 0} (r : Reading F B) (found : F) (o : Option B) → IfSome o (λ body. r.has found body []) → HasBody r found o []
+fresh_body r found None fresh = tt
+fresh_body r found (Some body) fresh = fresh
 
 -- ---- steps
 
-module _ {D F : Type 0} (m : Meaning D) (finds : List ℕ → List ℕ → F → Type 0) where
+module _ {D F B : Type 0} (m : Meaning D) (r : Reading F B) where
   -- what a connection has between two messages
-  sought : (c : Connection F) (unread : List ℕ) → c.closed ≡ false → c.begun ≡ None → HasUnread finds m.uses c unread
+  sought : (c : Connection F B) (unread : List ℕ) → c.closed ≡ false → c.begun ≡ None → HasUnread r m.uses c unread
       → (c.count < message_limit) × IsSought c.received.items c.scan c.seen c.has_more unread
   sought c unread unclosed none has =
       let h = has unclosed in
-      (h.0, subst (λ (o : Option (Begun F)). HasBegun finds m.uses o c.received.items c.scan c.seen c.kept c.file c.has_more unread) none h.1)
+      (h.0, subst (λ (o : Option (Begun F)). HasBegun r m.uses o c.received.items c.scan c.seen c.body c.has_more unread) none h.1)
 
   -- what it has within one
-  pub within : (c : Connection F) (unread : List ℕ) (b : Begun F) → c.closed ≡ false → c.begun ≡ Some b → HasUnread finds m.uses c unread
-      → (c.count < message_limit) × IsBegunAs finds m.uses b c.received.items c.kept c.file c.has_more unread
+  pub within : (c : Connection F B) (unread : List ℕ) (b : Begun F) → c.closed ≡ false → c.begun ≡ Some b → HasUnread r m.uses c unread
+      → (c.count < message_limit) × IsBegunAs r m.uses b c.received.items c.body c.has_more unread
   within c unread b unclosed some has =
       let h = has unclosed in
-      (h.0, subst (λ (o : Option (Begun F)). HasBegun finds m.uses o c.received.items c.scan c.seen c.kept c.file c.has_more unread) some h.1)
+      (h.0, subst (λ (o : Option (Begun F)). HasBegun r m.uses o c.received.items c.scan c.seen c.body c.has_more unread) some h.1)
 
-  closed_has : (c : Connection F) (rest : List ℕ) → c.closed ≡ true → HasUnread finds m.uses c rest
+  closed_has : (c : Connection F B) (rest : List ℕ) → c.closed ≡ true → HasUnread r m.uses c rest
   closed_has c rest closed = λ unclosed. absurd (false≢true (sym unclosed ∙ closed))
 
   -- a head is refused
-  pub refused_moves : (old new : Connection F) (d : D) (why : Refused) (head : ℕ) → HasRefusal old.received.items why → old.begun ≡ None → old.closed ≡ false
-      → IsAnswered head (response why.bare true (refusal_reply why.fault)) true old new → Moves m finds old new d d
+  pub refused_moves : (old new : Connection F B) (d : D) (why : Refused) (head : ℕ) → HasRefusal old.received.items why → old.begun ≡ None → old.closed ≡ false
+      → IsAnswered head (response why.bare true (refusal_reply why.fault)) true old new → Moves m r old new d d
   refused_moves old new d why head has none unclosed a unread was =
       let s = sought old unread unclosed none was in
       let text : List ℕ = response why.bare true (refusal_reply why.fault) in record {
@@ -142,16 +137,16 @@ module _ {D F : Type 0} (m : Meaning D) (finds : List ℕ → List ℕ → F →
       }
 
   -- a message is begun
-  pub begun_moves : (old new : Connection F) (d : D) (b : Begun F) → IsRead old.received.items b.head b.parts → IsFound finds m.uses (take b.head old.received.items) b.parts b.found b.kind → b.left ≡ b.parts.wanted.body → old.begun ≡ None
-      → old.closed ≡ false → new.received.items ≡ old.received.items → new.begun ≡ Some b → new.count ≡ old.count → new.closed ≡ old.closed → new.has_more ≡ true → HasBody b.kind new.kept new.file []
-      → new.out.bytes ≡ old.out.bytes ++ interim b.parts.wanted.expects → Moves m finds old new d d
+  pub begun_moves : (old new : Connection F B) (d : D) (b : Begun F) → IsRead old.received.items b.head b.parts → IsFound r m.uses (take b.head old.received.items) b.parts b.found (is_some new.body) → b.left ≡ b.parts.wanted.body → old.begun ≡ None
+      → old.closed ≡ false → new.received.items ≡ old.received.items → new.begun ≡ Some b → new.count ≡ old.count → new.closed ≡ old.closed → new.has_more ≡ true → HasBody r b.found new.body []
+      → new.out.bytes ≡ old.out.bytes ++ interim b.parts.wanted.expects → Moves m r old new d d
   begun_moves old new d b read found all none unclosed same begun count closed more body out unread was =
       let s = sought old unread unclosed none was in
       let parts : List ℕ = take b.head old.received.items ++ ([] ++ drop b.head old.received.items) in
-      let has : IsBegunAs finds m.uses b old.received.items new.kept new.file new.has_more unread = record {
+      let has : IsBegunAs r m.uses b old.received.items new.body new.has_more unread = record {
         read = read;
         found = found;
-        body = [];
+        came = [];
         is = s.1.is ∙ sym (take-append-drop b.head old.received.items);
         sized = omega (arith, all);
         has = body;
@@ -165,15 +160,15 @@ module _ {D F : Type 0} (m : Meaning D) (finds : List ℕ → List ℕ → F →
         taken = ap (λ (n : ℕ). left n unread old.closed) (sym count) ∙ ap (λ (t : Bool). left new.count unread t) (sym closed);
         has = λ still. (
           subst (λ (n : ℕ). n < message_limit) (sym count) s.0,
-          subst (λ (o : Option (Begun F)). HasBegun finds m.uses o new.received.items new.scan new.seen new.kept new.file new.has_more unread) (sym begun) (subst (λ (l : List ℕ). IsBegunAs finds m.uses b l new.kept new.file new.has_more unread) (sym same) has),
+          subst (λ (o : Option (Begun F)). HasBegun r m.uses o new.received.items new.scan new.seen new.body new.has_more unread) (sym begun) (subst (λ (l : List ℕ). IsBegunAs r m.uses b l new.body new.has_more unread) (sym same) has),
         );
         out = out;
         text = ap (λ (o : Option (Begun F)). pending o ++ text) none ∙ ap (λ (o : Option (Begun F)). pending o) (sym begun);
       }
 
   -- nothing more can be found
-  pub waiting_moves : (old new : Connection F) (d : D) → old.begun ≡ None → old.closed ≡ false → new.received.items ≡ old.received.items → new.begun ≡ old.begun → new.count ≡ old.count → new.closed ≡ old.closed
-      → new.seen ≡ length old.received.items → HasScanned old.received.items new.scan → (head_len old.received.items ≡ None) × (length old.received.items < 16384) → new.out ≡ old.out → Moves m finds old new d d
+  pub waiting_moves : (old new : Connection F B) (d : D) → old.begun ≡ None → old.closed ≡ false → new.received.items ≡ old.received.items → new.begun ≡ old.begun → new.count ≡ old.count → new.closed ≡ old.closed
+      → new.seen ≡ length old.received.items → HasScanned old.received.items new.scan → (head_len old.received.items ≡ None) × (length old.received.items < 16384) → new.out ≡ old.out → Moves m r old new d d
   waiting_moves old new d none unclosed same begun count closed seen scanned waits out unread was =
       let s = sought old unread unclosed none was in
       let has : IsSought old.received.items new.scan (length old.received.items) new.has_more unread = record {
@@ -189,7 +184,7 @@ module _ {D F : Type 0} (m : Meaning D) (finds : List ℕ → List ℕ → F →
         taken = ap (λ (n : ℕ). left n unread old.closed) (sym count) ∙ ap (λ (t : Bool). left new.count unread t) (sym closed);
         has = λ still. (
           subst (λ (n : ℕ). n < message_limit) (sym count) s.0,
-          subst (λ (o : Option (Begun F)). HasBegun finds m.uses o new.received.items new.scan new.seen new.kept new.file new.has_more unread) (sym (begun ∙ none))
+          subst (λ (o : Option (Begun F)). HasBegun r m.uses o new.received.items new.scan new.seen new.body new.has_more unread) (sym (begun ∙ none))
               (subst (λ (l : List ℕ). IsSought l new.scan new.seen new.has_more unread) (sym same) (subst (λ (n : ℕ). IsSought old.received.items new.scan n new.has_more unread) (sym seen) has)),
         );
         out = ap (λ (o : Put). o.bytes) out ∙ sym (append-nil old.out.bytes);
@@ -197,7 +192,7 @@ module _ {D F : Type 0} (m : Meaning D) (finds : List ℕ → List ℕ → F →
       }
 
   -- nothing is done
-  pub still_moves : (c : Connection F) (d : D) → Moves m finds c c d d
+  pub still_moves : (c : Connection F B) (d : D) → Moves m r c c d d
   still_moves c d unread was = record { items = []; rest = unread; more = []; run = refl; taken = refl; has = was; out = sym (append-nil c.out.bytes); text = append-nil (pending c.begun) }
 
   -- ---- bodies
@@ -215,40 +210,40 @@ module _ {D F : Type 0} (m : Meaning D) (finds : List ℕ → List ℕ → F →
         token = read.token;
       }
 
-  more_body : (b now : Begun F) (old new : Connection F) (unread : List ℕ) (p : HasPassed b old new now) → IsBegunAs finds m.uses b old.received.items old.kept old.file old.has_more unread
-      → IsBegunAs finds m.uses (record { head = b.head; parts = b.parts; found = b.found; kind = b.kind; left = b.left - length p.piece }) (take b.head old.received.items ++ p.rest) new.kept new.file new.has_more unread
+  more_body : (b now : Begun F) (old new : Connection F B) (unread : List ℕ) (p : HasPassed r b old new now) → IsBegunAs r m.uses b old.received.items old.body old.has_more unread
+      → IsBegunAs r m.uses (record { head = b.head; parts = b.parts; found = b.found; left = b.left - length p.piece }) (take b.head old.received.items ++ p.rest) new.body new.has_more unread
   more_body b now old new unread p h =
       let front : List ℕ = take b.head old.received.items in
       let size : length front ≡ b.head = length-take-le b.head old.received.items h.read.within in
       let same : take b.head (front ++ p.rest) ≡ front = front_of front p.rest b.head size in
       let after : drop b.head (front ++ p.rest) ≡ p.rest = back_of front p.rest b.head size in record {
         read = read_front old.received.items p.rest b.head b.parts h.read;
-        found = subst (λ (l : List ℕ). IsFound finds m.uses l b.parts b.found b.kind) (sym same) h.found;
-        body = h.body ++ p.piece;
-        is = h.is ∙ ap (λ (l : List ℕ). front ++ (h.body ++ l)) p.behind ∙ ap (λ (l : List ℕ). front ++ l) (sym (append_assoc h.body p.piece p.rest)) ∙ ap (λ (l : List ℕ). front ++ ((h.body ++ p.piece) ++ l)) (sym after)
-            ∙ ap (λ (l : List ℕ). l ++ ((h.body ++ p.piece) ++ drop b.head (front ++ p.rest))) (sym same);
-        sized = omega (arith, length-append h.body p.piece, h.sized, p.within);
-        has = p.body h.body h.has;
+        found = subst (λ (l : List ℕ). IsFound r m.uses l b.parts b.found (is_some new.body)) (sym same) (subst (λ (t : Bool). IsFound r m.uses front b.parts b.found t) (sym p.is_used) h.found);
+        came = h.came ++ p.piece;
+        is = h.is ∙ ap (λ (l : List ℕ). front ++ (h.came ++ l)) p.behind ∙ ap (λ (l : List ℕ). front ++ l) (sym (append_assoc h.came p.piece p.rest)) ∙ ap (λ (l : List ℕ). front ++ ((h.came ++ p.piece) ++ l)) (sym after)
+            ∙ ap (λ (l : List ℕ). l ++ ((h.came ++ p.piece) ++ drop b.head (front ++ p.rest))) (sym same);
+        sized = omega (arith, length-append h.came p.piece, h.sized, p.within);
+        has = p.body h.came h.has;
         waits = λ none.
             let w = p.waits none in
             (subst (λ (n : Begun F). 0 < n.left) p.now_is w.0, ap (λ (l : List ℕ). length (front ++ l)) w.1 ∙ ap (λ (l : List ℕ). length l) (append-nil front) ∙ size);
       }
 
   -- what a connection has after a piece of a body is what it had
-  pub passed_has : (b now : Begun F) (old new : Connection F) (unread : List ℕ) → old.begun ≡ Some b → old.closed ≡ false → HasPassed b old new now → HasUnread finds m.uses old unread → HasUnread finds m.uses new unread
+  pub passed_has : (b now : Begun F) (old new : Connection F B) (unread : List ℕ) → old.begun ≡ Some b → old.closed ≡ false → HasPassed r b old new now → HasUnread r m.uses old unread → HasUnread r m.uses new unread
   passed_has b now old new unread some unclosed p was still =
       let h = within old unread b unclosed some was in
-      let more = subst (λ (n : Begun F). IsBegunAs finds m.uses n (take b.head old.received.items ++ p.rest) new.kept new.file new.has_more unread) (sym p.now_is) (more_body b now old new unread p h.1) in (
+      let more = subst (λ (n : Begun F). IsBegunAs r m.uses n (take b.head old.received.items ++ p.rest) new.body new.has_more unread) (sym p.now_is) (more_body b now old new unread p h.1) in (
         subst (λ (n : ℕ). n < message_limit) (sym p.count) h.0,
-        subst (λ (o : Option (Begun F)). HasBegun finds m.uses o new.received.items new.scan new.seen new.kept new.file new.has_more unread) (sym p.begun)
-            (subst (λ (l : List ℕ). IsBegunAs finds m.uses now l new.kept new.file new.has_more unread) (sym p.received) more),
+        subst (λ (o : Option (Begun F)). HasBegun r m.uses o new.received.items new.scan new.seen new.body new.has_more unread) (sym p.begun)
+            (subst (λ (l : List ℕ). IsBegunAs r m.uses now l new.body new.has_more unread) (sym p.received) more),
       )
 
-  same_pending : (b now : Begun F) (old new : Connection F) → old.begun ≡ Some b → HasPassed b old new now → pending old.begun ≡ pending new.begun
+  same_pending : (b now : Begun F) (old new : Connection F B) → old.begun ≡ Some b → HasPassed r b old new now → pending old.begun ≡ pending new.begun
   same_pending b now old new some p =
       ap (λ (o : Option (Begun F)). pending o) some ∙ ap (λ (n : Begun F). interim n.parts.wanted.expects) (sym p.now_is) ∙ ap (λ (o : Option (Begun F)). pending o) (sym p.begun)
 
-  pub passed_moves : (b now : Begun F) (old new : Connection F) (d : D) → old.begun ≡ Some b → old.closed ≡ false → HasPassed b old new now → Moves m finds old new d d
+  pub passed_moves : (b now : Begun F) (old new : Connection F B) (d : D) → old.begun ≡ Some b → old.closed ≡ false → HasPassed r b old new now → Moves m r old new d d
   passed_moves b now old new d some unclosed p unread was = record {
     items = [];
     rest = unread;
@@ -261,7 +256,7 @@ module _ {D F : Type 0} (m : Meaning D) (finds : List ℕ → List ℕ → F →
   }
 
   -- what is done after a piece was passed on
-  pub after_passed : (b now : Begun F) (old mid new : Connection F) (d e : D) → old.begun ≡ Some b → old.closed ≡ false → HasPassed b old mid now → Moves m finds mid new d e → Moves m finds old new d e
+  pub after_passed : (b now : Begun F) (old mid new : Connection F B) (d e : D) → old.begun ≡ Some b → old.closed ≡ false → HasPassed r b old mid now → Moves m r mid new d e → Moves m r old new d e
   after_passed b now old mid new d e some unclosed p moves unread was =
       let x = moves unread (passed_has b now old mid unread some unclosed p was) in record {
         items = x.items;
@@ -275,23 +270,27 @@ module _ {D F : Type 0} (m : Meaning D) (finds : List ℕ → List ℕ → F →
         text = ap (λ (l : List ℕ). l ++ x.more) (same_pending b now old mid some p) ∙ x.text;
       }
 
+  -- whether a body is used, by the method and the target of the head
+  uses_of : (b : Begun F) (head : List ℕ) (is_used : Bool) (are : AreParts head b.parts) → IsFound r m.uses head b.parts b.found is_used → m.uses are.0.method are.0.target is_used
+  uses_of b head is_used are found = subst (λ (l : List ℕ). m.uses l are.0.target is_used) are.3 (subst (λ (l : List ℕ). m.uses (span_bytes head b.parts.method) l is_used) are.4 found.1)
+
   -- there was no memory for the body
-  pub unroomed_moves : (b : Begun F) (old mid new : Connection F) (d : D) (head : ℕ) → old.begun ≡ Some b → old.closed ≡ false → b.kind ≢ Ignored
-      → ((body : List ℕ) → HasBody b.kind old.kept old.file body → length body + b.left ≡ b.parts.wanted.body → 0 < b.parts.wanted.body) → mid.out ≡ old.out → mid.count ≡ old.count
-      → IsAnswered head (response b.parts.wanted.bare true m.no_room) true mid new → Moves m finds old new d d
-  unroomed_moves b old mid new d head some unclosed kind body out count a unread was =
+  pub unroomed_moves : (b : Begun F) (old mid new : Connection F B) (d : D) (head : ℕ) → old.begun ≡ Some b → old.closed ≡ false → is_some old.body ≡ true
+      → ((came : List ℕ) → HasBody r b.found old.body came → length came + b.left ≡ b.parts.wanted.body → 0 < b.parts.wanted.body) → mid.out ≡ old.out → mid.count ≡ old.count
+      → IsAnswered head (response b.parts.wanted.bare true m.no_room) true mid new → Moves m r old new d d
+  unroomed_moves b old mid new d head some unclosed used body out count a unread was =
       let h = (within old unread b unclosed some was).1 in
       let text : List ℕ = response b.parts.wanted.bare true m.no_room in
       let are = h.read.parts_are in
-      let there = subst (λ (l : List ℕ). HasHead l b.head are.0 b.parts.wanted) (sym h.is) (has_head old.received.items (h.body ++ drop b.head old.received.items) b.head b.parts h.read) in
-      let uses : m.uses are.0.method are.0.target b.kind = subst (λ (l : List ℕ). m.uses l are.0.target b.kind) are.3 (subst (λ (l : List ℕ). m.uses (span_bytes (take b.head old.received.items) b.parts.method) l b.kind) are.4 h.found.1) in record {
+      let there = subst (λ (l : List ℕ). HasHead l b.head are.0 b.parts.wanted) (sym h.is) (has_head old.received.items (h.came ++ drop b.head old.received.items) b.head b.parts h.read) in
+      let uses : m.uses are.0.method are.0.target true = subst (λ (t : Bool). m.uses are.0.method are.0.target t) used (uses_of b (take b.head old.received.items) (is_some old.body) are h.found) in record {
         items = item [] (interim b.parts.wanted.expects ++ text) ∷ [];
         rest = new.received.items;
         more = text;
         run = refl;
         taken = (
           left new.count new.received.items new.closed,
-          unroomed b.head are.0 b.parts.wanted b.kind unclosed there (body h.body h.has h.sized) uses kind refl (a.count ∙ ap (λ (n : ℕ). n + 1) count) a.closed,
+          unroomed b.head are.0 b.parts.wanted unclosed there (body h.came h.has h.sized) uses refl (a.count ∙ ap (λ (n : ℕ). n + 1) count) a.closed,
           refl,
         );
         has = closed_has new new.received.items a.closed;
@@ -310,28 +309,28 @@ module _ {D F : Type 0} (m : Meaning D) (finds : List ℕ → List ℕ → F →
       ap (λ (x : List ℕ). request x t1 k1 b1) e ∙ ap (λ (x : List ℕ). request m2 x k1 b1) f ∙ ap (λ (x : Option (List ℕ)). request m2 t2 x b1) g ∙ ap (λ (x : List ℕ). request m2 t2 k2 x) h
 
   -- the message is whole
-  has_message : (b : Begun F) (c : Connection F) (unread : List ℕ) (method target : List ℕ) (token : Option (List ℕ)) → b.left ≡ 0 → (h : IsBegunAs finds m.uses b c.received.items c.kept c.file c.has_more unread)
+  has_message : (b : Begun F) (c : Connection F B) (unread : List ℕ) (method target : List ℕ) (token : Option (List ℕ)) → b.left ≡ 0 → (h : IsBegunAs r m.uses b c.received.items c.body c.has_more unread)
       → method ≡ span_bytes (take b.head c.received.items) b.parts.method → target ≡ span_bytes (take b.head c.received.items) b.parts.target → token ≡ option_map (span_bytes (take b.head c.received.items)) b.parts.token
-      → HasMessage m unread (request method target token (used b.kind h.body)) b.parts.wanted (drop b.head c.received.items)
+      → HasMessage m unread (request method target token (used (is_some c.body) h.came)) b.parts.wanted (drop b.head c.received.items)
   has_message b c unread method target token whole h em et ek =
       let front : List ℕ = take b.head c.received.items in
       let rest : List ℕ = drop b.head c.received.items in
       let size : length front ≡ b.head = length-take-le b.head c.received.items h.read.within in
       let are = h.read.parts_are in
-      let sized : length h.body ≡ b.parts.wanted.body = omega (arith, h.sized, whole) in
-      let after : drop b.head unread ≡ h.body ++ rest = ap (drop b.head) h.is ∙ back_of front (h.body ++ rest) b.head size in
+      let sized : length h.came ≡ b.parts.wanted.body = omega (arith, h.sized, whole) in
+      let after : drop b.head unread ≡ h.came ++ rest = ap (drop b.head) h.is ∙ back_of front (h.came ++ rest) b.head size in
       let both : drop (b.head + b.parts.wanted.body) unread ≡ rest
-      = ap (drop (b.head + b.parts.wanted.body)) (h.is ∙ sym (append_assoc front h.body rest)) ∙ back_of (front ++ h.body) rest (b.head + b.parts.wanted.body) (length-append front h.body ∙ omega (arith, size, sized)) in
-      let body : h.body ≡ take b.parts.wanted.body (drop b.head unread) = sym (ap (take b.parts.wanted.body) after ∙ front_of h.body rest b.parts.wanted.body sized) in
+      = ap (drop (b.head + b.parts.wanted.body)) (h.is ∙ sym (append_assoc front h.came rest)) ∙ back_of (front ++ h.came) rest (b.head + b.parts.wanted.body) (length-append front h.came ∙ omega (arith, size, sized)) in
+      let body : h.came ≡ take b.parts.wanted.body (drop b.head unread) = sym (ap (take b.parts.wanted.body) after ∙ front_of h.came rest b.parts.wanted.body sized) in
       record {
         len = b.head;
         head = are.0;
-        has = subst (λ (l : List ℕ). HasHead l b.head are.0 b.parts.wanted) (sym h.is) (has_head c.received.items (h.body ++ rest) b.head b.parts h.read);
-        kind = b.kind;
-        use_is = subst (λ (l : List ℕ). m.uses l are.0.target b.kind) are.3 (subst (λ (l : List ℕ). m.uses (span_bytes front b.parts.method) l b.kind) are.4 h.found.1);
-        whole = omega (arith, ap (λ (l : List ℕ). length l) h.is, length-append front (h.body ++ rest), length-append h.body rest, size, sized);
-        request_is = same_request method are.0.method target are.0.target (used b.kind h.body) (used b.kind (take b.parts.wanted.body (drop b.head unread))) token (token_of (headers_of are.0))
-            (em ∙ are.3) (et ∙ are.4) (ek ∙ are.5) (ap (used b.kind) body);
+        has = subst (λ (l : List ℕ). HasHead l b.head are.0 b.parts.wanted) (sym h.is) (has_head c.received.items (h.came ++ rest) b.head b.parts h.read);
+        is_used = is_some c.body;
+        use_is = uses_of b front (is_some c.body) are h.found;
+        whole = omega (arith, ap (λ (l : List ℕ). length l) h.is, length-append front (h.came ++ rest), length-append h.came rest, size, sized);
+        request_is = same_request method are.0.method target are.0.target (used (is_some c.body) h.came) (used (is_some c.body) (take b.parts.wanted.body (drop b.head unread))) token (token_of (headers_of are.0))
+            (em ∙ are.3) (et ∙ are.4) (ek ∙ are.5) (ap (used (is_some c.body)) body);
         rest_is = sym both;
       }
 
@@ -342,8 +341,8 @@ module _ {D F : Type 0} (m : Meaning D) (finds : List ℕ → List ℕ → F →
     | inr other ↦ let apart = other.1 in omega (arith, few, apart)
   ]
 
-  fresh_has : (new : Connection F) (closes : Bool) → (closes ≡ false → new.count < 65536) → new.begun ≡ None → new.closed ≡ closes → new.seen ≡ 0 → HasScanned [] new.scan → (new.has_more ≡ false → (closes ≡ true) ⊎ (new.received.items ≡ []))
-      → HasUnread finds m.uses new new.received.items
+  fresh_has : (new : Connection F B) (closes : Bool) → (closes ≡ false → new.count < 65536) → new.begun ≡ None → new.closed ≡ closes → new.seen ≡ 0 → HasScanned [] new.scan → (new.has_more ≡ false → (closes ≡ true) ⊎ (new.received.items ≡ []))
+      → HasUnread r m.uses new new.received.items
   fresh_has new closes few none closed seen scanned more still =
       let has : IsSought new.received.items new.scan 0 new.has_more new.received.items = record {
         is = refl;
@@ -355,20 +354,20 @@ module _ {D F : Type 0} (m : Meaning D) (finds : List ℕ → List ℕ → F →
         ];
       } in (
         few (sym closed ∙ still),
-        subst (λ (o : Option (Begun F)). HasBegun finds m.uses o new.received.items new.scan new.seen new.kept new.file new.has_more new.received.items) (sym none)
+        subst (λ (o : Option (Begun F)). HasBegun r m.uses o new.received.items new.scan new.seen new.body new.has_more new.received.items) (sym none)
             (subst (λ (n : ℕ). IsSought new.received.items new.scan n new.has_more new.received.items) (sym seen) has),
       )
 
   -- the message is answered
-  pub answered_moves : (b : Begun F) (old mid new : Connection F) (d e : D) (method target : List ℕ) (token : Option (List ℕ)) (reply : ReplyText) (closes : Bool) → old.begun ≡ Some b → old.closed ≡ false → b.left ≡ 0
+  pub answered_moves : (b : Begun F) (old mid new : Connection F B) (d e : D) (method target : List ℕ) (token : Option (List ℕ)) (reply : ReplyText) (closes : Bool) → old.begun ≡ Some b → old.closed ≡ false → b.left ≡ 0
       → method ≡ span_bytes (take b.head old.received.items) b.parts.method → target ≡ span_bytes (take b.head old.received.items) b.parts.target → token ≡ option_map (span_bytes (take b.head old.received.items)) b.parts.token
-      → ((bytes : List ℕ) → HasBody b.kind old.kept old.file bytes → m.steps d (request method target token (used b.kind bytes)) reply e)
+      → ((bytes : List ℕ) → HasBody r b.found old.body bytes → m.steps d (request method target token (used (is_some old.body) bytes)) reply e)
       → closes ≡ (b.parts.wanted.closes || old.count + 1 == 65536) → mid.received.items ≡ old.received.items → mid.out ≡ old.out → mid.count ≡ old.count
-      → IsAnswered b.head (response b.parts.wanted.bare closes reply) closes mid new → Moves m finds old new d e
+      → IsAnswered b.head (response b.parts.wanted.bare closes reply) closes mid new → Moves m r old new d e
   answered_moves b old mid new d e method target token reply closes some unclosed whole em et ek steps closes_is same out count a unread was =
       let h = within old unread b unclosed some was in
       let text : List ℕ = response b.parts.wanted.bare closes reply in
-      let x : Exchange = record { request = request method target token (used b.kind h.1.body); reply = reply } in
+      let x : Exchange = record { request = request method target token (used (is_some old.body) h.1.came); reply = reply } in
       let rest : new.received.items ≡ drop b.head old.received.items = a.received ∙ ap (drop b.head) same in
       let counted : new.count ≡ old.count + 1 = a.count ∙ ap (λ (n : ℕ). n + 1) count in
       let message = subst (λ (l : List ℕ). HasMessage m unread x.request b.parts.wanted l) (sym rest) (has_message b old unread method target token whole h.1 em et ek) in
@@ -376,7 +375,7 @@ module _ {D F : Type 0} (m : Meaning D) (finds : List ℕ → List ℕ → F →
         items = item (x ∷ []) (interim b.parts.wanted.expects ++ text) ∷ [];
         rest = new.received.items;
         more = text;
-        run = (e, steps h.1.body h.1.has, refl);
+        run = (e, steps h.1.came h.1.has, refl);
         taken = (
           left new.count new.received.items new.closed,
           answered x b.parts.wanted unclosed message (ap (λ (t : Bool). item (x ∷ []) (interim b.parts.wanted.expects ++ response b.parts.wanted.bare t reply)) (sym a.closed)) counted closed,
@@ -388,9 +387,9 @@ module _ {D F : Type 0} (m : Meaning D) (finds : List ℕ → List ℕ → F →
       }
 
 -- a connection whose message is begun
-pub begun_further : {F : Type 0} (b : Begun F) (old new : Connection F) → IsRead old.received.items b.head b.parts → b.left ≡ b.parts.wanted.body → old.begun ≡ None → new.received.items ≡ old.received.items → new.begun ≡ Some b → new.count ≡ old.count → new.has_more ≡ true
+pub begun_further : {F B : Type 0} (b : Begun F) (old new : Connection F B) → IsRead old.received.items b.head b.parts → b.left ≡ b.parts.wanted.body → old.begun ≡ None → new.received.items ≡ old.received.items → new.begun ≡ Some b → new.count ≡ old.count → new.has_more ≡ true
     → IsFurther old new
-begun_further {F} b old new read all none same some count more =
+begun_further {F} {B} b old new read all none same some count more =
     let few : b.parts.wanted.body ≤ 4194304 = body_limited read.parts_are.0 b.parts.wanted read.parts_are.2 in
     let long : length new.received.items ≡ length old.received.items = ap (λ (l : List ℕ). length l) same in
     let less : to_come new.begun new.received.items < to_come old.begun old.received.items =
@@ -399,8 +398,8 @@ begun_further {F} b old new read all none same some count more =
     record { rest = λ rests. absurd (false≢true (sym rests ∙ more)); further = inr (count, λ has. less, λ rests. absurd (false≢true (sym rests ∙ more))) }
 
 -- a connection whose message is not whole after a piece of its body
-pub passed_on : {F : Type 0} (b now : Begun F) (old new : Connection F) → old.begun ≡ Some b → b.head ≤ length old.received.items → HasPassed b old new now → 0 < now.left → IsFurther old new
-passed_on {F} b now old new some there p more =
+pub passed_on : {F B : Type 0} (r : Reading F B) (b now : Begun F) (old new : Connection F B) → old.begun ≡ Some b → b.head ≤ length old.received.items → HasPassed r b old new now → 0 < now.left → IsFurther old new
+passed_on {F} {B} r b now old new some there p more =
     let front : List ℕ = take b.head old.received.items in
     let size : length front ≡ b.head = length-take-le b.head old.received.items there in
     let w = p.waits (p.rests more) in

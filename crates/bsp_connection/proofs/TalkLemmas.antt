@@ -1,5 +1,5 @@
 -- All that a connection has done, behind one call more.
-use Rattle.std.proofs.Common.{◌≡◌, ◌≢◌, ◌⊎◌, inl, inr, ℕ, ◌+◌, ◌<◌, ◌≤◌, Bool, true, false, List, [], ◌∷◌, ◌++◌, length, take, drop, Option, Some, None, Result, Ok, Err, OnOk, refl, sym, ap, ◌∙◌, subst, append_assoc, append-nil, length-append, length-drop, arith}
+use Rattle.std.proofs.Common.{◌≡◌, ◌≢◌, ◌⊎◌, inl, inr, ℕ, ◌+◌, ◌<◌, ◌≤◌, Bool, true, false, List, [], ◌∷◌, ◌++◌, length, take, drop, Option, Some, None, is_some, Result, Ok, Err, OnOk, refl, sym, ap, ◌∙◌, subst, append_assoc, append-nil, length-append, length-drop, arith}
 use Rattle.std.proofs.lemmas.Bool.{cases_Bool, false≢true}
 use Rattle.std.proofs.lemmas.List.{drop-append-le, drop_all, length-take-le, take-append-le}
 use Rattle.std.proofs.lemmas.Grind.{flat_map-append}
@@ -13,9 +13,7 @@ use Rattle.bsp_heads.specs.declared.fault.Refused.{Refused}
 use Rattle.bsp_heads.specs.declared.parts.HeadParts.{HeadParts}
 use Rattle.bsp_heads.specs.declared.parts.Wanted.{Wanted}
 use Rattle.bsp_heads.specs.declared.scan.Scan.{Scan}
-use Rattle.bsp_connection.specs.Exchanges.{Exchange, Meaning, RequestText, interim, used}
-use Rattle.bsp_connection.specs.declared.service.BodyUse.{BodyUse}
-use Rattle.bsp_ret.specs.Pieces.{Fed}
+use Rattle.bsp_connection.specs.Exchanges.{Exchange, Meaning, Reading, RequestText, interim, used}
 use Rattle.bsp_connection.specs.Conversations.{HasHead, HasMessage, HasRefusal, IsBegun, IsRun, message_limit}
 use Rattle.bsp_connection.proofs.StepLemmas.{has_head}
 use Rattle.bsp_connection.specs.Begun.{HasBegun, HasUnread, IsBegunAs, IsFound, IsRead, IsSought, pending}
@@ -56,10 +54,10 @@ module _ {D : Type 0} (m : Meaning D) where
         len = has.len;
         head = has.head;
         has = head_more unread more has.len has.head wanted within has.has;
-        kind = has.kind;
+        is_used = has.is_used;
         use_is = has.use_is;
         whole = omega (arith, whole, length-append unread more);
-        request_is = has.request_is ∙ ap (λ (l : List ℕ). record { method = has.head.method; target = has.head.target; token = token_of (headers_of has.head); body = used has.kind l }) body;
+        request_is = has.request_is ∙ ap (λ (l : List ℕ). record { method = has.head.method; target = has.head.target; token = token_of (headers_of has.head); body = used has.is_used l }) body;
         rest_is = ap (λ (l : List ℕ). l ++ more) has.rest_is ∙ sym (drop-append-le (has.len + wanted.body) unread more whole);
       }
 
@@ -68,8 +66,8 @@ module _ {D : Type 0} (m : Meaning D) where
 
   takes_more : (more : List ℕ) (p : Left) (i : Item) (q : Left) → Takes m p i q → Takes m (longer more p) i (longer more q)
   takes_more more p i q (refused why unclosed has is count closed) = refused why unclosed (refusal_more p.unread more why has) is count closed
-  takes_more more p i q (unroomed len h wanted kind unclosed has some uses used is count closed) =
-      unroomed len h wanted kind unclosed (head_more p.unread more len h wanted (head_len-le p.unread len has.ends) has) some uses used is count closed
+  takes_more more p i q (unroomed len h wanted unclosed has some uses is count closed) =
+      unroomed len h wanted unclosed (head_more p.unread more len h wanted (head_len-le p.unread len has.ends) has) some uses is count closed
   takes_more more p i q (answered x wanted unclosed has is count closed) = answered x wanted unclosed (message_more p.unread more q.unread x.request wanted has) is count closed
 
   pub taken_more : (more : List ℕ) (p : Left) (items : List Item) (q : Left) → AreTaken m p items q → AreTaken m (longer more p) items (longer more q)
@@ -104,40 +102,39 @@ read_more received piece len parts r =
       token = r.token;
     }
 
-module _ {F : Type 0} (finds : List ℕ → List ℕ → F → Type 0) (uses : List ℕ → List ℕ → BodyUse → Type 0) where
-  begun_more : (b : Begun F) (received piece kept : List ℕ) (file : Fed) (before : Bool) (unread : List ℕ) → IsBegunAs finds uses b received kept file before unread → IsBegunAs finds uses b (received ++ piece) kept file true (unread ++ piece)
-  begun_more b received piece kept file before unread h =
+module _ {F B : Type 0} (r : Reading F B) (uses : List ℕ → List ℕ → Bool → Type 0) where
+  begun_more : (b : Begun F) (received piece : List ℕ) (body : Option B) (before : Bool) (unread : List ℕ) → IsBegunAs r uses b received body before unread → IsBegunAs r uses b (received ++ piece) body true (unread ++ piece)
+  begun_more b received piece body before unread h =
       let within = h.read.within in
       let front : take b.head (received ++ piece) ≡ take b.head received = take-append-le b.head received piece within in
       let after : drop b.head (received ++ piece) ≡ drop b.head received ++ piece = drop-append-le b.head received piece within in record {
         read = read_more received piece b.head b.parts h.read;
-        found = subst (λ (l : List ℕ). IsFound finds uses l b.parts b.found b.kind) (sym front) h.found;
-        body = h.body;
-        is = ap (λ (l : List ℕ). l ++ piece) h.is ∙ append_assoc (take b.head received) (h.body ++ drop b.head received) piece ∙ ap (λ (l : List ℕ). take b.head received ++ l) (append_assoc h.body (drop b.head received) piece)
-            ∙ ap (λ (l : List ℕ). take b.head received ++ (h.body ++ l)) (sym after) ∙ ap (λ (l : List ℕ). l ++ (h.body ++ drop b.head (received ++ piece))) (sym front);
+        found = subst (λ (l : List ℕ). IsFound r uses l b.parts b.found (is_some body)) (sym front) h.found;
+        came = h.came;
+        is = ap (λ (l : List ℕ). l ++ piece) h.is ∙ append_assoc (take b.head received) (h.came ++ drop b.head received) piece ∙ ap (λ (l : List ℕ). take b.head received ++ l) (append_assoc h.came (drop b.head received) piece)
+            ∙ ap (λ (l : List ℕ). take b.head received ++ (h.came ++ l)) (sym after) ∙ ap (λ (l : List ℕ). l ++ (h.came ++ drop b.head (received ++ piece))) (sym front);
         sized = h.sized;
         has = h.has;
         waits = λ none. absurd (false≢true (sym none));
       }
 
-  has_begun_more : (o : Option (Begun F)) (received piece : List ℕ) (scan : Scan) (seen : ℕ) (kept : List ℕ) (file : Fed) (before : Bool) (unread : List ℕ)
-      → HasBegun finds uses o received scan seen kept file before unread → HasBegun finds uses o (received ++ piece) scan seen kept file true (unread ++ piece)
-  has_begun_more None received piece scan seen kept file before unread h = sought_more received piece scan seen before unread h
-  has_begun_more (Some b) received piece scan seen kept file before unread h = begun_more b received piece kept file before unread h
+  has_begun_more : (o : Option (Begun F)) (received piece : List ℕ) (scan : Scan) (seen : ℕ) (body : Option B) (before : Bool) (unread : List ℕ)
+      → HasBegun r uses o received scan seen body before unread → HasBegun r uses o (received ++ piece) scan seen body true (unread ++ piece)
+  has_begun_more None received piece scan seen body before unread h = sought_more received piece scan seen before unread h
+  has_begun_more (Some b) received piece scan seen body before unread h = begun_more b received piece body before unread h
 
   -- the same of a connection like another
-  like_has : (old new : Connection F) (received : List ℕ) (more : Bool) (unread : List ℕ) → IsLike old new → new.received.items ≡ received → new.has_more ≡ more
-      → (old.closed ≡ false → (old.count < message_limit) × HasBegun finds uses old.begun received old.scan old.seen old.kept old.file more unread) → HasUnread finds uses new unread
-  like_has old new received more unread l r h has still =
+  like_has : (old new : Connection F B) (received : List ℕ) (more : Bool) (unread : List ℕ) → IsLike old new → new.received.items ≡ received → new.has_more ≡ more
+      → (old.closed ≡ false → (old.count < message_limit) × HasBegun r uses old.begun received old.scan old.seen old.body more unread) → HasUnread r uses new unread
+  like_has old new received more unread l same h has still =
       let k = has (sym l.closed ∙ still) in (
         subst (λ (n : ℕ). n < message_limit) (sym l.count) k.0,
-        subst (λ (o : Option (Begun F)). HasBegun finds uses o new.received.items new.scan new.seen new.kept new.file new.has_more unread) (sym l.begun)
-            (subst (λ (x : List ℕ). HasBegun finds uses old.begun x new.scan new.seen new.kept new.file new.has_more unread) (sym r)
-            (subst (λ (x : Scan). HasBegun finds uses old.begun received x new.seen new.kept new.file new.has_more unread) (sym l.scan)
-            (subst (λ (x : ℕ). HasBegun finds uses old.begun received old.scan x new.kept new.file new.has_more unread) (sym l.seen)
-            (subst (λ (x : List ℕ). HasBegun finds uses old.begun received old.scan old.seen x new.file new.has_more unread) (sym l.kept)
-            (subst (λ (x : Fed). HasBegun finds uses old.begun received old.scan old.seen old.kept x new.has_more unread) (sym l.file)
-            (subst (λ (x : Bool). HasBegun finds uses old.begun received old.scan old.seen old.kept old.file x unread) (sym h) k.1)))))),
+        subst (λ (o : Option (Begun F)). HasBegun r uses o new.received.items new.scan new.seen new.body new.has_more unread) (sym l.begun)
+            (subst (λ (x : List ℕ). HasBegun r uses old.begun x new.scan new.seen new.body new.has_more unread) (sym same)
+            (subst (λ (x : Scan). HasBegun r uses old.begun received x new.seen new.body new.has_more unread) (sym l.scan)
+            (subst (λ (x : ℕ). HasBegun r uses old.begun received old.scan x new.body new.has_more unread) (sym l.seen)
+            (subst (λ (x : Option B). HasBegun r uses old.begun received old.scan old.seen x new.has_more unread) (sym l.body)
+            (subst (λ (x : Bool). HasBegun r uses old.begun received old.scan old.seen old.body x unread) (sym h) k.1))))),
       )
 
 pub if_ok : {A E : Type 0} {P Q : Type 0} (r : Result A E) → (P → Q) → OnOk r P → OnOk r Q
@@ -149,8 +146,8 @@ some_bytes b bytes e = cc
 
 -- ---- calls
 
-module _ {D F : Type 0} (m : Meaning D) (finds : List ℕ → List ℕ → F → Type 0) where
-  pub talk_start : (c : Connection F) → IsFresh c → Talks m finds [] [] [] c
+module _ {D F B : Type 0} (m : Meaning D) (r : Reading F B) where
+  pub talk_start : (c : Connection F B) → IsFresh c → Talks m r [] [] [] c
   talk_start c f =
       let has : IsSought [] c.scan 0 c.has_more [] = record { is = refl; within = omega arith; scanned = f.scanned; waits = λ none. (refl, omega arith) } in record {
         items = [];
@@ -159,40 +156,40 @@ module _ {D F : Type 0} (m : Meaning D) (finds : List ℕ → List ℕ → F →
         asked_are = refl;
         has = λ still. (
           subst (λ (n : ℕ). n < message_limit) (sym f.count) (omega arith),
-          subst (λ (o : Option (Begun F)). HasBegun finds m.uses o c.received.items c.scan c.seen c.kept c.file c.has_more []) (sym f.begun)
+          subst (λ (o : Option (Begun F)). HasBegun r m.uses o c.received.items c.scan c.seen c.body c.has_more []) (sym f.begun)
               (subst (λ (l : List ℕ). IsSought l c.scan c.seen c.has_more []) (sym f.none) (subst (λ (n : ℕ). IsSought [] c.scan n c.has_more []) (sym f.seen) has)),
         );
         put = f.out ∙ ap (λ (o : Option (Begun F)). pending o) (sym f.begun);
       }
 
-  same_cut : (old new : Connection F) (got rest : List ℕ) (items : List Item) → IsLike old new → AreTaken m (left 0 got false) items (left old.count rest old.closed) → AreTaken m (left 0 got false) items (left new.count rest new.closed)
+  same_cut : (old new : Connection F B) (got rest : List ℕ) (items : List Item) → IsLike old new → AreTaken m (left 0 got false) items (left old.count rest old.closed) → AreTaken m (left 0 got false) items (left new.count rest new.closed)
   same_cut old new got rest items l cut =
       subst (λ (n : ℕ). AreTaken m (left 0 got false) items (left n rest new.closed)) (sym l.count) (subst (λ (t : Bool). AreTaken m (left 0 got false) items (left old.count rest t)) (sym l.closed) cut)
 
-  pub talk_same : (old new : Connection F) (got sent : List ℕ) (xs : List Exchange) → IsSame old new → Talks m finds got xs sent old → Talks m finds got xs sent new
+  pub talk_same : (old new : Connection F B) (got sent : List ℕ) (xs : List Exchange) → IsSame old new → Talks m r got xs sent old → Talks m r got xs sent new
   talk_same old new got sent xs s t = record {
     items = t.items;
     rest = t.rest;
     cut = same_cut old new got t.rest t.items s.2 t.cut;
     asked_are = t.asked_are;
-    has = like_has finds m.uses old new old.received.items old.has_more t.rest s.2 s.0 s.1 t.has;
+    has = like_has r m.uses old new old.received.items old.has_more t.rest s.2 s.0 s.1 t.has;
     put = ap (λ (o : Put). sent ++ o.bytes) s.3 ∙ t.put ∙ ap (λ (o : Option (Begun F)). texts t.items ++ pending o) (sym s.2.begun);
   }
 
-  pub talk_sent : (old new : Connection F) (got sent bytes : List ℕ) (xs : List Exchange) → IsSent old bytes new → Talks m finds got xs sent old → Talks m finds got xs (sent ++ bytes) new
+  pub talk_sent : (old new : Connection F B) (got sent bytes : List ℕ) (xs : List Exchange) → IsSent old bytes new → Talks m r got xs sent old → Talks m r got xs (sent ++ bytes) new
   talk_sent old new got sent bytes xs s t = record {
     items = t.items;
     rest = t.rest;
     cut = same_cut old new got t.rest t.items s.3 t.cut;
     asked_are = t.asked_are;
-    has = like_has finds m.uses old new old.received.items old.has_more t.rest s.3 s.1 s.2 t.has;
+    has = like_has r m.uses old new old.received.items old.has_more t.rest s.3 s.1 s.2 t.has;
     put = append_assoc sent bytes new.out.bytes ∙ ap (λ (l : List ℕ). sent ++ l) (sym s.0) ∙ t.put ∙ ap (λ (o : Option (Begun F)). texts t.items ++ pending o) (sym s.3.begun);
   }
 
-  closed_more : (c : Connection F) (rest : List ℕ) → c.closed ≡ true → HasUnread finds m.uses c rest
+  closed_more : (c : Connection F B) (rest : List ℕ) → c.closed ≡ true → HasUnread r m.uses c rest
   closed_more c rest closed still = absurd (false≢true (sym still ∙ closed))
 
-  pub talk_fed : (old new : Connection F) (got sent piece : List ℕ) (xs : List Exchange) → HasTaken old piece new → Talks m finds got xs sent old → Talks m finds (got ++ piece) xs sent new
+  pub talk_fed : (old new : Connection F B) (got sent piece : List ℕ) (xs : List Exchange) → HasTaken old piece new → Talks m r got xs sent old → Talks m r (got ++ piece) xs sent new
   talk_fed old new got sent piece xs (inl dropped) t =
       let s = talk_same old new got sent xs dropped.1 t in record {
         items = s.items;
@@ -207,11 +204,11 @@ module _ {D F : Type 0} (m : Meaning D) (finds : List ℕ → List ℕ → F →
     rest = t.rest ++ piece;
     cut = same_cut old new (got ++ piece) (t.rest ++ piece) t.items came.2 (taken_more m piece (left 0 got false) t.items (left old.count t.rest old.closed) t.cut);
     asked_are = t.asked_are;
-    has = like_has finds m.uses old new (old.received.items ++ piece) true (t.rest ++ piece) came.2 came.0 came.1 (λ still. let k = t.has still in (k.0, has_begun_more finds m.uses old.begun old.received.items piece old.scan old.seen old.kept old.file old.has_more t.rest k.1));
+    has = like_has r m.uses old new (old.received.items ++ piece) true (t.rest ++ piece) came.2 came.0 came.1 (λ still. let k = t.has still in (k.0, has_begun_more r m.uses old.begun old.received.items piece old.scan old.seen old.body old.has_more t.rest k.1));
     put = ap (λ (o : Put). sent ++ o.bytes) came.3 ∙ t.put ∙ ap (λ (o : Option (Begun F)). texts t.items ++ pending o) (sym came.2.begun);
   }
 
-  pub talk_moved : (old new : Connection F) (d e : D) (got sent : List ℕ) (xs : List Exchange) → Moves m finds old new d e → Talks m finds got xs sent old → (ys : List Exchange) × IsRun m d ys e × Talks m finds got (xs ++ ys) sent new
+  pub talk_moved : (old new : Connection F B) (d e : D) (got sent : List ℕ) (xs : List Exchange) → Moves m r old new d e → Talks m r got xs sent old → (ys : List Exchange) × IsRun m d ys e × Talks m r got (xs ++ ys) sent new
   talk_moved old new d e got sent xs moves t =
       let x = moves t.rest t.has in (
         asked x.items,
@@ -229,29 +226,29 @@ module _ {D F : Type 0} (m : Meaning D) (finds : List ℕ → List ℕ → F →
 
   -- ---- at rest
 
-  pub begun_rest : (b : Begun F) (received kept : List ℕ) (file : Fed) (rest : List ℕ) → IsBegunAs finds m.uses b received kept file false rest → IsBegun rest (interim b.parts.wanted.expects)
-  begun_rest b received kept file rest h =
+  pub begun_rest : (b : Begun F) (received : List ℕ) (body : Option B) (rest : List ℕ) → IsBegunAs r m.uses b received body false rest → IsBegun rest (interim b.parts.wanted.expects)
+  begun_rest b received body rest h =
       let w = h.waits refl in
       let front : List ℕ = take b.head received in
       let size : length front ≡ b.head = length-take-le b.head received h.read.within in
       let none : drop b.head received ≡ [] = drop_all b.head received (omega (arith, w.1)) in
-      let long : length rest ≡ b.head + length h.body
-      = ap (λ (l : List ℕ). length l) (h.is ∙ ap (λ (l : List ℕ). front ++ (h.body ++ l)) none ∙ ap (λ (l : List ℕ). front ++ l) (append-nil h.body)) ∙ length-append front h.body ∙ ap (λ (n : ℕ). n + length h.body) size in
+      let long : length rest ≡ b.head + length h.came
+      = ap (λ (l : List ℕ). length l) (h.is ∙ ap (λ (l : List ℕ). front ++ (h.came ++ l)) none ∙ ap (λ (l : List ℕ). front ++ l) (append-nil h.came)) ∙ length-append front h.came ∙ ap (λ (n : ℕ). n + length h.came) size in
       let less = w.0 in
-      inr (b.head, h.read.parts_are.0, b.parts.wanted, subst (λ (l : List ℕ). HasHead l b.head h.read.parts_are.0 b.parts.wanted) (sym h.is) (has_head received (h.body ++ drop b.head received) b.head b.parts h.read), omega (arith, long, h.sized, less), refl)
+      inr (b.head, h.read.parts_are.0, b.parts.wanted, subst (λ (l : List ℕ). HasHead l b.head h.read.parts_are.0 b.parts.wanted) (sym h.is) (has_head received (h.came ++ drop b.head received) b.head b.parts h.read), omega (arith, long, h.sized, less), refl)
 
-  pub open_rest : (o : Option (Begun F)) (received : List ℕ) (scan : Scan) (seen : ℕ) (kept : List ℕ) (file : Fed) (rest : List ℕ) → HasBegun finds m.uses o received scan seen kept file false rest → (rest ≡ []) ⊎ IsBegun rest (pending o)
-  open_rest None [] scan seen kept file rest s = inl s.is
-  open_rest None (b ∷ received) scan seen kept file rest s =
+  pub open_rest : (o : Option (Begun F)) (received : List ℕ) (scan : Scan) (seen : ℕ) (body : Option B) (rest : List ℕ) → HasBegun r m.uses o received scan seen body false rest → (rest ≡ []) ⊎ IsBegun rest (pending o)
+  open_rest None [] scan seen body rest s = inl s.is
+  open_rest None (b ∷ received) scan seen body rest s =
       let w = s.waits refl in
       inr (inl (λ none. some_bytes b received (sym s.is ∙ none), subst (λ (l : List ℕ). length l < 16384) (sym s.is) w.1, ap head_len s.is ∙ w.0, refl))
-  open_rest (Some b) received scan seen kept file rest h = inr (begun_rest b received kept file rest h)
+  open_rest (Some b) received scan seen body rest h = inr (begun_rest b received body rest h)
 
-  pub talk_rests : (c : Connection F) → c.out.bytes ≡ [] → (c.closed ≡ false → c.has_more ≡ false) → Rests m finds c
+  pub talk_rests : (c : Connection F B) → c.out.bytes ≡ [] → (c.closed ≡ false → c.has_more ≡ false) → Rests m r c
   talk_rests c sent waits = record {
     sent = sent;
     whole = λ rest has. elim (cases_Bool c.closed) [
       | inl closed ↦ inl closed
-      | inr still ↦ inr (open_rest c.begun c.received.items c.scan c.seen c.kept c.file rest (subst (λ (t : Bool). HasBegun finds m.uses c.begun c.received.items c.scan c.seen c.kept c.file t rest) (waits still) (has still).1))
+      | inr still ↦ inr (open_rest c.begun c.received.items c.scan c.seen c.body rest (subst (λ (t : Bool). HasBegun r m.uses c.begun c.received.items c.scan c.seen c.body t rest) (waits still) (has still).1))
     ];
   }

@@ -2,7 +2,6 @@
 pub mod Noted
 pub mod Written
 pub mod Exchanges
-pub mod Bodies
 pub mod Conversations
 pub mod Outputs
 pub mod Messages

@@ -1,13 +1,11 @@
 -- What the bytes of a connection are cut into, whatever others ask of the desk in the meantime.
-use Rattle.std.specs.Prelude.{◌≡◌, ◌≢◌, ℕ, ◌+◌, ◌<◌, Bool, true, false, ◌||◌, List, [], ◌∷◌, ◌++◌, ◌==◌}
+use Rattle.std.specs.Prelude.{◌≡◌, ℕ, ◌+◌, ◌<◌, Bool, true, false, ◌||◌, List, [], ◌∷◌, ◌++◌, ◌==◌}
 use Rattle.std.specs.List.{FoldsTo, flat_map}
 use Rattle.httparse.specs.Grammar.{RequestHead}
 use Rattle.bsp_heads.specs.Responses.{refusal_reply, response}
 use Rattle.bsp_heads.specs.declared.fault.Refused.{Refused}
 use Rattle.bsp_heads.specs.declared.parts.Wanted.{Wanted}
 use Rattle.bsp_connection.specs.Exchanges.{Exchange, Meaning, interim}
-use Rattle.bsp_connection.specs.declared.service.BodyUse.{BodyUse}
-use Rattle.bsp_connection.specs.declared.service.BodyUse.TheVariants.{Ignored}
 use Rattle.bsp_connection.specs.Conversations.{HasHead, HasMessage, HasRefusal, message_limit}
 
 -- what the desk was asked for a message, and the text that was put out for it
@@ -37,7 +35,7 @@ module _ {D : Type 0} (m : Meaning D) where
   -- the message at the front is taken; after an answer that closes the connection none is
   pub data Takes (p : Left) (i : Item) (q : Left) : Type 0 where
     refused : (why : Refused) → p.closed ≡ false → HasRefusal p.unread why → i ≡ item [] (response why.bare true (refusal_reply why.fault)) → q.count ≡ p.count + 1 → q.closed ≡ true → Takes p i q
-    unroomed : (len : ℕ) (h : RequestHead) (wanted : Wanted) (kind : BodyUse) → p.closed ≡ false → HasHead p.unread len h wanted → 0 < wanted.body → m.uses h.method h.target kind → kind ≢ Ignored
+    unroomed : (len : ℕ) (h : RequestHead) (wanted : Wanted) → p.closed ≡ false → HasHead p.unread len h wanted → 0 < wanted.body → m.uses h.method h.target true
         → i ≡ item [] (interim wanted.expects ++ response wanted.bare true m.no_room) → q.count ≡ p.count + 1 → q.closed ≡ true → Takes p i q
     answered : (x : Exchange) (wanted : Wanted) → p.closed ≡ false → HasMessage m p.unread x.request wanted q.unread → i ≡ item (x ∷ []) (interim wanted.expects ++ response wanted.bare q.closed x.reply)
         → q.count ≡ p.count + 1 → q.closed ≡ (wanted.closes || q.count == message_limit) → Takes p i q

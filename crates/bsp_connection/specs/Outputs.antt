@@ -1,5 +1,5 @@
 -- What is put out on a connection and not yet sent.
-use Rattle.std.specs.Prelude.{ℕ, Bool, true, false, List, [], ◌++◌, length, drop, nat_lt, if◌then◌else◌, Option, Some, None}
+use Rattle.std.specs.Prelude.{◌≡◌, ◌≢◌, ◌⊎◌, ℕ, Bool, true, false, List, [], ◌++◌, length, drop, nat_lt, if◌then◌else◌, Option, Some, None}
 
 -- the bytes that are not yet sent, and those of them that are sent next
 pub record Rest : Type 0 where
@@ -35,3 +35,7 @@ put_of texts at apart = record {
   front = if nat_lt at (length texts) then drop at texts else (apart_rest apart).front;
   apart = has_apart apart;
 }
+
+-- there is something to be sent
+abbrev pub HasOutput : Put → Type 0
+HasOutput o = (o.bytes ≢ []) ⊎ (o.apart ≡ true)

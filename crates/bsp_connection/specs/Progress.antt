@@ -14,12 +14,13 @@ module _ {F : Type 0} where
   IsAtRest None received = length received < 16384
   IsAtRest (Some b) received = (length received ≡ b.head) × (0 < b.left)
 
+module _ {F B : Type 0} where
   -- the bytes of a connection that are to come at the most
-  abbrev pub most_to_come : Connection F → ℕ
+  abbrev pub most_to_come : Connection F B → ℕ
   most_to_come c = (65536 - c.count) * 4300000 + to_come c.begun c.received.items
 
   -- a message was answered, or less of it is to come
-  pub record IsFurther (old new : Connection F) : Type 0 where
+  pub record IsFurther (old new : Connection F B) : Type 0 where
     pub rest : new.has_more ≡ false → IsAtRest new.begun new.received.items
     pub further :
         ((new.count ≡ old.count + 1) × (new.begun ≡ None))
@@ -27,5 +28,5 @@ module _ {F : Type 0} where
         × (new.has_more ≡ false → to_come new.begun new.received.items ≤ to_come old.begun old.received.items))
 
   -- or the connection is closed
-  abbrev pub IsOn : Connection F → Connection F → Type 0
+  abbrev pub IsOn : Connection F B → Connection F B → Type 0
   IsOn old new = (new.closed ≡ true) ⊎ IsFurther old new

@@ -1,7 +1,6 @@
 //! Answering the messages of a connection.
 
-ghost use Rattle.std.specs.Prelude.{◌≡◌, ◌≢◌, ◌≤◌, ◌<◌, ◌+◌, ◌||◌, ◌==◌, ℕ, List, [], ◌∷◌, ◌++◌, length, take, drop, true, false, None, Some, IfOk, OnOk, OnErr, vec_capacity};
-ghost use Rattle.bsp_connection.specs.Bodies.{HasRet};
+ghost use Rattle.std.specs.Prelude.{◌≡◌, ◌≤◌, ◌<◌, ◌+◌, ◌||◌, ◌==◌, ℕ, List, [], ◌++◌, length, take, drop, true, false, None, Some, IfOk, OnOk, OnErr, is_some, vec_capacity};
 ghost use Rattle.bsp_connection.specs.Exchanges.{answer_text, request_of, used};
 ghost use Rattle.bsp_connection.specs.Conversations.{HasRefusal};
 ghost use Rattle.bsp_heads.specs.Responses.{response};
@@ -13,10 +12,7 @@ ghost use Rattle.bsp_connection.specs.Talks.{HasPassed, IsAnswered, IsRefused, M
 use crate::begun::{Begun, message_of, up_to};
 use crate::connection::Connection;
 use crate::heads::{Sought, seek};
-use crate::kept::KeptBody;
-use crate::ret_body::RetBody;
-use crate::service::{Answer, BodyUse, Message, Service};
-use crate::sink::BodySink;
+use crate::service::{Answer, Message, Service};
 use bsp_fields::NoRoom;
 use bsp_heads::{HeadFault, HeadParts, Refused, Scan, interim, read_head, refusal};
 use std::borrow::CowSlice;
@@ -52,40 +48,19 @@ fn cut_out(bytes: &mut Vec<u8>, at: usize, count: usize)
 /// # Errors
 ///
 /// `NoRoom` where an allocation was refused; the body is one that is used, and the piece has a byte.
-fn pass(kept: &mut KeptBody, file: &mut RetBody, kind: BodyUse, piece: &[u8]) -> Result<(), NoRoom>
-    ensures taken { OnOk result ((bytes : List ℕ) → HasBody kind kept.old file.old bytes → HasBody kind kept.new file.new (bytes ++ piece.now)) }
-    ensures refused { OnErr result ((kind ≢ BodyUse.Ignored) × (0 < length piece.now)) }
-{
-    match kind {
-        BodyUse::Ignored => Ok(()),
-        BodyUse::Kept => kept.feed(piece),
-        BodyUse::RetFile => file.feed(piece),
-    }
-}
-
-/// Asks the service with the RET file that the body is, or its first fault.
-///
-/// # Errors
-///
-/// `NoRoom` where there was no memory for the file. The desk is then as it was.
-fn ask_with_file<D, S: Service<D>>(
-    file: &mut RetBody,
+fn pass<D, S: Service<D>>(
     service: &S,
-    desk: &mut D,
-    message: &Message<'_>,
     found: S::Found,
-) -> Result<Answer, NoRoom>
-    requires finds { S.finds message.now.method.now message.now.target.now found }
-    requires use_is { S.means.uses message.now.method.now message.now.target.now BodyUse.RetFile }
-    ensures answered { IfOk result (λ answer. (bytes : List ℕ) → HasRet file.old bytes → S.means.steps desk.old (request_of message.now bytes) (answer_text answer) desk.new) }
-    ensures refused { OnErr result ((desk.new ≡ desk.old) × ((bytes : List ℕ) → HasRet file.old bytes → 0 < length bytes)) }
+    body: &mut Option<S::Body>,
+    piece: &[u8],
+) -> Result<(), NoRoom>
+    ensures taken { OnOk result ((bytes : List ℕ) → HasBody S.reads found body.old bytes → HasBody S.reads found body.new (bytes ++ piece.now)) }
+    ensures kept { is_some body.new ≡ is_some body.old }
+    ensures refused { OnErr result ((is_some body.old ≡ true) × (0 < length piece.now)) }
 {
-    if let Err(fault) = file.finish() {
-        return Ok(service.answer_file(desk, message, found, Err(fault)));
-    }
-    match file.file() {
-        Ok(read) => Ok(service.answer_file(desk, message, found, Ok(&read))),
-        Err(_) => Err(NoRoom),
+    match body {
+        Some(body) => service.take(found, body, piece),
+        None => Ok(()),
     }
 }
 
@@ -93,31 +68,28 @@ fn ask_with_file<D, S: Service<D>>(
 ///
 /// # Errors
 ///
-/// `NoRoom` where there was no memory for the file that the body is. The desk is then as it was.
+/// `NoRoom` where there was no memory for what the body is. The desk is then as it was.
 fn ask<D, S: Service<D>>(
-    kept: &KeptBody,
-    file: &mut RetBody,
-    kind: BodyUse,
     service: &S,
     desk: &mut D,
     message: &Message<'_>,
     found: S::Found,
+    body: Option<S::Body>,
 ) -> Result<Answer, NoRoom>
-    requires finds { S.finds message.now.method.now message.now.target.now found }
-    requires use_is { S.means.uses message.now.method.now message.now.target.now kind }
-    ensures answered { IfOk result (λ answer. (bytes : List ℕ) → HasBody kind kept.now file.old bytes → S.means.steps desk.old (request_of message.now (used kind bytes)) (answer_text answer) desk.new) }
-    ensures refused { OnErr result ((desk.new ≡ desk.old) × (kind ≢ BodyUse.Ignored) × ((bytes : List ℕ) → HasBody kind kept.now file.old bytes → 0 < length bytes)) }
+    requires finds { S.reads.finds message.now.method.now message.now.target.now found }
+    requires some { (bytes : List ℕ) × HasBody S.reads found body bytes }
+    ensures answered { IfOk result (λ answer. (bytes : List ℕ) → HasBody S.reads found body bytes → S.means.steps desk.old (request_of message.now (used (is_some body) bytes)) (answer_text answer) desk.new) }
+    ensures refused { OnErr result ((desk.new ≡ desk.old) × (is_some body ≡ true) × ((bytes : List ℕ) → HasBody S.reads found body bytes → 0 < length bytes)) }
 {
-    match kind {
-        BodyUse::Ignored => Ok(service.answer(desk, message, found, b"")),
-        BodyUse::Kept => Ok(service.answer(desk, message, found, kept.bytes())),
-        BodyUse::RetFile => ask_with_file(file, service, desk, message, found),
+    match body {
+        Some(body) => service.answer_with(desk, message, found, body),
+        None => Ok(service.answer(desk, message, found)),
     }
 }
 
 /// Puts out the response to the message whose head has so many bytes, and goes on after it.
-fn end_message<F: Copy>(
-    c: &mut Connection<F>,
+fn end_message<F: Copy, B: Drop>(
+    c: &mut Connection<F, B>,
     head: usize,
     answer: Answer,
     bare: bool,
@@ -127,6 +99,7 @@ fn end_message<F: Copy>(
     requires free { c.old.out.apart ≡ false }
     requires few { c.old.count < 65536 }
     ensures answered { IsAnswered head (response bare closes (answer_text answer)) closes c.old c.new }
+    ensures number { c.new.number ≡ c.old.number }
     ensures room { vec_capacity c.new.received ≡ vec_capacity c.old.received }
 {
     c.out.respond(answer, bare, closes);
@@ -134,23 +107,28 @@ fn end_message<F: Copy>(
     c.begun = None;
     c.scan = Scan::start();
     c.seen = 0;
-    c.kept = KeptBody::new(c.alloc);
-    c.file = RetBody::new(c.alloc);
+    c.body = None;
     c.count += 1;
     c.closed = closes;
     c.has_more = !closes && !c.received.is_empty();
 }
 
 /// Refuses the head at the front, and closes the connection.
-fn refuse<D, S: Service<D>>(c: &mut Connection<S::Found>, refused: Refused, service: &S, desk: &D)
+fn refuse<D, S: Service<D>>(
+    c: &mut Connection<S::Found, S::Body>,
+    refused: Refused,
+    service: &S,
+    desk: &D,
+)
     requires why { HasRefusal c.old.received.items refused }
     requires none { c.old.begun ≡ None }
     requires unclosed { c.old.closed ≡ false }
     requires free { c.old.out.apart ≡ false }
     requires few { c.old.count < 65536 }
-    ensures moves { Moves S.means S.finds c.old c.new desk.now desk.now }
+    ensures moves { Moves S.means S.reads c.old c.new desk.now desk.now }
     ensures closed { c.new.closed ≡ true }
     ensures shut { c.new.begun ≡ None }
+    ensures number { c.new.number ≡ c.old.number }
     ensures room { vec_capacity c.new.received ≡ vec_capacity c.old.received }
 {
     let reply = refusal(refused.fault);
@@ -166,60 +144,76 @@ fn refuse<D, S: Service<D>>(c: &mut Connection<S::Found>, refused: Refused, serv
 }
 
 /// Begins the message whose head was read.
-fn begin<D, S: Service<D>>(c: &mut Connection<S::Found>, head: usize, parts: HeadParts, service: &S)
+fn begin<D, S: Service<D>>(
+    c: &mut Connection<S::Found, S::Body>,
+    head: usize,
+    parts: HeadParts,
+    service: &S,
+) -> Begun<S::Found>
     requires read { IsRead c.old.received.items head parts }
     requires none { c.old.begun ≡ None }
     requires unclosed { c.old.closed ≡ false }
     requires free { c.old.out.apart ≡ false }
-    ensures moves { (d : D) → Moves S.means S.finds c.old c.new d d }
+    ensures moves { (d : D) → Moves S.means S.reads c.old c.new d d }
     ensures further { IsFurther c.old c.new }
+    ensures more { c.new.has_more ≡ true }
+    ensures begun { c.new.begun ≡ Some result }
     ensures unclosed { c.new.closed ≡ false }
+    ensures number { c.new.number ≡ c.old.number }
     ensures room { vec_capacity c.new.received ≡ vec_capacity c.old.received }
 {
     let message = message_of(&c.received, head, &parts);
     let found = service.find(message.method, message.target);
-    let kind = service.body_use(&message, found);
-    c.kept.start(0);
-    c.file.start(0);
+    c.body = service.body(&message, found);
     c.out.put(interim(parts.wanted.expects));
-    c.begun = Some(Begun {
+    let begun = Begun {
         head,
         parts,
         found,
-        kind,
         left: parts.wanted.body,
-    });
+    };
+    c.begun = Some(begun);
     c.has_more = true;
+    begun
 }
 
 /// Reads the head that was found at the front: begins its message, or refuses it.
-fn take_found<D, S: Service<D>>(c: &mut Connection<S::Found>, head: usize, service: &S, desk: &D)
+fn take_found<D, S: Service<D>>(
+    c: &mut Connection<S::Found, S::Body>,
+    head: usize,
+    service: &S,
+    desk: &D,
+)
     requires found { head_len c.old.received.items ≡ Some head }
     requires short { head ≤ 16384 }
     requires none { c.old.begun ≡ None }
     requires unclosed { c.old.closed ≡ false }
     requires free { c.old.out.apart ≡ false }
     requires few { c.old.count < 65536 }
-    ensures moves { Moves S.means S.finds c.old c.new desk.now desk.now }
+    ensures moves { Moves S.means S.reads c.old c.new desk.now desk.now }
     ensures goes_on { IsOn c.old c.new }
     ensures shut { c.new.closed ≡ true → c.new.begun ≡ None }
+    ensures number { c.new.number ≡ c.old.number }
     ensures room { vec_capacity c.new.received ≡ vec_capacity c.old.received }
 {
     match read_head(up_to(&c.received, head)) {
-        Ok(parts) => begin::<D, S>(c, head, parts, service),
+        Ok(parts) => {
+            begin::<D, S>(c, head, parts, service);
+        }
         Err(refused) => refuse(c, refused, service, desk),
     }
 }
 
 /// Seeks the head of the next message.
-fn take_head<D, S: Service<D>>(c: &mut Connection<S::Found>, service: &S, desk: &D)
+fn take_head<D, S: Service<D>>(c: &mut Connection<S::Found, S::Body>, service: &S, desk: &D)
     requires none { c.old.begun ≡ None }
     requires unclosed { c.old.closed ≡ false }
     requires free { c.old.out.apart ≡ false }
-    requires has { (unread : List ℕ) × HasUnread S.finds S.means.uses c.old unread }
-    ensures moves { Moves S.means S.finds c.old c.new desk.now desk.now }
+    requires has { (unread : List ℕ) × HasUnread S.reads S.means.uses c.old unread }
+    ensures moves { Moves S.means S.reads c.old c.new desk.now desk.now }
     ensures goes_on { IsOn c.old c.new }
     ensures shut { c.new.closed ≡ true → c.new.begun ≡ None }
+    ensures number { c.new.number ≡ c.old.number }
     ensures room { vec_capacity c.new.received ≡ vec_capacity c.old.received }
 {
     let mut scan = c.scan;
@@ -246,16 +240,21 @@ fn closes_after(wants_close: bool, count: usize) -> bool
 /// # Errors
 ///
 /// `NoRoom` where there was no memory for it.
-fn pass_on<F: Copy>(c: &mut Connection<F>, begun: Begun<F>) -> Result<Begun<F>, NoRoom>
+fn pass_on<D, S: Service<D>>(
+    c: &mut Connection<S::Found, S::Body>,
+    begun: Begun<S::Found>,
+    service: &S,
+) -> Result<Begun<S::Found>, NoRoom>
     requires begun { c.old.begun ≡ Some begun }
     requires within { begun.head ≤ length c.old.received.items }
-    ensures passed { IfOk result (HasPassed begun c.old c.new) }
+    ensures passed { IfOk result (HasPassed S.reads begun c.old c.new) }
     ensures refused { OnErr result (IsRefused begun c.old c.new) }
+    ensures number { c.new.number ≡ c.old.number }
     ensures room { vec_capacity c.new.received ≡ vec_capacity c.old.received }
 {
     let count = begun.left.min(c.received.len() - begun.head);
     let piece = part(&c.received, begun.head, count);
-    pass(&mut c.kept, &mut c.file, begun.kind, piece)?;
+    pass(service, begun.found, &mut c.body, piece)?;
     cut_out(&mut c.received, begun.head, count);
     let now = Begun {
         left: begun.left - count,
@@ -268,7 +267,7 @@ fn pass_on<F: Copy>(c: &mut Connection<F>, begun: Begun<F>) -> Result<Begun<F>, 
 
 /// Answers that there was no memory for the body of the message, and closes the connection.
 fn unroomed<D, S: Service<D>>(
-    c: &mut Connection<S::Found>,
+    c: &mut Connection<S::Found, S::Body>,
     begun: Begun<S::Found>,
     service: &S,
     desk: &D,
@@ -277,6 +276,7 @@ fn unroomed<D, S: Service<D>>(
     requires free { c.old.out.apart ≡ false }
     requires few { c.old.count < 65536 }
     ensures answered { IsAnswered (length c.old.received.items) (response begun.parts.wanted.bare true S.means.no_room) true c.old c.new }
+    ensures number { c.new.number ≡ c.old.number }
     ensures room { vec_capacity c.new.received ≡ vec_capacity c.old.received }
 {
     let answer = service.no_room();
@@ -288,7 +288,7 @@ fn unroomed<D, S: Service<D>>(
 
 /// Has the message answered whose body is whole.
 fn finish<D, S: Service<D>>(
-    c: &mut Connection<S::Found>,
+    c: &mut Connection<S::Found, S::Body>,
     begun: Begun<S::Found>,
     service: &S,
     desk: &mut D,
@@ -297,23 +297,16 @@ fn finish<D, S: Service<D>>(
     requires whole { begun.left ≡ 0 }
     requires unclosed { c.old.closed ≡ false }
     requires free { c.old.out.apart ≡ false }
-    requires has { (unread : List ℕ) × HasUnread S.finds S.means.uses c.old unread }
-    ensures moves { Moves S.means S.finds c.old c.new desk.old desk.new }
+    requires has { (unread : List ℕ) × HasUnread S.reads S.means.uses c.old unread }
+    ensures moves { Moves S.means S.reads c.old c.new desk.old desk.new }
     ensures goes_on { IsOn c.old c.new }
     ensures shut { c.new.closed ≡ true → c.new.begun ≡ None }
+    ensures number { c.new.number ≡ c.old.number }
     ensures room { vec_capacity c.new.received ≡ vec_capacity c.old.received }
 {
     let message = message_of(&c.received, begun.head, &begun.parts);
-    let asked = ask(
-        &c.kept,
-        &mut c.file,
-        begun.kind,
-        service,
-        desk,
-        &message,
-        begun.found,
-    );
-    let Ok(answer) = asked else {
+    let body = c.body.take();
+    let Ok(answer) = ask(service, desk, &message, begun.found, body) else {
         return unroomed(c, begun, service, desk);
     };
     service.note(desk, c.number, Some(&message), &answer.reply());
@@ -324,7 +317,7 @@ fn finish<D, S: Service<D>>(
 
 /// Goes on with the body of the message that is begun.
 fn take_body<D, S: Service<D>>(
-    c: &mut Connection<S::Found>,
+    c: &mut Connection<S::Found, S::Body>,
     begun: Begun<S::Found>,
     service: &S,
     desk: &mut D,
@@ -332,13 +325,14 @@ fn take_body<D, S: Service<D>>(
     requires begun { c.old.begun ≡ Some begun }
     requires unclosed { c.old.closed ≡ false }
     requires free { c.old.out.apart ≡ false }
-    requires has { (unread : List ℕ) × HasUnread S.finds S.means.uses c.old unread }
-    ensures moves { Moves S.means S.finds c.old c.new desk.old desk.new }
+    requires has { (unread : List ℕ) × HasUnread S.reads S.means.uses c.old unread }
+    ensures moves { Moves S.means S.reads c.old c.new desk.old desk.new }
     ensures goes_on { IsOn c.old c.new }
     ensures shut { c.new.closed ≡ true → c.new.begun ≡ None }
+    ensures number { c.new.number ≡ c.old.number }
     ensures room { vec_capacity c.new.received ≡ vec_capacity c.old.received }
 {
-    match pass_on(c, begun) {
+    match pass_on(c, begun, service) {
         Ok(now) => {
             if now.left == 0 {
                 finish(c, now, service, desk);
@@ -352,11 +346,16 @@ fn take_body<D, S: Service<D>>(
 /// parts were not copied, nothing is done.
 ///
 /// Where there is no memory for a body the answer says so, and the connection closes.
-pub fn go_on<D, S: Service<D>>(c: &mut Connection<S::Found>, service: &S, desk: &mut D)
-    requires { (unread : List ℕ) × HasUnread S.finds S.means.uses c.old unread }
-    ensures moves { Moves S.means S.finds c.old c.new desk.old desk.new }
+pub fn go_on<D, S: Service<D>>(
+    c: &mut Connection<S::Found, S::Body>,
+    service: &S,
+    desk: &mut D,
+)
+    requires { (unread : List ℕ) × HasUnread S.reads S.means.uses c.old unread }
+    ensures moves { Moves S.means S.reads c.old c.new desk.old desk.new }
     ensures goes_on { c.old.closed ≡ false → c.old.out.apart ≡ false → IsOn c.old c.new }
     ensures shut { c.old.closed ≡ false → c.new.closed ≡ true → c.new.begun ≡ None }
+    ensures number { c.new.number ≡ c.old.number }
     ensures room { vec_capacity c.new.received ≡ vec_capacity c.old.received }
 {
     if c.closed || !c.out.is_free() {

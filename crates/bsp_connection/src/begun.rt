@@ -5,7 +5,7 @@ ghost use Rattle.std.specs.Option.{option_map};
 ghost use Rattle.httparse.specs.Spans.{span_bytes};
 ghost use Rattle.bsp_connection.specs.Begun.{IsRead};
 
-use crate::service::{BodyUse, Message};
+use crate::service::Message;
 use bsp_heads::HeadParts;
 
 /// A message whose head came, and whose body is to come.
@@ -17,8 +17,6 @@ pub struct Begun<F> {
     pub parts: HeadParts,
     /// What its method and its target ask for.
     pub found: F,
-    /// What of its body is answered.
-    pub kind: BodyUse,
     /// How many bytes of its body are to come.
     pub left: usize,
 }

@@ -1,15 +1,14 @@
 //! One connection.
 
-ghost use Rattle.std.specs.Prelude.{not, ◌&&◌, ◌≡◌, ◌≤◌, ◌<◌, ◌+◌, [], length, take, true, false, IfOk, OnOk, OnErr, vec_capacity};
-ghost use Rattle.bsp_connection.specs.Begun.{HasUnread, pending};
+ghost use Rattle.std.specs.Prelude.{not, ◌&&◌, ◌≡◌, ◌⊎◌, ◌≤◌, ◌<◌, ◌+◌, [], length, take, true, false, IfOk, OnOk, OnErr, vec_capacity};
+ghost use Rattle.bsp_connection.specs.Begun.{BegunAt};
+ghost use Rattle.bsp_connection.specs.Outputs.{HasOutput};
 ghost use Rattle.bsp_connection.specs.Steps.{EndsAt};
 ghost use Rattle.bsp_connection.specs.Talks.{HasTaken, IsFresh, IsSame, IsSent};
 
 use crate::begun::Begun;
 use crate::end::End;
-use crate::kept::KeptBody;
 use crate::output::Output;
-use crate::ret_body::RetBody;
 use bsp_fields::NoRoom;
 use bsp_heads::Scan;
 use std::alloc::{AllocError, Global};
@@ -19,7 +18,7 @@ const ROOM: usize = 32_768;
 
 /// One connection: what came of the peer and is in no message yet, and what is to be sent.
 #[derive(Drop)]
-pub struct Connection<F> {
+pub struct Connection<F, B> {
     pub(crate) alloc: Global,
     // For what is noted of its replies.
     pub(crate) number: u64,
@@ -29,9 +28,8 @@ pub struct Connection<F> {
     pub(crate) scan: Scan,
     pub(crate) seen: usize,
     pub(crate) begun: Option<Begun<F>>,
-    // A body that is kept whole, and one that is read as a RET file.
-    pub(crate) kept: KeptBody,
-    pub(crate) file: RetBody,
+    // What takes its body, where that is used.
+    pub(crate) body: Option<B>,
     pub(crate) out: Output,
     // How many messages were answered.
     pub(crate) count: usize,
@@ -41,10 +39,11 @@ pub struct Connection<F> {
     pub(crate) has_more: bool,
 }
 
-impl<F> Connection<F> {
+impl<F, B: Drop> Connection<F, B> {
     /// The connection of this number, of which nothing came. It takes no memory.
-    pub fn new(alloc: Global, number: u64) -> Connection<F>
-        ensures { IsFresh result }
+    pub fn new(alloc: Global, number: u64) -> Connection<F, B>
+        ensures fresh { IsFresh result }
+        ensures number { result.number ≡ number }
     {
         Connection {
             alloc,
@@ -53,8 +52,7 @@ impl<F> Connection<F> {
             scan: Scan::start(),
             seen: 0,
             begun: None,
-            kept: KeptBody::new(alloc),
-            file: RetBody::new(alloc),
+            body: None,
             out: Output::new(alloc),
             count: 0,
             closed: false,
@@ -68,8 +66,9 @@ impl<F> Connection<F> {
     /// # Errors
     ///
     /// `AllocError` where the room was refused.
-    pub(crate) fn with_room(alloc: Global, number: u64) -> Result<Connection<F>, AllocError>
+    pub(crate) fn with_room(alloc: Global, number: u64) -> Result<Connection<F, B>, AllocError>
         ensures fresh { IfOk result IsFresh }
+        ensures number { IfOk result (λ c. c.number ≡ number) }
         ensures room { IfOk result (λ c. 32768 ≤ vec_capacity c.received) }
     {
         let mut received = Vec::new(alloc);
@@ -158,6 +157,7 @@ impl<F> Connection<F> {
     pub fn is_done(&self) -> bool
         ensures sent { result ≡ true → self.now.out.bytes ≡ [] }
         ensures waits { result ≡ true → self.now.closed ≡ false → self.now.has_more ≡ false }
+        ensures not_done { result ≡ false → HasOutput self.now.out ⊎ ((self.now.closed ≡ false) × (self.now.has_more ≡ true)) }
     {
         self.out.is_empty() && (self.closed || !self.has_more)
     }
@@ -170,7 +170,9 @@ impl<F> Connection<F> {
     }
 
     /// The message that is begun and not whole, by how many were answered before it; none between messages.
-    pub fn begun(&self) -> Option<usize> {
+    pub fn begun(&self) -> Option<usize>
+        ensures { BegunAt self.now result }
+    {
         if self.begun.is_none() && self.received.is_empty() {
             return None;
         }

@@ -5,6 +5,7 @@ ghost use Rattle.std.specs.Cow.{cow_slice_items};
 ghost use Rattle.bsp_heads.specs.ResponseHeads.{head_text};
 ghost use Rattle.bsp_heads.specs.Responses.{reply_head, response};
 ghost use Rattle.bsp_connection.specs.Exchanges.{answer_text};
+ghost use Rattle.bsp_connection.specs.Outputs.{HasOutput};
 
 use crate::apart::{Apart, after, bytes_of, from};
 use crate::service::Answer;
@@ -111,7 +112,8 @@ impl Output {
 
     /// Whether all is sent.
     pub fn is_empty(&self) -> bool
-        ensures { result ≡ true → self.now.bytes ≡ [] }
+        ensures sent { result ≡ true → self.now.bytes ≡ [] }
+        ensures waits { result ≡ false → HasOutput self.now }
     {
         self.sent == self.texts.len() && self.apart.is_none()
     }

@@ -1,6 +1,12 @@
 //! HTTP as what is said on many connections.
 
-ghost use Rattle.std.specs.Prelude.{◌≡◌, ℕ, ◌≤◌, List, [], length, take, true, OnOk, OnErr};
+ghost use Rattle.std.specs.Prelude.{◌≡◌, ◌⊎◌, ◌&&◌, ◌≤◌, [], length, take, not, true, false, OnOk, OnErr};
+ghost use Rattle.bsp_connection.specs.Begun.{BegunAt};
+ghost use Rattle.bsp_connection.specs.Exchanges.{does};
+ghost use Rattle.bsp_connection.specs.Outputs.{HasOutput};
+ghost use Rattle.bsp_connection.specs.Progress.{IsOn};
+ghost use Rattle.bsp_connection.specs.Talks.{HasTaken, IsFresh, IsSame, IsSent, Rests, Talks};
+ghost use Rattle.bsp_peers.specs.Talks.{HasAsked, HasGot, HasSent, IsSame as IsAsItWas, IsTalk};
 
 use crate::answering::go_on;
 use crate::connection::Connection;
@@ -20,42 +26,70 @@ pub struct Http<'s, S> {
 
 impl<'s, D, S: Service<D>> Protocol<D> for Http<'s, S> {
     ghost use Rattle.bsp_connection.specs.Exchanges.{Exchange};
-    ghost use Rattle.bsp_connection.specs.Talks.{Rests, Talks};
 
-    type Connection = Connection<S::Found>;
+    type Connection = Connection<S::Found, S::Body>;
 
     ghost Exchange = { Exchange };
 
-    ghost steps = { λ old x new. S.means.steps old x.request x.reply new };
+    ghost steps = { does S.means };
 
-    ghost talks = { λ got xs sent c. Talks S.means S.finds got xs sent c };
+    ghost talks = { Talks S.means S.reads };
 
     ghost front = { λ c. c.out.front };
 
-    ghost rests = { Rests S.means S.finds };
+    ghost rests = { Rests S.means S.reads };
 
-    fn open(&self, number: u64) -> Connection<S::Found> {
+    fn open(&self, number: u64) -> Connection<S::Found, S::Body>
+        ensures talks { Talks S.means S.reads [] [] [] result }
+        ensures fresh { IsFresh result }
+        ensures number { result.number ≡ number }
+    {
         Connection::new(self.alloc, number)
     }
 
-    fn feed(&self, connection: &mut Connection<S::Found>, piece: &[u8]) -> Result<(), NoRoom> {
+    fn feed(
+        &self,
+        connection: &mut Connection<S::Found, S::Body>,
+        piece: &[u8],
+    ) -> Result<(), NoRoom>
+        requires { IsTalk (Talks S.means S.reads) connection.old }
+        ensures taken { OnOk result (HasGot (Talks S.means S.reads) piece.now connection.old connection.new) }
+        ensures refused { OnErr result (IsAsItWas (Talks S.means S.reads) connection.old connection.new) }
+        ensures came { OnOk result (HasTaken connection.old piece.now connection.new) }
+        ensures same { OnErr result (IsSame connection.old connection.new) }
+    {
         connection.feed(piece)
     }
 
-    fn go_on(&self, connection: &mut Connection<S::Found>, desk: &mut D) {
+    fn go_on(&self, connection: &mut Connection<S::Found, S::Body>, desk: &mut D)
+        requires { IsTalk (Talks S.means S.reads) connection.old }
+        ensures asked { HasAsked (Talks S.means S.reads) (does S.means) desk.old desk.new connection.old connection.new }
+        ensures goes_on { connection.old.closed ≡ false → connection.old.out.apart ≡ false → IsOn connection.old connection.new }
+        ensures number { connection.new.number ≡ connection.old.number }
+    {
         go_on(connection, self.service, desk);
         connection.give_back();
     }
 
-    fn output<'c>(&self, connection: &'c Connection<S::Found>) -> &'c [u8] {
+    fn output<'c>(&self, connection: &'c Connection<S::Found, S::Body>) -> &'c [u8] {
         connection.output()
     }
 
-    fn sent(&self, connection: &mut Connection<S::Found>, count: usize) {
+    fn sent(&self, connection: &mut Connection<S::Found, S::Body>, count: usize)
+        requires { count ≤ length connection.old.out.front }
+        ensures sent { HasSent (Talks S.means S.reads) (take count connection.old.out.front) connection.old connection.new }
+        ensures only { IsSent connection.old (take count connection.old.out.front) connection.new }
+    {
         connection.sent(count);
     }
 
-    fn state(&self, connection: &Connection<S::Found>) -> State {
+    fn state(&self, connection: &Connection<S::Found, S::Body>) -> State
+        ensures done { result.is_done ≡ true → Rests S.means S.reads connection.now }
+        ensures not_done { result.is_done ≡ false → HasOutput connection.now.out ⊎ ((connection.now.closed ≡ false) × (connection.now.has_more ≡ true)) }
+        ensures more { result.has_more ≡ (connection.now.has_more && not connection.now.out.apart) }
+        ensures closed { result.is_closed ≡ connection.now.closed }
+        ensures message { BegunAt connection.now result.message }
+    {
         State {
             has_more: connection.can_go_on(),
             is_closed: connection.is_closed(),

@@ -1,24 +1,13 @@
 //! What answers the messages of a connection.
 
-ghost use Rattle.std.specs.Prelude.{◌≡◌, ℕ, List};
+ghost use Rattle.std.specs.Prelude.{◌≡◌, ◌<◌, ◌++◌, ℕ, List, [], length, true, is_some, IfSome, IfOk, OnOk, OnErr};
 ghost use Rattle.bsp_heads.specs.Responses.{reply_text};
-ghost use Rattle.bsp_connection.specs.Exchanges.{IsFileRead, Meaning, answer_text, request_of};
+ghost use Rattle.bsp_connection.specs.Exchanges.{Meaning, Reading, answer_text, request_of};
 
+use bsp_fields::NoRoom;
 use bsp_heads::{Media, Methods, Reply, Status};
-use bsp_ret::{RetFault, RetFile};
 use std::alloc::Global;
 use std::borrow::CowSlice;
-
-/// What of a request's body is answered.
-#[derive(Clone, Copy)]
-pub enum BodyUse {
-    /// Nothing: the body is read and dropped.
-    Ignored,
-    /// All of it, kept whole.
-    Kept,
-    /// The RET file that it is, read as its bytes come.
-    RetFile,
-}
 
 /// A request whose head was read.
 #[derive(Clone, Copy)]
@@ -67,20 +56,38 @@ pub trait Service<D> {
     /// What a method and a target ask for, as it is found once for a message.
     type Found: Copy;
 
+    /// What takes the body of a request, piece by piece.
+    type Body: Drop;
+
     // What is answered, and what the desk is then.
     ghost means: { Meaning D };
 
-    // That a method and a target ask for what was found.
-    ghost finds: { List ℕ → List ℕ → Self.Found → Type 0 };
+    // That a method and a target ask for what was found, and what a body has of the bytes that it took.
+    ghost reads: { Reading Self.Found Self.Body };
 
     /// What a method and a target ask for.
     fn find(&self, method: &[u8], target: &[u8]) -> Self::Found
-        ensures { Self.finds method.now target.now result };
+        ensures { Self.reads.finds method.now target.now result };
 
-    /// What of the body of a request is answered, by what was found for it.
-    fn body_use(&self, message: &Message<'_>, found: Self::Found) -> BodyUse
-        requires { Self.finds message.now.method.now message.now.target.now found }
-        ensures { Self.means.uses message.now.method.now message.now.target.now result };
+    /// What takes the body of a request, by what was found for it; none where its body is not used. It takes no memory.
+    fn body(&self, message: &Message<'_>, found: Self::Found) -> Option<Self::Body>
+        requires { Self.reads.finds message.now.method.now message.now.target.now found }
+        ensures used { Self.means.uses message.now.method.now message.now.target.now (is_some result) }
+        ensures fresh { IfSome result (λ body. Self.reads.has found body []) };
+
+    /// Takes the next piece of a body.
+    ///
+    /// # Errors
+    ///
+    /// `NoRoom` where memory for the piece, of one byte or more, was refused.
+    fn take(
+        &self,
+        found: Self::Found,
+        body: &mut Self::Body,
+        piece: &[u8],
+    ) -> Result<(), NoRoom>
+        ensures taken { OnOk result ((bytes : List ℕ) → Self.reads.has found body.old bytes → Self.reads.has found body.new (bytes ++ piece.now)) }
+        ensures refused { OnErr result (0 < length piece.now) };
 
     /// Takes note of a reply before it is written, with the number of its connection: of the message too, where its head
     /// was read.
@@ -90,19 +97,25 @@ pub trait Service<D> {
     fn no_room(&self) -> Answer
         ensures { answer_text result ≡ Self.means.no_room };
 
-    /// Answers a request whose body was dropped, or kept whole.
-    fn answer(&self, desk: &mut D, message: &Message<'_>, found: Self::Found, body: &[u8]) -> Answer
-        requires { Self.finds message.now.method.now message.now.target.now found }
-        ensures { Self.means.steps desk.old (request_of message.now body.now) (answer_text result) desk.new };
+    /// Answers a request whose body is not used.
+    fn answer(&self, desk: &mut D, message: &Message<'_>, found: Self::Found) -> Answer
+        requires { Self.reads.finds message.now.method.now message.now.target.now found }
+        ensures { Self.means.steps desk.old (request_of message.now []) (answer_text result) desk.new };
 
-    /// Answers a request whose body was read as a RET file: with the file, or its first fault.
-    fn answer_file(
+    /// Answers a request with its body.
+    ///
+    /// # Errors
+    ///
+    /// `NoRoom` where memory for what the body is, of one byte or more, was refused. The desk is then as it was.
+    fn answer_with(
         &self,
         desk: &mut D,
         message: &Message<'_>,
         found: Self::Found,
-        file: Result<&RetFile<'_>, RetFault>,
-    ) -> Answer
-        requires { Self.finds message.now.method.now message.now.target.now found }
-        ensures { Self.means.uses message.now.method.now message.now.target.now BodyUse.RetFile → (bytes : List ℕ) → IsFileRead bytes file.entry → Self.means.steps desk.old (request_of message.now bytes) (answer_text result) desk.new };
+        body: Self::Body,
+    ) -> Result<Answer, NoRoom>
+        requires found { Self.reads.finds message.now.method.now message.now.target.now found }
+        requires some { (bytes : List ℕ) × Self.reads.has found body bytes }
+        ensures answered { IfOk result (λ answer. (bytes : List ℕ) → Self.reads.has found body bytes → Self.means.steps desk.old (request_of message.now bytes) (answer_text answer) desk.new) }
+        ensures refused { OnErr result ((desk.new ≡ desk.old) × ((bytes : List ℕ) → Self.reads.has found body bytes → 0 < length bytes)) };
 }

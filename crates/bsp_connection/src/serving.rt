@@ -36,7 +36,7 @@ fn are_empty(texts: (&[u8], &[u8], &[u8])) -> bool
 }
 
 /// Writes all that is put out. Where nothing is, the writer is not called.
-fn send_out<W: Write, F>(c: &mut Connection<F>, writer: &mut Noted<W>) -> Result<(), WriteFault>
+fn send_out<W: Write, F, B: Drop>(c: &mut Connection<F, B>, writer: &mut Noted<W>) -> Result<(), WriteFault>
     ensures written { IsWritten (W.contents writer.old.inner) (W.contents writer.new.inner) c.old.out.bytes result }
     ensures sent { OnOk result (IsSent c.old c.old.out.bytes c.new) }
     ensures free { OnOk result ((c.new.out.bytes ≡ []) × (c.new.out.apart ≡ false)) }
@@ -55,8 +55,8 @@ fn send_out<W: Write, F>(c: &mut Connection<F>, writer: &mut Noted<W>) -> Result
 }
 
 /// Reads once, and has the connection take what came. The peer was sent what the writer held back.
-fn receive<R: Read, W: Write, F>(
-    c: &mut Connection<F>,
+fn receive<R: Read, W: Write, F, B: Drop>(
+    c: &mut Connection<F, B>,
     room: &mut [u8],
     reader: &mut Noted<R>,
     _writer: &Noted<W>,
@@ -87,21 +87,21 @@ fn receive<R: Read, W: Write, F>(
 /// Goes on with what came, writes what is put out for it, and where nothing more can be answered reads once. None: the
 /// connection goes on.
 fn step<R: Read, W: Write, D, S: Service<D>>(
-    c: &mut Connection<S::Found>,
+    c: &mut Connection<S::Found, S::Body>,
     room: &mut [u8],
     reader: &mut Noted<R>,
     writer: &mut Noted<W>,
     service: &S,
     desk: &mut D,
 ) -> Result<Option<End>, ServeFault>
-    requires has { (unread : List ℕ) × HasUnread S.finds S.means.uses c.old unread }
+    requires has { (unread : List ℕ) × HasUnread S.reads S.means.uses c.old unread }
     requires none { c.old.out.bytes ≡ [] }
     requires free { c.old.out.apart ≡ false }
     requires unclosed { c.old.closed ≡ false }
     requires capacity { 32768 ≤ vec_capacity c.old.received }
     requires piece { length room.old ≡ 16384 }
     ensures step { (got : List ℕ) × (text : List ℕ) × Consumes (R.remaining reader.old.inner) (R.remaining reader.new.inner) got
-        × Appends (W.contents writer.old.inner) (W.contents writer.new.inner) text × WasStep S.means S.finds got text c.old c.new desk.old desk.new result }
+        × Appends (W.contents writer.old.inner) (W.contents writer.new.inner) text × WasStep S.means S.reads got text c.old c.new desk.old desk.new result }
     ensures end { IfOk result (λ end. (end ≡ Some End.Clean) ⊎ (end ≡ Some End.Cut) → IsAtEnd (R.remaining reader.new.inner)) }
     ensures failed { reader.new.failed ≡ failed_by_reads reader.old.failed result }
     ensures empty { reader.new.empty ≤ reader.old.empty + most_empty_of_turn result }
@@ -127,7 +127,7 @@ fn step<R: Read, W: Write, D, S: Service<D>>(
 
 /// Serves the connection to its end, with a room for what is read at once.
 fn serve_with<R: Read, W: Write, D, S: Service<D>>(
-    c: &mut Connection<S::Found>,
+    c: &mut Connection<S::Found, S::Body>,
     room: &mut [u8],
     reader: &mut Noted<R>,
     writer: &mut Noted<W>,

@@ -1,4 +1,4 @@
-use Rattle.std.proofs.Common.{◌≡◌, ℕ, List, ◌++◌, take, refl, sym, ap, ◌∙◌, subst}
+use Rattle.std.proofs.Common.{is_some, ◌≡◌, ℕ, List, ◌++◌, take, refl, sym, ap, ◌∙◌, subst}
 use Rattle.httparse.specs.Spans.{span_bytes}
 use Rattle.bsp_connection.specs.Exchanges.{interim}
 use Rattle.bsp_connection.proofs.StepLemmas.{begun_further, begun_moves, fresh_body}
@@ -7,23 +7,22 @@ use Rattle.bsp_connection.proofs.answering.begin.Goals as goal
 
 pub returns-clause-moves : goal.returns-clause-moves
 returns-clause-moves g c d =
-    let finds = g.S.Service.finds in
+    let r = g.S.Service.reads in
     let uses = g.S.Service.means.uses in
     let found = c.find-found.result in
-    let kind = c.body_use-kind.result in
+    let is_used = is_some c.body.result in
     let head : List ℕ = take c.args.head c.args.c.now.received.items in
-    let told = c.message_of-message.ensures in
+    let are = c.message_of-message.ensures in
     let text = ap (λ (l : List ℕ). take c.args.head l) c.deref.ensures.value in
-    let method : c.message_of-message.result.method.now ≡ span_bytes head c.args.parts.method = told.method ∙ ap (λ (l : List ℕ). span_bytes l c.args.parts.method) text in
-    let target : c.message_of-message.result.target.now ≡ span_bytes head c.args.parts.target = told.target ∙ ap (λ (l : List ℕ). span_bytes l c.args.parts.target) text in
-    begun_moves g.S.Service.means finds c.args.c.now _ d (record { head = c.args.head; parts = c.args.parts; found = found; kind = kind; left = c.args.parts.wanted.body }) c.requires.read (
-      subst (λ (l : List ℕ). finds (span_bytes head c.args.parts.method) l found) target (subst (λ (l : List ℕ). finds l c.message_of-message.result.target.now found) method c.find-found.ensures),
-      subst (λ (l : List ℕ). uses (span_bytes head c.args.parts.method) l kind) target (subst (λ (l : List ℕ). uses l c.message_of-message.result.target.now kind) method c.body_use-kind.ensures),
+    let method : c.message_of-message.result.method.now ≡ span_bytes head c.args.parts.method = are.method ∙ ap (λ (l : List ℕ). span_bytes l c.args.parts.method) text in
+    let target : c.message_of-message.result.target.now ≡ span_bytes head c.args.parts.target = are.target ∙ ap (λ (l : List ℕ). span_bytes l c.args.parts.target) text in
+    begun_moves g.S.Service.means r c.args.c.now _ d (record { head = c.args.head; parts = c.args.parts; found = found; left = c.args.parts.wanted.body }) c.requires.read (
+      subst (λ (l : List ℕ). r.finds (span_bytes head c.args.parts.method) l found) target (subst (λ (l : List ℕ). r.finds l c.message_of-message.result.target.now found) method c.find-found.ensures),
+      subst (λ (l : List ℕ). uses (span_bytes head c.args.parts.method) l is_used) target (subst (λ (l : List ℕ). uses l c.message_of-message.result.target.now is_used) method c.body.ensures.used),
     )
-    refl c.requires.none c.requires.unclosed refl refl refl refl refl
-    (fresh_body kind c.start.new.self c.start-2.new.self c.start.ensures c.start-2.ensures)
+    refl c.requires.none c.requires.unclosed refl refl refl refl refl (fresh_body r found c.body.result c.body.ensures.fresh)
     (c.put.ensures ∙ ap (λ (l : List ℕ). c.args.c.now.out.bytes ++ l) c.interim.ensures)
 
 pub returns-clause-further : goal.returns-clause-further
 returns-clause-further g c =
-    begun_further (record { head = c.args.head; parts = c.args.parts; found = c.find-found.result; kind = c.body_use-kind.result; left = c.args.parts.wanted.body }) c.args.c.now _ c.requires.read refl c.requires.none refl refl refl refl
+    begun_further (record { head = c.args.head; parts = c.args.parts; found = c.find-found.result; left = c.args.parts.wanted.body }) c.args.c.now _ c.requires.read refl c.requires.none refl refl refl refl

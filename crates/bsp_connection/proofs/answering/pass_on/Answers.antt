@@ -20,9 +20,10 @@ returns-clause-passed g c =
       behind = p.behind;
       received = c.cut_out.ensures.items;
       within = subst (λ (n : ℕ). n ≤ b.left) (sym p.size) p.within;
-      now_is = ap (λ (n : ℕ). record { head = b.head; parts = b.parts; found = b.found; kind = b.kind; left = b.left - n }) (sym p.size);
+      now_is = ap (λ (n : ℕ). record { head = b.head; parts = b.parts; found = b.found; left = b.left - n }) (sym p.size);
       begun = refl;
-      body = λ bytes has. subst (λ (l : List ℕ). HasBody b.kind c.pass.new.kept c.pass.new.file (bytes ++ l)) piece (c.in_ok-pass.ensures.taken bytes has);
+      is_used = c.in_ok-pass.ensures.kept;
+      body = λ bytes has. subst (λ (l : List ℕ). HasBody g.S.Service.reads b.found c.pass.new.body (bytes ++ l)) piece (c.in_ok-pass.ensures.taken bytes has);
       waits = p.waits;
       rests = λ more. ne_eqb (b.left - count) 0 (λ none. no_less (b.left - count) more none);
       out = refl;

@@ -7,5 +7,5 @@ use Rattle.bsp_connection.proofs.answering.refuse.Goals as goal
 pub returns-clause-moves : goal.returns-clause-moves
 returns-clause-moves g c =
     let why = c.args.refused in
-    refused_moves g.S.Service.means g.S.Service.finds c.args.c.now c.end_message.new.c c.args.desk.now why c.len-all.result c.requires.why c.requires.none c.requires.unclosed
+    refused_moves g.S.Service.means g.S.Service.reads c.args.c.now c.end_message.new.c c.args.desk.now why c.len-all.result c.requires.why c.requires.none c.requires.unclosed
     (subst (λ (reply : ReplyText). IsAnswered c.len-all.result (response why.bare true reply) true c.args.c.now c.end_message.new.c) c.refusal-reply.ensures c.end_message.ensures.answered)

@@ -7,5 +7,5 @@ pub returns-in-Nothing-clause-moves : goal.returns-in-Nothing-clause-moves
 returns-in-Nothing-clause-moves g c =
     let told = c.in-Nothing.ensures in
     let same = c.deref.ensures.value in
-    waiting_moves g.S.Service.means g.S.Service.finds c.args.c.now _ c.args.desk.now c.requires.none c.requires.unclosed refl refl refl refl (c.len-c.ensures ∙ sym c.deref.ensures.len ∙ ap (λ (l : List ℕ). length l) same)
+    waiting_moves g.S.Service.means g.S.Service.reads c.args.c.now _ c.args.desk.now c.requires.none c.requires.unclosed refl refl refl refl (c.len-c.ensures ∙ sym c.deref.ensures.len ∙ ap (λ (l : List ℕ). length l) same)
     (subst (λ (l : List ℕ). HasScanned l c.seek.new.scan) same told.2) (subst (λ (l : List ℕ). (head_len l ≡ None) × (length l < 16384)) same (told.0, told.1)) refl

@@ -7,7 +7,7 @@ pub steps-init : goal.steps-init
 steps-init g c =
     let fresh = c.requires.fresh in
     record {
-      talk = ([], Consumes-nil _, so_far_none g.S.Service.means g.S.Service.finds c.args.desk.now (g.W.Write.contents c.args.writer.now.inner) c.args.c.now fresh);
+      talk = ([], Consumes-nil _, so_far_none g.S.Service.means g.S.Service.reads c.args.desk.now (g.W.Write.contents c.args.writer.now.inner) c.args.c.now fresh);
       none = fresh.out;
       free = fresh.free;
       unclosed = fresh.unclosed;
@@ -30,7 +30,7 @@ steps-preserved g c =
       talk = (
         t.0 ++ s.0,
         Consumes-trans _ _ _ t.0 s.0 t.1 s.2,
-        so_far_more g.S.Service.means g.S.Service.finds c.args.desk.now (g.W.Write.contents c.args.writer.now.inner) (g.W.Write.contents c.steps.writer.inner) (g.W.Write.contents c.step.new.writer.inner) c.steps.c c.step.new.c c.steps.desk c.step.new.desk t.0 s.0 s.1 t.2 s.3 s.4,
+        so_far_more g.S.Service.means g.S.Service.reads c.args.desk.now (g.W.Write.contents c.args.writer.now.inner) (g.W.Write.contents c.steps.writer.inner) (g.W.Write.contents c.step.new.writer.inner) c.steps.c c.step.new.c c.steps.desk c.step.new.desk t.0 s.0 s.1 t.2 s.3 s.4,
       );
       none = s.4.1.0;
       free = s.4.1.1;
@@ -48,7 +48,7 @@ returns-in-Ok-Some-clause-conversation g c =
     let s = rw c.in-Ok-Some.field-0-is at c.in-Ok-Some.ensures.step in (
       t.0 ++ s.0,
       Consumes-trans _ _ _ t.0 s.0 t.1 s.2,
-      so_far_end g.S.Service.means g.S.Service.finds c.args.desk.now (g.W.Write.contents c.args.writer.now.inner) (g.W.Write.contents c.steps.writer.inner) (g.W.Write.contents c.step.new.writer.inner) c.steps.c c.step.new.c c.steps.desk c.step.new.desk t.0 s.0 s.1 c.in-Ok-Some.end t.2 s.3 s.4,
+      so_far_end g.S.Service.means g.S.Service.reads c.args.desk.now (g.W.Write.contents c.args.writer.now.inner) (g.W.Write.contents c.steps.writer.inner) (g.W.Write.contents c.step.new.writer.inner) c.steps.c c.step.new.c c.steps.desk c.step.new.desk t.0 s.0 s.1 c.in-Ok-Some.end t.2 s.3 s.4,
     )
 
 pub returns-in-Err-clause-conversation : goal.returns-in-Err-clause-conversation
@@ -57,5 +57,5 @@ returns-in-Err-clause-conversation g c =
     let s = c.in-Err.ensures.step in (
       t.0 ++ s.0,
       Consumes-trans _ _ _ t.0 s.0 t.1 s.2,
-      so_far_fault g.S.Service.means g.S.Service.finds c.args.desk.now (g.W.Write.contents c.args.writer.now.inner) (g.W.Write.contents c.steps.writer.inner) (g.W.Write.contents c.step.new.writer.inner) c.steps.c c.step.new.c c.steps.desk c.step.new.desk t.0 s.0 s.1 c.in-Err.fault t.2 s.3 s.4,
+      so_far_fault g.S.Service.means g.S.Service.reads c.args.desk.now (g.W.Write.contents c.args.writer.now.inner) (g.W.Write.contents c.steps.writer.inner) (g.W.Write.contents c.step.new.writer.inner) c.steps.c c.step.new.c c.steps.desk c.step.new.desk t.0 s.0 s.1 c.in-Err.fault t.2 s.3 s.4,
     )

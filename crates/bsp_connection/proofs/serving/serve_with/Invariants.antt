@@ -7,7 +7,7 @@ use Rattle.bsp_connection.proofs.serving.serve_with.Given as goal
 abbrev pub invariant-steps : goal.invariant-steps
 invariant-steps g l = record {
   talk : (got : List ℕ) × Consumes (g.R.Read.remaining l.fn.reader.inner) (g.R.Read.remaining l.reader.inner) got
-      × SoFar g.S.Service.means g.S.Service.finds l.fn.desk (g.W.Write.contents l.fn.writer.inner) (g.W.Write.contents l.writer.inner) l.c l.desk got;
+      × SoFar g.S.Service.means g.S.Service.reads l.fn.desk (g.W.Write.contents l.fn.writer.inner) (g.W.Write.contents l.writer.inner) l.c l.desk got;
   none : l.c.out.bytes ≡ [];
   free : l.c.out.apart ≡ false;
   unclosed : l.c.closed ≡ false;

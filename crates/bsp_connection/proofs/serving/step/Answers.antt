@@ -9,7 +9,7 @@ use Rattle.bsp_connection.proofs.serving.step.Goals as goal
 pub returns-in-Err-clause-step : goal.returns-in-Err-clause-step
 returns-in-Err-clause-step g c =
     let m = g.S.Service.means in
-    let finds = g.S.Service.finds in
+    let r = g.S.Service.reads in
     let w = c.in-Err.ensures in
     let same : c.send_out.new.c.out.bytes ≡ c.go_on.new.c.out.bytes = ap (λ (o : Put). o.bytes) w.kept.3 in (
       [],
@@ -17,7 +17,7 @@ returns-in-Err-clause-step g c =
       Consumes-nil _,
       w.written.3,
       (
-        goes_unsent m finds c.args.c.now c.go_on.new.c c.send_out.new.c c.args.desk.now c.go_on.new.desk c.go_on.ensures.moves w.kept,
+        goes_unsent m r c.args.c.now c.go_on.new.c c.send_out.new.c c.args.desk.now c.go_on.new.desk c.go_on.ensures.moves w.kept,
         (w.written.1, same ∙ w.written.2),
         λ none. w.some (sym same ∙ none),
         λ shut. w.kept.2.begun ∙ c.go_on.ensures.shut c.requires.unclosed (sym w.kept.2.closed ∙ shut),
@@ -27,7 +27,7 @@ returns-in-Err-clause-step g c =
 pub returns-then-is_closed-clause-step : goal.returns-then-is_closed-clause-step
 returns-then-is_closed-clause-step g c =
     let m = g.S.Service.means in
-    let finds = g.S.Service.finds in
+    let r = g.S.Service.reads in
     let w = c.in-Ok.ensures in
     let shut : c.send_out.new.c.closed ≡ true = sym c.is_closed.ensures ∙ c.if-is_closed.true in (
       [],
@@ -35,7 +35,7 @@ returns-then-is_closed-clause-step g c =
       Consumes-nil _,
       w.written,
       (
-        goes_sent m finds c.args.c.now c.go_on.new.c c.send_out.new.c c.args.desk.now c.go_on.new.desk c.go_on.new.c.out.bytes c.go_on.ensures.moves w.sent,
+        goes_sent m r c.args.c.now c.go_on.new.c c.send_out.new.c c.args.desk.now c.go_on.new.desk c.go_on.new.c.out.bytes c.go_on.ensures.moves w.sent,
         w.free.0,
         shut,
         w.sent.3.begun ∙ c.go_on.ensures.shut c.requires.unclosed (sym w.sent.3.closed ∙ shut),
@@ -45,7 +45,7 @@ returns-then-is_closed-clause-step g c =
 pub returns-then-has_more-clause-step : goal.returns-then-has_more-clause-step
 returns-then-has_more-clause-step g c =
     let m = g.S.Service.means in
-    let finds = g.S.Service.finds in
+    let r = g.S.Service.reads in
     let w = c.in-Ok.ensures in
     let still : c.send_out.new.c.closed ≡ false = sym c.is_closed.ensures ∙ c.if-is_closed.false in
     let more : c.go_on.new.c.has_more ≡ true = sym w.sent.2 ∙ sym c.has_more.ensures ∙ c.if-has_more.true in
@@ -56,7 +56,7 @@ returns-then-has_more-clause-step g c =
       Consumes-nil _,
       w.written,
       (
-        goes_sent m finds c.args.c.now c.go_on.new.c c.send_out.new.c c.args.desk.now c.go_on.new.desk c.go_on.new.c.out.bytes c.go_on.ensures.moves w.sent,
+        goes_sent m r c.args.c.now c.go_on.new.c c.send_out.new.c c.args.desk.now c.go_on.new.desk c.go_on.new.c.out.bytes c.go_on.ensures.moves w.sent,
         (w.free.0, w.free.1, still),
         like_less c.args.c.now c.go_on.new.c c.send_out.new.c w.sent.3 w.sent.1 (less_with_more c.args.c.now c.go_on.new.c few further more),
       ),
@@ -65,7 +65,7 @@ returns-then-has_more-clause-step g c =
 pub returns-clause-step : goal.returns-clause-step
 returns-clause-step g c =
     let m = g.S.Service.means in
-    let finds = g.S.Service.finds in
+    let r = g.S.Service.reads in
     let w = c.in-Ok.ensures in
     let still : c.send_out.new.c.closed ≡ false = sym c.is_closed.ensures ∙ c.if-is_closed.false in
     let none : c.send_out.new.c.has_more ≡ false = sym c.has_more.ensures ∙ c.if-has_more.false in
@@ -77,7 +77,7 @@ returns-clause-step g c =
       c.go_on.new.c.out.bytes,
       read.1,
       Appends-kept _ _ _ _ w.written c.send_on.ensures.kept,
-      step_read m finds c.args.c.now c.send_out.new.c c.receive.new.c c.args.desk.now c.go_on.new.desk read.0 c.go_on.new.c.out.bytes c.receive.result
-          (goes_sent m finds c.args.c.now c.go_on.new.c c.send_out.new.c c.args.desk.now c.go_on.new.desk c.go_on.new.c.out.bytes c.go_on.ensures.moves w.sent) (w.free.0, w.free.1, still) none
+      step_read m r c.args.c.now c.send_out.new.c c.receive.new.c c.args.desk.now c.go_on.new.desk read.0 c.go_on.new.c.out.bytes c.receive.result
+          (goes_sent m r c.args.c.now c.go_on.new.c c.send_out.new.c c.args.desk.now c.go_on.new.desk c.go_on.new.c.out.bytes c.go_on.ensures.moves w.sent) (w.free.0, w.free.1, still) none
           (like_most c.args.c.now c.go_on.new.c c.send_out.new.c w.sent.3 w.sent.1 (most_at_rest c.args.c.now c.go_on.new.c few further rests)) (like_rest c.go_on.new.c c.send_out.new.c w.sent.3 w.sent.1 (further.rest rests)) read.2,
     )
