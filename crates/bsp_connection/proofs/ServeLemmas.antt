@@ -3,8 +3,8 @@ use Rattle.std.proofs.Common.{◌≡◌, ◌≢◌, ◌⊎◌, inl, inr, ℕ, Bo
 use Rattle.std.proofs.lemmas.Bool.{cases_Bool, false≢true}
 use Rattle.std.proofs.KnownBytes.{Appends-trans, Keeps-refl}
 use Rattle.std.specs.Io.KnownBytes.{Appends, Keeps}
-use Rattle.bsp_connection.proofs.StepLemmas.{has_head}
-use Rattle.bsp_connection.proofs.TalkLemmas.{begun_rest, folds_on, open_rest, taken_more, talk_start}
+use Rattle.bsp_connection.proofs.StepLemmas.{folds_on, has_head}
+use Rattle.bsp_connection.proofs.TalkLemmas.{begun_rest, open_rest, taken_more, talk_start}
 use Rattle.bsp_connection.specs.Begun.{HasBegun, pending}
 use Rattle.bsp_connection.specs.Conversations.{HasHead, IsBegun, IsRun}
 use Rattle.bsp_connection.specs.Exchanges.{Exchange, Meaning, Reading, does}

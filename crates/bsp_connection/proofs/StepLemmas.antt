@@ -3,6 +3,7 @@ use Rattle.std.proofs.Common.{◌≡◌, ◌⊎◌, inl, inr, ℕ, ◌+◌, ◌-
 use Rattle.std.proofs.lemmas.Bool.{false≢true}
 use Rattle.std.proofs.lemmas.Bool.Decides.{eqb_tells}
 use Rattle.std.proofs.Math.Seq.{take-append_seam, take-length, drop-append_seam}
+use Rattle.std.proofs.lemmas.Grind.{flat_map-append}
 use Rattle.std.proofs.lemmas.List.{drop-drop, drop_all, length-take-le, take-append-drop}
 use Rattle.std.specs.List.{FoldsTo}
 use Rattle.std.specs.Option.{option_map}
@@ -17,8 +18,8 @@ use Rattle.bsp_heads.specs.Scan.{HasScanned, head_len}
 use Rattle.bsp_heads.specs.declared.fault.Refused.{Refused}
 use Rattle.bsp_heads.specs.declared.parts.HeadParts.{HeadParts}
 use Rattle.bsp_heads.specs.declared.scan.Scan.{Scan}
-use Rattle.bsp_connection.specs.Exchanges.{Exchange, Meaning, Reading, RequestText, interim, used}
-use Rattle.bsp_connection.specs.Conversations.{HasHead, HasMessage, HasRefusal, message_limit}
+use Rattle.bsp_connection.specs.Exchanges.{Exchange, Meaning, Reading, RequestText, does, interim, used}
+use Rattle.bsp_connection.specs.Conversations.{HasHead, HasMessage, HasRefusal, IsRun, message_limit}
 use Rattle.bsp_connection.proofs.SeekLemmas.{exact}
 use Rattle.bsp_connection.specs.Begun.{HasBegun, HasBody, HasUnread, IsBegunAs, IsFound, IsRead, IsSought, pending}
 use Rattle.bsp_connection.specs.Messages.{AreTaken, Item, Takes, asked, item, left, texts}
@@ -65,6 +66,18 @@ is_read received len parts found short are method target token =
       token = subst (λ (n : ℕ). IfSome parts.token (IsWithin n)) size token;
     }
 
+-- a head at the front is read so, whatever comes after it
+pub read_in : (received whole : List ℕ) (len : ℕ) (parts : HeadParts) → take len whole ≡ take len received → len ≤ length whole → IsRead received len parts → IsRead whole len parts
+read_in received whole len parts front within read = record {
+  within = within;
+  short = read.short;
+  ends = ap head_len front ∙ read.ends;
+  parts_are = subst (λ (l : List ℕ). AreParts l parts) (sym front) read.parts_are;
+  method = read.method;
+  target = read.target;
+  token = read.token;
+}
+
 -- the head is at the front of whatever comes after it
 pub has_head : (received more : List ℕ) (len : ℕ) (parts : HeadParts) (read : IsRead received len parts) → HasHead (take len received ++ more) len read.parts_are.0 parts.wanted
 has_head received more len parts read =
@@ -99,6 +112,10 @@ part_of received head left count within is =
 pub fresh_body : {F B : Type 0} (r : Reading F B) (found : F) (o : Option B) → IfSome o (λ body. r.has found body []) → HasBody r found o []
 fresh_body r found None fresh = tt
 fresh_body r found (Some body) fresh = fresh
+
+pub folds_on : {P A : Type 0} (R : P → A → P → Type 0) (p q r : P) (xs ys : List A) → FoldsTo R p xs q → FoldsTo R q ys r → FoldsTo R p (xs ++ ys) r
+folds_on {P} R p q r [] ys h k = subst (λ (s : P). FoldsTo R s ys r) (sym h) k
+folds_on {P} R p q r (x ∷ xs) ys h k = (h.0, h.1, folds_on R h.0 q r xs ys h.2 k)
 
 -- ---- steps
 
@@ -195,20 +212,23 @@ module _ {D F B : Type 0} (m : Meaning D) (r : Reading F B) where
   pub still_moves : (c : Connection F B) (d : D) → Moves m r c c d d
   still_moves c d unread was = record { items = []; rest = unread; more = []; run = refl; taken = refl; has = was; out = sym (append-nil c.out.bytes); text = append-nil (pending c.begun) }
 
-  -- ---- bodies
-
-  read_front : (received more : List ℕ) (len : ℕ) (parts : HeadParts) → IsRead received len parts → IsRead (take len received ++ more) len parts
-  read_front received more len parts read =
-      let size : length (take len received) ≡ len = length-take-le len received read.within in
-      let front : take len (take len received ++ more) ≡ take len received = front_of (take len received) more len size in record {
-        within = omega (arith, length-append (take len received) more, size);
-        short = read.short;
-        ends = ap head_len front ∙ read.ends;
-        parts_are = subst (λ (l : List ℕ). AreParts l parts) (sym front) read.parts_are;
-        method = read.method;
-        target = read.target;
-        token = read.token;
+  -- one step behind another
+  pub moves_on : (old mid new : Connection F B) (d e f : D) → Moves m r old mid d e → Moves m r mid new e f → Moves m r old new d f
+  moves_on old mid new d e f first second unread was =
+      let x = first unread was in
+      let y = second x.rest x.has in record {
+        items = x.items ++ y.items;
+        rest = y.rest;
+        more = x.more ++ y.more;
+        run = subst (λ (xs : List Exchange). IsRun m d xs f) (sym (flat_map-append (λ (i : Item). i.asked) x.items y.items)) (folds_on (does m) d e f (asked x.items) (asked y.items) x.run y.run);
+        taken = folds_on (Takes m) (left old.count unread old.closed) (left mid.count x.rest mid.closed) (left new.count y.rest new.closed) x.items y.items x.taken y.taken;
+        has = y.has;
+        out = y.out ∙ ap (λ (l : List ℕ). l ++ y.more) x.out ∙ append_assoc old.out.bytes x.more y.more;
+        text = sym (append_assoc (pending old.begun) x.more y.more) ∙ ap (λ (l : List ℕ). l ++ y.more) x.text ∙ append_assoc (texts x.items) (pending mid.begun) y.more ∙ ap (λ (l : List ℕ). texts x.items ++ l) y.text
+            ∙ sym (append_assoc (texts x.items) (texts y.items) (pending new.begun)) ∙ ap (λ (l : List ℕ). l ++ pending new.begun) (sym (flat_map-append (λ (i : Item). i.text) x.items y.items));
       }
+
+  -- ---- bodies
 
   more_body : (b now : Begun F) (old new : Connection F B) (unread : List ℕ) (p : HasPassed r b old new now) → IsBegunAs r m.uses b old.received.items old.body old.has_more unread
       → IsBegunAs r m.uses (record { head = b.head; parts = b.parts; found = b.found; left = b.left - length p.piece }) (take b.head old.received.items ++ p.rest) new.body new.has_more unread
@@ -217,7 +237,7 @@ module _ {D F B : Type 0} (m : Meaning D) (r : Reading F B) where
       let size : length front ≡ b.head = length-take-le b.head old.received.items h.read.within in
       let same : take b.head (front ++ p.rest) ≡ front = front_of front p.rest b.head size in
       let after : drop b.head (front ++ p.rest) ≡ p.rest = back_of front p.rest b.head size in record {
-        read = read_front old.received.items p.rest b.head b.parts h.read;
+        read = read_in old.received.items (front ++ p.rest) b.head b.parts same (omega (arith, length-append front p.rest, size)) h.read;
         found = subst (λ (l : List ℕ). IsFound r m.uses l b.parts b.found (is_some new.body)) (sym same) (subst (λ (t : Bool). IsFound r m.uses front b.parts b.found t) (sym p.is_used) h.found);
         came = h.came ++ p.piece;
         is = h.is ∙ ap (λ (l : List ℕ). front ++ (h.came ++ l)) p.behind ∙ ap (λ (l : List ℕ). front ++ l) (sym (append_assoc h.came p.piece p.rest)) ∙ ap (λ (l : List ℕ). front ++ ((h.came ++ p.piece) ++ l)) (sym after)
@@ -254,21 +274,6 @@ module _ {D F B : Type 0} (m : Meaning D) (r : Reading F B) where
     out = ap (λ (o : Put). o.bytes) p.out ∙ sym (append-nil old.out.bytes);
     text = append-nil (pending old.begun) ∙ same_pending b now old new some p;
   }
-
-  -- what is done after a piece was passed on
-  pub after_passed : (b now : Begun F) (old mid new : Connection F B) (d e : D) → old.begun ≡ Some b → old.closed ≡ false → HasPassed r b old mid now → Moves m r mid new d e → Moves m r old new d e
-  after_passed b now old mid new d e some unclosed p moves unread was =
-      let x = moves unread (passed_has b now old mid unread some unclosed p was) in record {
-        items = x.items;
-        rest = x.rest;
-        more = x.more;
-        run = x.run;
-        taken = subst (λ (n : ℕ). AreTaken m (left n unread old.closed) x.items (left new.count x.rest new.closed)) p.count
-            (subst (λ (t : Bool). AreTaken m (left mid.count unread t) x.items (left new.count x.rest new.closed)) p.closed x.taken);
-        has = x.has;
-        out = x.out ∙ ap (λ (o : Put). o.bytes ++ x.more) p.out;
-        text = ap (λ (l : List ℕ). l ++ x.more) (same_pending b now old mid some p) ∙ x.text;
-      }
 
   -- whether a body is used, by the method and the target of the head
   uses_of : (b : Begun F) (head : List ℕ) (is_used : Bool) (are : AreParts head b.parts) → IsFound r m.uses head b.parts b.found is_used → m.uses are.0.method are.0.target is_used

@@ -15,7 +15,7 @@ use Rattle.bsp_heads.specs.declared.parts.Wanted.{Wanted}
 use Rattle.bsp_heads.specs.declared.scan.Scan.{Scan}
 use Rattle.bsp_connection.specs.Exchanges.{Exchange, Meaning, Reading, RequestText, interim, used}
 use Rattle.bsp_connection.specs.Conversations.{HasHead, HasMessage, HasRefusal, IsBegun, IsRun, message_limit}
-use Rattle.bsp_connection.proofs.StepLemmas.{has_head}
+use Rattle.bsp_connection.proofs.StepLemmas.{folds_on, has_head, read_in}
 use Rattle.bsp_connection.specs.Begun.{HasBegun, HasUnread, IsBegunAs, IsFound, IsRead, IsSought, pending}
 use Rattle.bsp_connection.specs.Messages.{AreTaken, Item, Left, Takes, asked, item, left, texts}
 use Rattle.bsp_connection.specs.Messages.Takes.{answered, refused, unroomed}
@@ -74,10 +74,6 @@ module _ {D : Type 0} (m : Meaning D) where
   taken_more more p [] q e = ap (longer more) e
   taken_more more p (i ∷ items) q h = (longer more h.0, takes_more more p i h.0 h.1, taken_more more h.0 items q h.2)
 
-pub folds_on : {P A : Type 0} (R : P → A → P → Type 0) (p q r : P) (xs ys : List A) → FoldsTo R p xs q → FoldsTo R q ys r → FoldsTo R p (xs ++ ys) r
-folds_on {P} R p q r [] ys h k = subst (λ (s : P). FoldsTo R s ys r) (sym h) k
-folds_on {P} R p q r (x ∷ xs) ys h k = (h.0, h.1, folds_on R h.0 q r xs ys h.2 k)
-
 -- ---- what came and is in no message
 
 sought_more : (received piece : List ℕ) (scan : Scan) (seen : ℕ) (before : Bool) (unread : List ℕ) → IsSought received scan seen before unread → IsSought (received ++ piece) scan seen true (unread ++ piece)
@@ -89,26 +85,13 @@ sought_more received piece scan seen before unread s =
       waits = λ none. absurd (false≢true (sym none));
     }
 
-read_more : (received piece : List ℕ) (len : ℕ) (parts : HeadParts) → IsRead received len parts → IsRead (received ++ piece) len parts
-read_more received piece len parts r =
-    let within = r.within in
-    let front : take len (received ++ piece) ≡ take len received = take-append-le len received piece within in record {
-      within = omega (arith, within, length-append received piece);
-      short = r.short;
-      ends = ap head_len front ∙ r.ends;
-      parts_are = subst (λ (l : List ℕ). AreParts l parts) (sym front) r.parts_are;
-      method = r.method;
-      target = r.target;
-      token = r.token;
-    }
-
 module _ {F B : Type 0} (r : Reading F B) (uses : List ℕ → List ℕ → Bool → Type 0) where
   begun_more : (b : Begun F) (received piece : List ℕ) (body : Option B) (before : Bool) (unread : List ℕ) → IsBegunAs r uses b received body before unread → IsBegunAs r uses b (received ++ piece) body true (unread ++ piece)
   begun_more b received piece body before unread h =
       let within = h.read.within in
       let front : take b.head (received ++ piece) ≡ take b.head received = take-append-le b.head received piece within in
       let after : drop b.head (received ++ piece) ≡ drop b.head received ++ piece = drop-append-le b.head received piece within in record {
-        read = read_more received piece b.head b.parts h.read;
+        read = read_in received (received ++ piece) b.head b.parts front (omega (arith, within, length-append received piece)) h.read;
         found = subst (λ (l : List ℕ). IsFound r uses l b.parts b.found (is_some body)) (sym front) h.found;
         came = h.came;
         is = ap (λ (l : List ℕ). l ++ piece) h.is ∙ append_assoc (take b.head received) (h.came ++ drop b.head received) piece ∙ ap (λ (l : List ℕ). take b.head received ++ l) (append_assoc h.came (drop b.head received) piece)

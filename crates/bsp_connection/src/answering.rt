@@ -149,7 +149,7 @@ fn begin<D, S: Service<D>>(
     head: usize,
     parts: HeadParts,
     service: &S,
-) -> Begun<S::Found>
+)
     requires read { IsRead c.old.received.items head parts }
     requires none { c.old.begun ≡ None }
     requires unclosed { c.old.closed ≡ false }
@@ -157,7 +157,6 @@ fn begin<D, S: Service<D>>(
     ensures moves { (d : D) → Moves S.means S.reads c.old c.new d d }
     ensures further { IsFurther c.old c.new }
     ensures more { c.new.has_more ≡ true }
-    ensures begun { c.new.begun ≡ Some result }
     ensures unclosed { c.new.closed ≡ false }
     ensures number { c.new.number ≡ c.old.number }
     ensures room { vec_capacity c.new.received ≡ vec_capacity c.old.received }
@@ -166,15 +165,13 @@ fn begin<D, S: Service<D>>(
     let found = service.find(message.method, message.target);
     c.body = service.body(&message, found);
     c.out.put(interim(parts.wanted.expects));
-    let begun = Begun {
+    c.begun = Some(Begun {
         head,
         parts,
         found,
         left: parts.wanted.body,
-    };
-    c.begun = Some(begun);
+    });
     c.has_more = true;
-    begun
 }
 
 /// Reads the head that was found at the front: begins its message, or refuses it.
@@ -193,13 +190,12 @@ fn take_found<D, S: Service<D>>(
     ensures moves { Moves S.means S.reads c.old c.new desk.now desk.now }
     ensures goes_on { IsOn c.old c.new }
     ensures shut { c.new.closed ≡ true → c.new.begun ≡ None }
+    ensures waits { c.new.has_more ≡ false → c.new.begun ≡ None }
     ensures number { c.new.number ≡ c.old.number }
     ensures room { vec_capacity c.new.received ≡ vec_capacity c.old.received }
 {
     match read_head(up_to(&c.received, head)) {
-        Ok(parts) => {
-            begin::<D, S>(c, head, parts, service);
-        }
+        Ok(parts) => begin::<D, S>(c, head, parts, service),
         Err(refused) => refuse(c, refused, service, desk),
     }
 }
@@ -213,6 +209,7 @@ fn take_head<D, S: Service<D>>(c: &mut Connection<S::Found, S::Body>, service: &
     ensures moves { Moves S.means S.reads c.old c.new desk.now desk.now }
     ensures goes_on { IsOn c.old c.new }
     ensures shut { c.new.closed ≡ true → c.new.begun ≡ None }
+    ensures waits { c.new.has_more ≡ false → c.new.begun ≡ None }
     ensures number { c.new.number ≡ c.old.number }
     ensures room { vec_capacity c.new.received ≡ vec_capacity c.old.received }
 {
@@ -342,6 +339,31 @@ fn take_body<D, S: Service<D>>(
     }
 }
 
+/// Takes the next message as far as it came: its head, and its body.
+fn take_message<D, S: Service<D>>(
+    c: &mut Connection<S::Found, S::Body>,
+    service: &S,
+    desk: &mut D,
+)
+    requires none { c.old.begun ≡ None }
+    requires unclosed { c.old.closed ≡ false }
+    requires free { c.old.out.apart ≡ false }
+    requires has { (unread : List ℕ) × HasUnread S.reads S.means.uses c.old unread }
+    ensures moves { Moves S.means S.reads c.old c.new desk.old desk.new }
+    ensures goes_on { IsOn c.old c.new }
+    ensures shut { c.new.closed ≡ true → c.new.begun ≡ None }
+    ensures number { c.new.number ≡ c.old.number }
+    ensures room { vec_capacity c.new.received ≡ vec_capacity c.old.received }
+{
+    take_head(c, service, desk);
+    if !c.out.is_free() {
+        return;
+    }
+    if let Some(begun) = c.begun {
+        take_body(c, begun, service, desk);
+    }
+}
+
 /// Goes on with what came, and has one message of it answered at the most. While the last response is not sent whose
 /// parts were not copied, nothing is done.
 ///
@@ -363,6 +385,6 @@ pub fn go_on<D, S: Service<D>>(
     }
     match c.begun {
         Some(begun) => take_body(c, begun, service, desk),
-        None => take_head(c, service, desk),
+        None => take_message(c, service, desk),
     }
 }

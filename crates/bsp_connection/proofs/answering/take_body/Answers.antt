@@ -1,5 +1,5 @@
 use Rattle.std.proofs.Common.{◌≡◌, ◌<◌, ℕ, ◌+◌, List, length, inr, refl, arith}
-use Rattle.bsp_connection.proofs.StepLemmas.{after_passed, passed_has, passed_moves, passed_on, unroomed_moves, within}
+use Rattle.bsp_connection.proofs.StepLemmas.{moves_on, passed_has, passed_moves, passed_on, unroomed_moves, within}
 use Rattle.bsp_connection.proofs.answering.take_body.Goals as goal
 
 pub finish-requires-clause-has : goal.finish-requires-clause-has
@@ -8,17 +8,19 @@ finish-requires-clause-has g c =
     (has.0, passed_has g.S.Service.means g.S.Service.reads c.args.begun c.in-Ok.now c.args.c.now c.pass_on.new.c has.0 c.requires.begun c.requires.unclosed c.in-Ok.ensures.passed has.1)
 
 pub returns-then-now-eq0-clause-moves : goal.returns-then-now-eq0-clause-moves
-returns-then-now-eq0-clause-moves g c = after_passed g.S.Service.means g.S.Service.reads c.args.begun c.in-Ok.now c.args.c.now c.pass_on.new.c c.finish.new.c c.args.desk.now c.finish.new.desk c.requires.begun c.requires.unclosed c.in-Ok.ensures.passed c.finish.ensures.moves
+returns-then-now-eq0-clause-moves g c = 
+    moves_on g.S.Service.means g.S.Service.reads c.args.c.now c.pass_on.new.c c.finish.new.c c.args.desk.now c.args.desk.now c.finish.new.desk
+    (passed_moves g.S.Service.means g.S.Service.reads c.args.begun c.in-Ok.now c.args.c.now c.pass_on.new.c c.args.desk.now c.requires.begun c.requires.unclosed c.in-Ok.ensures.passed) c.finish.ensures.moves
 
 pub returns-else-now-eq0-clause-moves : goal.returns-else-now-eq0-clause-moves
 returns-else-now-eq0-clause-moves g c = passed_moves g.S.Service.means g.S.Service.reads c.args.begun c.in-Ok.now c.args.c.now c.pass_on.new.c c.args.desk.now c.requires.begun c.requires.unclosed c.in-Ok.ensures.passed
 
 pub returns-in-Err-clause-moves : goal.returns-in-Err-clause-moves
 returns-in-Err-clause-moves g c =
-    let told = c.in-Err.ensures.refused in
-    let some = told.some in
-    unroomed_moves g.S.Service.means g.S.Service.reads c.args.begun c.args.c.now c.pass_on.new.c c.unroomed.new.c c.args.desk.now (length c.pass_on.new.c.received.items) c.requires.begun c.requires.unclosed told.used
-    (λ body has sized. omega (arith, some, sized)) told.out told.count c.unroomed.ensures.answered
+    let without = c.in-Err.ensures.refused in
+    let some = without.some in
+    unroomed_moves g.S.Service.means g.S.Service.reads c.args.begun c.args.c.now c.pass_on.new.c c.unroomed.new.c c.args.desk.now (length c.pass_on.new.c.received.items) c.requires.begun c.requires.unclosed without.used
+    (λ body has sized. omega (arith, some, sized)) without.out without.count c.unroomed.ensures.answered
 
 pub returns-else-now-eq0-clause-goes_on : goal.returns-else-now-eq0-clause-goes_on
 returns-else-now-eq0-clause-goes_on g c =
