@@ -3,8 +3,6 @@ use Rattle.std.specs.Prelude.{◌≡◌, ℕ, List, Result, Ok, Err}
 use Rattle.std.specs.Borrow.{Bor}
 use Rattle.bsp_desk.specs.BookCalls.{Meaning}
 use Rattle.bsp_connection.specs.Exchanges.{Meaning as Answering, RequestText}
-use Rattle.bsp_connection.specs.declared.service.BodyUse.{BodyUse}
-use Rattle.bsp_connection.specs.declared.service.BodyUse.TheVariants.{Ignored, Kept, RetFile}
 use Rattle.bsp_desk.specs.Reading.{token_text}
 use Rattle.bsp_desk.specs.Steps.{Answers}
 use Rattle.bsp_desk.specs.declared.desk.Desk.{Desk}
@@ -13,34 +11,15 @@ use Rattle.bsp_desk.specs.Reply.{Reply}
 use Rattle.bsp_heads.specs.Responses.{ReplyText}
 use Rattle.bsp_ret.specs.Ret.{File}
 use Rattle.bsp_ret.specs.declared.model.RetFault.{RetFault}
-use Rattle.bsp_desk.specs.RoutesCalls.{Asks, asking_text, body_of}
+use Rattle.bsp_desk.specs.RoutesCalls.{Asks, asking_text}
 use Rattle.bsp_desk.specs.Asking.{Asking}
-use Rattle.bsp_desk.specs.Asking.TheVariants as asking
-use Rattle.bsp_desk.specs.BodyKind.{BodyKind}
-use Rattle.bsp_desk.specs.BodyKind.TheVariants as body
 use Rattle.bsp_desk.specs.Rows.{Rows}
 use Rattle.bsp_desk.specs.Contents.{IsAskedWith}
 use Rattle.bsp_desk.specs.Content.{Content}
 use Rattle.bsp_desk.specs.Content.TheVariants as content
 use Rattle.bsp_desk.specs.Requests.{Asked, IsAsked}
 use Rattle.bsp_http.specs.Replies.{no_room, reply_as}
-
--- ---- bodies
-
-abbrev pub use_by : BodyKind → BodyUse
-use_by body.NoBody = Ignored
-use_by body.Ret = RetFile
-use_by body.PlanText = Kept
-use_by body.Json = Kept
-
--- a body of no call is ignored
-abbrev pub use_of : Asking (List ℕ) → BodyUse
-use_of (asking.Call call) = use_by (body_of call)
-use_of asked = Ignored
-
--- a message with that method and that target has its body used so
-abbrev pub Uses : List ℕ → List ℕ → BodyUse → Type 0
-Uses method target kind = (asked : Asking (List ℕ)) × Asks method target asked × (kind ≡ use_of asked)
+use Rattle.bsp_http.specs.Uses.{Uses}
 
 -- a body that was read as a RET file
 abbrev pub content_of : Result (Bor File) RetFault → Content

@@ -48,7 +48,12 @@ pub fn serve<R: Read, W: Write, B: Book, J: Journal<B>>(
     ensures noted { writer.old.failed ≡ true → writer.new.failed ≡ true }
     ensures reads { reader.new.empty ≤ reader.old.empty + most_empty result }
 {
-    bsp_connection::serve(alloc, reader, writer, &Office { routes, journal }, desk)
+    let office = Office {
+        alloc,
+        routes,
+        journal,
+    };
+    bsp_connection::serve(alloc, reader, writer, &office, desk)
 }
 
 /// Serves the connections of all peers in one thread, until as many as `limits` has in all came and are gone, or the peers
@@ -70,7 +75,11 @@ pub fn serve_all<P: Peers, B: Book, J: Journal<B>>(
     ensures served { IsServedAll P.did (at_desk B.means) peers.old peers.new desk.old desk.new limits.in_all result }
     ensures run { (exchanges : List Exchange) × IsRun (at_desk B.means) desk.old exchanges desk.new }
 {
-    let office = Office { routes, journal };
+    let office = Office {
+        alloc,
+        routes,
+        journal,
+    };
     let protocol = Http {
         alloc,
         service: &office,

@@ -5,6 +5,8 @@
 //! law that what connections ask of a desk is a run of requests, so that all that holds of a run holds of them.
 #![tactic(auto)]
 
+mod answers;
+mod bodies;
 mod connection;
 mod journal;
 mod laws;

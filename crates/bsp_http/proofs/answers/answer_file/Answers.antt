@@ -2,15 +2,16 @@ use Rattle.std.proofs.Common.{◌≡◌, ap, sym, subst, ◌∙◌}
 use Rattle.bsp_desk.specs.RoutesCalls.{asking_text}
 use Rattle.bsp_desk.specs.Contents.{IsAskedWith}
 use Rattle.bsp_desk.specs.Content.{Content}
-use Rattle.bsp_connection.specs.declared.service.BodyUse.TheVariants.{RetFile}
-use Rattle.bsp_http.specs.Messages.{use_of}
+use Rattle.bsp_desk.specs.BodyKind.TheVariants.{Ret}
+use Rattle.bsp_http.specs.Uses.{kind_of}
 use Rattle.bsp_http.proofs.FileLemmas.{as_file, same_token}
-use Rattle.bsp_http.proofs.office.OfficeServiceDesk.answer_file.Goals as goal
+use Rattle.bsp_http.proofs.answers.answer_file.Goals as goal
 
 pub returns : goal.returns
-returns g c = λ uses bytes is.
+returns g c = λ bytes is.
     let asked_for = asking_text c.asking-call.result in
-    let file : RetFile ≡ use_of asked_for = uses.2 ∙ ap use_of (sym (c.asking-call.ensures.only uses.0 uses.1)) in
+    let is_found = c.requires.found.1 in
+    let file : Ret ≡ kind_of asked_for = sym c.requires.kind ∙ is_found.2 ∙ ap kind_of (sym (c.asking-call.ensures.only is_found.0 is_found.1)) in
     record {
       request = record { token = c.args.message.now.token; call = c.asking-call.result; content = c.content_of.result };
       is = record {
