@@ -1,9 +1,9 @@
 -- One step of serving a connection.
-use Rattle.std.proofs.Common.{◌≡◌, ◌≢◌, ◌⊎◌, inl, inr, ℕ, ◌+◌, ◌*◌, ◌-◌, ◌<◌, ◌≤◌, Bool, true, false, List, [], ◌++◌, length, Option, Some, None, Result, Ok, Err, refl, sym, ap, ◌∙◌, subst, append-nil, length-append, arith}
+use Rattle.std.proofs.Common.{◌≡◌, inl, inr, ℕ, ◌+◌, ◌*◌, ◌-◌, ◌<◌, ◌≤◌, true, false, List, [], ◌++◌, length, Option, Some, None, Result, Ok, Err, sym, ap, ◌∙◌, subst, append-nil, length-append, arith}
 use Rattle.std.proofs.lemmas.Bool.{false≢true}
 use Rattle.bsp_connection.proofs.TalkLemmas.{talk_fed, talk_moved, talk_same, talk_sent}
 use Rattle.bsp_connection.specs.Outputs.{Put}
-use Rattle.bsp_connection.specs.Exchanges.{Exchange, Meaning, Reading}
+use Rattle.bsp_connection.specs.Exchanges.{Meaning, Reading}
 use Rattle.bsp_connection.specs.Progress.{IsAtRest, IsFurther, IsOn, most_to_come, to_come}
 use Rattle.bsp_connection.specs.Steps.{Goes, IsOpen, WasRead, WasStep}
 use Rattle.bsp_connection.specs.Talks.{HasTaken, IsLike, IsSame, IsSent, Moves, Talks}
@@ -76,17 +76,17 @@ module _ {F B : Type 0} where
         let same : to_come new.begun new.received.items ≡ to_come mid.begun mid.received.items
         = ap (λ (o : Option (Begun F)). to_come o new.received.items) l.begun ∙ ap (λ (x : List ℕ). to_come mid.begun x) is in
         inr (
-          record {
-            rest = λ none. like_rest mid new l is (f.rest (sym more ∙ none));
-            further = elim f.further [
-              | inl next ↦ inl (l.count ∙ next.0, l.begun ∙ next.1)
-              | inr on ↦ inr (
-                l.count ∙ on.0,
-                λ some. subst (λ (n : ℕ). n < to_come old.begun old.received.items) (sym same) (on.1 (sym more ∙ some)),
-                λ none. subst (λ (n : ℕ). n ≤ to_come old.begun old.received.items) (sym same) (on.2 (sym more ∙ none)),
-              )
-            ];
-          }
+        record {
+          rest = λ none. like_rest mid new l is (f.rest (sym more ∙ none));
+          further = elim f.further [
+            | inl next ↦ inl (l.count ∙ next.0, l.begun ∙ next.1)
+            | inr on ↦ inr (
+              l.count ∙ on.0,
+              λ some. subst (λ (n : ℕ). n < to_come old.begun old.received.items) (sym same) (on.1 (sym more ∙ some)),
+              λ none. subst (λ (n : ℕ). n ≤ to_come old.begun old.received.items) (sym same) (on.2 (sym more ∙ none)),
+            )
+          ];
+        }
         )
   ]
 

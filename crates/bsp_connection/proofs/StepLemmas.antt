@@ -7,26 +7,24 @@ use Rattle.std.proofs.lemmas.Grind.{flat_map-append}
 use Rattle.std.proofs.lemmas.List.{drop-drop, drop_all, length-take-le, take-append-drop}
 use Rattle.std.specs.List.{FoldsTo}
 use Rattle.std.specs.Option.{option_map}
-use Rattle.httparse.specs.Grammar.{RequestHead}
 use Rattle.httparse.specs.Spans.{IsWithin, span_bytes}
 use Rattle.bsp_heads.proofs.BodyLemmas.{body_limited}
 use Rattle.bsp_heads.proofs.ScanLemmas.{head_len-more, head_len-le}
 use Rattle.bsp_heads.specs.Fields.{token_of}
-use Rattle.bsp_heads.specs.Head.{AreParts, IsHead, head_limit, headers_of, judgement}
+use Rattle.bsp_heads.specs.Head.{AreParts, IsHead, headers_of}
 use Rattle.bsp_heads.specs.Responses.{ReplyText, refusal_reply, response}
 use Rattle.bsp_heads.specs.Scan.{HasScanned, head_len}
 use Rattle.bsp_heads.specs.declared.fault.Refused.{Refused}
 use Rattle.bsp_heads.specs.declared.parts.HeadParts.{HeadParts}
-use Rattle.bsp_heads.specs.declared.scan.Scan.{Scan}
 use Rattle.bsp_connection.specs.Exchanges.{Exchange, Meaning, Reading, RequestText, does, interim, used}
 use Rattle.bsp_connection.specs.Conversations.{HasHead, HasMessage, HasRefusal, IsRun, message_limit}
 use Rattle.bsp_connection.proofs.SeekLemmas.{exact}
 use Rattle.bsp_connection.specs.Begun.{HasBegun, HasBody, HasUnread, IsBegunAs, IsFound, IsRead, IsSought, pending}
-use Rattle.bsp_connection.specs.Messages.{AreTaken, Item, Takes, asked, item, left, texts}
+use Rattle.bsp_connection.specs.Messages.{Item, Takes, asked, item, left, texts}
 use Rattle.bsp_connection.specs.Messages.Takes.{answered, refused, unroomed}
 use Rattle.bsp_connection.specs.Outputs.{Put}
 use Rattle.bsp_connection.specs.Progress.{IsAtRest, IsFurther, to_come}
-use Rattle.bsp_connection.specs.Talks.{HasPassed, IsAnswered, IsMoved, IsRefused, Moves}
+use Rattle.bsp_connection.specs.Talks.{HasPassed, IsAnswered, Moves}
 use Rattle.bsp_connection.specs.declared.begun.Begun.{Begun}
 use Rattle.bsp_connection.specs.declared.connection.Connection.{Connection}
 

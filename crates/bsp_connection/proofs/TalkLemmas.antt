@@ -1,26 +1,24 @@
 -- All that a connection has done, behind one call more.
-use Rattle.std.proofs.Common.{◌≡◌, ◌≢◌, ◌⊎◌, inl, inr, ℕ, ◌+◌, ◌<◌, ◌≤◌, Bool, true, false, List, [], ◌∷◌, ◌++◌, length, take, drop, Option, Some, None, is_some, Result, Ok, Err, OnOk, refl, sym, ap, ◌∙◌, subst, append_assoc, append-nil, length-append, length-drop, arith}
+use Rattle.std.proofs.Common.{◌≡◌, ◌⊎◌, inl, inr, ℕ, ◌+◌, ◌<◌, ◌≤◌, Bool, true, false, List, [], ◌∷◌, ◌++◌, length, take, drop, Option, Some, None, is_some, Result, Ok, Err, OnOk, refl, sym, ap, ◌∙◌, subst, append_assoc, append-nil, length-append, length-drop, arith}
 use Rattle.std.proofs.lemmas.Bool.{cases_Bool, false≢true}
 use Rattle.std.proofs.lemmas.List.{drop-append-le, drop_all, length-take-le, take-append-le}
 use Rattle.std.proofs.lemmas.Grind.{flat_map-append}
-use Rattle.std.specs.List.{FoldsTo}
 use Rattle.httparse.specs.Grammar.{RequestHead}
 use Rattle.bsp_heads.proofs.ScanLemmas.{head_len-le, head_len-more}
-use Rattle.bsp_heads.specs.Head.{AreParts, IsHead, Refuses, head_limit, headers_of, judgement}
+use Rattle.bsp_heads.specs.Head.{IsHead, Refuses, headers_of}
 use Rattle.bsp_heads.specs.Fields.{token_of}
 use Rattle.bsp_heads.specs.Scan.{HasScanned, head_len}
 use Rattle.bsp_heads.specs.declared.fault.Refused.{Refused}
-use Rattle.bsp_heads.specs.declared.parts.HeadParts.{HeadParts}
 use Rattle.bsp_heads.specs.declared.parts.Wanted.{Wanted}
 use Rattle.bsp_heads.specs.declared.scan.Scan.{Scan}
 use Rattle.bsp_connection.specs.Exchanges.{Exchange, Meaning, Reading, RequestText, interim, used}
 use Rattle.bsp_connection.specs.Conversations.{HasHead, HasMessage, HasRefusal, IsBegun, IsRun, message_limit}
 use Rattle.bsp_connection.proofs.StepLemmas.{folds_on, has_head, read_in}
-use Rattle.bsp_connection.specs.Begun.{HasBegun, HasUnread, IsBegunAs, IsFound, IsRead, IsSought, pending}
-use Rattle.bsp_connection.specs.Messages.{AreTaken, Item, Left, Takes, asked, item, left, texts}
+use Rattle.bsp_connection.specs.Begun.{HasBegun, HasUnread, IsBegunAs, IsFound, IsSought, pending}
+use Rattle.bsp_connection.specs.Messages.{AreTaken, Item, Left, Takes, asked, left, texts}
 use Rattle.bsp_connection.specs.Messages.Takes.{answered, refused, unroomed}
 use Rattle.bsp_connection.specs.Outputs.{Put}
-use Rattle.bsp_connection.specs.Talks.{HasTaken, IsFresh, IsLike, IsMoved, IsSame, IsSent, Moves, Rests, Talks}
+use Rattle.bsp_connection.specs.Talks.{HasTaken, IsFresh, IsLike, IsSame, IsSent, Moves, Rests, Talks}
 use Rattle.bsp_connection.specs.declared.begun.Begun.{Begun}
 use Rattle.bsp_connection.specs.declared.connection.Connection.{Connection}
 

@@ -1,5 +1,5 @@
 -- What a connection has of what came and is in no message yet.
-use Rattle.std.specs.Prelude.{◌≡◌, ◌≢◌, ℕ, ◌+◌, ◌<◌, ◌≤◌, Bool, true, false, List, [], ◌++◌, length, take, drop, Option, Some, None, IfSome, is_some}
+use Rattle.std.specs.Prelude.{◌≡◌, ◌≢◌, ℕ, ◌+◌, ◌<◌, ◌≤◌, Bool, false, List, [], ◌++◌, length, take, drop, Option, Some, None, IfSome, is_some}
 use Rattle.httparse.specs.Spans.{IsWithin, span_bytes}
 use Rattle.bsp_heads.specs.Head.{AreParts, head_limit}
 use Rattle.bsp_heads.specs.Scan.{HasScanned, head_len}

@@ -1,6 +1,5 @@
 -- What one step of serving a connection does.
 use Rattle.std.specs.Prelude.{◌≡◌, ◌≢◌, ◌<◌, ℕ, true, false, List, [], ◌++◌, length, Option, Some, None, Result, Ok, Err}
-use Rattle.std.specs.Io.KnownBytes.{Appends}
 use Rattle.bsp_connection.specs.Conversations.{IsRun}
 use Rattle.bsp_connection.specs.Exchanges.{Exchange, Meaning, Reading}
 use Rattle.bsp_connection.specs.Progress.{most_to_come}

@@ -1,5 +1,5 @@
 -- What a connection that is fed has done: all that came, was asked and was sent.
-use Rattle.std.specs.Prelude.{◌≡◌, ◌≢◌, ◌⊎◌, ℕ, ◌+◌, ◌-◌, ◌<◌, ◌≤◌, Bool, true, false, List, [], ◌++◌, length, take, drop, Some, None, is_some}
+use Rattle.std.specs.Prelude.{◌≡◌, ◌⊎◌, ℕ, ◌+◌, ◌-◌, ◌<◌, ◌≤◌, Bool, true, false, List, [], ◌++◌, length, take, drop, Some, None, is_some}
 use Rattle.bsp_heads.specs.Scan.{HasScanned}
 use Rattle.bsp_connection.specs.Exchanges.{Exchange, Meaning, Reading}
 use Rattle.bsp_connection.specs.Conversations.{IsBegun, IsRun}

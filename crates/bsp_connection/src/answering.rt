@@ -47,7 +47,7 @@ fn cut_out(bytes: &mut Vec<u8>, at: usize, count: usize)
 ///
 /// # Errors
 ///
-/// `NoRoom` where an allocation was refused; the body is one that is used, and the piece has a byte.
+/// `NoRoom` where an allocation was refused: the body is one that is used, and has what it had; the piece has a byte.
 fn pass<D, S: Service<D>>(
     service: &S,
     found: S::Found,
@@ -56,7 +56,7 @@ fn pass<D, S: Service<D>>(
 ) -> Result<(), NoRoom>
     ensures taken { OnOk result ((bytes : List ℕ) → HasBody S.reads found body.old bytes → HasBody S.reads found body.new (bytes ++ piece.now)) }
     ensures kept { is_some body.new ≡ is_some body.old }
-    ensures refused { OnErr result ((is_some body.old ≡ true) × (0 < length piece.now)) }
+    ensures refused { OnErr result ((is_some body.old ≡ true) × (0 < length piece.now) × ((bytes : List ℕ) → HasBody S.reads found body.old bytes → HasBody S.reads found body.new bytes)) }
 {
     match body {
         Some(body) => service.take(found, body, piece),
@@ -340,11 +340,7 @@ fn take_body<D, S: Service<D>>(
 }
 
 /// Takes the next message as far as it came: its head, and its body.
-fn take_message<D, S: Service<D>>(
-    c: &mut Connection<S::Found, S::Body>,
-    service: &S,
-    desk: &mut D,
-)
+fn take_message<D, S: Service<D>>(c: &mut Connection<S::Found, S::Body>, service: &S, desk: &mut D)
     requires none { c.old.begun ≡ None }
     requires unclosed { c.old.closed ≡ false }
     requires free { c.old.out.apart ≡ false }
@@ -368,11 +364,7 @@ fn take_message<D, S: Service<D>>(
 /// parts were not copied, nothing is done.
 ///
 /// Where there is no memory for a body the answer says so, and the connection closes.
-pub fn go_on<D, S: Service<D>>(
-    c: &mut Connection<S::Found, S::Body>,
-    service: &S,
-    desk: &mut D,
-)
+pub fn go_on<D, S: Service<D>>(c: &mut Connection<S::Found, S::Body>, service: &S, desk: &mut D)
     requires { (unread : List ℕ) × HasUnread S.reads S.means.uses c.old unread }
     ensures moves { Moves S.means S.reads c.old c.new desk.old desk.new }
     ensures goes_on { c.old.closed ≡ false → c.old.out.apart ≡ false → IsOn c.old c.new }

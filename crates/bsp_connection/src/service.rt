@@ -79,15 +79,10 @@ pub trait Service<D> {
     ///
     /// # Errors
     ///
-    /// `NoRoom` where memory for the piece, of one byte or more, was refused.
-    fn take(
-        &self,
-        found: Self::Found,
-        body: &mut Self::Body,
-        piece: &[u8],
-    ) -> Result<(), NoRoom>
+    /// `NoRoom` where memory for the piece, of one byte or more, was refused. The body then has what it had.
+    fn take(&self, found: Self::Found, body: &mut Self::Body, piece: &[u8]) -> Result<(), NoRoom>
         ensures taken { OnOk result ((bytes : List ℕ) → Self.reads.has found body.old bytes → Self.reads.has found body.new (bytes ++ piece.now)) }
-        ensures refused { OnErr result (0 < length piece.now) };
+        ensures refused { OnErr result ((0 < length piece.now) × ((bytes : List ℕ) → Self.reads.has found body.old bytes → Self.reads.has found body.new bytes)) };
 
     /// Takes note of a reply before it is written, with the number of its connection: of the message too, where its head
     /// was read.

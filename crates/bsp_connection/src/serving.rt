@@ -36,7 +36,10 @@ fn are_empty(texts: (&[u8], &[u8], &[u8])) -> bool
 }
 
 /// Writes all that is put out. Where nothing is, the writer is not called.
-fn send_out<W: Write, F, B: Drop>(c: &mut Connection<F, B>, writer: &mut Noted<W>) -> Result<(), WriteFault>
+fn send_out<W: Write, F, B: Drop>(
+    c: &mut Connection<F, B>,
+    writer: &mut Noted<W>,
+) -> Result<(), WriteFault>
     ensures written { IsWritten (W.contents writer.old.inner) (W.contents writer.new.inner) c.old.out.bytes result }
     ensures sent { OnOk result (IsSent c.old c.old.out.bytes c.new) }
     ensures free { OnOk result ((c.new.out.bytes ≡ []) × (c.new.out.apart ≡ false)) }

@@ -1,3 +1,4 @@
 -- Lemmas of this crate.
 pub mod FileLemmas
 pub mod RunLemmas
+pub mod RetLemmas

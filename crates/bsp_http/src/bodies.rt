@@ -55,10 +55,10 @@ impl RequestBody {
     ///
     /// # Errors
     ///
-    /// `NoRoom` where memory for the piece, of one byte or more, was refused.
+    /// `NoRoom` where memory for the piece, of one byte or more, was refused. It then has what it had.
     pub(crate) fn take(&mut self, piece: &[u8]) -> Result<(), NoRoom>
         ensures taken { OnOk result ((found : Found) (bytes : List ℕ) → HasBody found self.old bytes → HasBody found self.new (bytes ++ piece.now)) }
-        ensures refused { OnErr result (0 < length piece.now) }
+        ensures refused { OnErr result ((0 < length piece.now) × ((found : Found) (bytes : List ℕ) → HasBody found self.old bytes → HasBody found self.new bytes)) }
     {
         match self {
             RequestBody::Kept(bytes) => Ok(bytes.extend_from_slice(piece)?),
@@ -71,10 +71,10 @@ impl RequestBody {
 ///
 /// # Errors
 ///
-/// `NoRoom` where memory for the piece, of one byte or more, was refused.
+/// `NoRoom` where memory for the piece, of one byte or more, was refused. The reader then has what it had.
 fn read_on(reader: &mut RetReader, piece: &[u8]) -> Result<(), NoRoom>
     ensures taken { OnOk result ((bytes : List ℕ) → HasRet reader.old bytes → HasRet reader.new (bytes ++ piece.now)) }
-    ensures refused { OnErr result (0 < length piece.now) }
+    ensures refused { OnErr result ((0 < length piece.now) × ((bytes : List ℕ) → HasRet reader.old bytes → HasRet reader.new bytes)) }
 {
     if piece.is_empty() {
         return Ok(());

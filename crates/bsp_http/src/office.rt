@@ -28,6 +28,7 @@ pub(crate) struct Office<'r, J> {
 
 impl<'r, B: Book, J: Journal<B>> Service<Desk<B>> for Office<'r, J> {
     type Found = Found;
+
     type Body = RequestBody;
 
     ghost means = { at_desk B.means };

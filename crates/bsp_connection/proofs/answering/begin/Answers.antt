@@ -1,8 +1,6 @@
-use Rattle.std.proofs.Common.{is_some, ◌≡◌, ℕ, List, ◌++◌, take, refl, sym, ap, ◌∙◌, subst}
+use Rattle.std.proofs.Common.{is_some, ◌≡◌, ℕ, List, ◌++◌, take, refl, ap, ◌∙◌, subst}
 use Rattle.httparse.specs.Spans.{span_bytes}
-use Rattle.bsp_connection.specs.Exchanges.{interim}
 use Rattle.bsp_connection.proofs.StepLemmas.{begun_further, begun_moves, fresh_body}
-use Rattle.bsp_connection.specs.Begun.{IsFound}
 use Rattle.bsp_connection.proofs.answering.begin.Goals as goal
 
 pub returns-clause-moves : goal.returns-clause-moves

@@ -1,4 +1,4 @@
-use Rattle.std.proofs.Common.{Option, is_some, ◌≡◌, ◌<◌, ℕ, ◌+◌, List, length, take, refl, sym, ap, ◌∙◌, subst, arith}
+use Rattle.std.proofs.Common.{Option, is_some, ℕ, List, length, take, refl, sym, ap, ◌∙◌, subst, arith}
 use Rattle.std.specs.Option.{option_map}
 use Rattle.httparse.specs.Spans.{span_bytes}
 use Rattle.bsp_connection.specs.Begun.{HasBody}
@@ -17,8 +17,8 @@ returns-clause-moves g c =
     answered_moves g.S.Service.means g.S.Service.reads b c.args.c.now _ c.end_message.new.c c.args.desk.now c.ask.new.desk message.method.now message.target.now (option_map (λ t. t.now) message.token) (answer_text c.in-Ok.answer)
     c.closes_after-closes.result c.requires.begun c.requires.unclosed c.requires.whole (are.method ∙ ap (λ (l : List ℕ). span_bytes (take b.head l) b.parts.method) same) (are.target ∙ ap (λ (l : List ℕ). span_bytes (take b.head l) b.parts.target) same)
     (are.token ∙ ap (λ (l : List ℕ). option_map (span_bytes (take b.head l)) b.parts.token) same) (λ bytes has.
-            subst (λ (o : Option g.row.S-Body.Denot). g.S.Service.means.steps c.args.desk.now (request g.S.Service.means g.S.Service.reads message.method.now message.target.now (option_map (λ t. t.now) message.token) (used (is_some o) bytes)) (answer_text c.in-Ok.answer) c.ask.new.desk) taken
-            (c.in-Ok.ensures.answered bytes (subst (λ (o : Option g.row.S-Body.Denot). HasBody g.S.Service.reads b.found o bytes) (sym taken) has))) c.closes_after-closes.ensures refl refl refl c.end_message.ensures.answered
+    subst (λ (o : Option g.row.S-Body.Denot). g.S.Service.means.steps c.args.desk.now (request g.S.Service.means g.S.Service.reads message.method.now message.target.now (option_map (λ t. t.now) message.token) (used (is_some o) bytes)) (answer_text c.in-Ok.answer) c.ask.new.desk) taken
+    (c.in-Ok.ensures.answered bytes (subst (λ (o : Option g.row.S-Body.Denot). HasBody g.S.Service.reads b.found o bytes) (sym taken) has))) c.closes_after-closes.ensures refl refl refl c.end_message.ensures.answered
 
 pub returns-in_default-clause-moves : goal.returns-in_default-clause-moves
 returns-in_default-clause-moves g c =

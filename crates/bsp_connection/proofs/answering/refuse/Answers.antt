@@ -1,5 +1,5 @@
 use Rattle.std.proofs.Common.{subst, true}
-use Rattle.bsp_heads.specs.Responses.{ReplyText, refusal_reply, response}
+use Rattle.bsp_heads.specs.Responses.{ReplyText, response}
 use Rattle.bsp_connection.proofs.StepLemmas.{refused_moves}
 use Rattle.bsp_connection.specs.Talks.{IsAnswered}
 use Rattle.bsp_connection.proofs.answering.refuse.Goals as goal

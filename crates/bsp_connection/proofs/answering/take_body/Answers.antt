@@ -1,4 +1,4 @@
-use Rattle.std.proofs.Common.{◌≡◌, ◌<◌, ℕ, ◌+◌, List, length, inr, refl, arith}
+use Rattle.std.proofs.Common.{length, inr, arith}
 use Rattle.bsp_connection.proofs.StepLemmas.{moves_on, passed_has, passed_moves, passed_on, unroomed_moves, within}
 use Rattle.bsp_connection.proofs.answering.take_body.Goals as goal
 
@@ -8,7 +8,7 @@ finish-requires-clause-has g c =
     (has.0, passed_has g.S.Service.means g.S.Service.reads c.args.begun c.in-Ok.now c.args.c.now c.pass_on.new.c has.0 c.requires.begun c.requires.unclosed c.in-Ok.ensures.passed has.1)
 
 pub returns-then-now-eq0-clause-moves : goal.returns-then-now-eq0-clause-moves
-returns-then-now-eq0-clause-moves g c = 
+returns-then-now-eq0-clause-moves g c =
     moves_on g.S.Service.means g.S.Service.reads c.args.c.now c.pass_on.new.c c.finish.new.c c.args.desk.now c.args.desk.now c.finish.new.desk
     (passed_moves g.S.Service.means g.S.Service.reads c.args.begun c.in-Ok.now c.args.c.now c.pass_on.new.c c.args.desk.now c.requires.begun c.requires.unclosed c.in-Ok.ensures.passed) c.finish.ensures.moves
 

@@ -1,4 +1,4 @@
-use Rattle.std.proofs.Common.{◌≡◌, ℕ, ◌<◌, ◌≤◌, length, sym, ◌∙◌, Some, arith}
+use Rattle.std.proofs.Common.{◌≡◌, ◌≤◌, length, sym, ◌∙◌, Some, arith}
 use Rattle.bsp_heads.proofs.ScanLemmas.{head_len-le}
 use Rattle.bsp_heads.specs.Scan.{head_len}
 use Rattle.bsp_connection.proofs.SeekLemmas.{not_yet, too_long}

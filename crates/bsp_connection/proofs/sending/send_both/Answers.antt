@@ -1,4 +1,3 @@
-use Rattle.std.proofs.Common.{◌++◌}
 use Rattle.bsp_connection.proofs.WriteLemmas.{both_parts, first_part}
 use Rattle.bsp_connection.proofs.sending.send_both.Goals as goal
 

@@ -1,4 +1,3 @@
-use Rattle.std.proofs.Common.{◌≡◌, sym, subst}
 use Rattle.bsp_connection.proofs.serving.serve.Goals as goal
 
 pub returns-in-Ok-clause-conversation : goal.returns-in-Ok-clause-conversation

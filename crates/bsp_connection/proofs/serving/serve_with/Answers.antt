@@ -1,4 +1,4 @@
-use Rattle.std.proofs.Common.{◌≡◌, ℕ, ◌≤◌, ◌++◌, [], refl, ◌∙◌, arith, vec_capacity}
+use Rattle.std.proofs.Common.{◌++◌, [], refl, ◌∙◌, arith}
 use Rattle.std.proofs.KnownBytes.{Consumes-nil, Consumes-trans}
 use Rattle.bsp_connection.proofs.ServeLemmas.{so_far_end, so_far_fault, so_far_more, so_far_none}
 use Rattle.bsp_connection.proofs.serving.serve_with.Goals as goal

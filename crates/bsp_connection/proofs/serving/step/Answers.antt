@@ -1,8 +1,6 @@
-use Rattle.std.proofs.Common.{◌≡◌, ◌≢◌, ◌⊎◌, inl, inr, ℕ, ◌<◌, List, [], ◌++◌, true, false, None, sym, ap, ◌∙◌, refl}
-use Rattle.std.proofs.lemmas.Bool.{false≢true}
+use Rattle.std.proofs.Common.{◌≡◌, [], true, false, sym, ap, ◌∙◌}
 use Rattle.std.proofs.KnownBytes.{Consumes-nil, Appends-kept}
 use Rattle.bsp_connection.specs.Outputs.{Put}
-use Rattle.bsp_connection.specs.Progress.{IsFurther}
 use Rattle.bsp_connection.proofs.ProgressLemmas.{goes_sent, goes_unsent, less_with_more, like_less, like_most, like_rest, most_at_rest, step_read, still_further}
 use Rattle.bsp_connection.proofs.serving.step.Goals as goal
 

@@ -1,4 +1,4 @@
-use Rattle.std.proofs.Common.{◌≡◌, ℕ, List, refl, subst, ap}
+use Rattle.std.proofs.Common.{ℕ, List, refl, subst, ap}
 use Rattle.bsp_ret.specs.Lines.{lines}
 use Rattle.bsp_ret.specs.Pieces.{Fed}
 use Rattle.bsp_ret.specs.Ret.{Ret}

@@ -1,4 +1,4 @@
-use Rattle.std.proofs.Common.{◌≡◌, ◌≤◌, ◌<◌, length, subst, sym, arith}
+use Rattle.std.proofs.Common.{◌<◌, length, subst, arith}
 use Rattle.bsp_connection.specs.Outputs.{HasOutput, Put}
 use Rattle.bsp_connection.proofs.OutputLemmas.{text_waits}
 use Rattle.bsp_connection.proofs.output.Output.is_empty.Goals as goal
