@@ -3,11 +3,11 @@ use Rattle.std.proofs.Common.{◌≡◌, ◌≢◌, inl, inr, ℕ, Bool, true, f
 use Rattle.std.proofs.lemmas.Bool.{cases_Bool}
 use Rattle.std.proofs.KnownBytes.{Appends-trans, Keeps-refl}
 use Rattle.std.specs.Io.KnownBytes.{Appends, Keeps}
-use Rattle.bsp_connection.proofs.StepLemmas.{folds_on, has_head}
+use Rattle.bsp_connection.proofs.StepLemmas.{folds_on, has_head, same_head}
 use Rattle.bsp_connection.proofs.TalkLemmas.{begun_rest, open_rest, taken_more, talk_start}
-use Rattle.bsp_connection.specs.Begun.{HasBegun, pending}
+use Rattle.bsp_connection.specs.Begun.{HasBegun, asked_early, pending}
 use Rattle.bsp_connection.specs.Conversations.{HasHead, IsBegun, IsRun}
-use Rattle.bsp_connection.specs.Exchanges.{Exchange, Meaning, Reading, does}
+use Rattle.bsp_connection.specs.Exchanges.{Exchange, Meaning, Reading, does, inquiry}
 use Rattle.bsp_connection.specs.Messages.{Left, left, texts}
 use Rattle.bsp_connection.specs.Serving.{Answered, Conversation, EndsBy, MayHaveBegun, Reaches, Serves}
 use Rattle.bsp_connection.specs.Talks.{IsFresh, Talks}
@@ -48,7 +48,7 @@ module _ {D F B : Type 0} (m : Meaning D) (r : Reading F B) where
 
   -- all that came is answered, whatever comes after it
   answered_all : (got sent more output text : List ℕ) (xs : List Exchange) (c : Connection F B) (old new : D) (t : Talks m r got xs sent c) → IsRun m old xs new → output ≡ texts t.items ++ text
-      → Answered m (got ++ more) old xs output new (left_of got sent more xs c t) text
+      → Answered m (got ++ more) old xs output new (left_of got sent more xs c t) text (asked_early c.begun c.received.items)
   answered_all got sent more output text xs c old new t run is = record {
     items = t.items;
     taken = taken_more m more (left 0 got false) t.items (left c.count t.rest c.closed) t.cut;
@@ -61,11 +61,12 @@ module _ {D F B : Type 0} (m : Meaning D) (r : Reading F B) where
   sent_all : (got sent : List ℕ) (xs : List Exchange) (c : Connection F B) (t : Talks m r got xs sent c) → c.out.bytes ≡ [] → sent ≡ texts t.items ++ pending c.begun
   sent_all got sent xs c t out = sym (append-nil sent) ∙ ap (λ (l : List ℕ). sent ++ l) (sym out) ∙ t.put
 
-  ended : (got sent more : List ℕ) (xs : List Exchange) (c : Connection F B) (old new : D) (t : Talks m r got xs sent c) (end : End) → c.out.bytes ≡ [] → IsRun m old xs new → EndsBy (left_of got sent more xs c t) end (pending c.begun)
+  ended : (got sent more : List ℕ) (xs : List Exchange) (c : Connection F B) (old new : D) (t : Talks m r got xs sent c) (end : End) → c.out.bytes ≡ [] → IsRun m old xs new → EndsBy (left_of got sent more xs c t) end (pending c.begun) (asked_early c.begun c.received.items)
       → Conversation m (got ++ more) old xs sent new end c.count
   ended got sent more xs c old new t end out run ends = record {
     last = left_of got sent more xs c t;
     text = pending c.begun;
+    early = asked_early c.begun c.received.items;
     answered = answered_all got sent more sent (pending c.begun) xs c old new t run (sent_all got sent xs c t out);
     ends = ends;
     messages_are = refl;
@@ -74,25 +75,28 @@ module _ {D F B : Type 0} (m : Meaning D) (r : Reading F B) where
   no_pending : (o : Option (Begun F)) → o ≡ None → pending o ≡ []
   no_pending o none = ap (λ (p : Option (Begun F)). pending p) none
 
+  none_asked : (o : Option (Begun F)) (received : List ℕ) → o ≡ None → asked_early o received ≡ []
+  none_asked o received none = ap (λ (p : Option (Begun F)). asked_early p received) none
+
   served_closed : (got sent : List ℕ) (xs : List Exchange) (c : Connection F B) (old new : D) (before after : Option (List ℕ)) → Talks m r got xs sent c → c.closed ≡ true → c.out.bytes ≡ [] → c.begun ≡ None → IsRun m old xs new → Appends before after sent
       → Serves m got old new before after (Ok (record { messages = c.count; end = Closed }))
   served_closed got sent xs c old new before after t shut out none run wrote =
-      (sent, xs, wrote, run, λ more stops. ended got sent more xs c old new t Closed out run (shut, no_pending c.begun none))
+      (sent, xs, wrote, run, λ more stops. ended got sent more xs c old new t Closed out run (shut, no_pending c.begun none, none_asked c.begun c.received.items none))
 
   talk_clean : (got sent more : List ℕ) (xs : List Exchange) (c : Connection F B) (old new : D) (t : Talks m r got xs sent c) → c.closed ≡ false → c.out.bytes ≡ [] → c.begun ≡ None → t.rest ≡ [] → IsRun m old xs new → more ≡ []
       → Conversation m (got ++ more) old xs sent new Clean c.count
   talk_clean got sent more xs c old new t still out none rest run end =
-      ended got sent more xs c old new t Clean out run (still, ap (λ (l : List ℕ). l ++ more) rest ∙ end, no_pending c.begun none)
+      ended got sent more xs c old new t Clean out run (still, ap (λ (l : List ℕ). l ++ more) rest ∙ end, no_pending c.begun none, none_asked c.begun c.received.items none)
 
-  talk_cut : (got sent more : List ℕ) (xs : List Exchange) (c : Connection F B) (old new : D) (t : Talks m r got xs sent c) → c.closed ≡ false → c.out.bytes ≡ [] → IsBegun t.rest (pending c.begun) → IsRun m old xs new → more ≡ []
+  talk_cut : (got sent more : List ℕ) (xs : List Exchange) (c : Connection F B) (old new : D) (t : Talks m r got xs sent c) → c.closed ≡ false → c.out.bytes ≡ [] → IsBegun t.rest (pending c.begun) (asked_early c.begun c.received.items) → IsRun m old xs new → more ≡ []
       → Conversation m (got ++ more) old xs sent new Cut c.count
   talk_cut got sent more xs c old new t still out begun run end =
-      ended got sent more xs c old new t Cut out run (still, subst (λ (l : List ℕ). IsBegun l (pending c.begun)) (sym (ap (λ (l : List ℕ). t.rest ++ l) end ∙ append-nil t.rest)) begun)
+      ended got sent more xs c old new t Cut out run (still, subst (λ (l : List ℕ). IsBegun l (pending c.begun) (asked_early c.begun c.received.items)) (sym (ap (λ (l : List ℕ). t.rest ++ l) end ∙ append-nil t.rest)) begun)
 
   -- ---- a write failed
 
-  begun_text : (got sent more : List ℕ) (xs : List Exchange) (c : Connection F B) (t : Talks m r got xs sent c) (o : Option (Begun F)) → c.begun ≡ o → (c.closed ≡ true → c.begun ≡ None) → MayHaveBegun (left_of got sent more xs c t) (pending o)
-  begun_text got sent more xs c t None is shut = inl refl
+  begun_text : (got sent more : List ℕ) (xs : List Exchange) (c : Connection F B) (t : Talks m r got xs sent c) (o : Option (Begun F)) → c.begun ≡ o → (c.closed ≡ true → c.begun ≡ None) → MayHaveBegun (left_of got sent more xs c t) (pending o) (asked_early o c.received.items)
+  begun_text got sent more xs c t None is shut = inl (refl, refl)
   begun_text got sent more xs c t (Some b) is shut = elim (cases_Bool c.closed) [
     | inl closed ↦ absurd (some_begun b (sym is ∙ shut closed))
     | inr still ↦
@@ -100,13 +104,14 @@ module _ {D F B : Type 0} (m : Meaning D) (r : Reading F B) where
         let front : List ℕ = take b.head c.received.items in
         let tail : List ℕ = h.came ++ drop b.head c.received.items in
         let all : t.rest ++ more ≡ front ++ (tail ++ more) = ap (λ (l : List ℕ). l ++ more) h.is ∙ append_assoc front tail more in
-        inr (still, (b.head, h.read.parts_are.0, b.parts.wanted, subst (λ (l : List ℕ). HasHead l b.head h.read.parts_are.0 b.parts.wanted) (sym all) (has_head c.received.items (tail ++ more) b.head b.parts h.read), refl))
+        inr (still, (b.head, h.read.parts_are.0, b.parts.wanted, subst (λ (l : List ℕ). HasHead l b.head h.read.parts_are.0 b.parts.wanted) (sym all) (has_head c.received.items (tail ++ more) b.head b.parts h.read), refl, ap (inquiry b.parts.wanted.expects) (same_head front b.parts h.read.parts_are)))
   ]
 
   reaches : (got sent more : List ℕ) (xs : List Exchange) (c : Connection F B) (old new : D) → Talks m r got xs sent c → (c.closed ≡ true → c.begun ≡ None) → c.out.bytes ≢ [] → IsRun m old xs new → Reaches m (got ++ more) old xs (sent ++ c.out.bytes) new
   reaches got sent more xs c old new t shut some run = record {
     last = left_of got sent more xs c t;
     text = pending c.begun;
+    early = asked_early c.begun c.received.items;
     answered = answered_all got sent more (sent ++ c.out.bytes) (pending c.begun) xs c old new t run t.put;
     may_have_begun = begun_text got sent more xs c t c.begun refl shut;
     some = λ none. some (no_end sent c.out.bytes none);
@@ -115,7 +120,7 @@ module _ {D F B : Type 0} (m : Meaning D) (r : Reading F B) where
   -- ---- the last step
 
   -- the input ends within a message
-  cut_rest : (o : Option (Begun F)) (received : List ℕ) (scan : Scan) (seen : ℕ) (body : Option B) (rest : List ℕ) → HasBegun r m.uses o received scan seen body false rest → (o ≡ None → received ≢ []) → IsBegun rest (pending o)
+  cut_rest : (o : Option (Begun F)) (received : List ℕ) (scan : Scan) (seen : ℕ) (body : Option B) (rest : List ℕ) → HasBegun r m.uses o received scan seen body false rest → (o ≡ None → received ≢ []) → IsBegun rest (pending o) (asked_early o received)
   cut_rest None received scan seen body rest h some = elim (open_rest m r None received scan seen body rest h) [
     | inl none ↦ absurd (some refl (sym h.is ∙ none))
     | inr begun ↦ begun

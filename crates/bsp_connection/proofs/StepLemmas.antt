@@ -16,12 +16,13 @@ use Rattle.bsp_heads.specs.Responses.{ReplyText, refusal_reply, response}
 use Rattle.bsp_heads.specs.Scan.{HasScanned, head_len}
 use Rattle.bsp_heads.specs.declared.fault.Refused.{Refused}
 use Rattle.bsp_heads.specs.declared.parts.HeadParts.{HeadParts}
-use Rattle.bsp_connection.specs.Exchanges.{Exchange, Meaning, Reading, RequestText, does, interim, used}
-use Rattle.bsp_connection.specs.Conversations.{HasHead, HasMessage, HasRefusal, IsRun, message_limit}
+use Rattle.bsp_connection.specs.Exchanges.{Exchange, Meaning, Reading, RequestText, does, head_of, inquiry, interim, used}
+use Rattle.bsp_connection.specs.Exchanges.Exchange.{wants, replies}
+use Rattle.bsp_connection.specs.Conversations.{HasHead, HasMessage, HasRefusal, IsRun, head_text, message_limit}
 use Rattle.bsp_connection.proofs.SeekLemmas.{exact}
-use Rattle.bsp_connection.specs.Begun.{HasBegun, HasBody, HasUnread, IsBegunAs, IsFound, IsRead, IsSought, pending}
+use Rattle.bsp_connection.specs.Begun.{HasBegun, HasBody, HasUnread, IsBegunAs, IsFound, IsRead, IsSought, asked_early, head_in, pending}
 use Rattle.bsp_connection.specs.Messages.{Item, Takes, asked, item, left, texts}
-use Rattle.bsp_connection.specs.Messages.Takes.{answered, refused, unroomed}
+use Rattle.bsp_connection.specs.Messages.Takes.{answered, refused, unroomed, unwanted}
 use Rattle.bsp_connection.specs.Outputs.{Put}
 use Rattle.bsp_connection.specs.Progress.{IsAtRest, IsFurther, to_come}
 use Rattle.bsp_connection.specs.Talks.{HasPassed, IsAnswered, Moves}
@@ -42,7 +43,26 @@ behind {F} o p b xs text some gone =
     let all : List ℕ = interim b.parts.wanted.expects ++ text in
     ap (λ (q : Option (Begun F)). pending q ++ text) some ∙ sym (append-nil all) ∙ sym (append-nil (all ++ [])) ∙ ap (λ (q : Option (Begun F)). (all ++ []) ++ pending q) (sym gone)
 
+-- the same of what was asked
+alone_asked : {F : Type 0} (o p : Option (Begun F)) (received rest text : List ℕ) (xs : List Exchange) → o ≡ None → p ≡ None → asked_early o received ++ xs ≡ asked (item xs text ∷ []) ++ asked_early p rest
+alone_asked {F} o p received rest text xs none gone =
+    ap (λ (q : Option (Begun F)). asked_early q received ++ xs) none ∙ sym (append-nil xs) ∙ sym (append-nil (xs ++ [])) ∙ ap (λ (q : Option (Begun F)). (xs ++ []) ++ asked_early q rest) (sym gone)
+
+behind_asked : {F : Type 0} (o p : Option (Begun F)) (b : Begun F) (received rest text : List ℕ) (head : RequestText) (xs : List Exchange) → o ≡ Some b → p ≡ None → head_in (take b.head received) b.parts ≡ head
+    → asked_early o received ++ xs ≡ asked (item (inquiry b.parts.wanted.expects head ++ xs) text ∷ []) ++ asked_early p rest
+behind_asked {F} o p b received rest text head xs some gone same =
+    let all : List Exchange = inquiry b.parts.wanted.expects head ++ xs in
+    ap (λ (q : Option (Begun F)). asked_early q received ++ xs) some ∙ ap (λ (h : RequestText). inquiry b.parts.wanted.expects h ++ xs) same ∙ sym (append-nil all) ∙ sym (append-nil (all ++ []))
+        ∙ ap (λ (q : Option (Begun F)). (all ++ []) ++ asked_early q rest) (sym gone)
+
 -- ---- heads
+
+-- a head as its parts have it is the request of the head
+pub same_head : (head : List ℕ) (parts : HeadParts) (are : AreParts head parts) → head_in head parts ≡ head_text are.0
+same_head head parts are =
+    ap (λ (l : List ℕ). record { method = l; target = span_bytes head parts.target; token = option_map (span_bytes head) parts.token; body = [] }) are.3
+        ∙ ap (λ (l : List ℕ). record { method = are.0.method; target = l; token = option_map (span_bytes head) parts.token; body = [] }) are.4
+        ∙ ap (λ (o : Option (List ℕ)). record { method = are.0.method; target = are.0.target; token = o; body = [] }) are.5
 
 pub front_of : (a b : List ℕ) (n : ℕ) → length a ≡ n → take n (a ++ b) ≡ a
 front_of a b n e = subst (λ (m : ℕ). take m (a ++ b) ≡ a) e (take-append_seam a b)
@@ -144,18 +164,44 @@ module _ {D F B : Type 0} (m : Meaning D) (r : Reading F B) where
         items = item [] text ∷ [];
         rest = new.received.items;
         more = text;
+        exchanges = [];
         run = refl;
+        asked_are = alone_asked old.begun new.begun old.received.items new.received.items text [] none a.begun;
         taken = (left new.count new.received.items new.closed, refused why unclosed (subst (λ (l : List ℕ). HasRefusal l why) (sym s.1.is) has) refl a.count a.closed, refl);
         has = closed_has new new.received.items a.closed;
         out = a.out;
         text = alone old.begun new.begun [] text none a.begun;
       }
 
+  -- a head alone is answered
+  pub unwanted_moves : (old new : Connection F B) (d e f : D) (len : ℕ) (parts : HeadParts) (reply : ReplyText) (head : ℕ) → IsRead old.received.items len parts → parts.wanted.expects ≡ true → old.begun ≡ None → old.closed ≡ false
+      → m.admits d (head_in (take len old.received.items) parts) false e → m.steps e (head_in (take len old.received.items) parts) reply f
+      → IsAnswered head (response parts.wanted.bare true reply) true old new → Moves m r old new d f
+  unwanted_moves old new d e f len parts reply head read expects none unclosed admits steps a unread was =
+      let s = sought old unread unclosed none was in
+      let front : List ℕ = take len old.received.items in
+      let are = read.parts_are in
+      let same = same_head front parts are in
+      let text : List ℕ = response parts.wanted.bare true reply in
+      let xs : List Exchange = wants (head_text are.0) false ∷ replies (head_text are.0) reply ∷ [] in
+      let there = subst (λ (l : List ℕ). HasHead l len are.0 parts.wanted) (take-append-drop len old.received.items ∙ sym s.1.is) (has_head old.received.items (drop len old.received.items) len parts read) in record {
+        items = item xs text ∷ [];
+        rest = new.received.items;
+        more = text;
+        exchanges = xs;
+        run = (e, subst (λ (h : RequestText). m.admits d h false e) same admits, (f, subst (λ (h : RequestText). m.steps e h reply f) same steps, refl));
+        asked_are = alone_asked old.begun new.begun old.received.items new.received.items text xs none a.begun;
+        taken = (left new.count new.received.items new.closed, unwanted len are.0 parts.wanted reply unclosed there expects refl a.count a.closed, refl);
+        has = closed_has new new.received.items a.closed;
+        out = a.out;
+        text = alone old.begun new.begun xs text none a.begun;
+      }
+
   -- a message is begun
-  pub begun_moves : (old new : Connection F B) (d : D) (b : Begun F) → IsRead old.received.items b.head b.parts → IsFound r m.uses (take b.head old.received.items) b.parts b.found (is_some new.body) → b.left ≡ b.parts.wanted.body → old.begun ≡ None
+  pub begun_moves : (old new : Connection F B) (d e : D) (b : Begun F) → IsRead old.received.items b.head b.parts → IsFound r m.uses (take b.head old.received.items) b.parts b.found (is_some new.body) → b.left ≡ b.parts.wanted.body → old.begun ≡ None
       → old.closed ≡ false → new.received.items ≡ old.received.items → new.begun ≡ Some b → new.count ≡ old.count → new.closed ≡ old.closed → new.has_more ≡ true → HasBody r b.found new.body []
-      → new.out.bytes ≡ old.out.bytes ++ interim b.parts.wanted.expects → Moves m r old new d d
-  begun_moves old new d b read found all none unclosed same begun count closed more body out unread was =
+      → new.out.bytes ≡ old.out.bytes ++ interim b.parts.wanted.expects → IsRun m d (inquiry b.parts.wanted.expects (head_in (take b.head old.received.items) b.parts)) e → Moves m r old new d e
+  begun_moves old new d e b read found all none unclosed same begun count closed more body out run unread was =
       let s = sought old unread unclosed none was in
       let parts : List ℕ = take b.head old.received.items ++ ([] ++ drop b.head old.received.items) in
       let has : IsBegunAs r m.uses b old.received.items new.body new.has_more unread = record {
@@ -171,7 +217,10 @@ module _ {D F B : Type 0} (m : Meaning D) (r : Reading F B) where
         items = [];
         rest = unread;
         more = text;
-        run = refl;
+        exchanges = inquiry b.parts.wanted.expects (head_in (take b.head old.received.items) b.parts);
+        run = run;
+        asked_are = ap (λ (o : Option (Begun F)). asked_early o old.received.items ++ inquiry b.parts.wanted.expects (head_in (take b.head old.received.items) b.parts)) none
+            ∙ ap (λ (l : List ℕ). asked_early (Some b) l) (sym same) ∙ ap (λ (o : Option (Begun F)). asked_early o new.received.items) (sym begun);
         taken = ap (λ (n : ℕ). left n unread old.closed) (sym count) ∙ ap (λ (t : Bool). left new.count unread t) (sym closed);
         has = λ still. (
           subst (λ (n : ℕ). n < message_limit) (sym count) s.0,
@@ -195,7 +244,9 @@ module _ {D F B : Type 0} (m : Meaning D) (r : Reading F B) where
         items = [];
         rest = unread;
         more = [];
+        exchanges = [];
         run = refl;
+        asked_are = append-nil (asked_early old.begun old.received.items) ∙ ap (λ (l : List ℕ). asked_early old.begun l) (sym same) ∙ ap (λ (o : Option (Begun F)). asked_early o new.received.items) (sym begun);
         taken = ap (λ (n : ℕ). left n unread old.closed) (sym count) ∙ ap (λ (t : Bool). left new.count unread t) (sym closed);
         has = λ still. (
           subst (λ (n : ℕ). n < message_limit) (sym count) s.0,
@@ -208,7 +259,7 @@ module _ {D F B : Type 0} (m : Meaning D) (r : Reading F B) where
 
   -- nothing is done
   pub still_moves : (c : Connection F B) (d : D) → Moves m r c c d d
-  still_moves c d unread was = record { items = []; rest = unread; more = []; run = refl; taken = refl; has = was; out = sym (append-nil c.out.bytes); text = append-nil (pending c.begun) }
+  still_moves c d unread was = record { items = []; rest = unread; more = []; exchanges = []; run = refl; asked_are = append-nil (asked_early c.begun c.received.items); taken = refl; has = was; out = sym (append-nil c.out.bytes); text = append-nil (pending c.begun) }
 
   -- one step behind another
   pub moves_on : (old mid new : Connection F B) (d e f : D) → Moves m r old mid d e → Moves m r mid new e f → Moves m r old new d f
@@ -218,7 +269,13 @@ module _ {D F B : Type 0} (m : Meaning D) (r : Reading F B) where
         items = x.items ++ y.items;
         rest = y.rest;
         more = x.more ++ y.more;
-        run = subst (λ (xs : List Exchange). IsRun m d xs f) (sym (flat_map-append (λ (i : Item). i.asked) x.items y.items)) (folds_on (does m) d e f (asked x.items) (asked y.items) x.run y.run);
+        exchanges = x.exchanges ++ y.exchanges;
+        run = folds_on (does m) d e f x.exchanges y.exchanges x.run y.run;
+        asked_are = let before : List Exchange = asked_early old.begun old.received.items in
+            let between : List Exchange = asked_early mid.begun mid.received.items in
+            let behind_all : List Exchange = asked_early new.begun new.received.items in
+            sym (append_assoc before x.exchanges y.exchanges) ∙ ap (λ (l : List Exchange). l ++ y.exchanges) x.asked_are ∙ append_assoc (asked x.items) between y.exchanges ∙ ap (λ (l : List Exchange). asked x.items ++ l) y.asked_are
+                ∙ sym (append_assoc (asked x.items) (asked y.items) behind_all) ∙ ap (λ (l : List Exchange). l ++ behind_all) (sym (flat_map-append (λ (i : Item). i.asked) x.items y.items));
         taken = folds_on (Takes m) (left old.count unread old.closed) (left mid.count x.rest mid.closed) (left new.count y.rest new.closed) x.items y.items x.taken y.taken;
         has = y.has;
         out = y.out ∙ ap (λ (l : List ℕ). l ++ y.more) x.out ∙ append_assoc old.out.bytes x.more y.more;
@@ -261,12 +318,22 @@ module _ {D F B : Type 0} (m : Meaning D) (r : Reading F B) where
   same_pending b now old new some p =
       ap (λ (o : Option (Begun F)). pending o) some ∙ ap (λ (n : Begun F). interim n.parts.wanted.expects) (sym p.now_is) ∙ ap (λ (o : Option (Begun F)). pending o) (sym p.begun)
 
+  same_asked : (b now : Begun F) (old new : Connection F B) → old.begun ≡ Some b → b.head ≤ length old.received.items → HasPassed r b old new now → asked_early old.begun old.received.items ≡ asked_early new.begun new.received.items
+  same_asked b now old new some within p =
+      let front : List ℕ = take b.head old.received.items in
+      let kept : take b.head (front ++ p.rest) ≡ front = front_of front p.rest b.head (length-take-le b.head old.received.items within) in
+      let whole : List ℕ = front ++ p.rest in
+      ap (λ (o : Option (Begun F)). asked_early o old.received.items) some ∙ ap (λ (l : List ℕ). inquiry b.parts.wanted.expects (head_in l b.parts)) (sym kept) ∙ ap (λ (n : Begun F). asked_early (Some n) whole) (sym p.now_is)
+          ∙ ap (λ (l : List ℕ). asked_early (Some now) l) (sym p.received) ∙ ap (λ (o : Option (Begun F)). asked_early o new.received.items) (sym p.begun)
+
   pub passed_moves : (b now : Begun F) (old new : Connection F B) (d : D) → old.begun ≡ Some b → old.closed ≡ false → HasPassed r b old new now → Moves m r old new d d
   passed_moves b now old new d some unclosed p unread was = record {
     items = [];
     rest = unread;
     more = [];
+    exchanges = [];
     run = refl;
+    asked_are = append-nil (asked_early old.begun old.received.items) ∙ same_asked b now old new some (within old unread b unclosed some was).1.read.within p;
     taken = ap (λ (n : ℕ). left n unread old.closed) (sym p.count) ∙ ap (λ (t : Bool). left new.count unread t) (sym p.closed);
     has = passed_has b now old new unread some unclosed p was;
     out = ap (λ (o : Put). o.bytes) p.out ∙ sym (append-nil old.out.bytes);
@@ -287,10 +354,13 @@ module _ {D F B : Type 0} (m : Meaning D) (r : Reading F B) where
       let are = h.read.parts_are in
       let there = subst (λ (l : List ℕ). HasHead l b.head are.0 b.parts.wanted) (sym h.is) (has_head old.received.items (h.came ++ drop b.head old.received.items) b.head b.parts h.read) in
       let uses : m.uses are.0.method are.0.target true = subst (λ (t : Bool). m.uses are.0.method are.0.target t) used (uses_of b (take b.head old.received.items) (is_some old.body) are h.found) in record {
-        items = item [] (interim b.parts.wanted.expects ++ text) ∷ [];
+        items = item (inquiry b.parts.wanted.expects (head_text are.0)) (interim b.parts.wanted.expects ++ text) ∷ [];
         rest = new.received.items;
         more = text;
+        exchanges = [];
         run = refl;
+        asked_are = behind_asked old.begun new.begun b old.received.items new.received.items text (head_text are.0) [] some a.begun (same_head (take b.head old.received.items) b.parts are)
+            ∙ ap (λ (l : List Exchange). asked (item l text ∷ []) ++ asked_early new.begun new.received.items) (append-nil (inquiry b.parts.wanted.expects (head_text are.0)));
         taken = (
           left new.count new.received.items new.closed,
           unroomed b.head are.0 b.parts.wanted unclosed there (body h.came h.has h.sized) uses refl (a.count ∙ ap (λ (n : ℕ). n + 1) count) a.closed,
@@ -298,7 +368,7 @@ module _ {D F B : Type 0} (m : Meaning D) (r : Reading F B) where
         );
         has = closed_has new new.received.items a.closed;
         out = a.out ∙ ap (λ (o : Put). o.bytes ++ text) out;
-        text = behind old.begun new.begun b [] text some a.begun;
+        text = behind old.begun new.begun b (inquiry b.parts.wanted.expects (head_text are.0)) text some a.begun;
       }
 
   -- ---- answers
@@ -370,23 +440,28 @@ module _ {D F B : Type 0} (m : Meaning D) (r : Reading F B) where
   answered_moves b old mid new d e method target token reply closes some unclosed whole em et ek steps closes_is same out count a unread was =
       let h = within old unread b unclosed some was in
       let text : List ℕ = response b.parts.wanted.bare closes reply in
-      let x : Exchange = record { request = request method target token (used (is_some old.body) h.1.came); reply = reply } in
+      let asks : RequestText = request method target token (used (is_some old.body) h.1.came) in
+      let front : List ℕ = take b.head old.received.items in
+      let head : head_in front b.parts ≡ head_of asks = sym (same_request method (span_bytes front b.parts.method) target (span_bytes front b.parts.target) [] [] token (option_map (span_bytes front) b.parts.token) em et ek refl) in
+      let xs : List Exchange = inquiry b.parts.wanted.expects (head_of asks) ++ replies asks reply ∷ [] in
       let rest : new.received.items ≡ drop b.head old.received.items = a.received ∙ ap (drop b.head) same in
       let counted : new.count ≡ old.count + 1 = a.count ∙ ap (λ (n : ℕ). n + 1) count in
-      let message = subst (λ (l : List ℕ). HasMessage m unread x.request b.parts.wanted l) (sym rest) (has_message b old unread method target token whole h.1 em et ek) in
+      let message = subst (λ (l : List ℕ). HasMessage m unread asks b.parts.wanted l) (sym rest) (has_message b old unread method target token whole h.1 em et ek) in
       let closed : new.closed ≡ (b.parts.wanted.closes || new.count == message_limit) = a.closed ∙ closes_is ∙ ap (λ (n : ℕ). b.parts.wanted.closes || n == 65536) (sym counted) in record {
-        items = item (x ∷ []) (interim b.parts.wanted.expects ++ text) ∷ [];
+        items = item xs (interim b.parts.wanted.expects ++ text) ∷ [];
         rest = new.received.items;
         more = text;
+        exchanges = replies asks reply ∷ [];
         run = (e, steps h.1.came h.1.has, refl);
+        asked_are = behind_asked old.begun new.begun b old.received.items new.received.items text (head_of asks) (replies asks reply ∷ []) some a.begun head;
         taken = (
           left new.count new.received.items new.closed,
-          answered x b.parts.wanted unclosed message (ap (λ (t : Bool). item (x ∷ []) (interim b.parts.wanted.expects ++ response b.parts.wanted.bare t reply)) (sym a.closed)) counted closed,
+          answered asks reply b.parts.wanted unclosed message (ap (λ (t : Bool). item xs (interim b.parts.wanted.expects ++ response b.parts.wanted.bare t reply)) (sym a.closed)) counted closed,
           refl,
         );
         has = fresh_has new closes (λ keeps. subst (λ (n : ℕ). n < 65536) (sym counted) (few_left b.parts.wanted.closes old.count h.0 (sym closes_is ∙ keeps))) a.begun a.closed a.seen a.scanned a.more;
         out = a.out ∙ ap (λ (o : Put). o.bytes ++ text) out;
-        text = behind old.begun new.begun b (x ∷ []) text some a.begun;
+        text = behind old.begun new.begun b xs text some a.begun;
       }
 
 -- a connection whose message is begun

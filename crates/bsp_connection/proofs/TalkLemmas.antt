@@ -11,12 +11,12 @@ use Rattle.bsp_heads.specs.Scan.{HasScanned, head_len}
 use Rattle.bsp_heads.specs.declared.fault.Refused.{Refused}
 use Rattle.bsp_heads.specs.declared.parts.Wanted.{Wanted}
 use Rattle.bsp_heads.specs.declared.scan.Scan.{Scan}
-use Rattle.bsp_connection.specs.Exchanges.{Exchange, Meaning, Reading, RequestText, interim, used}
+use Rattle.bsp_connection.specs.Exchanges.{Exchange, Meaning, Reading, RequestText, inquiry, interim, used}
 use Rattle.bsp_connection.specs.Conversations.{HasHead, HasMessage, HasRefusal, IsBegun, IsRun, message_limit}
-use Rattle.bsp_connection.proofs.StepLemmas.{folds_on, has_head, read_in}
-use Rattle.bsp_connection.specs.Begun.{HasBegun, HasUnread, IsBegunAs, IsFound, IsSought, pending}
+use Rattle.bsp_connection.proofs.StepLemmas.{folds_on, has_head, read_in, same_head}
+use Rattle.bsp_connection.specs.Begun.{HasBegun, HasUnread, IsBegunAs, IsFound, asked_early, head_in, IsSought, pending}
 use Rattle.bsp_connection.specs.Messages.{AreTaken, Item, Left, Takes, asked, left, texts}
-use Rattle.bsp_connection.specs.Messages.Takes.{answered, refused, unroomed}
+use Rattle.bsp_connection.specs.Messages.Takes.{answered, refused, unroomed, unwanted}
 use Rattle.bsp_connection.specs.Outputs.{Put}
 use Rattle.bsp_connection.specs.Talks.{HasTaken, IsFresh, IsLike, IsSame, IsSent, Moves, Rests, Talks}
 use Rattle.bsp_connection.specs.declared.begun.Begun.{Begun}
@@ -66,7 +66,8 @@ module _ {D : Type 0} (m : Meaning D) where
   takes_more more p i q (refused why unclosed has is count closed) = refused why unclosed (refusal_more p.unread more why has) is count closed
   takes_more more p i q (unroomed len h wanted unclosed has some uses is count closed) =
       unroomed len h wanted unclosed (head_more p.unread more len h wanted (head_len-le p.unread len has.ends) has) some uses is count closed
-  takes_more more p i q (answered x wanted unclosed has is count closed) = answered x wanted unclosed (message_more p.unread more q.unread x.request wanted has) is count closed
+  takes_more more p i q (unwanted len h wanted reply unclosed has expects is count closed) = unwanted len h wanted reply unclosed (head_more p.unread more len h wanted (head_len-le p.unread len has.ends) has) expects is count closed
+  takes_more more p i q (answered request reply wanted unclosed has is count closed) = answered request reply wanted unclosed (message_more p.unread more q.unread request wanted has) is count closed
 
   pub taken_more : (more : List ℕ) (p : Left) (items : List Item) (q : Left) → AreTaken m p items q → AreTaken m (longer more p) items (longer more q)
   taken_more more p [] q e = ap (longer more) e
@@ -104,6 +105,13 @@ module _ {F B : Type 0} (r : Reading F B) (uses : List ℕ → List ℕ → Bool
   has_begun_more None received piece scan seen body before unread h = sought_more received piece scan seen before unread h
   has_begun_more (Some b) received piece scan seen body before unread h = begun_more b received piece body before unread h
 
+  -- what was asked for the message that is begun
+  early_more : (o : Option (Begun F)) (received piece : List ℕ) (scan : Scan) (seen : ℕ) (body : Option B) (before : Bool) (unread : List ℕ) → HasBegun r uses o received scan seen body before unread
+      → asked_early o received ≡ asked_early o (received ++ piece)
+  early_more None received piece scan seen body before unread h = refl
+  early_more (Some b) received piece scan seen body before unread h =
+      ap (λ (l : List ℕ). inquiry b.parts.wanted.expects (head_in l b.parts)) (sym (take-append-le b.head received piece h.read.within))
+
   -- the same of a connection like another
   like_has : (old new : Connection F B) (received : List ℕ) (more : Bool) (unread : List ℕ) → IsLike old new → new.received.items ≡ received → new.has_more ≡ more
       → (old.closed ≡ false → (old.count < message_limit) × HasBegun r uses old.begun received old.scan old.seen old.body more unread) → HasUnread r uses new unread
@@ -134,7 +142,7 @@ module _ {D F B : Type 0} (m : Meaning D) (r : Reading F B) where
         items = [];
         rest = [];
         cut = ap (λ (n : ℕ). left n [] false) (sym f.count) ∙ ap (λ (t : Bool). left c.count [] t) (sym f.unclosed);
-        asked_are = refl;
+        asked_are = ap (λ (o : Option (Begun F)). asked_early o c.received.items) (sym f.begun);
         has = λ still. (
           subst (λ (n : ℕ). n < message_limit) (sym f.count) (omega arith),
           subst (λ (o : Option (Begun F)). HasBegun r m.uses o c.received.items c.scan c.seen c.body c.has_more []) (sym f.begun)
@@ -147,12 +155,17 @@ module _ {D F B : Type 0} (m : Meaning D) (r : Reading F B) where
   same_cut old new got rest items l cut =
       subst (λ (n : ℕ). AreTaken m (left 0 got false) items (left n rest new.closed)) (sym l.count) (subst (λ (t : Bool). AreTaken m (left 0 got false) items (left old.count rest t)) (sym l.closed) cut)
 
+  early_same : (old new : Connection F B) (items : List Item) (xs : List Exchange) → IsLike old new → new.received.items ≡ old.received.items → xs ≡ asked items ++ asked_early old.begun old.received.items
+      → xs ≡ asked items ++ asked_early new.begun new.received.items
+  early_same old new items xs l same is =
+      is ∙ ap (λ (o : Option (Begun F)). asked items ++ asked_early o old.received.items) (sym l.begun) ∙ ap (λ (x : List ℕ). asked items ++ asked_early new.begun x) (sym same)
+
   pub talk_same : (old new : Connection F B) (got sent : List ℕ) (xs : List Exchange) → IsSame old new → Talks m r got xs sent old → Talks m r got xs sent new
   talk_same old new got sent xs s t = record {
     items = t.items;
     rest = t.rest;
     cut = same_cut old new got t.rest t.items s.2 t.cut;
-    asked_are = t.asked_are;
+    asked_are = early_same old new t.items xs s.2 s.0 t.asked_are;
     has = like_has r m.uses old new old.received.items old.has_more t.rest s.2 s.0 s.1 t.has;
     put = ap (λ (o : Put). sent ++ o.bytes) s.3 ∙ t.put ∙ ap (λ (o : Option (Begun F)). texts t.items ++ pending o) (sym s.2.begun);
   }
@@ -162,7 +175,7 @@ module _ {D F B : Type 0} (m : Meaning D) (r : Reading F B) where
     items = t.items;
     rest = t.rest;
     cut = same_cut old new got t.rest t.items s.3 t.cut;
-    asked_are = t.asked_are;
+    asked_are = early_same old new t.items xs s.3 s.1 t.asked_are;
     has = like_has r m.uses old new old.received.items old.has_more t.rest s.3 s.1 s.2 t.has;
     put = append_assoc sent bytes new.out.bytes ∙ ap (λ (l : List ℕ). sent ++ l) (sym s.0) ∙ t.put ∙ ap (λ (o : Option (Begun F)). texts t.items ++ pending o) (sym s.3.begun);
   }
@@ -184,7 +197,8 @@ module _ {D F B : Type 0} (m : Meaning D) (r : Reading F B) where
     items = t.items;
     rest = t.rest ++ piece;
     cut = same_cut old new (got ++ piece) (t.rest ++ piece) t.items came.2 (taken_more m piece (left 0 got false) t.items (left old.count t.rest old.closed) t.cut);
-    asked_are = t.asked_are;
+    asked_are = t.asked_are ∙ ap (λ (l : List Exchange). asked t.items ++ l) (early_more r m.uses old.begun old.received.items piece old.scan old.seen old.body old.has_more t.rest (t.has came.4).1)
+        ∙ ap (λ (o : Option (Begun F)). asked t.items ++ asked_early o (old.received.items ++ piece)) (sym came.2.begun) ∙ ap (λ (x : List ℕ). asked t.items ++ asked_early new.begun x) (sym came.0);
     has = like_has r m.uses old new (old.received.items ++ piece) true (t.rest ++ piece) came.2 came.0 came.1 (λ still. let k = t.has still in (k.0, has_begun_more r m.uses old.begun old.received.items piece old.scan old.seen old.body old.has_more t.rest k.1));
     put = ap (λ (o : Put). sent ++ o.bytes) came.3 ∙ t.put ∙ ap (λ (o : Option (Begun F)). texts t.items ++ pending o) (sym came.2.begun);
   }
@@ -192,13 +206,16 @@ module _ {D F B : Type 0} (m : Meaning D) (r : Reading F B) where
   pub talk_moved : (old new : Connection F B) (d e : D) (got sent : List ℕ) (xs : List Exchange) → Moves m r old new d e → Talks m r got xs sent old → (ys : List Exchange) × IsRun m d ys e × Talks m r got (xs ++ ys) sent new
   talk_moved old new d e got sent xs moves t =
       let x = moves t.rest t.has in (
-        asked x.items,
+        x.exchanges,
         x.run,
         record {
           items = t.items ++ x.items;
           rest = x.rest;
           cut = folds_on (Takes m) (left 0 got false) (left old.count t.rest old.closed) (left new.count x.rest new.closed) t.items x.items t.cut x.taken;
-          asked_are = ap (λ (l : List Exchange). l ++ asked x.items) t.asked_are ∙ sym (flat_map-append (λ (i : Item). i.asked) t.items x.items);
+          asked_are = let before : List Exchange = asked_early old.begun old.received.items in
+              let after : List Exchange = asked_early new.begun new.received.items in
+              ap (λ (l : List Exchange). l ++ x.exchanges) t.asked_are ∙ append_assoc (asked t.items) before x.exchanges ∙ ap (λ (l : List Exchange). asked t.items ++ l) x.asked_are ∙ sym (append_assoc (asked t.items) (asked x.items) after)
+                  ∙ ap (λ (l : List Exchange). l ++ after) (sym (flat_map-append (λ (i : Item). i.asked) t.items x.items));
           has = x.has;
           put = ap (λ (l : List ℕ). sent ++ l) x.out ∙ sym (append_assoc sent old.out.bytes x.more) ∙ ap (λ (l : List ℕ). l ++ x.more) t.put ∙ append_assoc (texts t.items) (pending old.begun) x.more
               ∙ ap (λ (l : List ℕ). texts t.items ++ l) x.text ∙ sym (append_assoc (texts t.items) (texts x.items) (pending new.begun)) ∙ ap (λ (l : List ℕ). l ++ pending new.begun) (sym (flat_map-append (λ (i : Item). i.text) t.items x.items));
@@ -207,7 +224,7 @@ module _ {D F B : Type 0} (m : Meaning D) (r : Reading F B) where
 
   -- ---- at rest
 
-  pub begun_rest : (b : Begun F) (received : List ℕ) (body : Option B) (rest : List ℕ) → IsBegunAs r m.uses b received body false rest → IsBegun rest (interim b.parts.wanted.expects)
+  pub begun_rest : (b : Begun F) (received : List ℕ) (body : Option B) (rest : List ℕ) → IsBegunAs r m.uses b received body false rest → IsBegun rest (interim b.parts.wanted.expects) (asked_early (Some b) received)
   begun_rest b received body rest h =
       let w = h.waits refl in
       let front : List ℕ = take b.head received in
@@ -216,13 +233,13 @@ module _ {D F B : Type 0} (m : Meaning D) (r : Reading F B) where
       let long : length rest ≡ b.head + length h.came
       = ap (λ (l : List ℕ). length l) (h.is ∙ ap (λ (l : List ℕ). front ++ (h.came ++ l)) none ∙ ap (λ (l : List ℕ). front ++ l) (append-nil h.came)) ∙ length-append front h.came ∙ ap (λ (n : ℕ). n + length h.came) size in
       let less = w.0 in
-      inr (b.head, h.read.parts_are.0, b.parts.wanted, subst (λ (l : List ℕ). HasHead l b.head h.read.parts_are.0 b.parts.wanted) (sym h.is) (has_head received (h.came ++ drop b.head received) b.head b.parts h.read), omega (arith, long, h.sized, less), refl)
+      inr (b.head, h.read.parts_are.0, b.parts.wanted, subst (λ (l : List ℕ). HasHead l b.head h.read.parts_are.0 b.parts.wanted) (sym h.is) (has_head received (h.came ++ drop b.head received) b.head b.parts h.read), omega (arith, long, h.sized, less), refl, ap (inquiry b.parts.wanted.expects) (same_head front b.parts h.read.parts_are))
 
-  pub open_rest : (o : Option (Begun F)) (received : List ℕ) (scan : Scan) (seen : ℕ) (body : Option B) (rest : List ℕ) → HasBegun r m.uses o received scan seen body false rest → (rest ≡ []) ⊎ IsBegun rest (pending o)
+  pub open_rest : (o : Option (Begun F)) (received : List ℕ) (scan : Scan) (seen : ℕ) (body : Option B) (rest : List ℕ) → HasBegun r m.uses o received scan seen body false rest → (rest ≡ []) ⊎ IsBegun rest (pending o) (asked_early o received)
   open_rest None [] scan seen body rest s = inl s.is
   open_rest None (b ∷ received) scan seen body rest s =
       let w = s.waits refl in
-      inr (inl (λ none. some_bytes b received (sym s.is ∙ none), subst (λ (l : List ℕ). length l < 16384) (sym s.is) w.1, ap head_len s.is ∙ w.0, refl))
+      inr (inl (λ none. some_bytes b received (sym s.is ∙ none), subst (λ (l : List ℕ). length l < 16384) (sym s.is) w.1, ap head_len s.is ∙ w.0, refl, refl))
   open_rest (Some b) received scan seen body rest h = inr (begun_rest b received body rest h)
 
   pub talk_rests : (c : Connection F B) → c.out.bytes ≡ [] → (c.closed ≡ false → c.has_more ≡ false) → Rests m r c

@@ -1,11 +1,12 @@
 -- What a connection has of what came and is in no message yet.
 use Rattle.std.specs.Prelude.{◌≡◌, ◌≢◌, ℕ, ◌+◌, ◌<◌, ◌≤◌, Bool, false, List, [], ◌++◌, length, take, drop, Option, Some, None, IfSome, is_some}
+use Rattle.std.specs.Option.{option_map}
 use Rattle.httparse.specs.Spans.{IsWithin, span_bytes}
 use Rattle.bsp_heads.specs.Head.{AreParts, head_limit}
 use Rattle.bsp_heads.specs.Scan.{HasScanned, head_len}
 use Rattle.bsp_heads.specs.declared.parts.HeadParts.{HeadParts}
 use Rattle.bsp_heads.specs.declared.scan.Scan.{Scan}
-use Rattle.bsp_connection.specs.Exchanges.{Reading, interim}
+use Rattle.bsp_connection.specs.Exchanges.{Exchange, Reading, RequestText, inquiry, interim}
 use Rattle.bsp_connection.specs.Conversations.{message_limit}
 use Rattle.bsp_connection.specs.declared.begun.Begun.{Begun}
 use Rattle.bsp_connection.specs.declared.connection.Connection.{Connection}
@@ -60,6 +61,15 @@ module _ {F B : Type 0} (r : Reading F B) (uses : List ℕ → List ℕ → Bool
 abbrev pub pending : {F : Type 0} → Option (Begun F) → List ℕ
 pending None = []
 pending (Some b) = interim b.parts.wanted.expects
+
+-- a head as its parts have it
+abbrev pub head_in : List ℕ → HeadParts → RequestText
+head_in head parts = record { method = span_bytes head parts.method; target = span_bytes head parts.target; token = option_map (span_bytes head) parts.token; body = [] }
+
+-- what the desk was asked for a message that is begun
+abbrev pub asked_early : {F : Type 0} → Option (Begun F) → List ℕ → List Exchange
+asked_early None received = []
+asked_early (Some b) received = inquiry b.parts.wanted.expects (head_in (take b.head received) b.parts)
 
 -- the message that is begun and not whole, by how many were answered before it
 abbrev pub BegunAt : {F B : Type 0} → Connection F B → Option ℕ → Type 0

@@ -8,7 +8,7 @@ use Rattle.bsp_heads.specs.Scan.{head_len}
 use Rattle.bsp_heads.specs.declared.fault.HeadFault.TheVariants.{HeadTooLarge}
 use Rattle.bsp_heads.specs.declared.fault.Refused.{Refused}
 use Rattle.bsp_heads.specs.declared.parts.Wanted.{Wanted}
-use Rattle.bsp_connection.specs.Exchanges.{Exchange, Meaning, RequestText, does, interim, used}
+use Rattle.bsp_connection.specs.Exchanges.{Exchange, Meaning, RequestText, does, inquiry, interim, used}
 
 abbrev pub message_limit : ℕ
 message_limit = 65536
@@ -28,11 +28,15 @@ pub record HasRefusal (unread : List ℕ) (refused : Refused) : Type 0 where
       ((refused ≡ record { fault = HeadTooLarge; bare = false }) × (head_limit ≤ length unread) × (head_len (take head_limit unread) ≡ None))
       ⊎ ((len : ℕ) × (head_len unread ≡ Some len) × (len ≤ head_limit) × Refuses (take len unread) refused)
 
--- a message is begun, the input does not have all of it, and this text is written for it
-abbrev pub IsBegun : List ℕ → List ℕ → Type 0
-IsBegun unread text =
-    ((unread ≢ []) × (length unread < head_limit) × (head_len unread ≡ None) × (text ≡ []))
-    ⊎ ((len : ℕ) × (h : RequestHead) × (wanted : Wanted) × HasHead unread len h wanted × (length unread < len + wanted.body) × (text ≡ interim wanted.expects))
+-- the request of a head, before its body comes
+abbrev pub head_text : RequestHead → RequestText
+head_text h = record { method = h.method; target = h.target; token = token_of (headers_of h); body = [] }
+
+-- a message is begun, the input does not have all of it, and for it this text is written and the desk was asked this
+abbrev pub IsBegun : List ℕ → List ℕ → List Exchange → Type 0
+IsBegun unread text early =
+    ((unread ≢ []) × (length unread < head_limit) × (head_len unread ≡ None) × (text ≡ []) × (early ≡ []))
+    ⊎ ((len : ℕ) × (h : RequestHead) × (wanted : Wanted) × HasHead unread len h wanted × (length unread < len + wanted.body) × (text ≡ interim wanted.expects) × (early ≡ inquiry wanted.expects (head_text h)))
 
 module _ {D : Type 0} (m : Meaning D) where
   -- a whole message at the front of what is unread, and the rest behind it

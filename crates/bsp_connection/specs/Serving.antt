@@ -3,8 +3,8 @@ use Rattle.std.specs.Prelude.{◌≡◌, ◌≢◌, ◌⊎◌, ℕ, true, false,
 use Rattle.std.specs.Io.KnownBytes.{Appends, Keeps}
 use Rattle.httparse.specs.Grammar.{RequestHead}
 use Rattle.bsp_heads.specs.declared.parts.Wanted.{Wanted}
-use Rattle.bsp_connection.specs.Exchanges.{Exchange, Meaning, interim}
-use Rattle.bsp_connection.specs.Conversations.{HasHead, IsBegun, IsRun}
+use Rattle.bsp_connection.specs.Exchanges.{Exchange, Meaning, inquiry, interim}
+use Rattle.bsp_connection.specs.Conversations.{HasHead, IsBegun, IsRun, head_text}
 use Rattle.bsp_connection.specs.Messages.{AreTaken, Item, Left, asked, left, texts}
 use Rattle.bsp_connection.specs.Ends.{IsInputEnd}
 use Rattle.bsp_connection.specs.declared.end.End.{End}
@@ -13,39 +13,43 @@ use Rattle.bsp_connection.specs.declared.end.ServeFault.{ServeFault}
 use Rattle.bsp_connection.specs.declared.end.ServeFault.TheVariants.{Read, Write, Memory}
 use Rattle.bsp_connection.specs.declared.end.Served.{Served}
 
--- how an input ends after its messages, and the text that was put out for one that is begun
-abbrev pub EndsBy : Left → End → List ℕ → Type 0
-EndsBy p Clean text = (p.closed ≡ false) × (p.unread ≡ []) × (text ≡ [])
-EndsBy p Cut text = (p.closed ≡ false) × IsBegun p.unread text
-EndsBy p Closed text = (p.closed ≡ true) × (text ≡ [])
+-- how an input ends after its messages, and for one that is begun the text that was put out and what the desk was asked
+abbrev pub EndsBy : Left → End → List ℕ → List Exchange → Type 0
+EndsBy p Clean text early = (p.closed ≡ false) × (p.unread ≡ []) × (text ≡ []) × (early ≡ [])
+EndsBy p Cut text early = (p.closed ≡ false) × IsBegun p.unread text early
+EndsBy p Closed text early = (p.closed ≡ true) × (text ≡ []) × (early ≡ [])
 
--- no message is begun, or one whose head has this text
-abbrev pub MayHaveBegun : Left → List ℕ → Type 0
-MayHaveBegun p text = (text ≡ []) ⊎ ((p.closed ≡ false) × ((len : ℕ) × (h : RequestHead) × (wanted : Wanted) × HasHead p.unread len h wanted × (text ≡ interim wanted.expects)))
+-- no message is begun, or one for whose head there is this text and this exchange
+abbrev pub MayHaveBegun : Left → List ℕ → List Exchange → Type 0
+MayHaveBegun p text early =
+    ((text ≡ []) × (early ≡ []))
+    ⊎ ((p.closed ≡ false) × ((len : ℕ) × (h : RequestHead) × (wanted : Wanted) × HasHead p.unread len h wanted × (text ≡ interim wanted.expects) × (early ≡ inquiry wanted.expects (head_text h))))
 
 module _ {D : Type 0} (m : Meaning D) where
-  -- messages at the front of an input were answered, and the text of one that is begun is the end of the output
-  pub record Answered (input : List ℕ) (old : D) (exchanges : List Exchange) (output : List ℕ) (new : D) (last : Left) (text : List ℕ) : Type 0 where
+  -- messages at the front of an input were answered, and what was put out and asked for one that is begun is the end
+  pub record Answered (input : List ℕ) (old : D) (exchanges : List Exchange) (output : List ℕ) (new : D) (last : Left) (text : List ℕ) (early : List Exchange) : Type 0 where
     pub items : List Item
     pub taken : AreTaken m (left 0 input false) items last
     pub run : IsRun m old exchanges new
-    pub asked_are : exchanges ≡ asked items
+    pub asked_are : exchanges ≡ asked items ++ early
     pub output_is : output ≡ texts items ++ text
 
   -- over the whole input: what the desk was asked and replied, the output, the desk in the end, how it ended and how many messages were answered
   pub record Conversation (input : List ℕ) (old : D) (exchanges : List Exchange) (output : List ℕ) (new : D) (end : End) (messages : ℕ) : Type 0 where
     pub last : Left
     pub text : List ℕ
-    pub answered : Answered input old exchanges output new last text
-    pub ends : EndsBy last end text
+    pub early : List Exchange
+    pub answered : Answered input old exchanges output new last text early
+    pub ends : EndsBy last end text early
     pub messages_are : messages ≡ last.count
 
   -- over a first part of it, as far as the output goes, which has a byte
   pub record Reaches (input : List ℕ) (old : D) (exchanges : List Exchange) (output : List ℕ) (new : D) : Type 0 where
     pub last : Left
     pub text : List ℕ
-    pub answered : Answered input old exchanges output new last text
-    pub may_have_begun : MayHaveBegun last text
+    pub early : List Exchange
+    pub answered : Answered input old exchanges output new last text early
+    pub may_have_begun : MayHaveBegun last text early
     pub some : output ≢ []
 
   -- what was read is got, and more is whatever comes behind it: what the desk was asked does not depend on more

@@ -3,7 +3,7 @@ use Rattle.std.specs.Prelude.{◌≡◌, ◌⊎◌, ℕ, ◌+◌, ◌-◌, ◌<�
 use Rattle.bsp_heads.specs.Scan.{HasScanned}
 use Rattle.bsp_connection.specs.Exchanges.{Exchange, Meaning, Reading}
 use Rattle.bsp_connection.specs.Conversations.{IsBegun, IsRun}
-use Rattle.bsp_connection.specs.Begun.{HasBody, HasUnread, pending}
+use Rattle.bsp_connection.specs.Begun.{HasBody, HasUnread, asked_early, pending}
 use Rattle.bsp_connection.specs.Messages.{AreTaken, Item, asked, left, texts}
 use Rattle.bsp_connection.specs.declared.begun.Begun.{Begun}
 use Rattle.bsp_connection.specs.declared.connection.Connection.{Connection}
@@ -14,7 +14,9 @@ module _ {D F B : Type 0} (m : Meaning D) (r : Reading F B) where
     pub items : List Item
     pub rest : List ℕ
     pub more : List ℕ
-    pub run : IsRun m d (asked items) e
+    pub exchanges : List Exchange
+    pub run : IsRun m d exchanges e
+    pub asked_are : asked_early old.begun old.received.items ++ exchanges ≡ asked items ++ asked_early new.begun new.received.items
     pub taken : AreTaken m (left old.count unread old.closed) items (left new.count rest new.closed)
     pub has : HasUnread r m.uses new rest
     pub out : new.out.bytes ≡ old.out.bytes ++ more
@@ -24,20 +26,20 @@ module _ {D F B : Type 0} (m : Meaning D) (r : Reading F B) where
   abbrev pub Moves : Connection F B → Connection F B → D → D → Type 0
   Moves old new d e = (unread : List ℕ) → HasUnread r m.uses old unread → IsMoved old new d e unread
 
-  -- all that came is cut into messages, the desk was asked those of them that ask for something, and what was sent and is to be sent is their texts, in order,
-  -- and the one that goes before the body of the message that is begun
+  -- all that came is cut into messages, the desk was asked what they ask for, and what was sent and is to be sent is their texts, in order,
+  -- and what goes before the body of the message that is begun
   pub record Talks (got : List ℕ) (xs : List Exchange) (sent : List ℕ) (c : Connection F B) : Type 0 where
     pub items : List Item
     pub rest : List ℕ
     pub cut : AreTaken m (left 0 got false) items (left c.count rest c.closed)
-    pub asked_are : xs ≡ asked items
+    pub asked_are : xs ≡ asked items ++ asked_early c.begun c.received.items
     pub has : HasUnread r m.uses c rest
     pub put : sent ++ c.out.bytes ≡ texts items ++ pending c.begun
 
   -- all is sent, and the connection is closed, or what came after its messages is the begin of one at the most
   pub record Rests (c : Connection F B) : Type 0 where
     pub sent : c.out.bytes ≡ []
-    pub whole : (rest : List ℕ) → HasUnread r m.uses c rest → (c.closed ≡ true) ⊎ ((rest ≡ []) ⊎ IsBegun rest (pending c.begun))
+    pub whole : (rest : List ℕ) → HasUnread r m.uses c rest → (c.closed ≡ true) ⊎ ((rest ≡ []) ⊎ IsBegun rest (pending c.begun) (asked_early c.begun c.received.items))
 
 -- ---- what the calls do, apart from answering
 
@@ -71,7 +73,7 @@ IsSame old new = (new.received.items ≡ old.received.items) × (new.has_more �
 abbrev pub HasTaken : {F B : Type 0} → Connection F B → List ℕ → Connection F B → Type 0
 HasTaken old piece new =
     ((old.closed ≡ true) × IsSame old new)
-    ⊎ ((new.received.items ≡ old.received.items ++ piece) × (new.has_more ≡ true) × IsLike old new × (new.out ≡ old.out))
+    ⊎ ((new.received.items ≡ old.received.items ++ piece) × (new.has_more ≡ true) × IsLike old new × (new.out ≡ old.out) × (old.closed ≡ false))
 
 -- these bytes were sent
 abbrev pub IsSent : {F B : Type 0} → Connection F B → List ℕ → Connection F B → Type 0

@@ -1,11 +1,11 @@
 //! Answering the messages of a connection.
 
 ghost use Rattle.std.specs.Prelude.{◌≡◌, ◌≤◌, ◌<◌, ◌+◌, ◌||◌, ◌==◌, ℕ, List, [], ◌++◌, length, take, drop, true, false, None, Some, IfOk, OnOk, OnErr, is_some, vec_capacity};
-ghost use Rattle.bsp_connection.specs.Exchanges.{answer_text, request_of, used};
-ghost use Rattle.bsp_connection.specs.Conversations.{HasRefusal};
-ghost use Rattle.bsp_heads.specs.Responses.{response};
+ghost use Rattle.bsp_connection.specs.Exchanges.{answer_text, inquiry, request_of, used};
+ghost use Rattle.bsp_connection.specs.Conversations.{HasRefusal, IsRun};
+ghost use Rattle.bsp_heads.specs.Responses.{ReplyText, response};
 ghost use Rattle.bsp_heads.specs.Scan.{head_len};
-ghost use Rattle.bsp_connection.specs.Begun.{HasBody, HasUnread, IsRead};
+ghost use Rattle.bsp_connection.specs.Begun.{HasBody, HasUnread, IsRead, asked_early, head_in};
 ghost use Rattle.bsp_connection.specs.Progress.{IsFurther, IsOn};
 ghost use Rattle.bsp_connection.specs.Talks.{HasPassed, IsAnswered, IsRefused, Moves};
 
@@ -143,6 +143,61 @@ fn refuse<D, S: Service<D>>(
     end_message(c, all, answer, refused.bare, true);
 }
 
+/// Asks the service whether the body of the message at the front is wanted.
+fn is_wanted<D, S: Service<D>>(
+    received: &[u8],
+    head: usize,
+    parts: &HeadParts,
+    service: &S,
+    desk: &mut D,
+) -> bool
+    requires { IsRead received.now head parts.now }
+    ensures { S.means.admits desk.old (head_in (take head received.now) parts.now) result desk.new }
+{
+    let message = message_of(received, head, parts);
+    let found = service.find(message.method, message.target);
+    service.wants(desk, &message, found)
+}
+
+/// Whether the message at the front is begun: its body is wanted, or its sender does not wait for that.
+fn is_admitted<D, S: Service<D>>(
+    received: &[u8],
+    head: usize,
+    parts: &HeadParts,
+    service: &S,
+    desk: &mut D,
+) -> bool
+    requires { IsRead received.now head parts.now }
+    ensures begun { result ≡ true → IsRun S.means desk.old (inquiry parts.now.wanted.expects (head_in (take head received.now) parts.now)) desk.new }
+    ensures unwanted { result ≡ false → (parts.now.wanted.expects ≡ true) × S.means.admits desk.old (head_in (take head received.now) parts.now) false desk.new }
+{
+    !parts.wanted.expects || is_wanted(received, head, parts, service, desk)
+}
+
+/// Answers the message at the front by its head alone, and closes the connection.
+fn turn_away<D, S: Service<D>>(
+    c: &mut Connection<S::Found, S::Body>,
+    head: usize,
+    parts: &HeadParts,
+    service: &S,
+    desk: &mut D,
+)
+    requires read { IsRead c.old.received.items head parts.now }
+    requires free { c.old.out.apart ≡ false }
+    requires few { c.old.count < 65536 }
+    ensures answered { (reply : ReplyText) × S.means.steps desk.old (head_in (take head c.old.received.items) parts.now) reply desk.new
+        × IsAnswered (length c.old.received.items) (response parts.now.wanted.bare true reply) true c.old c.new }
+    ensures number { c.new.number ≡ c.old.number }
+    ensures room { vec_capacity c.new.received ≡ vec_capacity c.old.received }
+{
+    let message = message_of(&c.received, head, parts);
+    let found = service.find(message.method, message.target);
+    let answer = service.answer(desk, &message, found);
+    service.note(desk, c.number, Some(&message), &answer.reply());
+    let all = c.received.len();
+    end_message(c, all, answer, parts.wanted.bare, true);
+}
+
 /// Begins the message whose head was read.
 fn begin<D, S: Service<D>>(
     c: &mut Connection<S::Found, S::Body>,
@@ -154,7 +209,7 @@ fn begin<D, S: Service<D>>(
     requires none { c.old.begun ≡ None }
     requires unclosed { c.old.closed ≡ false }
     requires free { c.old.out.apart ≡ false }
-    ensures moves { (d : D) → Moves S.means S.reads c.old c.new d d }
+    ensures moves { (d e : D) → IsRun S.means d (inquiry parts.wanted.expects (head_in (take head c.old.received.items) parts)) e → Moves S.means S.reads c.old c.new d e }
     ensures further { IsFurther c.old c.new }
     ensures more { c.new.has_more ≡ true }
     ensures unclosed { c.new.closed ≡ false }
@@ -174,12 +229,40 @@ fn begin<D, S: Service<D>>(
     c.has_more = true;
 }
 
-/// Reads the head that was found at the front: begins its message, or refuses it.
+/// Begins the message whose head was read, or answers it by its head alone where its sender waits and the body is not
+/// wanted.
+fn take_parts<D, S: Service<D>>(
+    c: &mut Connection<S::Found, S::Body>,
+    head: usize,
+    parts: HeadParts,
+    service: &S,
+    desk: &mut D,
+)
+    requires read { IsRead c.old.received.items head parts }
+    requires none { c.old.begun ≡ None }
+    requires unclosed { c.old.closed ≡ false }
+    requires free { c.old.out.apart ≡ false }
+    requires few { c.old.count < 65536 }
+    ensures moves { Moves S.means S.reads c.old c.new desk.old desk.new }
+    ensures goes_on { IsOn c.old c.new }
+    ensures shut { c.new.closed ≡ true → c.new.begun ≡ None }
+    ensures waits { c.new.has_more ≡ false → c.new.begun ≡ None }
+    ensures number { c.new.number ≡ c.old.number }
+    ensures room { vec_capacity c.new.received ≡ vec_capacity c.old.received }
+{
+    if is_admitted(&c.received, head, &parts, service, desk) {
+        begin::<D, S>(c, head, parts, service);
+    } else {
+        turn_away(c, head, &parts, service, desk);
+    }
+}
+
+/// Reads the head that was found at the front: takes what it says, or refuses it.
 fn take_found<D, S: Service<D>>(
     c: &mut Connection<S::Found, S::Body>,
     head: usize,
     service: &S,
-    desk: &D,
+    desk: &mut D,
 )
     requires found { head_len c.old.received.items ≡ Some head }
     requires short { head ≤ 16384 }
@@ -187,7 +270,7 @@ fn take_found<D, S: Service<D>>(
     requires unclosed { c.old.closed ≡ false }
     requires free { c.old.out.apart ≡ false }
     requires few { c.old.count < 65536 }
-    ensures moves { Moves S.means S.reads c.old c.new desk.now desk.now }
+    ensures moves { Moves S.means S.reads c.old c.new desk.old desk.new }
     ensures goes_on { IsOn c.old c.new }
     ensures shut { c.new.closed ≡ true → c.new.begun ≡ None }
     ensures waits { c.new.has_more ≡ false → c.new.begun ≡ None }
@@ -195,18 +278,18 @@ fn take_found<D, S: Service<D>>(
     ensures room { vec_capacity c.new.received ≡ vec_capacity c.old.received }
 {
     match read_head(up_to(&c.received, head)) {
-        Ok(parts) => begin::<D, S>(c, head, parts, service),
+        Ok(parts) => take_parts(c, head, parts, service, desk),
         Err(refused) => refuse(c, refused, service, desk),
     }
 }
 
 /// Seeks the head of the next message.
-fn take_head<D, S: Service<D>>(c: &mut Connection<S::Found, S::Body>, service: &S, desk: &D)
+fn take_head<D, S: Service<D>>(c: &mut Connection<S::Found, S::Body>, service: &S, desk: &mut D)
     requires none { c.old.begun ≡ None }
     requires unclosed { c.old.closed ≡ false }
     requires free { c.old.out.apart ≡ false }
     requires has { (unread : List ℕ) × HasUnread S.reads S.means.uses c.old unread }
-    ensures moves { Moves S.means S.reads c.old c.new desk.now desk.now }
+    ensures moves { Moves S.means S.reads c.old c.new desk.old desk.new }
     ensures goes_on { IsOn c.old c.new }
     ensures shut { c.new.closed ≡ true → c.new.begun ≡ None }
     ensures waits { c.new.has_more ≡ false → c.new.begun ≡ None }

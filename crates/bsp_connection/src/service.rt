@@ -69,6 +69,12 @@ pub trait Service<D> {
     fn find(&self, method: &[u8], target: &[u8]) -> Self::Found
         ensures { Self.reads.finds method.now target.now result };
 
+    /// Whether the body of a request is wanted, which its sender asks before it sends it (RFC 9110, 10.1.1). Where it is not,
+    /// the request is answered without it.
+    fn wants(&self, desk: &mut D, message: &Message<'_>, found: Self::Found) -> bool
+        requires { Self.reads.finds message.now.method.now message.now.target.now found }
+        ensures { Self.means.admits desk.old (request_of message.now []) result desk.new };
+
     /// What takes the body of a request, by what was found for it; none where its body is not used. It takes no memory.
     fn body(&self, message: &Message<'_>, found: Self::Found) -> Option<Self::Body>
         requires { Self.reads.finds message.now.method.now message.now.target.now found }
@@ -92,7 +98,7 @@ pub trait Service<D> {
     fn no_room(&self) -> Answer
         ensures { answer_text result ≡ Self.means.no_room };
 
-    /// Answers a request whose body is not used.
+    /// Answers a request whose body is not used, or not wanted.
     fn answer(&self, desk: &mut D, message: &Message<'_>, found: Self::Found) -> Answer
         requires { Self.reads.finds message.now.method.now message.now.target.now found }
         ensures { Self.means.steps desk.old (request_of message.now []) (answer_text result) desk.new };

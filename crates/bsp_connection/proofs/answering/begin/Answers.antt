@@ -4,7 +4,7 @@ use Rattle.bsp_connection.proofs.StepLemmas.{begun_further, begun_moves, fresh_b
 use Rattle.bsp_connection.proofs.answering.begin.Goals as goal
 
 pub returns-clause-moves : goal.returns-clause-moves
-returns-clause-moves g c d =
+returns-clause-moves g c d e run =
     let r = g.S.Service.reads in
     let uses = g.S.Service.means.uses in
     let found = c.find-found.result in
@@ -14,12 +14,12 @@ returns-clause-moves g c d =
     let text = ap (λ (l : List ℕ). take c.args.head l) c.deref.ensures.value in
     let method : c.message_of-message.result.method.now ≡ span_bytes head c.args.parts.method = are.method ∙ ap (λ (l : List ℕ). span_bytes l c.args.parts.method) text in
     let target : c.message_of-message.result.target.now ≡ span_bytes head c.args.parts.target = are.target ∙ ap (λ (l : List ℕ). span_bytes l c.args.parts.target) text in
-    begun_moves g.S.Service.means r c.args.c.now _ d (record { head = c.args.head; parts = c.args.parts; found = found; left = c.args.parts.wanted.body }) c.requires.read (
+    begun_moves g.S.Service.means r c.args.c.now _ d e (record { head = c.args.head; parts = c.args.parts; found = found; left = c.args.parts.wanted.body }) c.requires.read (
       subst (λ (l : List ℕ). r.finds (span_bytes head c.args.parts.method) l found) target (subst (λ (l : List ℕ). r.finds l c.message_of-message.result.target.now found) method c.find-found.ensures),
       subst (λ (l : List ℕ). uses (span_bytes head c.args.parts.method) l is_used) target (subst (λ (l : List ℕ). uses l c.message_of-message.result.target.now is_used) method c.body.ensures.used),
     )
     refl c.requires.none c.requires.unclosed refl refl refl refl refl (fresh_body r found c.body.result c.body.ensures.fresh)
-    (c.put.ensures ∙ ap (λ (l : List ℕ). c.args.c.now.out.bytes ++ l) c.interim.ensures)
+    (c.put.ensures ∙ ap (λ (l : List ℕ). c.args.c.now.out.bytes ++ l) c.interim.ensures) run
 
 pub returns-clause-further : goal.returns-clause-further
 returns-clause-further g c =

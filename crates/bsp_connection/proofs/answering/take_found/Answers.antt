@@ -8,8 +8,8 @@ use Rattle.bsp_connection.proofs.answering.take_found.Goals as goal
 pub up_to-requires : goal.up_to-requires
 up_to-requires g c = subst (λ (l : List ℕ). c.args.head ≤ length l) (sym c.deref.ensures.value) (head_len-le c.args.c.now.received.items c.args.head c.requires.found)
 
-pub begin-requires-clause-read : goal.begin-requires-clause-read
-begin-requires-clause-read g c =
+pub take_parts-requires-clause-read : goal.take_parts-requires-clause-read
+take_parts-requires-clause-read g c =
     let told = c.in-Ok.ensures in
     let parts = c.in-Ok.parts in
     let text : c.up_to.result.now ≡ take c.args.head c.args.c.now.received.items = c.up_to.ensures.value ∙ ap (λ (l : List ℕ). take c.args.head l) c.deref.ensures.value in
