@@ -11,6 +11,7 @@ pub mod HotReplies
 pub mod Stops
 pub mod Instructions
 pub use Rattle.bsp_book.specs.Calls as BookCalls
+pub use Rattle.bsp_book.specs.declared.fault.BookFault
 pub use Rattle.bsp_desk_writes.specs.Contents
 pub use Rattle.bsp_desk_writes.specs.Requests
 pub use Rattle.bsp_desk_writes.specs.declared.content.Content

@@ -27,8 +27,8 @@ use std::alloc::Global;
 #[derive(Drop)]
 pub struct Desk<B: Book> {
     alloc: Global,
-    book: B,
-    office: Token,
+    pub(crate) book: B,
+    pub(crate) office: Token,
 }
 
 impl<B: Book> Desk<B> {

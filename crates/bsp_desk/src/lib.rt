@@ -20,6 +20,7 @@ mod request;
 mod serve;
 mod token;
 mod transaction;
+mod wanted;
 
 pub use bsp_book::{Book, BookFault};
 pub use bsp_desk_writes::Content;

@@ -3,6 +3,8 @@ use Rattle.std.specs.Prelude.{◌≡◌, ℕ, List, [], ◌∷◌, None}
 use Rattle.bsp_desk.specs.BookCalls.{Meaning}
 use Rattle.bsp_connection.specs.Conversations.{IsRun}
 use Rattle.bsp_connection.specs.Exchanges.{Exchange, RequestText}
+use Rattle.bsp_connection.specs.Exchanges.Exchange.{wants, replies}
+use Rattle.bsp_heads.specs.Responses.{ReplyText}
 use Rattle.bsp_desk.specs.Runs.{RanOver}
 use Rattle.bsp_desk.specs.declared.desk.Desk.{Desk}
 use Rattle.bsp_desk.specs.Reply.{Reply}
@@ -21,10 +23,11 @@ pub record IsMessageRead (text : RequestText) (reading : Reading) : Type 0 where
   pub asks : Asks text.method text.target asking
   pub asked : IsAsked asking text.body reading.asked
 
--- each message is read so
+-- each message is read so; where the desk is asked whether a body is wanted there is none yet
 abbrev pub AreMessagesRead : List Exchange → List Reading → Type 0
 AreMessagesRead [] [] = Unit {0}
-AreMessagesRead (x ∷ xs) (reading ∷ readings) = IsMessageRead x.request reading × AreMessagesRead xs readings
+AreMessagesRead (wants head wanted ∷ xs) readings = AreMessagesRead xs readings
+AreMessagesRead (replies request reply ∷ xs) (reading ∷ readings) = IsMessageRead request reading × AreMessagesRead xs readings
 AreMessagesRead _ _ = ⊥
 
 -- each message that asks for something is read as some request
@@ -32,12 +35,13 @@ abbrev pub EachMessageIsRead : Type 0
 EachMessageIsRead = (text : RequestText) (asking : Asking (List ℕ)) → Asks text.method text.target asking → (reading : Reading) × IsMessageRead text reading
 
 -- the reply of the desk was written for the message
-abbrev pub IsWrittenFor : Exchange → Reply → Type 0
-IsWrittenFor x reply = (asking : Asking (List ℕ)) × Asks x.request.method x.request.target asking × (x.reply ≡ reply_as asking reply)
+abbrev pub IsWrittenFor : RequestText → ReplyText → Reply → Type 0
+IsWrittenFor request written reply = (asking : Asking (List ℕ)) × Asks request.method request.target asking × (written ≡ reply_as asking reply)
 
 abbrev pub AreWrittenFor : List Exchange → List Reply → Type 0
 AreWrittenFor [] [] = Unit {0}
-AreWrittenFor (x ∷ xs) (reply ∷ replies) = IsWrittenFor x reply × AreWrittenFor xs replies
+AreWrittenFor (wants head wanted ∷ xs) sent = AreWrittenFor xs sent
+AreWrittenFor (replies request written ∷ xs) (reply ∷ sent) = IsWrittenFor request written reply × AreWrittenFor xs sent
 AreWrittenFor _ _ = ⊥
 
 -- what a connection asks of a desk over sound rows is a run: its messages have readings, and however they are read, what their replies send has the laws of a run
@@ -47,4 +51,4 @@ MessagesRun {B} m =
     → (new.office ≡ old.office) × (m.trusts new.book → m.trusts old.book)
     × ((readings : List Reading) × AreMessagesRead xs readings)
     × ((readings : List Reading) → AreMessagesRead xs readings → m.trusts new.book → (rows : Rows) → Sound rows → m.holds old.book rows None
-    → (replies : List Reply) × AreWrittenFor xs replies × RanOver m new.book old.office rows readings replies)
+    → (sent : List Reply) × AreWrittenFor xs sent × RanOver m new.book old.office rows readings sent)

@@ -1,7 +1,9 @@
 -- What an office answers to the messages of a connection.
-use Rattle.std.specs.Prelude.{◌≡◌, ℕ, List, Result, Ok, Err}
+use Rattle.std.specs.Prelude.{◌≡◌, ℕ, Bool, true, List, Result, Ok, Err}
 use Rattle.std.specs.Borrow.{Bor}
-use Rattle.bsp_desk.specs.BookCalls.{Meaning}
+use Rattle.bsp_desk.specs.BookCalls.{LooksUp, Meaning}
+use Rattle.bsp_desk.specs.BookFault.{BookFault}
+use Rattle.bsp_desk.specs.Callers.{is_body_wanted}
 use Rattle.bsp_connection.specs.Exchanges.{Meaning as Answering, RequestText}
 use Rattle.bsp_desk.specs.Reading.{token_text}
 use Rattle.bsp_desk.specs.Steps.{Answers}
@@ -28,6 +30,10 @@ content_of (Err fault) = content.Fault fault
 
 -- ---- the desk
 
+abbrev pub or_wanted : Result Bool BookFault → Bool
+or_wanted (Ok wanted) = wanted
+or_wanted (Err fault) = true
+
 -- the request is that of the message: it has its token, asks for what its method and its target ask for, and is read as the message is
 pub record IsRequestOf (text : RequestText) (request : Request) : Type 0 where
   pub token : token_text request.token ≡ text.token
@@ -45,5 +51,14 @@ module _ {B : Type 0} (m : Meaning B Rows) where
     pub office : new.office ≡ old.office
     pub written_is : written ≡ reply_as (asking_text request.call) reply
 
+  -- the desk looks up whether the body of a message is wanted; where it cannot, the body is taken
+  pub record Admits (old : Desk B) (head : RequestText) (wanted : Bool) (new : Desk B) : Type 0 where
+    pub asking : Asking (List ℕ)
+    pub asks : Asks head.method head.target asking
+    pub found : Result Bool BookFault
+    pub looked : LooksUp m old.book new.book found (λ b. b) (is_body_wanted old.office head.token asking)
+    pub wanted_is : wanted ≡ or_wanted found
+    pub office : new.office ≡ old.office
+
   abbrev pub at_desk : Answering (Desk B)
-  at_desk = record { uses = Uses; no_room = no_room; steps = Steps }
+  at_desk = record { uses = Uses; no_room = no_room; admits = Admits; steps = Steps }

@@ -1,10 +1,11 @@
 -- Which bodies are used.
-use Rattle.std.specs.Prelude.{◌≡◌, ℕ, Bool, true, false, List}
+use Rattle.std.specs.Prelude.{◌≡◌, ℕ, Bool, List}
 use Rattle.bsp_desk.specs.RoutesCalls.{Asks, body_of}
 use Rattle.bsp_desk.specs.Asking.{Asking}
 use Rattle.bsp_desk.specs.Asking.TheVariants as asking
 use Rattle.bsp_desk.specs.BodyKind.{BodyKind}
-use Rattle.bsp_desk.specs.BodyKind.TheVariants.{NoBody, Ret, PlanText, Json}
+use Rattle.bsp_desk.specs.BodyKind.TheVariants.{NoBody}
+use Rattle.bsp_desk.specs.Callers.{has_body}
 
 -- what asks for no call has no body
 abbrev pub kind_of : Asking (List ℕ) → BodyKind
@@ -12,12 +13,6 @@ kind_of (asking.Call call) = body_of call
 kind_of (asking.OtherMethod methods) = NoBody
 kind_of asking.NoRoute = NoBody
 
-abbrev pub is_used : BodyKind → Bool
-is_used NoBody = false
-is_used Ret = true
-is_used PlanText = true
-is_used Json = true
-
 -- whether the body of a message with that method and that target is used
 abbrev pub Uses : List ℕ → List ℕ → Bool → Type 0
-Uses method target used = (asked : Asking (List ℕ)) × Asks method target asked × (used ≡ is_used (kind_of asked))
+Uses method target used = (asked : Asking (List ℕ)) × Asks method target asked × (used ≡ has_body (kind_of asked))

@@ -2,8 +2,9 @@
 
 ghost use Rattle.std.specs.Prelude.{◌≡◌, ◌<◌, ◌++◌, ℕ, List, [], length, None, is_some, IfSome, OnOk, OnErr};
 ghost use Rattle.bsp_http.specs.Bodies.{HasBody, HasRet};
+ghost use Rattle.bsp_desk.specs.Callers.{has_body};
 ghost use Rattle.bsp_desk.specs.RoutesCalls.{asking_text};
-ghost use Rattle.bsp_http.specs.Uses.{is_used, kind_of};
+ghost use Rattle.bsp_http.specs.Uses.{kind_of};
 
 use bsp_desk::{Asking, BodyKind, Route};
 use bsp_fields::NoRoom;
@@ -41,7 +42,7 @@ pub(crate) enum RequestBody {
 impl RequestBody {
     /// What takes the body of a request for which this was found; none where it is not used. It takes no memory.
     pub(crate) fn new(alloc: Global, found: Found) -> Option<RequestBody>
-        ensures used { is_some result ≡ is_used found.kind }
+        ensures used { is_some result ≡ has_body found.kind }
         ensures fresh { IfSome result (λ body. HasBody found body []) }
     {
         match found.kind {

@@ -43,6 +43,14 @@ impl<'r, B: Book, J: Journal<B>> Service<Desk<B>> for Office<'r, J> {
         }
     }
 
+    fn wants(&self, desk: &mut Desk<B>, message: &Message<'_>, found: Found) -> bool {
+        let asking = found.route.asking(message.method, message.target);
+        match desk.wants_body(message.token, asking) {
+            Ok(wanted) => wanted,
+            Err(_) => true,
+        }
+    }
+
     fn body(&self, _message: &Message<'_>, found: Found) -> Option<RequestBody> {
         RequestBody::new(self.alloc, found)
     }
