@@ -4,8 +4,9 @@ ghost use Rattle.std.specs.Prelude.{◌≡◌};
 ghost use Rattle.bsp_heads.specs.Responses.{refusal_reply, reply_text};
 
 use crate::fault::HeadFault;
-use crate::response::Reply;
+use crate::reply::Reply;
 use crate::status::{Media, Status};
+use std::borrow::CowSlice;
 
 /// The status of the answer.
 fn status_of(fault: HeadFault) -> Status
@@ -34,14 +35,14 @@ fn body_of(fault: HeadFault) -> &'static [u8]
 }
 
 /// The answer to a request whose head is refused for this fault: 400 T01, 411 T02, 413 T03, 431 T04 or 501 T05.
-/// Behind it the connection closes.
-pub fn refusal(fault: HeadFault) -> Reply<'static>
+/// Behind it the connection closes. It takes no memory.
+pub fn refusal(fault: HeadFault) -> Reply
     ensures { reply_text result ≡ refusal_reply fault }
 {
     Reply {
         status: status_of(fault),
         media: Media::Json,
         allow: None,
-        body: body_of(fault),
+        body: CowSlice::Borrowed(body_of(fault)),
     }
 }

@@ -1,7 +1,8 @@
-//! The head of a response.
+//! The head of a response, and the interim response.
 
-ghost use Rattle.std.specs.Prelude.{◌≡◌, ◌≤◌, length};
+ghost use Rattle.std.specs.Prelude.{◌≡◌, ◌≤◌, [], length, if◌then◌else◌};
 ghost use Rattle.bsp_heads.specs.ResponseHeads.{allow_lines, closing_lines, lines_text, head_text};
+ghost use Rattle.bsp_heads.specs.Responses.{continue_text};
 
 use crate::status::{Media, Status};
 use crate::text::HeadText;
@@ -65,5 +66,17 @@ impl ResponseHead {
         text.put(closing_line(self.closes));
         text.put(b"\r\n");
         text
+    }
+}
+
+/// What is sent before a body is read: the interim response where the sender waits for it
+/// (RFC 9110, 15.2.1), else nothing.
+pub fn interim(expects: bool) -> &'static [u8]
+    ensures { result.now ≡ (if expects then continue_text else []) }
+{
+    if expects {
+        b"HTTP/1.1 100 Continue\r\n\r\n"
+    } else {
+        b""
     }
 }

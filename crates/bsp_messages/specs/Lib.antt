@@ -2,7 +2,6 @@
 pub mod Values
 pub mod Members
 pub mod Bodies
-pub mod Statuses
 pub mod Refusals
 pub mod Answers
 pub mod VerdictTexts

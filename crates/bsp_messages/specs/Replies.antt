@@ -1,23 +1,18 @@
 -- Replies: an answer's status, media type and bytes.
-use Rattle.std.specs.Prelude.{◌≡◌, ℕ, Bool, true, false, List}
+use Rattle.std.specs.Prelude.{◌≡◌, Bool, true, false}
+use Rattle.std.specs.Cow.{cow_slice_items}
+use Rattle.bsp_heads.specs.declared.reply.Reply.{Reply}
 use Rattle.bsp_ret.specs.declared.model.FaultCode.{FaultCode}
 use Rattle.bsp_ret.specs.declared.model.FaultCode.TheVariants.{F10}
 use Rattle.bsp_messages.specs.declared.answer.Answer.{Answer}
 use Rattle.bsp_messages.specs.declared.answer.Answer.TheVariants.{Changed, Verdicts, Document, Period, Ranges, Memos, Report, Hot, FileFault, Refused}
-use Rattle.bsp_messages.specs.declared.reply.Body.{Body}
-use Rattle.bsp_messages.specs.declared.reply.Body.TheVariants.{Fixed, Written}
-use Rattle.bsp_messages.specs.declared.reply.Reply.{Reply}
 use Rattle.bsp_messages.specs.Answers.{status_of, media_of, text_of}
-
-abbrev pub body_bytes : Body → List ℕ
-body_bytes (Fixed text) = text.now
-body_bytes (Written text) = text.items
 
 -- the reply of an answer
 pub record IsReply (answer : Answer) (reply : Reply) : Type 0 where
   pub status : reply.status ≡ status_of answer
   pub media : reply.media ≡ media_of answer
-  pub body : body_bytes reply.body ≡ text_of answer
+  pub body : cow_slice_items reply.body ≡ text_of answer
 
 -- whether the text of a RET file's fault has to be written; that of want of memory is fixed
 abbrev pub fault_takes_memory : FaultCode → Bool

@@ -17,7 +17,6 @@ mod objects;
 mod office_bodies;
 mod refusal;
 mod reply;
-mod status;
 mod values;
 mod verdicts;
 
@@ -30,6 +29,5 @@ pub use office_bodies::{
     read_airline_registration, read_day, read_period, read_stock_change,
 };
 pub use refusal::{RequestRefusal, StockFault};
-pub use reply::{Body, Reply, reply_of};
-pub use status::{Media, Status};
+pub use reply::reply_of;
 pub use values::StatedAgent;

@@ -4,8 +4,8 @@ ghost use Rattle.std.specs.Prelude.{◌≡◌};
 ghost use Rattle.serde_json.specs.Written.{compact_text};
 ghost use Rattle.bsp_messages.specs.Refusals.{code_object, memo_code, plan_code, stock_code, refusal_code, refusal_status};
 
-use crate::status::Status;
 use bsp_calendar::PlanFault;
+use bsp_heads::Status;
 use bsp_memos::MemoFault;
 
 /// Why a change of an agent's stock is refused, in the order in which it is judged.
