@@ -9,9 +9,11 @@ use Rattle.bsp_messages.specs.Answers.{status_of}
 use Rattle.bsp_messages.specs.Refusals.{code_object}
 use Rattle.bsp_messages.specs.declared.answer.Answer.{Answer as Message}
 use Rattle.bsp_messages.specs.declared.refusal.RequestRefusal.TheVariants.{NoRoom, StoreFailed}
-use Rattle.bsp_messages.specs.declared.reply.Reply.{Reply}
-use Rattle.bsp_messages.specs.declared.status.Status.{Status}
-use Rattle.bsp_messages.specs.declared.status.Status.TheVariants as status
+use Rattle.bsp_heads.specs.declared.reply.Reply.{Reply}
+use Rattle.bsp_heads.specs.declared.status.Status.{Status}
+use Rattle.bsp_heads.specs.declared.status.Status.TheVariants as status
+use Rattle.bsp_routes.specs.Calls.{asking_text}
+use Rattle.bsp_routes.specs.declared.asking.Asking.{Asking}
 use Rattle.bsp_routes.specs.declared.asking.Asking.TheVariants as asking
 use Rattle.bsp_routes.specs.declared.call.Call.{Call}
 use Rattle.bsp_rows.specs.Rows.{Rows}
@@ -22,7 +24,7 @@ use Rattle.bsp_desk_writes.specs.Answers.Answer.{Changed, Verdicts, Document, In
 use Rattle.bsp_desk_writes.specs.Requests.{Request as Reading}
 use Rattle.bsp_desk_writes.specs.Step.{answer_of, rows_after}
 use Rattle.bsp_desk_writes.specs.Texts.{Says}
-use Rattle.bsp_desk.specs.Replies.{IsSent, Refuses, is_refusal, is_unavailable}
+use Rattle.bsp_desk.specs.Replies.{IsSent, Refuses, allow_of, is_refusal, is_unavailable}
 use Rattle.bsp_desk.specs.Steps.{Answers, Commits, EndsRequest}
 use Rattle.bsp_desk.specs.declared.request.Request.{Request}
 use Rattle.bsp_desk.proofs.Fits.{read_fits}
@@ -67,7 +69,11 @@ available status.Forbidden e = absurd (cc)
 available status.NotFound e = absurd (cc)
 available status.MethodNotAllowed e = absurd (cc)
 available status.Conflict e = absurd (cc)
+available status.LengthRequired e = absurd (cc)
+available status.PayloadTooLarge e = absurd (cc)
 available status.UnprocessableEntity e = absurd (cc)
+available status.RequestHeaderFieldsTooLarge e = absurd (cc)
+available status.NotImplemented e = absurd (cc)
 
 -- ---- a request of the office, of an agent or of an airline
 
@@ -75,13 +81,17 @@ module _ {B : Type 0} (m : Meaning B Rows) (old new : B) (request : Request) (as
   no_503 : {A : Type 0} → is_unavailable reply.status ≡ true → is_unavailable reply.status ≡ false → A
   no_503 e k = absurd (let f = sym e ∙ k in cc)
 
+  unlisted : reply.allow ≡ None → reply.allow ≡ allow_of (asking_text request.call) reply.status
+  unlisted none = subst (λ (call : Asking (Bor (List ℕ))). reply.allow ≡ allow_of (asking_text call) reply.status) (sym is_call) none
+
   -- the request is answered
-  pub answered : is_unavailable reply.status ≡ false → Commits m old new request office (Ok reply) → EndsRequest m old new request office (Ok reply) → Answers m old new request office reply
-  answered open_ kept fault = record {
+  pub answered : is_unavailable reply.status ≡ false → reply.allow ≡ None → Commits m old new request office (Ok reply) → EndsRequest m old new request office (Ok reply) → Answers m old new request office reply
+  answered open_ none kept fault = record {
     trust = fault.trust;
     step = λ e reading is t rows sound h. (kept reading is t rows sound h).0;
     kept = λ e reading is t rows sound h. (sound_kept office rows reading sound (read_fits request reading is), (kept reading is t rows sound h).1);
     unchanged = λ e reading is t rows sound h done none. subst (λ (r : Rows). m.holds new r None) (unchanged rows reading (answer_of office rows reading) done none) (kept reading is t rows sound h).1;
+    allow = unlisted none;
     refused = λ e reading is t rows sound h.
         let k = kept reading is t rows sound h in
         subst (λ (r : Rows). m.holds new r None) (refused_left rows reading (answer_of office rows reading) reply k.0 e) k.1;
@@ -95,12 +105,13 @@ module _ {B : Type 0} (m : Meaning B Rows) (old new : B) (request : Request) (as
   }
 
   -- there is no room
-  pub no_room : Refuses NoRoom reply → EndsRequest m old new request office (Err book.NoRoom) → Answers m old new request office reply
-  no_room is_full fault = record {
+  pub no_room : Refuses NoRoom reply → reply.allow ≡ None → EndsRequest m old new request office (Err book.NoRoom) → Answers m old new request office reply
+  no_room is_full none fault = record {
     trust = fault.trust;
     step = λ e. no_503 (ap is_unavailable is_full.status) e;
     kept = λ e. no_503 (ap is_unavailable is_full.status) e;
     unchanged = λ e. no_503 (ap is_unavailable is_full.status) e;
+    allow = unlisted none;
     refused = λ e. absurd (let k = sym e ∙ available reply.status (ap is_unavailable is_full.status) in cc);
     unavailable = λ e. inl is_full;
     full = λ e. fault.full refl;
@@ -112,12 +123,13 @@ module _ {B : Type 0} (m : Meaning B Rows) (old new : B) (request : Request) (as
   }
 
   -- the store failed
-  pub broken : Refuses StoreFailed reply → EndsRequest m old new request office (Err book.Failed) → Answers m old new request office reply
-  broken is_broken fault = record {
+  pub broken : Refuses StoreFailed reply → reply.allow ≡ None → EndsRequest m old new request office (Err book.Failed) → Answers m old new request office reply
+  broken is_broken none fault = record {
     trust = fault.trust;
     step = λ e. no_503 (ap is_unavailable is_broken.status) e;
     kept = λ e. no_503 (ap is_unavailable is_broken.status) e;
     unchanged = λ e. no_503 (ap is_unavailable is_broken.status) e;
+    allow = unlisted none;
     refused = λ e. absurd (let k = sym e ∙ available reply.status (ap is_unavailable is_broken.status) in cc);
     unavailable = λ e. inr is_broken;
     full = λ e. absurd (apart reply e is_broken);

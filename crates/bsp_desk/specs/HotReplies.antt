@@ -1,8 +1,8 @@
 -- What is sent of a HOT file.
 use Rattle.std.specs.Prelude.{◌≡◌, ℕ, Bool, true, false, List}
-use Rattle.bsp_messages.specs.Replies.{body_bytes}
-use Rattle.bsp_messages.specs.declared.reply.Reply.{Reply}
-use Rattle.bsp_messages.specs.declared.status.Status.TheVariants as status
+use Rattle.std.specs.Cow.{cow_slice_items}
+use Rattle.bsp_heads.specs.declared.reply.Reply.{Reply}
+use Rattle.bsp_heads.specs.declared.status.Status.TheVariants as status
 use Rattle.bsp_rows.specs.Rows.{Rows}
 use Rattle.bsp_rows.specs.Lines.{lines}
 use Rattle.bsp_book.specs.Calls.{Meaning}
@@ -29,10 +29,10 @@ asks_hot _ = false
 abbrev pub HotRepliesPass : Type 0
 HotRepliesPass =
     (office : List ℕ) (rows : Rows) (reading : Reading) (reply : Reply) →
-    IsSent (answer_of office rows reading) reply → asks_hot reading.asked ≡ true → reply.status ≡ status.Ok → PassesCheck (body_bytes reply.body)
+    IsSent (answer_of office rows reading) reply → asks_hot reading.asked ≡ true → reply.status ≡ status.Ok → PassesCheck (cow_slice_items reply.body)
 
 -- so is each such reply of a desk, over sound rows
 abbrev pub HotAnswersPass : {B : Type 0} → Meaning B Rows → Type 0
 HotAnswersPass {B} m =
     (old new : B) (request : Request) (office : List ℕ) (reply : Reply) → Answers m old new request office reply → reply.status ≡ status.Ok →
-    OfRequest m old new request (λ rows reading. asks_hot reading.asked ≡ true → PassesCheck (body_bytes reply.body))
+    OfRequest m old new request (λ rows reading. asks_hot reading.asked ≡ true → PassesCheck (cow_slice_items reply.body))

@@ -15,13 +15,10 @@ pub use Rattle.bsp_book.specs.declared.fault.BookFault
 pub use Rattle.bsp_desk_writes.specs.Contents
 pub use Rattle.bsp_desk_writes.specs.Requests
 pub use Rattle.bsp_desk_writes.specs.declared.content.Content
+pub use Rattle.bsp_heads.specs.declared.reply.Reply
 pub use Rattle.bsp_messages.specs.Answers
-pub use Rattle.bsp_messages.specs.Replies as MessagesReplies
 pub use Rattle.bsp_messages.specs.declared.answer.Answer
 pub use Rattle.bsp_messages.specs.declared.refusal.RequestRefusal
-pub use Rattle.bsp_messages.specs.declared.reply.Reply
-pub use Rattle.bsp_messages.specs.declared.status.Media
-pub use Rattle.bsp_messages.specs.declared.status.Status
 pub use Rattle.bsp_routes.specs.Calls as RoutesCalls
 pub use Rattle.bsp_routes.specs.Routed
 pub use Rattle.bsp_routes.specs.declared.asking.Asking

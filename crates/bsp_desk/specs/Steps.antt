@@ -4,7 +4,8 @@ use Rattle.bsp_book.specs.Calls.{Faults, Meaning}
 use Rattle.bsp_book.specs.declared.fault.BookFault.{BookFault}
 use Rattle.bsp_messages.specs.declared.answer.Answer.{Answer as Message}
 use Rattle.bsp_messages.specs.declared.refusal.RequestRefusal.TheVariants.{NoRoom, NoRoute, OtherMethod, StoreFailed}
-use Rattle.bsp_messages.specs.declared.reply.Reply.{Reply}
+use Rattle.bsp_heads.specs.declared.reply.Reply.{Reply}
+use Rattle.bsp_routes.specs.Calls.{asking_text}
 use Rattle.bsp_routes.specs.declared.asking.Asking.TheVariants as asking
 use Rattle.bsp_routes.specs.declared.methods.Methods.{Methods}
 use Rattle.bsp_rows.specs.Rows.{Rows}
@@ -14,7 +15,7 @@ use Rattle.bsp_desk_writes.specs.Answers.{is_done, verdicts_in}
 use Rattle.bsp_desk_writes.specs.Requests.{Request as Reading}
 use Rattle.bsp_desk_writes.specs.Step.{answer_of, rows_after}
 use Rattle.bsp_desk.specs.Reading.{IsRead}
-use Rattle.bsp_desk.specs.Replies.{IsSent, Refuses, is_refusal, is_unavailable}
+use Rattle.bsp_desk.specs.Replies.{IsSent, Refuses, allow_of, is_refusal, is_unavailable}
 use Rattle.bsp_desk.specs.declared.request.Request.{Request}
 
 -- the rows after the request, as it is answered
@@ -66,6 +67,8 @@ module _ {B : Type 0} (m : Meaning B Rows) (old new : B) (request : Request) whe
     -- where no change is done and no verdict given it holds the same rows: so where a change is held, and where rows are shown
     pub unchanged : is_unavailable reply.status ≡ false → OfRequest (λ rows reading.
         is_done (answer_of office rows reading) ≡ false → verdicts_in (answer_of office rows reading) ≡ [] → m.holds new rows None)
+    -- a 405 to another method lists those of the path, and no other reply has `Allow`
+    pub allow : reply.allow ≡ allow_of (asking_text request.call) reply.status
     -- a refusal leaves the rows as they are
     pub refused : is_refusal reply.status ≡ true → OfRequest (λ rows reading. m.holds new rows None)
     -- a 503 is B01 or B03

@@ -1,12 +1,14 @@
 //! The desk: an office over a book, which answers requests.
 
-ghost use Rattle.std.specs.Prelude.{◌≡◌, ◌↔◌, List, None, IfOk, IsOk, MatchResult, OnErr, false, length, ℕ};
+ghost use Rattle.std.specs.Prelude.{◌≡◌, ◌↔◌, List, None, Some, IfOk, IsOk, MatchResult, OnErr, false, length, ℕ};
 ghost use Rattle.bsp_desk.specs.Callers.{calling};
 ghost use Rattle.bsp_desk.specs.Instructions.{IsMeant, IsReport, Outcome};
 ghost use Rattle.bsp_desk.specs.Reading.{AreRead};
+ghost use Rattle.bsp_desk.specs.Replies.{Refuses};
 ghost use Rattle.bsp_desk.specs.Runs.{AreAnswered, RanOver};
 ghost use Rattle.bsp_desk.specs.Steps.{Answers};
 ghost use Rattle.bsp_desk.specs.Stops.{Outlives};
+ghost use Rattle.bsp_messages.specs.declared.refusal.RequestRefusal.TheVariants.{OtherMethod};
 ghost use Rattle.bsp_rows.specs.Rows.{Rows};
 ghost use Rattle.bsp_rows.specs.Sound.{Sound};
 ghost use Rattle.bsp_desk_writes.specs.Requests.{Request as Reading};
@@ -17,9 +19,10 @@ use crate::request::Request;
 use crate::transaction::answer_call;
 use bsp_book::{Book, BookFault};
 use bsp_desk_writes::Content;
-use bsp_messages::{Answer, Reply, RequestRefusal};
+use bsp_heads::Reply;
+use bsp_messages::{Answer, RequestRefusal};
 use bsp_ret::RetFile;
-use bsp_routes::{Asking, Call};
+use bsp_routes::{Asking, Call, Methods};
 use bsp_rows::{AgentCode, Token};
 use std::alloc::Global;
 
@@ -29,6 +32,16 @@ pub struct Desk<B: Book> {
     alloc: Global,
     pub(crate) book: B,
     pub(crate) office: Token,
+}
+
+/// The reply to another method: 405 N03, with the methods of the path (RFC 9110, 10.2.1).
+fn other_method(methods: Methods) -> Reply
+    ensures reply { Refuses OtherMethod result }
+    ensures allow { result.allow ≡ Some methods }
+{
+    let mut reply = RequestRefusal::OtherMethod.reply();
+    reply.allow = Some(methods);
+    reply
 }
 
 impl<B: Book> Desk<B> {
@@ -70,7 +83,8 @@ impl<B: Book> Desk<B> {
     /// that it leaves, or with a 503. A refusal and B01 leave the rows as they are. B03 is the reply if and only
     /// if the book has failed, and then to every request.
     ///
-    /// No route and another method are answered 404 N02 and 405 N03 without a transaction, and take no memory.
+    /// No route and another method are answered 404 N02 and 405 N03 without a transaction, and take no memory. A 405 to
+    /// another method lists those of the path, and no other reply has `Allow`.
     ///
     /// A stop after it leaves the rows that the book then holds. From the first B03 on it leaves the rows as they were
     /// before that request, or those that the request leaves, whatever was asked since.
@@ -119,7 +133,7 @@ impl<B: Book> Desk<B> {
         }
         match &request.call {
             Asking::NoRoute => RequestRefusal::NoRoute.reply(),
-            Asking::OtherMethod(_) => RequestRefusal::OtherMethod.reply(),
+            Asking::OtherMethod(methods) => other_method(*methods),
             Asking::Call(call) => self.reply_to(request.token, call, &request.content),
         }
     }

@@ -1,6 +1,6 @@
 //! Answers a call in one transaction of the book.
 
-ghost use Rattle.std.specs.Prelude.{◌≡◌, false, IfOk};
+ghost use Rattle.std.specs.Prelude.{◌≡◌, false, None, IfOk};
 ghost use Rattle.bsp_desk.specs.Callers.{calling};
 ghost use Rattle.bsp_desk.specs.Replies.{is_unavailable};
 ghost use Rattle.bsp_desk.specs.Steps.{Commits, EndsRequest, EndsUnsent, Sends};
@@ -8,7 +8,8 @@ ghost use Rattle.bsp_desk.specs.Steps.{Commits, EndsRequest, EndsUnsent, Sends};
 use crate::serve::serve;
 use bsp_book::{Book, BookFault};
 use bsp_desk_writes::{Content, give_up};
-use bsp_messages::{Reply, Status, reply_of};
+use bsp_heads::{Reply, Status};
+use bsp_messages::reply_of;
 use bsp_routes::Call;
 use bsp_rows::Token;
 use std::alloc::Global;
@@ -24,6 +25,7 @@ pub(crate) fn answer_call<B: Book>(
 ) -> Result<Reply, BookFault>
     ensures kept { Commits B.means book.old book.new (calling token.entry call.now content.now) office.now result }
     ensures available { IfOk result (λ reply. is_unavailable reply.status ≡ false) }
+    ensures allow { IfOk result (λ reply. reply.allow ≡ None) }
     ensures fault { EndsRequest B.means book.old book.new (calling token.entry call.now content.now) office.now result }
 {
     book.begin()?;
@@ -44,6 +46,7 @@ fn reply_within<B: Book>(
     requires { B.means.has_failed book.old ≡ false }
     ensures sent { Sends B.means book.old book.new (calling token.entry call.now content.now) office.now result }
     ensures available { IfOk result (λ reply. is_unavailable reply.status ≡ false) }
+    ensures allow { IfOk result (λ reply. reply.allow ≡ None) }
     ensures fault { EndsUnsent B.means book.old book.new (calling token.entry call.now content.now) result }
 {
     let answer = serve(alloc, book, office, token, call, content)?;

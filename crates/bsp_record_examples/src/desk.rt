@@ -66,7 +66,7 @@ fn replies_to(alloc: Global, asked: &[Request<'_>]) -> Option<Vec<Reply>> {
 
 /// Whether two replies are the same.
 fn is_same(one: &Reply, other: &Reply) -> bool {
-    one.status == other.status && one.body.as_bytes() == other.body.as_bytes()
+    one.status == other.status && one.body.as_slice() == other.body.as_slice()
 }
 
 /// Appends replies, of which the first is shown, with their number if it is not one.
@@ -78,7 +78,7 @@ fn show_alike(replies: &[Reply], out: &mut Output) {
         say!(out, "{} times ", replies.len());
     }
     say!(out, "{} ", reply.status.code());
-    out.characters(reply.body.as_bytes());
+    out.characters(reply.body.as_slice());
 }
 
 /// Appends replies, with `; ` between them. Those that are the same, one after another, are shown once.
