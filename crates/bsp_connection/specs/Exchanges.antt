@@ -1,10 +1,8 @@
 -- Requests and replies as their bytes, and what of a body is answered.
 use Rattle.std.specs.Prelude.{ℕ, Bool, true, false, List, [], ◌∷◌, if◌then◌else◌, Option}
 use Rattle.std.specs.Option.{option_map}
-use Rattle.std.specs.Cow.{cow_slice_items}
 use Rattle.bsp_heads.specs.Responses.{ReplyText, continue_text}
 use Rattle.bsp_connection.specs.declared.service.Message.{Message}
-use Rattle.bsp_connection.specs.declared.service.Answer.{Answer}
 
 -- a request, with what is answered of its body
 pub record RequestText : Type 0 where
@@ -15,9 +13,6 @@ pub record RequestText : Type 0 where
 
 abbrev pub request_of : Message → List ℕ → RequestText
 request_of message body = record { method = message.method.now; target = message.target.now; token = option_map (λ t. t.now) message.token; body = body }
-
-abbrev pub answer_text : Answer → ReplyText
-answer_text answer = record { status = answer.status; media = answer.media; allow = answer.allow; body = cow_slice_items answer.body }
 
 -- what of a body is answered, by whether it is used
 abbrev pub used : Bool → List ℕ → List ℕ

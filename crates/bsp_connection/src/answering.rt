@@ -1,9 +1,9 @@
 //! Answering the messages of a connection.
 
 ghost use Rattle.std.specs.Prelude.{◌≡◌, ◌≤◌, ◌<◌, ◌+◌, ◌||◌, ◌==◌, ℕ, List, [], ◌++◌, length, take, drop, true, false, None, Some, IfOk, OnOk, OnErr, is_some, vec_capacity};
-ghost use Rattle.bsp_connection.specs.Exchanges.{answer_text, inquiry, request_of, used};
+ghost use Rattle.bsp_connection.specs.Exchanges.{inquiry, request_of, used};
 ghost use Rattle.bsp_connection.specs.Conversations.{HasRefusal, IsRun};
-ghost use Rattle.bsp_heads.specs.Responses.{ReplyText, response};
+ghost use Rattle.bsp_heads.specs.Responses.{ReplyText, reply_text, response};
 ghost use Rattle.bsp_heads.specs.Scan.{head_len};
 ghost use Rattle.bsp_connection.specs.Begun.{HasBody, HasUnread, IsRead, asked_early, head_in};
 ghost use Rattle.bsp_connection.specs.Progress.{IsFurther, IsOn};
@@ -12,10 +12,9 @@ ghost use Rattle.bsp_connection.specs.Talks.{HasPassed, IsAnswered, IsRefused, M
 use crate::begun::{Begun, message_of, up_to};
 use crate::connection::Connection;
 use crate::heads::{Sought, seek};
-use crate::service::{Answer, Message, Service};
+use crate::service::{Message, Service};
 use bsp_fields::NoRoom;
-use bsp_heads::{HeadFault, HeadParts, Refused, Scan, interim, read_head, refusal};
-use std::borrow::CowSlice;
+use bsp_heads::{HeadFault, HeadParts, Refused, Reply, Scan, interim, read_head, refusal};
 
 /// The messages that were answered before the last that a connection may have.
 const LAST: usize = 65_535;
@@ -75,10 +74,10 @@ fn ask<D, S: Service<D>>(
     message: &Message<'_>,
     found: S::Found,
     body: Option<S::Body>,
-) -> Result<Answer, NoRoom>
+) -> Result<Reply, NoRoom>
     requires finds { S.reads.finds message.now.method.now message.now.target.now found }
     requires some { (bytes : List ℕ) × HasBody S.reads found body bytes }
-    ensures answered { IfOk result (λ answer. (bytes : List ℕ) → HasBody S.reads found body bytes → S.means.steps desk.old (request_of message.now (used (is_some body) bytes)) (answer_text answer) desk.new) }
+    ensures answered { IfOk result (λ reply. (bytes : List ℕ) → HasBody S.reads found body bytes → S.means.steps desk.old (request_of message.now (used (is_some body) bytes)) (reply_text reply) desk.new) }
     ensures refused { OnErr result ((desk.new ≡ desk.old) × (is_some body ≡ true) × ((bytes : List ℕ) → HasBody S.reads found body bytes → 0 < length bytes)) }
 {
     match body {
@@ -91,18 +90,18 @@ fn ask<D, S: Service<D>>(
 fn end_message<F: Copy, B: Drop>(
     c: &mut Connection<F, B>,
     head: usize,
-    answer: Answer,
+    reply: Reply,
     bare: bool,
     closes: bool,
 )
     requires within { head ≤ length c.old.received.items }
     requires free { c.old.out.apart ≡ false }
     requires few { c.old.count < 65536 }
-    ensures answered { IsAnswered head (response bare closes (answer_text answer)) closes c.old c.new }
+    ensures answered { IsAnswered head (response bare closes (reply_text reply)) closes c.old c.new }
     ensures number { c.new.number ≡ c.old.number }
     ensures room { vec_capacity c.new.received ≡ vec_capacity c.old.received }
 {
-    c.out.respond(answer, bare, closes);
+    c.out.respond(reply, bare, closes);
     c.received.drain(..head);
     c.begun = None;
     c.scan = Scan::start();
@@ -133,14 +132,8 @@ fn refuse<D, S: Service<D>>(
 {
     let reply = refusal(refused.fault);
     service.note(desk, c.number, None, &reply);
-    let answer = Answer {
-        status: reply.status,
-        media: reply.media,
-        allow: reply.allow,
-        body: CowSlice::Borrowed(reply.body),
-    };
     let all = c.received.len();
-    end_message(c, all, answer, refused.bare, true);
+    end_message(c, all, reply, refused.bare, true);
 }
 
 /// Asks the service whether the body of the message at the front is wanted.
@@ -192,10 +185,10 @@ fn turn_away<D, S: Service<D>>(
 {
     let message = message_of(&c.received, head, parts);
     let found = service.find(message.method, message.target);
-    let answer = service.answer(desk, &message, found);
-    service.note(desk, c.number, Some(&message), &answer.reply());
+    let reply = service.answer(desk, &message, found);
+    service.note(desk, c.number, Some(&message), &reply);
     let all = c.received.len();
-    end_message(c, all, answer, parts.wanted.bare, true);
+    end_message(c, all, reply, parts.wanted.bare, true);
 }
 
 /// Begins the message whose head was read.
@@ -359,11 +352,11 @@ fn unroomed<D, S: Service<D>>(
     ensures number { c.new.number ≡ c.old.number }
     ensures room { vec_capacity c.new.received ≡ vec_capacity c.old.received }
 {
-    let answer = service.no_room();
+    let reply = service.no_room();
     let message = message_of(&c.received, begun.head, &begun.parts);
-    service.note(desk, c.number, Some(&message), &answer.reply());
+    service.note(desk, c.number, Some(&message), &reply);
     let all = c.received.len();
-    end_message(c, all, answer, begun.parts.wanted.bare, true);
+    end_message(c, all, reply, begun.parts.wanted.bare, true);
 }
 
 /// Has the message answered whose body is whole.
@@ -386,13 +379,13 @@ fn finish<D, S: Service<D>>(
 {
     let message = message_of(&c.received, begun.head, &begun.parts);
     let body = c.body.take();
-    let Ok(answer) = ask(service, desk, &message, begun.found, body) else {
+    let Ok(reply) = ask(service, desk, &message, begun.found, body) else {
         return unroomed(c, begun, service, desk);
     };
-    service.note(desk, c.number, Some(&message), &answer.reply());
+    service.note(desk, c.number, Some(&message), &reply);
     let wanted = begun.parts.wanted;
     let closes = closes_after(wanted.closes, c.count);
-    end_message(c, begun.head, answer, wanted.bare, closes);
+    end_message(c, begun.head, reply, wanted.bare, closes);
 }
 
 /// Goes on with the body of the message that is begun.

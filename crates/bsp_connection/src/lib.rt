@@ -27,5 +27,5 @@ pub use noted::Noted;
 pub use output::Output;
 pub use protocol::Http;
 pub use sending::{WriteFault, send, send_on};
-pub use service::{Answer, Message, Service};
+pub use service::{Message, Service};
 pub use serving::serve;

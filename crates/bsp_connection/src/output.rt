@@ -3,13 +3,11 @@
 ghost use Rattle.std.specs.Prelude.{◌≡◌, ◌≤◌, ◌-◌, ◌+◌, List, ℕ, [], ◌++◌, length, take, drop, not, Bool, true, false, if◌then◌else◌};
 ghost use Rattle.std.specs.Cow.{cow_slice_items};
 ghost use Rattle.bsp_heads.specs.ResponseHeads.{head_text};
-ghost use Rattle.bsp_heads.specs.Responses.{reply_head, response};
-ghost use Rattle.bsp_connection.specs.Exchanges.{answer_text};
+ghost use Rattle.bsp_heads.specs.Responses.{reply_head, reply_text, response};
 ghost use Rattle.bsp_connection.specs.Outputs.{HasOutput};
 
 use crate::apart::{Apart, after, bytes_of, from};
-use crate::service::Answer;
-use bsp_heads::{HeadText, ResponseHead};
+use bsp_heads::{HeadText, Reply, ResponseHead};
 use std::alloc::Global;
 use std::borrow::CowSlice;
 use std::marker::Model;
@@ -54,15 +52,15 @@ fn append(texts: &mut Vec<u8>, head: &[u8], body: &[u8]) -> bool
     true
 }
 
-/// The head of the response with this answer.
-fn head_for(answer: &Answer, closes: bool) -> HeadText
-    ensures { result ≡ head_text (reply_head closes (answer_text answer.now)) }
+/// The head of the response with this reply.
+fn head_for(reply: &Reply, closes: bool) -> HeadText
+    ensures { result ≡ head_text (reply_head closes (reply_text reply.now)) }
 {
     let head = ResponseHead {
-        status: answer.status,
-        media: answer.media,
-        length: bytes_of(&answer.body).len(),
-        allow: answer.allow,
+        status: reply.status,
+        media: reply.media,
+        length: bytes_of(&reply.body).len(),
+        allow: reply.allow,
         closes,
     };
     head.text()
@@ -180,17 +178,17 @@ impl Output {
         }
     }
 
-    /// Puts out the response with this answer. `bare`: its body is left out (RFC 9110, 9.3.2). `closes`: the connection
+    /// Puts out the response with this reply. `bare`: its body is left out (RFC 9110, 9.3.2). `closes`: the connection
     /// closes after it. It always succeeds: where there is no memory for a copy, its parts are kept apart.
-    pub fn respond(&mut self, answer: Answer, bare: bool, closes: bool)
+    pub fn respond(&mut self, reply: Reply, bare: bool, closes: bool)
         requires { self.old.apart ≡ false }
-        ensures { self.new.bytes ≡ self.old.bytes ++ response bare closes (answer_text answer) }
+        ensures { self.new.bytes ≡ self.old.bytes ++ response bare closes (reply_text reply) }
     {
-        let head = head_for(&answer, closes);
+        let head = head_for(&reply, closes);
         let body = if bare {
             CowSlice::Borrowed(b"")
         } else {
-            answer.body
+            reply.body
         };
         let bytes = bytes_of(&body);
         if bytes.len() <= COPIED && append(&mut self.texts, head.as_bytes(), bytes) {

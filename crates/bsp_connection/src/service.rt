@@ -2,12 +2,10 @@
 
 ghost use Rattle.std.specs.Prelude.{◌≡◌, ◌<◌, ◌++◌, ℕ, List, [], length, true, is_some, IfSome, IfOk, OnOk, OnErr};
 ghost use Rattle.bsp_heads.specs.Responses.{reply_text};
-ghost use Rattle.bsp_connection.specs.Exchanges.{Meaning, Reading, answer_text, request_of};
+ghost use Rattle.bsp_connection.specs.Exchanges.{Meaning, Reading, request_of};
 
 use bsp_fields::NoRoom;
-use bsp_heads::{Media, Methods, Reply, Status};
-use std::alloc::Global;
-use std::borrow::CowSlice;
+use bsp_heads::Reply;
 
 /// A request whose head was read.
 #[derive(Clone, Copy)]
@@ -18,37 +16,6 @@ pub struct Message<'m> {
     pub target: &'m [u8],
     /// The value of the one `Bsp-Token` field; none where no field or several have that name.
     pub token: Option<&'m [u8]>,
-}
-
-/// What a message is answered.
-#[derive(Drop)]
-pub struct Answer {
-    /// The status.
-    pub status: Status,
-    /// The media type of the body.
-    pub media: Media,
-    /// The methods of the field `Allow`, which a 405 has (RFC 9110, 10.2.1).
-    pub allow: Option<Methods>,
-    /// The body.
-    pub body: CowSlice<'static, u8, Global>,
-}
-
-impl Answer {
-    /// The reply, with the bytes of the body.
-    pub fn reply(&self) -> Reply<'_>
-        ensures { reply_text result ≡ answer_text self.now }
-    {
-        let body = match &self.body {
-            CowSlice::Borrowed(bytes) => bytes,
-            CowSlice::Owned(bytes) => bytes.as_slice(),
-        };
-        Reply {
-            status: self.status,
-            media: self.media,
-            allow: self.allow,
-            body,
-        }
-    }
 }
 
 /// Answers messages at a desk of type `D`.
@@ -92,16 +59,16 @@ pub trait Service<D> {
 
     /// Takes note of a reply before it is written, with the number of its connection: of the message too, where its head
     /// was read.
-    fn note(&self, desk: &D, connection: u64, message: Option<&Message<'_>>, reply: &Reply<'_>);
+    fn note(&self, desk: &D, connection: u64, message: Option<&Message<'_>>, reply: &Reply);
 
     /// What is answered to a request for whose body there was no memory. Takes no memory.
-    fn no_room(&self) -> Answer
-        ensures { answer_text result ≡ Self.means.no_room };
+    fn no_room(&self) -> Reply
+        ensures { reply_text result ≡ Self.means.no_room };
 
     /// Answers a request whose body is not used, or not wanted.
-    fn answer(&self, desk: &mut D, message: &Message<'_>, found: Self::Found) -> Answer
+    fn answer(&self, desk: &mut D, message: &Message<'_>, found: Self::Found) -> Reply
         requires { Self.reads.finds message.now.method.now message.now.target.now found }
-        ensures { Self.means.steps desk.old (request_of message.now []) (answer_text result) desk.new };
+        ensures { Self.means.steps desk.old (request_of message.now []) (reply_text result) desk.new };
 
     /// Answers a request with its body.
     ///
@@ -114,9 +81,9 @@ pub trait Service<D> {
         message: &Message<'_>,
         found: Self::Found,
         body: Self::Body,
-    ) -> Result<Answer, NoRoom>
+    ) -> Result<Reply, NoRoom>
         requires found { Self.reads.finds message.now.method.now message.now.target.now found }
         requires some { (bytes : List ℕ) × Self.reads.has found body bytes }
-        ensures answered { IfOk result (λ answer. (bytes : List ℕ) → Self.reads.has found body bytes → Self.means.steps desk.old (request_of message.now bytes) (answer_text answer) desk.new) }
+        ensures answered { IfOk result (λ reply. (bytes : List ℕ) → Self.reads.has found body bytes → Self.means.steps desk.old (request_of message.now bytes) (reply_text reply) desk.new) }
         ensures refused { OnErr result ((desk.new ≡ desk.old) × ((bytes : List ℕ) → Self.reads.has found body bytes → 0 < length bytes)) };
 }
