@@ -98,7 +98,7 @@ module _ {B : Type 0} (m : Meaning B Rows) where
       let one = reach_more m old.book h.0.book step.request office rows step.reply before sent r answered (message_read request step.request r step.is read.0) (kept_trust h.0 new xs h.2 t) at in
       let others = reached office rows h.0 new xs (before ++ r ∷ []) rs (sent ++ step.reply ∷ []) h.2 read.1 t (step.office ∙ same) one in (
         step.reply ∷ others.0,
-        ((asking_text step.request.call, step.is.asks, step.written_is), others.1),
+        ((asking_text step.request.call, step.is.asks, step.answered.allow, step.written_is), others.1),
         subst (λ (l : List Reading). At office rows new l (sent ++ (step.reply ∷ others.0))) (append_assoc before (r ∷ []) rs)
             (subst (λ (l : List Reply). At office rows new ((before ++ r ∷ []) ++ rs) l) (append_assoc sent (step.reply ∷ []) others.0) others.2),
       )

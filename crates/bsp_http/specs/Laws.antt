@@ -4,9 +4,10 @@ use Rattle.bsp_desk.specs.BookCalls.{Meaning}
 use Rattle.bsp_connection.specs.Conversations.{IsRun}
 use Rattle.bsp_connection.specs.Exchanges.{Exchange, RequestText}
 use Rattle.bsp_connection.specs.Exchanges.Exchange.{wants, replies}
-use Rattle.bsp_heads.specs.Responses.{ReplyText}
+use Rattle.bsp_heads.specs.Responses.{ReplyText, reply_text}
 use Rattle.bsp_desk.specs.Runs.{RanOver}
 use Rattle.bsp_desk.specs.declared.desk.Desk.{Desk}
+use Rattle.bsp_desk.specs.Replies.{allow_of}
 use Rattle.bsp_desk.specs.Reply.{Reply}
 use Rattle.bsp_desk.specs.RoutesCalls.{Asks}
 use Rattle.bsp_desk.specs.Asking.{Asking}
@@ -14,7 +15,6 @@ use Rattle.bsp_desk.specs.Rows.{Rows}
 use Rattle.bsp_desk.specs.Sound.{Sound}
 use Rattle.bsp_desk.specs.Requests.{IsAsked, Request as Reading}
 use Rattle.bsp_http.specs.Messages.{at_desk}
-use Rattle.bsp_http.specs.Replies.{reply_as}
 
 -- the message is read as this request of `bsp_office_spec`
 pub record IsMessageRead (text : RequestText) (reading : Reading) : Type 0 where
@@ -34,9 +34,9 @@ AreMessagesRead _ _ = ⊥
 abbrev pub EachMessageIsRead : Type 0
 EachMessageIsRead = (text : RequestText) (asking : Asking (List ℕ)) → Asks text.method text.target asking → (reading : Reading) × IsMessageRead text reading
 
--- the reply of the desk was written for the message
+-- the reply of the desk was written for the message, with the methods of the path where that is a 405
 abbrev pub IsWrittenFor : RequestText → ReplyText → Reply → Type 0
-IsWrittenFor request written reply = (asking : Asking (List ℕ)) × Asks request.method request.target asking × (written ≡ reply_as asking reply)
+IsWrittenFor request written reply = (asking : Asking (List ℕ)) × Asks request.method request.target asking × (reply.allow ≡ allow_of asking reply.status) × (written ≡ reply_text reply)
 
 abbrev pub AreWrittenFor : List Exchange → List Reply → Type 0
 AreWrittenFor [] [] = Unit {0}

@@ -10,7 +10,7 @@ use Rattle.bsp_desk.specs.Steps.{Answers}
 use Rattle.bsp_desk.specs.declared.desk.Desk.{Desk}
 use Rattle.bsp_desk.specs.declared.request.Request.{Request}
 use Rattle.bsp_desk.specs.Reply.{Reply}
-use Rattle.bsp_heads.specs.Responses.{ReplyText}
+use Rattle.bsp_heads.specs.Responses.{ReplyText, reply_text}
 use Rattle.bsp_ret.specs.Ret.{File}
 use Rattle.bsp_ret.specs.declared.model.RetFault.{RetFault}
 use Rattle.bsp_desk.specs.RoutesCalls.{Asks, asking_text}
@@ -20,7 +20,7 @@ use Rattle.bsp_desk.specs.Contents.{IsAskedWith}
 use Rattle.bsp_desk.specs.Content.{Content}
 use Rattle.bsp_desk.specs.Content.TheVariants as content
 use Rattle.bsp_desk.specs.Requests.{Asked, IsAsked}
-use Rattle.bsp_http.specs.Replies.{no_room, reply_as}
+use Rattle.bsp_http.specs.Replies.{no_room}
 use Rattle.bsp_http.specs.Uses.{Uses}
 
 -- a body that was read as a RET file
@@ -49,7 +49,7 @@ module _ {B : Type 0} (m : Meaning B Rows) where
     pub reply : Reply
     pub answered : Answers m old.book new.book request old.office reply
     pub office : new.office ≡ old.office
-    pub written_is : written ≡ reply_as (asking_text request.call) reply
+    pub written_is : written ≡ reply_text reply
 
   -- the desk looks up whether the body of a message is wanted; where it cannot, the body is taken
   pub record Admits (old : Desk B) (head : RequestText) (wanted : Bool) (new : Desk B) : Type 0 where

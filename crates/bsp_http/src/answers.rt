@@ -1,7 +1,8 @@
 //! Answering a message with what its body is.
 
 ghost use Rattle.std.specs.Prelude.{◌≡◌, ◌<◌, ℕ, List, length, None, Some, IfOk, OnErr, MatchResult};
-ghost use Rattle.bsp_connection.specs.Exchanges.{answer_text, request_of};
+ghost use Rattle.bsp_connection.specs.Exchanges.{request_of};
+ghost use Rattle.bsp_heads.specs.Responses.{reply_text};
 ghost use Rattle.bsp_desk.specs.Routed.{IsRouteOf};
 ghost use Rattle.bsp_ret.specs.Lines.{lines};
 ghost use Rattle.bsp_ret.specs.Table.{first_fault};
@@ -10,10 +11,10 @@ ghost use Rattle.bsp_http.specs.Messages.{at_desk, content_of};
 
 use crate::bodies::Found;
 use crate::journal::Journal;
-use crate::replies::answer_with;
-use bsp_connection::{Answer, Message};
+use bsp_connection::Message;
 use bsp_desk::{BodyKind, Book, Content, Desk, Request, Route};
 use bsp_fields::NoRoom;
+use bsp_heads::Reply;
 use bsp_ret::{RetFault, RetFile, RetReader};
 
 /// The content that a body is, read as a RET file.
@@ -33,9 +34,9 @@ pub(crate) fn answer_bytes<B: Book, J: Journal<B>>(
     message: &Message<'_>,
     route: Route,
     body: &[u8],
-) -> Answer
+) -> Reply
     requires { IsRouteOf message.now.method.now message.now.target.now route }
-    ensures { (at_desk B.means).steps desk.old (request_of message.now body.now) (answer_text result) desk.new }
+    ensures { (at_desk B.means).steps desk.old (request_of message.now body.now) (reply_text result) desk.new }
 {
     let call = route.asking(message.method, message.target);
     let request = Request {
@@ -44,9 +45,9 @@ pub(crate) fn answer_bytes<B: Book, J: Journal<B>>(
         content: Content::Bytes(body),
     };
     journal.note_asking();
-    let answer = answer_with(desk.answer(&request), call);
-    journal.note_body(call, body, &answer.reply());
-    answer
+    let reply = desk.answer(&request);
+    journal.note_body(call, body, &reply);
+    reply
 }
 
 /// Answers a request whose body was read as a RET file: with the file, or its first fault.
@@ -56,10 +57,10 @@ fn answer_file<B: Book, J: Journal<B>>(
     message: &Message<'_>,
     found: Found,
     file: Result<&RetFile<'_>, RetFault>,
-) -> Answer
+) -> Reply
     requires found { IsFound message.now.method.now message.now.target.now found }
     requires kind { found.kind ≡ BodyKind.Ret }
-    ensures { (bytes : List ℕ) → IsFileRead bytes file.entry → (at_desk B.means).steps desk.old (request_of message.now bytes) (answer_text result) desk.new }
+    ensures { (bytes : List ℕ) → IsFileRead bytes file.entry → (at_desk B.means).steps desk.old (request_of message.now bytes) (reply_text result) desk.new }
 {
     let call = found.route.asking(message.method, message.target);
     let request = Request {
@@ -68,7 +69,7 @@ fn answer_file<B: Book, J: Journal<B>>(
         content: content_of(file),
     };
     journal.note_asking();
-    answer_with(desk.answer(&request), call)
+    desk.answer(&request)
 }
 
 /// Ends a RET file: judges a last line without an end, and whether the file is whole.
@@ -91,10 +92,10 @@ pub(crate) fn answer_read<B: Book, J: Journal<B>>(
     message: &Message<'_>,
     found: Found,
     mut reader: RetReader,
-) -> Result<Answer, NoRoom>
+) -> Result<Reply, NoRoom>
     requires found { IsFound message.now.method.now message.now.target.now found }
     requires kind { found.kind ≡ BodyKind.Ret }
-    ensures answered { IfOk result (λ answer. (bytes : List ℕ) → HasRet reader bytes → (at_desk B.means).steps desk.old (request_of message.now bytes) (answer_text answer) desk.new) }
+    ensures answered { IfOk result (λ reply. (bytes : List ℕ) → HasRet reader bytes → (at_desk B.means).steps desk.old (request_of message.now bytes) (reply_text reply) desk.new) }
     ensures refused { OnErr result ((desk.new ≡ desk.old) × ((bytes : List ℕ) → HasRet reader bytes → 0 < length bytes)) }
 {
     if let Err(fault) = end(&mut reader) {

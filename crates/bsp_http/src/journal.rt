@@ -8,7 +8,7 @@ use bsp_heads::Reply;
 pub trait Journal<B: Book> {
     /// Takes note of the body of a request that was answered, before the reply is noted: of one that is read as a RET
     /// file while it comes there is none.
-    fn note_body(&self, asking: Asking<&[u8]>, body: &[u8], reply: &Reply<'_>);
+    fn note_body(&self, asking: Asking<&[u8]>, body: &[u8], reply: &Reply);
 
     /// Takes note that the desk is asked next.
     fn note_asking(&self);
@@ -20,7 +20,7 @@ pub trait Journal<B: Book> {
         desk: &Desk<B>,
         connection: u64,
         message: Option<&Message<'_>>,
-        reply: &Reply<'_>,
+        reply: &Reply,
     );
 }
 
@@ -29,7 +29,7 @@ pub trait Journal<B: Book> {
 pub struct NoJournal;
 
 impl<B: Book> Journal<B> for NoJournal {
-    fn note_body(&self, _asking: Asking<&[u8]>, _body: &[u8], _reply: &Reply<'_>) {}
+    fn note_body(&self, _asking: Asking<&[u8]>, _body: &[u8], _reply: &Reply) {}
 
     fn note_asking(&self) {}
 
@@ -38,6 +38,6 @@ impl<B: Book> Journal<B> for NoJournal {
         _desk: &Desk<B>,
         _connection: u64,
         _message: Option<&Message<'_>>,
-        _reply: &Reply<'_>,
+        _reply: &Reply,
     ) {}
 }

@@ -11,7 +11,6 @@ mod connection;
 mod journal;
 mod laws;
 mod office;
-mod replies;
 
 pub use bsp_connection::{End, Message, Noted, ServeFault, Served};
 pub use bsp_heads::{Reply, Status};

@@ -7,9 +7,8 @@ ghost use Rattle.bsp_http.specs.Messages.{at_desk};
 use crate::answers::{answer_bytes, answer_read};
 use crate::bodies::{Found, RequestBody, kind_of};
 use crate::journal::Journal;
-use crate::replies::no_room_reply;
-use bsp_connection::{Answer, Message, Service};
-use bsp_desk::{Book, Desk};
+use bsp_connection::{Message, Service};
+use bsp_desk::{Book, Desk, RequestRefusal};
 use bsp_fields::NoRoom;
 use bsp_heads::Reply;
 use bsp_routes::Routes;
@@ -64,16 +63,16 @@ impl<'r, B: Book, J: Journal<B>> Service<Desk<B>> for Office<'r, J> {
         desk: &Desk<B>,
         connection: u64,
         message: Option<&Message<'_>>,
-        reply: &Reply<'_>,
+        reply: &Reply,
     ) {
         self.journal.note(desk, connection, message, reply);
     }
 
-    fn no_room(&self) -> Answer {
-        no_room_reply()
+    fn no_room(&self) -> Reply {
+        RequestRefusal::NoRoom.reply()
     }
 
-    fn answer(&self, desk: &mut Desk<B>, message: &Message<'_>, found: Found) -> Answer {
+    fn answer(&self, desk: &mut Desk<B>, message: &Message<'_>, found: Found) -> Reply {
         answer_bytes(self.journal, desk, message, found.route, b"")
     }
 
@@ -83,7 +82,7 @@ impl<'r, B: Book, J: Journal<B>> Service<Desk<B>> for Office<'r, J> {
         message: &Message<'_>,
         found: Found,
         body: RequestBody,
-    ) -> Result<Answer, NoRoom> {
+    ) -> Result<Reply, NoRoom> {
         match body {
             RequestBody::Kept(bytes) => Ok(answer_bytes(
                 self.journal,

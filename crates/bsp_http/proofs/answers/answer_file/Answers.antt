@@ -1,4 +1,4 @@
-use Rattle.std.proofs.Common.{◌≡◌, ap, sym, subst, ◌∙◌}
+use Rattle.std.proofs.Common.{◌≡◌, refl, ap, sym, subst, ◌∙◌}
 use Rattle.bsp_desk.specs.RoutesCalls.{asking_text}
 use Rattle.bsp_desk.specs.Contents.{IsAskedWith}
 use Rattle.bsp_desk.specs.Content.{Content}
@@ -23,5 +23,5 @@ returns g c = λ bytes is.
       reply = c.answer.result;
       answered = c.answer.ensures.answered;
       office = c.answer.ensures.office;
-      written_is = c.answer_with.ensures;
+      written_is = refl;
     }
