@@ -1,5 +1,5 @@
 -- What of a connection has a time.
-use Rattle.std.specs.Prelude.{◌≡◌, false, Option, None}
+use Rattle.std.specs.Prelude.{◌≡◌, true, false, Option, None}
 use Rattle.bsp_peers.specs.declared.peers.Awaited.{Awaited}
 use Rattle.bsp_sockets.specs.declared.phase.Begun.{Begun}
 use Rattle.bsp_sockets.specs.declared.phase.Unread.{Unread}
@@ -21,3 +21,7 @@ output_of (Leaving since) = None
 -- no message is begun, no output waits, and no turn comes again
 abbrev pub IsBetween : Awaited → Type 0
 IsBetween awaited = (awaited.message ≡ None) × (awaited.writes ≡ false) × (awaited.again ≡ false)
+
+-- its turn comes again, and nothing is waited for
+abbrev pub IsAgain : Awaited → Type 0
+IsAgain awaited = (awaited.again ≡ true) × (awaited.reads ≡ false) × (awaited.writes ≡ false)

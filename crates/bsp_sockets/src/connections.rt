@@ -9,6 +9,7 @@ use crate::turns::Turns;
 use crate::watched::{Dropped, Watched};
 use bsp_peers::{Awaited, Happened};
 use mio::Registry;
+use mio::event::Event;
 use mio::net::TcpStream;
 use std::alloc::Global;
 use std::collections::BTreeMap;
@@ -24,6 +25,26 @@ pub(crate) struct Connections {
     has_dropped: bool,
     // Whether the last that was late was between messages.
     pub(crate) was_resting: bool,
+}
+
+/// Notes what a connection does. Where there is no memory for its time it is shut down.
+fn enter(times: &mut Times, watched: &mut Watched, number: u64, phase: Phase) {
+    times.remove(number, watched.phase);
+    watched.phase = phase;
+    if !times.add(number, phase) {
+        watched.shut_down();
+    }
+}
+
+/// Puts a connection after all others whose turn comes. Where there is no memory for that, the system reports it again.
+fn queue(turns: &mut Turns, watched: &mut Watched, registry: &Registry, number: u64) {
+    if watched.is_queued {
+        return;
+    }
+    watched.is_queued = turns.push(number);
+    if !watched.is_queued {
+        watched.report_again(registry, number);
+    }
 }
 
 impl Connections {
@@ -52,10 +73,19 @@ impl Connections {
         has_dropped
     }
 
-    /// Adds a connection. Answers whether there was memory.
-    pub(crate) fn add(&mut self, number: u64, stream: TcpStream, now: Instant) -> bool {
-        let watched = Watched::new(stream, now);
+    /// Adds a connection, which the system reports. Answers whether it does, and there was memory.
+    pub(crate) fn add(
+        &mut self,
+        registry: &Registry,
+        number: u64,
+        stream: TcpStream,
+        now: Instant,
+    ) -> bool {
+        let mut watched = Watched::new(stream, now);
         let phase = watched.phase;
+        if !watched.register(registry, number) {
+            return false;
+        }
         if !self.turns.reserve(self.streams.len() + 1) || !self.times.add(number, phase) {
             return false;
         }
@@ -80,29 +110,11 @@ impl Connections {
         self.times.keep_leaving();
     }
 
-    /// Notes what a connection does. Where there is no memory for its time it is shut down.
-    pub(crate) fn enter(&mut self, number: u64, phase: Phase) {
-        let Some(watched) = self.streams.get_mut(&number) else {
-            return;
-        };
-        self.times.remove(number, watched.phase);
-        watched.phase = phase;
-        if !self.times.add(number, phase) {
-            watched.shut_down();
-        }
-    }
-
-    /// Puts a connection after all others whose turn comes. Where there is no memory for that, the system reports it again.
-    pub(crate) fn queue(&mut self, registry: &Registry, number: u64) {
-        let Some(watched) = self.streams.get_mut(&number) else {
-            return;
-        };
-        if watched.is_queued {
-            return;
-        }
-        watched.is_queued = self.turns.push(number);
-        if !watched.is_queued {
-            let _ = watched.watch(registry, number, true, true);
+    /// Notes what the system reported of a connection, whose turn comes.
+    pub(crate) fn note(&mut self, registry: &Registry, number: u64, event: Event) {
+        if let Some(watched) = self.streams.get_mut(&number) {
+            watched.note(event);
+            queue(&mut self.turns, watched, registry, number);
         }
     }
 
@@ -116,7 +128,7 @@ impl Connections {
             return Happened::Ready(number);
         }
         match watched.drop_pieces() {
-            Dropped::More => self.queue(registry, number),
+            Dropped::More => queue(&mut self.turns, watched, registry, number),
             Dropped::All => {}
             Dropped::Ended => self.remove(number),
         }
@@ -135,11 +147,9 @@ impl Connections {
             return;
         };
         let phase = watched.end_turn(awaited, now);
-        let is_watched = !awaited.again
-            && watched.watch(registry, number, awaited.reads, awaited.writes);
-        self.enter(number, phase);
-        if !is_watched {
-            self.queue(registry, number);
+        enter(&mut self.times, watched, number, phase);
+        if awaited.again || !watched.watch(registry, number, awaited.reads, awaited.writes) {
+            queue(&mut self.turns, watched, registry, number);
         }
     }
 
@@ -148,10 +158,13 @@ impl Connections {
         let Some(watched) = self.streams.get_mut(&number) else {
             return false;
         };
-        if !watched.send_end() || !watched.watch(registry, number, true, false) {
+        if !watched.send_end() {
             return false;
         }
-        self.enter(number, Phase::Leaving(now));
+        enter(&mut self.times, watched, number, Phase::Leaving(now));
+        if !watched.watch(registry, number, true, false) {
+            queue(&mut self.turns, watched, registry, number);
+        }
         true
     }
 
@@ -167,11 +180,11 @@ impl Connections {
             return Happened::Nothing;
         }
         if let Some(phase) = watched.phase.once_more(limits.busy, now) {
-            self.enter(number, phase);
+            enter(&mut self.times, watched, number, phase);
             return Happened::Ready(number);
         }
         self.was_resting = watched.is_resting();
-        self.enter(number, Phase::OVER);
+        enter(&mut self.times, watched, number, Phase::OVER);
         Happened::Late(number)
     }
 }

@@ -7,6 +7,7 @@ ghost use Rattle.std.specs.declared.time.Duration.{Duration};
 ghost use Rattle.std.specs.declared.time.Instant.{Instant};
 ghost use Rattle.std.specs.Duration.{as_nanos};
 ghost use Rattle.std.specs.Time.{instant_nanos};
+ghost use Rattle.bsp_sockets.specs.Phases.{IsAgain};
 
 use crate::limits::is_over;
 use bsp_peers::Awaited;
@@ -95,6 +96,34 @@ fn begun_after(before: Option<Begun>, message: Option<usize>, now: Instant) -> O
     }
 }
 
+/// The message that is begun after a turn after which its connection has another: one that was waited for before. The peer
+/// is not waited for, so no time starts.
+fn still_begun(before: Option<Begun>, message: Option<usize>) -> Option<Begun>
+    ensures same { (begun : Begun) → message ≡ Some begun.before → before ≡ Some begun → result ≡ before }
+    ensures none { before ≡ None → result ≡ None }
+    ensures other { (begun : Begun) → before ≡ Some begun → message ≢ Some begun.before → result ≡ None }
+{
+    match before {
+        Some(begun) if message == Some(begun.before) => before,
+        _ => None,
+    }
+}
+
+/// The message that has a time after a turn.
+fn message_after(before: Option<Begun>, awaited: Awaited, now: Instant) -> Option<Begun>
+    ensures same { (begun : Begun) → awaited.reads ≡ true → awaited.message ≡ Some begun.before → before ≡ Some begun → result ≡ before }
+    ensures first { (count : ℕ) → awaited.reads ≡ true → awaited.message ≡ Some count → before ≡ None → result ≡ Some (record { before = count; since = now }) }
+    ensures again { IsAgain awaited → before ≡ None → result ≡ None }
+    ensures on { (begun : Begun) → IsAgain awaited → awaited.message ≡ Some begun.before → before ≡ Some begun → result ≡ before }
+    ensures next { (begun : Begun) → IsAgain awaited → awaited.message ≢ Some begun.before → before ≡ Some begun → result ≡ None }
+{
+    match (awaited.reads, awaited.writes) {
+        (true, _) => begun_after(before, awaited.message, now),
+        (false, false) => still_begun(before, awaited.message),
+        (false, true) => None,
+    }
+}
+
 /// The output that waits after a turn in which so many bytes were written. Its time starts where none waited before, and
 /// again with each piece that the peer took.
 fn unread_after(before: Option<Unread>, waits: bool, sent: usize, now: Instant) -> Option<Unread>
@@ -167,7 +196,7 @@ fn once_more(unread: Unread, now: Instant) -> Option<Unread>
 }
 
 impl Phase {
-    ghost use Rattle.bsp_sockets.specs.Phases.{IsBetween, message_of, output_of};
+    ghost use Rattle.bsp_sockets.specs.Phases.{IsAgain, IsBetween, message_of, output_of};
     ghost use Rattle.bsp_sockets.specs.declared.phase.Phase.TheVariants.{Resting, Busy, Leaving};
 
     /// What a connection does whose time is over, until it is closed.
@@ -211,21 +240,22 @@ impl Phase {
     }
 
     /// What a connection does after a turn. While output waits and nothing more is read, a message has no time: the
-    /// peer cannot end it.
+    /// peer cannot end it. Nor does a time start where the next turn comes in any case.
     pub(crate) fn after(self, awaited: Awaited, traffic: Traffic, now: Instant) -> Phase
         ensures between { IsBetween awaited → (since : Instant) × (result ≡ Resting since) }
         ensures still { (since : Instant) → IsBetween awaited → self ≡ Resting since → traffic.came ≡ false → traffic.sent ≡ 0 → result ≡ self }
         ensures byte { (begun : Begun) → awaited.reads ≡ true → awaited.message ≡ Some begun.before → message_of self ≡ Some begun → message_of result ≡ Some begun }
         ensures message { (count : ℕ) → awaited.reads ≡ true → awaited.message ≡ Some count → message_of self ≡ None → message_of result ≡ Some (record { before = count; since = now }) }
+        ensures again { IsAgain awaited → message_of self ≡ None → result ≡ Busy None None }
+        ensures on { (begun : Begun) → IsAgain awaited → awaited.message ≡ Some begun.before → message_of self ≡ Some begun → result ≡ Busy (Some begun) None }
+        ensures next { (begun : Begun) → IsAgain awaited → awaited.message ≢ Some begun.before → message_of self ≡ Some begun → result ≡ Busy None None }
         ensures output { (old : Unread) → awaited.writes ≡ true → output_of self ≡ Some old → old.stage ≢ Stage.Filling → old.taken + traffic.sent < PIECE → output_of result ≡ Some (record { taken = old.taken + traffic.sent; since = old.since; spans = old.spans; stage = old.stage }) }
     {
         if awaited.message.is_none() && !awaited.writes && !awaited.again {
             return Phase::Resting(self.rested(traffic, now));
         }
-        let awaits_message = awaited.reads || !awaited.writes;
-        let message = awaited.message.filter(|_| awaits_message);
         Phase::Busy {
-            message: begun_after(self.message(), message, now),
+            message: message_after(self.message(), awaited, now),
             output: unread_after(self.output(), awaited.writes, traffic.sent, now),
         }
     }

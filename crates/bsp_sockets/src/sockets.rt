@@ -5,7 +5,7 @@ use crate::door::{Door, LISTENER};
 use crate::limits::{Limits, earlier};
 use bsp_peers::{Awaited, Ending, Happened, Moved, Peers};
 use mio::net::TcpListener;
-use mio::{Events, Interest, Poll, Token};
+use mio::{Events, Poll};
 use std::alloc::Global;
 use std::io;
 use std::net::{Net, SocketAddr};
@@ -66,6 +66,8 @@ pub struct Sockets<'c, C> {
     connections: Connections,
     // When the last wait ended: what came before then has had its turn.
     waited: Instant,
+    // The time, as it was read last.
+    read: Instant,
 }
 
 /// How long connections may do what they do by these settings.
@@ -106,6 +108,7 @@ impl<'c, C: Clock + Net> Sockets<'c, C> {
             door,
             connections: Connections::new(alloc),
             waited,
+            read: waited,
         })
     }
 
@@ -168,9 +171,10 @@ impl<C: Clock> Sockets<'_, C> {
         }
     }
 
-    /// The time, or where the clock fails the time of the last wait.
-    fn now(&self) -> Instant {
-        Instant::now(self.clock).unwrap_or(self.waited)
+    /// The time, or where the clock fails the time that was read last.
+    fn now(&mut self) -> Instant {
+        self.read = Instant::now(self.clock).unwrap_or(self.read);
+        self.read
     }
 
     /// Whether one more connection has a place.
@@ -210,14 +214,15 @@ impl<C: Clock> Sockets<'_, C> {
         None
     }
 
-    /// How long nothing is to be done if nothing comes; none: without end.
+    /// How long nothing is to be done if nothing comes; none: without end. The time is that of the last turn after which a
+    /// peer is waited for.
     fn patience(&self) -> Option<Duration> {
         let is_due = self.has_place() && self.door.is_open(self.waited);
         if is_due || !self.connections.turns.is_empty() {
             return Some(Duration::ZERO);
         }
         let end = earlier(self.connections.times.end(self.limits), self.next_arrival())?;
-        Some(end.duration_since(self.now()))
+        Some(end.duration_since(self.read))
     }
 
     /// Notes what the system reported.
@@ -227,7 +232,8 @@ impl<C: Clock> Sockets<'_, C> {
             if token == LISTENER {
                 self.door.note();
             } else {
-                self.connections.queue(self.poll.registry(), token as u64);
+                self.connections
+                    .note(self.poll.registry(), token as u64, *event);
             }
         }
     }
@@ -240,6 +246,7 @@ impl<C: Clock> Sockets<'_, C> {
         let patience = self.patience();
         self.poll.poll(&mut self.events, patience)?;
         self.waited = Instant::now(self.clock)?;
+        self.read = self.waited;
         self.note();
         self.connections.turns.begin_round();
         self.door.begin_round();
@@ -270,13 +277,11 @@ impl<C: Clock> Peers for Sockets<'_, C> {
         let now = self.now();
         let registry = self.poll.registry();
         let has_places = self.connections.count() + 1 < self.at_once;
-        let Some(mut stream) = self.door.accept(registry, has_places, now) else {
+        let Some(stream) = self.door.accept(registry, has_places, now) else {
             return false;
         };
         let _ = stream.set_nodelay(true);
-        let token = Token(number as usize);
-        let registered = registry.register(&mut stream, token, Interest::READABLE);
-        registered.is_ok() && self.connections.add(number, stream, now)
+        self.connections.add(registry, number, stream, now)
     }
 
     fn read(&mut self, number: u64, room: &mut [u8]) -> Moved {
@@ -294,7 +299,9 @@ impl<C: Clock> Peers for Sockets<'_, C> {
     }
 
     fn watch(&mut self, number: u64, awaited: Awaited) {
-        let now = self.now();
+        // no time starts where the turn comes again
+        let starts = awaited.reads || awaited.writes;
+        let now = if starts { self.now() } else { self.read };
         self.connections
             .watch(self.poll.registry(), number, awaited, now);
     }

@@ -1,10 +1,11 @@
 //! One connection that is watched.
 
-ghost use Rattle.std.specs.Prelude.{ℕ, List};
+ghost use Rattle.std.specs.Prelude.{◌≡◌, ◌↔◌, ℕ, List, IsTrue};
 ghost use Rattle.bsp_peers.specs.Bounds.{MovesAtMost};
 
 use crate::phase::{Phase, Traffic};
 use bsp_peers::{Awaited, Moved};
+use mio::event::Event;
 use mio::net::TcpStream;
 use mio::{Interest, Registry, Token};
 use std::io::{ErrorKind, Read, Write};
@@ -25,6 +26,15 @@ pub(crate) struct Watched {
     pub(crate) phase: Phase,
     /// Whether its turn comes.
     pub(crate) is_queued: bool,
+    // What of it the system reports, each time that it comes to be so.
+    interest: Interest,
+    // Whether a read took all that was there, and a write all the room that there was, since the last report. The system
+    // reports what comes after that.
+    is_drained: bool,
+    is_full: bool,
+    // Whether a read that has room left may have left something: the peer ended, the connection failed, or it was sent
+    // urgent data, at which a read stops.
+    is_ending: bool,
 }
 
 /// What dropping what a peer sends came to.
@@ -49,6 +59,10 @@ impl Watched {
             },
             phase: Phase::Resting(now),
             is_queued: false,
+            interest: reading(),
+            is_drained: true,
+            is_full: false,
+            is_ending: false,
         }
     }
 
@@ -70,6 +84,22 @@ impl Watched {
         }
     }
 
+    /// Has the system report when it can be read, the first time.
+    pub(crate) fn register(&mut self, registry: &Registry, number: u64) -> bool {
+        registry
+            .register(&mut self.stream, Token(number as usize), self.interest)
+            .is_ok()
+    }
+
+    /// Notes what the system reported of it.
+    pub(crate) fn note(&mut self, event: Event) {
+        self.is_drained = false;
+        self.is_full = false;
+        if event.is_read_closed() || event.is_error() || event.is_priority() {
+            self.is_ending = true;
+        }
+    }
+
     /// Reads what came.
     pub(crate) fn read(&mut self, room: &mut [u8]) -> Moved
         ensures { MovesAtMost result room.new }
@@ -78,9 +108,13 @@ impl Watched {
             Ok(0) => Moved::Ended,
             Ok(count) => {
                 self.traffic.came = true;
+                self.is_drained = count < room.len() && !self.is_ending;
                 Moved::Bytes(count)
             }
-            Err(error) => moved_by(error.kind()),
+            Err(error) => {
+                self.is_drained = is_blocked(error.kind());
+                moved_by(error.kind())
+            }
         }
     }
 
@@ -92,9 +126,13 @@ impl Watched {
             Ok(0) => Moved::Failed,
             Ok(count) => {
                 self.traffic.sent = self.traffic.sent.saturating_add(count);
+                self.is_full = count < bytes.len();
                 Moved::Bytes(count)
             }
-            Err(error) => moved_by(error.kind()),
+            Err(error) => {
+                self.is_full = is_blocked(error.kind());
+                moved_by(error.kind())
+            }
         }
     }
 
@@ -109,7 +147,7 @@ impl Watched {
     }
 
     /// Has the system report when the peer can be read or written. Where neither is waited for, it reports what it was
-    /// asked to before. Answers whether it will.
+    /// asked to before. Answers whether it will; otherwise the peer may be ready now, without a report.
     pub(crate) fn watch(
         &mut self,
         registry: &Registry,
@@ -117,15 +155,33 @@ impl Watched {
         reads: bool,
         writes: bool,
     ) -> bool {
-        let interests = match (reads, writes) {
-            (true, true) => Interest::READABLE | Interest::WRITABLE,
-            (true, false) => Interest::READABLE,
+        let interest = match (reads, writes) {
+            (true, true) => reading() | Interest::WRITABLE,
+            (true, false) => reading(),
             (false, true) => Interest::WRITABLE,
             (false, false) => return true,
         };
-        registry
-            .reregister(&mut self.stream, Token(number as usize), interests)
-            .is_ok()
+        if interest == self.interest {
+            return (!reads || self.is_drained) && (!writes || self.is_full);
+        }
+        self.change(registry, number, interest)
+    }
+
+    /// Has the system report this from now on, and at once where it is so already. Answers whether it will.
+    fn change(&mut self, registry: &Registry, number: u64, interest: Interest) -> bool {
+        let token = Token(number as usize);
+        let is_changed = registry
+            .reregister(&mut self.stream, token, interest)
+            .is_ok();
+        if is_changed {
+            self.interest = interest;
+        }
+        is_changed
+    }
+
+    /// Has the system report it again, whatever it is ready for.
+    pub(crate) fn report_again(&mut self, registry: &Registry, number: u64) {
+        let _ = self.change(registry, number, reading() | Interest::WRITABLE);
     }
 
     /// Sends the peer the end.
@@ -143,6 +199,7 @@ impl Watched {
         let mut room = [0; PIECE];
         for _ in 0..READS {
             match self.read(&mut room) {
+                Moved::Bytes(_) if self.is_drained => return Dropped::All,
                 Moved::Bytes(_) => {}
                 Moved::NotNow => return Dropped::All,
                 Moved::Ended => return Dropped::Ended,
@@ -151,6 +208,18 @@ impl Watched {
         }
         Dropped::More
     }
+}
+
+/// What is waited for where the peer is read: bytes, its end, and urgent data.
+fn reading() -> Interest {
+    Interest::READABLE | Interest::PRIORITY
+}
+
+/// Whether a call that failed so found the socket not ready, so that the system reports when it is.
+fn is_blocked(kind: ErrorKind) -> bool
+    ensures { IsTrue result ↔ (kind ≡ ErrorKind.WouldBlock) }
+{
+    kind == ErrorKind::WouldBlock
 }
 
 /// What a call did that failed so.
