@@ -38,6 +38,9 @@ pub struct Settings {
 /// its end. Between two rounds the system is asked which others are ready. A round has a turn for each that is ready at its
 /// beginning, and 32 turns at least while any is ready.
 ///
+/// Reports: the system reports a connection each time that bytes come, or room for output that waits. Where a read left
+/// room, or a write left bytes, that is waited for. Otherwise, and where the peer ended, the connection has another turn.
+///
 /// Times: a connection is late where a message is begun and not whole after [`Settings::timeout`], or nothing comes for
 /// [`Settings::idle`] between messages. A peer that is sent something is late where, within twice the timeout, it takes
 /// fewer than 32,768 bytes and not all.

@@ -1,6 +1,7 @@
 //! One connection that is watched.
 
-ghost use Rattle.std.specs.Prelude.{◌≡◌, ◌↔◌, ℕ, List, IsTrue};
+ghost use Rattle.std.specs.Prelude.{◌≡◌, ◌≢◌, ◌↔◌, ◌<◌, ℕ, List, length, true, false, IsTrue};
+ghost use Rattle.bsp_peers.specs.declared.peers.Moved.TheVariants.{Bytes};
 ghost use Rattle.bsp_peers.specs.Bounds.{MovesAtMost};
 
 use crate::phase::{Phase, Traffic};
@@ -92,7 +93,10 @@ impl Watched {
     }
 
     /// Notes what the system reported of it.
-    pub(crate) fn note(&mut self, event: Event) {
+    pub(crate) fn note(&mut self, event: Event)
+        ensures read { self.new.is_drained ≡ false }
+        ensures written { self.new.is_full ≡ false }
+    {
         self.is_drained = false;
         self.is_full = false;
         if event.is_read_closed() || event.is_error() || event.is_priority() {
@@ -102,7 +106,8 @@ impl Watched {
 
     /// Reads what came.
     pub(crate) fn read(&mut self, room: &mut [u8]) -> Moved
-        ensures { MovesAtMost result room.new }
+        ensures bound { MovesAtMost result room.new }
+        ensures drained { (count : ℕ) → result ≡ Bytes count → self.new.is_drained ≡ true → (count < length room.new) × (self.old.is_ending ≡ false) }
     {
         match self.stream.read(room) {
             Ok(0) => Moved::Ended,
@@ -120,7 +125,8 @@ impl Watched {
 
     /// Writes.
     pub(crate) fn write(&mut self, bytes: &[u8]) -> Moved
-        ensures { MovesAtMost result bytes.now }
+        ensures bound { MovesAtMost result bytes.now }
+        ensures full { (count : ℕ) → result ≡ Bytes count → self.new.is_full ≡ true → count < length bytes.now }
     {
         match self.stream.write(bytes) {
             Ok(0) => Moved::Failed,
@@ -224,7 +230,8 @@ fn is_blocked(kind: ErrorKind) -> bool
 
 /// What a call did that failed so.
 fn moved_by(kind: ErrorKind) -> Moved
-    ensures { (bytes : List ℕ) → MovesAtMost result bytes }
+    ensures bound { (bytes : List ℕ) → MovesAtMost result bytes }
+    ensures none { (count : ℕ) → result ≢ Bytes count }
 {
     match kind {
         ErrorKind::WouldBlock | ErrorKind::Interrupted => Moved::NotNow,
