@@ -1,9 +1,10 @@
 #!/usr/bin/env bash
 # Measures the office over HTTP on one connection, with 1 and with 16 requests sent before their responses are read:
-# nanoseconds a request, against a twin in plain Rust that has the HTTP part alone, with fixed replies. The request
-# `none` has no route, so that the office too has the HTTP part alone; `period` and `sale` have the desk's work in them.
+# nanoseconds a request, by the clock and of processor time (user and system), against a twin in plain Rust that has the
+# HTTP part alone, with fixed replies. The request `none` has no route, so that the office too has the HTTP part alone;
+# `period` and `sale` have the desk's work in them. Each time is the least of five runs, the office and the twin in turn.
 #
-# A connection has at most 65,536 messages, and each of five rounds sends COUNT.
+# A connection has at most 65,536 messages, and each of the five rounds of a run sends COUNT.
 #
 # usage: bench/http/run.sh [PROGRAM] [COUNT]
 set -eu
@@ -33,8 +34,10 @@ post() {
 
 office=$(free_port)
 "$program" serve --port "$office" --token officetoken00001 2>/dev/null &
+office_pid=$!
 twin=$(free_port)
 ./twin "$twin" &
+twin_pid=$!
 answers "$office"
 answers "$twin"
 post "$office" officetoken00001 /office/plan "@$top/samples/plan.toml"
@@ -51,12 +54,23 @@ printf 'GET /agents/12345675/periods/24011 HTTP/1.1\r\n%s\r\n' "$fields" >period
   cat "$top/samples/sale.ret"
 } >sale
 
-printf '%-8s %5s %12s %12s %7s\n' request depth office twin ratio
+# measure PORT PID DEPTH REQUEST: nanoseconds by the clock, and of the processor time of that process
+measure() {
+  local before wall after
+  before=$(cut -d ' ' -f 1 "/proc/$2/schedstat")
+  wall=$(./client "$1" "$count" "$3" "$4")
+  after=$(cut -d ' ' -f 1 "/proc/$2/schedstat")
+  echo "$wall $(((after - before) / (5 * (count / $3 * $3) + 1)))"
+}
+
+printf '%-8s %5s %18s %18s %6s %18s %18s %6s\n' request depth 'office, clock' 'twin, clock' ratio 'office, processor' 'twin, processor' ratio
 for request in none period sale; do
   for depth in 1 16; do
-    ours=$(./client "$office" "$count" "$depth" "$request")
-    theirs=$(./client "$twin" "$count" "$depth" "$request")
-    printf '%-8s %5s %9s ns %9s ns %7s\n' "$request" "$depth" "$ours" "$theirs" \
-      "$(awk -v ours="$ours" -v theirs="$theirs" 'BEGIN { printf "%.2f", ours / theirs }')"
+    for _ in 1 2 3 4 5; do
+      echo "$(measure "$office" "$office_pid" "$depth" "$request") $(measure "$twin" "$twin_pid" "$depth" "$request")"
+    done | awk -v request="$request" -v depth="$depth" '
+      { for (i = 1; i <= 4; i++) if (NR == 1 || $i < least[i]) least[i] = $i }
+      END { printf "%-8s %5s %15d ns %15d ns %6.2f %15d ns %15d ns %6.2f\n", request, depth,
+        least[1], least[3], least[1] / least[3], least[2], least[4], least[2] / least[4] }'
   done
 done
