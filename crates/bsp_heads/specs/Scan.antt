@@ -7,6 +7,11 @@ use Rattle.bsp_heads.specs.declared.scan.Scan.{Scan}
 abbrev pub after_byte : ℕ → ℕ → ℕ
 after_byte line b = if b == 13 && line == 0 then 1 else 2
 
+-- what a line has so far after more bytes, none of which ends it
+abbrev pub after_bytes : ℕ → List ℕ → ℕ
+after_bytes line [] = line
+after_bytes line (b ∷ bytes) = after_bytes (after_byte line b) bytes
+
 -- where the first empty line ends that comes after a line that is not empty; a line ends by LF or CR LF
 abbrev pub head_len_from : Bool → ℕ → List ℕ → Option ℕ
 head_len_from seen line [] = None

@@ -1,7 +1,10 @@
 //! Finding the end of a head in bytes that come in pieces.
-ghost use Rattle.std.specs.Prelude.{◌≡◌, ◌≤◌, IfSome, ℕ, ◌+◌, List, [], ◌++◌, length, drop, None, false};
+ghost use Rattle.std.specs.Prelude.{◌≡◌, ◌≤◌, IfSome, ℕ, ◌+◌, List, [], ◌++◌, length, drop, None, ◌&&◌, ◌||◌, not, nat_lt};
 ghost use Rattle.std.specs.Option.{option_map};
-ghost use Rattle.bsp_heads.specs.Scan.{HasScanned, head_len_from};
+ghost use Rattle.memchr.specs.Find.{IsFirstByte, is_byte};
+ghost use Rattle.bsp_heads.specs.Scan.{HasScanned, after_bytes, head_len_from};
+
+use memchr::memchr;
 
 /// A search for the end of a head, between two pieces of its text.
 ///
@@ -15,6 +18,25 @@ pub struct Scan {
     line: u8,
 }
 
+/// How many bytes a line has before its LF, where both are in the bytes from `start` on.
+fn line_len(bytes: &[u8], start: usize) -> Option<usize>
+    requires { start ≤ length bytes.now }
+    ensures { IsFirstByte (is_byte 10) (drop start bytes.now) result }
+{
+    memchr(b'\n', &bytes[start..])
+}
+
+/// What a line has after more of its bytes, none of which is its LF.
+fn after_bytes(line: u8, bytes: &[u8]) -> u8
+    ensures { result ≡ after_bytes line bytes.now }
+{
+    match bytes {
+        [] => line,
+        [b'\r'] if line == 0 => 1,
+        _ => 2,
+    }
+}
+
 impl Scan {
     /// A search that has seen no byte.
     pub fn start() -> Scan
@@ -24,6 +46,19 @@ impl Scan {
             seen: false,
             line: 0,
         }
+    }
+
+    /// Goes over the LF of a line that had this before it, and answers whether the head ends there.
+    fn end_line(&mut self, line: u8) -> bool
+        ensures ends { result ≡ (self.old.seen && nat_lt line 2) }
+        ensures seen { self.new.seen ≡ (self.old.seen || not (nat_lt line 2)) }
+        ensures line { self.new.line ≡ 0 }
+    {
+        let is_empty = line < 2;
+        let ends = self.seen && is_empty;
+        self.seen = self.seen || !is_empty;
+        self.line = 0;
+        ends
     }
 
     /// Goes over the next bytes, and answers how many of them the head takes where it ends in them.
@@ -36,18 +71,16 @@ impl Scan {
         ensures left { result ≡ None → (more : List ℕ)
             → head_len_from self.old.seen self.old.line (bytes.now ++ more) ≡ option_map (λ n. length bytes.now + n) (head_len_from self.new.seen self.new.line more) }
     {
-        for (i, b) in bytes.iter().enumerate() {
-            if *b == b'\n' {
-                if self.seen && self.line < 2 {
-                    *self = Scan::start();
-                    return Some(i + 1);
-                }
-                self.seen = self.seen || self.line >= 2;
-                self.line = 0;
-            } else {
-                self.line = if *b == b'\r' && self.line == 0 { 1 } else { 2 };
+        let mut start = 0;
+        while let Some(len) = line_len(bytes, start) {
+            let line = after_bytes(self.line, &bytes[start..start + len]);
+            start += len + 1;
+            if self.end_line(line) {
+                *self = Scan::start();
+                return Some(start);
             }
         }
+        self.line = after_bytes(self.line, &bytes[start..]);
         None
     }
 }
