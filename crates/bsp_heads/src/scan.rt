@@ -1,10 +1,9 @@
 //! Finding the end of a head in bytes that come in pieces.
-ghost use Rattle.std.specs.Prelude.{◌≡◌, ◌≤◌, IfSome, ℕ, ◌+◌, List, [], ◌++◌, length, drop, None, ◌&&◌, ◌||◌, not, nat_lt};
+ghost use Rattle.std.specs.Prelude.{◌≡◌, ◌≤◌, IfSome, ℕ, ◌+◌, List, [], ◌++◌, length, None, ◌&&◌, ◌||◌, not, nat_lt};
 ghost use Rattle.std.specs.Option.{option_map};
-ghost use Rattle.memchr.specs.Find.{IsFirstByte, is_byte};
 ghost use Rattle.bsp_heads.specs.Scan.{HasScanned, after_bytes, head_len_from};
 
-use memchr::memchr;
+use memchr::memchr_iter;
 
 /// A search for the end of a head, between two pieces of its text.
 ///
@@ -16,14 +15,6 @@ pub struct Scan {
     seen: bool,
     /// What the line that has begun has: 0 nothing, 1 one CR, 2 more.
     line: u8,
-}
-
-/// How many bytes a line has before its LF, where both are in the bytes from `start` on.
-fn line_len(bytes: &[u8], start: usize) -> Option<usize>
-    requires { start ≤ length bytes.now }
-    ensures { IsFirstByte (is_byte 10) (drop start bytes.now) result }
-{
-    memchr(b'\n', &bytes[start..])
 }
 
 /// What a line has after more of its bytes, none of which is its LF.
@@ -72,9 +63,9 @@ impl Scan {
             → head_len_from self.old.seen self.old.line (bytes.now ++ more) ≡ option_map (λ n. length bytes.now + n) (head_len_from self.new.seen self.new.line more) }
     {
         let mut start = 0;
-        while let Some(len) = line_len(bytes, start) {
-            let line = after_bytes(self.line, &bytes[start..start + len]);
-            start += len + 1;
+        for end in memchr_iter(b'\n', bytes) {
+            let line = after_bytes(self.line, &bytes[start..end]);
+            start = end + 1;
             if self.end_line(line) {
                 *self = Scan::start();
                 return Some(start);
