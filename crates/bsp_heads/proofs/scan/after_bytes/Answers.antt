@@ -1,4 +1,4 @@
-use Rattle.bsp_heads.proofs.ScanLemmas.{after_two}
+use Rattle.bsp_heads.proofs.LineLemmas.{after_two}
 use Rattle.bsp_heads.proofs.scan.after_bytes.Goals as goal
 
 pub returns-in_default-3 : goal.returns-in_default-3

@@ -1,5 +1,5 @@
 use Rattle.std.proofs.Common.{sym, ◌∙◌, arith}
-use Rattle.bsp_heads.proofs.ScanLemmas.{ends_here, goes_on, next_end, rest_left, rest_none}
+use Rattle.bsp_heads.proofs.LineLemmas.{ends_here, goes_on, next_end, rest_left, rest_none}
 use Rattle.bsp_heads.proofs.scan.Scan.go_on.Goals as goal
 
 pub slice_bounds-after_bytes-count : goal.slice_bounds-after_bytes-count

@@ -1,5 +1,5 @@
 use Rattle.std.proofs.Common.{◌≡◌, ◌≤◌, length}
-use Rattle.bsp_heads.proofs.ScanLemmas.{IsAt, ends_from}
+use Rattle.bsp_heads.proofs.LineLemmas.{IsAt, ends_from}
 use Rattle.bsp_heads.proofs.scan.Scan.go_on.Given as goal
 
 abbrev pub invariant-loop-end : goal.invariant-loop-end
