@@ -1,12 +1,14 @@
 //! The field `Host` of a request (RFC 9110, 7.2; RFC 9112, 3.2).
 //!
 //! Its value is a host, with a port or without (RFC 3986, 3.2.2 and 3.2.3).
-ghost use Rattle.std.specs.Prelude.{◌≡◌, ◌↔◌, IsTrue, ℕ, List, [], ◌∷◌, length};
+ghost use Rattle.std.specs.Prelude.{◌≡◌, ◌↔◌, IsTrue, ℕ, List};
 ghost use Rattle.std.specs.List.{list_all};
 ghost use Rattle.std.specs.Net.Grammar.{IsColonHex};
 ghost use Rattle.std.specs.Char.{is_ascii_digit, is_ascii_hexdigit};
+ghost use Rattle.bsp_heads.specs.Found.{IsFound};
 ghost use Rattle.bsp_heads.specs.Hosts.{is_name_byte, begins_with_hex, is_name, is_filled, is_address, is_later_byte, is_versioned, is_literal, is_bare_host, is_host, are_hosts};
 
+use crate::found::Found;
 use memchr::{memchr, memrchr};
 use std::net::Ipv6Addr;
 
@@ -107,13 +109,14 @@ fn is_host(value: &[u8]) -> bool
         }
 }
 
-/// Whether the `Host` fields are as HTTP/1.`minor` asks, by how many there are and the value of the last one.
-pub(crate) fn are_hosts(minor: u8, count: usize, value: &[u8]) -> bool
-    ensures { (values : List (List ℕ)) → length values ≡ count → ((one : List ℕ) → values ≡ one ∷ [] → value.now ≡ one) → result ≡ are_hosts minor values }
+/// Whether the `Host` fields are as HTTP/1.`minor` asks.
+pub(crate) fn are_hosts(minor: u8, text: &[u8], hosts: Found) -> bool
+    requires { (values : List (List ℕ)) × IsFound text.now values hosts }
+    ensures { (values : List (List ℕ)) → IsFound text.now values hosts → result ≡ are_hosts minor values }
 {
-    match count {
-        0 => minor != 1,
-        1 => is_host(value),
-        _ => false,
+    match hosts {
+        Found::Nothing => minor != 1,
+        Found::One(value) => is_host(value.of(text)),
+        Found::Several => false,
     }
 }

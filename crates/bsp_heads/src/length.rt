@@ -1,8 +1,10 @@
 //! The length of a body (RFC 9112, 6.3).
-ghost use Rattle.std.specs.Prelude.{◌≡◌, ℕ, List, [], ◌∷◌, length, take};
+ghost use Rattle.std.specs.Prelude.{◌≡◌, ℕ, List, take};
+ghost use Rattle.bsp_heads.specs.Found.{IsFound};
 ghost use Rattle.bsp_heads.specs.Lengths.{sized, measured, framed};
 
 use crate::HeadFault;
+use crate::found::Found;
 
 /// The most bytes that a body may have.
 pub const BODY_LIMIT: usize = 4194304;
@@ -34,14 +36,15 @@ fn measure(text: &[u8]) -> Result<usize, HeadFault>
     limit_length(len)
 }
 
-/// The length of a body from how many `Content-Length` fields there are, and the value of the last one.
-pub(crate) fn frame(posts: bool, count: usize, text: &[u8]) -> Result<usize, HeadFault>
-    ensures { (texts : List (List ℕ)) → length texts ≡ count → ((one : List ℕ) → texts ≡ one ∷ [] → text.now ≡ one) → result ≡ framed posts texts }
+/// The length of a body from the `Content-Length` fields.
+pub(crate) fn frame(posts: bool, text: &[u8], lengths: Found) -> Result<usize, HeadFault>
+    requires { (texts : List (List ℕ)) × IsFound text.now texts lengths }
+    ensures { (texts : List (List ℕ)) → IsFound text.now texts lengths → result ≡ framed posts texts }
 {
-    match count {
-        0 if posts => Err(HeadFault::LengthRequired),
-        0 => Ok(0),
-        1 => measure(text),
-        _ => Err(HeadFault::Malformed),
+    match lengths {
+        Found::Nothing if posts => Err(HeadFault::LengthRequired),
+        Found::Nothing => Ok(0),
+        Found::One(value) => measure(value.of(text)),
+        Found::Several => Err(HeadFault::Malformed),
     }
 }

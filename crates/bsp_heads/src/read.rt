@@ -7,7 +7,7 @@ ghost use Rattle.bsp_heads.specs.Fields.{token_of};
 ghost use Rattle.bsp_heads.specs.Judging.{is_method, judge};
 ghost use Rattle.bsp_heads.specs.Head.{judgement, headers_of, IsHead, IsNoHead, Refuses, AreParts};
 
-use crate::fields::find_token;
+use crate::fields::Fields;
 use crate::judge::{is_method, judge_fields};
 use crate::{HeadFault, HeadParts, Refused};
 use httparse::spans::{EMPTY_HEADER_SPAN, HeaderSpan, RequestSpans, parse_request};
@@ -80,12 +80,12 @@ pub fn read_head(text: &[u8]) -> Result<HeadParts, Refused>
         }
     };
     let method = head.method.of(text);
-    let fields = &headers[..head.headers];
-    match judge_fields(head.version, method, text, fields) {
+    let fields = Fields::of(text, &headers[..head.headers]);
+    match judge_fields(head.version, method, text, &fields) {
         Ok(wanted) => Ok(HeadParts {
             method: head.method,
             target: head.path,
-            token: find_token(text, fields),
+            token: fields.tokens.the_one(),
             wanted,
         }),
         Err(fault) => Err(Refused {
