@@ -1,12 +1,10 @@
--- Names by their parts between percent signs, and the cuts at a last colon and at a first dot.
+-- The cuts of a host at a last colon and at a first dot.
 use Rattle.std.proofs.Common.{◌≡◌, ℕ, ◌+◌, ◌-◌, Bool, true, false, ◌&&◌, ◌||◌, not, List, [], ◌∷◌, length, take, drop, get_or, refl, sym, ap, ◌∙◌, subst, arith, ◌==◌, Some, None, Result, Ok, Err, is_ok, is_some, append-nil, ne_eqb, ◌↔◌}
-use Rattle.std.specs.List.{list_all, list_any, slice_split, onto_first, before_first, after_first, before_last, after_last, suffix_len, position_or_len}
+use Rattle.std.specs.List.{list_all, list_any, before_first, after_first, before_last, after_last, suffix_len, position_or_len}
 use Rattle.std.specs.Char.{is_ascii_hexdigit, is_ascii_digit}
 use Rattle.std.proofs.Math.ListN.{drop_of_length-le}
-use Rattle.std.proofs.lemmas.Bool.{eqb-true}
 use Rattle.std.proofs.lemmas.List.{get_or_default}
 use Rattle.std.proofs.lemmas.List.Folds.{list_any_at, list_any_none}
-use Rattle.std.proofs.lemmas.List.Splits.{slice_split-cons_yes, slice_split-cons_no}
 use Rattle.std.proofs.lemmas.List.Sums.{suffix_len_is, position_or_len_is}
 use Rattle.std.proofs.lemmas.Bool.{false≢true}
 use Rattle.std.specs.declared.net.ipv6_addr.Ipv6Addr.{Ipv6Addr}
@@ -15,83 +13,11 @@ use Rattle.std.specs.Net.Grammar.{Parses, IsIpv6Text, IsColonHex}
 use Rattle.std.specs.Net.Reader.{Read, read_ipv6, whole_value}
 use Rattle.std.proofs.NetLemmas.Ipv6.{read_ipv6_sound, read_ipv6_complete, EndsGroups-nil}
 use Rattle.memchr.specs.Find.{IsFirstByte, IsLastByte, is_byte}
-use Rattle.bsp_heads.specs.Hosts.{is_address, is_name_byte, begins_with_hex, is_name, is_filled, is_later_byte, is_versioned, is_dot, is_colon, is_bare_host, is_host}
-
-abbrev pub is_percent : ℕ → Bool
-is_percent b = b == 37
-
-abbrev pub is_in_name : ℕ → Bool
-is_in_name b = b == 37 || is_name_byte b
-
-abbrev pub parts : List ℕ → List (List ℕ)
-parts text = slice_split is_percent text
+use Rattle.bsp_heads.specs.Hosts.{is_address, is_filled, is_later_byte, is_versioned, is_dot, is_colon, is_bare_host, is_host}
 
 and_false : (a : Bool) → (a && false) ≡ false
 and_false true = refl
 and_false false = refl
-
--- two hexadecimal digits after a percent sign are in the next part
-hex_front : (text : List ℕ) → list_all begins_with_hex (parts text) ≡ (begins_with_hex text && list_all begins_with_hex (drop 1 (parts text)))
-hex_front [] = refl
-hex_front (a ∷ []) = by (a == 37) refl
-  where
-    by : (t : Bool) → (a == 37) ≡ t → list_all begins_with_hex (parts (a ∷ [])) ≡ (begins_with_hex (a ∷ []) && list_all begins_with_hex (drop 1 (parts (a ∷ []))))
-    by true e = ap (list_all begins_with_hex) (slice_split-cons_yes is_percent a [] e)
-    by false e = ap (list_all begins_with_hex) (slice_split-cons_no is_percent a [] e)
-hex_front (a ∷ (c ∷ text)) = by (a == 37) (c == 37) refl refl
-  where
-    Goal : List (List ℕ) → Type 0
-    Goal l = list_all begins_with_hex l ≡ ((is_ascii_hexdigit a && is_ascii_hexdigit c) && list_all begins_with_hex (drop 1 l))
-
-    joined : (l : List (List ℕ)) → Goal (onto_first a (onto_first c l))
-    joined [] = refl
-    joined (part ∷ more) = refl
-
-    by : (s t : Bool) → (a == 37) ≡ s → (c == 37) ≡ t → Goal (parts (a ∷ (c ∷ text)))
-    by true t e f =
-        let no : is_ascii_hexdigit a ≡ false = ap is_ascii_hexdigit (eqb-true a 37 e) in
-        subst Goal (sym (slice_split-cons_yes is_percent a (c ∷ text) e)) (sym (ap (λ (b : Bool). (b && is_ascii_hexdigit c) && list_all begins_with_hex (parts (c ∷ text))) no))
-    by false true e f =
-        let no : is_ascii_hexdigit c ≡ false = ap is_ascii_hexdigit (eqb-true c 37 f) in
-        let cut : parts (a ∷ (c ∷ text)) ≡ (a ∷ []) ∷ parts text = slice_split-cons_no is_percent a (c ∷ text) e ∙ ap (onto_first a) (slice_split-cons_yes is_percent c text f) in
-        subst Goal (sym cut) (sym (ap (λ (b : Bool). b && list_all begins_with_hex (parts text)) (ap (λ (b : Bool). is_ascii_hexdigit a && b) no ∙ and_false (is_ascii_hexdigit a))))
-    by false false e f =
-        let cut : parts (a ∷ (c ∷ text)) ≡ onto_first a (onto_first c (parts text)) = slice_split-cons_no is_percent a (c ∷ text) e ∙ ap (onto_first a) (slice_split-cons_no is_percent c text f) in
-        subst Goal (sym cut) (joined (parts text))
-
-and_swap : (a b c : Bool) → (a && (b && c)) ≡ (b && (a && c))
-and_swap true b c = refl
-and_swap false true c = refl
-and_swap false false c = refl
-
-and_more : (n b h : Bool) → ((n && b) && h) ≡ ((n || false) && (b && h))
-and_more true b h = refl
-and_more false b h = refl
-
-rest_same : (b : ℕ) (l : List (List ℕ)) → drop 1 (onto_first b l) ≡ drop 1 l
-rest_same b [] = refl
-rest_same b (part ∷ more) = refl
-
--- a name, by its bytes and by its parts after percent signs
-pub by_parts : (text : List ℕ) → (list_all is_in_name text && list_all begins_with_hex (drop 1 (parts text))) ≡ is_name text
-by_parts [] = refl
-by_parts (b ∷ text) = by (by_parts text) (b == 37) refl
-  where
-    by : (list_all is_in_name text && list_all begins_with_hex (drop 1 (parts text))) ≡ is_name text → (t : Bool) → (b == 37) ≡ t → (list_all is_in_name (b ∷ text) && list_all begins_with_hex (drop 1 (parts (b ∷ text)))) ≡ is_name (b ∷ text)
-    by rest true e =
-        let no : is_name_byte b ≡ false = ap is_name_byte (eqb-true b 37 e) in
-        ap (λ (t : Bool). ((t || is_name_byte b) && list_all is_in_name text) && list_all begins_with_hex (drop 1 (parts (b ∷ text)))) e
-        ∙ ap (λ (l : List (List ℕ)). list_all is_in_name text && list_all begins_with_hex (drop 1 l)) (slice_split-cons_yes is_percent b text e)
-        ∙ ap (λ (h : Bool). list_all is_in_name text && h) (hex_front text)
-        ∙ and_swap (list_all is_in_name text) (begins_with_hex text) (list_all begins_with_hex (drop 1 (parts text)))
-        ∙ ap (λ (h : Bool). begins_with_hex text && h) rest
-        ∙ sym (ap (λ (n : Bool). (n || ((b == 37) && begins_with_hex text)) && is_name text) no ∙ ap (λ (t : Bool). (t && begins_with_hex text) && is_name text) e)
-    by rest false e =
-        ap (λ (t : Bool). ((t || is_name_byte b) && list_all is_in_name text) && list_all begins_with_hex (drop 1 (parts (b ∷ text)))) e
-        ∙ ap (λ (l : List (List ℕ)). (is_name_byte b && list_all is_in_name text) && list_all begins_with_hex l) (ap (drop 1) (slice_split-cons_no is_percent b text e) ∙ rest_same b (parts text))
-        ∙ and_more (is_name_byte b) (list_all is_in_name text) (list_all begins_with_hex (drop 1 (parts text)))
-        ∙ ap (λ (h : Bool). (is_name_byte b || false) && h) rest
-        ∙ sym (ap (λ (t : Bool). (is_name_byte b || (t && begins_with_hex text)) && is_name text) e)
 
 pub filled : (test : ℕ → Bool) (text : List ℕ) (r : Bool) → (length text == 0) ≡ false → r ≡ list_all test text → r ≡ is_filled test text
 filled test text r some is = is ∙ sym (ap (λ (e : Bool). not e && list_all test text) some)

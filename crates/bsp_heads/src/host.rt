@@ -1,7 +1,7 @@
 //! The field `Host` of a request (RFC 9110, 7.2; RFC 9112, 3.2).
 //!
 //! Its value is a host, with a port or without (RFC 3986, 3.2.2 and 3.2.3).
-ghost use Rattle.std.specs.Prelude.{◌≡◌, ◌↔◌, IsTrue, ℕ, List};
+ghost use Rattle.std.specs.Prelude.{◌≡◌, ◌==◌, ◌&&◌, ◌||◌, ◌↔◌, IsTrue, ℕ, List};
 ghost use Rattle.std.specs.List.{list_all};
 ghost use Rattle.std.specs.Net.Grammar.{IsColonHex};
 ghost use Rattle.std.specs.Char.{is_ascii_digit, is_ascii_hexdigit};
@@ -28,15 +28,23 @@ fn begins_with_hex(text: &[u8]) -> bool
     }
 }
 
+/// Whether a name may have the byte, with that text behind it.
+fn is_in_name(b: u8, text: &[u8]) -> bool
+    ensures { result ≡ (is_name_byte b || (b == 37 && begins_with_hex text.now)) }
+{
+    is_name_byte(b) || b == b'%' && begins_with_hex(text)
+}
+
 /// Whether the text is a registered name, as an IPv4 address is. It may be empty.
 fn is_name(text: &[u8]) -> bool
     ensures { result ≡ is_name text.now }
 {
-    text.iter().all(|b| *b == b'%' || is_name_byte(*b))
-        && text
-            .split(|b| *b == b'%')
-            .skip(1)
-            .all(|part| begins_with_hex(part))
+    for (i, b) in text.iter().enumerate() {
+        if !is_in_name(*b, &text[i + 1..]) {
+            return false;
+        }
+    }
+    true
 }
 
 fn is_later_byte(b: u8) -> bool
