@@ -16,3 +16,15 @@ pub text_is : (d ph m n : List ℕ) (a c : List (List ℕ)) →
     ≡ lines_text ((codes "HTTP/1.1 " ++ (d ++ (codes " " ++ ph))) ∷ (codes "Content-Type: " ++ m) ∷ (codes "Content-Length: " ++ n) ∷ (a ++ c)) ++ codes "\r\n"
 text_is d ph m n a c =
     regroup (codes "HTTP/1.1 ") d (codes " ") ph (codes "Content-Type: ") m (codes "Content-Length: ") n (codes "\r\n") (lines_text a) (lines_text c) (lines_text (a ++ c)) (lines_append a c)
+
+behind : (o h d s t n a c e : List ℕ) → (((((((o ++ h) ++ d) ++ s) ++ t) ++ n) ++ a) ++ c) ++ e ≡ o ++ ((((((h ++ d) ++ s) ++ t) ++ n) ++ a) ++ c) ++ e
+behind o h d s t n a c e = simp append_assoc
+
+-- the same behind other bytes
+pub text_after : (o d ph m n : List ℕ) (a c : List (List ℕ)) →
+    (((((((o ++ codes "HTTP/1.1 ") ++ d) ++ (codes " " ++ (ph ++ codes "\r\n"))) ++ (codes "Content-Type: " ++ (m ++ codes "\r\n"))) ++ (codes "Content-Length: " ++ (n ++ codes "\r\n"))) ++ lines_text a) ++ lines_text c) ++ codes "\r\n"
+    ≡ o ++ (lines_text ((codes "HTTP/1.1 " ++ (d ++ (codes " " ++ ph))) ∷ (codes "Content-Type: " ++ m) ∷ (codes "Content-Length: " ++ n) ∷ (a ++ c)) ++ codes "\r\n")
+text_after o d ph m n a c =
+    behind o (codes "HTTP/1.1 ") d (codes " " ++ (ph ++ codes "\r\n")) (codes "Content-Type: " ++ (m ++ codes "\r\n")) (codes "Content-Length: " ++ (n ++ codes "\r\n")) (lines_text a) (lines_text c) (codes "\r\n")
+    ∙ append_assoc o _ _
+    ∙ ap (λ (l : List ℕ). o ++ l) (text_is d ph m n a c)

@@ -1,13 +1,17 @@
 //! The head of a response, and the interim response.
 
-ghost use Rattle.std.specs.Prelude.{◌≡◌, ◌≤◌, [], length, if◌then◌else◌};
+ghost use Rattle.std.specs.Prelude.{◌≡◌, ◌≤◌, ◌+◌, ◌++◌, [], length, vec_capacity, vec_len, if◌then◌else◌};
 ghost use Rattle.bsp_heads.specs.ResponseHeads.{allow_lines, closing_lines, lines_text, head_text};
 ghost use Rattle.bsp_heads.specs.Responses.{continue_text};
 
+use crate::append::{put, put_line};
 use crate::status::{Media, Status};
 use crate::text::HeadText;
 use bsp_routes::Methods;
 use itoa::Buffer;
+
+/// Room for the head of any response, in bytes.
+pub const HEAD_ROOM: usize = 256;
 
 /// What the head of a response says.
 #[derive(Clone, Copy)]
@@ -66,6 +70,27 @@ impl ResponseHead {
         text.put(closing_line(self.closes));
         text.put(b"\r\n");
         text
+    }
+
+    /// Appends the head as it is sent, to bytes that have room for [`HEAD_ROOM`] more.
+    pub fn append_to(&self, bytes: &mut Vec<u8>)
+        requires { vec_len bytes.old + 256 ≤ vec_capacity bytes.old }
+        ensures items { bytes.new.items ≡ bytes.old.items ++ head_text self.now }
+        ensures len { vec_len bytes.new ≤ vec_len bytes.old + 256 }
+        ensures capacity { vec_capacity bytes.old ≤ vec_capacity bytes.new }
+    {
+        put(bytes, b"HTTP/1.1 ");
+        put(bytes, Buffer::new().format(self.status.code()).as_bytes());
+        put_line(bytes, b" ", self.status.phrase().as_bytes());
+        put_line(bytes, b"Content-Type: ", self.media.text().as_bytes());
+        put_line(
+            bytes,
+            b"Content-Length: ",
+            Buffer::new().format(self.length).as_bytes(),
+        );
+        put(bytes, allow_line(self.allow));
+        put(bytes, closing_line(self.closes));
+        put(bytes, b"\r\n");
     }
 }
 
