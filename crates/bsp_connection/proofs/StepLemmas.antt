@@ -53,7 +53,7 @@ behind_asked : {F : Type 0} (o p : Option (Begun F)) (b : Begun F) (received res
 behind_asked {F} o p b received rest text head xs some gone same =
     let all : List Exchange = inquiry b.parts.wanted.expects head ++ xs in
     ap (λ (q : Option (Begun F)). asked_early q received ++ xs) some ∙ ap (λ (h : RequestText). inquiry b.parts.wanted.expects h ++ xs) same ∙ sym (append-nil all) ∙ sym (append-nil (all ++ []))
-        ∙ ap (λ (q : Option (Begun F)). (all ++ []) ++ asked_early q rest) (sym gone)
+    ∙ ap (λ (q : Option (Begun F)). (all ++ []) ++ asked_early q rest) (sym gone)
 
 -- ---- heads
 
@@ -61,8 +61,8 @@ behind_asked {F} o p b received rest text head xs some gone same =
 pub same_head : (head : List ℕ) (parts : HeadParts) (are : AreParts head parts) → head_in head parts ≡ head_text are.0
 same_head head parts are =
     ap (λ (l : List ℕ). record { method = l; target = span_bytes head parts.target; token = option_map (span_bytes head) parts.token; body = [] }) are.3
-        ∙ ap (λ (l : List ℕ). record { method = are.0.method; target = l; token = option_map (span_bytes head) parts.token; body = [] }) are.4
-        ∙ ap (λ (o : Option (List ℕ)). record { method = are.0.method; target = are.0.target; token = o; body = [] }) are.5
+    ∙ ap (λ (l : List ℕ). record { method = are.0.method; target = l; token = option_map (span_bytes head) parts.token; body = [] }) are.4
+    ∙ ap (λ (o : Option (List ℕ)). record { method = are.0.method; target = are.0.target; token = o; body = [] }) are.5
 
 pub front_of : (a b : List ℕ) (n : ℕ) → length a ≡ n → take n (a ++ b) ≡ a
 front_of a b n e = subst (λ (m : ℕ). take m (a ++ b) ≡ a) e (take-append_seam a b)
@@ -275,7 +275,7 @@ module _ {D F B : Type 0} (m : Meaning D) (r : Reading F B) where
             let between : List Exchange = asked_early mid.begun mid.received.items in
             let behind_all : List Exchange = asked_early new.begun new.received.items in
             sym (append_assoc before x.exchanges y.exchanges) ∙ ap (λ (l : List Exchange). l ++ y.exchanges) x.asked_are ∙ append_assoc (asked x.items) between y.exchanges ∙ ap (λ (l : List Exchange). asked x.items ++ l) y.asked_are
-                ∙ sym (append_assoc (asked x.items) (asked y.items) behind_all) ∙ ap (λ (l : List Exchange). l ++ behind_all) (sym (flat_map-append (λ (i : Item). i.asked) x.items y.items));
+            ∙ sym (append_assoc (asked x.items) (asked y.items) behind_all) ∙ ap (λ (l : List Exchange). l ++ behind_all) (sym (flat_map-append (λ (i : Item). i.asked) x.items y.items));
         taken = folds_on (Takes m) (left old.count unread old.closed) (left mid.count x.rest mid.closed) (left new.count y.rest new.closed) x.items y.items x.taken y.taken;
         has = y.has;
         out = y.out ∙ ap (λ (l : List ℕ). l ++ y.more) x.out ∙ append_assoc old.out.bytes x.more y.more;
@@ -324,7 +324,7 @@ module _ {D F B : Type 0} (m : Meaning D) (r : Reading F B) where
       let kept : take b.head (front ++ p.rest) ≡ front = front_of front p.rest b.head (length-take-le b.head old.received.items within) in
       let whole : List ℕ = front ++ p.rest in
       ap (λ (o : Option (Begun F)). asked_early o old.received.items) some ∙ ap (λ (l : List ℕ). inquiry b.parts.wanted.expects (head_in l b.parts)) (sym kept) ∙ ap (λ (n : Begun F). asked_early (Some n) whole) (sym p.now_is)
-          ∙ ap (λ (l : List ℕ). asked_early (Some now) l) (sym p.received) ∙ ap (λ (o : Option (Begun F)). asked_early o new.received.items) (sym p.begun)
+      ∙ ap (λ (l : List ℕ). asked_early (Some now) l) (sym p.received) ∙ ap (λ (o : Option (Begun F)). asked_early o new.received.items) (sym p.begun)
 
   pub passed_moves : (b now : Begun F) (old new : Connection F B) (d : D) → old.begun ≡ Some b → old.closed ≡ false → HasPassed r b old new now → Moves m r old new d d
   passed_moves b now old new d some unclosed p unread was = record {

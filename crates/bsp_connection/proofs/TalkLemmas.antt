@@ -215,7 +215,7 @@ module _ {D F B : Type 0} (m : Meaning D) (r : Reading F B) where
           asked_are = let before : List Exchange = asked_early old.begun old.received.items in
               let after : List Exchange = asked_early new.begun new.received.items in
               ap (λ (l : List Exchange). l ++ x.exchanges) t.asked_are ∙ append_assoc (asked t.items) before x.exchanges ∙ ap (λ (l : List Exchange). asked t.items ++ l) x.asked_are ∙ sym (append_assoc (asked t.items) (asked x.items) after)
-                  ∙ ap (λ (l : List Exchange). l ++ after) (sym (flat_map-append (λ (i : Item). i.asked) t.items x.items));
+              ∙ ap (λ (l : List Exchange). l ++ after) (sym (flat_map-append (λ (i : Item). i.asked) t.items x.items));
           has = x.has;
           put = ap (λ (l : List ℕ). sent ++ l) x.out ∙ sym (append_assoc sent old.out.bytes x.more) ∙ ap (λ (l : List ℕ). l ++ x.more) t.put ∙ append_assoc (texts t.items) (pending old.begun) x.more
               ∙ ap (λ (l : List ℕ). texts t.items ++ l) x.text ∙ sym (append_assoc (texts t.items) (texts x.items) (pending new.begun)) ∙ ap (λ (l : List ℕ). l ++ pending new.begun) (sym (flat_map-append (λ (i : Item). i.text) t.items x.items));

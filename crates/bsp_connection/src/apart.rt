@@ -32,16 +32,6 @@ impl Model for Apart {
     ghost invariant = { λ a. (a.head_sent ≤ length (head_bytes a.head)) × (a.body_sent ≤ length (cow_slice_items a.body)) };
 }
 
-/// The bytes of a body.
-pub(crate) fn bytes_of<'b>(body: &'b CowSlice<'static, u8, Global>) -> &'b [u8]
-    ensures { result.now ≡ cow_slice_items body.now }
-{
-    match body {
-        CowSlice::Borrowed(bytes) => bytes,
-        CowSlice::Owned(bytes) => bytes.as_slice(),
-    }
-}
-
 /// The bytes of a head that may be there.
 fn head_of(head: &Option<HeadText>) -> &[u8]
     ensures { result.now ≡ head_bytes head.now }
@@ -69,7 +59,7 @@ impl Apart {
     pub(crate) fn is_empty(&self) -> bool
         ensures { result ≡ true → self.now.bytes ≡ [] }
     {
-        self.head_sent == head_of(&self.head).len() && self.body_sent == bytes_of(&self.body).len()
+        self.head_sent == head_of(&self.head).len() && self.body_sent == self.body.as_slice().len()
     }
 
     /// What is sent next.
@@ -80,7 +70,7 @@ impl Apart {
         if self.head_sent < head.len() {
             return from(head, self.head_sent);
         }
-        from(bytes_of(&self.body), self.body_sent)
+        from(self.body.as_slice(), self.body_sent)
     }
 
     /// The rest of the head, and that of the body.
@@ -89,7 +79,7 @@ impl Apart {
     {
         (
             from(head_of(&self.head), self.head_sent),
-            from(bytes_of(&self.body), self.body_sent),
+            from(self.body.as_slice(), self.body_sent),
         )
     }
 
@@ -102,7 +92,7 @@ impl Apart {
         if self.head_sent < head.len() {
             self.head_sent = after(head, self.head_sent, count);
         } else {
-            self.body_sent = after(bytes_of(&self.body), self.body_sent, count);
+            self.body_sent = after(self.body.as_slice(), self.body_sent, count);
         }
     }
 }

@@ -6,8 +6,8 @@ ghost use Rattle.bsp_heads.specs.ResponseHeads.{head_text};
 ghost use Rattle.bsp_heads.specs.Responses.{reply_head, reply_text, response};
 ghost use Rattle.bsp_connection.specs.Outputs.{HasOutput};
 
-use crate::apart::{Apart, after, bytes_of, from};
-use bsp_heads::{HeadText, Reply, ResponseHead};
+use crate::apart::{Apart, after, from};
+use bsp_heads::{HEAD_ROOM, Reply, ResponseHead};
 use std::alloc::Global;
 use std::borrow::CowSlice;
 use std::marker::Model;
@@ -37,33 +37,29 @@ impl Model for Output {
     ghost invariant = { λ o. o.sent ≤ length o.texts.items };
 }
 
-/// Appends both texts, or none where there is no room.
-fn append(texts: &mut Vec<u8>, head: &[u8], body: &[u8]) -> bool
-    ensures { texts.new.items ≡ (if result then texts.old.items ++ (head.now ++ body.now) else texts.old.items) }
+/// Appends a response, or nothing where there is no room.
+fn append_response(texts: &mut Vec<u8>, head: &ResponseHead, body: &[u8]) -> bool
+    ensures { texts.new.items ≡ (if result then texts.old.items ++ (head_text head.now ++ body.now) else texts.old.items) }
 {
-    if texts
-        .reserve(head.len().saturating_add(body.len()))
-        .is_err()
-    {
+    if texts.reserve(HEAD_ROOM.saturating_add(body.len())).is_err() {
         return false;
     }
-    let _ = texts.extend_from_slice(head);
+    head.append_to(texts);
     let _ = texts.extend_from_slice(body);
     true
 }
 
 /// The head of the response with this reply.
-fn head_for(reply: &Reply, closes: bool) -> HeadText
-    ensures { result ≡ head_text (reply_head closes (reply_text reply.now)) }
+fn head_for(reply: &Reply, closes: bool) -> ResponseHead
+    ensures { result ≡ reply_head closes (reply_text reply.now) }
 {
-    let head = ResponseHead {
+    ResponseHead {
         status: reply.status,
         media: reply.media,
-        length: bytes_of(&reply.body).len(),
+        length: reply.body.as_slice().len(),
         allow: reply.allow,
         closes,
-    };
-    head.text()
+    }
 }
 
 impl Output {
@@ -173,7 +169,7 @@ impl Output {
         requires { self.old.apart ≡ false }
         ensures { self.new.bytes ≡ self.old.bytes ++ text.now }
     {
-        if !append(&mut self.texts, text, b"") {
+        if self.texts.extend_from_slice(text).is_err() {
             self.apart = Some(Apart::new(None, CowSlice::Borrowed(text)));
         }
     }
@@ -190,10 +186,10 @@ impl Output {
         } else {
             reply.body
         };
-        let bytes = bytes_of(&body);
-        if bytes.len() <= COPIED && append(&mut self.texts, head.as_bytes(), bytes) {
+        let bytes = body.as_slice();
+        if bytes.len() <= COPIED && append_response(&mut self.texts, &head, bytes) {
             return;
         }
-        self.apart = Some(Apart::new(Some(head), body));
+        self.apart = Some(Apart::new(Some(head.text()), body));
     }
 }

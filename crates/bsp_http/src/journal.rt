@@ -15,13 +15,7 @@ pub trait Journal<B: Book> {
 
     /// Takes note of a reply before it is written, with the number of its connection: of the message too, where its head
     /// was read.
-    fn note(
-        &self,
-        desk: &Desk<B>,
-        connection: u64,
-        message: Option<&Message<'_>>,
-        reply: &Reply,
-    );
+    fn note(&self, desk: &Desk<B>, connection: u64, message: Option<&Message<'_>>, reply: &Reply);
 }
 
 /// Takes note of nothing.

@@ -58,13 +58,7 @@ impl<'r, B: Book, J: Journal<B>> Service<Desk<B>> for Office<'r, J> {
         body.take(piece)
     }
 
-    fn note(
-        &self,
-        desk: &Desk<B>,
-        connection: u64,
-        message: Option<&Message<'_>>,
-        reply: &Reply,
-    ) {
+    fn note(&self, desk: &Desk<B>, connection: u64, message: Option<&Message<'_>>, reply: &Reply) {
         self.journal.note(desk, connection, message, reply);
     }
 

@@ -64,7 +64,7 @@ fn path_of(target: &[u8]) -> &[u8] {
 fn push_reply(
     line: &mut String,
     message: Option<&Message<'_>>,
-    reply: &Reply<'_>,
+    reply: &Reply,
 ) -> Result<(), AllocError> {
     match message {
         Some(message) => {
@@ -75,7 +75,8 @@ fn push_reply(
         None => line.push_str("- -")?,
     }
     let status = reply.status.code();
-    let (code, count) = (code_in(reply.body), reply.body.len());
+    let body = reply.body.as_slice();
+    let (code, count) = (code_in(body), body.len());
     write!(line, " {status} {code} {count}")?;
     Ok(())
 }
@@ -152,8 +153,8 @@ impl<'a> Log<'a> {
 
 impl<B: Book + Failing> Journal<B> for Log<'_> {
     /// Seeks the cause of a malformed body, for the line of its reply.
-    fn note_body(&self, asking: Asking<&[u8]>, body: &[u8], reply: &Reply<'_>) {
-        if self.whole && body.len() <= MOST_SOUGHT && code_in(reply.body) == "N04" {
+    fn note_body(&self, asking: Asking<&[u8]>, body: &[u8], reply: &Reply) {
+        if self.whole && body.len() <= MOST_SOUGHT && code_in(reply.body.as_slice()) == "N04" {
             self.cause.set(malformed(self.rt.alloc(), asking, body));
         }
     }
@@ -168,13 +169,7 @@ impl<B: Book + Failing> Journal<B> for Log<'_> {
     /// One line. That of a 503 says with which error of the store the book failed, that of an N04 why the body is malformed.
     /// Where each reply has a line, it has the number of the connection too, counted from 1, and the microseconds from when
     /// the desk was asked.
-    fn note(
-        &self,
-        desk: &Desk<B>,
-        connection: u64,
-        message: Option<&Message<'_>>,
-        reply: &Reply<'_>,
-    ) {
+    fn note(&self, desk: &Desk<B>, connection: u64, message: Option<&Message<'_>>, reply: &Reply) {
         let refused = reply.status == Status::ServiceUnavailable;
         if !self.whole && !refused {
             return;
@@ -204,7 +199,7 @@ impl Log<'_> {
         &self,
         connection: u64,
         message: Option<&Message<'_>>,
-        reply: &Reply<'_>,
+        reply: &Reply,
         error: Option<E>,
     ) -> Result<(), AllocError> {
         let mut line = String::new(self.rt.alloc());

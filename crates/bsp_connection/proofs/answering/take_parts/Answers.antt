@@ -1,4 +1,4 @@
-use Rattle.std.proofs.Common.{List, ℕ, length, take, ap, subst, false, ◌∙◌}
+use Rattle.std.proofs.Common.{List, ℕ, length, take, subst, false}
 use Rattle.bsp_connection.specs.Begun.{head_in}
 use Rattle.bsp_connection.proofs.StepLemmas.{unwanted_moves}
 use Rattle.bsp_connection.proofs.answering.take_parts.Goals as goal
