@@ -114,8 +114,15 @@ ANSWERED = [
     (post("/office/day", DAY, CLOSE), response("200 OK", '{"result":"done"}', CLOSE)),
     (head(POST, HOST, NONE), NO_ROUTE), (head(POST, HOST, FIVE) + b"12345", NO_ROUTE), (head("PUT /x", HOST), NO_ROUTE),
     (head(GET, HOST, f"content-length: {5:026}") + b"12345", NO_ROUTE), (head(OLD_POST, FIVE, EXPECT) + b"12345", CLOSING),
-    (head(POST, HOST, FIVE, EXPECT) + b"12345", INTERIM + NO_ROUTE), (head(POST, HOST, NONE, EXPECT), NO_ROUTE),
-    (head(POST, HOST, "expect: x", "EXPECT: 100-Continue", FIVE) + b"12345", INTERIM + NO_ROUTE),
+    (head(POST, HOST, NONE, EXPECT), NO_ROUTE),
+    (post("/office/day", DAY, "expect: x", "EXPECT: 100-Continue"), INTERIM + DONE),
+    # a sender that waits, and whose body is not wanted: no route, another method, a GET, another token, none, several
+    (head(POST, HOST, FIVE, EXPECT), CLOSING),
+    (head("PUT /office/day", HOST, FIVE, EXPECT), refusal("N03", "Allow: POST", CLOSE)),
+    (head("GET /office/settlement/24011", HOST, FIVE, EXPECT, f"Bsp-Token: {TOKEN}"), refusal("S01", CLOSE)),
+    *((head("POST /office/ret", HOST, FIVE, EXPECT, *fields), refusal("N01", CLOSE))
+      for fields in ((), ("Bsp-Token: officetoken00002",), (f"Bsp-Token: {TOKEN}",) * 2)),
+    (head("POST /agents/12345675/ret", HOST, FIVE, EXPECT, f"Bsp-Token: {TOKEN}"), refusal("N01", CLOSE)),
     (head(POST, HOST, FIVE, f"{EXPECT}, x") + b"12345", NO_ROUTE), (head(GET, HOST, EXPECT), NO_ROUTE),
     *((post("/office/day", DAY, token=it), DONE) for it in (f"Bsp-Token: {TOKEN}", f"bSP-tOKEN:\t {TOKEN} \t")),
     *((post("/office/day", DAY, token=it), FORBIDDEN) for it in ("Bsp-Token:", f"Token: {TOKEN}", f"Bsp-Token: {TOKEN} x")),
