@@ -1,8 +1,8 @@
 -- The order of options among the words, and lists of values that are read.
-use Rattle.std.proofs.Common.{◌≡◌, ◌∙◌, ◌++◌, ◌+◌, ◌<◌, ℕ, List, [], ◌∷◌, Option, Some, None, ap, append_assoc, filter_map, get_or, length, map, option_map, refl, sym, take}
+use Rattle.std.proofs.Common.{◌≡◌, ◌∙◌, ◌++◌, ◌+◌, ◌<◌, ℕ, List, [], ◌∷◌, Option, Some, None, ap, append_assoc, drop, filter_map, get_or, length, map, option_map, refl, sym, take}
 use Rattle.std.specs.Prelude.{is_some}
 use Rattle.std.specs.Borrow.{Bor}
-use Rattle.std.proofs.lemmas.List.{map_push, take_more}
+use Rattle.std.proofs.lemmas.List.{at_drop_more, map_push, take_more}
 use Rattle.std.proofs.lemmas.List.Elements.{filter_map-append}
 use Rattle.clap.specs.Words.{Text}
 use Rattle.bsp_words.specs.CommandLine.{all_read, texts_in}
@@ -21,6 +21,14 @@ read_one read items text x rest whole is was = was ∙ rw (← is) (go (all_read
 
 pub read_none : {X : Type 0} (read : Text → Option X) (items : List X) (text : Bor Text) (rest : List (Bor Text)) (whole : Option (List X)) → None ≡ read text.now → whole ≡ option_map (λ xs. items ++ xs) (all_read read (texts_in (text ∷ rest))) → None ≡ whole
 read_none read items text rest whole is was = sym (was ∙ rw (← is) refl)
+
+pub read_more : {X : Type 0} (read : Text → Option X) (items : List X) (texts : List (Bor Text)) (i : ℕ) (d : Bor Text) (x : X) (whole : Option (List X)) → i < length texts → Some x ≡ read (get_or texts i d).now → whole ≡ option_map (λ xs. items ++ xs) (all_read read (texts_in (drop i texts))) → whole ≡ option_map (λ xs. (items ++ x ∷ []) ++ xs) (all_read read (texts_in (drop (i + 1) texts)))
+read_more read items texts i d x whole within is was =
+    read_one read items (get_or texts i d) x (drop (i + 1) texts) whole is (was ∙ at_drop_more (λ rest. option_map (λ xs. items ++ xs) (all_read read (texts_in rest))) texts i d within)
+
+pub read_no_more : {X : Type 0} (read : Text → Option X) (items : List X) (texts : List (Bor Text)) (i : ℕ) (d : Bor Text) (whole : Option (List X)) → i < length texts → None ≡ read (get_or texts i d).now → whole ≡ option_map (λ xs. items ++ xs) (all_read read (texts_in (drop i texts))) → None ≡ whole
+read_no_more read items texts i d whole within is was =
+    read_none read items (get_or texts i d) (drop (i + 1) texts) whole is (was ∙ at_drop_more (λ rest. option_map (λ xs. items ++ xs) (all_read read (texts_in rest))) texts i d within)
 
 -- a value is there where there are some
 pub some_of : {X Y : Type 0} (f : X → Y) (o : Option X) (p : Option Y) → option_map f o ≡ p → is_some o ≡ is_some p

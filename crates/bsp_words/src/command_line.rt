@@ -1,12 +1,14 @@
 //! The command line, as `clap` reads it: made of the rows of the commands and of their arguments.
 
-ghost use Rattle.std.specs.Prelude.{◌≡◌, ◌++◌, ◌∷◌, [], IfOk, IsOkAnd, OnOk, false, map};
+ghost use Rattle.std.specs.Prelude.{◌≡◌, ◌++◌, ◌∷◌, [], IfOk, IsOkAnd, OnOk, false, map, pos};
+ghost use Rattle.clap.specs.declared.builder.value_parser.ValueParser.TheVariants.{Signed};
 ghost use Rattle.clap.specs.Words.{app_of, new_rule, rule_of};
 ghost use Rattle.bsp_words.specs.CommandLine.{flag_rule, limit_option, named_option, needed_option, office, office_shapes, port_rule, repeated_option, some_option};
 ghost use Rattle.bsp_words.specs.Commands.{rule_at, shape_at};
 ghost use Rattle.bsp_words.specs.Filling.{of_one, rules_in, shapes_in};
 
 use crate::commands::{Argument, CommandRow, Form, book_commands, file_commands, text_commands};
+use clap::builder::ValueParser;
 use clap::{Arg, ArgAction, Command};
 use std::alloc::{AllocError, Global};
 
@@ -65,6 +67,13 @@ fn port_option<'a>(alloc: Global, help: &'a str) -> Arg<'a>
         .value_parser(clap::value_parser!(u16).range(1..))
 }
 
+/// What reads a number from the least to the most.
+fn numbers<'a>(least: u32, most: u32) -> ValueParser<'a>
+    ensures { result ≡ Signed (pos least) (pos most) }
+{
+    clap::value_parser!(u32).range(i64::from(least)..=i64::from(most))
+}
+
 /// The option `--ID VALUE` with a number from the least to the most, which is the default where it is absent.
 fn limit<'a>(
     alloc: Global,
@@ -79,7 +88,7 @@ fn limit<'a>(
     ensures local { result.global ≡ false }
 {
     option(alloc, id, value, help)
-        .value_parser(clap::value_parser!(u32).range(i64::from(least)..=i64::from(most)))
+        .value_parser(numbers(least, most))
         .default_value(default)
 }
 
