@@ -54,6 +54,7 @@ STRANGER = message(f"GET {STOCK}", "Bsp-Token: x")
 REPORT = message(f"POST {RET}", AGENT, body=SALE)
 ASKED = message(f"GET {PERIOD}", AGENT)
 DAY = b'{"day":"2024-01-05"}'
+INTERIM = b"HTTP/1.1 100 Continue\r\n\r\n"
 
 
 # ---- the cases
@@ -93,7 +94,7 @@ TALKS = {
         (message(f"POST {STOCK}"), response("405 Method Not Allowed", '{"code":"N03"}', "Allow: GET")),
     ],
     "an interim response": [
-        (message("POST /office/day", OFFICE, "Expect: 100-continue", body=DAY), b"HTTP/1.1 100 Continue\r\n\r\n" + DONE),
+        (message("POST /office/day", OFFICE, "Expect: 100-continue", body=DAY), INTERIM + DONE),
     ],
     "a body that ends early": [(message("POST /office/day", OFFICE, body=DAY)[:-1], b"")],
     "a sale": [
@@ -162,6 +163,21 @@ def refusals():
         read = min(len(head) + 4, MOST)
         yield what, (0, written, "", 1, min(len(sent), MOST)), sent, "read 0"
         yield f"{what}, byte by byte", (0, written, "", read, read), sent, "read 0 1*"
+
+
+def unwanted():
+    """A sender that waits, at once and byte by byte: to a known caller 100 Continue and the reply; to another its reply by the head
+    alone. What is behind that head is not answered, and not read where it does not come with it."""
+    begun, replies = joined(SET_UP)
+    known = message(f"POST {RET}", AGENT, "Expect: 100-continue", body=SALE)
+    yield "a known caller waits", (0, replies + INTERIM + ACCEPTED, "", 2, len(begun + known)), begun + known, "read 0"
+    for token in OFFICE, "Bsp-Token: agenttoken000002", "Bsp-Token:":
+        sent = message(f"POST {RET}", token, "Expect: 100-continue", body=SALE)
+        length = len(sent) - len(SALE)
+        written = replies + response("403 Forbidden", '{"code":"N01"}', "Connection: close")
+        yield f"a caller with {token!r} waits", (0, written, "", 1, len(begun + sent)), begun + sent, "read 0"
+        wanted = 0, written, "", 1 + length, len(begun) + length
+        yield f"a caller with {token!r} waits, byte by byte", wanted, begun + sent, f"read 0 {len(begun)} 1*"
 
 
 def talks():
@@ -274,7 +290,7 @@ def main():
     with tempfile.TemporaryDirectory() as folder:
         os.chdir(folder)
         office.build_steps()
-        for part in refusals, talks, pieces, cuts:
+        for part in refusals, unwanted, talks, pieces, cuts:
             compare(part)
         sent, written = joined(SET_UP)
         wanted = 0, written, "bsp_office: set-up.db: new book\n", 2, len(sent)
