@@ -22,7 +22,7 @@ RUN = [PROGRAM, "run", "--token", TOKEN]
 MOST, FIELDS, BODY, MESSAGES = 16_384, 64, 4_194_304, 65_536
 STATUSES = {
     "N01": "403 Forbidden", "N02": "404 Not Found", "N03": "405 Method Not Allowed", "N04": "400 Bad Request",
-    "N05": "409 Conflict", "B01": "503 Service Unavailable", "T01": "400 Bad Request", "T02": "411 Length Required",
+    "N05": "409 Conflict", "S01": "409 Conflict", "B01": "503 Service Unavailable", "T01": "400 Bad Request", "T02": "411 Length Required",
     "T03": "413 Payload Too Large", "T04": "431 Request Header Fields Too Large", "T05": "501 Not Implemented"}
 
 
