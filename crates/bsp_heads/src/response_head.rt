@@ -1,10 +1,11 @@
 //! The head of a response, and the interim response.
 
 ghost use Rattle.std.specs.Prelude.{◌≡◌, ◌≤◌, ◌+◌, ◌++◌, [], length, vec_capacity, vec_len, if◌then◌else◌};
-ghost use Rattle.bsp_heads.specs.ResponseHeads.{allow_lines, closing_lines, lines_text, head_text};
+ghost use Rattle.bsp_heads.specs.ResponseHeads.{head_text};
 ghost use Rattle.bsp_heads.specs.Responses.{continue_text};
 
-use crate::append::{put, put_line};
+use crate::append::put;
+use crate::lines::{allow_line, body_lines, last_lines, status_line};
 use crate::status::{Media, Status};
 use crate::text::HeadText;
 use bsp_routes::Methods;
@@ -29,46 +30,17 @@ pub struct ResponseHead {
     pub closes: bool,
 }
 
-fn allow_line(allow: Option<Methods>) -> &'static [u8]
-    ensures value { result.now ≡ lines_text (allow_lines allow) }
-    ensures short { length result.now ≤ 18 }
-{
-    match allow {
-        None => b"",
-        Some(Methods::Get) => b"Allow: GET\r\n",
-        Some(Methods::Post) => b"Allow: POST\r\n",
-        Some(Methods::GetAndPost) => b"Allow: GET, POST\r\n",
-    }
-}
-
-fn closing_line(closes: bool) -> &'static [u8]
-    ensures value { result.now ≡ lines_text (closing_lines closes) }
-    ensures short { length result.now ≤ 19 }
-{
-    if closes {
-        b"Connection: close\r\n"
-    } else {
-        b""
-    }
-}
-
 impl ResponseHead {
     /// The head as it is sent: the status line, its fields, and the empty line (RFC 9112, section 2.1).
     pub fn text(&self) -> HeadText
         ensures { result ≡ head_text self.now }
     {
         let mut text = HeadText::new();
-        text.put(b"HTTP/1.1 ");
-        text.put(Buffer::new().format(self.status.code()).as_bytes());
-        text.put_line(b" ", self.status.phrase().as_bytes());
-        text.put_line(b"Content-Type: ", self.media.text().as_bytes());
-        text.put_line(
-            b"Content-Length: ",
-            Buffer::new().format(self.length).as_bytes(),
-        );
+        text.put(status_line(self.status));
+        text.put(body_lines(self.media));
+        text.put(Buffer::new().format(self.length).as_bytes());
         text.put(allow_line(self.allow));
-        text.put(closing_line(self.closes));
-        text.put(b"\r\n");
+        text.put(last_lines(self.closes));
         text
     }
 
@@ -79,18 +51,11 @@ impl ResponseHead {
         ensures len { vec_len bytes.new ≤ vec_len bytes.old + 256 }
         ensures capacity { vec_capacity bytes.old ≤ vec_capacity bytes.new }
     {
-        put(bytes, b"HTTP/1.1 ");
-        put(bytes, Buffer::new().format(self.status.code()).as_bytes());
-        put_line(bytes, b" ", self.status.phrase().as_bytes());
-        put_line(bytes, b"Content-Type: ", self.media.text().as_bytes());
-        put_line(
-            bytes,
-            b"Content-Length: ",
-            Buffer::new().format(self.length).as_bytes(),
-        );
+        put(bytes, status_line(self.status));
+        put(bytes, body_lines(self.media));
+        put(bytes, Buffer::new().format(self.length).as_bytes());
         put(bytes, allow_line(self.allow));
-        put(bytes, closing_line(self.closes));
-        put(bytes, b"\r\n");
+        put(bytes, last_lines(self.closes));
     }
 }
 

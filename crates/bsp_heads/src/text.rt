@@ -1,6 +1,6 @@
 //! A room of fixed size for the text of a head.
 
-ghost use Rattle.std.specs.Prelude.{◌≡◌, ℕ, ◌+◌, ◌≤◌, List, [], ◌++◌, codes, length, take};
+ghost use Rattle.std.specs.Prelude.{◌≡◌, ℕ, ◌+◌, ◌≤◌, List, [], ◌++◌, length, take};
 
 use std::marker::Model;
 
@@ -42,16 +42,6 @@ impl HeadText {
     {
         put_after(&mut self.room, self.len, text);
         self.len += text.len();
-    }
-
-    /// Adds the two parts of a line, and its end.
-    pub(crate) fn put_line(&mut self, first: &[u8], rest: &[u8])
-        requires { length self.old + (length first.now + (length rest.now + 2)) ≤ 256 }
-        ensures { self.new ≡ self.old ++ (first.now ++ (rest.now ++ codes "\r\n")) }
-    {
-        self.put(first);
-        self.put(rest);
-        self.put(b"\r\n");
     }
 }
 

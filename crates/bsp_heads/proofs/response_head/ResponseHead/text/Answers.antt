@@ -1,3 +1,4 @@
+use Rattle.std.proofs.Common.{[]}
 use Rattle.bsp_heads.specs.ResponseHeads.{head_text, allow_lines, closing_lines}
 use Rattle.bsp_heads.proofs.Texts.{text_is}
 use Rattle.bsp_heads.proofs.response_head.ResponseHead.text.Goals as goal
@@ -9,22 +10,14 @@ returns c =
       c.put-5.ensures,
       c.put-4.ensures,
       c.put-3.ensures,
-      c.put_line-3.ensures,
-      c.put_line-2.ensures,
-      c.put_line.ensures,
       c.put-2.ensures,
       c.put.ensures,
       c.new-text.ensures,
+      c.status_line.ensures.value,
+      c.body_lines.ensures.value,
       c.as_bytes.ensures.value,
       c.format.ensures.text,
-      c.code.ensures,
-      c.as_bytes-2.ensures.value,
-      c.phrase.ensures.value,
-      c.as_bytes-3.ensures.value,
-      c.text.ensures.value,
-      c.as_bytes-4.ensures.value,
-      c.format-2.ensures.text,
       c.allow_line.ensures.value,
-      c.closing_line.ensures.value,
+      c.last_lines.ensures.value,
     )
-    (text_is _ _ _ _ (allow_lines c.args.self.now.allow) (closing_lines c.args.self.now.closes))
+    (text_is [] _ _ _ _ (allow_lines c.args.self.now.allow) (closing_lines c.args.self.now.closes))
