@@ -3,7 +3,8 @@
 ghost use Rattle.std.specs.Prelude.{◌≡◌, ◌≤◌, ◌<◌, ◌+◌, ◌||◌, ◌==◌, ℕ, List, [], ◌++◌, length, take, drop, true, false, None, Some, IfOk, OnOk, OnErr, is_some, vec_capacity};
 ghost use Rattle.bsp_connection.specs.Exchanges.{inquiry, request_of, used};
 ghost use Rattle.bsp_connection.specs.Conversations.{HasRefusal, IsRun};
-ghost use Rattle.bsp_heads.specs.Responses.{ReplyText, reply_text, response};
+ghost use Rattle.bsp_replies.specs.Replies.{ReplyText, reply_text};
+ghost use Rattle.bsp_heads.specs.Responses.{response};
 ghost use Rattle.bsp_heads.specs.Scan.{head_len};
 ghost use Rattle.bsp_connection.specs.Begun.{HasBody, HasUnread, IsRead, asked_early, head_in};
 ghost use Rattle.bsp_connection.specs.Progress.{IsFurther, IsOn};
@@ -14,7 +15,8 @@ use crate::connection::Connection;
 use crate::heads::{Sought, seek};
 use crate::service::{Message, Service};
 use bsp_fields::NoRoom;
-use bsp_heads::{HeadFault, HeadParts, Refused, Reply, Scan, interim, read_head, refusal};
+use bsp_heads::{HeadFault, HeadParts, Refused, Scan, interim, read_head, refusal};
+use bsp_replies::Reply;
 
 /// The messages that were answered before the last that a connection may have.
 const LAST: usize = 65_535;

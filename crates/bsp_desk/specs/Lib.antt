@@ -15,7 +15,7 @@ pub use Rattle.bsp_book.specs.declared.fault.BookFault
 pub use Rattle.bsp_desk_writes.specs.Contents
 pub use Rattle.bsp_desk_writes.specs.Requests
 pub use Rattle.bsp_desk_writes.specs.declared.content.Content
-pub use Rattle.bsp_heads.specs.declared.reply.Reply
+pub use Rattle.bsp_replies.specs.declared.reply.Reply
 pub use Rattle.bsp_messages.specs.Answers
 pub use Rattle.bsp_messages.specs.declared.answer.Answer
 pub use Rattle.bsp_messages.specs.declared.refusal.RequestRefusal

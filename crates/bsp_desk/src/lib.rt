@@ -24,8 +24,8 @@ mod wanted;
 
 pub use bsp_book::{Book, BookFault};
 pub use bsp_desk_writes::Content;
-pub use bsp_heads::Reply;
 pub use bsp_messages::RequestRefusal;
+pub use bsp_replies::Reply;
 pub use bsp_routes::{Asking, BodyKind, Route};
 pub use bsp_rows::Token;
 pub use desk::Desk;

@@ -2,25 +2,12 @@
 use Rattle.std.specs.Prelude.{ℕ, Bool, true, false, List, [], ◌∷◌, ◌++◌, codes, decimal, Option, Some, None}
 use Rattle.bsp_routes.specs.Calls.{allow_text}
 use Rattle.bsp_routes.specs.declared.methods.Methods.{Methods}
-use Rattle.bsp_heads.specs.declared.status.Status.{Status}
-use Rattle.bsp_heads.specs.declared.status.Status.TheVariants as status
-use Rattle.bsp_heads.specs.declared.status.Media.{Media}
-use Rattle.bsp_heads.specs.declared.status.Media.TheVariants as media
+use Rattle.bsp_replies.specs.declared.status.Status.{Status}
+use Rattle.bsp_replies.specs.declared.status.Status.TheVariants as status
+use Rattle.bsp_replies.specs.declared.status.Media.{Media}
+use Rattle.bsp_replies.specs.declared.status.Media.TheVariants as media
+use Rattle.bsp_replies.specs.Replies.{code}
 use Rattle.bsp_heads.specs.declared.response_head.ResponseHead.{ResponseHead}
-
-abbrev pub code : Status → ℕ
-code status.Ok = 200
-code status.BadRequest = 400
-code status.Forbidden = 403
-code status.NotFound = 404
-code status.MethodNotAllowed = 405
-code status.Conflict = 409
-code status.LengthRequired = 411
-code status.PayloadTooLarge = 413
-code status.UnprocessableEntity = 422
-code status.RequestHeaderFieldsTooLarge = 431
-code status.NotImplemented = 501
-code status.ServiceUnavailable = 503
 
 abbrev pub phrase : Status → List ℕ
 phrase status.Ok = codes "OK"

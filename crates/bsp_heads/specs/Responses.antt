@@ -1,26 +1,14 @@
 -- The whole text of a response, and the answers to refused heads.
 use Rattle.std.specs.Prelude.{ℕ, Bool, List, [], ◌++◌, length, if◌then◌else◌, codes, Option, None}
-use Rattle.std.specs.Cow.{cow_slice_items}
-use Rattle.bsp_routes.specs.declared.methods.Methods.{Methods}
-use Rattle.bsp_heads.specs.declared.status.Status.{Status}
-use Rattle.bsp_heads.specs.declared.status.Status.TheVariants as status
-use Rattle.bsp_heads.specs.declared.status.Media.{Media}
-use Rattle.bsp_heads.specs.declared.status.Media.TheVariants as media
+use Rattle.bsp_replies.specs.declared.status.Status.{Status}
+use Rattle.bsp_replies.specs.declared.status.Status.TheVariants as status
+use Rattle.bsp_replies.specs.declared.status.Media.{Media}
+use Rattle.bsp_replies.specs.declared.status.Media.TheVariants as media
 use Rattle.bsp_heads.specs.declared.response_head.ResponseHead.{ResponseHead}
 use Rattle.bsp_heads.specs.declared.fault.HeadFault.{HeadFault}
 use Rattle.bsp_heads.specs.declared.fault.HeadFault.TheVariants.{Malformed, LengthRequired, BodyTooLarge, HeadTooLarge, TransferCoding}
-use Rattle.bsp_heads.specs.declared.reply.Reply.{Reply}
+use Rattle.bsp_replies.specs.Replies.{ReplyText}
 use Rattle.bsp_heads.specs.ResponseHeads.{head_text}
-
--- a reply with the bytes of its body
-pub record ReplyText : Type 0 where
-  pub status : Status
-  pub media : Media
-  pub allow : Option Methods
-  pub body : List ℕ
-
-abbrev pub reply_text : Reply → ReplyText
-reply_text reply = record { status = reply.status; media = reply.media; allow = reply.allow; body = cow_slice_items reply.body }
 
 abbrev pub reply_head : Bool → ReplyText → ResponseHead
 reply_head closes reply =

@@ -1,9 +1,10 @@
 //! The lines of a response's head.
 
 ghost use Rattle.std.specs.Prelude.{◌≡◌, ◌≤◌, ◌++◌, codes, decimal, length};
-ghost use Rattle.bsp_heads.specs.ResponseHeads.{allow_lines, closing_lines, code, lines_text, media_type, phrase};
+ghost use Rattle.bsp_replies.specs.Replies.{code};
+ghost use Rattle.bsp_heads.specs.ResponseHeads.{allow_lines, closing_lines, lines_text, media_type, phrase};
 
-use crate::status::{Media, Status};
+use bsp_replies::{Media, Status};
 use bsp_routes::Methods;
 
 /// The status line (RFC 9112, section 4).

@@ -6,8 +6,8 @@ ghost use Rattle.bsp_heads.specs.Responses.{continue_text};
 
 use crate::append::put;
 use crate::lines::{allow_line, body_lines, last_lines, status_line};
-use crate::status::{Media, Status};
 use crate::text::HeadText;
+use bsp_replies::{Media, Status};
 use bsp_routes::Methods;
 use itoa::Buffer;
 

@@ -2,7 +2,7 @@
 
 ghost use Rattle.std.specs.Prelude.{◌≡◌, ◌<◌, ℕ, List, length, None, Some, IfOk, OnErr, MatchResult};
 ghost use Rattle.bsp_connection.specs.Exchanges.{request_of};
-ghost use Rattle.bsp_heads.specs.Responses.{reply_text};
+ghost use Rattle.bsp_replies.specs.Replies.{reply_text};
 ghost use Rattle.bsp_desk.specs.Routed.{IsRouteOf};
 ghost use Rattle.bsp_ret.specs.Lines.{lines};
 ghost use Rattle.bsp_ret.specs.Table.{first_fault};
@@ -14,7 +14,7 @@ use crate::journal::Journal;
 use bsp_connection::Message;
 use bsp_desk::{BodyKind, Book, Content, Desk, Request, Route};
 use bsp_fields::NoRoom;
-use bsp_heads::Reply;
+use bsp_replies::Reply;
 use bsp_ret::{RetFault, RetFile, RetReader};
 
 /// The content that a body is, read as a RET file.

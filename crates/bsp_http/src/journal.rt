@@ -2,7 +2,7 @@
 
 use bsp_connection::Message;
 use bsp_desk::{Asking, Book, Desk};
-use bsp_heads::Reply;
+use bsp_replies::Reply;
 
 /// Takes note of the replies of an office over a book of type `B`.
 pub trait Journal<B: Book> {

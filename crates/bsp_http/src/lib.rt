@@ -13,8 +13,8 @@ mod laws;
 mod office;
 
 pub use bsp_connection::{End, Message, Noted, ServeFault, Served};
-pub use bsp_heads::{Reply, Status};
 pub use bsp_peers::{Awaited, Ending, Happened, Limits, Moved, Peers};
+pub use bsp_replies::{Reply, Status};
 pub use bsp_routes::Routes;
 pub use connection::{serve, serve_all};
 pub use journal::{Journal, NoJournal};

@@ -10,7 +10,7 @@ use crate::journal::Journal;
 use bsp_connection::{Message, Service};
 use bsp_desk::{Book, Desk, RequestRefusal};
 use bsp_fields::NoRoom;
-use bsp_heads::Reply;
+use bsp_replies::Reply;
 use bsp_routes::Routes;
 use std::alloc::Global;
 

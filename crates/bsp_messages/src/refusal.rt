@@ -5,8 +5,8 @@ ghost use Rattle.serde_json.specs.Written.{compact_text};
 ghost use Rattle.bsp_messages.specs.Refusals.{code_object, memo_code, plan_code, stock_code, refusal_code, refusal_status};
 
 use bsp_calendar::PlanFault;
-use bsp_heads::Status;
 use bsp_memos::MemoFault;
+use bsp_replies::Status;
 
 /// Why a change of an agent's stock is refused, in the order in which it is judged.
 #[derive(Clone, Copy)]

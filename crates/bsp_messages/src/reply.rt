@@ -12,7 +12,7 @@ use crate::objects::{document_text, period_text, record_text};
 use crate::refusal::RequestRefusal;
 use crate::verdicts::results_text;
 use bsp_fields::{Change, NoRoom};
-use bsp_heads::{Media, Reply, Status};
+use bsp_replies::{Media, Reply, Status};
 use bsp_ret::{FaultCode, RetFault};
 use std::alloc::Global;
 use std::borrow::CowSlice;

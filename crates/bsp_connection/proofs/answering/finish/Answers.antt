@@ -3,7 +3,7 @@ use Rattle.std.specs.Option.{option_map}
 use Rattle.httparse.specs.Spans.{span_bytes}
 use Rattle.bsp_connection.specs.Begun.{HasBody}
 use Rattle.bsp_connection.specs.Exchanges.{used}
-use Rattle.bsp_heads.specs.Responses.{reply_text}
+use Rattle.bsp_replies.specs.Replies.{reply_text}
 use Rattle.bsp_connection.proofs.StepLemmas.{answered_moves, request, unroomed_moves}
 use Rattle.bsp_connection.specs.Talks.{Moves}
 use Rattle.bsp_connection.proofs.answering.finish.Goals as goal

@@ -1,0 +1,2 @@
+-- What the contracts of replies cite.
+pub mod Replies
