@@ -13,7 +13,7 @@ use crate::reading::read_whole;
 use crate::report::write_report;
 use crate::ret_report::ret_report;
 use crate::verdict::Verdict;
-use bsp_connection::Noted;
+use bsp_streams::Noted;
 use std::alloc::Global;
 use std::io::{Read, Write};
 

@@ -3,7 +3,7 @@ ghost use Rattle.std.specs.Prelude.{◌≡◌, ◌≢◌, ◌≤◌, ◌<◌, �
 ghost use Rattle.std.specs.Io.KnownBytes.{Consumes, IsAtEnd};
 
 use crate::fault::Fault;
-use bsp_connection::Noted;
+use bsp_streams::Noted;
 use std::alloc::{AllocError, Global};
 use std::io::Read;
 

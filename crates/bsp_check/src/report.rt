@@ -5,7 +5,7 @@ ghost use Rattle.bsp_check.specs.Streams.{IsSent};
 
 use crate::fault::Fault;
 use crate::verdict::Verdict;
-use bsp_connection::{Noted, send};
+use bsp_streams::{Noted, send};
 use std::io::Write;
 
 /// A report, and what it says of its input.

@@ -1,6 +1,4 @@
 -- Lemmas of this crate.
-pub mod NotedLemmas
-pub mod WriteLemmas
 pub mod SeekLemmas
 pub mod StepLemmas
 pub mod TalkLemmas

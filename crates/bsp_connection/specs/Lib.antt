@@ -1,6 +1,4 @@
 -- What the contracts of a connection cite.
-pub mod Noted
-pub mod Written
 pub mod Exchanges
 pub mod Conversations
 pub mod Outputs

@@ -8,17 +8,16 @@ ghost use Rattle.bsp_connection.specs.Progress.{IsAtRest};
 ghost use Rattle.bsp_connection.specs.Reads.{failed_by_reads, most_empty, most_empty_of_turn};
 ghost use Rattle.bsp_connection.specs.Serving.{Serves};
 ghost use Rattle.bsp_connection.specs.Steps.{WasRead, WasStep};
-ghost use Rattle.bsp_connection.specs.Noted.{empty_reads, failed_by};
+ghost use Rattle.bsp_streams.specs.Noted.{empty_reads, failed_by};
 ghost use Rattle.bsp_connection.specs.Talks.{IsFresh, IsSame, IsSent};
-ghost use Rattle.bsp_connection.specs.Written.{IsWritten};
+ghost use Rattle.bsp_streams.specs.Written.{IsWritten};
 
 use crate::answering::go_on;
 use crate::begun::up_to;
 use crate::connection::Connection;
 use crate::end::{End, ServeFault, Served};
-use crate::noted::Noted;
-use crate::sending::{WriteFault, send_all, send_on};
 use crate::service::Service;
+use bsp_streams::{Noted, WriteFault, send_all, send_on};
 use std::alloc::Global;
 use std::io::{Read, Write};
 

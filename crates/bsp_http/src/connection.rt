@@ -12,10 +12,11 @@ ghost use Rattle.bsp_http.specs.Serving.{IsServedAll};
 
 use crate::journal::Journal;
 use crate::office::Office;
-use bsp_connection::{Http, Noted, ServeFault, Served};
+use bsp_connection::{Http, ServeFault, Served};
 use bsp_desk::{Book, Desk};
 use bsp_peers::{Limits, Peers};
 use bsp_routes::Routes;
+use bsp_streams::Noted;
 use std::alloc::Global;
 use std::io::{Read, Write};
 

@@ -12,10 +12,11 @@ mod journal;
 mod laws;
 mod office;
 
-pub use bsp_connection::{End, Message, Noted, ServeFault, Served};
+pub use bsp_connection::{End, Message, ServeFault, Served};
 pub use bsp_peers::{Awaited, Ending, Happened, Limits, Moved, Peers};
 pub use bsp_replies::{Reply, Status};
 pub use bsp_routes::Routes;
+pub use bsp_streams::Noted;
 pub use connection::{serve, serve_all};
 pub use journal::{Journal, NoJournal};
 pub use laws::{messages_are_read, messages_are_run};

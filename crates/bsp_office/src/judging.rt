@@ -5,10 +5,10 @@ use crate::plans::{Trial, report_trial};
 use crate::remarks::{say_answer, say_lines, say_lines_of, say_reason};
 use crate::whole_files::{all_bytes, bytes_of, printed, short_of_memory};
 use bsp_check::{DONE, FAILED, REFUSED, check, exit_status};
-use bsp_connection::Noted;
 use bsp_explain::Words;
 use bsp_fields::PeriodCode;
 use bsp_judge::{Earlier, JudgeFault, Judged, Range, RefusedStep, Setup, Step, judge};
+use bsp_streams::Noted;
 use bsp_words::{Earlier as Named, Setting};
 use std::io;
 

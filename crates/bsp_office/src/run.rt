@@ -11,7 +11,7 @@ use crate::remarks::{say, say_answer, say_unopened};
 use crate::serving::{run_office, serve_office};
 use crate::whole_files::short_of_memory;
 use bsp_check::{DONE, FAILED, Fault, Verdict, WRONG_WORDS, check, exit_status, hotcheck};
-use bsp_connection::Noted;
+use bsp_streams::Noted;
 use bsp_words::{Misfit, WordsFault, Work, words};
 use clap::error::ErrorKind;
 use std::convert::AsStr;

@@ -1,8 +1,8 @@
 //! The file that has the office's token.
 
 use bsp_check::{Fault, read_whole};
-use bsp_connection::Noted;
 use bsp_fields::Token;
+use bsp_streams::Noted;
 use std::fs::{self, File};
 use std::io;
 use std::os::unix::fs::PermissionsExt;

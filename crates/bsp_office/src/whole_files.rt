@@ -3,7 +3,7 @@
 use crate::input::Input;
 use crate::remarks::{say_fault, say_no_memory, say_unopened, say_unwritten};
 use bsp_check::{FAILED, read_whole};
-use bsp_connection::{Noted, send};
+use bsp_streams::{Noted, send};
 use std::io;
 use std::io::Write;
 

@@ -1,6 +1,6 @@
 use Rattle.std.proofs.Common.{◌++◌}
-use Rattle.bsp_connection.proofs.WriteLemmas.{both_parts, first_part}
-use Rattle.bsp_connection.proofs.sending.send_all.Goals as goal
+use Rattle.bsp_streams.proofs.WriteLemmas.{both_parts, first_part}
+use Rattle.bsp_streams.proofs.sending.send_all.Goals as goal
 
 pub returns-in_err-send-clause-written : goal.returns-in_err-send-clause-written
 returns-in_err-send-clause-written g c = first_part _ _ c.args.texts.0.now (c.args.texts.1.now ++ c.args.texts.2.now) c.from_residual.result c.in_err-send.ensures.written c.from_residual.ensures.0

@@ -1,6 +1,6 @@
 use Rattle.std.proofs.Common.{◌≡◌, ◌≤◌, ◌-◌, true, length, take}
 use Rattle.std.specs.Io.KnownBytes.{Appends}
-use Rattle.bsp_connection.proofs.sending.send.Given as goal
+use Rattle.bsp_streams.proofs.sending.send.Given as goal
 
 abbrev pub invariant-loop-at : goal.invariant-loop-at
 invariant-loop-at g l = record {

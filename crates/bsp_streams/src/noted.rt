@@ -4,7 +4,7 @@ ghost use Rattle.std.specs.Prelude.{◌≡◌, ◌≢◌, true, false, IfErr};
 ghost use Rattle.std.specs.Io.KnownBytes.{Keeps, ReadConsumes, WriteAppends};
 ghost use Rattle.std.specs.Io.{ReadsAtMost, WritesAtMost};
 ghost use Rattle.std.specs.IoError.{error_kind};
-ghost use Rattle.bsp_connection.specs.Noted.{empty_reads, failed_by, failed_by_write};
+ghost use Rattle.bsp_streams.specs.Noted.{empty_reads, failed_by, failed_by_write};
 
 use std::io;
 use std::io::{ErrorKind, Read, Write};

@@ -2,7 +2,7 @@
 
 ghost use Rattle.std.specs.Prelude.{◌≡◌, ◌++◌, true, false, IsErr, OnErr};
 ghost use Rattle.std.specs.Io.KnownBytes.{Keeps};
-ghost use Rattle.bsp_connection.specs.Written.{IsWritten};
+ghost use Rattle.bsp_streams.specs.Written.{IsWritten};
 
 use crate::noted::Noted;
 use std::io::Write;
@@ -43,8 +43,8 @@ fn send_both<W: Write>(writer: &mut Noted<W>, first: &[u8], second: &[u8]) -> Re
     send(writer, second)
 }
 
-/// Writes three texts.
-pub(crate) fn send_all<W: Write>(
+/// Writes three texts, as [`send`] writes one.
+pub fn send_all<W: Write>(
     writer: &mut Noted<W>,
     texts: (&[u8], &[u8], &[u8]),
 ) -> Result<(), WriteFault>

@@ -1,5 +1,5 @@
-use Rattle.bsp_connection.proofs.WriteLemmas.{both_parts, first_part}
-use Rattle.bsp_connection.proofs.sending.send_both.Goals as goal
+use Rattle.bsp_streams.proofs.WriteLemmas.{both_parts, first_part}
+use Rattle.bsp_streams.proofs.sending.send_both.Goals as goal
 
 pub returns-in_err-send-clause-written : goal.returns-in_err-send-clause-written
 returns-in_err-send-clause-written g c = first_part _ _ c.args.first.now c.args.second.now c.from_residual.result c.in_err-send.ensures.written c.from_residual.ensures.0

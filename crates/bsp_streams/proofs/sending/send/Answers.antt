@@ -1,8 +1,8 @@
 use Rattle.std.proofs.Common.{◌∙◌, ℕ, arith}
 use Rattle.std.proofs.lemmas.List.{length-drop}
-use Rattle.bsp_connection.proofs.NotedLemmas.{still_failed}
-use Rattle.bsp_connection.proofs.WriteLemmas.{appends_more, kept_part, took_none}
-use Rattle.bsp_connection.proofs.sending.send.Goals as goal
+use Rattle.bsp_streams.proofs.NotedLemmas.{still_failed}
+use Rattle.bsp_streams.proofs.WriteLemmas.{appends_more, kept_part, took_none}
+use Rattle.bsp_streams.proofs.sending.send.Goals as goal
 
 pub loop-at-preserved : goal.loop-at-preserved
 loop-at-preserved g c = record {

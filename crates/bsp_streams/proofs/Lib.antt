@@ -1,0 +1,3 @@
+-- Lemmas of this crate.
+pub mod NotedLemmas
+pub mod WriteLemmas

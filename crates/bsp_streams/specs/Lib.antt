@@ -1,0 +1,3 @@
+-- What the contracts of reading and writing cite.
+pub mod Noted
+pub mod Written
