@@ -2,6 +2,7 @@
 pub mod Exchanges
 pub mod Conversations
 pub mod Outputs
+pub mod Waiting
 pub mod Messages
 pub mod Seeking
 pub mod Begun

@@ -1,6 +1,6 @@
 //! Answering the messages of a connection.
 
-ghost use Rattle.std.specs.Prelude.{◌≡◌, ◌≤◌, ◌<◌, ◌+◌, ◌||◌, ◌==◌, ℕ, List, [], ◌++◌, length, take, drop, true, false, None, Some, IfOk, OnOk, OnErr, is_some, vec_capacity};
+ghost use Rattle.std.specs.Prelude.{◌≡◌, ◌≤◌, ◌<◌, ◌+◌, ◌||◌, ◌==◌, ℕ, List, [], ◌++◌, length, take, drop, true, false, None, Some, IfOk, OnOk, OnErr, is_some};
 ghost use Rattle.bsp_connection.specs.Exchanges.{inquiry, request_of, used};
 ghost use Rattle.bsp_connection.specs.Conversations.{HasRefusal, IsRun};
 ghost use Rattle.bsp_replies.specs.Replies.{ReplyText, reply_text};
@@ -33,15 +33,6 @@ fn part(bytes: &[u8], at: usize, count: usize) -> &[u8]
     ensures { result.now ≡ take count (drop at bytes.now) }
 {
     &bytes[at..at + count]
-}
-
-/// Drops so many bytes from a place on.
-fn cut_out(bytes: &mut Vec<u8>, at: usize, count: usize)
-    requires { at + count ≤ length bytes.old.items }
-    ensures items { bytes.new.items ≡ take at bytes.old.items ++ drop (at + count) bytes.old.items }
-    ensures room { vec_capacity bytes.new ≡ vec_capacity bytes.old }
-{
-    bytes.drain(at..at + count);
 }
 
 /// Passes a piece of a body on to what takes it.
@@ -101,10 +92,10 @@ fn end_message<F: Copy, B: Drop>(
     requires few { c.old.count < 65536 }
     ensures answered { IsAnswered head (response bare closes (reply_text reply)) closes c.old c.new }
     ensures number { c.new.number ≡ c.old.number }
-    ensures room { vec_capacity c.new.received ≡ vec_capacity c.old.received }
+    ensures room { c.new.received.room ≡ c.old.received.room }
 {
     c.out.respond(reply, bare, closes);
-    c.received.drain(..head);
+    c.received.drop_front(head);
     c.begun = None;
     c.scan = Scan::start();
     c.seen = 0;
@@ -130,7 +121,7 @@ fn refuse<D, S: Service<D>>(
     ensures closed { c.new.closed ≡ true }
     ensures shut { c.new.begun ≡ None }
     ensures number { c.new.number ≡ c.old.number }
-    ensures room { vec_capacity c.new.received ≡ vec_capacity c.old.received }
+    ensures room { c.new.received.room ≡ c.old.received.room }
 {
     let reply = refusal(refused.fault);
     service.note(desk, c.number, None, &reply);
@@ -183,9 +174,9 @@ fn turn_away<D, S: Service<D>>(
     ensures answered { (reply : ReplyText) × S.means.steps desk.old (head_in (take head c.old.received.items) parts.now) reply desk.new
         × IsAnswered (length c.old.received.items) (response parts.now.wanted.bare true reply) true c.old c.new }
     ensures number { c.new.number ≡ c.old.number }
-    ensures room { vec_capacity c.new.received ≡ vec_capacity c.old.received }
+    ensures room { c.new.received.room ≡ c.old.received.room }
 {
-    let message = message_of(&c.received, head, parts);
+    let message = message_of(c.received.bytes(), head, parts);
     let found = service.find(message.method, message.target);
     let reply = service.answer(desk, &message, found);
     service.note(desk, c.number, Some(&message), &reply);
@@ -209,9 +200,9 @@ fn begin<D, S: Service<D>>(
     ensures more { c.new.has_more ≡ true }
     ensures unclosed { c.new.closed ≡ false }
     ensures number { c.new.number ≡ c.old.number }
-    ensures room { vec_capacity c.new.received ≡ vec_capacity c.old.received }
+    ensures room { c.new.received.room ≡ c.old.received.room }
 {
-    let message = message_of(&c.received, head, &parts);
+    let message = message_of(c.received.bytes(), head, &parts);
     let found = service.find(message.method, message.target);
     c.body = service.body(&message, found);
     c.out.put(interim(parts.wanted.expects));
@@ -243,9 +234,9 @@ fn take_parts<D, S: Service<D>>(
     ensures shut { c.new.closed ≡ true → c.new.begun ≡ None }
     ensures waits { c.new.has_more ≡ false → c.new.begun ≡ None }
     ensures number { c.new.number ≡ c.old.number }
-    ensures room { vec_capacity c.new.received ≡ vec_capacity c.old.received }
+    ensures room { c.new.received.room ≡ c.old.received.room }
 {
-    if is_admitted(&c.received, head, &parts, service, desk) {
+    if is_admitted(c.received.bytes(), head, &parts, service, desk) {
         begin::<D, S>(c, head, parts, service);
     } else {
         turn_away(c, head, &parts, service, desk);
@@ -270,9 +261,9 @@ fn take_found<D, S: Service<D>>(
     ensures shut { c.new.closed ≡ true → c.new.begun ≡ None }
     ensures waits { c.new.has_more ≡ false → c.new.begun ≡ None }
     ensures number { c.new.number ≡ c.old.number }
-    ensures room { vec_capacity c.new.received ≡ vec_capacity c.old.received }
+    ensures room { c.new.received.room ≡ c.old.received.room }
 {
-    match read_head(up_to(&c.received, head)) {
+    match read_head(up_to(c.received.bytes(), head)) {
         Ok(parts) => take_parts(c, head, parts, service, desk),
         Err(refused) => refuse(c, refused, service, desk),
     }
@@ -289,10 +280,10 @@ fn take_head<D, S: Service<D>>(c: &mut Connection<S::Found, S::Body>, service: &
     ensures shut { c.new.closed ≡ true → c.new.begun ≡ None }
     ensures waits { c.new.has_more ≡ false → c.new.begun ≡ None }
     ensures number { c.new.number ≡ c.old.number }
-    ensures room { vec_capacity c.new.received ≡ vec_capacity c.old.received }
+    ensures room { c.new.received.room ≡ c.old.received.room }
 {
     let mut scan = c.scan;
-    match seek(&mut scan, &c.received, c.seen) {
+    match seek(&mut scan, c.received.bytes(), c.seen) {
         Sought::Head(head) => take_found(c, head, service, desk),
         Sought::TooLong => refuse(c, TOO_LARGE, service, desk),
         Sought::Nothing => {
@@ -325,12 +316,12 @@ fn pass_on<D, S: Service<D>>(
     ensures passed { IfOk result (HasPassed S.reads begun c.old c.new) }
     ensures refused { OnErr result (IsRefused begun c.old c.new) }
     ensures number { c.new.number ≡ c.old.number }
-    ensures room { vec_capacity c.new.received ≡ vec_capacity c.old.received }
+    ensures room { c.new.received.room ≡ c.old.received.room }
 {
     let count = begun.left.min(c.received.len() - begun.head);
-    let piece = part(&c.received, begun.head, count);
+    let piece = part(c.received.bytes(), begun.head, count);
     pass(service, begun.found, &mut c.body, piece)?;
-    cut_out(&mut c.received, begun.head, count);
+    c.received.cut_out(begun.head, count);
     let now = Begun {
         left: begun.left - count,
         ..begun
@@ -352,10 +343,10 @@ fn unroomed<D, S: Service<D>>(
     requires few { c.old.count < 65536 }
     ensures answered { IsAnswered (length c.old.received.items) (response begun.parts.wanted.bare true S.means.no_room) true c.old c.new }
     ensures number { c.new.number ≡ c.old.number }
-    ensures room { vec_capacity c.new.received ≡ vec_capacity c.old.received }
+    ensures room { c.new.received.room ≡ c.old.received.room }
 {
     let reply = service.no_room();
-    let message = message_of(&c.received, begun.head, &begun.parts);
+    let message = message_of(c.received.bytes(), begun.head, &begun.parts);
     service.note(desk, c.number, Some(&message), &reply);
     let all = c.received.len();
     end_message(c, all, reply, begun.parts.wanted.bare, true);
@@ -377,9 +368,9 @@ fn finish<D, S: Service<D>>(
     ensures goes_on { IsOn c.old c.new }
     ensures shut { c.new.closed ≡ true → c.new.begun ≡ None }
     ensures number { c.new.number ≡ c.old.number }
-    ensures room { vec_capacity c.new.received ≡ vec_capacity c.old.received }
+    ensures room { c.new.received.room ≡ c.old.received.room }
 {
-    let message = message_of(&c.received, begun.head, &begun.parts);
+    let message = message_of(c.received.bytes(), begun.head, &begun.parts);
     let body = c.body.take();
     let Ok(reply) = ask(service, desk, &message, begun.found, body) else {
         return unroomed(c, begun, service, desk);
@@ -405,7 +396,7 @@ fn take_body<D, S: Service<D>>(
     ensures goes_on { IsOn c.old c.new }
     ensures shut { c.new.closed ≡ true → c.new.begun ≡ None }
     ensures number { c.new.number ≡ c.old.number }
-    ensures room { vec_capacity c.new.received ≡ vec_capacity c.old.received }
+    ensures room { c.new.received.room ≡ c.old.received.room }
 {
     match pass_on(c, begun, service) {
         Ok(now) => {
@@ -427,7 +418,7 @@ fn take_message<D, S: Service<D>>(c: &mut Connection<S::Found, S::Body>, service
     ensures goes_on { IsOn c.old c.new }
     ensures shut { c.new.closed ≡ true → c.new.begun ≡ None }
     ensures number { c.new.number ≡ c.old.number }
-    ensures room { vec_capacity c.new.received ≡ vec_capacity c.old.received }
+    ensures room { c.new.received.room ≡ c.old.received.room }
 {
     take_head(c, service, desk);
     if !c.out.is_free() {
@@ -448,7 +439,7 @@ pub fn go_on<D, S: Service<D>>(c: &mut Connection<S::Found, S::Body>, service: &
     ensures goes_on { c.old.closed ≡ false → c.old.out.apart ≡ false → IsOn c.old c.new }
     ensures shut { c.old.closed ≡ false → c.new.closed ≡ true → c.new.begun ≡ None }
     ensures number { c.new.number ≡ c.old.number }
-    ensures room { vec_capacity c.new.received ≡ vec_capacity c.old.received }
+    ensures room { c.new.received.room ≡ c.old.received.room }
 {
     if c.closed || !c.out.is_free() {
         return;

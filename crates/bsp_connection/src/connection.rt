@@ -1,6 +1,6 @@
 //! One connection.
 
-ghost use Rattle.std.specs.Prelude.{not, ◌&&◌, ◌≡◌, ◌⊎◌, ◌≤◌, ◌<◌, ◌+◌, [], length, take, true, false, IfOk, OnOk, OnErr, vec_capacity};
+ghost use Rattle.std.specs.Prelude.{not, ◌&&◌, ◌≡◌, ◌⊎◌, ◌≤◌, ◌<◌, ◌+◌, [], length, take, true, false, IfOk, OnOk, OnErr};
 ghost use Rattle.bsp_connection.specs.Begun.{BegunAt};
 ghost use Rattle.bsp_connection.specs.Outputs.{HasOutput};
 ghost use Rattle.bsp_connection.specs.Steps.{EndsAt};
@@ -9,6 +9,7 @@ ghost use Rattle.bsp_connection.specs.Talks.{HasTaken, IsFresh, IsSame, IsSent};
 use crate::begun::Begun;
 use crate::end::End;
 use crate::output::Output;
+use crate::received::Received;
 use bsp_fields::NoRoom;
 use bsp_heads::Scan;
 use std::alloc::{AllocError, Global};
@@ -23,7 +24,7 @@ pub struct Connection<F, B> {
     // For what is noted of its replies.
     pub(crate) number: u64,
     // What was received, a head that is read at its front; of a body that is begun what was passed on is dropped.
-    pub(crate) received: Vec<u8>,
+    pub(crate) received: Received,
     // The search for the end of a head, and how many bytes it has seen.
     pub(crate) scan: Scan,
     pub(crate) seen: usize,
@@ -48,7 +49,7 @@ impl<F, B: Drop> Connection<F, B> {
         Connection {
             alloc,
             number,
-            received: Vec::new(alloc),
+            received: Received::new(alloc),
             scan: Scan::start(),
             seen: 0,
             begun: None,
@@ -69,10 +70,9 @@ impl<F, B: Drop> Connection<F, B> {
     pub(crate) fn with_room(alloc: Global, number: u64) -> Result<Connection<F, B>, AllocError>
         ensures fresh { IfOk result IsFresh }
         ensures number { IfOk result (λ c. c.number ≡ number) }
-        ensures room { IfOk result (λ c. 32768 ≤ vec_capacity c.received) }
+        ensures room { IfOk result (λ c. 32768 ≤ c.received.room) }
     {
-        let mut received = Vec::new(alloc);
-        received.reserve(ROOM)?;
+        let received = Received::with_room(alloc, ROOM)?;
         let mut connection = Connection::new(alloc, number);
         connection.received = received;
         Ok(connection)
@@ -86,13 +86,13 @@ impl<F, B: Drop> Connection<F, B> {
     pub fn feed(&mut self, piece: &[u8]) -> Result<(), NoRoom>
         ensures taken { OnOk result (HasTaken self.old piece.now self.new) }
         ensures refused { OnErr result (IsSame self.old self.new) }
-        ensures full { OnErr result (vec_capacity self.old.received < length self.old.received.items + length piece.now) }
-        ensures room { vec_capacity self.old.received ≤ vec_capacity self.new.received }
+        ensures full { OnErr result (self.old.received.room < length self.old.received.items + length piece.now) }
+        ensures room { self.old.received.room ≤ self.new.received.room }
     {
         if self.closed {
             return Ok(());
         }
-        self.received.extend_from_slice(piece)?;
+        self.received.take(piece)?;
         self.has_more = true;
         Ok(())
     }
@@ -102,7 +102,7 @@ impl<F, B: Drop> Connection<F, B> {
         ensures { IsSame self.old self.new }
     {
         if self.received.is_empty() {
-            self.received = Vec::new(self.alloc);
+            self.received = Received::new(self.alloc);
         }
     }
 

@@ -14,6 +14,7 @@ mod end;
 mod heads;
 mod output;
 mod protocol;
+mod received;
 mod service;
 mod serving;
 

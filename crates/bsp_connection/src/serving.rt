@@ -1,6 +1,6 @@
 //! Serving one connection.
 
-ghost use Rattle.std.specs.Prelude.{◌≡◌, ◌≢◌, ◌⊎◌, ◌<◌, ◌≤◌, ◌+◌, ◌==◌, ℕ, true, false, List, [], ◌++◌, length, None, Some, Ok, Err, IfOk, OnOk, OnErr, vec_capacity};
+ghost use Rattle.std.specs.Prelude.{◌≡◌, ◌≢◌, ◌⊎◌, ◌<◌, ◌≤◌, ◌+◌, ◌==◌, ℕ, true, false, List, [], ◌++◌, length, None, Some, Ok, Err, IfOk, OnOk, OnErr};
 ghost use Rattle.std.specs.Io.KnownBytes.{Appends, Consumes, IsAtEnd, Keeps};
 ghost use Rattle.bsp_connection.specs.Begun.{HasUnread};
 ghost use Rattle.bsp_connection.specs.Ends.{IsInputEnd, served_by};
@@ -46,7 +46,7 @@ fn send_out<W: Write, F, B: Drop>(
     ensures some { OnErr result (c.old.out.bytes ≢ []) }
     ensures cause { OnErr result (writer.new.failed ≡ true) }
     ensures noted { writer.old.failed ≡ true → writer.new.failed ≡ true }
-    ensures room { vec_capacity c.new.received ≡ vec_capacity c.old.received }
+    ensures room { c.new.received.room ≡ c.old.received.room }
 {
     let texts = c.out.parts();
     if !are_empty(texts) {
@@ -66,13 +66,13 @@ fn receive<R: Read, W: Write, F, B: Drop>(
     requires sent { _writer.now.pending ≡ false }
     requires short { length c.old.received.items ≤ 16384 }
     requires unclosed { c.old.closed ≡ false }
-    requires capacity { 32768 ≤ vec_capacity c.old.received }
+    requires capacity { 32768 ≤ c.old.received.room }
     requires piece { length room.old ≡ 16384 }
     ensures read { (got : List ℕ) × Consumes (R.remaining reader.old.inner) (R.remaining reader.new.inner) got × WasRead got c.old c.new result }
     ensures end { IfOk result (λ end. end ≢ None → IsAtEnd (R.remaining reader.new.inner)) }
     ensures failed { reader.new.failed ≡ failed_by_reads reader.old.failed result }
     ensures empty { reader.new.empty ≤ reader.old.empty + most_empty_of_turn result }
-    ensures room { vec_capacity c.old.received ≤ vec_capacity c.new.received }
+    ensures room { c.old.received.room ≤ c.new.received.room }
     ensures piece { length room.new ≡ 16384 }
 {
     let count = match reader.read(room) {
@@ -100,7 +100,7 @@ fn step<R: Read, W: Write, D, S: Service<D>>(
     requires none { c.old.out.bytes ≡ [] }
     requires free { c.old.out.apart ≡ false }
     requires unclosed { c.old.closed ≡ false }
-    requires capacity { 32768 ≤ vec_capacity c.old.received }
+    requires capacity { 32768 ≤ c.old.received.room }
     requires piece { length room.old ≡ 16384 }
     ensures step { (got : List ℕ) × (text : List ℕ) × Consumes (R.remaining reader.old.inner) (R.remaining reader.new.inner) got
         × Appends (W.contents writer.old.inner) (W.contents writer.new.inner) text × WasStep S.means S.reads got text c.old c.new desk.old desk.new result }
@@ -109,7 +109,7 @@ fn step<R: Read, W: Write, D, S: Service<D>>(
     ensures empty { reader.new.empty ≤ reader.old.empty + most_empty_of_turn result }
     ensures cause { result ≡ Err ServeFault.Write → writer.new.failed ≡ true }
     ensures noted { writer.old.failed ≡ true → writer.new.failed ≡ true }
-    ensures room { vec_capacity c.old.received ≤ vec_capacity c.new.received }
+    ensures room { c.old.received.room ≤ c.new.received.room }
     ensures piece { length room.new ≡ 16384 }
 {
     go_on(c, service, desk);
@@ -137,7 +137,7 @@ fn serve_with<R: Read, W: Write, D, S: Service<D>>(
     desk: &mut D,
 ) -> Result<End, ServeFault>
     requires fresh { IsFresh c.old }
-    requires capacity { 32768 ≤ vec_capacity c.old.received }
+    requires capacity { 32768 ≤ c.old.received.room }
     requires piece { length room.old ≡ 16384 }
     ensures conversation { (got : List ℕ) × Consumes (R.remaining reader.old.inner) (R.remaining reader.new.inner) got
         × Serves S.means got desk.old desk.new (W.contents writer.old.inner) (W.contents writer.new.inner) (served_by c.new.count result) }

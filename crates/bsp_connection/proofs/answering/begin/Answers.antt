@@ -11,7 +11,7 @@ returns-clause-moves g c d e run =
     let is_used = is_some c.body.result in
     let head : List ℕ = take c.args.head c.args.c.now.received.items in
     let are = c.message_of-message.ensures in
-    let text = ap (λ (l : List ℕ). take c.args.head l) c.deref.ensures.value in
+    let text = ap (λ (l : List ℕ). take c.args.head l) c.bytes.ensures in
     let method : c.message_of-message.result.method.now ≡ span_bytes head c.args.parts.method = are.method ∙ ap (λ (l : List ℕ). span_bytes l c.args.parts.method) text in
     let target : c.message_of-message.result.target.now ≡ span_bytes head c.args.parts.target = are.target ∙ ap (λ (l : List ℕ). span_bytes l c.args.parts.target) text in
     begun_moves g.S.Service.means r c.args.c.now _ d e (record { head = c.args.head; parts = c.args.parts; found = found; left = c.args.parts.wanted.body }) c.requires.read (

@@ -13,7 +13,7 @@ returns-clause-moves g c =
     let b = c.args.begun in
     let are = c.message_of-message.ensures in
     let message = c.message_of-message.result in
-    let same = c.deref.ensures.value in
+    let same = c.bytes.ensures in
     let taken = c.take-body.ensures.value in
     answered_moves g.S.Service.means g.S.Service.reads b c.args.c.now _ c.end_message.new.c c.args.desk.now c.ask.new.desk message.method.now message.target.now (option_map (λ t. t.now) message.token) (reply_text c.in-Ok.reply)
     c.closes_after-closes.result c.requires.begun c.requires.unclosed c.requires.whole (are.method ∙ ap (λ (l : List ℕ). span_bytes (take b.head l) b.parts.method) same) (are.target ∙ ap (λ (l : List ℕ). span_bytes (take b.head l) b.parts.target) same)

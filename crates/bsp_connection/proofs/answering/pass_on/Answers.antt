@@ -12,8 +12,8 @@ returns-clause-passed g c =
     let b = c.args.begun in
     let received : List ℕ = c.args.c.now.received.items in
     let count : ℕ = c.min-count.result in
-    let p = part_of received b.head b.left count c.requires.within (c.min-count.ensures ∙ ap (λ (n : ℕ). min b.left (n - b.head)) (c.len.ensures ∙ sym c.deref.ensures.len ∙ ap (λ (l : List ℕ). length l) c.deref.ensures.value)) in
-    let piece : c.part-piece.result.now ≡ take count (drop b.head received) = c.part-piece.ensures ∙ ap (λ (l : List ℕ). take count (drop b.head l)) c.deref.ensures.value in
+    let p = part_of received b.head b.left count c.requires.within (c.min-count.ensures ∙ ap (λ (n : ℕ). min b.left (n - b.head)) c.len.ensures) in
+    let piece : c.part-piece.result.now ≡ take count (drop b.head received) = c.part-piece.ensures ∙ ap (λ (l : List ℕ). take count (drop b.head l)) c.bytes.ensures in
     record {
       piece = take count (drop b.head received);
       rest = drop (b.head + count) received;

@@ -6,6 +6,6 @@ use Rattle.bsp_connection.proofs.answering.take_head.Goals as goal
 pub returns-in-Nothing-clause-moves : goal.returns-in-Nothing-clause-moves
 returns-in-Nothing-clause-moves g c =
     let told = c.in-Nothing.ensures in
-    let same = c.deref.ensures.value in
-    waiting_moves g.S.Service.means g.S.Service.reads c.args.c.now _ c.args.desk.now c.requires.none c.requires.unclosed refl refl refl refl (c.len-c.ensures ∙ sym c.deref.ensures.len ∙ ap (λ (l : List ℕ). length l) same)
+    let same = c.bytes.ensures in
+    waiting_moves g.S.Service.means g.S.Service.reads c.args.c.now _ c.args.desk.now c.requires.none c.requires.unclosed refl refl refl refl c.len-c.ensures
     (subst (λ (l : List ℕ). HasScanned l c.seek.new.scan) same told.2) (subst (λ (l : List ℕ). (head_len l ≡ None) × (length l < 16384)) same (told.0, told.1)) refl

@@ -1,4 +1,4 @@
-use Rattle.std.proofs.Common.{◌≡◌, true, false, ℕ, ◌≤◌, List, [], length, vec_capacity}
+use Rattle.std.proofs.Common.{◌≡◌, true, false, ℕ, ◌≤◌, List, [], length}
 use Rattle.std.specs.Io.KnownBytes.{Consumes}
 use Rattle.bsp_connection.specs.Progress.{most_to_come}
 use Rattle.bsp_connection.proofs.ServeLemmas.{SoFar}
@@ -11,7 +11,7 @@ invariant-steps g l = record {
   none : l.c.out.bytes ≡ [];
   free : l.c.out.apart ≡ false;
   unclosed : l.c.closed ≡ false;
-  capacity : 32768 ≤ vec_capacity l.c.received;
+  capacity : 32768 ≤ l.c.received.room;
   piece : length l.room ≡ 16384;
   failed : l.reader.failed ≡ l.fn.reader.failed;
   empty : l.reader.empty ≤ l.fn.reader.empty;
