@@ -29,8 +29,12 @@ pub(crate) struct Connections {
 
 /// Notes what a connection does. Where there is no memory for its time it is shut down.
 fn enter(times: &mut Times, watched: &mut Watched, number: u64, phase: Phase) {
-    times.remove(number, watched.phase);
+    let before = watched.phase;
     watched.phase = phase;
+    if before.has_times_of(phase) {
+        return;
+    }
+    times.remove(number, before);
     if !times.add(number, phase) {
         watched.shut_down();
     }

@@ -297,4 +297,14 @@ impl Phase {
     {
         self.output().map(|it| it.since)
     }
+
+    /// Whether it has been busy since the same times as in another phase.
+    pub(crate) fn has_times_of(self, other: Phase) -> bool {
+        match (self, other) {
+            (Phase::Busy { .. }, Phase::Busy { .. }) => {
+                self.since() == other.since() && self.unread_since() == other.unread_since()
+            }
+            _ => false,
+        }
+    }
 }
