@@ -1,5 +1,5 @@
 -- What a `ListBook` contains.
-use Rattle.std.specs.Prelude.{◌≡◌, Bool, false, Option, unwrap_or, is_some, ⊤}
+use Rattle.std.specs.Prelude.{◌≡◌, false, Option, unwrap_or, is_some, ⊤}
 use Rattle.bsp_rows.specs.Rows.{Rows}
 use Rattle.bsp_rows.specs.Sound.{AreApart}
 use Rattle.bsp_memory_rows.specs.Tables.{IsDerived, WasDerived, committed_rows, rows_of}

@@ -4,6 +4,7 @@ ghost use Rattle.std.specs.Prelude.{◌≡◌, OnOk, Option, None, is_some, unwr
 ghost use Rattle.bsp_rows.specs.History.{Request};
 ghost use Rattle.bsp_rows.specs.History.Request.{Close, Publish, SetDay};
 ghost use Rattle.bsp_book.specs.Calls.{Answers, Begins, Commits, FallsBack, Faults, LeavesEither, LeavesLast, LeavesNow, LooksUp, Makes, Meaning, Stays};
+ghost use Rattle.bsp_memory_rows.specs.Lookups.{items_with_number};
 ghost use Rattle.bsp_rows.specs.Laws.{issued_count};
 ghost use Rattle.bsp_rows.specs.Rows.{HasNumberKey, Rows, agent_token, airline_token, has_meeting, is_used_in, item_at, items_bearing, items_of, key_of, memo_at, memo_key, memos_of, ranges_of, registered};
 ghost use Rattle.bsp_rows.specs.Tallies.{tallies_of, tally_of};
@@ -93,6 +94,14 @@ pub trait Book {
         transaction: &Transaction,
     ) -> Result<Vec<Item>, BookFault>
         ensures { LooksUp means self.old self.new result (λ found. found.items) (items_bearing agent transaction.now) };
+
+    /// The items of an agent that bear a number, as their own or a related one, in the order of their keys.
+    fn items_with_number(
+        &mut self,
+        agent: AgentCode,
+        number: &[u8; 10],
+    ) -> Result<Vec<Item>, BookFault>
+        ensures { LooksUp means self.old self.new result (λ found. found.items) (items_with_number agent number.now) };
 
     /// The items that are asked for, in the order of their keys. For an agent it may read all its items, for an
     /// airline all items.

@@ -164,6 +164,17 @@ impl Book for ListBook {
         }
     }
 
+    fn items_with_number(
+        &mut self,
+        agent: AgentCode,
+        number: &[u8; 10],
+    ) -> Result<Vec<Item>, BookFault> {
+        match self.tables.items_with_number(self.alloc, agent, number) {
+            Ok(found) => Ok(found),
+            Err(_) => Err(self.undo()),
+        }
+    }
+
     fn items(&mut self, which: Items) -> Result<Vec<Item>, BookFault> {
         match self.tables.items(self.alloc, &which) {
             Ok(found) => Ok(found),

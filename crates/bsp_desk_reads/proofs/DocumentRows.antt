@@ -1,20 +1,22 @@
 -- The item of a number is found by its key.
-use Rattle.std.proofs.Common.{◌≡◌, ℕ, ◌==◌, ◌&&◌, not, Bool, true, false, cond, List, [], ◌∷◌, map, Option, Some, None, Ok, refl, sym, ap, subst, ◌∙◌}
+use Rattle.std.proofs.Common.{◌≡◌, ℕ, ◌==◌, ◌&&◌, ◌||◌, not, Bool, true, false, cond, List, [], ◌∷◌, map, Option, Some, None, Ok, refl, sym, ap, subst, ◌∙◌}
 use Rattle.std.specs.Cmp.{tied_itself}
 use Rattle.std.specs.FinMap.{entries, get, get-entries, values}
 use Rattle.std.specs.FinMap.Entries.{find as find_key}
 use Rattle.std.specs.List.{Contains, filter, find}
 use Rattle.std.specs.Ordering.{eq_by_cmp, is_eq}
 use Rattle.std.specs.declared.cmp.Ordering.{Ordering}
-use Rattle.std.proofs.lemmas.Bool.{and_from, and_parts, eqb-true}
+use Rattle.std.proofs.lemmas.Bool.{and_from, and_parts, eqb-true, false≢true, or_left, or_right}
 use Rattle.std.proofs.lemmas.Slice.Eq.{bytes_eq-Decides}
-use Rattle.bsp_rows.proofs.ListLemmas.{contains_head, contains_tail, filter_contains, filter_holds}
+use Rattle.bsp_rows.proofs.ListLemmas.{contains_head, contains_tail, filter_contains, filter_holds, find_contains}
 use Rattle.bsp_rows.specs.Codes.{document_reading}
 use Rattle.bsp_rows.specs.Decimal.{number_of}
 use Rattle.bsp_messages.specs.Values.{document_in}
 use Rattle.bsp_messages.specs.declared.answer.Answer.{Answer as Message}
 use Rattle.bsp_messages.specs.declared.answer.Answer.TheVariants as message
 use Rattle.bsp_messages.specs.declared.answer.DocumentShown.{DocumentShown}
+use Rattle.bsp_messages.specs.declared.answer.DocumentState.{DocumentState}
+use Rattle.bsp_messages.specs.declared.answer.DocumentState.TheVariants.{Cancelled}
 use Rattle.bsp_messages.specs.declared.refusal.RequestRefusal.TheVariants.{NoDocument}
 use Rattle.bsp_rows.proofs.KeyOrders.{item_exact, item_total}
 use Rattle.bsp_rows.proofs.MapLemmas.{entry_get, same_key}
@@ -24,9 +26,11 @@ use Rattle.bsp_rows.specs.Part.{agent_part}
 use Rattle.bsp_rows.specs.Rows.{Rows, agent_items, item_cmp, key_of}
 use Rattle.bsp_rows.specs.Sound.{IsRight, Sound}
 use Rattle.bsp_rows.specs.declared.keys.ItemKey.{ItemKey}
-use Rattle.bsp_rules.specs.Rows.{has_number, is_canx}
+use Rattle.bsp_rules.specs.Rows.{has_number, is_canx, is_living_relation, names}
+use Rattle.bsp_book.specs.Lookups.{items_with_number}
+use Rattle.bsp_book.specs.Numbers.{bears}
 use Rattle.bsp_rules.specs.declared.rows.Item.{Item}
-use Rattle.bsp_desk_sales.specs.Ledger.{document_answer, document_shown, first_of, item_of_number, ledger_answer, ledger_of, state_of}
+use Rattle.bsp_desk_sales.specs.Ledger.{document_answer, document_shown, first_of, item_of_number, ledger_answer, ledger_of, state_by, state_of}
 use Rattle.bsp_desk_sales.specs.Requests.AgentRequest.{AskDocument}
 use Rattle.bsp_desk_sales.specs.Texts.{Says}
 use Rattle.bsp_desk_reads.specs.Documents.{is_canx_of, is_sale_of}
@@ -93,19 +97,61 @@ module _ (agent number check : ℕ) (digits : List ℕ) (reads : document_readin
       ∙ (ap (find_key item_cmp key) (sym (kept_entries item_total item_exact (λ (x : ItemKey × Item). x.0.agent == agent) rows.items))
       ∙ sym (get-entries (agent_part agent rows).items key))
 
-module _ (rows : Rows) (sound : Sound rows) (agent number check : ℕ) (digits : List ℕ) (reads : document_reading digits check ≡ Ok number) (text : List ℕ) (read : Some number ≡ document_in text) (items : List Item) (are : items ≡ agent_items agent rows) where
-  of_number : first_of (find (is_sale_of digits) items) (find (is_canx_of digits) items) ≡ item_of_number agent number (agent_part agent rows).items
-  of_number = λ i. first_of ((ap (find (is_sale_of digits)) are ∙ at_key agent number check digits reads not false sale_marks rows sound) i) ((ap (find (is_canx_of digits)) are ∙ at_key agent number check digits reads (λ b. b) true canx_marks rows sound) i)
+abbrev pub shown_as : Item → DocumentState → DocumentShown
+shown_as item state = record { item = item; state = state }
 
-  document_by : (found : Option Item) (m : Message) → found ≡ first_of (find (is_sale_of digits) items) (find (is_canx_of digits) items) → Says (document_shown items found) m → Says (ledger_answer agent (ledger_of agent rows) (AskDocument text)) m
+-- what is looked for among the elements that pass a wider test is what is looked for among all
+find_within : {X : Type 0} (p q : X → Bool) → ((x : X) → p x ≡ true → q x ≡ true) → (xs : List X) → find p (filter q xs) ≡ find p xs
+find_within p q within [] = refl
+find_within {X} p q within (x ∷ xs) = at (q x) refl (p x) refl (find_within p q within xs) where
+  at : (b : Bool) → q x ≡ b → (c : Bool) → p x ≡ c → find p (filter q xs) ≡ find p xs → find p (cond b (x ∷ filter q xs) (filter q xs)) ≡ cond c (Some x) (find p xs)
+  at true e c f rest = ap (λ d. cond d (Some x) (find p (filter q xs))) f ∙ ap (λ (o : Option X). cond c (Some x) o) rest
+  at false e true f rest = absurd (false≢true (sym e ∙ within x f))
+  at false e false f rest = rest
+
+module _ (digits : List ℕ) where
+  sale_bears : (i : Item) → is_sale_of digits i ≡ true → bears digits i ≡ true
+  sale_bears i h = or_left (has_number digits i) (names digits i.transaction) (and_parts (has_number digits i) (not (is_canx i)) h).0
+
+  canx_bears : (i : Item) → is_canx_of digits i ≡ true → bears digits i ≡ true
+  canx_bears i h = or_left (has_number digits i) (names digits i.transaction) (and_parts (has_number digits i) (is_canx i) h).0
+
+  relation_bears : (i : Item) → is_living_relation digits i ≡ true → bears digits i ≡ true
+  relation_bears i h = or_right (has_number digits i) (names digits i.transaction) (and_parts (i.lives && not (is_canx i)) (names digits i.transaction) h).1
+
+  -- the item that is found has the number
+  numbered : (items : List Item) (item : Item) (sale : Option Item) → sale ≡ find (is_sale_of digits) items → Some item ≡ first_of sale (find (is_canx_of digits) items) → item.transaction.document.number ≡ digits
+  numbered items item (Some i) is found =
+      let at = find_contains (is_sale_of digits) items item (sym is ∙ sym found) in
+      (bytes_eq-Decides item.transaction.document.number digits).0 (and_parts (has_number digits item) (not (is_canx item)) at.1).0
+  numbered items item None is found =
+      let at = find_contains (is_canx_of digits) items item (sym found) in
+      (bytes_eq-Decides item.transaction.document.number digits).0 (and_parts (has_number digits item) (is_canx item) at.1).0
+
+  -- its state is by the living relation to its number, which bears the number
+  same_state : (items : List Item) (item : Item) → item.transaction.document.number ≡ digits → state_of (filter (bears digits) items) item ≡ state_of items item
+  same_state items item is =
+      let related : find (is_living_relation item.transaction.document.number) (filter (bears digits) items) ≡ find (is_living_relation item.transaction.document.number) items =
+      find_within (is_living_relation item.transaction.document.number) (bears digits) (λ i h. relation_bears i (ap (λ (n : List ℕ). is_living_relation n i) (sym is) ∙ h)) items in
+      ap (λ (o : Option Item). cond (is_canx item || not item.lives) Cancelled (state_by o)) related
+
+module _ (rows : Rows) (sound : Sound rows) (agent number check : ℕ) (digits : List ℕ) (reads : document_reading digits check ≡ Ok number) (text : List ℕ) (read : Some number ≡ document_in text) (items : List Item) (are : items ≡ items_with_number agent digits rows) where
+  of_number : first_of (find (is_sale_of digits) items) (find (is_canx_of digits) items) ≡ item_of_number agent number (agent_part agent rows).items
+  of_number = λ i. first_of
+      ((ap (find (is_sale_of digits)) are ∙ (find_within (is_sale_of digits) (bears digits) (sale_bears digits) (agent_items agent rows) ∙ at_key agent number check digits reads not false sale_marks rows sound)) i)
+      ((ap (find (is_canx_of digits)) are ∙ (find_within (is_canx_of digits) (bears digits) (canx_bears digits) (agent_items agent rows) ∙ at_key agent number check digits reads (λ b. b) true canx_marks rows sound)) i)
+
+  document_by : (found : Option Item) (m : Message) → found ≡ first_of (find (is_sale_of digits) items) (find (is_canx_of digits) items) → Says (document_shown (agent_items agent rows) found) m → Says (ledger_answer agent (ledger_of agent rows) (AskDocument text)) m
   document_by found m is says =
       let l = ledger_of agent rows in
       subst (λ (n : Option ℕ). Says (document_answer agent l n) m) read
       (subst (λ (o : Option Item). Says (document_shown (values l.own.items) o) m) (is ∙ of_number)
-      (subst (λ (xs : List Item). Says (document_shown xs found) m) (are ∙ part_items agent rows) says))
+      (subst (λ (xs : List Item). Says (document_shown xs found) m) (part_items agent rows) says))
 
   pub document_says : (item : Item) → Some item ≡ first_of (find (is_sale_of digits) items) (find (is_canx_of digits) items) → (shown : DocumentShown) → shown ≡ record { item = item; state = state_of items item } → Says (ledger_answer agent (ledger_of agent rows) (AskDocument text)) (message.Document shown)
-  document_says item is shown same = document_by (Some item) (message.Document shown) is (ap (λ (d : DocumentShown). message.Document d) same)
+  document_says item is shown same =
+      let state = ap (λ (xs : List Item). state_of xs item) are ∙ same_state digits (agent_items agent rows) item (numbered digits items item (find (is_sale_of digits) items) refl is) in
+      document_by (Some item) (message.Document shown) is (ap (λ (d : DocumentShown). message.Document d) (same ∙ ap (λ (s : DocumentState). shown_as item s) state))
 
   pub no_document : ◌≡◌ {A = Option Item} None (first_of (find (is_sale_of digits) items) (find (is_canx_of digits) items)) → Says (ledger_answer agent (ledger_of agent rows) (AskDocument text)) (message.Refused NoDocument)
   no_document is = document_by None (message.Refused NoDocument) is refl

@@ -11,7 +11,7 @@ ghost use Rattle.bsp_desk_sales.specs.Requests.AgentRequest.{AskDocument};
 
 use bsp_book::{Book, BookFault};
 use bsp_messages::{Answer, DocumentShown, DocumentState, RequestRefusal};
-use bsp_rows::{AgentCode, DocNumber, Items, TransactionCode};
+use bsp_rows::{AgentCode, DocNumber, TransactionCode};
 use bsp_rules::{Item, is_living_relation};
 
 /// The TKTT or RFND of a number.
@@ -70,8 +70,8 @@ fn state_of(item: &Item, items: &[Item]) -> DocumentState
 
 /// Shows a document of an agent: the TKTT or RFND of the number, else its CANX, and its state.
 ///
-/// The answer is D01 where the agent has no item of the number. The rows stay as they are. It reads all items of
-/// the agent.
+/// The answer is D01 where the agent has no item of the number. The rows stay as they are. It reads the items
+/// that bear the number alone.
 ///
 /// # Errors
 ///
@@ -84,8 +84,9 @@ pub fn document<B: Book>(book: &mut B, agent: AgentCode, number: &[u8]) -> Resul
     let Ok(document) = DocNumber::read_unchecked(number) else {
         return Ok(Answer::Refused(RequestRefusal::NoDocument));
     };
-    let items = book.items(Items::OfAgent(agent))?;
-    match item_of(&document.digits(), &items) {
+    let digits = document.digits();
+    let items = book.items_with_number(agent, &digits)?;
+    match item_of(&digits, &items) {
         Some(item) => {
             let state = state_of(&item, &items);
             Ok(Answer::Document(DocumentShown { item, state }))

@@ -1,8 +1,8 @@
 -- The memos that are counted at an airline and an agent are those that it issued to it.
-use Rattle.std.proofs.Common.{◌≡◌, ℕ, ◌==◌, ◌&&◌, Bool, true, false, Ordering, Less, Equal, Greater, cond, nat_cmp, count_by, refl, ap, ◌∙◌, arith}
+use Rattle.std.proofs.Common.{◌≡◌, ℕ, ◌==◌, ◌&&◌, Ordering, Less, Equal, Greater, nat_cmp, count_by, refl, ◌∙◌, arith}
 use Rattle.std.specs.Ordering.{is_eq, ordering_then}
 use Rattle.std.specs.FinMap.{FinMap, entries}
-use Rattle.std.specs.Prelude.{Some, sum_by}
+use Rattle.std.specs.Prelude.{Some}
 use Rattle.bsp_rows.proofs.KeyLemmas.{is_eq-nat_cmp}
 use Rattle.bsp_rows.specs.MemoFields.{MemoFields}
 use Rattle.bsp_maps.specs.Counts.{row_count}

@@ -2,3 +2,4 @@ pub mod Plans
 pub mod Kept
 pub mod Tables
 pub mod Lookups
+pub use Rattle.bsp_memory_tables.specs.Numbers

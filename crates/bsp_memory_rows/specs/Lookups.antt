@@ -1,10 +1,13 @@
 -- What is looked up in the tables.
-use Rattle.std.specs.Prelude.{Bool, nat_lt, ◌&&◌, ◌||◌, List, map}
+use Rattle.std.specs.Prelude.{ℕ, Bool, nat_lt, ◌&&◌, ◌||◌, List, map}
 use Rattle.std.specs.List.{filter}
+use Rattle.bsp_rows.specs.Item.{Item}
+use Rattle.bsp_rows.specs.Rows.{Rows, agent_items}
 use Rattle.bsp_rows.specs.Tally.{Tally}
 use Rattle.bsp_rows.specs.declared.keys.TallyKey.{TallyKey}
 use Rattle.bsp_rows.specs.declared.questions.Tallies.{Tallies}
 use Rattle.bsp_rows.specs.Tallies.{is_tally_asked}
+use Rattle.bsp_memory_tables.specs.Numbers.{bears}
 
 -- some row adds to the tally
 abbrev pub has_rows : Tally → Bool
@@ -16,3 +19,7 @@ is_asked which key t = is_tally_asked which key && has_rows t
 -- the tallies that are asked for
 abbrev pub asked_tallies : Tallies → List (TallyKey × Tally) → List Tally
 asked_tallies which es = map (λ e. e.1) (filter (λ e. is_asked which e.0 e.1) es)
+
+-- the items of an agent that bear a number
+abbrev pub items_with_number : ℕ → List ℕ → Rows → List Item
+items_with_number agent number rows = filter (bears number) (agent_items agent rows)

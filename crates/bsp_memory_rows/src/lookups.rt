@@ -9,7 +9,7 @@ ghost use Rattle.bsp_rows.specs.Rows.{agent_token, airline_token, has_meeting, i
 ghost use Rattle.bsp_rows.specs.Laws.{issued_count};
 ghost use Rattle.bsp_rows.specs.Sound.{AreApart};
 ghost use Rattle.bsp_rows.specs.Tallies.{is_tally_asked, tallies_of, tally_of};
-ghost use Rattle.bsp_memory_rows.specs.Lookups.{asked_tallies, is_asked};
+ghost use Rattle.bsp_memory_rows.specs.Lookups.{asked_tallies, is_asked, items_with_number};
 ghost use Rattle.bsp_memory_rows.specs.Tables.{IsDerived, rows_of};
 
 use crate::tables::Tables;
@@ -142,6 +142,18 @@ impl Tables {
         ensures { IfOk result (λ found. IsDerived self.now → found.items ≡ items_bearing agent transaction.now (rows_of self.now)) }
     {
         self.items.bearing(alloc, agent, transaction)
+    }
+
+    /// The items of an agent that bear a number, as their own or a related one. It reads those alone.
+    pub fn items_with_number(
+        &self,
+        alloc: Global,
+        agent: AgentCode,
+        number: &[u8; 10],
+    ) -> Result<Vec<Item>, AllocError>
+        ensures { IfOk result (λ found. IsDerived self.now → found.items ≡ items_with_number agent number.now (rows_of self.now)) }
+    {
+        self.items.with_number(alloc, agent, number)
     }
 
     /// The items that are asked for, in the order of their keys. It reads those of the agent, or of the airline

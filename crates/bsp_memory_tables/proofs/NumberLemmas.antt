@@ -1,5 +1,5 @@
 -- The index has each number of each item, and so each item that shares a number with a transaction is found.
-use Rattle.std.proofs.Common.{◌≡◌, ℕ, ◌==◌, ◌&&◌, ◌||◌, Bool, true, false, cond, List, [], ◌∷◌, map, refl, sym, ap, subst, ◌∙◌, Some, None, ◌⊎◌, inl, inr}
+use Rattle.std.proofs.Common.{◌≡◌, ℕ, ◌==◌, ◌&&◌, ◌||◌, Bool, true, false, cond, List, [], ◌∷◌, map, refl, sym, ap, subst, ◌∙◌, Option, Some, None, ◌⊎◌, inl, inr}
 use Rattle.std.specs.List.{filter, list_any}
 use Rattle.std.specs.Ordering.{is_eq, eq_by_cmp}
 use Rattle.std.specs.Cmp.{tied_itself}
@@ -8,6 +8,8 @@ use Rattle.std.specs.FinMap.Entries.{find}
 use Rattle.std.specs.Str.{bytes_eq}
 use Rattle.std.proofs.lemmas.Slice.Eq.{bytes_eq-Decides}
 use Rattle.std.proofs.lemmas.List.Folds.{list_any-append}
+use Rattle.bsp_rows.specs.ReportedDocument.{ReportedDocument}
+use Rattle.bsp_rows.specs.RulesRows.{has_number, names_number}
 use Rattle.bsp_rows.specs.Transaction.{Transaction}
 use Rattle.bsp_rows.specs.Item.{Item}
 use Rattle.bsp_rows.specs.Selected.{is_among, numbers_of, shares}
@@ -18,7 +20,7 @@ use Rattle.bsp_rows.specs.Rows.{item_cmp}
 use Rattle.bsp_rows.proofs.KeyOrders.{item_exact, item_total}
 use Rattle.bsp_rows.proofs.MapLemmas.{get_written, same_Some, same_key}
 use Rattle.bsp_memory_tables.specs.declared.keys.NumberKey.{NumberKey}
-use Rattle.bsp_memory_tables.specs.Numbers.{IsIndexed, is_bearing, is_of_number, keys_at, keys_at_each, number_cmp, number_key, with_number, with_numbers}
+use Rattle.bsp_memory_tables.specs.Numbers.{IsIndexed, bears, is_bearing, is_of_number, is_with_number, place_numbers, keys_at, keys_at_each, number_cmp, number_key, with_number, with_numbers}
 use Rattle.bsp_memory_tables.proofs.NumberOrder.{number_exact, number_total}
 
 or_left : (a b : Bool) → a ≡ true → (a || b) ≡ true
@@ -129,6 +131,19 @@ all_bearing items index agent t is k i at h =
     let own = and_first (k.agent == agent) (shares (numbers_of t) i) h in
     some_number (λ n. is_among n (numbers_of t)) (list_any (eq_by_cmp item_cmp k) (keys_at_each index agent (numbers_of t)) ≡ true) (numbers_of i.transaction) (and_second (k.agent == agent) (shares (numbers_of t) i) h)
     (λ n shared has. at_each index agent k own n (is k i n at has) (numbers_of t) shared)
+
+-- a number that a related place names is among the related numbers
+named : (number : List ℕ) (places : List (Option ReportedDocument)) → list_any (names_number number) places ≡ list_any (λ n. bytes_eq n number) (place_numbers places)
+named number [] = refl
+named number (None ∷ places) = named number places
+named number (Some d ∷ places) = ap (λ b. bytes_eq d.number number || b) (named number places)
+
+pub all_with_number : (items : FinMap item_cmp Item) (index : FinMap number_cmp ItemKey) (agent : ℕ) (number : List ℕ) → IsIndexed items index → AreAmong (is_with_number agent number) items (keys_at index agent number)
+all_with_number items index agent number is k i at h =
+    let own = and_first (k.agent == agent) (bears number i) h in
+    let borne = ap (λ b. has_number number i || b) (sym (named number i.transaction.related)) ∙ and_second (k.agent == agent) (bears number i) h in
+    some_number (λ n. bytes_eq n number) (list_any (eq_by_cmp item_cmp k) (keys_at index agent number) ≡ true) (numbers_of i.transaction) borne
+    (λ n same has. at_number index agent k own n number (is k i n at has) same)
 
 -- ---- the list
 

@@ -16,7 +16,6 @@ use Rattle.bsp_rows.proofs.KeyOrders.{item_exact, memo_exact, range_exact, tally
 use Rattle.bsp_memory_tables.specs.Places.{airline_cmp, at_airline, item_place, one_cmp, parties_cmp, tally_airline_place, tally_period_place, agent_place, unbilled_at, unbilled_place}
 use Rattle.bsp_memory_tables.specs.Windows.{and_first, and_second, false_first, first_item, first_memo, first_range, first_tally, from_least, least, ties}
 use Rattle.bsp_memory_tables.specs.declared.places.AirlinePeriod.{AirlinePeriod}
-use Rattle.bsp_memory_tables.specs.declared.places.Parties.{Parties}
 
 airline_exact : IsAntisymmetric airline_cmp
 airline_exact x y e =

@@ -1,5 +1,5 @@
 -- The index of items by the numbers that they bear, as they were reported.
-use Rattle.std.specs.Prelude.{◌≡◌, ℕ, ◌==◌, ◌&&◌, Bool, true, Option, Some, option_map, List, [], ◌∷◌, ◌++◌}
+use Rattle.std.specs.Prelude.{◌≡◌, ℕ, ◌==◌, ◌&&◌, ◌||◌, Bool, true, Option, Some, option_map, List, [], ◌∷◌, ◌++◌}
 use Rattle.std.specs.declared.cmp.Ordering.{Ordering}
 use Rattle.std.specs.Ordering.{nat_cmp, bool_cmp, on, then_cmp}
 use Rattle.std.specs.Cmp.Lexicographic.{slice_cmp}
@@ -9,6 +9,7 @@ use Rattle.std.specs.Str.{bytes_eq}
 use Rattle.bsp_rows.specs.ReportedDocument.{ReportedDocument}
 use Rattle.bsp_rows.specs.Transaction.{Transaction}
 use Rattle.bsp_rows.specs.Item.{Item}
+use Rattle.bsp_rows.specs.RulesRows.{has_number, names}
 use Rattle.bsp_rows.specs.Selected.{is_among, numbers_of, shares}
 use Rattle.bsp_maps.specs.Windows.{values_in}
 use Rattle.bsp_rows.specs.declared.keys.ItemKey.{ItemKey}
@@ -58,3 +59,11 @@ keys_at_each index agent (number ∷ numbers) = keys_at index agent number ++ ke
 -- an item of the agent that shares a number with a transaction
 abbrev pub is_bearing : ℕ → Transaction → ItemKey → Item → Bool
 is_bearing agent t k i = (k.agent == agent) && shares (numbers_of t) i
+
+-- the number is the item's own, or one of its related numbers
+abbrev pub bears : List ℕ → Item → Bool
+bears number i = has_number number i || names number i.transaction
+
+-- an item of the agent that bears a number
+abbrev pub is_with_number : ℕ → List ℕ → ItemKey → Item → Bool
+is_with_number agent number k i = (k.agent == agent) && bears number i

@@ -7,12 +7,13 @@ ghost use Rattle.bsp_maps.specs.Windows.{values_in};
 ghost use Rattle.bsp_rows.specs.RulesRows.{contains};
 ghost use Rattle.bsp_rows.specs.Selected.{selected};
 ghost use Rattle.bsp_rows.specs.Rows.{is_of_airline};
+ghost use Rattle.bsp_memory_tables.specs.Numbers.{bears};
 ghost use Rattle.bsp_memory_tables.specs.ItemTables.{AreItemsKept, WereItemsKept, item_rows, item_rows_before};
 
-use crate::keys::{ItemsOf, ItemsWithin, least_item};
-use crate::numbers::{Bearing, Numbers, add_numbers, keys_bearing};
+use crate::keys::{AtNumber, ItemsOf, ItemsWithin, least_item};
+use crate::numbers::{Bearing, Numbers, WithNumber, add_numbers, keys_bearing};
 use crate::places::{AirlinePeriod, item_place};
-use bsp_maps::{Index, Logged, Old, Rule, Test};
+use bsp_maps::{Every, Index, Logged, Old, Rule, Test};
 use bsp_rows::{AgentCode, AirlineCode, Item, ItemKey, PeriodCode, Range, Transaction};
 use std::alloc::{AllocError, Global};
 use std::collections::BTreeMap;
@@ -156,6 +157,24 @@ impl ItemTable {
         let keys = keys_bearing(alloc, &self.by_number, agent, transaction)?;
         self.rows
             .picked(alloc, &keys, &Bearing { agent, transaction })
+    }
+
+    /// The items of an agent that bear a number, as their own or a related one, in the order of their keys. It reads
+    /// those alone.
+    pub fn with_number(
+        &self,
+        alloc: Global,
+        agent: AgentCode,
+        number: &[u8; 10],
+    ) -> Result<Vec<Item>, AllocError>
+        ensures { IfOk result (λ found. AreItemsKept self.now → found.items ≡ filter (bears number.now) (values_in (λ k. k.agent == agent) (entries (item_rows self.now)))) }
+    {
+        let number = *number;
+        let keys = self
+            .by_number
+            .chosen(alloc, &AtNumber { agent, number }, &Every)?;
+        self.rows
+            .picked(alloc, &keys, &WithNumber { agent, number })
     }
 
     /// The items of an airline that were accepted in a period, in the order of their keys. It reads those alone.

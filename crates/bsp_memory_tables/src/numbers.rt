@@ -3,7 +3,7 @@
 ghost use Rattle.std.specs.Prelude.{◌≡◌, ◌++◌, IfOk, OnOk};
 ghost use Rattle.bsp_maps.specs.Undo.{before, content};
 ghost use Rattle.bsp_rows.specs.Selected.{numbers_of};
-ghost use Rattle.bsp_memory_tables.specs.Numbers.{is_bearing, keys_at, keys_at_each, number_cmp, place_numbers, with_number, with_numbers};
+ghost use Rattle.bsp_memory_tables.specs.Numbers.{bears, is_bearing, is_with_number, keys_at, keys_at_each, number_cmp, place_numbers, with_number, with_numbers};
 
 use crate::keys::{AtNumber, NumberKey};
 use bsp_maps::{Every, Logged, Rule};
@@ -111,5 +111,31 @@ impl<'a> Rule<ItemKey, Item> for Bearing<'a> {
 
     fn holds(&self, key: &ItemKey, item: &Item) -> bool {
         key.agent == self.agent && item.shares_number(self.transaction)
+    }
+}
+
+/// Whether a number is an item's own, or one of its related numbers.
+fn bears(item: &Item, number: &[u8; 10]) -> bool
+    ensures { result ≡ bears number.now item.now }
+{
+    item.transaction.document.number == *number
+        || item.transaction.related.iter().any(|place| match place {
+            Some(document) => document.number == *number,
+            None => false,
+        })
+}
+
+/// Items of an agent that bear a number.
+#[derive(Clone, Copy)]
+pub struct WithNumber {
+    pub agent: AgentCode,
+    pub number: [u8; 10],
+}
+
+impl Rule<ItemKey, Item> for WithNumber {
+    ghost holds = { λ rule key item. is_with_number rule.agent rule.number key item };
+
+    fn holds(&self, key: &ItemKey, item: &Item) -> bool {
+        key.agent == self.agent && bears(item, &self.number)
     }
 }

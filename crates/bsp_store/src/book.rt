@@ -237,6 +237,17 @@ impl<S: Alter> Book for SqlBook<S> {
         self.list.items_bearing(agent, transaction)
     }
 
+    fn items_with_number(
+        &mut self,
+        agent: AgentCode,
+        number: &[u8; 10],
+    ) -> Result<Vec<Item>, BookFault> {
+        if self.failed {
+            return Err(BookFault::Failed);
+        }
+        self.list.items_with_number(agent, number)
+    }
+
     fn items(&mut self, which: Items) -> Result<Vec<Item>, BookFault> {
         if self.failed {
             return Err(BookFault::Failed);
