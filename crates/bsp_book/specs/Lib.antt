@@ -5,3 +5,5 @@ pub use Rattle.bsp_rows.specs.Sound
 pub use Rattle.bsp_rows.specs.Writing
 pub use Rattle.bsp_memory_rows.specs.Lookups
 pub use Rattle.bsp_memory_rows.specs.Numbers
+pub use Rattle.bsp_memory_rows.specs.Used
+pub use Rattle.bsp_memory_rows.specs.declared.stock.UsedRange

@@ -4,13 +4,14 @@ ghost use Rattle.std.specs.Prelude.{◌≡◌, OnOk, Option, None, is_some, unwr
 ghost use Rattle.bsp_rows.specs.History.{Request};
 ghost use Rattle.bsp_rows.specs.History.Request.{Close, Publish, SetDay};
 ghost use Rattle.bsp_book.specs.Calls.{Answers, Begins, Commits, FallsBack, Faults, LeavesEither, LeavesLast, LeavesNow, LooksUp, Makes, Meaning, Stays};
-ghost use Rattle.bsp_memory_rows.specs.Lookups.{items_with_number};
+ghost use Rattle.bsp_memory_rows.specs.Lookups.{items_with_number, stock_of};
 ghost use Rattle.bsp_rows.specs.Laws.{issued_count};
 ghost use Rattle.bsp_rows.specs.Rows.{HasNumberKey, Rows, agent_token, airline_token, has_meeting, is_used_in, item_at, items_bearing, items_of, key_of, memo_at, memo_key, memos_of, ranges_of, registered};
 ghost use Rattle.bsp_rows.specs.Tallies.{tallies_of, tally_of};
 ghost use Rattle.bsp_rows.specs.Writes.{IsFree, IsThere, MayBeAdded, MayBeBilled, after_request, request_answer, with_agent_token, with_airline_token, with_billing, with_end, with_item, with_memo, with_range, without_range};
 
 use crate::fault::BookFault;
+use bsp_memory_rows::UsedRange;
 use bsp_rows::{
     AgentCode, AirlineCode, Change, Day, Item, ItemKey, Items, Memo, MemoKey, Memos, PeriodCode,
     Plan, PlanFault, PlanText, Range, Tallies, Tally, TallyKey, Token, Transaction,
@@ -78,6 +79,11 @@ pub trait Book {
     /// The ranges of an agent, by their first numbers.
     fn ranges(&mut self, agent: AgentCode) -> Result<Vec<Range>, BookFault>
         ensures { LooksUp means self.old self.new result (λ found. found.items) (ranges_of agent) };
+
+    /// The ranges of an agent, by their first numbers, each with how many of its numbers have an item. A number
+    /// counts once, also where it has a CANX.
+    fn stock(&mut self, agent: AgentCode) -> Result<Vec<UsedRange>, BookFault>
+        ensures { LooksUp means self.old self.new result (λ found. found.items) (stock_of agent) };
 
     /// Whether a range of any agent has a number of this one.
     fn meets_range(&mut self, range: Range) -> Result<bool, BookFault>

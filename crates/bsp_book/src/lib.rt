@@ -6,5 +6,6 @@ mod fault;
 mod list;
 
 pub use book::Book;
+pub use bsp_memory_rows::UsedRange;
 pub use fault::BookFault;
 pub use list::ListBook;

@@ -9,7 +9,7 @@ ghost use Rattle.bsp_book.specs.Listed.{AreCommitted, IsUndone, meaning};
 
 use crate::book::Book;
 use crate::fault::BookFault;
-use bsp_memory_rows::Tables;
+use bsp_memory_rows::{Tables, UsedRange};
 use bsp_rows::{
     AgentCode, AirlineCode, Change, Day, Item, ItemKey, Items, Memo, MemoKey, Memos, PeriodCode,
     Plan, PlanFault, PlanText, Range, Tallies, Tally, TallyKey, Token, Transaction,
@@ -21,7 +21,8 @@ use std::alloc::Global;
 /// It keeps the tallies and indexes of the rows. Ranges go by their last numbers. Items go by their
 /// numbers, and by their airlines and periods. Memos go by their agents, and the unbilled ones have
 /// an index too. So has the number of memos that each airline has issued to each agent. Tallies go
-/// by their airlines and periods, and by their periods.
+/// by their airlines and periods, and by their periods. The numbers of each agent that have an item are
+/// counted by blocks, and so those of a range without reading the items.
 #[derive(Drop)]
 pub struct ListBook {
     alloc: Global,
@@ -140,6 +141,13 @@ impl Book for ListBook {
 
     fn ranges(&mut self, agent: AgentCode) -> Result<Vec<Range>, BookFault> {
         match self.tables.ranges(self.alloc, agent) {
+            Ok(found) => Ok(found),
+            Err(_) => Err(self.undo()),
+        }
+    }
+
+    fn stock(&mut self, agent: AgentCode) -> Result<Vec<UsedRange>, BookFault> {
+        match self.tables.stock(self.alloc, agent) {
             Ok(found) => Ok(found),
             Err(_) => Err(self.undo()),
         }

@@ -1,4 +1,4 @@
--- Numbers that never fall, each once.
+-- Numbers that pass a test, each once.
 use Rattle.std.proofs.Common.{◌≡◌, ℕ, ◌+◌, ◌<◌, ◌≤◌, ◌&&◌, not, Bool, true, false, cond, List, [], ◌∷◌, ◌++◌, length, take, get_or, Option, Some, None, refl, sym, ap, subst, ◌∙◌, inl, inr, arith}
 use Rattle.std.specs.List.{Contains, filter, list_any}
 use Rattle.std.specs.List.Sorted.{IsNonDecreasing}
@@ -13,57 +13,6 @@ use Rattle.bsp_postings.proofs.ListLemmas.{filter_filter}
 use Rattle.bsp_rows.proofs.ItemTies.{any_true}
 use Rattle.bsp_desk_sales.specs.Ledger.{same_number}
 use Rattle.bsp_desk_sales.specs.Step.{is_last}
-
--- the last of numbers that never fall
-abbrev pub IsLatest : Option ℕ → List ℕ → Type 0
-IsLatest None ns = ns ≡ []
-IsLatest (Some n) ns = Contains ns n × ((m : ℕ) → Contains ns m → m ≤ n)
-
-alike : (a b : Bool) → (a ≡ true → b ≡ true) → (b ≡ true → a ≡ true) → a ≡ b
-alike true b h g = sym (h refl)
-alike false true h g = g refl
-alike false false h g = refl
-
--- ---- one more number
-
-module _ (ns : List ℕ) (rising : IsNonDecreasing ns) (i n : ℕ) (within : i < length ns) (is : n ≡ get_or ns i n) where
-  pushed : take (i + 1) ns ≡ take i ns ++ n ∷ []
-  pushed = take_more ns i n within ∙ ap (λ (m : ℕ). take i ns ++ m ∷ []) (sym is)
-
-  up_to : (m : ℕ) → Contains (take i ns) m → m ≤ n
-  up_to m (k, below, e) =
-      let before : k < i = omega (arith, below, length-take i ns) in
-      let here : get_or ns k m ≡ m = sym (get_or-take i ns k m before) ∙ e in
-      let there : get_or ns i m ≡ n = get_or_default ns i m n within ∙ sym is in
-      let risen = rising k i m (omega (arith, before)) within in
-      omega (arith, here, there, risen)
-
-  pub latest_more : IsLatest (Some n) (take (i + 1) ns)
-  latest_more = subst (λ (ms : List ℕ). IsLatest (Some n) ms) (sym pushed) (
-    Contains-push (take i ns) n,
-    λ m h. elim (Contains-push_cases (take i ns) n m h) [
-      | inl front ↦ up_to m front
-      | inr last ↦ omega (arith, last)
-    ],
-  )
-
-  among_last : (last : Option ℕ) → IsLatest last (take i ns) → list_any (λ m. same_number m n) (take i ns) ≡ is_last last n
-  among_last None none = ap (list_any (λ m. same_number m n)) none
-  among_last (Some m) latest =
-      alike _ _
-      (λ any.
-      let (x, there, same) = contains_any (λ y. same_number y n) (take i ns) any in
-      let x_is : x ≡ n = eqb-true x n same in
-      let low = up_to m latest.0 in
-      let high = latest.1 x there in
-      eq-eqb m n (omega (arith, x_is, low, high)))
-      (λ same. any_true (λ y. same_number y n) (take i ns) m latest.0 same)
-
-  pub once_more : (last : Option ℕ) → IsLatest last (take i ns) → once same_number (take (i + 1) ns) ≡ cond (is_last last n) (once same_number (take i ns)) (once same_number (take i ns) ++ n ∷ [])
-  once_more last latest =
-      ap (once same_number) pushed
-      ∙ (once_push nat_eq nat_eq_equiv (λ (m : ℕ). m) (take i ns) n
-      ∙ ap (λ b. cond b (once same_number (take i ns)) (once same_number (take i ns) ++ n ∷ [])) (among_last last latest))
 
 -- ---- each once among those that pass
 

@@ -7,9 +7,11 @@ mod lookups;
 mod no_room;
 mod planned;
 mod saved_plan;
+mod stock;
 mod tables;
 mod tallies;
 
 pub use no_room::NoRoom;
 pub use saved_plan::SavedPlan;
+pub use stock::UsedRange;
 pub use tables::Tables;

@@ -4,3 +4,4 @@ pub mod NumberLemmas
 pub mod PlaceOrders
 pub mod TableLemmas
 pub mod RangeLemmas
+pub mod UsedLemmas

@@ -17,7 +17,9 @@ use Rattle.bsp_memory_tables.specs.ItemTables.{AreItemsIndexed}
 use Rattle.bsp_memory_tables.specs.TallyTables.{AreTalliesIndexed}
 use Rattle.bsp_rows.specs.Tally.{Tally}
 use Rattle.bsp_rows.specs.Tallies.{tally_cmp}
+use Rattle.bsp_memory_tables.specs.Used.{block_cmp}
 use Rattle.bsp_memory_tables.proofs.NumberLemmas.{nothing_indexed}
+use Rattle.bsp_memory_tables.proofs.UsedLemmas.{nothing_used, used_same}
 
 -- ---- memos
 
@@ -37,15 +39,16 @@ no_memos = record { by_agent = rows.nothing_indexed nat_cmp memo_cmp agent_place
 numbers_same : (items others : FinMap item_cmp Item) (numbers other_numbers : FinMap number_cmp ItemKey) → others ≡ items → other_numbers ≡ numbers → IsIndexed items numbers → IsIndexed others other_numbers
 numbers_same items others numbers other_numbers p q h = subst (λ (m : FinMap item_cmp Item). IsIndexed m other_numbers) (sym p) (subst (λ (m : FinMap number_cmp ItemKey). IsIndexed items m) (sym q) h)
 
-pub items_same : (items others : FinMap item_cmp Item) (numbers other_numbers : FinMap number_cmp ItemKey) (airlines other_airlines : FinMap (entry_cmp airline_cmp item_cmp) (Unit {0}))
-    → others ≡ items → other_numbers ≡ numbers → other_airlines ≡ airlines → AreItemsIndexed items numbers airlines → AreItemsIndexed others other_numbers other_airlines
-items_same items others numbers other_numbers airlines other_airlines p q r h = record {
+pub items_same : (items others : FinMap item_cmp Item) (numbers other_numbers : FinMap number_cmp ItemKey) (airlines other_airlines : FinMap (entry_cmp airline_cmp item_cmp) (Unit {0})) (counts other_counts : FinMap block_cmp ℕ)
+    → others ≡ items → other_numbers ≡ numbers → other_airlines ≡ airlines → other_counts ≡ counts → AreItemsIndexed items numbers airlines counts → AreItemsIndexed others other_numbers other_airlines other_counts
+items_same items others numbers other_numbers airlines other_airlines counts other_counts p q r s h = record {
   by_number = numbers_same items others numbers other_numbers p q h.by_number;
   by_airline = index_same airline_cmp item_cmp item_place items others airlines other_airlines p r h.by_airline;
+  used = used_same items others counts other_counts p s h.used;
 }
 
-pub no_items : AreItemsIndexed empty empty empty
-no_items = record { by_number = nothing_indexed empty empty refl; by_airline = rows.nothing_indexed airline_cmp item_cmp item_place }
+pub no_items : AreItemsIndexed empty empty empty empty
+no_items = record { by_number = nothing_indexed empty empty refl; by_airline = rows.nothing_indexed airline_cmp item_cmp item_place; used = nothing_used }
 
 -- ---- tallies
 

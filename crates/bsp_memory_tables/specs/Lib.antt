@@ -5,3 +5,4 @@ pub mod MemoTables
 pub mod ItemTables
 pub mod TallyTables
 pub mod RangeTables
+pub mod Used

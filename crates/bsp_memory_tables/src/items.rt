@@ -8,22 +8,26 @@ ghost use Rattle.bsp_rows.specs.RulesRows.{contains};
 ghost use Rattle.bsp_rows.specs.Selected.{selected};
 ghost use Rattle.bsp_rows.specs.Rows.{is_of_airline};
 ghost use Rattle.bsp_memory_tables.specs.Numbers.{bears};
+ghost use Rattle.bsp_memory_tables.specs.Used.{used_count};
 ghost use Rattle.bsp_memory_tables.specs.ItemTables.{AreItemsKept, WereItemsKept, item_rows, item_rows_before};
 
 use crate::keys::{AtNumber, ItemsOf, ItemsWithin, least_item};
 use crate::numbers::{Bearing, Numbers, WithNumber, add_numbers, keys_bearing};
 use crate::places::{AirlinePeriod, item_place};
-use bsp_maps::{Every, Index, Logged, Old, Rule, Test};
+use crate::used::{Block, count_number, used_count};
+use bsp_maps::{Counts, Every, Index, Logged, Old, Rule, Test};
 use bsp_rows::{AgentCode, AirlineCode, Item, ItemKey, PeriodCode, Range, Transaction};
 use std::alloc::{AllocError, Global};
 use std::collections::BTreeMap;
 
-/// The items by their keys, by the numbers that they bear, and by their airlines and periods.
+/// The items by their keys, by the numbers that they bear, and by their airlines and periods, and how many numbers of
+/// each agent have an item.
 #[derive(Drop)]
 pub struct ItemTable {
     rows: Logged<ItemKey, Item>,
     by_number: Numbers,
     by_airline: Index<AirlinePeriod, ItemKey>,
+    used: Counts<Block>,
 }
 
 /// Items of an airline that were accepted in a period.
@@ -53,6 +57,7 @@ impl ItemTable {
             rows: Logged::new(alloc),
             by_number: Logged::new(alloc),
             by_airline: Index::new(alloc),
+            used: Counts::new(alloc),
         }
     }
 
@@ -80,6 +85,7 @@ impl ItemTable {
         self.rows.commit();
         self.by_number.commit();
         self.by_airline.commit();
+        self.used.commit();
     }
 
     /// Takes back what was written since the last commit. It takes no memory.
@@ -92,6 +98,7 @@ impl ItemTable {
         self.rows.roll_back();
         self.by_number.roll_back();
         self.by_airline.roll_back();
+        self.used.roll_back();
     }
 
     /// The item of a key.
@@ -115,6 +122,7 @@ impl ItemTable {
     {
         let new = Some(*item);
         add_numbers(&mut self.by_number, key, &item.transaction)?;
+        count_number(&mut self.used, key)?;
         self.by_airline
             .relocate(*key, item_place(old), item_place(&new))?;
         self.rows.put(*key, *item)
@@ -126,6 +134,18 @@ impl ItemTable {
     {
         let range = *range;
         self.rows.has_any(&ItemsWithin { agent, range })
+    }
+
+    /// How many numbers of a range have an item of the agent. A number counts once, also where it has a CANX. It
+    /// reads a few hundred counts, and no item.
+    ///
+    /// # Errors
+    ///
+    /// Where there were more numbers than any memory has.
+    pub fn used_count(&self, agent: AgentCode, range: &Range) -> Result<u64, AllocError>
+        ensures { IfOk result (λ count. AreItemsKept self.now → count ≡ used_count agent range.now (item_rows self.now)) }
+    {
+        used_count(&self.used, agent, range)
     }
 
     /// The items of an agent that pass a test, in the order of their keys. It reads that agent's alone.

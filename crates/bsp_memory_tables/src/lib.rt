@@ -11,6 +11,7 @@ mod numbers;
 mod places;
 mod ranges;
 mod tallies;
+mod used;
 
 pub use items::ItemTable;
 pub use memos::MemoTable;

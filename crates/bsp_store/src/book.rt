@@ -9,7 +9,7 @@ ghost use Rattle.bsp_store_save.specs.Content.{Content, form};
 ghost use Rattle.bsp_store_save.specs.Kept.{HasCommitted, HasContents};
 ghost use Rattle.bsp_store_save.specs.Calls.{IsKept};
 
-use bsp_book::{Book, BookFault, ListBook};
+use bsp_book::{Book, BookFault, ListBook, UsedRange};
 use bsp_rows::{
     AgentCode, AirlineCode, Change, Day, Item, ItemKey, Items, Memo, MemoKey, Memos, PeriodCode,
     Plan, PlanFault, PlanText, Range, RangeKey, Tallies, Tally, TallyKey, Token, Transaction,
@@ -210,6 +210,13 @@ impl<S: Alter> Book for SqlBook<S> {
             return Err(BookFault::Failed);
         }
         self.list.ranges(agent)
+    }
+
+    fn stock(&mut self, agent: AgentCode) -> Result<Vec<UsedRange>, BookFault> {
+        if self.failed {
+            return Err(BookFault::Failed);
+        }
+        self.list.stock(agent)
     }
 
     fn meets_range(&mut self, range: Range) -> Result<bool, BookFault> {
