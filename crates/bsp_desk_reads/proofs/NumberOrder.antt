@@ -1,18 +1,11 @@
 -- Numbers that pass a test, each once.
-use Rattle.std.proofs.Common.{◌≡◌, ℕ, ◌+◌, ◌<◌, ◌≤◌, ◌&&◌, not, Bool, true, false, cond, List, [], ◌∷◌, ◌++◌, length, take, get_or, Option, Some, None, refl, sym, ap, subst, ◌∙◌, inl, inr, arith}
-use Rattle.std.specs.List.{Contains, filter, list_any}
-use Rattle.std.specs.List.Sorted.{IsNonDecreasing}
-use Rattle.std.proofs.lemmas.Bool.{eq-eqb, eqb-true}
-use Rattle.std.proofs.lemmas.Cmp.{nat_eq_equiv}
-use Rattle.std.specs.Prelude.{nat_eq}
-use Rattle.std.proofs.lemmas.List.{get_or-take, get_or_default, length-take, take_more}
-use Rattle.std.proofs.lemmas.List.Elements.{Contains-push, Contains-push_cases, filter_agree}
-use Rattle.bsp_rows.proofs.ListedLemmas.{contains_any, once_push}
+use Rattle.std.proofs.Common.{◌≡◌, ℕ, ◌&&◌, not, Bool, true, false, cond, List, [], ◌∷◌, refl, sym, ap, ◌∙◌}
+use Rattle.std.specs.List.{filter}
+use Rattle.std.proofs.lemmas.Bool.{eqb-true}
+use Rattle.std.proofs.lemmas.List.Elements.{filter_agree}
 use Rattle.bsp_rows.specs.Requests.{once}
 use Rattle.bsp_postings.proofs.ListLemmas.{filter_filter}
-use Rattle.bsp_rows.proofs.ItemTies.{any_true}
 use Rattle.bsp_desk_sales.specs.Ledger.{same_number}
-use Rattle.bsp_desk_sales.specs.Step.{is_last}
 
 -- ---- each once among those that pass
 
