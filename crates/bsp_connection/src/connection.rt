@@ -162,13 +162,6 @@ impl<F, B: Drop> Connection<F, B> {
         self.out.is_empty() && (self.closed || !self.has_more)
     }
 
-    /// How many messages were answered.
-    pub(crate) fn count(&self) -> usize
-        ensures { result ≡ self.now.count }
-    {
-        self.count
-    }
-
     /// The message that is begun and not whole, by how many were answered before it; none between messages.
     pub fn begun(&self) -> Option<usize>
         ensures { BegunAt self.now result }

@@ -3,7 +3,7 @@
 ghost use Rattle.std.specs.Prelude.{◌≡◌, ◌≢◌, ◌⊎◌, ◌<◌, ◌≤◌, ◌+◌, ◌==◌, ℕ, true, false, List, [], ◌++◌, length, None, Some, Ok, Err, IfOk, OnOk, OnErr};
 ghost use Rattle.std.specs.Io.KnownBytes.{Appends, Consumes, IsAtEnd, Keeps};
 ghost use Rattle.bsp_connection.specs.Begun.{HasUnread};
-ghost use Rattle.bsp_connection.specs.Ends.{IsInputEnd, served_by};
+ghost use Rattle.bsp_connection.specs.Ends.{IsInputEnd};
 ghost use Rattle.bsp_connection.specs.Progress.{IsAtRest};
 ghost use Rattle.bsp_connection.specs.Reads.{failed_by_reads, most_empty, most_empty_of_turn};
 ghost use Rattle.bsp_connection.specs.Serving.{Serves};
@@ -135,22 +135,27 @@ fn serve_with<R: Read, W: Write, D, S: Service<D>>(
     writer: &mut Noted<W>,
     service: &S,
     desk: &mut D,
-) -> Result<End, ServeFault>
+) -> Result<Served, ServeFault>
     requires fresh { IsFresh c.old }
     requires capacity { 32768 ≤ c.old.received.room }
     requires piece { length room.old ≡ 16384 }
     ensures conversation { (got : List ℕ) × Consumes (R.remaining reader.old.inner) (R.remaining reader.new.inner) got
-        × Serves S.means got desk.old desk.new (W.contents writer.old.inner) (W.contents writer.new.inner) (served_by c.new.count result) }
-    ensures end { IfOk result (λ end. IsInputEnd end → IsAtEnd (R.remaining reader.new.inner)) }
+        × Serves S.means got desk.old desk.new (W.contents writer.old.inner) (W.contents writer.new.inner) result }
+    ensures end { IfOk result (λ served. IsInputEnd served.end → IsAtEnd (R.remaining reader.new.inner)) }
     ensures read_cause { reader.new.failed ≡ failed_by_reads reader.old.failed result }
     ensures write_cause { result ≡ Err ServeFault.Write → writer.new.failed ≡ true }
     ensures noted { writer.old.failed ≡ true → writer.new.failed ≡ true }
-    ensures reads { reader.new.empty ≤ reader.old.empty + most_empty (served_by c.new.count result) }
+    ensures reads { reader.new.empty ≤ reader.old.empty + most_empty result }
 {
     'steps: loop {
         match step(c, room, reader, writer, service, desk) {
             Ok(None) => {}
-            Ok(Some(end)) => return Ok(end),
+            Ok(Some(end)) => {
+                return Ok(Served {
+                    messages: c.count,
+                    end,
+                });
+            }
             Err(fault) => return Err(fault),
         }
     }
@@ -184,17 +189,11 @@ pub fn serve<R: Read, W: Write, D, S: Service<D>>(
     ensures noted { writer.old.failed ≡ true → writer.new.failed ≡ true }
     ensures reads { reader.new.empty ≤ reader.old.empty + most_empty result }
 {
-    let (Ok(mut c), Ok(mut room)) = (
-        Connection::with_room(alloc, ALONE),
-        vec![in alloc; 0; PIECE],
-    ) else {
+    let Ok(mut room) = vec![in alloc; 0; PIECE] else {
         return Err(ServeFault::Memory);
     };
-    match serve_with(&mut c, &mut room, reader, writer, service, desk) {
-        Ok(end) => Ok(Served {
-            messages: c.count(),
-            end,
-        }),
-        Err(fault) => Err(fault),
-    }
+    let Ok(mut c) = Connection::with_room(alloc, ALONE) else {
+        return Err(ServeFault::Memory);
+    };
+    serve_with(&mut c, &mut room, reader, writer, service, desk)
 }
