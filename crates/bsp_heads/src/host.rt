@@ -16,7 +16,7 @@ use std::net::Ipv6Addr;
 fn is_name_byte(b: u8) -> bool
     ensures { result ≡ is_name_byte b }
 {
-    b.is_ascii_alphanumeric() || b"-._~!$&'()*+,;=".contains(&b)
+    b.is_ascii_alphanumeric() || matches!(b, b'!' | b'$' | b'&'..=b'.' | b';' | b'=' | b'_' | b'~')
 }
 
 fn begins_with_hex(text: &[u8]) -> bool

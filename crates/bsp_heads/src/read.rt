@@ -19,6 +19,9 @@ pub const HEAD_LIMIT: usize = 16384;
 /// The most fields that a head may have.
 pub const FIELD_LIMIT: usize = 64;
 
+/// As many fields as most heads have at the most. The room for them is made for each head.
+const FEW: usize = 16;
+
 /// The spans of the head at the front of a text within the limit.
 #[tactic(auto, using(crate::proofs::HeadLemmas::never_now))]
 fn parse_front(text: &[u8], headers: &mut [HeaderSpan]) -> Result<RequestSpans, HeadFault>
@@ -60,25 +63,27 @@ fn parse(text: &[u8], headers: &mut [HeaderSpan]) -> Result<RequestSpans, HeadFa
     }
 }
 
-/// Reads the head that the text is, its last empty line counted.
+/// What the head of these spans states.
 ///
 /// # Errors
 ///
 /// The first fault that applies, in the order of [`HeadFault`].
-pub fn read_head(text: &[u8]) -> Result<HeadParts, Refused>
+fn take_spans(
+    text: &[u8],
+    head: &RequestSpans,
+    headers: &[HeaderSpan],
+) -> Result<HeadParts, Refused>
+    requires within { IsRequestWithin text.now headers.now head.now }
+    requires complete { IsRequestOf text.now headers.now head.now }
+    requires len { head.now.len ≡ length text.now }
+    requires few { length headers.now ≤ 64 }
+    requires short { length text.now ≤ 16384 }
     ensures ok { IfOk result (AreParts text.now) }
     ensures method { IfOk result (λ parts. IsWithin (length text.now) parts.method) }
     ensures target { IfOk result (λ parts. IsWithin (length text.now) parts.target) }
     ensures token { IfOk result (λ parts. IfSome parts.token (IsWithin (length text.now))) }
     ensures err { IfErr result (Refuses text.now) }
 {
-    let mut headers = [EMPTY_HEADER_SPAN; FIELD_LIMIT];
-    let head = match parse(text, &mut headers) {
-        Ok(head) => head,
-        Err(fault) => {
-            return Err(Refused { fault, bare: false });
-        }
-    };
     let method = head.method.of(text);
     let fields = Fields::of(text, &headers[..head.headers]);
     match judge_fields(head.version, method, text, &fields) {
@@ -92,5 +97,46 @@ pub fn read_head(text: &[u8]) -> Result<HeadParts, Refused>
             fault,
             bare: is_method(method, b"HEAD"),
         }),
+    }
+}
+
+/// Reads a head of any number of fields.
+///
+/// # Errors
+///
+/// The first fault that applies, in the order of [`HeadFault`].
+fn read_any(text: &[u8]) -> Result<HeadParts, Refused>
+    ensures ok { IfOk result (AreParts text.now) }
+    ensures method { IfOk result (λ parts. IsWithin (length text.now) parts.method) }
+    ensures target { IfOk result (λ parts. IsWithin (length text.now) parts.target) }
+    ensures token { IfOk result (λ parts. IfSome parts.token (IsWithin (length text.now))) }
+    ensures err { IfErr result (Refuses text.now) }
+{
+    let mut headers = [EMPTY_HEADER_SPAN; FIELD_LIMIT];
+    match parse(text, &mut headers) {
+        Ok(head) => take_spans(text, &head, &headers),
+        Err(fault) => Err(Refused { fault, bare: false }),
+    }
+}
+
+/// Reads the head that the text is, its last empty line counted. One of few fields is read at once; any other is read
+/// with room for as many as it may have.
+///
+/// # Errors
+///
+/// The first fault that applies, in the order of [`HeadFault`].
+pub fn read_head(text: &[u8]) -> Result<HeadParts, Refused>
+    ensures ok { IfOk result (AreParts text.now) }
+    ensures method { IfOk result (λ parts. IsWithin (length text.now) parts.method) }
+    ensures target { IfOk result (λ parts. IsWithin (length text.now) parts.target) }
+    ensures token { IfOk result (λ parts. IfSome parts.token (IsWithin (length text.now))) }
+    ensures err { IfErr result (Refuses text.now) }
+{
+    let mut headers = [EMPTY_HEADER_SPAN; FEW];
+    match parse_request(text, &mut headers) {
+        Ok(Status::Complete(head)) if head.len == text.len() && head.len <= HEAD_LIMIT => {
+            take_spans(text, &head, &headers)
+        }
+        _ => read_any(text),
     }
 }

@@ -1,7 +1,8 @@
 //! Serving all connections.
 
-ghost use Rattle.std.specs.Prelude.{◌≡◌, ◌≤◌, ◌<◌, ◌+◌, ◌⊎◌};
-ghost use Rattle.std.specs.BTreeMap.{btree_map_len};
+ghost use Rattle.std.specs.Prelude.{◌≡◌, ◌≤◌, ◌<◌, ◌+◌, ◌⊎◌, None};
+ghost use Rattle.std.specs.BTreeMap.{UpdatesBy, btree_map_len};
+ghost use Rattle.std.specs.Ordering.{nat_cmp};
 ghost use Rattle.bsp_peers.specs.Serving.{Goes, IsServing, Served, Steps};
 
 use crate::held::{Held, Table};
@@ -66,6 +67,13 @@ fn drop_late<P: Peers, D, R: Protocol<D>>(
     peers.close(number, Ending::Late);
 }
 
+/// Drops a connection.
+fn drop_held<C: Drop>(number: u64, table: &mut BTreeMap<u64, Held<C>>)
+    ensures { UpdatesBy nat_cmp (nat_cmp number) table.old table.new None }
+{
+    table.remove(&number);
+}
+
 /// Goes on with a connection that can be read or written.
 fn attend<P: Peers, D, R: Protocol<D>>(
     number: u64,
@@ -83,7 +91,7 @@ fn attend<P: Peers, D, R: Protocol<D>>(
         return;
     };
     if let Some(ending) = turn(number, held, room, peers, protocol, desk) {
-        table.held.remove(&number);
+        drop_held(number, &mut table.held);
         peers.close(number, ending);
     }
 }

@@ -16,9 +16,9 @@ returns-in-Some-turn-clause-goes g c =
     let m = c.get_mut.follows.lender b in
     let some = subst (λ (o : Option (Held g.row.R-Connection.Denot)). IsSome o) c.in-Some.ensures.value refl in
     let set = is_set c.args.table.now.held m c.args.number (Some b) ((c.get_mut.follows.holds b).3 some) in
-    let gone = is_set m c.remove.new.self c.args.number None c.remove.ensures.updates in
-    goes_end g.P.Peers.did g.R.Protocol.steps g.R.Protocol.talks g.R.Protocol.rests _ _ _ _ _ c.args.table.now c.remove.new.self c.args.number c.in-Some.held.now b.connection c.in-Some-turn.ending
-    c.in-Some-turn.ensures c.close.ensures (sym c.in-Some.ensures.value) (set_again c.args.table.now.held m c.remove.new.self c.args.number (Some b) None set gone)
+    let gone = is_set m c.drop_held.new.table c.args.number None c.drop_held.ensures in
+    goes_end g.P.Peers.did g.R.Protocol.steps g.R.Protocol.talks g.R.Protocol.rests _ _ _ _ _ c.args.table.now c.drop_held.new.table c.args.number c.in-Some.held.now b.connection c.in-Some-turn.ending
+    c.in-Some-turn.ensures c.close.ensures (sym c.in-Some.ensures.value) (set_again c.args.table.now.held m c.drop_held.new.table c.args.number (Some b) None set gone)
 
 pub returns-in_default-turn-clause-goes : goal.returns-in_default-turn-clause-goes
 returns-in_default-turn-clause-goes g c =
