@@ -6,7 +6,7 @@ use Rattle.std.proofs.Math.Seq.{take-append_seam, take-length, drop-append_seam}
 use Rattle.std.proofs.lemmas.Grind.{flat_map-append}
 use Rattle.std.proofs.lemmas.List.{drop-drop, drop_all, length-take-le, take-append-drop}
 use Rattle.std.specs.List.{FoldsTo}
-use Rattle.std.specs.Option.{option_map}
+use Rattle.std.specs.Option.{IsSome, option_map}
 use Rattle.httparse.specs.Spans.{IsWithin, span_bytes}
 use Rattle.bsp_heads.proofs.BodyLemmas.{body_limited}
 use Rattle.bsp_heads.proofs.ScanLemmas.{head_len-more, head_len-le}
@@ -126,6 +126,16 @@ part_of received head left count within is =
         | inr other ↦ let more = other.1 in (omega (arith, more), drop_all (head + count) received (omega (arith, is, more)))
       ];
     }
+
+pub the_some : {A : Type 0} (o : Option A) → IsSome o → (a : A) × (o ≡ Some a)
+the_some None none = absurd (false≢true none)
+the_some (Some a) some = (a, refl)
+
+pub in_some : {A : Type 0} (o : Option A) (a : A) (P : A → Type 0) → o ≡ Some a → IfSome o P → P a
+in_some o a P is has = subst (λ (v : Option _). IfSome v P) is has
+
+pub if_some : {A : Type 0} (o : Option A) (a : A) (P : A → Type 0) → o ≡ Some a → P a → IfSome o P
+if_some o a P is has = subst (λ (v : Option _). IfSome v P) (sym is) has
 
 -- what takes a body has nothing of it yet
 pub fresh_body : {F B : Type 0} (r : Reading F B) (found : F) (o : Option B) → IfSome o (λ body. r.has found body []) → HasBody r found o []

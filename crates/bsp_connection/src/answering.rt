@@ -1,6 +1,7 @@
 //! Answering the messages of a connection.
 
-ghost use Rattle.std.specs.Prelude.{◌≡◌, ◌≤◌, ◌<◌, ◌+◌, ◌||◌, ◌==◌, ℕ, List, [], ◌++◌, length, take, drop, true, false, None, Some, IfOk, OnOk, OnErr, is_some};
+ghost use Rattle.std.specs.Prelude.{◌≡◌, ◌≤◌, ◌<◌, ◌+◌, ◌||◌, ◌==◌, ℕ, List, [], ◌++◌, length, take, drop, true, false, None, Some, IfOk, IfSome, OnOk, OnErr, is_some};
+ghost use Rattle.std.specs.Option.{IsSome};
 ghost use Rattle.bsp_connection.specs.Exchanges.{inquiry, request_of, used};
 ghost use Rattle.bsp_connection.specs.Conversations.{HasRefusal, IsRun};
 ghost use Rattle.bsp_replies.specs.Replies.{ReplyText, reply_text};
@@ -56,7 +57,7 @@ fn pass<D, S: Service<D>>(
     }
 }
 
-/// Asks the service with the body that came.
+/// Asks the service with the body that came, if there is one: it is used up.
 ///
 /// # Errors
 ///
@@ -66,16 +67,19 @@ fn ask<D, S: Service<D>>(
     desk: &mut D,
     message: &Message<'_>,
     found: S::Found,
-    body: Option<S::Body>,
+    body: &mut Option<S::Body>,
 ) -> Result<Reply, NoRoom>
     requires finds { S.reads.finds message.now.method.now message.now.target.now found }
-    requires some { (bytes : List ℕ) × HasBody S.reads found body bytes }
-    ensures answered { IfOk result (λ reply. (bytes : List ℕ) → HasBody S.reads found body bytes → S.means.steps desk.old (request_of message.now (used (is_some body) bytes)) (reply_text reply) desk.new) }
-    ensures refused { OnErr result ((desk.new ≡ desk.old) × (is_some body ≡ true) × ((bytes : List ℕ) → HasBody S.reads found body bytes → 0 < length bytes)) }
+    requires some { (bytes : List ℕ) × HasBody S.reads found body.old bytes }
+    ensures answered { IfOk result (λ reply. (bytes : List ℕ) → HasBody S.reads found body.old bytes → S.means.steps desk.old (request_of message.now (used (is_some body.old) bytes)) (reply_text reply) desk.new) }
+    ensures refused { OnErr result ((desk.new ≡ desk.old) × (is_some body.old ≡ true) × ((bytes : List ℕ) → HasBody S.reads found body.old bytes → 0 < length bytes)) }
 {
-    match body {
+    if body.is_none() {
+        return Ok(service.answer(desk, message, found));
+    }
+    match body.take() {
         Some(body) => service.answer_with(desk, message, found, body),
-        None => Ok(service.answer(desk, message, found)),
+        None => unreachable!(),
     }
 }
 
@@ -99,7 +103,6 @@ fn end_message<F: Copy, B: Drop>(
     c.begun = None;
     c.scan = Scan::start();
     c.seen = 0;
-    c.body = None;
     c.count += 1;
     c.closed = closes;
     c.has_more = !closes && !c.received.is_empty();
@@ -301,66 +304,60 @@ fn closes_after(wants_close: bool, count: usize) -> bool
     wants_close || count == LAST
 }
 
-/// Passes on what came of the body. Answers the message as it is begun then.
+/// Passes on what came of the body of the message that is begun. Answers whether the body is whole.
 ///
 /// # Errors
 ///
 /// `NoRoom` where there was no memory for it.
 fn pass_on<D, S: Service<D>>(
     c: &mut Connection<S::Found, S::Body>,
-    begun: Begun<S::Found>,
     service: &S,
-) -> Result<Begun<S::Found>, NoRoom>
-    requires begun { c.old.begun ≡ Some begun }
-    requires within { begun.head ≤ length c.old.received.items }
-    ensures passed { IfOk result (HasPassed S.reads begun c.old c.new) }
-    ensures refused { OnErr result (IsRefused begun c.old c.new) }
+) -> Result<bool, NoRoom>
+    requires begun { IsSome c.old.begun }
+    requires within { IfSome c.old.begun (λ b. b.head ≤ length c.old.received.items) }
+    ensures passed { IfOk result (λ whole. IfSome c.old.begun (λ b. (now : Begun S.Found) × (whole ≡ (now.left == 0)) × HasPassed S.reads b c.old c.new now)) }
+    ensures refused { OnErr result (IfSome c.old.begun (λ b. IsRefused b c.old c.new)) }
     ensures number { c.new.number ≡ c.old.number }
     ensures room { c.new.received.room ≡ c.old.received.room }
 {
+    let Some(begun) = &mut c.begun else {
+        unreachable!()
+    };
     let count = begun.left.min(c.received.len() - begun.head);
     let piece = part(c.received.bytes(), begun.head, count);
     pass(service, begun.found, &mut c.body, piece)?;
     c.received.cut_out(begun.head, count);
-    let now = Begun {
-        left: begun.left - count,
-        ..begun
-    };
-    c.begun = Some(now);
-    c.has_more = now.left == 0;
-    Ok(now)
+    begun.left -= count;
+    c.has_more = begun.left == 0;
+    Ok(c.has_more)
 }
 
-/// Answers that there was no memory for the body of the message, and closes the connection.
-fn unroomed<D, S: Service<D>>(
-    c: &mut Connection<S::Found, S::Body>,
-    begun: Begun<S::Found>,
-    service: &S,
-    desk: &D,
-)
-    requires read { IsRead c.old.received.items begun.head begun.parts }
+/// Answers that there was no memory for the body of the message that is begun, and closes the connection.
+fn unroomed<D, S: Service<D>>(c: &mut Connection<S::Found, S::Body>, service: &S, desk: &D)
+    requires begun { IsSome c.old.begun }
+    requires read { IfSome c.old.begun (λ b. IsRead c.old.received.items b.head b.parts) }
     requires free { c.old.out.apart ≡ false }
     requires few { c.old.count < 65536 }
-    ensures answered { IsAnswered (length c.old.received.items) (response begun.parts.wanted.bare true S.means.no_room) true c.old c.new }
+    ensures answered { IfSome c.old.begun (λ b. IsAnswered (length c.old.received.items) (response b.parts.wanted.bare true S.means.no_room) true c.old c.new) }
     ensures number { c.new.number ≡ c.old.number }
     ensures room { c.new.received.room ≡ c.old.received.room }
 {
-    let reply = service.no_room();
+    let Some(begun) = &c.begun else {
+        unreachable!()
+    };
+    let bare = begun.parts.wanted.bare;
     let message = message_of(c.received.bytes(), begun.head, &begun.parts);
+    let reply = service.no_room();
     service.note(desk, c.number, Some(&message), &reply);
+    c.body = None;
     let all = c.received.len();
-    end_message(c, all, reply, begun.parts.wanted.bare, true);
+    end_message(c, all, reply, bare, true);
 }
 
-/// Has the message answered whose body is whole.
-fn finish<D, S: Service<D>>(
-    c: &mut Connection<S::Found, S::Body>,
-    begun: Begun<S::Found>,
-    service: &S,
-    desk: &mut D,
-)
-    requires begun { c.old.begun ≡ Some begun }
-    requires whole { begun.left ≡ 0 }
+/// Has the message answered that is begun and whose body is whole.
+fn finish<D, S: Service<D>>(c: &mut Connection<S::Found, S::Body>, service: &S, desk: &mut D)
+    requires begun { IsSome c.old.begun }
+    requires whole { IfSome c.old.begun (λ b. b.left ≡ 0) }
     requires unclosed { c.old.closed ≡ false }
     requires free { c.old.out.apart ≡ false }
     requires has { (unread : List ℕ) × HasUnread S.reads S.means.uses c.old unread }
@@ -370,25 +367,23 @@ fn finish<D, S: Service<D>>(
     ensures number { c.new.number ≡ c.old.number }
     ensures room { c.new.received.room ≡ c.old.received.room }
 {
-    let message = message_of(c.received.bytes(), begun.head, &begun.parts);
-    let body = c.body.take();
-    let Ok(reply) = ask(service, desk, &message, begun.found, body) else {
-        return unroomed(c, begun, service, desk);
+    let Some(begun) = &c.begun else {
+        unreachable!()
+    };
+    let head = begun.head;
+    let wanted = begun.parts.wanted;
+    let message = message_of(c.received.bytes(), head, &begun.parts);
+    let Ok(reply) = ask(service, desk, &message, begun.found, &mut c.body) else {
+        return unroomed(c, service, desk);
     };
     service.note(desk, c.number, Some(&message), &reply);
-    let wanted = begun.parts.wanted;
     let closes = closes_after(wanted.closes, c.count);
-    end_message(c, begun.head, reply, wanted.bare, closes);
+    end_message(c, head, reply, wanted.bare, closes);
 }
 
 /// Goes on with the body of the message that is begun.
-fn take_body<D, S: Service<D>>(
-    c: &mut Connection<S::Found, S::Body>,
-    begun: Begun<S::Found>,
-    service: &S,
-    desk: &mut D,
-)
-    requires begun { c.old.begun ≡ Some begun }
+fn take_body<D, S: Service<D>>(c: &mut Connection<S::Found, S::Body>, service: &S, desk: &mut D)
+    requires begun { IsSome c.old.begun }
     requires unclosed { c.old.closed ≡ false }
     requires free { c.old.out.apart ≡ false }
     requires has { (unread : List ℕ) × HasUnread S.reads S.means.uses c.old unread }
@@ -398,13 +393,10 @@ fn take_body<D, S: Service<D>>(
     ensures number { c.new.number ≡ c.old.number }
     ensures room { c.new.received.room ≡ c.old.received.room }
 {
-    match pass_on(c, begun, service) {
-        Ok(now) => {
-            if now.left == 0 {
-                finish(c, now, service, desk);
-            }
-        }
-        Err(_) => unroomed(c, begun, service, desk),
+    match pass_on(c, service) {
+        Ok(true) => finish(c, service, desk),
+        Ok(false) => {}
+        Err(_) => unroomed(c, service, desk),
     }
 }
 
@@ -424,8 +416,8 @@ fn take_message<D, S: Service<D>>(c: &mut Connection<S::Found, S::Body>, service
     if !c.out.is_free() {
         return;
     }
-    if let Some(begun) = c.begun {
-        take_body(c, begun, service, desk);
+    if c.begun.is_some() {
+        take_body(c, service, desk);
     }
 }
 
@@ -444,8 +436,9 @@ pub fn go_on<D, S: Service<D>>(c: &mut Connection<S::Found, S::Body>, service: &
     if c.closed || !c.out.is_free() {
         return;
     }
-    match c.begun {
-        Some(begun) => take_body(c, begun, service, desk),
-        None => take_message(c, service, desk),
+    if c.begun.is_some() {
+        take_body(c, service, desk);
+    } else {
+        take_message(c, service, desk);
     }
 }

@@ -171,6 +171,9 @@ impl Output {
         requires { self.old.apart ≡ false }
         ensures { self.new.bytes ≡ self.old.bytes ++ text.now }
     {
+        if text.is_empty() {
+            return;
+        }
         if self.texts.extend_from_slice(text).is_err() {
             self.apart = Some(Apart::new(None, CowSlice::Borrowed(text)));
         }
@@ -192,6 +195,14 @@ impl Output {
         if bytes.len() <= COPIED && append_response(&mut self.texts, &head, bytes) {
             return;
         }
+        self.respond_apart(&head, body);
+    }
+
+    /// Puts out a response whose parts are kept apart.
+    fn respond_apart(&mut self, head: &ResponseHead, body: CowSlice<'static, u8, Global>)
+        requires { self.old.apart ≡ false }
+        ensures { self.new.bytes ≡ self.old.bytes ++ (head_text head.now ++ cow_slice_items body.entry) }
+    {
         self.apart = Some(Apart::new(Some(head.text()), body));
     }
 }

@@ -1,6 +1,6 @@
 use Rattle.std.proofs.Common.{◌≡◌, ◌<◌, ◌≤◌, ℕ, ◌+◌, ◌-◌, List, ◌++◌, length, take, drop, min, refl, sym, ap, ◌∙◌, subst, arith}
 use Rattle.std.proofs.lemmas.Bool.{ne_eqb}
-use Rattle.bsp_connection.proofs.StepLemmas.{part_of}
+use Rattle.bsp_connection.proofs.StepLemmas.{if_some, part_of}
 use Rattle.bsp_connection.specs.Begun.{HasBody}
 use Rattle.bsp_connection.proofs.answering.pass_on.Goals as goal
 
@@ -9,12 +9,12 @@ no_less n some none = omega (arith, some, none)
 
 pub returns-clause-passed : goal.returns-clause-passed
 returns-clause-passed g c =
-    let b = c.args.begun in
+    let b = c.in-Some.begun in
     let received : List ℕ = c.args.c.now.received.items in
     let count : ℕ = c.min-count.result in
-    let p = part_of received b.head b.left count c.requires.within (c.min-count.ensures ∙ ap (λ (n : ℕ). min b.left (n - b.head)) c.len.ensures) in
+    let p = part_of received b.head b.left count (rw c.in-Some.is at c.requires.within) (c.min-count.ensures ∙ ap (λ (n : ℕ). min b.left (n - b.head)) c.len.ensures) in
     let piece : c.part-piece.result.now ≡ take count (drop b.head received) = c.part-piece.ensures ∙ ap (λ (l : List ℕ). take count (drop b.head l)) c.bytes.ensures in
-    record {
+    if_some _ b _ c.in-Some.is (record { head = b.head; parts = b.parts; found = b.found; left = b.left - count }, refl, record {
       piece = take count (drop b.head received);
       rest = drop (b.head + count) received;
       behind = p.behind;
@@ -29,4 +29,4 @@ returns-clause-passed g c =
       out = refl;
       count = refl;
       closed = refl;
-    }
+    })
