@@ -4,6 +4,7 @@ ghost use Rattle.std.specs.Prelude.{◌<◌, ◌^◌};
 
 use crate::limits::Limits;
 use crate::phase::Phase;
+use crate::time::Time;
 use crate::times::Times;
 use crate::turns::Turns;
 use crate::watched::{Dropped, Watched};
@@ -13,7 +14,7 @@ use mio::event::Event;
 use mio::net::TcpStream;
 use std::alloc::Global;
 use std::collections::BTreeMap;
-use std::time::Instant;
+use std::time::{Clock, Instant};
 
 /// The connections by their numbers, whose turn comes, and since when each does what it does.
 #[derive(Drop)]
@@ -38,6 +39,20 @@ fn enter(times: &mut Times, watched: &mut Watched, number: u64, phase: Phase) {
     if !times.add(number, phase) {
         watched.shut_down();
     }
+}
+
+/// Notes what a connection does after a turn. The clock is read only where the peer is waited for.
+fn end_turn<C: Clock>(
+    times: &mut Times,
+    watched: &mut Watched,
+    number: u64,
+    awaited: Awaited,
+    time: &mut Time<'_, C>,
+) {
+    let is_waited_for = awaited.reads || awaited.writes;
+    let now = if is_waited_for { time.now() } else { time.last };
+    let phase = watched.end_turn(awaited, now);
+    enter(times, watched, number, phase);
 }
 
 /// Puts a connection after all others whose turn comes. Where there is no memory for that, the system reports it again.
@@ -140,18 +155,19 @@ impl Connections {
     }
 
     /// Notes what a connection does after its turn, and for what of it is waited.
-    pub(crate) fn watch(
+    pub(crate) fn watch<C: Clock>(
         &mut self,
         registry: &Registry,
         number: u64,
         awaited: Awaited,
-        now: Instant,
+        time: &mut Time<'_, C>,
     ) {
         let Some(watched) = self.streams.get_mut(&number) else {
             return;
         };
-        let phase = watched.end_turn(awaited, now);
-        enter(&mut self.times, watched, number, phase);
+        if !watched.stays(awaited) {
+            end_turn(&mut self.times, watched, number, awaited, time);
+        }
         if awaited.again || !watched.watch(registry, number, awaited.reads, awaited.writes) {
             queue(&mut self.turns, watched, registry, number);
         }

@@ -10,6 +10,7 @@ mod door;
 mod limits;
 mod phase;
 mod sockets;
+mod time;
 mod times;
 mod turns;
 mod watched;

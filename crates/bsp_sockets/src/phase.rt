@@ -7,7 +7,7 @@ ghost use Rattle.std.specs.declared.time.Duration.{Duration};
 ghost use Rattle.std.specs.declared.time.Instant.{Instant};
 ghost use Rattle.std.specs.Duration.{as_nanos};
 ghost use Rattle.std.specs.Time.{instant_nanos};
-ghost use Rattle.bsp_sockets.specs.Phases.{IsAgain};
+ghost use Rattle.bsp_sockets.specs.Phases.{IsAgain, IsStill};
 
 use crate::limits::is_over;
 use bsp_peers::Awaited;
@@ -116,6 +116,7 @@ fn message_after(before: Option<Begun>, awaited: Awaited, now: Instant) -> Optio
     ensures again { IsAgain awaited → before ≡ None → result ≡ None }
     ensures on { (begun : Begun) → IsAgain awaited → awaited.message ≡ Some begun.before → before ≡ Some begun → result ≡ before }
     ensures next { (begun : Begun) → IsAgain awaited → awaited.message ≢ Some begun.before → before ≡ Some begun → result ≡ None }
+    ensures output { awaited.reads ≡ false → awaited.writes ≡ true → result ≡ None }
 {
     match (awaited.reads, awaited.writes) {
         (true, _) => begun_after(before, awaited.message, now),
@@ -172,6 +173,26 @@ fn unread_on(old: Unread, sent: usize, now: Instant) -> Unread
     }
 }
 
+/// Whether the output that waits after a turn in which nothing was written is that before it, whatever the time.
+fn is_still(before: &Option<Unread>, waits: bool) -> bool
+    ensures { result ≡ true → IsStill before.now waits }
+{
+    match before {
+        None => !waits,
+        Some(unread) => waits && unread.taken < PIECE && !is_filling(unread.stage),
+    }
+}
+
+/// Whether the bytes go to the system's own buffer, by the write that fills it.
+fn is_filling(stage: Stage) -> bool
+    ensures { result ≡ false → stage ≢ Stage.Filling }
+{
+    match stage {
+        Stage::Filling => true,
+        Stage::Fresh | Stage::Full => false,
+    }
+}
+
 /// The output that waits, before one more write, after a span is over. None: the peer is late.
 fn once_more(unread: Unread, now: Instant) -> Option<Unread>
     ensures span { unread.spans + 1 < SPANS → (next : Unread) × (result ≡ Some next) × (next.taken ≡ unread.taken) × (next.since ≡ now) × (next.spans ≡ unread.spans + 1) }
@@ -196,7 +217,7 @@ fn once_more(unread: Unread, now: Instant) -> Option<Unread>
 }
 
 impl Phase {
-    ghost use Rattle.bsp_sockets.specs.Phases.{IsAgain, IsBetween, message_of, output_of};
+    ghost use Rattle.bsp_sockets.specs.Phases.{IsAgain, IsBetween, Stays, message_of, output_of};
     ghost use Rattle.bsp_sockets.specs.declared.phase.Phase.TheVariants.{Resting, Busy, Leaving};
 
     /// What a connection does whose time is over, until it is closed.
@@ -249,6 +270,7 @@ impl Phase {
         ensures again { IsAgain awaited → message_of self ≡ None → result ≡ Busy None None }
         ensures on { (begun : Begun) → IsAgain awaited → awaited.message ≡ Some begun.before → message_of self ≡ Some begun → result ≡ Busy (Some begun) None }
         ensures next { (begun : Begun) → IsAgain awaited → awaited.message ≢ Some begun.before → message_of self ≡ Some begun → result ≡ Busy None None }
+        ensures stays { Stays self awaited traffic → result ≡ self }
         ensures output { (old : Unread) → awaited.writes ≡ true → output_of self ≡ Some old → old.stage ≢ Stage.Filling → old.taken + traffic.sent < PIECE → output_of result ≡ Some (record { taken = old.taken + traffic.sent; since = old.since; spans = old.spans; stage = old.stage }) }
     {
         if awaited.message.is_none() && !awaited.writes && !awaited.again {
@@ -257,6 +279,23 @@ impl Phase {
         Phase::Busy {
             message: message_after(self.message(), awaited, now),
             output: unread_after(self.output(), awaited.writes, traffic.sent, now),
+        }
+    }
+
+    /// Whether a connection does after a turn what it did before, whatever the time: its turn comes again, nothing came or
+    /// went, and no message has a time.
+    pub(crate) fn stays(&self, awaited: Awaited, traffic: Traffic) -> bool
+        ensures { result ≡ true → Stays self.now awaited traffic }
+    {
+        if !awaited.again || awaited.reads || traffic.came || traffic.sent != 0 {
+            return false;
+        }
+        match self {
+            Phase::Busy {
+                message: None,
+                output,
+            } => is_still(output, awaited.writes),
+            _ => false,
         }
     }
 

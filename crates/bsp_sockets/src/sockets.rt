@@ -3,6 +3,7 @@
 use crate::connections::Connections;
 use crate::door::{Door, LISTENER};
 use crate::limits::{Limits, earlier};
+use crate::time::Time;
 use bsp_peers::{Awaited, Ending, Happened, Moved, Peers};
 use mio::net::TcpListener;
 use mio::{Events, Poll};
@@ -60,7 +61,7 @@ pub struct Settings {
 /// unread is reset, and the last response may be lost (RFC 9112, 9.6).
 #[derive(Drop)]
 pub struct Sockets<'c, C> {
-    clock: &'c C,
+    time: Time<'c, C>,
     at_once: usize,
     limits: Limits,
     poll: Poll,
@@ -69,8 +70,6 @@ pub struct Sockets<'c, C> {
     connections: Connections,
     // When the last wait ended: what came before then has had its turn.
     waited: Instant,
-    // The time, as it was read last.
-    read: Instant,
 }
 
 /// How long connections may do what they do by these settings.
@@ -97,13 +96,14 @@ impl<'c, C: Clock + Net> Sockets<'c, C> {
         settings: Settings,
     ) -> Result<Sockets<'c, C>, io::Error> {
         let at_once = settings.at_once.clamp(1, MOST);
-        let waited = Instant::now(host)?;
+        let time = Time::new(host)?;
+        let waited = time.last;
         // room for each connection and the listener, so that no time is over of one that is ready and not reported
         let events = Events::with_capacity(alloc, at_once + 1)?;
         let poll = Poll::new(host)?;
         let door = Door::new(listener, poll.registry())?;
         Ok(Sockets {
-            clock: host,
+            time,
             at_once,
             limits: limits_of(settings),
             poll,
@@ -111,7 +111,6 @@ impl<'c, C: Clock + Net> Sockets<'c, C> {
             door,
             connections: Connections::new(alloc),
             waited,
-            read: waited,
         })
     }
 
@@ -174,12 +173,6 @@ impl<C: Clock> Sockets<'_, C> {
         }
     }
 
-    /// The time, or where the clock fails the time that was read last.
-    fn now(&mut self) -> Instant {
-        self.read = Instant::now(self.clock).unwrap_or(self.read);
-        self.read
-    }
-
     /// Whether one more connection has a place.
     fn has_place(&self) -> bool {
         self.connections.count() < self.at_once
@@ -225,7 +218,7 @@ impl<C: Clock> Sockets<'_, C> {
             return Some(Duration::ZERO);
         }
         let end = earlier(self.connections.times.end(self.limits), self.next_arrival())?;
-        Some(end.duration_since(self.read))
+        Some(end.duration_since(self.time.last))
     }
 
     /// Notes what the system reported.
@@ -248,8 +241,7 @@ impl<C: Clock> Sockets<'_, C> {
         }
         let patience = self.patience();
         self.poll.poll(&mut self.events, patience)?;
-        self.waited = Instant::now(self.clock)?;
-        self.read = self.waited;
+        self.waited = self.time.read()?;
         self.note();
         self.connections.turns.begin_round();
         self.door.begin_round();
@@ -277,7 +269,7 @@ impl<C: Clock> Peers for Sockets<'_, C> {
     }
 
     fn accept(&mut self, number: u64) -> bool {
-        let now = self.now();
+        let now = self.time.now();
         let registry = self.poll.registry();
         let has_places = self.connections.count() + 1 < self.at_once;
         let Some(stream) = self.door.accept(registry, has_places, now) else {
@@ -302,15 +294,12 @@ impl<C: Clock> Peers for Sockets<'_, C> {
     }
 
     fn watch(&mut self, number: u64, awaited: Awaited) {
-        // no time starts where the turn comes again
-        let starts = awaited.reads || awaited.writes;
-        let now = if starts { self.now() } else { self.read };
         self.connections
-            .watch(self.poll.registry(), number, awaited, now);
+            .watch(self.poll.registry(), number, awaited, &mut self.time);
     }
 
     fn close(&mut self, number: u64, ending: Ending) {
-        let now = self.now();
+        let now = self.time.now();
         let is_left = match ending {
             Ending::Whole => self.connections.leave(self.poll.registry(), number, now),
             Ending::Late | Ending::Failed | Ending::NoRoom => false,

@@ -142,6 +142,11 @@ impl Watched {
         }
     }
 
+    /// Whether it does after this turn what it did before, whatever the time.
+    pub(crate) fn stays(&self, awaited: Awaited) -> bool {
+        self.phase.stays(awaited, self.traffic)
+    }
+
     /// What it does after this turn.
     pub(crate) fn end_turn(&mut self, awaited: Awaited, now: Instant) -> Phase {
         let traffic = self.traffic;
