@@ -25,11 +25,11 @@ const FEW: usize = 16;
 /// The spans of the head at the front of a text within the limit.
 #[tactic(auto, using(crate::proofs::HeadLemmas::never_now))]
 fn parse_front(text: &[u8], headers: &mut [HeaderSpan]) -> Result<RequestSpans, HeadFault>
-    requires room { length headers.old ≡ 64 }
     requires short { length text.now ≤ 16384 }
     ensures within { IfOk result (IsRequestWithin text.now headers.new) }
     ensures complete { IfOk result (IsRequestOf text.now headers.new) }
-    ensures err { IfErr result (IsNoHead text.now) }
+    ensures err { length headers.old ≡ 64 → IfErr result (IsNoHead text.now) }
+    ensures room { length headers.new ≡ length headers.old }
 {
     match parse_request(text, headers) {
         Ok(Status::Complete(head)) => Ok(head),
@@ -41,12 +41,12 @@ fn parse_front(text: &[u8], headers: &mut [HeaderSpan]) -> Result<RequestSpans, 
 
 /// The spans of the head that the text is.
 fn parse(text: &[u8], headers: &mut [HeaderSpan]) -> Result<RequestSpans, HeadFault>
-    requires { length headers.old ≡ 64 }
     ensures within { IfOk result (IsRequestWithin text.now headers.new) }
     ensures complete { IfOk result (IsRequestOf text.now headers.new) }
     ensures len { IfOk result (λ head. head.len ≡ length text.now) }
     ensures short { IfOk result (λ head. length text.now ≤ 16384) }
-    ensures err { IfErr result (IsNoHead text.now) }
+    ensures err { length headers.old ≡ 64 → IfErr result (IsNoHead text.now) }
+    ensures room { length headers.new ≡ length headers.old }
 {
     if text.len() > HEAD_LIMIT {
         return Err(HeadFault::HeadTooLarge);
@@ -133,10 +133,8 @@ pub fn read_head(text: &[u8]) -> Result<HeadParts, Refused>
     ensures err { IfErr result (Refuses text.now) }
 {
     let mut headers = [EMPTY_HEADER_SPAN; FEW];
-    match parse_request(text, &mut headers) {
-        Ok(Status::Complete(head)) if head.len == text.len() && head.len <= HEAD_LIMIT => {
-            take_spans(text, &head, &headers)
-        }
-        _ => read_any(text),
+    match parse(text, &mut headers) {
+        Ok(head) => take_spans(text, &head, &headers),
+        Err(_) => read_any(text),
     }
 }
