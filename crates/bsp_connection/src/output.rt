@@ -17,6 +17,9 @@ use std::marker::Model;
 /// The most bytes of a body that is copied to its head, so that both are sent by one write.
 const COPIED: usize = 2048;
 
+/// The bytes for which room is made with the first response, so that a few that are sent together find room.
+const FIRST: usize = 1024;
+
 /// What is to be sent: texts that were put together, and after them at most one response whose parts are kept apart. A
 /// contract sees the bytes that are not yet sent, those that are sent next, and whether there is such a response.
 #[derive(Drop)]
@@ -43,7 +46,9 @@ impl Model for Output {
 fn append_response(texts: &mut Vec<u8>, head: &ResponseHead, body: &[u8]) -> bool
     ensures { texts.new.items ≡ (if result then texts.old.items ++ (head_text head.now ++ body.now) else texts.old.items) }
 {
-    if texts.reserve(HEAD_ROOM.saturating_add(body.len())).is_err() {
+    let room = HEAD_ROOM.saturating_add(body.len());
+    let wanted = if texts.is_empty() { room.max(FIRST) } else { room };
+    if texts.reserve(wanted).is_err() {
         return false;
     }
     head.append_to(texts);
