@@ -1,5 +1,5 @@
 -- A body that is read is not longer than the limit.
-use Rattle.std.proofs.Common.{◌≡◌, ℕ, ◌≤◌, Bool, true, false, List, [], ◌∷◌, length, if◌then◌else◌, nat_lt, not, ◌==◌, Result, Ok, Err, refl, sym, subst, arith}
+use Rattle.std.proofs.Common.{◌≡◌, ℕ, ◌≤◌, Bool, true, false, List, [], ◌∷◌, length, if◌then◌else◌, not, ◌==◌, Result, Ok, Err, refl, subst, arith}
 use Rattle.std.specs.Prelude.{codes}
 use Rattle.httparse.specs.Grammar.{RequestHead}
 use Rattle.std.specs.Str.Parse.{digits_value}
@@ -7,9 +7,9 @@ use Rattle.bsp_heads.specs.Fields.{Header, values}
 use Rattle.bsp_heads.specs.Head.{headers_of, judgement}
 use Rattle.bsp_heads.specs.Hosts.{are_hosts}
 use Rattle.bsp_heads.specs.Judging.{body_of, is_method, wanted, wanted_or}
-use Rattle.bsp_heads.specs.Lengths.{body_limit, framed, is_number, measured, sized}
+use Rattle.bsp_heads.specs.Lengths.{body_limit, framed, is_number, sized}
 use Rattle.bsp_heads.specs.declared.fault.HeadFault.{HeadFault}
-use Rattle.bsp_heads.specs.declared.fault.HeadFault.TheVariants.{BodyTooLarge, Malformed, TransferCoding}
+use Rattle.bsp_heads.specs.declared.fault.HeadFault.TheVariants.{Malformed, TransferCoding}
 use Rattle.bsp_heads.specs.declared.parts.Wanted.{Wanted}
 
 sized_small : (len n : ℕ) → sized len ≡ Ok n → n ≤ body_limit

@@ -1,8 +1,7 @@
 -- The whole text of a response, and the answers to refused heads.
-use Rattle.std.specs.Prelude.{ℕ, Bool, List, [], ◌++◌, length, if◌then◌else◌, codes, Option, None}
+use Rattle.std.specs.Prelude.{ℕ, Bool, List, [], ◌++◌, length, if◌then◌else◌, codes, None}
 use Rattle.bsp_replies.specs.declared.status.Status.{Status}
 use Rattle.bsp_replies.specs.declared.status.Status.TheVariants as status
-use Rattle.bsp_replies.specs.declared.status.Media.{Media}
 use Rattle.bsp_replies.specs.declared.status.Media.TheVariants as media
 use Rattle.bsp_heads.specs.declared.response_head.ResponseHead.{ResponseHead}
 use Rattle.bsp_heads.specs.declared.fault.HeadFault.{HeadFault}

@@ -91,14 +91,14 @@ pub(crate) fn answer_read<B: Book, J: Journal<B>>(
     desk: &mut Desk<B>,
     message: &Message<'_>,
     found: Found,
-    mut reader: RetReader,
+    reader: &mut RetReader,
 ) -> Result<Reply, NoRoom>
     requires found { IsFound message.now.method.now message.now.target.now found }
     requires kind { found.kind ≡ BodyKind.Ret }
-    ensures answered { IfOk result (λ reply. (bytes : List ℕ) → HasRet reader bytes → (at_desk B.means).steps desk.old (request_of message.now bytes) (reply_text reply) desk.new) }
-    ensures refused { OnErr result ((desk.new ≡ desk.old) × ((bytes : List ℕ) → HasRet reader bytes → 0 < length bytes)) }
+    ensures answered { IfOk result (λ reply. (bytes : List ℕ) → HasRet reader.old bytes → (at_desk B.means).steps desk.old (request_of message.now bytes) (reply_text reply) desk.new) }
+    ensures refused { OnErr result ((desk.new ≡ desk.old) × ((bytes : List ℕ) → HasRet reader.old bytes → 0 < length bytes)) }
 {
-    if let Err(fault) = end(&mut reader) {
+    if let Err(fault) = end(reader) {
         return Ok(answer_file(journal, desk, message, found, Err(fault)));
     }
     match reader.file() {

@@ -85,7 +85,9 @@ impl<'r, B: Book, J: Journal<B>> Service<Desk<B>> for Office<'r, J> {
                 found.route,
                 &bytes,
             )),
-            RequestBody::File(reader) => answer_read(self.journal, desk, message, found, reader),
+            RequestBody::File(mut reader) => {
+                answer_read(self.journal, desk, message, found, &mut reader)
+            }
         }
     }
 }

@@ -10,5 +10,5 @@ returns-in-Ok-clause-answered g c bytes has =
     let same = ap (λ (fed : Fed). fed.bytes) (c.in_default.ensures bytes has).1 in
     c.answer_file-in-Ok.ensures bytes (subst (λ (l : List ℕ). Ret (lines l) c.in-Ok.file) same c.in-Ok.ensures.found)
 
-pub returns-clause-refused : goal.returns-clause-refused
-returns-clause-refused g c = (refl, λ bytes has. some_bytes bytes (c.in_default.ensures bytes has).0)
+pub returns-in-Err-file-clause-refused : goal.returns-in-Err-file-clause-refused
+returns-in-Err-file-clause-refused g c = (refl, λ bytes has. some_bytes bytes (c.in_default.ensures bytes has).0)
