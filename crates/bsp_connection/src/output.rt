@@ -47,7 +47,11 @@ fn append_response(texts: &mut Vec<u8>, head: &ResponseHead, body: &[u8]) -> boo
     ensures { texts.new.items ≡ (if result then texts.old.items ++ (head_text head.now ++ body.now) else texts.old.items) }
 {
     let room = HEAD_ROOM.saturating_add(body.len());
-    let wanted = if texts.is_empty() { room.max(FIRST) } else { room };
+    let wanted = if texts.is_empty() {
+        room.max(FIRST)
+    } else {
+        room
+    };
     if texts.reserve(wanted).is_err() {
         return false;
     }

@@ -1,4 +1,4 @@
-use Rattle.std.proofs.Common.{◌≡◌, ◌<◌, ℕ, List, length, None, refl, sym, ap, ◌∙◌, subst}
+use Rattle.std.proofs.Common.{◌≡◌, ◌<◌, ℕ, List, length, None, refl, subst}
 use Rattle.bsp_heads.specs.Scan.{HasScanned, head_len}
 use Rattle.bsp_connection.proofs.StepLemmas.{waiting_moves}
 use Rattle.bsp_connection.proofs.answering.take_head.Goals as goal
