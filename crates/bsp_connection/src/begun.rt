@@ -9,7 +9,7 @@ use crate::service::Message;
 use bsp_heads::HeadParts;
 
 /// A message whose head came, and whose body is to come.
-#[derive(Clone, Copy)]
+#[derive(Drop)]
 pub struct Begun<F> {
     /// How many bytes its head has.
     pub head: usize,

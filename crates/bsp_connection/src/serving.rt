@@ -189,11 +189,9 @@ pub fn serve<R: Read, W: Write, D, S: Service<D>>(
     ensures noted { writer.old.failed ≡ true → writer.new.failed ≡ true }
     ensures reads { reader.new.empty ≤ reader.old.empty + most_empty result }
 {
-    let Ok(mut room) = vec![in alloc; 0; PIECE] else {
-        return Err(ServeFault::Memory);
-    };
     let Ok(mut c) = Connection::with_room(alloc, ALONE) else {
         return Err(ServeFault::Memory);
     };
+    let mut room = [0; PIECE];
     serve_with(&mut c, &mut room, reader, writer, service, desk)
 }
