@@ -113,10 +113,9 @@ fn step<R: Read, W: Write, D, S: Service<D>>(
     ensures piece { length room.new ≡ 16384 }
 {
     go_on(c, service, desk);
-    match send_out(c, writer) {
-        Ok(()) => {}
-        Err(_) => return Err(ServeFault::Write),
-    }
+    let Ok(()) = send_out(c, writer) else {
+        return Err(ServeFault::Write);
+    };
     if c.is_closed() {
         return Ok(Some(End::Closed));
     }

@@ -4,11 +4,11 @@ use Rattle.bsp_connection.specs.Outputs.{Put}
 use Rattle.bsp_connection.proofs.ProgressLemmas.{goes_sent, goes_unsent, less_with_more, like_less, like_most, like_rest, most_at_rest, step_read, still_further}
 use Rattle.bsp_connection.proofs.serving.step.Goals as goal
 
-pub returns-in-Err-clause-step : goal.returns-in-Err-clause-step
-returns-in-Err-clause-step g c =
+pub returns-in_default-clause-step : goal.returns-in_default-clause-step
+returns-in_default-clause-step g c =
     let m = g.S.Service.means in
     let r = g.S.Service.reads in
-    let w = c.in-Err.ensures in
+    let w = c.in_default.ensures in
     let same : c.send_out.new.c.out.bytes ≡ c.go_on.new.c.out.bytes = ap (λ (o : Put). o.bytes) w.kept.3 in (
       [],
       w.written.0,
