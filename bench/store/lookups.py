@@ -111,6 +111,8 @@ def measured(items, folder):
         found["no route"] = best(office.port, [get("/none")] * SENT, b"404")
         found["document"] = best(office.port, [get(f"{own}/documents/{it}") for it in numbers], b"200")
         found["stock"] = best(office.port, [get(f"{own}/stock")] * SENT, b"200")
+        # the connection has been idle
+        office.close()
         shown = office.ask("GET", f"{own}/stock", agent_token(AGENT))[2]
         if shown.count(f'"used":{items // RANGES}'.encode()) != RANGES:
             sys.exit(f"the stock shows other counts: {shown}")
