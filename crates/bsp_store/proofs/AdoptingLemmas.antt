@@ -22,7 +22,7 @@ use Rattle.bsp_store.specs.Meanings.{Holds}
 use Rattle.bsp_store_migration.specs.Migrating.{IsMigrated, KeepsOldBook, KeepsOnlyOld, LeavesMigration}
 use Rattle.bsp_store_migration.specs.Old.{old_schema}
 use Rattle.bsp_store_migration.specs.declared.version.OldVersion.{OldVersion}
-use Rattle.bsp_store.specs.Adopting.{Adopts, IsFoundIn, IsMigratedIn, LeavesMigrated, Refuses}
+use Rattle.bsp_store.specs.Adopting.{Adopts, IsFoundIn, IsMigratedIn, LeavesMigrated}
 use Rattle.bsp_store.specs.declared.book.SqlBook.{SqlBook}
 
 -- a book in memory that was read, with its tables
@@ -149,25 +149,3 @@ ok_without (Err e) out is P Q it so = subst (λ o. IfOk o Q) (sym is) tt
 pub err_without : {X F S : Type 0} (r : Result X (F × S)) (out : Result X F) → MatchResult r (λ x. out ≡ Ok x) (λ e. out ≡ Err e.0) → (P Q : F × S → Type 0) (R : F → Type 0) → IfErr r P → IfErr r Q → ((e : F × S) → P e → Q e → R e.0) → IfErr out R
 err_without (Ok x) out is P Q R one two so = subst (λ o. IfErr o R) (sym is) tt
 err_without (Err e) out is P Q R one two so = subst (λ o. IfErr o R) (sym is) (so e one two)
-
--- whatever the value is
-pub if_ok : {X F : Type 0} (r : Result X F) (P : Type 0) → P → IfOk r (λ x. P)
-if_ok (Ok x) P it = it
-if_ok (Err e) P it = tt
-
--- a connection that was opened, and the book that is opened over it
-module _ {S L : Type 0} (g : Ghosts S) (Found : Held S → Type 0) where
-  pub opened_ok : (opened : Result (Held S) (OpenFault × L)) (r : Result (SqlBook S) OpenFault) → IfOk opened Found → MatchResult opened (λ conn. IfOk r (Adopts g conn)) (λ e. r ≡ Err e.0)
-      → IfOk r (λ book. (conn : Held S) × Found conn × Adopts g conn book)
-  opened_ok (Ok conn) (Ok book) found adopts = (conn, found, adopts)
-  opened_ok (Ok conn) (Err e) found adopts = tt
-  opened_ok (Err e) (Ok book) found is = absurd (cc is)
-  opened_ok (Err e) (Err f) found is = tt
-
-  pub opened_err : (opened : Result (Held S) (OpenFault × L)) (r : Result (SqlBook S) OpenFault) → IfOk opened Found → IfErr opened (λ e. is_refusal e.0 ≡ false) → MatchResult opened (λ conn. IfOk r (Adopts g conn)) (λ e. r ≡ Err e.0)
-      → IfOk opened (λ conn. IfErr r (λ fault. is_refusal fault ≡ true → (left : S) × Refuses g fault conn left))
-      → IfErr r (λ fault. is_refusal fault ≡ true → (conn : Held S) × (left : S) × (Found conn × Refuses g fault conn left))
-  opened_err (Ok conn) (Ok book) found fine adopts none = tt
-  opened_err (Ok conn) (Err e) found fine adopts none = λ is. let it = none is in (conn, it.0, (found, it.1))
-  opened_err (Err e) (Ok book) found fine is none = tt
-  opened_err (Err e) (Err f) found fine is none = λ refused. let same : f ≡ e.0 = cc is in absurd (let other = ap is_refusal same in cc (refused, other, fine))

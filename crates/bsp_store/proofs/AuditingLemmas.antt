@@ -47,7 +47,7 @@ module _ {S : Type 0} (g : Ghosts S) where
 
   -- what was found at fault, whatever is asked since
   none_later : (fault : OpenFault) (old mid new : Held S) → HasNone g fault old mid → Spares g mid new → HasNone g fault old new
-  none_later fault old mid new none spares = record { ours = λ clean. none.ours (spares.earlier clean); others = λ clean other. none.others (spares.earlier clean) other }
+  none_later fault old mid new none spares = record { ours = λ clean. none.ours (spares.earlier clean); older = λ clean. none.older (spares.earlier clean); others = λ clean. none.others (spares.earlier clean) }
 
   pub refused_later : (e : AuditFault) (fault : OpenFault) (old mid new : Held S) → fault_in e ≡ fault → (is_refusal fault ≡ true → HasNone g fault old mid) → Spares g mid new
       → is_refusal (fault_in e) ≡ true → HasNone g (fault_in e) old new
@@ -71,28 +71,6 @@ module _ {S : Type 0} (g : Ghosts S) where
         → IfErr r (λ e. is_refusal (fault_in e) ≡ true → WasRefused g (fault_in e) before left)
     refused (Ok s) none = tt
     refused (Err e) none = λ is clean. (now, again, (later, still_clean g later left quiet clean, none is))
-
-  -- with the store that was left
-  pub left_behind : {X : Type 0} (h : Held S) (left : S) → LeavesCommitted g h left → (r : Result X AuditFault) → IfErr r (λ e. is_refusal (fault_in e) ≡ true → WasRefused g (fault_in e) h left)
-      → IfErr r (λ e. is_refusal (fault_in e) ≡ true → (x : S) × WasRefused g (fault_in e) h x × LeavesCommitted g h x)
-  left_behind h left leaves (Ok s) none = tt
-  left_behind h left leaves (Err e) none = λ is. (left, none is, leaves)
-
--- a connection that was opened, or was not, and what is answered
-module _ {S X : Type 0} (IsOf : Rows → X → Type 0) (g : Ghosts S) (Found : Held S → Type 0) where
-  abbrev Answers : Result X AuditFault → Type 0
-  Answers r = ((conn : Held S) × Found conn × IsAuditOf IsOf g conn r) ⊎ ((fault : OpenFault) × (is_refusal fault ≡ false) × IsErrAnd r (λ f. fault_in f ≡ fault))
-
-  pub audited_ok : (r : Result X AuditFault) → Answers r → IfOk r (λ x. (conn : Held S) × (left : S) × Found conn × IsAudited IsOf g conn left x × LeavesCommitted g conn left)
-  audited_ok (Ok s) (inl it) = let left = it.2.passed in (it.0, left.0, it.1, left.1, left.2)
-  audited_ok (Ok s) (inr is) = absurd is.2
-  audited_ok (Err f) it = tt
-
-  pub audited_err : (r : Result X AuditFault) → Answers r
-      → IfErr r (λ f. is_refusal (fault_in f) ≡ true → (conn : Held S) × (left : S) × Found conn × WasRefused g (fault_in f) conn left × LeavesCommitted g conn left)
-  audited_err (Ok s) it = tt
-  audited_err (Err f) (inl it) = λ is. let left = it.2.refused is in (it.0, left.0, it.1, left.1, left.2)
-  audited_err (Err f) (inr is) = λ refused. let fine = is.1 in let other = ap is_refusal is.2 in absurd (cc (refused, other, fine))
 
 -- what is answered of a book that was read
 module _ {X : Type 0} (Is : ListBook → X → Type 0) where

@@ -1,7 +1,9 @@
 pub mod AdoptingLemmas
 pub mod AuditingLemmas
 pub mod BookLemmas
-pub mod StopLemmas
 pub mod CommitLemmas
+pub mod FilesLemmas
+pub mod OpeningLemmas
 pub mod Settling
+pub mod StopLemmas
 pub mod WholeLemmas

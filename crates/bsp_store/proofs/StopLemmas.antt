@@ -133,11 +133,6 @@ module _ {S : Type 0} (g : Ghosts S) (before : Held S) where
   pub finds_book : (r : Result (SqlBook S) (OpenFault × S)) → IfOk r (Adopts g before) → IfErr r (λ e. is_refusal e.0 ≡ true → WasNoBook g e.0 before e.1) → FindsBook g before r
   finds_book r adopts none rows sound book = finds_rows g before rows sound book r adopts none
 
-  -- an opening that failed for another cause
-  pub finds_unrefused : (r : Result (SqlBook S) (OpenFault × S)) (e : OpenFault × S) → IsErrAnd r (λ f. f ≡ e) → is_refusal e.0 ≡ false → FindsBook g before r
-  finds_unrefused (Ok adopted) e is other = absurd is
-  finds_unrefused (Err f) e is other = λ rows sound book. record { found = tt; opened = λ clean. subst (λ (q : OpenFault × S). is_refusal q.0 ≡ false) (sym is) other }
-
 pub stops_found : {S : Type 0} (g : Ghosts S) → StopsAreFound g
 stops_found g before now a b result leaves sound_a sound_b clean may finds = elim (leaves clean _ may) [
   | inl is ↦ inl (finds a sound_a (inl is))

@@ -100,12 +100,3 @@ module _ {S : Type 0} (g : Ghosts S) where
   pub record LeavesWhole (h : Held S) (left : S) : Type 0 where
     pub earlier : IsClean (g.view left) → HasCleanDisk (state g h)
     pub leaves : IsClean (g.view left) → (db : Trees) → g.recovers left db → ((db ≡ (state g h).committed.trees) ⊎ g.recovers h.store db) ⊎ IsNewBookOf h db
-
-  -- a refused opening: the store, opened again, showed no book, and what a stop leaves is whole
-  pub record Refuses (fault : OpenFault) (h : Held S) (left : S) : Type 0 where
-    pub no_book : WasNoBook fault h left
-    pub leaves : LeavesWhole h left
-
--- where no book is reported, some connection, and the store that it left, are so
-abbrev pub IfRefused : {S : Type 0} → Result (SqlBook S) OpenFault → (OpenFault → Held S → S → Type 0) → Type 0
-IfRefused {S} result Is = IfErr result (λ fault. is_refusal fault ≡ true → (h : Held S) × (left : S) × Is fault h left)

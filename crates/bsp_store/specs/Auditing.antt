@@ -1,10 +1,12 @@
 -- What an audit finds in a store.
-use Rattle.std.specs.Prelude.{◌≡◌, ℤ, List, ◌∷◌, length, Result, IfErr, IfOk, true}
+use Rattle.std.specs.Prelude.{◌≡◌, ℤ, List, ◌∷◌, length, Result, IfErr, IfOk, IsErrAnd, true}
 use Rattle.std.specs.FinMap.{entries}
 use Rattle.sqlite_value.specs.Order.{Row, column}
 use Rattle.sqlite_value.specs.declared.value.Value.TheVariants.{Int}
+use Rattle.sqlite_disk.specs.declared.start.Start as starts
 use Rattle.sqlite_trees.specs.View.{IsClean}
 use Rattle.sqlite_trees.specs.declared.store.Store.{Ghosts}
+use Rattle.sqlite.specs.Files.{over_files}
 use Rattle.sqlite.specs.Held.{Held, state}
 use Rattle.sqlite.specs.State.{HasCleanDisk}
 use Rattle.bsp_rows.specs.Published.{Published}
@@ -12,10 +14,14 @@ use Rattle.bsp_rows.specs.Rows.{Rows}
 use Rattle.bsp_rows.specs.Sound.{Sound}
 use Rattle.bsp_store_open.specs.Contents.{KeepsBook}
 use Rattle.bsp_store_open.specs.Schema.{our_schema}
-use Rattle.bsp_store_open.specs.Faults.{is_refusal}
+use Rattle.bsp_store_open.specs.Faults.{fault_for, is_refusal}
 use Rattle.bsp_store_open.specs.Opening.{HasNoBook, IsAskedVersion, LeavesCommitted, Reopens}
 use Rattle.bsp_store_open.specs.declared.fault.OpenFault.{OpenFault}
 use Rattle.bsp_store_open.specs.declared.fault.OpenFault.TheVariants as opening
+use Rattle.bsp_store_migration.specs.Migrating.{IsEarlier}
+use Rattle.bsp_store_migration.specs.Old.{old_schema}
+use Rattle.bsp_store_migration.specs.declared.version.OldVersion.{OldVersion}
+use Rattle.bsp_store.specs.Files.{AnswersFiles}
 use Rattle.bsp_store.specs.declared.audit.AuditFault.{AuditFault}
 use Rattle.bsp_store.specs.declared.audit.AuditFault.TheVariants.{Damaged, OtherVersion, Failed}
 use Rattle.bsp_store.specs.declared.audit.Summary.{Summary}
@@ -63,17 +69,25 @@ module _ {S X : Type 0} (IsOf : Rows → X → Type 0) (g : Ghosts S) where
     pub kept : IsClean (g.view left) → KeepsBook rows (state g h).committed.trees
 
 module _ {S : Type 0} (g : Ghosts S) where
-  -- a connection has no book of this version, for what the fault says: its tables keep none, or they are not a book's, and
-  -- that is what they are asked for their version
+  -- a connection has no book of this version, for what the fault says: its tables keep none, they are those of an earlier
+  -- version, or they are not a book's, and that is what they are asked for their version
   pub record HasNone (fault : OpenFault) (old new : Held S) : Type 0 where
     pub ours : HasNoBook g fault old new
-    pub others : HasCleanDisk (state g new) → (old.schema ≡ our_schema → ⊥) → (later : Held S) × HasCleanDisk (state g later) × IsAskedVersion g fault old later
+    pub older : HasCleanDisk (state g new) → (version : OldVersion) → old.schema ≡ old_schema version → IsEarlier version fault (state g old).now.trees
+    pub others : HasCleanDisk (state g new) → (old.schema ≡ our_schema → ⊥) → ((version : OldVersion) → old.schema ≡ old_schema version → ⊥) → (later : Held S) × HasCleanDisk (state g later) × IsAskedVersion g fault old later
 
   -- opened again, the store showed no book of this version, for what the fault says
   abbrev pub WasRefused : OpenFault → Held S → S → Type 0
   WasRefused fault h left = IsClean (g.view left) → (now : Held S) × Reopens g h now × ((later : Held S) × HasCleanDisk (state g later) × HasNone fault now later)
 
--- what is answered of a connection, whose store is then let go
+-- what is answered of a connection, whose store is then let go; whatever it is, a stop leaves what was committed, or what it
+-- left before
 pub record IsAuditOf {S X : Type 0} (IsOf : Rows → X → Type 0) (g : Ghosts S) (h : Held S) (r : Result X AuditFault) : Type 0 where
-  pub passed : IfOk r (λ x. (left : S) × IsAudited IsOf g h left x × LeavesCommitted g h left)
-  pub refused : IfErr r (λ e. is_refusal (fault_in e) ≡ true → (left : S) × WasRefused g (fault_in e) h left × LeavesCommitted g h left)
+  pub left : S
+  pub leaves : LeavesCommitted g h left
+  pub passed : IfOk r (IsAudited IsOf g h left)
+  pub refused : IfErr r (λ e. is_refusal (fault_in e) ≡ true → WasRefused g (fault_in e) h left)
+
+-- what is answered of the files at a path
+abbrev pub IsAuditAt : {T X : Type 0} → starts.Ghosts T → (Rows → X → Type 0) → Result X AuditFault → Type 0
+IsAuditAt start IsOf r = AnswersFiles start (λ conn. IsAuditOf IsOf over_files conn r) (λ error. IsErrAnd r (λ e. fault_in e ≡ fault_for error))

@@ -1,18 +1,39 @@
 -- The store of the file at a path and of its log, where `start` says what they held.
-use Rattle.std.specs.Prelude.{false}
+use Rattle.std.specs.Prelude.{◌≡◌, ◌⊎◌, false, true, IfSome, None, Option}
 use Rattle.sqlite_disk.specs.Events.{replay}
 use Rattle.sqlite_disk.specs.History.{MayLeave}
 use Rattle.sqlite_disk.specs.Modelled.{start_of}
 use Rattle.sqlite_disk.specs.declared.Disk as disk
+use Rattle.sqlite_disk.specs.declared.Files.{Files}
 use Rattle.sqlite_disk.specs.declared.calls.Calls as calls
 use Rattle.sqlite_disk.specs.declared.modelled.Modelled.{Modelled}
 use Rattle.sqlite_disk.specs.declared.start.Start as starts
+use Rattle.sqlite_std_file.specs.File.{IsFresh}
 use Rattle.sqlite_std_file.specs.declared.host.Host.{Host}
 use Rattle.sqlite_store.specs.declared.store.FileStore.{FileStore}
+use Rattle.sqlite_wal.specs.Files.{image_at}
+use Rattle.sqlite.specs.Files.{FailsToOpenFiles, IsCleanLeft, LeavesFiles, file_state}
+use Rattle.sqlite.specs.Held.{Held}
+use Rattle.sqlite.specs.Start.{FindsIn}
+use Rattle.sqlite.specs.State.{HasCleanDisk}
+use Rattle.sqlite.specs.declared.error.Error.{Error}
+use Rattle.sqlite.specs.declared.error.Error.TheVariants.{SqliteFailure}
+use Rattle.sqlite.specs.declared.error.ErrorCode.TheVariants.{CannotOpen, DatabaseBusy, OutOfMemory}
+use Rattle.sqlite.specs.declared.file.Leftover.{Leftover}
+use Rattle.sqlite_trees.specs.declared.store.Store.{Ghosts}
+use Rattle.bsp_store_save.specs.Kept.{Spares}
+
+-- no file was opened, for one of these errors
+abbrev pub OpensNone : Error → Type 0
+OpensNone error = (error ≡ SqliteFailure CannotOpen) ⊎ ((error ≡ SqliteFailure OutOfMemory) ⊎ (error ≡ SqliteFailure DatabaseBusy))
 
 -- the calls of the system on a file
 abbrev pub calls_of : calls.Ghosts Host
 calls_of = record { history = λ f. f.log.events }
+
+-- whatever was read over a connection, it left to a stop no more than there was
+abbrev pub IsSpared : {S : Type 0} → Ghosts S → Held S → Type 0
+IsSpared {S} g h = (left : Held S) × Spares g h left
 
 module _ {T : Type 0} (start : starts.Ghosts T) where
   abbrev pub OneFile : Type 0
@@ -37,3 +58,17 @@ module _ {T : Type 0} (start : starts.Ghosts T) where
   -- the store of `Connection::open_from`
   abbrev pub StoreFrom : Type 0
   StoreFrom = FileStore OneFile one_file
+
+  -- a connection that was opened over the files shows what they held
+  abbrev pub FindsFiles : Held StoreFrom → Type 0
+  FindsFiles conn = HasCleanDisk (file_state conn) → FindsIn (image_at start) (file_state conn)
+
+  -- the files were not opened, for this error: none was, or what is left of them has what `sqlite` says of such an error
+  pub record FailsToOpen (error : Error) : Type 0 where
+    pub left : Option (Leftover OneFile one_file)
+    pub unopened : left ≡ None → OpensNone error
+    pub cause : IfSome left (λ it. (files : Files OneFile) × IsFresh true files.log × IsFresh false files.db × (IsCleanLeft it → FailsToOpenFiles files it error × LeavesFiles files it))
+
+  -- what is answered of the files: of a connection that shows what they held, or of the error for which they were not opened
+  abbrev pub AnswersFiles : (Held StoreFrom → Type 0) → (Error → Type 0) → Type 0
+  AnswersFiles Opened Unopened = ((conn : Held StoreFrom) × FindsFiles conn × Opened conn) ⊎ ((error : Error) × FailsToOpen error × Unopened error)

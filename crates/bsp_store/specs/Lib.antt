@@ -1,4 +1,5 @@
 pub mod Meanings
+pub mod Openings
 pub mod Adopting
 pub mod Auditing
 pub mod Files

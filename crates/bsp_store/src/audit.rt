@@ -1,24 +1,20 @@
 //! The audit of a book, which changes nothing in its store.
 
 ghost use Rattle.std.specs.Prelude.{◌≡◌, Err, IfErr, IfOk, IfSome, MatchResult, None, true};
-ghost use Rattle.sqlite.specs.Files.{file_state, over_files};
-ghost use Rattle.sqlite.specs.Held.{Held};
-ghost use Rattle.sqlite.specs.Start.{FindsIn};
-ghost use Rattle.sqlite.specs.State.{HasCleanDisk};
-ghost use Rattle.sqlite_wal.specs.Files.{image_at};
 ghost use Rattle.bsp_rows.specs.Rows.{Rows};
 ghost use Rattle.bsp_book.specs.Listed.{Holds as ListHolds};
 ghost use Rattle.bsp_store_save.specs.Kept.{Spares};
 ghost use Rattle.bsp_store_open.specs.Faults.{is_refusal};
 ghost use Rattle.bsp_store_open.specs.Opening.{IsOrdered, LeavesCommitted};
-ghost use Rattle.bsp_store.specs.Files.{StoreFrom};
-ghost use Rattle.bsp_store.specs.Auditing.{HasNone, IsAudited, IsFound, IsPlanOf, IsSummaryOf, ShowsNumber, WasRefused, fault_in};
+ghost use Rattle.bsp_store_open.specs.Schema.{our_schema};
+ghost use Rattle.bsp_store.specs.Auditing.{HasNone, IsAuditAt, IsAuditOf, IsAudited, IsFound, IsPlanOf, IsSummaryOf, ShowsNumber, WasRefused, fault_in};
 
 use crate::missing_log::MissingLog;
 use crate::on_files::{OnFiles, on_files};
 use bsp_book::ListBook;
 use bsp_rows::{Day, Plan};
 use bsp_store_damage::{Damage, find_damage};
+use bsp_store_migration::{old_refusal, old_version};
 use bsp_store_open::{OpenFault, again, is_ours, kept_list, refusal};
 use sqlite::{Alter, Connection, Row, Start};
 use std::alloc::Global;
@@ -123,6 +119,18 @@ fn found_in<X: Finding>(read: Result<ListBook, OpenFault>) -> Result<X, OpenFaul
     }
 }
 
+/// Why tables that are not those of a book of this version are refused.
+fn other_refusal<S: Alter>(conn: &mut Connection<S>) -> OpenFault
+    requires { conn.old.schema ≡ our_schema → ⊥ }
+    ensures refused { is_refusal result ≡ true → HasNone S.Store result conn.old conn.new }
+    ensures spares { Spares S.Store conn.old conn.new }
+{
+    match old_version(conn.schema()) {
+        Some(version) => old_refusal(conn, version),
+        None => refusal(conn),
+    }
+}
+
 /// Reads all rows of a store, tests that they are a sound book's, and answers what is found of them.
 fn found<S: Alter, X: Finding>(alloc: Global, conn: &mut Connection<S>) -> Result<X, OpenFault>
     ensures ok { IfOk result (λ found. IsOrdered S.Store conn.old → IsFound X.is_of S.Store conn.old conn.new found) }
@@ -130,7 +138,7 @@ fn found<S: Alter, X: Finding>(alloc: Global, conn: &mut Connection<S>) -> Resul
     ensures spares { Spares S.Store conn.old conn.new }
 {
     if !is_ours(conn.schema()) {
-        return Err(refusal(conn));
+        return Err(other_refusal(conn));
     }
     let read = kept_list(alloc, conn);
     found_in(read)
@@ -199,8 +207,9 @@ fn found_again<S: Alter + Drop, X: Finding>(
 ///
 /// # Errors
 ///
-/// `OtherVersion`, where `meta` has another version than 3. `Damaged`, where the tables are not those of a book, a row is
-/// no row of a book, or the rows are not sound. `Failed`, where an allocation is refused or the store fails.
+/// `OtherVersion`, where the tables and the number in `meta` are those of version 1 or 2, or the number is none of 1 to 3.
+/// `Damaged`, where the tables are not those of the version that `meta` has, a row is no row of a book, or the rows are not
+/// sound. `Failed`, where an allocation is refused or the store fails.
 pub fn audit_store<S: Alter + Drop>(
     alloc: Global,
     conn: Connection<S>,
@@ -218,8 +227,7 @@ fn audited_alone<S: Alter + Drop, X: Finding>(
     conn: Connection<S>,
     log: &MissingLog,
 ) -> Result<X, AuditFault>
-    ensures ok { IfOk result (λ found. (left : S) × IsAudited X.is_of S.Store conn left found × LeavesCommitted S.Store conn left) }
-    ensures refused { IfErr result (λ e. is_refusal (fault_in e) ≡ true → (left : S) × WasRefused S.Store (fault_in e) conn left × LeavesCommitted S.Store conn left) }
+    ensures { IsAuditOf X.is_of S.Store conn result }
 {
     let (found, store) = found_again(rt.alloc(), conn);
     log.remove(rt);
@@ -260,8 +268,7 @@ impl<X: Finding> OnFiles<Result<X, AuditFault>> for Audit {
 
 /// Audits the book in the file at a path, and answers what is found of its rows.
 fn found_at<T: Start, X: Finding>(rt: &HostRuntime, path: &str, start: T) -> Result<X, AuditFault>
-    ensures ok { IfOk result (λ found. (conn : Held (StoreFrom T.Start)) × (left : StoreFrom T.Start) × (HasCleanDisk (file_state conn) → FindsIn (image_at T.Start) (file_state conn)) × IsAudited X.is_of over_files conn left found × LeavesCommitted over_files conn left) }
-    ensures refused { IfErr result (λ e. is_refusal (fault_in e) ≡ true → (conn : Held (StoreFrom T.Start)) × (left : StoreFrom T.Start) × (HasCleanDisk (file_state conn) → FindsIn (image_at T.Start) (file_state conn)) × WasRefused over_files (fault_in e) conn left × LeavesCommitted over_files conn left) }
+    ensures { IsAuditAt T.Start X.is_of result }
 {
     let log = match MissingLog::of(rt, path) {
         Ok(log) => log,
@@ -275,11 +282,10 @@ fn found_at<T: Start, X: Finding>(rt: &HostRuntime, path: &str, start: T) -> Res
 ///
 /// # Errors
 ///
-/// As those of [`audit_store`], which does the same with a store. A file that is not opened is `Failed`. No clause ties what
-/// the files hold to the path.
+/// As those of [`audit_store`], which does the same with a store: after each of them a stop leaves what it left before. A
+/// file that is not opened is `Failed`. No clause ties what the files hold to the path.
 pub fn audit_at<T: Start>(rt: &HostRuntime, path: &str, start: T) -> Result<Summary, AuditFault>
-    ensures ok { IfOk result (λ summary. (conn : Held (StoreFrom T.Start)) × (left : StoreFrom T.Start) × (HasCleanDisk (file_state conn) → FindsIn (image_at T.Start) (file_state conn)) × IsAudited IsSummaryOf over_files conn left summary × LeavesCommitted over_files conn left) }
-    ensures refused { IfErr result (λ e. is_refusal (fault_in e) ≡ true → (conn : Held (StoreFrom T.Start)) × (left : StoreFrom T.Start) × (HasCleanDisk (file_state conn) → FindsIn (image_at T.Start) (file_state conn)) × WasRefused over_files (fault_in e) conn left × LeavesCommitted over_files conn left) }
+    ensures { IsAuditAt T.Start IsSummaryOf result }
 {
     found_at(rt, path, start)
 }
@@ -290,8 +296,7 @@ pub fn audit_at<T: Start>(rt: &HostRuntime, path: &str, start: T) -> Result<Summ
 ///
 /// As those of [`audit_at`].
 pub fn plan_at<T: Start>(rt: &HostRuntime, path: &str, start: T) -> Result<Plan, AuditFault>
-    ensures ok { IfOk result (λ plan. (conn : Held (StoreFrom T.Start)) × (left : StoreFrom T.Start) × (HasCleanDisk (file_state conn) → FindsIn (image_at T.Start) (file_state conn)) × IsAudited IsPlanOf over_files conn left plan × LeavesCommitted over_files conn left) }
-    ensures refused { IfErr result (λ e. is_refusal (fault_in e) ≡ true → (conn : Held (StoreFrom T.Start)) × (left : StoreFrom T.Start) × (HasCleanDisk (file_state conn) → FindsIn (image_at T.Start) (file_state conn)) × WasRefused over_files (fault_in e) conn left × LeavesCommitted over_files conn left) }
+    ensures { IsAuditAt T.Start IsPlanOf result }
 {
     found_at(rt, path, start)
 }

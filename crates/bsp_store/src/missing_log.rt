@@ -1,7 +1,9 @@
 //! The log that an opening makes beside a file that has none.
 
-ghost use Rattle.std.specs.Prelude.{◌≡◌, IfErr, false};
-ghost use Rattle.bsp_store_open.specs.Faults.{is_refusal};
+ghost use Rattle.std.specs.Prelude.{◌≡◌, IfErr};
+ghost use Rattle.sqlite.specs.declared.error.Error.{Error as StoreError};
+ghost use Rattle.bsp_store_open.specs.Faults.{fault_for};
+ghost use Rattle.bsp_store.specs.Files.{OpensNone};
 
 use bsp_store_open::OpenFault;
 use sqlite::{Error, ErrorCode};
@@ -26,7 +28,7 @@ fn missing(rt: &HostRuntime, path: &str) -> io::Result<Option<String>> {
 
 /// Why a file is not opened whose log cannot be looked for.
 fn fault_of(error: &io::Error) -> OpenFault
-    ensures { is_refusal result ≡ false }
+    ensures { (error : StoreError) × OpensNone error × (result ≡ fault_for error) }
 {
     match error.kind() {
         io::ErrorKind::OutOfMemory => OpenFault::NoRoom,
@@ -41,7 +43,7 @@ impl MissingLog {
     ///
     /// `Failed`, where the file is not there. `NoRoom`, where an allocation is refused.
     pub(crate) fn of(rt: &HostRuntime, path: &str) -> Result<MissingLog, OpenFault>
-        ensures { IfErr result (λ fault. is_refusal fault ≡ false) }
+        ensures { IfErr result (λ fault. (error : StoreError) × OpensNone error × (fault ≡ fault_for error)) }
     {
         match missing(rt, path) {
             Ok(log) => Ok(MissingLog(log)),

@@ -1,14 +1,8 @@
 //! What is done with the files at a path after they were opened.
 
-ghost use Rattle.std.specs.Prelude.{◌≡◌, ◌⊎◌, false};
-ghost use Rattle.sqlite.specs.Held.{Held};
-ghost use Rattle.sqlite.specs.Start.{FindsIn};
-ghost use Rattle.sqlite.specs.State.{HasCleanDisk};
-ghost use Rattle.sqlite.specs.Files.{file_state, over_files};
-ghost use Rattle.sqlite_wal.specs.Files.{image_at};
-ghost use Rattle.bsp_store_open.specs.Faults.{is_refusal};
-ghost use Rattle.bsp_store_open.specs.declared.fault.OpenFault.{OpenFault as Fault};
-ghost use Rattle.bsp_store.specs.Files.{StoreFrom};
+ghost use Rattle.sqlite.specs.Files.{over_files};
+ghost use Rattle.bsp_store_open.specs.Faults.{fault_for};
+ghost use Rattle.bsp_store.specs.Files.{AnswersFiles};
 
 use crate::opening::files_at;
 use bsp_store_open::OpenFault;
@@ -42,7 +36,7 @@ pub(crate) fn on_files<F, T: Start, J: OnFiles<F>>(
     start: T,
     job: J,
 ) -> F
-    ensures { ((conn : Held (StoreFrom T.Start)) × (HasCleanDisk (file_state conn) → FindsIn (image_at T.Start) (file_state conn)) × J.is_found _ over_files conn result) ⊎ ((fault : Fault) × (is_refusal fault ≡ false) × J.is_failed fault result) }
+    ensures { AnswersFiles T.Start (λ conn. J.is_found _ over_files conn result) (λ error. J.is_failed (fault_for error) result) }
 {
     let opened = files_at(rt, path, start);
     job.found(rt, opened)

@@ -1,23 +1,23 @@
 //! A store opened as a book.
 
-ghost use Rattle.std.specs.Prelude.{◌≡◌, false, true, Err, IfErr, IfOk, MatchResult, None, Ok};
+ghost use Rattle.std.specs.Prelude.{◌≡◌, ◌⊎◌, false, true, Err, IfErr, IfOk, MatchResult, None, Ok};
 ghost use Rattle.sqlite_trees.specs.View.{IsClean};
 ghost use Rattle.sqlite.specs.Held.{Held, state};
 ghost use Rattle.sqlite.specs.Steps.{over_memory};
-ghost use Rattle.sqlite.specs.Start.{FindsIn};
 ghost use Rattle.sqlite.specs.State.{HasCleanDisk};
-ghost use Rattle.sqlite_wal.specs.Files.{image_at};
-ghost use Rattle.sqlite.specs.Files.{file_state, over_files};
+ghost use Rattle.sqlite.specs.Files.{over_files};
+ghost use Rattle.sqlite.specs.declared.error.Error.{Error as StoreError};
 ghost use Rattle.bsp_rows.specs.Rows.{no_rows};
 ghost use Rattle.bsp_store_open.specs.Schema.{no_schema};
-ghost use Rattle.bsp_store_open.specs.Faults.{is_refusal};
+ghost use Rattle.bsp_store_open.specs.Faults.{fault_for, is_refusal};
 ghost use Rattle.bsp_store_open.specs.Opening.{IsOrdered, LeavesCommitted, LeavesEmptyBook, Reopens, SparesStore};
 ghost use Rattle.bsp_store_migration.specs.Migrating.{AreAllInOrder, IsOld, ShowsNoOldBook};
 ghost use Rattle.bsp_store_migration.specs.Old.{old_schema};
 ghost use Rattle.bsp_store_migration.specs.declared.version.OldVersion.{OldVersion};
 ghost use Rattle.bsp_store.specs.Meanings.{Holds};
-ghost use Rattle.bsp_store.specs.Adopting.{Adopts, IfRefused, IsFoundIn, IsMigratedIn, LeavesMigrated, LeavesWhole, Refuses, ShowsNone, WasNoBook};
-ghost use Rattle.bsp_store.specs.Stops.{FindsBook};
+ghost use Rattle.bsp_store.specs.Adopting.{Adopts, IsFoundIn, IsMigratedIn, LeavesMigrated, LeavesWhole, ShowsNone, WasNoBook};
+ghost use Rattle.bsp_store.specs.Files.{AnswersFiles, FailsToOpen, FindsFiles, IsSpared};
+ghost use Rattle.bsp_store.specs.Openings.{IsOpening, IsOpeningAt, IsOpeningOf};
 
 use crate::book::SqlBook;
 use crate::logged::Logged;
@@ -171,9 +171,7 @@ fn settled_book<S: Alter + Logged + Drop>(
     alloc: Global,
     conn: Connection<S>,
 ) -> Result<SqlBook<S>, (OpenFault, S)>
-    ensures ok { IfOk result (Adopts S.Store conn) }
-    ensures refused { IfErr result (λ e. is_refusal e.0 ≡ true → WasNoBook S.Store e.0 conn e.1) }
-    ensures left { IfErr result (λ e. LeavesWhole S.Store conn e.1) }
+    ensures { IsOpening S.Store conn result }
 {
     let conn = settled(alloc, conn)?;
     opened(alloc, conn)
@@ -184,8 +182,7 @@ fn opened_book<S: Alter + Logged + Drop, L: Drop>(
     alloc: Global,
     opened: Result<Connection<S>, (OpenFault, L)>,
 ) -> Result<SqlBook<S>, OpenFault>
-    ensures ok { MatchResult opened (λ conn. IfOk result (Adopts S.Store conn)) (λ e. result ≡ Err e.0) }
-    ensures refused { IfOk opened (λ conn. IfErr result (λ fault. is_refusal fault ≡ true → (left : S) × Refuses S.Store fault conn left)) }
+    ensures { MatchResult opened (λ conn. IsOpeningOf S.Store conn result) (λ e. result ≡ Err e.0) }
 {
     match opened {
         Ok(conn) => without_store(settled_book(alloc, conn)),
@@ -199,8 +196,8 @@ pub(crate) fn files_at<T: Start>(
     path: &str,
     start: T,
 ) -> Result<Connection<FileStore<FileFrom<T>>>, (OpenFault, Option<Leftover<FileFrom<T>>>)>
-    ensures found { IfOk result (λ conn. HasCleanDisk (file_state conn) → FindsIn (image_at T.Start) (file_state conn)) }
-    ensures refused { IfErr result (λ e. is_refusal e.0 ≡ false) }
+    ensures found { IfOk result (FindsFiles T.Start) }
+    ensures cause { IfErr result (λ e. (error : StoreError) × FailsToOpen T.Start error × (e.0 ≡ fault_for error)) }
 {
     match Connection::open_from(rt, path, false, start) {
         Ok(conn) => Ok(conn),
@@ -227,10 +224,7 @@ impl<S: Alter + Drop> SqlBook<S> {
     /// store without any table. `NoRoom`, where an allocation is
     /// refused. `Failed` with the error of the store, where it fails for another cause.
     pub fn adopt(alloc: Global, conn: Connection<S>) -> Result<SqlBook<S>, (OpenFault, S)>
-        ensures ok { IfOk result (Adopts S.Store conn) }
-        ensures refused { IfErr result (λ e. is_refusal e.0 ≡ true → WasNoBook S.Store e.0 conn e.1) }
-        ensures left { IfErr result (λ e. LeavesWhole S.Store conn e.1) }
-        ensures stops { FindsBook S.Store conn result }
+        ensures { IsOpening S.Store conn result }
     {
         let conn = again_ordered(alloc, conn)?;
         opened(alloc, conn)
@@ -258,15 +252,15 @@ impl<T: Start> SqlBook<FileStore<FileFrom<T>>> {
     ///
     /// # Errors
     ///
-    /// As those of [`SqlBook::adopt`]. A file that is not opened is `Failed`, memory apart. No clause ties what the files
-    /// hold to the path.
+    /// As those of [`SqlBook::adopt`]: after each of them a stop leaves what the files had, or the whole of the book that was
+    /// to be made of it, and the next opening finds it. Files that are not opened are `Failed`, memory apart. No clause ties
+    /// what the files hold to the path.
     pub fn open_path(
         rt: &HostRuntime,
         path: &str,
         start: T,
     ) -> Result<SqlBook<FileStore<FileFrom<T>>>, OpenFault>
-        ensures ok { IfOk result (λ book. (conn : _) × (HasCleanDisk (file_state conn) → FindsIn (image_at T.Start) (file_state conn)) × Adopts over_files conn book) }
-        ensures refused { IfRefused result (λ fault conn left. (HasCleanDisk (file_state conn) → FindsIn (image_at T.Start) (file_state conn)) × Refuses over_files fault conn left) }
+        ensures { IsOpeningAt T.Start result }
     {
         let opened = files_at(rt, path, start);
         opened_book(rt.alloc(), opened)
@@ -278,9 +272,12 @@ impl<T: Start> SqlBook<FileStore<FileFrom<T>>> {
 struct Search;
 
 impl OnFiles<Result<Damage, OpenFault>> for Search {
-    ghost is_found = { λ S g conn found. Unit {0} };
+    ghost use Rattle.std.specs.Prelude.{◌≡◌, Err};
+    ghost use Rattle.bsp_store.specs.Files.{IsSpared};
 
-    ghost is_failed = { λ fault found. Unit {0} };
+    ghost is_found = { λ S g conn found. IsSpared g conn };
+
+    ghost is_failed = { λ fault found. found ≡ Err fault };
 
     fn found<S: Alter + Drop, L: Drop>(
         self,
@@ -295,11 +292,13 @@ impl OnFiles<Result<Damage, OpenFault>> for Search {
 }
 
 /// What damages the book in the file at a path, where its opening is refused as damaged. It opens the file once more, and
-/// writes nothing.
+/// leaves to a stop no more than the opening found.
 ///
 /// # Errors
 ///
 /// Those of an opening.
-pub fn damage_at<T: Start>(rt: &HostRuntime, path: &str, start: T) -> Result<Damage, OpenFault> {
+pub fn damage_at<T: Start>(rt: &HostRuntime, path: &str, start: T) -> Result<Damage, OpenFault>
+    ensures { AnswersFiles T.Start (IsSpared over_files) (λ error. result ≡ Err (fault_for error)) }
+{
     on_files(rt, path, start, Search)
 }

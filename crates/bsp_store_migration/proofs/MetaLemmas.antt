@@ -33,7 +33,8 @@ use Rattle.bsp_store_migration.specs.Old.{old_number, old_schema}
 use Rattle.bsp_store_migration.specs.declared.version.OldVersion.{OldVersion}
 use Rattle.bsp_store_migration.specs.declared.version.OldVersion.TheVariants.{First, Second}
 use Rattle.bsp_store_open.specs.declared.fault.OpenFault.{OpenFault}
-use Rattle.bsp_store_migration.specs.Migrating.{AreMetaOf, AreOldMeta, HasNoOldBook, HasNumber, IsNumbered, ReportsOld}
+use Rattle.bsp_store_migration.specs.Migrating.{AreMetaOf, AreOldMeta, HasNoOldBook, HasNumber, IsNumbered}
+use Rattle.bsp_store_open.specs.Opening.{Reports}
 
 -- ---- the text
 
@@ -98,7 +99,7 @@ module _ {S : Type 0} (g : Ghosts S) (old new : Held S) (version : OldVersion) (
   pub numbered : HasNumber (old_number version) rows → IsNumbered g version old new
   numbered has = record { read = meta.read; was_open = meta.was_open; number = λ clean. old_number_of version (state g old).now.trees rows (meta.all clean) has }
 
-  pub not_numbered : (fault : OpenFault) → ¬ HasNumber (old_number version) rows → ReportsOld version fault rows → HasNoOldBook g version fault old new
+  pub not_numbered : (fault : OpenFault) → ¬ HasNumber (old_number version) rows → Reports fault rows → HasNoOldBook g version fault old new
   not_numbered fault none reports clean = record {
     none = λ book c sound content formed of keeps. none (has_number version (state g old).now.trees book c content keeps rows (meta.all clean));
     meta = rows;

@@ -1,5 +1,6 @@
 -- A whole migration, from its steps.
-use Rattle.std.proofs.Common.{◌≡◌, ◌∙◌, inl, inr, ◌∷◌, IsTrue, None, sym, ap, subst}
+use Rattle.std.proofs.Common.{◌≡◌, ◌∙◌, inl, inr, ◌∷◌, IsTrue, None, pos, true, refl, sym, ap, subst}
+use Rattle.std.proofs.lemmas.Bool.{true≢false}
 use Rattle.sqlite_value.specs.Order.{Row, column}
 use Rattle.sqlite_value.specs.declared.value.Value.TheVariants.{Int}
 use Rattle.sqlite_trees.specs.Tree.{Trees}
@@ -21,23 +22,30 @@ use Rattle.bsp_store_load.proofs.Held.{trees_of}
 use Rattle.bsp_store_migration.specs.Filled.{AreInOldOrder, HasOldNumber, IsBegun, KeepsOldRows}
 use Rattle.bsp_store_migration.specs.Old.{old_number}
 use Rattle.bsp_store_migration.specs.declared.version.OldVersion.{OldVersion}
-use Rattle.bsp_store_open.specs.Opening.{KeepsAtRest}
+use Rattle.bsp_store_migration.specs.declared.version.OldVersion.TheVariants.{First, Second}
+use Rattle.bsp_store_open.specs.Opening.{IsOfOther, KeepsAtRest, Reports, is_known}
 use Rattle.bsp_store_open.specs.declared.fault.OpenFault.{OpenFault}
 use Rattle.bsp_store_open.specs.declared.fault.OpenFault.TheVariants.{Damaged}
-use Rattle.bsp_store_migration.specs.Migrating.{AreOrdered, HasBegun, HasEnded, HasNoOldBook, HasOtherNumber, IsFilledWith, IsMigrated, IsNumbered, IsOld, KeepsNoOld, KeepsOldBook, KeepsOnlyOld, LeavesMigration, MayEnd, ReportsOld}
+use Rattle.bsp_store_migration.specs.Migrating.{AreOrdered, HasBegun, HasEnded, HasNoOldBook, IsFilledWith, IsMigrated, IsNumbered, IsOld, KeepsNoOld, KeepsOldBook, KeepsOnlyOld, LeavesMigration, MayEnd}
 
 module _ {S : Type 0} (g : Ghosts S) where
   -- what leaves to a stop no more than there was
   pub spared : (version : OldVersion) (old new : Held S) → Spares g old new → LeavesMigration g version old new
   spared version old new spares = record { earlier = spares.earlier; leaves = λ clean db may. inl (spares.leaves clean db may) }
 
--- a number is not another
-not_other : (version : OldVersion) (trees : Trees) (number : HasOldNumber version trees) → HasOtherNumber (old_number version) (number.row ∷ number.more) → ⊥
+-- the number of an earlier version is known
+old_known : (version : OldVersion) → is_known (pos (old_number version)) ≡ true
+old_known First = refl
+old_known Second = refl
+
+-- so it is not another one
+not_other : (version : OldVersion) (trees : Trees) (number : HasOldNumber version trees) → IsOfOther (number.row ∷ number.more) → ⊥
 not_other version trees number other =
     let rows_are : number.row ∷ number.more ≡ other.row ∷ other.more = other.first in
     let same : number.row ≡ other.row = cc rows_are in
     let value : Int other.found ≡ count (old_number version) = sym other.has ∙ ap (λ (r : Row). column r 1) (sym same) ∙ number.number in
-    other.other (cc value)
+    let found : other.found ≡ pos (old_number version) = cc value in
+    true≢false (sym (ap is_known found ∙ old_known version) ∙ other.other)
 
 module _ {S : Type 0} (g : Ghosts S) (version : OldVersion) (zero one two : Held S) (old : IsOld g version zero) (numbered : IsNumbered g version zero one) (asked : Spares g zero one) (begun : HasBegun g one two) (began : Spares g one two) where
   same : HasCleanDisk (state g two) → (state g two).now ≡ (state g zero).now
@@ -73,7 +81,7 @@ module _ {S : Type 0} (g : Ghosts S) (version : OldVersion) (zero one two : Held
         none = subst (λ (d : Database). KeepsNoOld version d.trees) (same before) (none.1 clean);
         meta = number.row ∷ number.more;
         all = number.shown;
-        reports = subst (λ f. ReportsOld version f (number.row ∷ number.more)) (sym none.0) (not_other version (state g zero).now.trees number);
+        reports = subst (λ f. Reports f (number.row ∷ number.more)) (sym none.0) (not_other version (state g zero).now.trees number);
       }
 
   module _ (three four : Held S) (c : Content) (filled : IsFilledWith g version two three c) (filling : Spares g two three) (rows : Rows) (content : IsContentOf rows c) (sound : Sound rows) (formed : AreFormed rows) where

@@ -1,8 +1,7 @@
 -- What an opening finds of a book of an earlier version, and what it makes of it.
-use Rattle.std.specs.Prelude.{◌≡◌, ◌⊎◌, ⊤, ℕ, ℤ, pos, false, true, List, ◌∷◌, map, IsPermutation, IsTrue, None}
+use Rattle.std.specs.Prelude.{◌≡◌, ◌⊎◌, ℕ, false, true, List, ◌∷◌, map, IsPermutation, IsTrue, None}
 use Rattle.std.specs.List.{AllByRecursion}
 use Rattle.sqlite_value.specs.Order.{Row, column}
-use Rattle.sqlite_value.specs.declared.value.Value.TheVariants.{Int}
 use Rattle.sqlite_trees.specs.Tree.{Trees}
 use Rattle.sqlite_trees.specs.declared.store.Store.{Ghosts}
 use Rattle.sqlite.specs.Effect.{Database, IsDatabase}
@@ -15,7 +14,7 @@ use Rattle.bsp_book.specs.declared.list.ListBook.{ListBook}
 use Rattle.bsp_store_base.specs.Order.{IsInOrder}
 use Rattle.bsp_store_load.specs.Schema.{our_schema}
 use Rattle.bsp_store_load.specs.Kept.{KeepsRows, Reads, columns_of}
-use Rattle.bsp_store_load.specs.Columns.{count, version as our_version}
+use Rattle.bsp_store_load.specs.Columns.{count}
 use Rattle.bsp_store_load.specs.Content.{Content, form, meta_part, width_of}
 use Rattle.bsp_store_load.specs.Contents.{IsContentOf}
 use Rattle.bsp_store_load.specs.Formed.{AreFormed, IsBook}
@@ -23,9 +22,9 @@ use Rattle.bsp_store_load.specs.Forms.{IsFormed}
 use Rattle.bsp_store_migration.specs.Filled.{HasOldNumber, IsOfOld, KeepsOldRows}
 use Rattle.bsp_store_migration.specs.Old.{old_number, old_schema}
 use Rattle.bsp_store_migration.specs.declared.version.OldVersion.{OldVersion}
-use Rattle.bsp_store_open.specs.Opening.{KeepsAtRest}
+use Rattle.bsp_store_open.specs.Opening.{KeepsAtRest, Reports}
 use Rattle.bsp_store_open.specs.declared.fault.OpenFault.{OpenFault}
-use Rattle.bsp_store_open.specs.declared.fault.OpenFault.TheVariants.{NoRoom, Damaged, Failed, OtherVersion}
+use Rattle.bsp_store_open.specs.declared.fault.OpenFault.TheVariants.{OtherVersion}
 
 -- ---- the number of an earlier version
 
@@ -35,23 +34,6 @@ pub record HasNumber (number : ℕ) (rows : List Row) : Type 0 where
   pub more : List Row
   pub first : rows ≡ row ∷ more
   pub version : column row 1 ≡ count number
-
--- the first row of `meta` has another integer as its version, and not that of this crate
-pub record HasOtherNumber (number : ℕ) (rows : List Row) : Type 0 where
-  pub row : Row
-  pub more : List Row
-  pub first : rows ≡ row ∷ more
-  pub found : ℤ
-  pub has : column row 1 ≡ Int found
-  pub other : found ≡ pos number → ⊥
-  pub later : found ≡ pos our_version → ⊥
-
--- what a fault says of the rows of `meta`, where the tables are those of an earlier version
-abbrev pub ReportsOld : OldVersion → OpenFault → List Row → Type 0
-ReportsOld version NoRoom rows = ⊤
-ReportsOld version Damaged rows = HasOtherNumber (old_number version) rows → ⊥
-ReportsOld version (Failed error) rows = ⊤
-ReportsOld version OtherVersion rows = HasOtherNumber (old_number version) rows
 
 -- all rows of `meta`, in some order
 abbrev pub AreMetaOf : Trees → List Row → Type 0
@@ -68,7 +50,12 @@ pub record ShowsNoOldBook (version : OldVersion) (fault : OpenFault) (trees : Tr
   pub none : KeepsNoOld version trees
   pub meta : List Row
   pub all : AreMetaOf trees meta
-  pub reports : ReportsOld version fault meta
+  pub reports : Reports fault meta
+
+-- the tables of an earlier version have its number, and the fault says that it is another one than this; or they keep no
+-- book of it, for what the fault says
+abbrev pub IsEarlier : OldVersion → OpenFault → Trees → Type 0
+IsEarlier version fault trees = ((fault ≡ OtherVersion) × HasOldNumber version trees) ⊎ ShowsNoOldBook version fault trees
 
 -- ---- a book that is migrated
 

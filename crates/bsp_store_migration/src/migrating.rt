@@ -19,9 +19,9 @@ use std::alloc::Global;
 ///
 /// # Errors
 ///
-/// `OtherVersion`, where `meta` has another number than that of the version. `Damaged`, where it has none or that of this
-/// version, a row is no row of a book, or the rows are not sound. `NoRoom`, where an allocation is refused. `Failed`, where the store fails
-/// for another cause, or a transaction is open on the connection.
+/// `OtherVersion`, where `meta` has a number that is not known. `Damaged`, where it has none or that of another known
+/// version, a row is no row of a book, or the rows are not sound. `NoRoom`, where an allocation is refused. `Failed`,
+/// where the store fails for another cause, or a transaction is open on the connection.
 ///
 /// After an error a transaction may be open, which is to be given up.
 pub fn migrated_list<S: Alter>(

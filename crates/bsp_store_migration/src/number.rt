@@ -1,23 +1,26 @@
 //! The number that the table `meta` of an earlier version has.
 
 ghost use Rattle.std.specs.Prelude.{◌≡◌, false, true, IfErr, IfOk, OnOk};
+ghost use Rattle.sqlite.specs.Held.{state};
+ghost use Rattle.sqlite.specs.State.{HasCleanDisk};
 ghost use Rattle.bsp_store_load.specs.Kept.{Spares};
 ghost use Rattle.bsp_store_migration.specs.Old.{old_number, old_schema};
 ghost use Rattle.bsp_store_migration.specs.declared.version.OldVersion.{OldVersion};
 ghost use Rattle.bsp_store_open.specs.Faults.{is_refusal};
-ghost use Rattle.bsp_store_migration.specs.Migrating.{AreOldMeta, HasNoOldBook, HasNumber, IsNumbered, ReportsOld};
+ghost use Rattle.bsp_store_open.specs.Opening.{Reports};
+ghost use Rattle.bsp_store_migration.specs.Migrating.{AreOldMeta, HasNoOldBook, HasNumber, IsEarlier, IsNumbered};
 
 use crate::version::OldVersion;
-use bsp_store_load::{VERSION, read_version};
-use bsp_store_open::OpenFault;
+use bsp_store_load::read_version;
+use bsp_store_open::{OpenFault, is_known};
 use sqlite::{Alter, Connection, Row};
 
-/// Refuses rows of `meta` that have another number than that of a version, or none. The number of this version is
-/// damage: a table is missing.
+/// Refuses rows of `meta` that have another number than that of a version, or none. A known one is damage: the tables are
+/// not its own.
 fn expect_number(rows: &[Row], version: OldVersion) -> Result<(), OpenFault>
     ensures ok { OnOk result (HasNumber (old_number version) rows.now) }
     ensures refused { IfErr result (λ fault. ¬ HasNumber (old_number version) rows.now) }
-    ensures reported { IfErr result (λ fault. ReportsOld version fault rows.now) }
+    ensures reported { IfErr result (λ fault. Reports fault rows.now) }
     ensures refuses { IfErr result (λ fault. is_refusal fault ≡ true) }
 {
     let Some(row) = rows.first() else {
@@ -29,7 +32,7 @@ fn expect_number(rows: &[Row], version: OldVersion) -> Result<(), OpenFault>
     if number == version.number() {
         return Ok(());
     }
-    if number == VERSION {
+    if is_known(number) {
         return Err(OpenFault::Damaged);
     }
     Err(OpenFault::OtherVersion)
@@ -48,7 +51,7 @@ fn old_meta<S: Alter>(conn: &mut Connection<S>) -> Result<Vec<Row>, OpenFault>
 ///
 /// # Errors
 ///
-/// `OtherVersion` for another number, `Damaged` for none or that of this version. Those of the store.
+/// `OtherVersion` for a number that is not known, `Damaged` for none or that of another known version. Those of the store.
 pub(crate) fn expect_numbered<S: Alter>(
     conn: &mut Connection<S>,
     version: OldVersion,
@@ -60,4 +63,17 @@ pub(crate) fn expect_numbered<S: Alter>(
 {
     let rows = old_meta(conn)?;
     expect_number(&rows, version)
+}
+
+/// Why tables of an earlier version are no book of this one: they are of another version, or damaged, or the store fails.
+/// It reads the number, and writes nothing.
+pub fn old_refusal<S: Alter>(conn: &mut Connection<S>, version: OldVersion) -> OpenFault
+    requires { conn.old.schema ≡ old_schema version }
+    ensures earlier { is_refusal result ≡ true → HasCleanDisk (state S.Store conn.new) → IsEarlier version result (state S.Store conn.old).now.trees }
+    ensures spares { Spares S.Store conn.old conn.new }
+{
+    match expect_numbered(conn, version) {
+        Ok(()) => OpenFault::OtherVersion,
+        Err(fault) => fault,
+    }
 }

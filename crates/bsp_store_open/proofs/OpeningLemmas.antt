@@ -1,6 +1,6 @@
 -- From the rows that an opening read to what the tables keep.
 use Rattle.std.proofs.Common.{◌≡◌, ◌⊎◌, ℕ, List, [], ◌∷◌, length, map, None, false, Result, Ok, Err, IfOk, OnOk, IsTrue, IsPermutation, inl, inr, refl, sym, ap, subst, ◌∙◌, arith}
-use Rattle.std.specs.Prelude.{IfErr, IsErr, IsErrAnd, IsOkAnd, MatchResult, is_ok, true}
+use Rattle.std.specs.Prelude.{pos, IfErr, IsErr, IsErrAnd, IsOkAnd, MatchResult, is_ok, true}
 use Rattle.std.proofs.lemmas.Bool.{false≢true, true≢false}
 use Rattle.std.specs.List.{AllByRecursion}
 use Rattle.std.proofs.lemmas.List.Sorted.{IsPermutation-sym}
@@ -34,7 +34,7 @@ use Rattle.bsp_store_open.specs.Faults.{IsFaultOf, is_refusal}
 use Rattle.bsp_store_open.specs.declared.fault.OpenFault.{OpenFault}
 use Rattle.bsp_store_open.specs.declared.fault.OpenFault.TheVariants.{Damaged, NoRoom}
 use Rattle.bsp_store_open.specs.Loaded.{IsAllLoaded}
-use Rattle.bsp_store_open.specs.Opening.{Finds, HasNoBook, IsAtRest, IsNoBook, IsOfOther, IsOfVersion, IsOrdered, IsRead, KeepsAtRest, LeavesCommitted, Misses, Reopens, Reports, SparesStore}
+use Rattle.bsp_store_open.specs.Opening.{Finds, HasNoBook, IsAtRest, IsNoBook, IsOfOther, IsOfVersion, IsOrdered, IsRead, KeepsAtRest, LeavesCommitted, Misses, Reopens, Reports, SparesStore, is_known}
 use Rattle.bsp_store_load.proofs.FormedContent.{formed_content}
 use Rattle.bsp_store_load.proofs.Held.{trees_of}
 use Rattle.bsp_store_load.proofs.TallyLemmas.{content_is}
@@ -186,7 +186,8 @@ not_other rows is other =
     let rows_are : is.row ∷ is.more ≡ other.row ∷ other.more = sym is.first ∙ other.first in
     let same : is.row ≡ other.row = cc rows_are in
     let value : Int other.found ≡ count version = sym other.has ∙ ap (λ (r : Row). column r 1) (sym same) ∙ is.version in
-    other.other (cc value)
+    let found : other.found ≡ pos version = cc value in
+    true≢false (ap is_known (sym found) ∙ other.other)
 
 -- ---- the tables keep the rows
 

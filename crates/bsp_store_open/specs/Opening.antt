@@ -1,5 +1,5 @@
 -- What an opening finds in a store, and what it leaves.
-use Rattle.std.specs.Prelude.{◌≡◌, ◌⊎◌, ⊤, ℕ, ℤ, pos, false, true, IsTrue, List, [], ◌∷◌, codes, map, IfErr, IfOk, IsPermutation, MatchResult, None, Result, Vec}
+use Rattle.std.specs.Prelude.{◌≡◌, ◌⊎◌, ◌&&◌, ⊤, Bool, ℕ, ℤ, pos, negsuc, nat_le, false, true, IsTrue, List, [], ◌∷◌, codes, map, IfErr, IfOk, IsPermutation, MatchResult, None, Result, Vec}
 use Rattle.std.specs.Global.{Global}
 use Rattle.sqlite_value.specs.Order.{Row, column}
 use Rattle.sqlite_value.specs.declared.value.Value.TheVariants.{Int}
@@ -47,14 +47,19 @@ pub record IsOfVersion (rows : List Row) : Type 0 where
 
 -- ---- why a store is refused
 
--- the first row of `meta` has another version than that of this crate
+-- a version from the first to that of this crate, so that its tables are known
+abbrev pub is_known : ℤ → Bool
+is_known (pos number) = nat_le 1 number && nat_le number version
+is_known (negsuc number) = false
+
+-- the first row of `meta` has a version that is not known
 pub record IsOfOther (rows : List Row) : Type 0 where
   pub row : Row
   pub more : List Row
   pub first : rows ≡ row ∷ more
   pub found : ℤ
   pub has : column row 1 ≡ Int found
-  pub other : found ≡ pos version → ⊥
+  pub other : is_known found ≡ false
 
 -- the text that asks tables for their version
 abbrev pub version_text : List ℕ

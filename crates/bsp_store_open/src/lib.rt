@@ -20,5 +20,5 @@ pub use bsp_store_load::{
 };
 pub use fault::OpenFault;
 pub use opening::{again, empty_list, expect_sound, kept_list};
-pub use reading::{plan_rows, refusal, tallies, tally_taxes};
+pub use reading::{is_known, plan_rows, refusal, tallies, tally_taxes};
 pub use tables::{kept_tables, load_rows};

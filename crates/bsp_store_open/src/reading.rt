@@ -7,7 +7,7 @@ ghost use Rattle.bsp_store_load.specs.Kept.{Spares};
 ghost use Rattle.bsp_store_load.specs.Content.{airline_part, commission_tax_part, meta_part, period_part, rate_part, tally_part, tally_tax_part, terms_part};
 ghost use Rattle.bsp_store_load.specs.Shows.{AreAllOf};
 ghost use Rattle.bsp_store_open.specs.Faults.{is_refusal, refusal_for};
-ghost use Rattle.bsp_store_open.specs.Opening.{ArePlanRows, Finds, HasNoBook, IsAskedVersion, IsOfVersion, IsRefusalOf, Reports};
+ghost use Rattle.bsp_store_open.specs.Opening.{ArePlanRows, Finds, HasNoBook, IsAskedVersion, IsOfVersion, IsRefusalOf, Reports, is_known};
 
 use crate::fault::{OpenFault, fault_of};
 use bsp_store_base::is_ours;
@@ -30,7 +30,14 @@ pub(crate) fn expect_tables<S: Alter>(conn: &Connection<S>) -> Result<(), OpenFa
     }
 }
 
-/// Refuses rows of `meta` that have another version, or none.
+/// Whether a version is one from the first to that of this program, so that its tables are known.
+pub fn is_known(version: i64) -> bool
+    ensures { result ≡ is_known version }
+{
+    1 <= version && version <= VERSION
+}
+
+/// Refuses rows of `meta` that have another version, or none. A known one is damage: the tables are not its own.
 fn expect_version(rows: &[Row]) -> Result<(), OpenFault>
     ensures ok { OnOk result (IsOfVersion rows.now) }
     ensures refused { IfErr result (λ fault. ¬ IsOfVersion rows.now) }
@@ -42,8 +49,8 @@ fn expect_version(rows: &[Row]) -> Result<(), OpenFault>
     };
     match read_version(row) {
         Some(VERSION) => Ok(()),
-        Some(_) => Err(OpenFault::OtherVersion),
-        None => Err(OpenFault::Damaged),
+        Some(version) if !is_known(version) => Err(OpenFault::OtherVersion),
+        _ => Err(OpenFault::Damaged),
     }
 }
 

@@ -4,7 +4,8 @@ use Rattle.sqlite_value.specs.Order.{Row}
 use Rattle.bsp_store_migration.specs.Old.{old_number}
 use Rattle.bsp_store_open.specs.Faults.{is_refusal}
 use Rattle.bsp_store_open.proofs.OpeningLemmas.{on_ok, passed_on}
-use Rattle.bsp_store_migration.specs.Migrating.{HasNoOldBook, HasNumber, ReportsOld}
+use Rattle.bsp_store_open.specs.Opening.{Reports}
+use Rattle.bsp_store_migration.specs.Migrating.{HasNoOldBook, HasNumber}
 use Rattle.bsp_store_migration.proofs.MetaLemmas.{both_err, not_numbered, numbered}
 use Rattle.bsp_store_migration.proofs.number.expect_numbered.Goals as goal
 
@@ -27,7 +28,7 @@ returns-clause-refused g c =
     both_err _ _ _ c.expect_number.result c.expect_number.ensures.refused c.expect_number.ensures.reported
     (λ fault none reports refused.
     not_numbered g.S.Store c.args.conn.now c.old_meta.new.conn c.args.version c.in_ok-rows.rows.items meta fault
-    (subst (λ (rows : List Row). ¬ HasNumber (old_number c.args.version) rows) c.deref.ensures.value none) (subst (ReportsOld c.args.version fault) c.deref.ensures.value reports))
+    (subst (λ (rows : List Row). ¬ HasNumber (old_number c.args.version) rows) c.deref.ensures.value none) (subst (Reports fault) c.deref.ensures.value reports))
 
 pub returns-clause-spares : goal.returns-clause-spares
 returns-clause-spares g c = c.in_ok-rows.ensures.spares c.args.version c.requires

@@ -1,16 +1,10 @@
-use Rattle.sqlite.specs.Files.{file_state, over_files}
-use Rattle.sqlite.specs.Held.{Held}
-use Rattle.sqlite.specs.Start.{FindsIn}
-use Rattle.sqlite.specs.State.{HasCleanDisk}
-use Rattle.sqlite_wal.specs.Files.{image_at}
-use Rattle.bsp_store.specs.Files.{StoreFrom}
-use Rattle.bsp_store.proofs.AdoptingLemmas.{opened_err, opened_ok}
+use Rattle.sqlite.specs.Files.{over_files}
+use Rattle.std.proofs.Common.{◌≡◌, Err}
+use Rattle.bsp_store_open.specs.Faults.{fault_for}
+use Rattle.bsp_store.specs.Openings.{IsOpeningOf}
+use Rattle.bsp_store.proofs.FilesLemmas.{answers}
 use Rattle.bsp_store.proofs.opening.SqlBook+FileStore+FileFrom+T.open_path.Goals as goal
 
-pub returns-clause-ok : goal.returns-clause-ok
-returns-clause-ok g c =
-    opened_ok over_files (λ (conn : Held (StoreFrom g.T.Start)). HasCleanDisk (file_state conn) → FindsIn (image_at g.T.Start) (file_state conn)) c.files_at-opened.result c.opened_book.result c.files_at-opened.ensures.found c.opened_book.ensures.ok
-
-pub returns-clause-refused : goal.returns-clause-refused
-returns-clause-refused g c =
-    opened_err over_files (λ (conn : Held (StoreFrom g.T.Start)). HasCleanDisk (file_state conn) → FindsIn (image_at g.T.Start) (file_state conn)) c.files_at-opened.result c.opened_book.result c.files_at-opened.ensures.found c.files_at-opened.ensures.refused c.opened_book.ensures.ok c.opened_book.ensures.refused
+pub returns : goal.returns
+returns g c =
+    answers g.T.Start (λ conn. IsOpeningOf over_files conn c.opened_book.result) (λ fault. c.opened_book.result ≡ Err fault) c.files_at-opened.result c.files_at-opened.ensures.found c.files_at-opened.ensures.cause c.opened_book.ensures

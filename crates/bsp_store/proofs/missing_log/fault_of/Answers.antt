@@ -1,0 +1,10 @@
+use Rattle.std.proofs.Common.{inl, inr, refl}
+use Rattle.sqlite.specs.declared.error.Error.TheVariants.{SqliteFailure}
+use Rattle.sqlite.specs.declared.error.ErrorCode.TheVariants.{CannotOpen, OutOfMemory}
+use Rattle.bsp_store.proofs.missing_log.fault_of.Goals as goal
+
+pub returns-in-OutOfMemory : goal.returns-in-OutOfMemory
+returns-in-OutOfMemory c = (SqliteFailure OutOfMemory, inr (inl refl), refl)
+
+pub returns-in_default : goal.returns-in_default
+returns-in_default c = (SqliteFailure CannotOpen, inl refl, refl)
