@@ -382,14 +382,14 @@ def base(version):
           PRIMARY KEY (agent, number)) STRICT;"""
 
 
-def audited_as_damaged(what, fault):
+def audited_as_damaged(what, fault, file="damaged.db"):
     """The report of `audit` on a damaged book begins so, and its files stay as they are."""
-    before = bytes_of("damaged.db")
-    told = subprocess.run([PROGRAM, "audit", "damaged.db"], input=b"", capture_output=True, timeout=60)
+    before = bytes_of(file)
+    told = subprocess.run([PROGRAM, "audit", file], input=b"", capture_output=True, timeout=60)
     lines = told.stdout.decode().splitlines()
     found = told.returncode, told.stderr, lines[:1], [it.startswith(fault) for it in lines[1:]]
     expect(f"audit: {what}", (1, b"", ["B02"], [True]), found)
-    expect(f"audit: {what}: what it leaves", True, before == bytes_of("damaged.db"))
+    expect(f"audit: {what}: what it leaves", True, before == bytes_of(file))
 
 
 def damaged(version):
@@ -404,7 +404,8 @@ def damaged(version):
         refusal(name, "damaged.db", "B02")
     for what, script in SCHEMAS.items():
         made("damaged.db", base(version), script)
-        refusal(f"version {version}, {what}", "damaged.db", "B02" if version == 3 else "B04")
+        audited_as_damaged(f"version {version}, {what}", "")
+        refusal(f"version {version}, {what}", "damaged.db", "B02")
     for what, script in TAXES.items() if version > 1 else ():
         made("damaged.db", base(version), script)
         refusal(f"version {version}, {what}", "damaged.db", "B02")
@@ -413,14 +414,17 @@ def damaged(version):
 
 
 def other_versions():
-    """A number in `meta` that is not that of the tables."""
+    """A number in `meta` that is not that of the tables. It is B04 where no version has it, and else B02."""
     for version in 1, 2, 3:
         for number in {1, 2, 3, 4, 9, 0, -1} - {version}:
             made("other.db", base(version), f"UPDATE meta SET version = {number}")
-            code = "B02" if number == 3 else "B04"
-            refusal(f"the tables of version {version} with the number {number}", "other.db", code)
-            if number != 3:
-                audited(f"the tables of version {version} with the number {number}", "other.db", 1, f"B04 version {number}\n")
+            known = number in (1, 2, 3)
+            what = f"the tables of version {version} with the number {number}"
+            refusal(what, "other.db", "B02" if known else "B04")
+            if known:
+                audited_as_damaged(what, "", "other.db")
+            else:
+                audited(what, "other.db", 1, f"B04 version {number}\n")
         made("other.db", base(version), "DELETE FROM meta")
         refusal(f"the tables of version {version} with no number", "other.db", "B02")
 

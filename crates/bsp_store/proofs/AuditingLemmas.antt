@@ -34,13 +34,6 @@ pub summary_is : (rows others : Rows) (s : Summary) → rows ≡ others → IsSu
 summary_is rows others s is it = subst (λ r. IsSummaryOf r s) (sym is) it
 
 module _ {S : Type 0} (g : Ghosts S) where
-  -- to ask for the version leaves to a stop no more than there was
-  pub version_asked : (old new : Held S) → Survives (state g old) (state g new) (CommitsShowing version_text [] (state g old)) → Spares g old new
-  version_asked old new kept = record {
-    earlier = λ clean. omega (arith, kept.clean);
-    leaves = λ clean db may. elim (kept.crash clean db may) [ inl before ↦ before | inr made ↦ absurd (version_commits_nothing (state g old) db made) ];
-  }
-
   -- a book in memory that was read
   pub found_rows : {X : Type 0} (IsOf : Rows → X → Type 0) (old new : Held S) (list : ListBook) (rows : Rows) (x : X) → IsRead g old new list rows → ((r : Rows) → ListHolds list r None → IsOf r x) → IsFound IsOf g old new x
   found_rows IsOf old new list rows x read is = record { rows = rows; sound = read.sound; is_of = is rows read.listed; earlier = read.earlier; kept = read.found }

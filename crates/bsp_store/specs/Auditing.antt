@@ -34,13 +34,6 @@ pub record IsSummaryOf (rows : Rows) (s : Summary) : Type 0 where
   pub memos : s.memos ≡ length (entries rows.memos)
   pub periods : s.periods ≡ length rows.published.closed
 
--- the first row of `meta` has this version
-pub record ShowsNumber (rows : List Row) (number : ℤ) : Type 0 where
-  pub row : Row
-  pub more : List Row
-  pub first : rows ≡ row ∷ more
-  pub has : column row 1 ≡ Int number
-
 -- the fault of an opening that an audit answers
 abbrev pub fault_in : AuditFault → OpenFault
 fault_in (Damaged damage) = opening.Damaged

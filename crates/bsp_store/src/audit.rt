@@ -1,13 +1,13 @@
 //! The audit of a book, which changes nothing in its store.
 
-ghost use Rattle.std.specs.Prelude.{◌≡◌, Err, IfErr, IfOk, IfSome, MatchResult, None, true};
+ghost use Rattle.std.specs.Prelude.{◌≡◌, Err, IfErr, IfOk, MatchResult, None, true};
 ghost use Rattle.bsp_rows.specs.Rows.{Rows};
 ghost use Rattle.bsp_book.specs.Listed.{Holds as ListHolds};
 ghost use Rattle.bsp_store_save.specs.Kept.{Spares};
 ghost use Rattle.bsp_store_open.specs.Faults.{is_refusal};
 ghost use Rattle.bsp_store_open.specs.Opening.{IsOrdered, LeavesCommitted};
 ghost use Rattle.bsp_store_open.specs.Schema.{our_schema};
-ghost use Rattle.bsp_store.specs.Auditing.{HasNone, IsAuditAt, IsAuditOf, IsAudited, IsFound, IsPlanOf, IsSummaryOf, ShowsNumber, WasRefused, fault_in};
+ghost use Rattle.bsp_store.specs.Auditing.{HasNone, IsAuditAt, IsAuditOf, IsAudited, IsFound, IsPlanOf, IsSummaryOf, WasRefused, fault_in};
 
 use crate::missing_log::MissingLog;
 use crate::on_files::{OnFiles, on_files};
@@ -15,8 +15,8 @@ use bsp_book::ListBook;
 use bsp_rows::{Day, Plan};
 use bsp_store_damage::{Damage, find_damage};
 use bsp_store_migration::{old_refusal, old_version};
-use bsp_store_open::{OpenFault, again, is_ours, kept_list, refusal};
-use sqlite::{Alter, Connection, Row, Start};
+use bsp_store_open::{OpenFault, again, is_ours, kept_list, refusal, version_in};
+use sqlite::{Alter, Connection, Start};
 use std::alloc::Global;
 use std::fmt;
 
@@ -142,22 +142,6 @@ fn found<S: Alter, X: Finding>(alloc: Global, conn: &mut Connection<S>) -> Resul
     }
     let read = kept_list(alloc, conn);
     found_in(read)
-}
-
-/// The version in the first row of `meta`.
-fn first_version(rows: &[Row]) -> Option<i64>
-    ensures { IfSome result (ShowsNumber rows.now) }
-{
-    let row = rows.first()?;
-    row.get(1).ok()
-}
-
-/// The version that the tables of a store have.
-fn version_in<S: Alter>(conn: &mut Connection<S>) -> Option<i64>
-    ensures spares { Spares S.Store conn.old conn.new }
-{
-    let rows = conn.query_all("SELECT id, version FROM meta", &[]).ok()?;
-    first_version(&rows)
 }
 
 /// What is at fault where a store is refused.

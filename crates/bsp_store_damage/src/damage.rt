@@ -1,6 +1,7 @@
 //! Why a store is no sound book.
 
 use crate::tables::Table;
+use bsp_store_load::VERSION;
 use std::fmt;
 
 /// Why a store is no sound book.
@@ -14,6 +15,8 @@ pub enum Damage {
     Row(Table, String),
     /// A table that has too few rows, or too many.
     Count(Table),
+    /// The version in `meta` is an earlier one, which has other tables.
+    Version(i64),
     /// No plan is published by the rows of the plan.
     Plan,
     /// A rule on many rows is broken: the ranges of one number, the relations to one ticket, or the documents limit.
@@ -27,6 +30,10 @@ impl fmt::Display for Damage {
             Damage::Table(table) => write!(f, "the table {table} is missing or another"),
             Damage::Row(table, key) => write!(f, "{table}{key}"),
             Damage::Count(table) => write!(f, "{table} has too few rows or too many"),
+            Damage::Version(version) => write!(
+                f,
+                "meta has version {version}, and the tables are those of version {VERSION}"
+            ),
             Damage::Plan => f.write_str(
                 "no plan has these terms, airlines, rates, taxes, periods and closes",
             ),

@@ -17,7 +17,7 @@ use bsp_store_load::{
     Agents, PlanRows, Ranges, StoredItems, StoredMemos, StoredSeconds, StoredTable, StoredTaxes,
     plan_tables,
 };
-use bsp_store_open::{OpenFault, load_rows, plan_rows, tallies, tally_taxes};
+use bsp_store_open::{OpenFault, is_known, load_rows, plan_rows, tallies, tally_taxes, version_in};
 use sqlite::{Alter, Connection, Row};
 use std::alloc::Global;
 use std::collections::BTreeMap;
@@ -228,6 +228,16 @@ fn search_tables<S: Alter>(
     }
 }
 
+/// What damages `meta`, whose first row has not the version of the tables.
+fn at_meta<S: Alter>(conn: &mut Connection<S>) -> Damage
+    ensures spares { Spares S.Store conn.old conn.new }
+{
+    match version_in(conn) {
+        Some(version) if is_known(version) => Damage::Version(version),
+        _ => Damage::Count(Table::Meta),
+    }
+}
+
 /// Ends at what damages a store that should keep a book.
 fn search_store<S: Alter>(alloc: Global, conn: &mut Connection<S>) -> Result<(), End>
     ensures spares { Spares S.Store conn.old conn.new }
@@ -235,7 +245,7 @@ fn search_store<S: Alter>(alloc: Global, conn: &mut Connection<S>) -> Result<(),
     search_schema(alloc, conn.schema())?;
     match plan_rows(conn) {
         Ok(rows) => search_tables(alloc, conn, &rows),
-        Err(OpenFault::Damaged) => Err(End::Found(Damage::Count(Table::Meta))),
+        Err(OpenFault::Damaged) => Err(End::Found(at_meta(conn))),
         Err(fault) => Err(End::Failed(fault)),
     }
 }

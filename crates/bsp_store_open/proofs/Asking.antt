@@ -12,7 +12,12 @@ use Rattle.sqlite_resolve.specs.declared.error.CompileError.{CompileError}
 use Rattle.sqlite_resolve.specs.declared.error.CompileError.TheVariants.{NoSuchTable}
 use Rattle.sqlite_tied.specs.Compute.{everything}
 use Rattle.sqlite.specs.Listing.{if_select, is_select, reads_listing, understood}
-use Rattle.sqlite.specs.State.{CommitsShowing, State}
+use Rattle.sqlite.specs.Held.{Held, state}
+use Rattle.sqlite.specs.State.{CommitsShowing, State, Survives}
+use Rattle.sqlite.proofs.StateLemmas.{survives_weaker}
+use Rattle.sqlite_trees.specs.declared.store.Store.{Ghosts}
+use Rattle.bsp_store_load.specs.Kept.{Spares}
+use Rattle.bsp_store_load.proofs.Showing.{spares_of}
 use Rattle.bsp_store_open.specs.Opening.{version_text}
 
 -- it has no RETURNING, where it is understood
@@ -56,3 +61,7 @@ understood_alone schema = either_alone (reads_listing schema version_text) _ _ (
 pub version_commits_nothing : (s : State) (db : Trees) → CommitsShowing version_text [] s db → ⊥
 unfolding CommitsShowing
 version_commits_nothing s db commits = let none = subst ShowsAlone commits.1.is (understood_alone s.now.schema) in absurd (let shown = rw none at commits.2 in cc)
+
+-- so to ask for the version leaves to a stop no more than there was
+pub version_spares : {S : Type 0} (g : Ghosts S) (old new : Held S) → Survives (state g old) (state g new) (CommitsShowing version_text [] (state g old)) → Spares g old new
+version_spares g old new kept = spares_of g old new (survives_weaker (state g old) (state g new) _ _ (λ _ db. version_commits_nothing (state g old) db) kept)

@@ -61,6 +61,13 @@ pub record IsOfOther (rows : List Row) : Type 0 where
   pub has : column row 1 ≡ Int found
   pub other : is_known found ≡ false
 
+-- the first row of `meta` has this version
+pub record ShowsNumber (rows : List Row) (number : ℤ) : Type 0 where
+  pub row : Row
+  pub more : List Row
+  pub first : rows ≡ row ∷ more
+  pub has : column row 1 ≡ Int number
+
 -- the text that asks tables for their version
 abbrev pub version_text : List ℕ
 version_text = codes "SELECT id, version FROM meta"

@@ -12,6 +12,7 @@ mod given;
 mod opening;
 mod reading;
 mod tables;
+mod version;
 
 pub use bsp_store_base::{is_bare, is_ours, open_in_order};
 pub use bsp_store_load::{
@@ -20,5 +21,6 @@ pub use bsp_store_load::{
 };
 pub use fault::OpenFault;
 pub use opening::{again, empty_list, expect_sound, kept_list};
-pub use reading::{is_known, plan_rows, refusal, tallies, tally_taxes};
+pub use reading::{plan_rows, refusal, tallies, tally_taxes};
 pub use tables::{kept_tables, load_rows};
+pub use version::{is_known, version_in};

@@ -7,9 +7,10 @@ ghost use Rattle.bsp_store_load.specs.Kept.{Spares};
 ghost use Rattle.bsp_store_load.specs.Content.{airline_part, commission_tax_part, meta_part, period_part, rate_part, tally_part, tally_tax_part, terms_part};
 ghost use Rattle.bsp_store_load.specs.Shows.{AreAllOf};
 ghost use Rattle.bsp_store_open.specs.Faults.{is_refusal, refusal_for};
-ghost use Rattle.bsp_store_open.specs.Opening.{ArePlanRows, Finds, HasNoBook, IsAskedVersion, IsOfVersion, IsRefusalOf, Reports, is_known};
+ghost use Rattle.bsp_store_open.specs.Opening.{ArePlanRows, Finds, HasNoBook, IsAskedVersion, IsOfVersion, IsRefusalOf, Reports};
 
 use crate::fault::{OpenFault, fault_of};
+use crate::version::{VERSION_TEXT, is_known};
 use bsp_store_base::is_ours;
 use bsp_store_load::{
     PlanRows, VERSION, all_airlines, all_commission_taxes, all_meta, all_periods, all_rates,
@@ -28,13 +29,6 @@ pub(crate) fn expect_tables<S: Alter>(conn: &Connection<S>) -> Result<(), OpenFa
     } else {
         Err(OpenFault::Damaged)
     }
-}
-
-/// Whether a version is one from the first to that of this program, so that its tables are known.
-pub fn is_known(version: i64) -> bool
-    ensures { result ≡ is_known version }
-{
-    1 <= version && version <= VERSION
 }
 
 /// Refuses rows of `meta` that have another version, or none. A known one is damage: the tables are not its own.
@@ -201,5 +195,5 @@ pub fn refusal<S: Alter>(conn: &mut Connection<S>) -> OpenFault
     ensures asked { IsAskedVersion S.Store result conn.old conn.new }
     ensures spares { Spares S.Store conn.old conn.new }
 {
-    refusal_of(conn.query_all("SELECT id, version FROM meta", &[]))
+    refusal_of(conn.query_all(VERSION_TEXT, &[]))
 }

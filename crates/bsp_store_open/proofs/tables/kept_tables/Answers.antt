@@ -4,7 +4,6 @@ use Rattle.bsp_store_load.specs.MemoryRowsTables.{rows_of}
 use Rattle.bsp_store_load.specs.Stored.{AreCommitted}
 use Rattle.bsp_store_load.specs.Tables.{Tables}
 use Rattle.bsp_store_open.specs.Faults.{is_refusal}
-use Rattle.bsp_store_open.specs.declared.fault.OpenFault.{OpenFault}
 use Rattle.bsp_store_open.specs.declared.fault.OpenFault.TheVariants.{Damaged}
 use Rattle.sqlite_trees.specs.Tree.{Trees}
 use Rattle.bsp_store_open.specs.Loaded.{IsAllLoaded, IsPlanned, KeepsNone}

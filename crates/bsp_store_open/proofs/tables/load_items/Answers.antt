@@ -5,7 +5,7 @@ use Rattle.bsp_book.specs.Rows.{item_cmp}
 use Rattle.bsp_store_load.specs.MemoryRowsTables.{rows_of}
 use Rattle.bsp_store_load.specs.Seconds.{ticket_cmp}
 use Rattle.bsp_store_open.specs.Faults.{is_refusal}
-use Rattle.bsp_store_open.specs.Loaded.{AreItemsLoaded, AreSecondsRead, AreTaxesRead, HasNoSales, NoFormed, NoRight}
+use Rattle.bsp_store_open.specs.Loaded.{AreSecondsRead, AreTaxesRead, HasNoSales, NoFormed, NoRight}
 use Rattle.bsp_store_open.specs.Opening.{Misses}
 use Rattle.bsp_store_open.specs.declared.fault.OpenFault.TheVariants.{Damaged}
 use Rattle.bsp_store_open.proofs.OpeningLemmas.{both, if_err, missed_after, misses_more, on_ok, passed_on, weaker, none_done, spares_both}

@@ -1,4 +1,4 @@
-use Rattle.std.proofs.Common.{◌≡◌, true, None}
+use Rattle.std.proofs.Common.{◌≡◌, true}
 use Rattle.sqlite_trees.specs.Tree.{Trees}
 use Rattle.bsp_store_load.proofs.SaleLoaders.{memos_loader}
 use Rattle.bsp_store_load.proofs.Loaders.{Leaves}

@@ -1,13 +1,13 @@
-use Rattle.std.proofs.Common.{◌≡◌, true, None}
+use Rattle.std.proofs.Common.{◌≡◌, true}
 use Rattle.std.specs.FinMap.{from_entries}
 use Rattle.sqlite_trees.specs.Tree.{Trees}
 use Rattle.bsp_book.specs.Rows.{item_cmp}
-use Rattle.bsp_store_load.proofs.Loaders.{Leaves, Loads}
+use Rattle.bsp_store_load.proofs.Loaders.{Leaves}
 use Rattle.bsp_store_load.proofs.SaleLoaders.{items_loader}
 use Rattle.bsp_store_load.specs.MemoryRowsTables.{rows_of}
 use Rattle.bsp_store_load.specs.Seconds.{ticket_cmp}
 use Rattle.bsp_store_open.specs.Faults.{is_refusal}
-use Rattle.bsp_store_open.specs.Loaded.{AreItemsLoaded, AreSecondsRead, AreTaxesRead, HasNoSales, NoRight}
+use Rattle.bsp_store_open.specs.Loaded.{AreSecondsRead, AreTaxesRead, HasNoSales, NoRight}
 use Rattle.bsp_store_open.specs.Opening.{Misses}
 use Rattle.bsp_store_open.proofs.LoadedLemmas.{items_loaded, no_items_loaded, others_beside}
 use Rattle.bsp_store_open.specs.declared.fault.OpenFault.TheVariants.{Damaged}
