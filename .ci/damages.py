@@ -264,11 +264,17 @@ DAMAGES = {
     "a trigger": ("CREATE TRIGGER noted AFTER INSERT ON tally BEGIN SELECT 1; END", 'the object "noted" is none of a book'),
 }
 
+# a version that has other tables
+DAMAGES |= {
+    f"version {version}, {what}": (f"UPDATE meta SET version = {version}{more}", f"meta has version {version}, and the tables are those of version 3")
+    for version in (1, 2)
+    for what, more in {"alone": "", "on another day": ", day = 10957, closed = 0"}.items()
+}
+
 VERSIONS = {
     "version 9": "UPDATE meta SET version = 9",
     "version 9, with other tables": "UPDATE meta SET version = 9; DROP TABLE tally",
-    "version 2, on another day": "UPDATE meta SET version = 2, day = 10957, closed = 0",
-    "version 1": "UPDATE meta SET version = 1",
-    "version 2": "UPDATE meta SET version = 2",
     "version 4": "UPDATE meta SET version = 4",
+    "version 0": "UPDATE meta SET version = 0",
+    "version -1": "UPDATE meta SET version = -1",
 }

@@ -269,7 +269,7 @@ fn found_at<T: Start, X: Finding>(rt: &HostRuntime, path: &str, start: T) -> Res
 /// As those of [`audit_store`], which does the same with a store: after each of them a stop leaves what it left before. A
 /// file that is not opened is `Failed`. No clause ties what the files hold to the path.
 pub fn audit_at<T: Start>(rt: &HostRuntime, path: &str, start: T) -> Result<Summary, AuditFault>
-    ensures { IsAuditAt T.Start IsSummaryOf result }
+    ensures audit { IsAuditAt T.Start IsSummaryOf result }
 {
     found_at(rt, path, start)
 }
@@ -280,7 +280,7 @@ pub fn audit_at<T: Start>(rt: &HostRuntime, path: &str, start: T) -> Result<Summ
 ///
 /// As those of [`audit_at`].
 pub fn plan_at<T: Start>(rt: &HostRuntime, path: &str, start: T) -> Result<Plan, AuditFault>
-    ensures { IsAuditAt T.Start IsPlanOf result }
+    ensures audit { IsAuditAt T.Start IsPlanOf result }
 {
     found_at(rt, path, start)
 }

@@ -219,12 +219,12 @@ impl<S: Alter + Drop> SqlBook<S> {
     ///
     /// # Errors
     ///
-    /// Each comes with the store. `OtherVersion`, where `meta` has another version than that of its tables. `Damaged`, where
-    /// the tables are not those of a book, a row is no row of a book, or the rows are not sound. Neither is answered of a
-    /// store without any table. `NoRoom`, where an allocation is
-    /// refused. `Failed` with the error of the store, where it fails for another cause.
+    /// Each comes with the store. `OtherVersion`, where `meta` has a version that is none of 1 to 3. `Damaged`, where the
+    /// tables are not those of the version, a row is no row of a book, or the rows are not sound. Neither is answered of a
+    /// store without any table. `NoRoom`, where an allocation is refused. `Failed` with the error of the store, where it
+    /// fails for another cause.
     pub fn adopt(alloc: Global, conn: Connection<S>) -> Result<SqlBook<S>, (OpenFault, S)>
-        ensures { IsOpening S.Store conn result }
+        ensures opening { IsOpening S.Store conn result }
     {
         let conn = again_ordered(alloc, conn)?;
         opened(alloc, conn)
@@ -260,7 +260,7 @@ impl<T: Start> SqlBook<FileStore<FileFrom<T>>> {
         path: &str,
         start: T,
     ) -> Result<SqlBook<FileStore<FileFrom<T>>>, OpenFault>
-        ensures { IsOpeningAt T.Start result }
+        ensures opening { IsOpeningAt T.Start result }
     {
         let opened = files_at(rt, path, start);
         opened_book(rt.alloc(), opened)
@@ -298,7 +298,7 @@ impl OnFiles<Result<Damage, OpenFault>> for Search {
 ///
 /// Those of an opening.
 pub fn damage_at<T: Start>(rt: &HostRuntime, path: &str, start: T) -> Result<Damage, OpenFault>
-    ensures { AnswersFiles T.Start (IsSpared over_files) (λ error. result ≡ Err (fault_for error)) }
+    ensures search { AnswersFiles T.Start (IsSpared over_files) (λ error. result ≡ Err (fault_for error)) }
 {
     on_files(rt, path, start, Search)
 }

@@ -6,5 +6,7 @@ use Rattle.bsp_store.proofs.FilesLemmas.{answers}
 use Rattle.bsp_store.proofs.opening.SqlBook+FileStore+FileFrom+T.open_path.Goals as goal
 
 pub returns : goal.returns
-returns g c =
-    answers g.T.Start (λ conn. IsOpeningOf over_files conn c.opened_book.result) (λ fault. c.opened_book.result ≡ Err fault) c.files_at-opened.result c.files_at-opened.ensures.found c.files_at-opened.ensures.cause c.opened_book.ensures
+returns g c = record {
+  opening = answers g.T.Start (λ conn. IsOpeningOf over_files conn c.opened_book.result) (λ fault. c.opened_book.result ≡ Err fault) c.files_at-opened.result c.files_at-opened.ensures.found c.files_at-opened.ensures.cause
+      c.opened_book.ensures;
+}
