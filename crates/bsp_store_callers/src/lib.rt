@@ -20,5 +20,5 @@ pub use memo_rows::read_memo;
 pub use memos::{MemoRow, memos_query, put_memo};
 pub use ranges::{RangeRow, put_range, ranges_query};
 pub use reading::{read_agent, read_range};
-pub use tallies::{TallyRow, all_tallies, put_tally};
+pub use tallies::{TallyRow, put_tally, tallies_query};
 pub use tally_rows::read_tally_key;

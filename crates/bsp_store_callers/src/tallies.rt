@@ -5,14 +5,14 @@ ghost use Rattle.std.specs.FinMap.{get, insert, remove};
 ghost use Rattle.sqlite.specs.Values.{bound};
 ghost use Rattle.bsp_store_base.specs.Columns.{tally_row};
 ghost use Rattle.bsp_store_base.specs.Content.{tally_part};
-ghost use Rattle.bsp_store_base.specs.Shows.{ShowsAll};
+ghost use Rattle.bsp_store_base.specs.Shows.{ShowsTable};
 ghost use Rattle.bsp_store_base.specs.Calls.{Changes, GivesUp};
 ghost use Rattle.bsp_store_base.specs.Synced.{with_value};
 ghost use Rattle.bsp_store_callers.specs.MemoWritten.{tally_written};
 
 use bsp_rows::{Tally, TallyKey};
 use bsp_store_base::{agent_digits, airline_digits, period_digits};
-use sqlite::{Alter, Connection, Error, Row};
+use sqlite::{Alter, Connection, Error};
 use sqlite_value::value::ValueRef;
 
 /// What is written of a tally: its key in digits, its counts and its sums, the tax apart.
@@ -147,17 +147,10 @@ pub fn put_tally<S: Alter>(
     Ok(())
 }
 
-/// All rows of the table, in the order of their keys.
-///
-/// # Errors
-///
-/// Where the store fails.
-pub fn all_tallies<S: Alter>(conn: &mut Connection<S>) -> Result<Vec<Row>, Error>
-    ensures { ShowsAll tally_part S.Store conn.old conn.new result }
+/// The query for all rows of the table, in the order of their keys.
+pub fn tallies_query() -> &'static str
+    ensures { ShowsTable tally_part result.now }
 {
-    conn.query_all(
-        "SELECT agent, airline, period, accepted, living, canx, memo_count, cash, credit, commission, memos \
-         FROM tally ORDER BY agent, airline, period",
-        &[],
-    )
+    "SELECT agent, airline, period, accepted, living, canx, memo_count, cash, credit, commission, memos \
+     FROM tally ORDER BY agent, airline, period"
 }

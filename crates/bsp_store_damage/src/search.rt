@@ -15,9 +15,9 @@ use bsp_rows::{ItemKey, ReportedDocument, Unsound};
 use bsp_store_base::{ItemTax, TicketKey};
 use bsp_store_load::{
     Agents, PlanRows, Ranges, StoredItems, StoredMemos, StoredSeconds, StoredTable, StoredTaxes,
-    plan_tables,
+    WholeTable, plan_tables,
 };
-use bsp_store_open::{OpenFault, is_known, load_rows, plan_rows, tallies, tally_taxes, version_in};
+use bsp_store_open::{OpenFault, is_known, load_rows, plan_rows, rows_of, version_in};
 use sqlite::{Alter, Connection, Row};
 use std::alloc::Global;
 use std::collections::BTreeMap;
@@ -176,8 +176,18 @@ fn search_sums<S: Alter>(
 ) -> Result<(), End>
     ensures spares { Spares S.Store conn.old conn.new }
 {
-    search_sums_in(alloc, Table::Tally, tallies(conn), tables)?;
-    search_sums_in(alloc, Table::TallyTax, tally_taxes(conn), tables)
+    search_sums_in(
+        alloc,
+        Table::Tally,
+        rows_of(conn, WholeTable::Tallies),
+        tables,
+    )?;
+    search_sums_in(
+        alloc,
+        Table::TallyTax,
+        rows_of(conn, WholeTable::TallyTaxes),
+        tables,
+    )
 }
 
 /// The end at the row that breaks a rule of the audit.

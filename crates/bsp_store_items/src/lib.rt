@@ -16,6 +16,6 @@ pub use item_taxes::{ItemTaxRow, item_taxes_query, put_item_tax};
 pub use reading::{items_query, read_item, read_item_key, read_reported};
 pub use row::{ItemRow, flag};
 pub use seconds::{SecondRow, put_second, seconds_query};
-pub use tally_taxes::{TallyTaxRow, all_tally_taxes, put_tally_tax};
+pub use tally_taxes::{TallyTaxRow, put_tally_tax, tally_taxes_query};
 pub use tax_rows::{read_item_tax, read_second};
 pub use writing::put_item;

@@ -5,14 +5,14 @@ ghost use Rattle.std.specs.FinMap.{get, insert, remove};
 ghost use Rattle.sqlite.specs.Values.{bound};
 ghost use Rattle.bsp_store_base.specs.Columns.{tally_tax_row};
 ghost use Rattle.bsp_store_base.specs.Content.{tally_tax_part};
-ghost use Rattle.bsp_store_base.specs.Shows.{ShowsAll};
+ghost use Rattle.bsp_store_base.specs.Shows.{ShowsTable};
 ghost use Rattle.bsp_store_base.specs.Calls.{Changes, GivesUp};
 ghost use Rattle.bsp_store_base.specs.Synced.{with_value};
 ghost use Rattle.bsp_store_items.specs.TaxWritten.{tally_tax_written};
 
 use bsp_rows::{Tally, TallyKey};
 use bsp_store_base::{agent_digits, airline_digits, period_digits};
-use sqlite::{Alter, Connection, Error, Row};
+use sqlite::{Alter, Connection, Error};
 use sqlite_value::value::ValueRef;
 
 /// What is written of the tax of a tally: the tally's key in digits, and the tax in minor units.
@@ -124,16 +124,9 @@ pub fn put_tally_tax<S: Alter>(
     Ok(())
 }
 
-/// All rows of the table, in the order of their keys.
-///
-/// # Errors
-///
-/// Where the store fails.
-pub fn all_tally_taxes<S: Alter>(conn: &mut Connection<S>) -> Result<Vec<Row>, Error>
-    ensures { ShowsAll tally_tax_part S.Store conn.old conn.new result }
+/// The query for all rows of the table, in the order of their keys.
+pub fn tally_taxes_query() -> &'static str
+    ensures { ShowsTable tally_tax_part result.now }
 {
-    conn.query_all(
-        "SELECT agent, airline, period, tax FROM tally_tax ORDER BY agent, airline, period",
-        &[],
-    )
+    "SELECT agent, airline, period, tax FROM tally_tax ORDER BY agent, airline, period"
 }

@@ -32,6 +32,7 @@ pub mod TallyLemmas
 pub mod NothingLemmas
 pub mod Forming
 pub mod FormedContent
+pub mod WholeLemmas
 pub use Rattle.bsp_rows.proofs.KeptLemmas
 pub use Rattle.bsp_store_base.proofs.AirlineLemmas
 pub use Rattle.bsp_store_base.proofs.Held

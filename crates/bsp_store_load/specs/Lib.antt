@@ -7,6 +7,7 @@ pub mod Nothing
 pub mod Stored
 pub mod Contents
 pub mod Formed
+pub mod Whole
 pub use Rattle.bsp_memory_tables.specs.ItemTables
 pub use Rattle.bsp_memory_rows.specs.Plans
 pub use Rattle.bsp_memory_rows.specs.Tables as MemoryRowsTables

@@ -1,6 +1,6 @@
 //! The rows of a book in memory, made from all rows of its tables.
 //!
-//! [`plan_tables`] makes tables in memory with the plan and the tokens of airlines. [`load_table`] puts the rows of a
+//! [`all_rows`] answers the rows of a table as they are. [`plan_tables`] makes tables in memory with the plan and the tokens of airlines. [`load_table`] puts the rows of a
 //! further table into them, one at a time as a query shows them. The taxes and the second related documents of items are
 //! put into maps first, with which the items are then put. [`are_taxes`] and [`are_seconds`] say whether these maps are
 //! those of the items in memory, [`are_tallies`] and [`are_tally_taxes`] whether the tallies of a store are those of the
@@ -25,16 +25,12 @@ mod plan_rows;
 mod published;
 mod seconds;
 mod tallies;
+mod whole;
 
 pub use bsp_memory_rows::{NoRoom, SavedPlan, Tables};
 pub use bsp_rows::{ItemKey, ReportedDocument};
 pub use bsp_store_base::{ItemTax, TicketKey};
-pub use bsp_store_callers::all_tallies;
-pub use bsp_store_items::all_tally_taxes;
-pub use bsp_store_plan::{
-    VERSION, all_airlines, all_commission_taxes, all_meta, all_periods, all_rates, all_terms,
-    read_version,
-};
+pub use bsp_store_plan::{VERSION, read_version};
 pub use callers::{Agents, Ranges};
 pub use compared::plan_tables;
 pub use equal::is_row;
@@ -51,3 +47,4 @@ pub use memos::StoredMemos;
 pub use plan_rows::PlanRows;
 pub use seconds::{StoredSeconds, are_seconds};
 pub use tallies::{are_tallies, are_tally_taxes};
+pub use whole::{WholeTable, all_rows};

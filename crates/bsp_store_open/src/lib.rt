@@ -2,7 +2,7 @@
 //!
 //! [`kept_list`] reads all rows of a store and answers the book in memory that they keep, and [`empty_list`] does so in a
 //! new store. [`kept_tables`] answers the tables in memory, also in an open transaction, and [`expect_sound`] tests their
-//! rows. [`plan_rows`], [`tallies`] and [`tally_taxes`] answer rows as they are, and [`load_rows`] puts those of a
+//! rows. [`plan_rows`] and [`rows_of`] answer rows as they are, and [`load_rows`] puts those of a
 //! further table into memory. [`again`] opens a connection again over its own store.
 //! [`OpenFault`] says why a store is refused.
 #![tactic(auto)]
@@ -21,6 +21,6 @@ pub use bsp_store_load::{
 };
 pub use fault::OpenFault;
 pub use opening::{again, empty_list, expect_sound, kept_list};
-pub use reading::{plan_rows, refusal, tallies, tally_taxes};
+pub use reading::{plan_rows, refusal, rows_of};
 pub use tables::{kept_tables, load_rows};
 pub use version::{is_known, version_in};

@@ -4,18 +4,15 @@ ghost use Rattle.std.specs.Prelude.{◌≡◌, true, IfErr, IfOk, MatchResult, O
 ghost use Rattle.sqlite.specs.Held.{state};
 ghost use Rattle.bsp_store_load.specs.Schema.{our_schema};
 ghost use Rattle.bsp_store_load.specs.Kept.{Spares};
-ghost use Rattle.bsp_store_load.specs.Content.{airline_part, commission_tax_part, meta_part, period_part, rate_part, tally_part, tally_tax_part, terms_part};
 ghost use Rattle.bsp_store_load.specs.Shows.{AreAllOf};
+ghost use Rattle.bsp_store_load.specs.Whole.{part_of};
 ghost use Rattle.bsp_store_open.specs.Faults.{is_refusal, refusal_for};
 ghost use Rattle.bsp_store_open.specs.Opening.{ArePlanRows, Finds, HasNoBook, IsAskedVersion, IsOfVersion, IsRefusalOf, Reports};
 
 use crate::fault::{OpenFault, fault_of};
 use crate::version::{VERSION_TEXT, is_known};
 use bsp_store_base::is_ours;
-use bsp_store_load::{
-    PlanRows, VERSION, all_airlines, all_commission_taxes, all_meta, all_periods, all_rates,
-    all_tallies, all_tally_taxes, all_terms, read_version,
-};
+use bsp_store_load::{PlanRows, VERSION, WholeTable, all_rows, read_version};
 use sqlite::{Alter, Connection, Error as StoreError, Row};
 
 /// Refuses a store that has other tables than a book. A query says nothing of the tables after it on a disk that gave
@@ -48,86 +45,18 @@ fn expect_version(rows: &[Row]) -> Result<(), OpenFault>
     }
 }
 
-fn meta<S: Alter>(conn: &mut Connection<S>) -> Result<Vec<Row>, OpenFault>
-    ensures found { IfOk result (λ rows. Finds S.Store conn.old conn.new (λ trees. AreAllOf meta_part trees rows.items)) }
-    ensures spares { Spares S.Store conn.old conn.new }
-    ensures refused { IfErr result (λ fault. is_refusal fault ≡ true → HasNoBook S.Store fault conn.old conn.new) }
-{
-    expect_tables(conn)?;
-    Ok(all_meta(conn)?)
-}
-
-fn terms<S: Alter>(conn: &mut Connection<S>) -> Result<Vec<Row>, OpenFault>
-    ensures found { IfOk result (λ rows. Finds S.Store conn.old conn.new (λ trees. AreAllOf terms_part trees rows.items)) }
-    ensures spares { Spares S.Store conn.old conn.new }
-    ensures refused { IfErr result (λ fault. is_refusal fault ≡ true → HasNoBook S.Store fault conn.old conn.new) }
-{
-    expect_tables(conn)?;
-    Ok(all_terms(conn)?)
-}
-
-fn airlines<S: Alter>(conn: &mut Connection<S>) -> Result<Vec<Row>, OpenFault>
-    ensures found { IfOk result (λ rows. Finds S.Store conn.old conn.new (λ trees. AreAllOf airline_part trees rows.items)) }
-    ensures spares { Spares S.Store conn.old conn.new }
-    ensures refused { IfErr result (λ fault. is_refusal fault ≡ true → HasNoBook S.Store fault conn.old conn.new) }
-{
-    expect_tables(conn)?;
-    Ok(all_airlines(conn)?)
-}
-
-fn rates<S: Alter>(conn: &mut Connection<S>) -> Result<Vec<Row>, OpenFault>
-    ensures found { IfOk result (λ rows. Finds S.Store conn.old conn.new (λ trees. AreAllOf rate_part trees rows.items)) }
-    ensures spares { Spares S.Store conn.old conn.new }
-    ensures refused { IfErr result (λ fault. is_refusal fault ≡ true → HasNoBook S.Store fault conn.old conn.new) }
-{
-    expect_tables(conn)?;
-    Ok(all_rates(conn)?)
-}
-
-fn periods<S: Alter>(conn: &mut Connection<S>) -> Result<Vec<Row>, OpenFault>
-    ensures found { IfOk result (λ rows. Finds S.Store conn.old conn.new (λ trees. AreAllOf period_part trees rows.items)) }
-    ensures spares { Spares S.Store conn.old conn.new }
-    ensures refused { IfErr result (λ fault. is_refusal fault ≡ true → HasNoBook S.Store fault conn.old conn.new) }
-{
-    expect_tables(conn)?;
-    Ok(all_periods(conn)?)
-}
-
-fn commission_taxes<S: Alter>(conn: &mut Connection<S>) -> Result<Vec<Row>, OpenFault>
-    ensures found { IfOk result (λ rows. Finds S.Store conn.old conn.new (λ trees. AreAllOf commission_tax_part trees rows.items)) }
-    ensures spares { Spares S.Store conn.old conn.new }
-    ensures refused { IfErr result (λ fault. is_refusal fault ≡ true → HasNoBook S.Store fault conn.old conn.new) }
-{
-    expect_tables(conn)?;
-    Ok(all_commission_taxes(conn)?)
-}
-
-/// All rows of the table of tallies.
+/// All rows of a table.
 ///
 /// # Errors
 ///
 /// `Damaged`, where the tables are not those of a book. Those of the store.
-pub fn tallies<S: Alter>(conn: &mut Connection<S>) -> Result<Vec<Row>, OpenFault>
-    ensures found { IfOk result (λ rows. Finds S.Store conn.old conn.new (λ trees. AreAllOf tally_part trees rows.items)) }
+pub fn rows_of<S: Alter>(conn: &mut Connection<S>, table: WholeTable) -> Result<Vec<Row>, OpenFault>
+    ensures found { IfOk result (λ rows. Finds S.Store conn.old conn.new (λ trees. AreAllOf (part_of table) trees rows.items)) }
     ensures spares { Spares S.Store conn.old conn.new }
     ensures refused { IfErr result (λ fault. is_refusal fault ≡ true → (fault ≡ OpenFault.Damaged) × ¬ (conn.old.schema ≡ our_schema)) }
 {
     expect_tables(conn)?;
-    Ok(all_tallies(conn)?)
-}
-
-/// All rows of the table of the taxes of tallies.
-///
-/// # Errors
-///
-/// Those of [`tallies`].
-pub fn tally_taxes<S: Alter>(conn: &mut Connection<S>) -> Result<Vec<Row>, OpenFault>
-    ensures found { IfOk result (λ rows. Finds S.Store conn.old conn.new (λ trees. AreAllOf tally_tax_part trees rows.items)) }
-    ensures spares { Spares S.Store conn.old conn.new }
-    ensures refused { IfErr result (λ fault. is_refusal fault ≡ true → (fault ≡ OpenFault.Damaged) × ¬ (conn.old.schema ≡ our_schema)) }
-{
-    expect_tables(conn)?;
-    Ok(all_tally_taxes(conn)?)
+    Ok(all_rows(conn, table)?)
 }
 
 /// All rows of the plan's tables.
@@ -142,13 +71,13 @@ pub fn plan_rows<S: Alter>(conn: &mut Connection<S>) -> Result<PlanRows, OpenFau
     ensures spares { Spares S.Store conn.old conn.new }
     ensures refused { IfErr result (λ fault. is_refusal fault ≡ true → HasNoBook S.Store fault conn.old conn.new) }
 {
-    let meta = meta(conn)?;
+    let meta = rows_of(conn, WholeTable::Meta)?;
     expect_version(&meta)?;
-    let terms = terms(conn)?;
-    let airlines = airlines(conn)?;
-    let rates = rates(conn)?;
-    let periods = periods(conn)?;
-    let commission_taxes = commission_taxes(conn)?;
+    let terms = rows_of(conn, WholeTable::Terms)?;
+    let airlines = rows_of(conn, WholeTable::Airlines)?;
+    let rates = rows_of(conn, WholeTable::Rates)?;
+    let periods = rows_of(conn, WholeTable::Periods)?;
+    let commission_taxes = rows_of(conn, WholeTable::CommissionTaxes)?;
     Ok(PlanRows {
         meta,
         terms,

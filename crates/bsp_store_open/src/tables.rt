@@ -16,11 +16,11 @@ ghost use Rattle.bsp_store_open.specs.Opening.{Finds, HasNoBook, Misses};
 
 use crate::fault::OpenFault;
 use crate::given::{made_of, unless_fault};
-use crate::reading::{expect_tables, plan_rows, tallies, tally_taxes};
+use crate::reading::{expect_tables, plan_rows, rows_of};
 use bsp_store_load::{
     Agents, ItemKey, ItemTax, Ranges, ReportedDocument, StoredItems, StoredMemos, StoredSeconds,
-    StoredTable, StoredTaxes, Tables, TicketKey, are_seconds, are_tallies, are_tally_taxes,
-    are_taxes, load_table, plan_tables,
+    StoredTable, StoredTaxes, Tables, TicketKey, WholeTable, are_seconds, are_tallies,
+    are_tally_taxes, are_taxes, load_table, plan_tables,
 };
 use sqlite::{Alter, Connection, Row};
 use std::alloc::Global;
@@ -194,7 +194,7 @@ fn expect_tallies<S: Alter>(conn: &mut Connection<S>, tables: &Tables) -> Result
     ensures fault { IfErr result (λ fault. is_refusal fault ≡ true → fault ≡ OpenFault.Damaged) }
     ensures spares { Spares S.Store conn.old conn.new }
 {
-    let rows = tallies(conn)?;
+    let rows = rows_of(conn, WholeTable::Tallies)?;
     if !are_tallies(&rows, tables.tally_table()) {
         return Err(OpenFault::Damaged);
     }
@@ -208,7 +208,7 @@ fn expect_tally_taxes<S: Alter>(conn: &mut Connection<S>, tables: &Tables) -> Re
     ensures fault { IfErr result (λ fault. is_refusal fault ≡ true → fault ≡ OpenFault.Damaged) }
     ensures spares { Spares S.Store conn.old conn.new }
 {
-    let rows = tally_taxes(conn)?;
+    let rows = rows_of(conn, WholeTable::TallyTaxes)?;
     if !are_tally_taxes(&rows, tables.tally_table()) {
         return Err(OpenFault::Damaged);
     }

@@ -10,13 +10,13 @@ ghost use Rattle.bsp_store_base.specs.Airlines.{HasStoredPlace};
 ghost use Rattle.bsp_store_base.specs.Calls.{Changes, GivesUp};
 ghost use Rattle.bsp_store_base.specs.Columns.{airline_row};
 ghost use Rattle.bsp_store_base.specs.Content.{airline_part};
-ghost use Rattle.bsp_store_base.specs.Shows.{ShowsAll};
+ghost use Rattle.bsp_store_base.specs.Shows.{ShowsTable};
 ghost use Rattle.bsp_store_base.specs.Synced.{with_value};
 ghost use Rattle.bsp_store_plan.specs.Values.{airline_values};
 
 use bsp_rows::{AirlineCode, Token};
 use bsp_store_base::{AirlineEntry, airline_digits};
-use sqlite::{Alter, Connection, Error, Row};
+use sqlite::{Alter, Connection, Error};
 use sqlite_value::value::ValueRef;
 
 /// The row of an airline that is published, registered, or both.
@@ -153,13 +153,9 @@ pub fn put_airline<S: Alter>(
     Ok(())
 }
 
-/// The rows of the airlines in the order of their codes.
-///
-/// # Errors
-///
-/// That of the statement which failed.
-pub fn all_airlines<S: Alter>(conn: &mut Connection<S>) -> Result<Vec<Row>, Error>
-    ensures { ShowsAll airline_part S.Store conn.old conn.new result }
+/// The query for the rows of the airlines in the order of their codes.
+pub fn airlines_query() -> &'static str
+    ensures { ShowsTable airline_part result.now }
 {
-    conn.query_all("SELECT code, place, token FROM airline ORDER BY code", &[])
+    "SELECT code, place, token FROM airline ORDER BY code"
 }

@@ -5,11 +5,11 @@ ghost use Rattle.sqlite.specs.Values.{bound};
 ghost use Rattle.bsp_store_base.specs.Calls.{Changes, GivesUp, GivesUpIf};
 ghost use Rattle.bsp_store_base.specs.Columns.{commission_tax_row};
 ghost use Rattle.bsp_store_base.specs.Content.{commission_tax_part};
-ghost use Rattle.bsp_store_base.specs.Shows.{ShowsAll};
+ghost use Rattle.bsp_store_base.specs.Shows.{ShowsTable};
 ghost use Rattle.bsp_store_plan.specs.Values.{commission_tax_values};
 
 use bsp_rows::CommissionTax;
-use sqlite::{Alter, Connection, Error, Row};
+use sqlite::{Alter, Connection, Error};
 use sqlite_value::value::ValueRef;
 
 /// The row of a tax on commission at its place.
@@ -80,16 +80,9 @@ pub fn add_commission_taxes<S: Alter>(
     Ok(())
 }
 
-/// The rows of the taxes on commission in the order of their places.
-///
-/// # Errors
-///
-/// That of the statement which failed.
-pub fn all_commission_taxes<S: Alter>(conn: &mut Connection<S>) -> Result<Vec<Row>, Error>
-    ensures { ShowsAll commission_tax_part S.Store conn.old conn.new result }
+/// The query for the rows of the taxes on commission in the order of their places.
+pub fn commission_taxes_query() -> &'static str
+    ensures { ShowsTable commission_tax_part result.now }
 {
-    conn.query_all(
-        "SELECT begins, place, hundredths FROM commission_tax ORDER BY place",
-        &[],
-    )
+    "SELECT begins, place, hundredths FROM commission_tax ORDER BY place"
 }

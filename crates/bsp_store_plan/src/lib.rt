@@ -10,12 +10,12 @@ mod rates;
 mod reading;
 mod terms;
 
-pub use airlines::{AirlineRow, all_airlines, put_airline};
-pub use commission_taxes::{CommissionTaxRow, add_commission_taxes, all_commission_taxes};
-pub use meta::{MetaRow, VERSION, add_first_meta, all_meta, put_meta};
-pub use periods::{PeriodRow, add_periods, all_periods};
-pub use rates::{RateRow, add_rates, all_rates};
+pub use airlines::{AirlineRow, airlines_query, put_airline};
+pub use commission_taxes::{CommissionTaxRow, add_commission_taxes, commission_taxes_query};
+pub use meta::{MetaRow, VERSION, add_first_meta, meta_query, put_meta};
+pub use periods::{PeriodRow, add_periods, periods_query};
+pub use rates::{RateRow, add_rates, rates_query};
 pub use reading::{
     read_airline, read_commission_tax, read_meta, read_period, read_rate, read_terms, read_version,
 };
-pub use terms::{TermsRow, all_terms, put_terms};
+pub use terms::{TermsRow, put_terms, terms_query};

@@ -8,11 +8,11 @@ ghost use Rattle.bsp_store_base.specs.Calls.{Changes, GivesUp};
 ghost use Rattle.bsp_store_base.specs.Columns.{meta_row};
 ghost use Rattle.bsp_store_base.specs.Content.{Content, form, meta_part};
 ghost use Rattle.bsp_store_base.specs.Kept.{Keeps, KeepsSound};
-ghost use Rattle.bsp_store_base.specs.Shows.{ShowsAll};
+ghost use Rattle.bsp_store_base.specs.Shows.{ShowsTable};
 ghost use Rattle.bsp_store_plan.specs.Values.{meta_values};
 
 use bsp_rows::Day;
-use sqlite::{Alter, Connection, Error, ErrorCode, Row, Transaction};
+use sqlite::{Alter, Connection, Error, ErrorCode, Transaction};
 use sqlite_value::value::ValueRef;
 
 /// The version of the tables.
@@ -115,13 +115,9 @@ pub fn put_meta<S: Alter>(
     Ok(())
 }
 
-/// The rows of the table, of which it has one at most unless another program wrote it.
-///
-/// # Errors
-///
-/// That of the statement which failed.
-pub fn all_meta<S: Alter>(conn: &mut Connection<S>) -> Result<Vec<Row>, Error>
-    ensures { ShowsAll meta_part S.Store conn.old conn.new result }
+/// The query for the rows of the table, of which it has one at most unless another program wrote it.
+pub fn meta_query() -> &'static str
+    ensures { ShowsTable meta_part result.now }
 {
-    conn.query_all("SELECT id, version, day, closed FROM meta", &[])
+    "SELECT id, version, day, closed FROM meta"
 }

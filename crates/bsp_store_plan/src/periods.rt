@@ -5,12 +5,12 @@ ghost use Rattle.sqlite.specs.Values.{bound};
 ghost use Rattle.bsp_store_base.specs.Calls.{Changes, GivesUp, GivesUpIf};
 ghost use Rattle.bsp_store_base.specs.Columns.{period_row};
 ghost use Rattle.bsp_store_base.specs.Content.{period_part};
-ghost use Rattle.bsp_store_base.specs.Shows.{ShowsAll};
+ghost use Rattle.bsp_store_base.specs.Shows.{ShowsTable};
 ghost use Rattle.bsp_store_plan.specs.Values.{period_values};
 
 use bsp_rows::Period;
 use bsp_store_base::period_digits;
-use sqlite::{Alter, Connection, Error, Row};
+use sqlite::{Alter, Connection, Error};
 use sqlite_value::value::ValueRef;
 
 /// The row of a billing period at its place.
@@ -87,16 +87,9 @@ pub fn add_periods<S: Alter>(
     Ok(())
 }
 
-/// The rows of the periods in the order of their places.
-///
-/// # Errors
-///
-/// That of the statement which failed.
-pub fn all_periods<S: Alter>(conn: &mut Connection<S>) -> Result<Vec<Row>, Error>
-    ensures { ShowsAll period_part S.Store conn.old conn.new result }
+/// The query for the rows of the periods in the order of their places.
+pub fn periods_query() -> &'static str
+    ensures { ShowsTable period_part result.now }
 {
-    conn.query_all(
-        "SELECT code, place, begins, ends, remit FROM period ORDER BY place",
-        &[],
-    )
+    "SELECT code, place, begins, ends, remit FROM period ORDER BY place"
 }

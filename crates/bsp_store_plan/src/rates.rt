@@ -5,12 +5,12 @@ ghost use Rattle.sqlite.specs.Values.{bound};
 ghost use Rattle.bsp_store_base.specs.Calls.{Changes, GivesUp, GivesUpIf};
 ghost use Rattle.bsp_store_base.specs.Columns.{rate_row};
 ghost use Rattle.bsp_store_base.specs.Content.{rate_part};
-ghost use Rattle.bsp_store_base.specs.Shows.{ShowsAll};
+ghost use Rattle.bsp_store_base.specs.Shows.{ShowsTable};
 ghost use Rattle.bsp_store_plan.specs.Values.{rate_values};
 
 use bsp_rows::Rate;
 use bsp_store_base::airline_digits;
-use sqlite::{Alter, Connection, Error, Row};
+use sqlite::{Alter, Connection, Error};
 use sqlite_value::value::ValueRef;
 
 /// The row of a rate of commission at its place.
@@ -80,16 +80,9 @@ pub fn add_rates<S: Alter>(
     Ok(())
 }
 
-/// The rows of the rates in the order of their places.
-///
-/// # Errors
-///
-/// That of the statement which failed.
-pub fn all_rates<S: Alter>(conn: &mut Connection<S>) -> Result<Vec<Row>, Error>
-    ensures { ShowsAll rate_part S.Store conn.old conn.new result }
+/// The query for the rows of the rates in the order of their places.
+pub fn rates_query() -> &'static str
+    ensures { ShowsTable rate_part result.now }
 {
-    conn.query_all(
-        "SELECT airline, begins, place, hundredths FROM rate ORDER BY place",
-        &[],
-    )
+    "SELECT airline, begins, place, hundredths FROM rate ORDER BY place"
 }

@@ -5,11 +5,11 @@ ghost use Rattle.sqlite.specs.Values.{bound};
 ghost use Rattle.bsp_store_base.specs.Calls.{Changes, GivesUp};
 ghost use Rattle.bsp_store_base.specs.Columns.{terms_row};
 ghost use Rattle.bsp_store_base.specs.Content.{terms_part};
-ghost use Rattle.bsp_store_base.specs.Shows.{ShowsAll};
+ghost use Rattle.bsp_store_base.specs.Shows.{ShowsTable};
 ghost use Rattle.bsp_store_plan.specs.Values.{terms_values};
 
 use bsp_rows::Terms;
-use sqlite::{Alter, Connection, Error, Row};
+use sqlite::{Alter, Connection, Error};
 use sqlite_value::value::ValueRef;
 
 /// The row of the terms of the market.
@@ -80,13 +80,9 @@ pub fn put_terms<S: Alter>(conn: &mut Connection<S>, terms: Option<Terms>) -> Re
     Ok(())
 }
 
-/// The rows of the table, of which it has one at most unless another program wrote it.
-///
-/// # Errors
-///
-/// That of the statement which failed.
-pub fn all_terms<S: Alter>(conn: &mut Connection<S>) -> Result<Vec<Row>, Error>
-    ensures { ShowsAll terms_part S.Store conn.old conn.new result }
+/// The query for the rows of the table, of which it has one at most unless another program wrote it.
+pub fn terms_query() -> &'static str
+    ensures { ShowsTable terms_part result.now }
 {
-    conn.query_all("SELECT id, currency, review, documents FROM terms", &[])
+    "SELECT id, currency, review, documents FROM terms"
 }

@@ -1,7 +1,6 @@
-use Rattle.std.proofs.Common.{◌≡◌, true, sym, subst}
+use Rattle.std.proofs.Common.{sym, subst}
 use Rattle.std.proofs.lemmas.Result.{IfOk-from_err}
-use Rattle.bsp_store_open.specs.Faults.{is_refusal}
-use Rattle.bsp_store_open.specs.Opening.{HasNoBook, IsOfVersion, Reports}
+use Rattle.bsp_store_open.specs.Opening.{IsOfVersion, Reports}
 use Rattle.bsp_store_open.proofs.OpeningLemmas.{both, no_book_before, other_version, passed_on, spares_both, weaker}
 use Rattle.bsp_store_open.proofs.reading.plan_rows.Goals as goal
 
@@ -22,29 +21,29 @@ returns-clause-found g c =
     }) six
 
 pub returns-in_err-meta-clause-refused : goal.returns-in_err-meta-clause-refused
-returns-in_err-meta-clause-refused g c = passed_on (λ fault. is_refusal fault ≡ true → HasNoBook g.S.Store fault c.args.conn.now c.meta.new.conn) _ _ c.from_residual.ensures.1 c.in_err-meta.ensures.refused
+returns-in_err-meta-clause-refused g c = passed_on _ _ _ c.from_residual.ensures.1 (λ refused clean ours. absurd ((c.in_err-meta.ensures.refused refused).1 ours))
 
 pub returns-in_err-terms-clause-refused : goal.returns-in_err-terms-clause-refused
 returns-in_err-terms-clause-refused g c =
-    passed_on (λ fault. is_refusal fault ≡ true → HasNoBook g.S.Store fault c.args.conn.now c.terms.new.conn) _ _ c.from_residual-in_err-terms.ensures.1 (λ refused. no_book_before g.S.Store _ _ _ _ c.in_ok-meta.ensures.found c.in_err-terms.ensures.spares (c.in_err-terms.ensures.refused refused))
+    passed_on _ _ _ c.from_residual-in_err-terms.ensures.1 (λ refused. no_book_before g.S.Store _ _ _ _ c.in_ok-meta.ensures.found c.in_err-terms.ensures.spares (λ clean ours. absurd ((c.in_err-terms.ensures.refused refused).1 ours)))
 
 pub returns-in_err-airlines-clause-refused : goal.returns-in_err-airlines-clause-refused
 returns-in_err-airlines-clause-refused g c =
     let two = both g.S.Store _ _ _ _ _ c.in_ok-meta.ensures.found c.in_ok-terms.ensures.found in
-    passed_on (λ fault. is_refusal fault ≡ true → HasNoBook g.S.Store fault c.args.conn.now c.airlines.new.conn) _ _ c.from_residual-in_err-airlines.ensures.1 (λ refused. no_book_before g.S.Store _ _ _ _ two c.in_err-airlines.ensures.spares (c.in_err-airlines.ensures.refused refused))
+    passed_on _ _ _ c.from_residual-in_err-airlines.ensures.1 (λ refused. no_book_before g.S.Store _ _ _ _ two c.in_err-airlines.ensures.spares (λ clean ours. absurd ((c.in_err-airlines.ensures.refused refused).1 ours)))
 
 pub returns-in_err-rates-clause-refused : goal.returns-in_err-rates-clause-refused
 returns-in_err-rates-clause-refused g c =
     let two = both g.S.Store _ _ _ _ _ c.in_ok-meta.ensures.found c.in_ok-terms.ensures.found in
     let three = both g.S.Store _ _ _ _ _ two c.in_ok-airlines.ensures.found in
-    passed_on (λ fault. is_refusal fault ≡ true → HasNoBook g.S.Store fault c.args.conn.now c.rates.new.conn) _ _ c.from_residual-in_err-rates.ensures.1 (λ refused. no_book_before g.S.Store _ _ _ _ three c.in_err-rates.ensures.spares (c.in_err-rates.ensures.refused refused))
+    passed_on _ _ _ c.from_residual-in_err-rates.ensures.1 (λ refused. no_book_before g.S.Store _ _ _ _ three c.in_err-rates.ensures.spares (λ clean ours. absurd ((c.in_err-rates.ensures.refused refused).1 ours)))
 
 pub returns-in_err-periods-clause-refused : goal.returns-in_err-periods-clause-refused
 returns-in_err-periods-clause-refused g c =
     let two = both g.S.Store _ _ _ _ _ c.in_ok-meta.ensures.found c.in_ok-terms.ensures.found in
     let three = both g.S.Store _ _ _ _ _ two c.in_ok-airlines.ensures.found in
     let four = both g.S.Store _ _ _ _ _ three c.in_ok-rates.ensures.found in
-    passed_on (λ fault. is_refusal fault ≡ true → HasNoBook g.S.Store fault c.args.conn.now c.periods.new.conn) _ _ c.from_residual-in_err-periods.ensures.1 (λ refused. no_book_before g.S.Store _ _ _ _ four c.in_err-periods.ensures.spares (c.in_err-periods.ensures.refused refused))
+    passed_on _ _ _ c.from_residual-in_err-periods.ensures.1 (λ refused. no_book_before g.S.Store _ _ _ _ four c.in_err-periods.ensures.spares (λ clean ours. absurd ((c.in_err-periods.ensures.refused refused).1 ours)))
 
 pub returns-in_err-commission_taxes-clause-refused : goal.returns-in_err-commission_taxes-clause-refused
 returns-in_err-commission_taxes-clause-refused g c =
@@ -52,11 +51,11 @@ returns-in_err-commission_taxes-clause-refused g c =
     let three = both g.S.Store _ _ _ _ _ two c.in_ok-airlines.ensures.found in
     let four = both g.S.Store _ _ _ _ _ three c.in_ok-rates.ensures.found in
     let five = both g.S.Store _ _ _ _ _ four c.in_ok-periods.ensures.found in
-    passed_on (λ fault. is_refusal fault ≡ true → HasNoBook g.S.Store fault c.args.conn.now c.commission_taxes.new.conn) _ _ c.from_residual-in_err-commission_taxes.ensures.1 (λ refused. no_book_before g.S.Store _ _ _ _ five c.in_err-commission_taxes.ensures.spares (c.in_err-commission_taxes.ensures.refused refused))
+    passed_on _ _ _ c.from_residual-in_err-commission_taxes.ensures.1 (λ refused. no_book_before g.S.Store _ _ _ _ five c.in_err-commission_taxes.ensures.spares (λ clean ours. absurd ((c.in_err-commission_taxes.ensures.refused refused).1 ours)))
 
 pub returns-in_err-expect_version-clause-refused : goal.returns-in_err-expect_version-clause-refused
-returns-in_err-expect_version-clause-refused g c = passed_on (λ fault. is_refusal fault ≡ true → HasNoBook g.S.Store fault c.args.conn.now c.meta.new.conn) _ _ c.from_residual-in_err-expect_version.ensures.1
-    (λ refused. other_version g.S.Store _ c.args.conn.now c.meta.new.conn _ c.in_ok-meta.ensures.found (λ v. c.in_err-expect_version.ensures.refused (subst IsOfVersion (sym c.deref.ensures.value) v))
+returns-in_err-expect_version-clause-refused g c = passed_on _ _ _ c.from_residual-in_err-expect_version.ensures.1
+    (λ refused. other_version g.S.Store _ c.args.conn.now _ _ c.in_ok-meta.ensures.found (λ v. c.in_err-expect_version.ensures.refused (subst IsOfVersion (sym c.deref.ensures.value) v))
     (subst (Reports _) c.deref.ensures.value c.in_err-expect_version.ensures.reported))
 
 pub returns-clause-version : goal.returns-clause-version
