@@ -23,7 +23,6 @@ use std::alloc::Global;
 
 /// The rows of all callers, with their indexes, and the tallies. Each write keeps the indexes and the
 /// tallies. What was written since the last commit can be taken back without memory.
-#[derive(Drop)]
 pub struct Tables {
     pub(crate) plan: Planned,
     pub(crate) agents: Logged<AgentCode, Token>,
@@ -32,6 +31,21 @@ pub struct Tables {
     pub(crate) items: ItemTable,
     pub(crate) memos: MemoTable,
     pub(crate) tallies: TallyTable,
+}
+
+// It is written out, so that a caller does not prove again how each part is dropped.
+impl Drop for Tables {
+    fn drop(self) {
+        let Tables {
+            plan: _,
+            agents: _,
+            airlines: _,
+            ranges: _,
+            items: _,
+            memos: _,
+            tallies: _,
+        } = self;
+    }
 }
 
 /// The key of an item whose number has its check digit.
