@@ -180,7 +180,7 @@ fn settled_book<S: Alter + Logged + Drop>(
 /// Opens the book of a connection that was just opened, if it was. What is left of a store is dropped.
 fn opened_book<S: Alter + Logged + Drop, L: Drop>(
     alloc: Global,
-    opened: Result<Connection<S>, (OpenFault, L)>,
+    opened: Result<Connection<S>, (OpenFault, Option<L>)>,
 ) -> Result<SqlBook<S>, OpenFault>
     ensures { MatchResult opened (λ conn. IsOpeningOf S.Store conn result) (λ e. result ≡ Err e.0) }
 {
