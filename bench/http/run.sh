@@ -18,6 +18,13 @@ cd "$work"
 rustc -O -o twin "$here/twin.rs"
 rustc -O -o client "$here/client.rs"
 
+# The office and the twin on one processor, and the client on another. Without this the scheduler puts the client beside the
+# one in some runs, and beside the other in others.
+server=() client=()
+if [ "$(nproc)" -gt 1 ]; then
+  server=(taskset -c 1) client=(taskset -c 0)
+fi
+
 free_port() {
   python3 -c 'import socket; s = socket.socket(); s.bind(("127.0.0.1", 0)); print(s.getsockname()[1])'
 }
@@ -33,10 +40,10 @@ post() {
 }
 
 office=$(free_port)
-"$program" serve --port "$office" --token officetoken00001 2>/dev/null &
+"${server[@]}" "$program" serve --port "$office" --token officetoken00001 2>/dev/null &
 office_pid=$!
 twin=$(free_port)
-./twin "$twin" &
+"${server[@]}" ./twin "$twin" &
 twin_pid=$!
 answers "$office"
 answers "$twin"
@@ -58,7 +65,7 @@ printf 'GET /agents/12345675/periods/24011 HTTP/1.1\r\n%s\r\n' "$fields" >period
 measure() {
   local before wall after
   before=$(cut -d ' ' -f 1 "/proc/$2/schedstat")
-  wall=$(./client "$1" "$count" "$3" "$4")
+  wall=$("${client[@]}" ./client "$1" "$count" "$3" "$4")
   after=$(cut -d ' ' -f 1 "/proc/$2/schedstat")
   echo "$wall $(((after - before) / (5 * (count / $3 * $3) + 1)))"
 }
