@@ -20,6 +20,13 @@ CODE = re.compile(r"(?<!\w)[A-Z]\d\d(?!\w)")
 ROW = re.compile(r"^\| `?([A-Z]\d\d)`? \|.*$", re.M)
 CAUSES = re.compile(r"^### ([A-Z]\d\d) by its causes\n\n((?:- .*\n)*)", re.M)
 PAGE = TOP / "docs/CODES.md"
+# pages that the texts of the table name, and where their content is now
+MOVED = {
+    "MEMOS.md": "RULES.md#what-can-follow-each-state-of-a-memo",
+    "ROUTES.md": "API.md",
+    "HTTP.md": "OPERATION.md",
+    "GUIDE.md": "OPERATION.md",
+}
 # a row of the table: the code, the status, the meaning, the remedy and the causes
 ENTRY = re.compile(r'\(\n\s+("[A-Z]\d\d",.*?)^ *\)[],]', re.M | re.S)
 
@@ -39,11 +46,17 @@ def table():
     return found
 
 
+def link_to(name):
+    """A link to the page that has this name, or that has its content now."""
+    target = MOVED.get(name, name)
+    return f"[{target.partition('#')[0]}]({target})"
+
+
 def as_page(code, text, causes):
     """A text of the table as the page has it: with links to pages and to the causes."""
     if causes:
         text = text.replace("its causes", f"[{code} by its causes](#{code.lower()}-by-its-causes)")
-    return re.sub(r"\bdocs/([A-Z]+\.md)", r"[\1](\1)", text)
+    return re.sub(r"\bdocs/([A-Z]+\.md)", lambda found: link_to(found[1]), text)
 
 
 def made(page, entries):
