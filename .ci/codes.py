@@ -23,8 +23,8 @@ PAGE = TOP / "docs/CODES.md"
 # pages that the texts of the table name, and where their content is now
 MOVED = {
     "MEMOS.md": "RULES.md#what-can-follow-each-state-of-a-memo",
-    "ROUTES.md": "API.md",
-    "HTTP.md": "OPERATION.md",
+    "ROUTES.md": "API.md#methods-and-paths",
+    "HTTP.md": "OPERATION.md#a-proxy-in-front",
     "GUIDE.md": "OPERATION.md",
 }
 # a row of the table: the code, the status, the meaning, the remedy and the causes
