@@ -6,7 +6,7 @@ ghost use Rattle.bsp_rows.specs.History.Request.{Close, Publish, SetDay};
 ghost use Rattle.bsp_book.specs.Calls.{Answers, Begins, Commits, FallsBack, Faults, LeavesEither, LeavesLast, LeavesNow, LooksUp, Makes, Meaning, Stays};
 ghost use Rattle.bsp_memory_rows.specs.Lookups.{items_with_number, stock_of};
 ghost use Rattle.bsp_rows.specs.Laws.{issued_count};
-ghost use Rattle.bsp_rows.specs.Rows.{HasNumberKey, Rows, agent_token, airline_token, has_meeting, is_used_in, item_at, items_bearing, items_of, key_of, memo_at, memo_key, memos_of, ranges_of, registered};
+ghost use Rattle.bsp_rows.specs.Rows.{HasNumberKey, Rows, agent_token, airline_token, has_meeting, is_used_in, item_at, items_bearing, items_of, key_of, memo_at, memo_key, memos_of, ranges_of};
 ghost use Rattle.bsp_rows.specs.Tallies.{tallies_of, tally_of};
 ghost use Rattle.bsp_rows.specs.Writes.{IsFree, IsThere, MayBeAdded, MayBeBilled, after_request, request_answer, with_agent_token, with_airline_token, with_billing, with_end, with_item, with_memo, with_range, without_range};
 
@@ -71,10 +71,6 @@ pub trait Book {
     /// The token of an airline, if it is registered.
     fn airline_token(&mut self, airline: AirlineCode) -> Result<Option<Token>, BookFault>
         ensures { LooksUp means self.old self.new result (λ found. found) (airline_token airline) };
-
-    /// The registered agents, rising.
-    fn agents(&mut self) -> Result<Vec<AgentCode>, BookFault>
-        ensures { LooksUp means self.old self.new result (λ found. found.items) registered };
 
     /// The ranges of an agent, by their first numbers.
     fn ranges(&mut self, agent: AgentCode) -> Result<Vec<Range>, BookFault>

@@ -132,13 +132,6 @@ impl Book for ListBook {
         Ok(self.tables.airline_token(airline))
     }
 
-    fn agents(&mut self) -> Result<Vec<AgentCode>, BookFault> {
-        match self.tables.agents(self.alloc) {
-            Ok(found) => Ok(found),
-            Err(_) => Err(self.undo()),
-        }
-    }
-
     fn ranges(&mut self, agent: AgentCode) -> Result<Vec<Range>, BookFault> {
         match self.tables.ranges(self.alloc, agent) {
             Ok(found) => Ok(found),

@@ -1,8 +1,8 @@
 -- Lemmas on the requests for a statement.
-use Rattle.std.proofs.Common.{◌≡◌, ℕ, ◌+◌, ◌<◌, ◌≤◌, Bool, true, false, cond, List, [], ◌∷◌, ◌++◌, get_or, length, map, take, Option, Some, None, ap, append-nil, sym, subst, refl, ◌∙◌, arith}
+use Rattle.std.proofs.Common.{◌≡◌, ℕ, ◌+◌, ◌<◌, Bool, true, false, cond, List, [], ◌∷◌, ◌++◌, get_or, length, map, take, Option, Some, None, ap, append-nil, sym, subst, refl, ◌∙◌, arith}
 use Rattle.std.specs.Prelude.{Ok, option_map}
 use Rattle.std.specs.List.{AllByRecursion, FoldsTo, filter}
-use Rattle.std.proofs.lemmas.List.{length-map, map_push, take_all}
+use Rattle.std.proofs.lemmas.List.{length-map, map_push}
 use Rattle.std.proofs.lemmas.List.Elements.{filter_more}
 use Rattle.bsp_fields.specs.CivilDay.{CivilDay}
 use Rattle.bsp_calendar.specs.DayOrder.{is_up_to}
@@ -58,9 +58,6 @@ codes_more last qs i q before after below is so_far ends up more =
       pushed : (f : Period → ℕ) (xs : List Period) (x : Period) (b : Bool) → map f (xs ++ cond b (x ∷ []) []) ≡ map f xs ++ cond b (f x ∷ []) []
       pushed f xs x true = map_push f xs x
       pushed f xs x false = ap (map f) (append-nil xs) ∙ sym (append-nil (map f xs))
-
-pub codes_all : (last : CivilDay) (qs : List Period) (i : ℕ) (now : List ℕ) → length qs ≤ i → now ≡ map (λ p. p.code) (filter (λ p. is_up_to p.last last) (take i qs)) → now ≡ map (λ p. p.code) (filter (λ p. is_up_to p.last last) qs)
-codes_all last qs i now past so_far = so_far ∙ ap (λ (l : List Period). map (λ p. p.code) (filter (λ p. is_up_to p.last last) l)) (take_all i qs past)
 
 -- the closes of periods are those of their codes
 pub closes_of : (qs : List Period) → map (λ code. Close code) (map (λ q. q.code) qs) ≡ map (λ q. Close q.code) qs

@@ -4,15 +4,13 @@ use Rattle.std.specs.Prelude.{Some, Result, Ok, Err, IfErr, IsErrAnd, IsOkUnless
 use Rattle.std.specs.Global.{Vec}
 use Rattle.std.specs.List.{FoldsTo}
 use Rattle.std.proofs.lemmas.List.{length-map}
-use Rattle.bsp_ret.specs.declared.model.FaultCode.TheVariants.{F10}
-use Rattle.bsp_ret.specs.declared.model.RetFault.{RetFault}
 use Rattle.bsp_rules.specs.declared.rows.Range.{Range}
 use Rattle.bsp_messages.specs.declared.refusal.RequestRefusal.{RequestRefusal}
 use Rattle.bsp_rows.specs.Rows.{Rows, no_rows}
-use Rattle.bsp_judge.specs.Asked.{HasFault, HasRetFault, IsRefused, Takes, Task, caller_tasks, earlier_tasks, place_of, plan_tasks, stock_tasks, tasks}
+use Rattle.bsp_judge.specs.Asked.{HasFault, IsRefused, Takes, Task, caller_tasks, earlier_tasks, place_of, plan_tasks, stock_tasks, tasks}
 use Rattle.bsp_judge.specs.Asked.Task.{Allot, Publish}
 use Rattle.bsp_plan_trial.specs.Turns.{StopsAt}
-use Rattle.bsp_judge.specs.Unjudged.{IsLeft, IsRefusedAs, IsRetFaultOf, IsStopIn, IsStopOf, IsUnjudged, IsUnready, IsUnstatedOver}
+use Rattle.bsp_judge.specs.Unjudged.{IsLeft, IsRefusedAs, IsStopIn, IsStopOf, IsUnjudged, IsUnready, IsUnstatedOver}
 use Rattle.bsp_judge.specs.declared.setup.JudgeFault.{JudgeFault}
 use Rattle.bsp_judge.specs.declared.setup.JudgeFault.TheVariants.{Refused, Earlier, File, UnknownPeriod, Memory}
 use Rattle.bsp_judge.specs.declared.setup.Setup.{Setup}
@@ -44,11 +42,6 @@ if_ok (Err e) gives is = tt
 pub unless : {X E : Type 0} (P : E → Type 0) (r : Result X E) (fault : E) → P fault → IsOkUnless r fault → IfErr r P
 unless P (Ok x) fault p is = tt
 unless P (Err e) fault p is = subst P (sym is) p
-
--- what was no want of memory is the fault of the text
-pub has_fault : (text : List ℕ) (fault : RetFault) → IsRetFaultOf text fault → (fault.code ≡ F10 → ⊥) → HasRetFault text fault
-has_fault text fault (inl none) other = absurd (other (ap (λ (f : RetFault). f.code) none))
-has_fault text fault (inr has) other = has
 
 -- ---- a task of a trial
 

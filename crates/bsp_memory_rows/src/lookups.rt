@@ -5,7 +5,7 @@ ghost use Rattle.std.specs.FinMap.{entries};
 ghost use Rattle.bsp_memory_tables.specs.TallyTables.{tally_rows};
 ghost use Rattle.bsp_maps.specs.Windows.{entries_in};
 ghost use Rattle.bsp_rows.specs.Owed.{is_billed_in};
-ghost use Rattle.bsp_rows.specs.Rows.{agent_token, airline_token, has_meeting, is_in, is_used_in, items_bearing, items_of, memo_at, memos_of, ranges_of, registered};
+ghost use Rattle.bsp_rows.specs.Rows.{agent_token, airline_token, has_meeting, is_in, is_used_in, items_bearing, items_of, memo_at, memos_of, ranges_of};
 ghost use Rattle.bsp_rows.specs.Laws.{issued_count};
 ghost use Rattle.bsp_rows.specs.Sound.{AreApart};
 ghost use Rattle.bsp_rows.specs.Tallies.{is_tally_asked, tallies_of, tally_of};
@@ -100,13 +100,6 @@ impl Tables {
         ensures { result ≡ airline_token airline (rows_of self.now) }
     {
         self.airlines.get(airline)
-    }
-
-    /// The registered agents, rising.
-    pub fn agents(&self, alloc: Global) -> Result<Vec<AgentCode>, AllocError>
-        ensures { IfOk result (λ found. found.items ≡ registered (rows_of self.now)) }
-    {
-        self.agents.keys(alloc)
     }
 
     /// The ranges of an agent. It reads that agent's alone, and those that were withdrawn from it since the last

@@ -34,10 +34,6 @@ member ns q = list_any (same q) ns
 
 -- ---- each number once
 
-flipped : (a b : ℕ) (c : Bool) → (a == b) ≡ c → (b == a) ≡ c
-flipped a b true h = grind arith
-flipped a b false h = grind arith
-
 apart : (x q k : ℕ) → (q == x) ≡ false → (q == k) ≡ true → not (x == k) ≡ true
 apart x q k h is = grind arith
 
@@ -99,9 +95,6 @@ module _ (test : ℕ → Bool) where
   once_alike ns ms alike = counted_same (once same ns) (once same ms) (distinct_once ns) (distinct_once ms) (λ q. member_once ns q ∙ (alike q ∙ sym (member_once ms q)))
 
 -- ---- one more number
-
-member_itself : (q : ℕ) → (q == q) ≡ true
-member_itself q = grind arith
 
 same_as : (q m : ℕ) → (q == m) ≡ true → q ≡ m
 same_as q m h = grind arith

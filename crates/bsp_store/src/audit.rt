@@ -50,7 +50,7 @@ pub enum AuditFault {
     /// The tables are not those of a book, or have rows that are not sound. (B02.) With what is at fault, as far as it is
     /// found.
     Damaged(Option<Damage>),
-    /// The tables are of another version. (B04.) With its number, as far as it can be read.
+    /// The tables have a version that is none of 1 to 3. (B04.) With its number, as far as it can be read.
     OtherVersion(Option<i64>),
     /// The store is not opened, or fails, for another cause. (B01, B03.)
     Failed(OpenFault),

@@ -1,6 +1,6 @@
 //! A book in tables.
 
-ghost use Rattle.std.specs.Prelude.{◌≡◌, ◌⊎◌, ◌↔◌, IsOkUnless, IsTrue, None, OnErr, OnOk, Some, false, true};
+ghost use Rattle.std.specs.Prelude.{◌≡◌, ◌⊎◌, ◌↔◌, IsOkUnless, IsTrue, MatchResult, None, OnErr, OnOk, Some, false, true};
 ghost use Rattle.bsp_book.specs.Calls.{Commits, FallsBack};
 ghost use Rattle.bsp_book.specs.Listed.{meaning as listed};
 ghost use Rattle.bsp_rows.specs.Rows.{HasNumberKey, key_of};
@@ -101,6 +101,16 @@ impl<S: Alter> SqlBook<S> {
         second_of(list, conn)
     }
 
+    /// Refuses each call after the one with which the book failed.
+    fn expect_working(&self) -> Result<(), BookFault>
+        ensures { MatchResult result (λ done. self.now.failed ≡ false) (λ fault. (fault ≡ BookFault.Failed) × (self.now.failed ≡ true)) }
+    {
+        if self.failed {
+            return Err(BookFault::Failed);
+        }
+        Ok(())
+    }
+
     /// Gives up the open transaction after an error of the store. Where the cause was room and the store can still be
     /// used, nothing is left of the transaction. Otherwise the book has failed.
     fn give_up(&mut self, error: Error) -> BookFault
@@ -161,16 +171,12 @@ impl<S: Alter> Book for SqlBook<S> {
     }
 
     fn begin(&mut self) -> Result<(), BookFault> {
-        if self.failed {
-            return Err(BookFault::Failed);
-        }
+        self.expect_working()?;
         self.list.begin()
     }
 
     fn commit(&mut self) -> Result<(), BookFault> {
-        if self.failed {
-            return Err(BookFault::Failed);
-        }
+        self.expect_working()?;
         match save(self.alloc, &mut self.conn, self.list.tables()) {
             Ok(()) => self.keep(),
             Err(error) => Err(self.give_up(error)),
@@ -178,58 +184,37 @@ impl<S: Alter> Book for SqlBook<S> {
     }
 
     fn roll_back(&mut self) -> Result<(), BookFault> {
-        if self.failed {
-            return Err(BookFault::Failed);
-        }
+        self.expect_working()?;
         self.list.roll_back()
     }
 
     fn agent_token(&mut self, agent: AgentCode) -> Result<Option<Token>, BookFault> {
-        if self.failed {
-            return Err(BookFault::Failed);
-        }
+        self.expect_working()?;
         self.list.agent_token(agent)
     }
 
     fn airline_token(&mut self, airline: AirlineCode) -> Result<Option<Token>, BookFault> {
-        if self.failed {
-            return Err(BookFault::Failed);
-        }
+        self.expect_working()?;
         self.list.airline_token(airline)
     }
 
-    fn agents(&mut self) -> Result<Vec<AgentCode>, BookFault> {
-        if self.failed {
-            return Err(BookFault::Failed);
-        }
-        self.list.agents()
-    }
-
     fn ranges(&mut self, agent: AgentCode) -> Result<Vec<Range>, BookFault> {
-        if self.failed {
-            return Err(BookFault::Failed);
-        }
+        self.expect_working()?;
         self.list.ranges(agent)
     }
 
     fn stock(&mut self, agent: AgentCode) -> Result<Vec<UsedRange>, BookFault> {
-        if self.failed {
-            return Err(BookFault::Failed);
-        }
+        self.expect_working()?;
         self.list.stock(agent)
     }
 
     fn meets_range(&mut self, range: Range) -> Result<bool, BookFault> {
-        if self.failed {
-            return Err(BookFault::Failed);
-        }
+        self.expect_working()?;
         self.list.meets_range(range)
     }
 
     fn is_range_used(&mut self, agent: AgentCode, range: Range) -> Result<bool, BookFault> {
-        if self.failed {
-            return Err(BookFault::Failed);
-        }
+        self.expect_working()?;
         self.list.is_range_used(agent, range)
     }
 
@@ -238,9 +223,7 @@ impl<S: Alter> Book for SqlBook<S> {
         agent: AgentCode,
         transaction: &Transaction,
     ) -> Result<Vec<Item>, BookFault> {
-        if self.failed {
-            return Err(BookFault::Failed);
-        }
+        self.expect_working()?;
         self.list.items_bearing(agent, transaction)
     }
 
@@ -249,145 +232,107 @@ impl<S: Alter> Book for SqlBook<S> {
         agent: AgentCode,
         number: &[u8; 10],
     ) -> Result<Vec<Item>, BookFault> {
-        if self.failed {
-            return Err(BookFault::Failed);
-        }
+        self.expect_working()?;
         self.list.items_with_number(agent, number)
     }
 
     fn items(&mut self, which: Items) -> Result<Vec<Item>, BookFault> {
-        if self.failed {
-            return Err(BookFault::Failed);
-        }
+        self.expect_working()?;
         self.list.items(which)
     }
 
     fn memo(&mut self, key: MemoKey) -> Result<Option<Memo>, BookFault> {
-        if self.failed {
-            return Err(BookFault::Failed);
-        }
+        self.expect_working()?;
         self.list.memo(key)
     }
 
     fn memos(&mut self, which: Memos) -> Result<Vec<Memo>, BookFault> {
-        if self.failed {
-            return Err(BookFault::Failed);
-        }
+        self.expect_working()?;
         self.list.memos(which)
     }
 
     fn issued_count(&mut self, agent: AgentCode, airline: AirlineCode) -> Result<u64, BookFault> {
-        if self.failed {
-            return Err(BookFault::Failed);
-        }
+        self.expect_working()?;
         self.list.issued_count(agent, airline)
     }
 
     fn tally(&mut self, key: TallyKey) -> Result<Tally, BookFault> {
-        if self.failed {
-            return Err(BookFault::Failed);
-        }
+        self.expect_working()?;
         self.list.tally(key)
     }
 
     fn tallies(&mut self, which: Tallies) -> Result<Vec<Tally>, BookFault> {
-        if self.failed {
-            return Err(BookFault::Failed);
-        }
+        self.expect_working()?;
         self.list.tallies(which)
     }
 
     fn set_agent_token(&mut self, agent: AgentCode, token: Token) -> Result<(), BookFault> {
-        if self.failed {
-            return Err(BookFault::Failed);
-        }
+        self.expect_working()?;
         formed_agent(agent, token);
         self.list.set_agent_token(agent, token)
     }
 
     fn set_airline_token(&mut self, airline: AirlineCode, token: Token) -> Result<(), BookFault> {
-        if self.failed {
-            return Err(BookFault::Failed);
-        }
+        self.expect_working()?;
         formed_airline(airline, token);
         self.list.set_airline_token(airline, token)
     }
 
     fn add_range(&mut self, agent: AgentCode, range: Range) -> Result<(), BookFault> {
-        if self.failed {
-            return Err(BookFault::Failed);
-        }
+        self.expect_working()?;
         formed_range(RangeKey::of(agent, &range), range.last);
         self.list.add_range(agent, range)
     }
 
     fn withdraw_range(&mut self, agent: AgentCode, range: Range) -> Result<(), BookFault> {
-        if self.failed {
-            return Err(BookFault::Failed);
-        }
+        self.expect_working()?;
         self.list.withdraw_range(agent, range)
     }
 
     fn add_item(&mut self, item: &Item) -> Result<(), BookFault> {
-        if self.failed {
-            return Err(BookFault::Failed);
-        }
+        self.expect_working()?;
         formed_under_key(item);
         self.list.add_item(item)
     }
 
     fn end_item(&mut self, key: ItemKey) -> Result<(), BookFault> {
-        if self.failed {
-            return Err(BookFault::Failed);
-        }
+        self.expect_working()?;
         self.list.end_item(key)
     }
 
     fn add_memo(&mut self, memo: &Memo) -> Result<(), BookFault> {
-        if self.failed {
-            return Err(BookFault::Failed);
-        }
+        self.expect_working()?;
         formed_memo(MemoKey::of(memo.fields()), *memo.fields());
         self.list.add_memo(memo)
     }
 
     fn set_memo(&mut self, memo: &Memo) -> Result<(), BookFault> {
-        if self.failed {
-            return Err(BookFault::Failed);
-        }
+        self.expect_working()?;
         formed_memo(MemoKey::of(memo.fields()), *memo.fields());
         self.list.set_memo(memo)
     }
 
     fn bill(&mut self, key: MemoKey, period: PeriodCode) -> Result<(), BookFault> {
-        if self.failed {
-            return Err(BookFault::Failed);
-        }
+        self.expect_working()?;
         formed_period(period);
         self.list.bill(key, period)
     }
 
     fn publish(&mut self, text: &PlanText) -> Result<Result<Change, PlanFault>, BookFault> {
-        if self.failed {
-            return Err(BookFault::Failed);
-        }
+        self.expect_working()?;
         let answer = self.list.publish(text);
         formed_plan(self.list.plan());
         answer
     }
 
     fn set_day(&mut self, day: Day) -> Result<Result<Change, PlanFault>, BookFault> {
-        if self.failed {
-            return Err(BookFault::Failed);
-        }
+        self.expect_working()?;
         formed_day(day);
         self.list.set_day(day)
     }
 
     fn close(&mut self, code: PeriodCode) -> Result<Result<Change, PlanFault>, BookFault> {
-        if self.failed {
-            return Err(BookFault::Failed);
-        }
+        self.expect_working()?;
         let answer = self.list.close(code);
         formed_closed(self.list.plan());
         answer

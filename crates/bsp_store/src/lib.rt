@@ -14,4 +14,5 @@ pub use book::SqlBook;
 pub use bsp_store_damage::Damage;
 pub use bsp_store_open::OpenFault;
 pub use laws::stops_are_found;
+pub use logged::Logged;
 pub use opening::damage_at;

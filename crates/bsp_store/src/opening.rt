@@ -10,8 +10,8 @@ ghost use Rattle.sqlite.specs.declared.error.Error.{Error as StoreError};
 ghost use Rattle.bsp_rows.specs.Rows.{no_rows};
 ghost use Rattle.bsp_store_open.specs.Schema.{no_schema};
 ghost use Rattle.bsp_store_open.specs.Faults.{fault_for, is_refusal};
-ghost use Rattle.bsp_store_open.specs.Opening.{IsOrdered, LeavesCommitted, LeavesEmptyBook, Reopens, SparesStore};
-ghost use Rattle.bsp_store_migration.specs.Migrating.{AreAllInOrder, IsOld, ShowsNoOldBook};
+ghost use Rattle.bsp_store_open.specs.Opening.{AreAllInOrder, IsOrdered, LeavesCommitted, LeavesEmptyBook, Reopens, SparesStore};
+ghost use Rattle.bsp_store_migration.specs.Migrating.{IsOld, ShowsNoOldBook};
 ghost use Rattle.bsp_store_migration.specs.Old.{old_schema};
 ghost use Rattle.bsp_store_migration.specs.declared.version.OldVersion.{OldVersion};
 ghost use Rattle.bsp_store.specs.Meanings.{Holds};
@@ -23,8 +23,10 @@ use crate::book::SqlBook;
 use crate::logged::Logged;
 use crate::on_files::{OnFiles, on_files};
 use bsp_store_damage::{Damage, find_damage};
-use bsp_store_migration::{OldVersion, again_ordered, migrated_list, old_version, open_ordered};
-use bsp_store_open::{OpenFault, again, empty_list, is_bare, is_ours, kept_list, refusal};
+use bsp_store_migration::{OldVersion, migrated_list, old_version};
+use bsp_store_open::{
+    OpenFault, again, empty_list, is_bare, is_ours, kept_list, open_ordered, refusal,
+};
 use bsp_store_save::make_book;
 use sqlite::{Alter, Connection, Error, ErrorCode, FileFrom, FileStore, Leftover, MemStore, Start};
 use sqlite_trees::store::Store;
@@ -166,17 +168,6 @@ fn without_store<S: Alter + Drop>(
     }
 }
 
-/// Opens the book that a store keeps, after its log is copied into its main file.
-fn settled_book<S: Alter + Logged + Drop>(
-    alloc: Global,
-    conn: Connection<S>,
-) -> Result<SqlBook<S>, (OpenFault, S)>
-    ensures { IsOpening S.Store conn result }
-{
-    let conn = settled(alloc, conn)?;
-    opened(alloc, conn)
-}
-
 /// Opens the book of a connection that was just opened, if it was. What is left of a store is dropped.
 fn opened_book<S: Alter + Logged + Drop, L: Drop>(
     alloc: Global,
@@ -185,7 +176,7 @@ fn opened_book<S: Alter + Logged + Drop, L: Drop>(
     ensures { MatchResult opened (λ conn. IsOpeningOf S.Store conn result) (λ e. result ≡ Err e.0) }
 {
     match opened {
-        Ok(conn) => without_store(settled_book(alloc, conn)),
+        Ok(conn) => without_store(SqlBook::adopt(alloc, conn)),
         Err((fault, _)) => Err(fault),
     }
 }
@@ -205,13 +196,13 @@ pub(crate) fn files_at<T: Start>(
     }
 }
 
-impl<S: Alter + Drop> SqlBook<S> {
+impl<S: Alter + Logged + Drop> SqlBook<S> {
     /// Opens the book that a store keeps, and tests that its rows are sound. A store without any table gets those of an
     /// empty book, in one transaction. One with the tables of an earlier version gets those that it lacks, also in one
     /// transaction, and the same book: it is committed only after its rows were found to be sound.
     ///
-    /// The connection is opened again over its store, which rolls back a transaction that is open on it and tests the
-    /// whole store once more.
+    /// What the log of the store has is first copied into its main file. The connection is opened again over its store,
+    /// which rolls back a transaction that is open on it and tests the whole store once more.
     ///
     /// Where the connection shows what a stop left of a book with sound rows, of this version or of an earlier one, as
     /// `stops_are_found` says, the book that is opened has these rows, and `OtherVersion` and `Damaged` are not answered
@@ -226,7 +217,7 @@ impl<S: Alter + Drop> SqlBook<S> {
     pub fn adopt(alloc: Global, conn: Connection<S>) -> Result<SqlBook<S>, (OpenFault, S)>
         ensures opening { IsOpening S.Store conn result }
     {
-        let conn = again_ordered(alloc, conn)?;
+        let conn = settled(alloc, conn)?;
         opened(alloc, conn)
     }
 }
@@ -247,8 +238,8 @@ impl SqlBook<MemStore> {
 }
 
 impl<T: Start> SqlBook<FileStore<FileFrom<T>>> {
-    /// Opens the book in the file at a path, with its log beside it, or makes both. What the log has is first copied into
-    /// the file. `start` says what a torn write may leave: with `Wary` each commit syncs twice.
+    /// Opens the book in the file at a path, with its log beside it, or makes both, and adopts it as [`SqlBook::adopt`]
+    /// does. `start` says what a torn write may leave: with `Wary` each commit syncs twice.
     ///
     /// # Errors
     ///

@@ -3,16 +3,14 @@ use Rattle.std.proofs.Common.{◌≡◌, ℕ, ◌+◌, ◌<◌, ◌==◌, Bool, 
 use Rattle.std.specs.Prelude.{Option, Some, None}
 use Rattle.std.specs.Option.{option_or}
 use Rattle.std.specs.Ordering.{eq_by_cmp, nat_cmp}
-use Rattle.std.specs.Cmp.{Equal-is, nat_cmp_total, unsigned_tied}
-use Rattle.std.specs.FinMap.{FinMap, entries, find, get, get-entries, get-from_entries, get-insert, insert, nat_cmp-IsAntisymmetric, same_map}
+use Rattle.std.specs.Cmp.{nat_cmp_total, unsigned_tied}
+use Rattle.std.specs.FinMap.{FinMap, entries, find, get, get-entries, get-from_entries, get-insert, insert}
 use Rattle.std.proofs.lemmas.Bool.{eqb-true}
 use Rattle.std.proofs.lemmas.List.{length-take-le}
 use Rattle.bsp_store_base.specs.declared.airlines.AirlineEntry.{AirlineEntry}
 use Rattle.bsp_store_base.specs.Airlines.{airline_entries, entry_of, place_among, place_of, published_at, registered, unplaced, with_published}
 use Rattle.bsp_store_base.specs.Columns.{placed}
-use Rattle.bsp_store_base.specs.Synced.{with_value}
 use Rattle.bsp_store_base.proofs.Placing.{one_more, placed_next}
-use Rattle.bsp_store_base.proofs.Syncing.{get-with_value}
 
 -- ---- places
 
@@ -107,14 +105,3 @@ module _ (tokens : FinMap nat_cmp (List ℕ)) where
   airline_entries-next ps p = with_published-next ps p (registered tokens)
 
 -- ---- another token
-
-pub airline_entries-token : (ps : List ℕ) (tokens : FinMap nat_cmp (List ℕ)) (k : ℕ) (token : Option (List ℕ))
-    → airline_entries ps (with_value k token tokens) ≡ with_value k (entry_of (place_of k ps) token) (airline_entries ps tokens)
-airline_entries-token ps tokens k token = same_map nat_cmp_total nat_cmp-IsAntisymmetric _ _ (λ q.
-    get-airline_entries (with_value k token tokens) ps q ∙ ap (entry_of (place_of q ps)) (get-with_value nat_cmp_total k token tokens q)
-    ∙ at (eq_by_cmp nat_cmp q k) q refl
-    ∙ sym (get-with_value nat_cmp_total k (entry_of (place_of k ps) token) (airline_entries ps tokens) q ∙ ap (cond (eq_by_cmp nat_cmp q k) (entry_of (place_of k ps) token)) (get-airline_entries tokens ps q)))
-  where
-    at : (b : Bool) (q : ℕ) → eq_by_cmp nat_cmp q k ≡ b → entry_of (place_of q ps) (cond b token (get tokens q)) ≡ cond b (entry_of (place_of k ps) token) (entry_of (place_of q ps) (get tokens q))
-    at true q tie = ap (λ (x : ℕ). entry_of (place_of x ps) token) (nat_cmp-IsAntisymmetric q k ((Equal-is (nat_cmp q k)).0 tie))
-    at false q tie = refl

@@ -50,22 +50,9 @@ was_open sql params old new count is (c, it, ran) = elim (cases_Bool (shows_rows
   | inr runs ↦ runs_open old new c.returning c.command (text_of sql c) _ count is (rw runs at ran)
 ]
 
-pub had_open : (sql : List ℕ) (params : Row) (old new : State) (rows : List Row) → Shown sql params old new rows → IsTrue old.is_open
-unfolding Shown
-had_open sql params old new rows (c, it, shows) = go c.returning shows
-  where
-    go : (o : Option Returning) → ShowsRows old new sql c (timed params c.formats it.now) rows o → IsTrue old.is_open
-    go None h = h.3.0.was_open
-    go (Some what) h = h.1.shown.was_open
-
 pub unchanged_by : (sql : List ℕ) (params : Row) (old new : State) (rows : List Row) → IsPlain (understood old.now.schema sql) → Shown sql params old new rows → IsUnchanged old new
 unfolding Shown
 unchanged_by sql params old new rows plain (c, it, shows) = (subst (ShowsRows old new sql c (timed params c.formats it.now) rows) (subst IsPlain it.is plain).0 shows).3
-
--- what a statement that changes nothing, or rolls back, had found
-pub had_been_open : (sql : List ℕ) (params : Row) (old new : State) (r : Result ℕ Error) → IsTrue new.is_open → Executes sql params old new r → IsTrue old.is_open
-had_been_open sql params old new (Ok n) is h = was_open sql params old new n is h
-had_been_open sql params old new (Err e) is h = elim (refused sql params old new e h) [ inl same ↦ same.0.was_open | inr back ↦ back.was_open is ]
 
 refused_query : (sql : List ℕ) (params : Row) (old new : State) (e : Error) → FailsToQuery sql params old new e → IsUnchanged old new ⊎ IsRolledBack old new
 unfolding FailsToQuery IsNotRun

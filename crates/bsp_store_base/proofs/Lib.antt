@@ -20,5 +20,4 @@ pub mod SecondLemmas
 pub mod ReadBack
 pub mod SchemaLemmas
 pub mod Texts
-pub mod Ordered
 pub mod MakingLemmas

@@ -1,33 +1,28 @@
 -- What a query for a whole table shows.
-use Rattle.std.proofs.Common.{◌≡◌, inl, inr, Less, ℕ, List, [], ◌∷◌, ◌++◌, map, filter, false, Vec, Global, Ok, Err, Result, IfOk, OnOk, refl, sym, ap, ap₂, ◌∙◌, subst, IsPermutation, arith}
+use Rattle.std.proofs.Common.{◌≡◌, Less, ℕ, List, [], ◌∷◌, ◌++◌, map, filter, false, Ok, Err, Result, refl, sym, ap, ap₂, ◌∙◌, subst, IsPermutation}
 use Rattle.std.specs.List.{range_with_len}
 use Rattle.std.proofs.lemmas.List.Sorted.{IsPermutation-refl, IsPermutation-map}
 use Rattle.sqlite_value.specs.declared.value.Value.TheVariants.{Null}
 use Rattle.sqlite_value.specs.declared.keys.Key.{Key}
 use Rattle.sqlite_value.specs.Order.{Row}
 use Rattle.sqlite_trees.specs.Tree.{Trees, IsAscending}
-use Rattle.sqlite_trees.specs.declared.store.Store.{Ghosts}
 use Rattle.sqlite_trees.proofs.ListLemmas.{map-map, filter_all, all_of}
 use Rattle.sqlite_keyed.proofs.ListLemmas.{ascending-map}
 use Rattle.sqlite_sql.specs.Term.{Term, col}
 use Rattle.sqlite_sql.specs.Query.{IsAnswer, Output, Query, output_cmp}
 use Rattle.sqlite_sql.specs.Program.{overlay}
-use Rattle.sqlite_schema.specs.declared.schema.Schema.{Schema}
 use Rattle.sqlite_schema.specs.declared.command.Command.TheVariants.{Select}
-use Rattle.sqlite.specs.declared.error.Error.{Error}
 use Rattle.sqlite_resolve.specs.declared.compiled.Compiled.{Compiled}
 use Rattle.sqlite_resolve.specs.declared.error.CompileError.{CompileError}
 use Rattle.sqlite.specs.Clock.{timed}
 use Rattle.sqlite.specs.Listing.{understood, reads_listing}
-use Rattle.sqlite.specs.State.{State, Begins, HasCleanDisk, IsUnchanged, Shown, Survives, CommitsShowing}
-use Rattle.sqlite.specs.Held.{Held, state}
-use Rattle.sqlite.proofs.Callers.{EndsIn, reads_as, IsPlain, begins_shown, command_of, never_commits}
+use Rattle.sqlite.specs.State.{State, Begins, IsUnchanged, Shown}
+use Rattle.sqlite.proofs.Callers.{EndsIn, reads_as, IsPlain, begins_shown, command_of}
 use Rattle.bsp_store_base.specs.Schema.{our_schema}
 use Rattle.bsp_store_base.specs.Content.{Content, form, width_of}
 use Rattle.bsp_store_base.specs.Forms.{IsFormed}
-use Rattle.bsp_store_base.specs.Kept.{KeepsRows, Part, Reads, Spares, columns_of}
-use Rattle.bsp_store_base.specs.Shows.{AreAllOf, IsQuery, ShowsAll, ShowsTable}
-use Rattle.bsp_store_base.proofs.Held.{unchanged_by}
+use Rattle.bsp_store_base.specs.Kept.{KeepsRows, Part, columns_of}
+use Rattle.bsp_store_base.specs.Shows.{AreAllOf, IsQuery, ShowsTable}
 use Rattle.bsp_store_base.proofs.Rising.{keys_of, IsBefore}
 use Rattle.bsp_store_base.proofs.ReadingLemmas.{simple, passes, out, rows_are, rows_in_order}
 
@@ -40,9 +35,7 @@ same_all [] = refl
 same_all (x ∷ xs) = ap (λ l. x ∷ l) (same_all xs)
 
 -- SELECT all columns FROM t ORDER BY ..
-module _ (schema : Schema) (sql : List ℕ) (names : List (List ℕ)) (tree width : ℕ) (order : List (Term × Key))
-    (is : command_of (understood schema sql) ≡ Select (record { lets = []; body = simple tree [] (map (col 1) (range_with_len 1 width)) order }) names)
-    (plain : IsPlain (understood schema sql)) (unlisted : reads_listing schema sql ≡ false) (plain_tree : (db : Trees) → overlay db [] tree ≡ db tree)
+module _ (tree width : ℕ) (order : List (Term × Key)) (plain_tree : (db : Trees) → overlay db [] tree ≡ db tree)
     (lists : (trees : Trees) (r : Row) → (out tree [] (map (col 1) (range_with_len 1 width)) order trees [] r).1 ≡ columns_of width r) where
   abbrev project : List Term
   project = map (col 1) (range_with_len 1 width)
@@ -55,31 +48,6 @@ module _ (schema : Schema) (sql : List ℕ) (names : List (List ℕ)) (tree widt
       subst (λ (l : List Row). IsPermutation l rows)
       (ap (λ (l : List Row). map (λ (o : Output). o.1) (map f l)) kept ∙ map-map (λ (o : Output). o.1) f (trees tree) ∙ same_maps (λ r. (f r).1) (columns_of width) (lists trees) (trees tree) ∙ ap (map (columns_of width)) (plain_tree db))
       (rows_are tree [] project order trees [] rows a (map f (filter (passes tree [] project order trees []) (trees tree))) (IsPermutation-refl _))
-
-  shows_all : (old new : State) → old.now.schema ≡ schema → (rows : List Row) → Shown sql [] old new rows → IsPermutation (map (columns_of width) (old.now.trees tree)) rows
-  shows_all old new has rows shown = in_any_order old.now.trees rows ((reads_as sql [] old new schema has _ is plain unlisted rows shown).answer Null)
-
-  all_rows : (old new : State) (r : Result (Vec Row Global) Error) → IfOk r (λ rows. Shown sql [] old new rows.items) → IfOk r (λ found. old.now.schema ≡ schema → IsPermutation (map (columns_of width) (old.now.trees tree)) found.items)
-  all_rows old new (Err e) h = tt
-  all_rows old new (Ok rows) h = λ has. shows_all old new has rows.items h
-
-  all_read : {S : Type 0} (g : Ghosts S) (old new : Held S) (r : Result (Vec Row Global) Error) → Survives (state g old) (state g new) (CommitsShowing sql [] (state g old))
-      → (HasCleanDisk (state g new) → IfOk r (λ rows. Shown sql [] (state g old) (state g new) rows.items)) → OnOk r (old.schema ≡ schema → Reads g old new)
-  all_read g old new (Err e) kept h = tt
-  all_read g old new (Ok rows) kept h = λ has. record {
-    earlier = λ clean. omega (arith, kept.clean);
-    same = λ clean. (unchanged_by sql [] (state g old) (state g new) rows.items (subst (λ s. IsPlain (understood s sql)) (sym has) plain) (h clean)).0.now_is;
-    is_open = λ clean. (unchanged_by sql [] (state g old) (state g new) rows.items (subst (λ s. IsPlain (understood s sql)) (sym has) plain) (h clean)).0.is_open;
-  }
-
-  all_spares : {S : Type 0} (g : Ghosts S) (old new : Held S) → Survives (state g old) (state g new) (CommitsShowing sql [] (state g old)) → old.schema ≡ schema → Spares g old new
-  all_spares g old new kept has = record {
-    earlier = λ clean. omega (arith, kept.clean);
-    leaves = λ clean db may. elim (kept.crash clean db may) [
-      | inl before ↦ before
-      | inr made ↦ absurd (never_commits sql [] (state g old) db (subst (λ s. IsPlain (understood s sql)) (sym has) plain) made)
-    ];
-  }
 
   abbrev shown_as : Row → Output
   shown_as row = (keys_of order row, row)
@@ -96,32 +64,6 @@ module _ (schema : Schema) (sql : List ℕ) (names : List (List ℕ)) (tree widt
         (subst (IsPermutation (map shown_as xs)) outs (IsPermutation-map shown_as _ _ same))
         ∙ map-map (λ (o : Output). o.1) shown_as xs ∙ same_all xs
 
-    all_ordered : {C : Type 0} (old new : State) (r : Result (Vec Row Global) Error) → IfOk r (λ rows. Shown sql [] old new rows.items) → (Formed Kept : C → Type 0) (rows_of : C → List Row)
-        → ((c : C) → Formed c → IsAscending (IsBefore order) (rows_of c)) → ((c : C) → Kept c → IsPermutation (rows_of c) (map (columns_of width) (old.now.trees tree)))
-        → IfOk r (λ found. old.now.schema ≡ schema → (c : C) → Formed c → Kept c → found.items ≡ rows_of c)
-    all_ordered old new (Err e) h Formed Kept rows_of up same = tt
-    all_ordered old new (Ok rows) h Formed Kept rows_of up same = λ has c formed kept.
-        in_order old.now.trees rows.items ((reads_as sql [] old new schema has _ is plain unlisted rows.items h).answer Null) (rows_of c) (same c kept) (up c formed)
-
--- a query for the rows of one of our tables
-pub all_shown : (part : Part Content) (sql : List ℕ) (names : List (List ℕ)) (order : List (Term × Key))
-    (is : command_of (understood our_schema sql) ≡ Select (record { lets = []; body = simple part.tree [] (map (col 1) (range_with_len 1 (width_of part.tree))) order }) names)
-    → IsPlain (understood our_schema sql) → reads_listing our_schema sql ≡ false → ((db : Trees) → overlay db [] part.tree ≡ db part.tree)
-    → ((trees : Trees) (r : Row) → (out part.tree [] (map (col 1) (range_with_len 1 (width_of part.tree))) order trees [] r).1 ≡ columns_of (width_of part.tree) r)
-    → ((trees : Trees) (r : Row) → (out part.tree [] (map (col 1) (range_with_len 1 (width_of part.tree))) order trees [] r).0 ≡ keys_of order (columns_of (width_of part.tree) r))
-    → ((c : Content) → IsFormed c → IsAscending (IsBefore order) (part.rows c))
-    → ((c : Content) (trees : Trees) → KeepsRows form c trees → IsPermutation (part.rows c) (map (columns_of (width_of part.tree)) (trees part.tree)))
-    → {S : Type 0} (g : Ghosts S) (old new : Held S) (r : Result (Vec Row Global) Error) → (HasCleanDisk (state g new) → IfOk r (λ rows. Shown sql [] (state g old) (state g new) rows.items))
-    → Survives (state g old) (state g new) (CommitsShowing sql [] (state g old)) → (old.in_transaction ≡ false → new.in_transaction ≡ false) → ShowsAll part g old new r
-all_shown part sql names order is plain unlisted plain_tree lists sees rise same g old new r ok kept mode = record {
-  rows = λ clean. all_rows our_schema sql names part.tree (width_of part.tree) order is plain unlisted plain_tree lists (state g old) (state g new) r (ok clean);
-  order = λ clean. all_ordered our_schema sql names part.tree (width_of part.tree) order is plain unlisted plain_tree lists sees (state g old) (state g new) r (ok clean)
-      IsFormed (λ c. KeepsRows form c (state g old).now.trees) part.rows rise (λ c keeps. same c (state g old).now.trees keeps);
-  read = all_read our_schema sql names part.tree (width_of part.tree) order is plain unlisted plain_tree lists g old new r kept ok;
-  mode = mode;
-  spares = all_spares our_schema sql names part.tree (width_of part.tree) order is plain unlisted plain_tree lists g old new kept;
-}
-
 query_is : (r : Result Compiled CompileError) (query : Query) (names : List (List ℕ)) → command_of r ≡ Select (record { lets = []; body = query }) names → IsQuery r query names
 query_is (Ok c) query names is = is
 query_is (Err e) query names is = absurd (cc is)
@@ -130,7 +72,7 @@ command_is : (r : Result Compiled CompileError) (query : Query) (names : List (L
 command_is (Ok c) query names is = is
 command_is (Err e) query names is = absurd is
 
--- the same of a text whose rows are read one at a time
+-- a text for the rows of one of our tables
 pub table_shown : (part : Part Content) (sql : List ℕ) (names : List (List ℕ)) (order : List (Term × Key))
     (is : command_of (understood our_schema sql) ≡ Select (record { lets = []; body = simple part.tree [] (map (col 1) (range_with_len 1 (width_of part.tree))) order }) names)
     → IsPlain (understood our_schema sql) → reads_listing our_schema sql ≡ false → ((db : Trees) → overlay db [] part.tree ≡ db part.tree)
@@ -146,8 +88,8 @@ table_shown part sql names order is plain unlisted plain_tree lists sees rise sa
   plain = plain;
   unlisted = unlisted;
   all = λ trees rows answer. record {
-    in_any_order = in_any_order our_schema sql names part.tree (width_of part.tree) order is plain unlisted plain_tree lists trees rows answer;
-    in_order = λ c formed keeps. in_order our_schema sql names part.tree (width_of part.tree) order is plain unlisted plain_tree lists sees trees rows answer (part.rows c) (same c trees keeps) (rise c formed);
+    in_any_order = in_any_order part.tree (width_of part.tree) order plain_tree lists trees rows answer;
+    in_order = λ c formed keeps. in_order part.tree (width_of part.tree) order plain_tree lists sees trees rows answer (part.rows c) (same c trees keeps) (rise c formed);
   };
 }
 

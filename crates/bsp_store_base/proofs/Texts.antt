@@ -13,10 +13,6 @@ pub meta_is : Makes (codes "CREATE TABLE meta (id INT NOT NULL PRIMARY KEY, vers
 unfolding everything
 meta_is = refl
 
-pub terms_is : Makes (codes "CREATE TABLE terms (id INT NOT NULL PRIMARY KEY, currency TEXT NOT NULL, review INTEGER NOT NULL, documents INTEGER NOT NULL) STRICT") schema.terms_table
-unfolding everything
-terms_is = refl
-
 pub airline_is : Makes (codes "CREATE TABLE airline (code TEXT NOT NULL PRIMARY KEY, place INTEGER, token TEXT) STRICT") schema.airline_table
 unfolding everything
 airline_is = refl
@@ -48,19 +44,3 @@ memo_is = refl
 pub tally_is : Makes (codes "CREATE TABLE tally (agent TEXT NOT NULL, airline TEXT NOT NULL, period TEXT NOT NULL, accepted INTEGER NOT NULL, living INTEGER NOT NULL, canx INTEGER NOT NULL, memo_count INTEGER NOT NULL, cash INTEGER NOT NULL, credit INTEGER NOT NULL, commission INTEGER NOT NULL, memos INTEGER NOT NULL, PRIMARY KEY (agent, airline, period)) STRICT") schema.tally_table
 unfolding everything
 tally_is = refl
-
-pub commission_tax_is : Makes (codes "CREATE TABLE commission_tax (begins INT NOT NULL PRIMARY KEY, place INTEGER NOT NULL, hundredths INTEGER NOT NULL) STRICT") schema.commission_tax_table
-unfolding everything
-commission_tax_is = refl
-
-pub item_tax_is : Makes (codes "CREATE TABLE item_tax (agent TEXT NOT NULL, number TEXT NOT NULL, canx INTEGER NOT NULL, tax INTEGER NOT NULL, hundredths INTEGER NOT NULL, PRIMARY KEY (agent, number, canx)) STRICT") schema.item_tax_table
-unfolding everything
-item_tax_is = refl
-
-pub tally_tax_is : Makes (codes "CREATE TABLE tally_tax (agent TEXT NOT NULL, airline TEXT NOT NULL, period TEXT NOT NULL, tax INTEGER NOT NULL, PRIMARY KEY (agent, airline, period)) STRICT") schema.tally_tax_table
-unfolding everything
-tally_tax_is = refl
-
-pub second_related_is : Makes (codes "CREATE TABLE second_related (agent TEXT NOT NULL, number TEXT NOT NULL, airline TEXT NOT NULL, rel_number TEXT NOT NULL, PRIMARY KEY (agent, number)) STRICT") schema.second_related_table
-unfolding everything
-second_related_is = refl

@@ -10,7 +10,6 @@ mod airlines;
 mod digits;
 mod indexes;
 mod made;
-mod openings;
 mod plain;
 mod reading;
 mod schema;
@@ -21,7 +20,6 @@ mod tickets;
 pub use airlines::{AirlineEntry, place_of};
 pub use digits::{agent_digits, airline_digits, number_digits, period_digits};
 pub use made::{is_bare, make_tables};
-pub use openings::{open_in_order, reopen};
 pub use reading::{
     agent_at, airline_at, amount_at, below_at, day_at, int_at, is_null, number_at, period_at,
     token_at,

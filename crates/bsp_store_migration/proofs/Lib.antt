@@ -1,4 +1,3 @@
-pub mod OrderLemmas
 pub mod MetaLemmas
 pub mod EndLemmas
 pub mod FillingLemmas

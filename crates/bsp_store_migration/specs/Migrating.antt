@@ -79,20 +79,12 @@ pub record IsOldBook (version : OldVersion) (rows : Rows) (trees : Trees) : Type
 abbrev pub IsMigrationOf : OldVersion → Trees → Trees → Type 0
 IsMigrationOf version old new = (rows : Rows) × Sound rows × KeepsOldBook version rows old × KeepsOnlyOld version rows old × IsBook rows new
 
--- the rows of each table are in the order of their rowids, which are integers
-abbrev pub AreOrdered : Database → Type 0
-AreOrdered db = AllByRecursion (IsInOrder db.trees) (map (λ t. t.tree) db.schema.tables)
-
 module _ {S : Type 0} (g : Ghosts S) where
-  -- so they are in what a connection shows
-  abbrev pub AreAllInOrder : Held S → Type 0
-  AreAllInOrder h = HasCleanDisk (state g h) → AreOrdered (state g h).now
-
   -- the tables are those of an earlier version, and their rows are in order
   pub record IsOld (version : OldVersion) (h : Held S) : Type 0 where
     pub schema : h.schema ≡ old_schema version
     pub live : IsLive (state g h)
-    pub ordered : AreAllInOrder h
+    pub ordered : AreAllInOrder g h
 
   -- what was read shows that there is no book of the earlier version
   abbrev pub HasNoOldBook : OldVersion → OpenFault → Held S → Held S → Type 0

@@ -65,7 +65,8 @@ pub(crate) fn expect_numbered<S: Alter>(
     expect_number(&rows, version)
 }
 
-/// Why tables of an earlier version are no book of this one: they are of another version, or damaged, or the store fails.
+/// Why tables of an earlier version are no book of this one: their version is not this one, they are damaged, or the store
+/// fails.
 /// It reads the number, and writes nothing.
 pub fn old_refusal<S: Alter>(conn: &mut Connection<S>, version: OldVersion) -> OpenFault
     requires { conn.old.schema ≡ old_schema version }

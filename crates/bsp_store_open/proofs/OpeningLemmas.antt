@@ -158,11 +158,6 @@ module _ {S : Type 0} (g : Ghosts S) where
   pub weaker : (a b : Held S) (F G : Trees → Type 0) → ((trees : Trees) → F trees → G trees) → Finds g a b F → Finds g a b G
   weaker a b F G so finds = record { ours = finds.ours; read = finds.read; found = λ clean. so _ (finds.found clean) }
 
--- to be out of memory is no refusal
-pub never_refused : {X : Type 0} (Q : Type 0) (r : Result X OpenFault) → IsErrAnd r (λ f. f ≡ NoRoom) → IfErr r (λ f. is_refusal f ≡ true → Q)
-never_refused Q (Ok x) is = tt
-never_refused Q (Err f) is = λ refused. absurd (false≢true (sym (ap is_refusal is) ∙ refused))
-
 -- rows that are refused, though there is memory, are not sound
 pub unsound_if_refused : (fault : OpenFault) (P : Type 0) → (fault ≡ NoRoom) ⊎ ((fault ≡ Damaged) × P) → is_refusal fault ≡ true → (fault ≡ Damaged) × P
 unsound_if_refused fault P (inl room) refused = absurd (false≢true (sym (ap is_refusal room) ∙ refused))

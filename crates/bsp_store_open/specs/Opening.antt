@@ -1,6 +1,7 @@
 -- What an opening finds in a store, and what it leaves.
 use Rattle.std.specs.Prelude.{◌≡◌, ◌⊎◌, ◌&&◌, ⊤, Bool, ℕ, ℤ, pos, negsuc, nat_le, false, true, IsTrue, List, [], ◌∷◌, codes, map, IfErr, IfOk, IsPermutation, MatchResult, None, Result, Vec}
 use Rattle.std.specs.Global.{Global}
+use Rattle.std.specs.List.{AllByRecursion}
 use Rattle.sqlite_value.specs.Order.{Row, column}
 use Rattle.sqlite_value.specs.declared.value.Value.TheVariants.{Int}
 use Rattle.sqlite_trees.specs.View.{IsClean}
@@ -14,7 +15,7 @@ use Rattle.bsp_book.specs.Rows.{Rows, no_rows}
 use Rattle.bsp_book.specs.Sound.{Sound}
 use Rattle.bsp_book.specs.Listed.{meaning as listed}
 use Rattle.bsp_book.specs.declared.list.ListBook.{ListBook}
-use Rattle.bsp_store_base.specs.Order.{AreInOrder}
+use Rattle.bsp_store_base.specs.Order.{AreInOrder, IsInOrder}
 use Rattle.bsp_store_load.specs.Schema.{our_schema}
 use Rattle.bsp_store_load.specs.Kept.{IsOutside, KeepsRows, Reads, HasContents, columns_of}
 use Rattle.bsp_store_load.specs.Columns.{count, version}
@@ -100,7 +101,15 @@ KeepsOnly rows trees = (other : Rows) → Sound other → AreFormed other → Ke
 
 -- ---- an opening, step by step
 
+-- the rows of each table are in the order of their rowids, which are integers
+abbrev pub AreOrdered : Database → Type 0
+AreOrdered db = AllByRecursion (IsInOrder db.trees) (map (λ t. t.tree) db.schema.tables)
+
 module _ {S : Type 0} (g : Ghosts S) where
+  -- so they are in what a connection shows
+  abbrev pub AreAllInOrder : Held S → Type 0
+  AreAllInOrder h = HasCleanDisk (state g h) → AreOrdered (state g h).now
+
   -- the rows of a book's tables are in the order of their rowids
   abbrev pub IsOrdered : Held S → Type 0
   IsOrdered h = HasCleanDisk (state g h) → (state g h).now.schema ≡ our_schema → AreInOrder (state g h).now.trees

@@ -20,7 +20,7 @@ pub enum OpenFault {
     /// The store is not opened, or failed, for another cause. (B03.)
     #[error("B03 {0}")]
     Failed(StoreError),
-    /// The tables are of another version. (B04.)
+    /// The tables have a version that is none of 1 to 3. (B04.)
     #[error("B04 a book of another version")]
     OtherVersion,
 }

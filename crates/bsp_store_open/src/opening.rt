@@ -1,4 +1,4 @@
-//! A store read as a book in memory, and a connection opened again.
+//! A store read as a book in memory.
 
 ghost use Rattle.std.specs.Prelude.{◌≡◌, ◌⊎◌, true, false, Err, IfErr, IfOk, IsOkAnd, MatchResult, None, OnOk};
 ghost use Rattle.bsp_book.specs.Listed.{AreCommitted as AreListed, meaning as listed};
@@ -7,13 +7,12 @@ ghost use Rattle.bsp_book.specs.Sound.{Sound};
 ghost use Rattle.bsp_store_load.specs.MemoryRowsTables.{rows_of};
 ghost use Rattle.bsp_store_load.specs.Kept.{Spares};
 ghost use Rattle.bsp_store_open.specs.Faults.{is_refusal};
-ghost use Rattle.bsp_store_open.specs.Opening.{HasNoBook, IsAtRest, IsOrdered, IsRead, LeavesCommitted, Reopens};
+ghost use Rattle.bsp_store_open.specs.Opening.{HasNoBook, IsAtRest, IsOrdered, IsRead};
 
 use crate::fault::OpenFault;
 use crate::given::unless_fault;
 use crate::tables::kept_tables;
 use bsp_book::ListBook;
-use bsp_store_base::reopen;
 use bsp_store_load::{Tables, has_nothing};
 use sqlite::{Alter, Connection, Error, ErrorCode};
 use std::alloc::Global;
@@ -79,7 +78,7 @@ fn list_over(
 ///
 /// # Errors
 ///
-/// `OtherVersion`, where `meta` has another version than 3. `Damaged`, where the tables are not those of a book, a row
+/// `OtherVersion`, where `meta` has a version that is none of 1 to 3. `Damaged`, where the tables are not those of a book, a row
 /// is no row of a book, or the rows are not sound. `NoRoom`, where an allocation is refused. `Failed`, where the store
 /// fails for another cause, or a transaction is open on the connection.
 pub fn kept_list<S: Alter>(alloc: Global, conn: &mut Connection<S>) -> Result<ListBook, OpenFault>
@@ -134,24 +133,5 @@ pub fn empty_list<S: Alter>(alloc: Global, conn: &mut Connection<S>) -> Result<L
             list_over(alloc, tested, tables)
         }
         Err(fault) => Err(fault),
-    }
-}
-
-/// Opens a connection again over its own store.
-///
-/// # Errors
-///
-/// `NoRoom`, where an allocation is refused, or `Failed` with the error of the store. Each comes with the store.
-pub fn again<S: Alter + Drop>(
-    alloc: Global,
-    conn: Connection<S>,
-) -> Result<Connection<S>, (OpenFault, S)>
-    ensures ok { IfOk result (Reopens S.Store conn) }
-    ensures refused { IfErr result (λ e. is_refusal e.0 ≡ false) }
-    ensures left { IfErr result (λ e. LeavesCommitted S.Store conn e.1) }
-{
-    match reopen(alloc, conn) {
-        Ok(conn) => Ok(conn),
-        Err((error, store)) => Err((OpenFault::from(error), store)),
     }
 }

@@ -28,7 +28,7 @@ pub(crate) fn expect_tables<S: Alter>(conn: &Connection<S>) -> Result<(), OpenFa
     }
 }
 
-/// Refuses rows of `meta` that have another version, or none. A known one is damage: the tables are not its own.
+/// Refuses rows of `meta` with another version than this one, or none. A known version is damage: the tables are not its own.
 fn expect_version(rows: &[Row]) -> Result<(), OpenFault>
     ensures ok { OnOk result (IsOfVersion rows.now) }
     ensures refused { IfErr result (λ fault. ¬ IsOfVersion rows.now) }
@@ -63,7 +63,8 @@ pub fn rows_of<S: Alter>(conn: &mut Connection<S>, table: WholeTable) -> Result<
 ///
 /// # Errors
 ///
-/// `OtherVersion`, where the tables are of another version. `Damaged`, where they are not those of a book. Those of the
+/// `OtherVersion`, where `meta` has a version that is none of 1 to 3. `Damaged`, where it has none or that of another
+/// known version, or the tables are not those of a book. Those of the
 /// store.
 pub fn plan_rows<S: Alter>(conn: &mut Connection<S>) -> Result<PlanRows, OpenFault>
     ensures found { IfOk result (λ rows. Finds S.Store conn.old conn.new (λ trees. ArePlanRows trees rows)) }
@@ -118,7 +119,7 @@ fn refusal_of(found: Result<Vec<Row>, StoreError>) -> OpenFault
     }
 }
 
-/// Why tables that are not those of a book are refused: they are of another version, or damaged, or the store fails. It
+/// Why tables that are not those of a book are refused: their version is none of 1 to 3, they are damaged, or the store fails. It
 /// reads the version, and writes nothing.
 pub fn refusal<S: Alter>(conn: &mut Connection<S>) -> OpenFault
     ensures asked { IsAskedVersion S.Store result conn.old conn.new }

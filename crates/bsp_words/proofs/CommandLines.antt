@@ -19,9 +19,8 @@ use Rattle.clap.specs.Kinds.{Kinds, or_else}
 use Rattle.clap.specs.Faults.{check_fault, defaults_fault, level_fault, settle_fault, entered_fault, walk_fault}
 use Rattle.clap.specs.Walk.{Held, Names, finished, nothing_held, settled, walk, walk_from}
 use Rattle.bsp_words.specs.declared.work.Misfit.{Misfit}
-use Rattle.bsp_words.specs.declared.work.Work.{Work}
 use Rattle.bsp_words.specs.declared.work.WordsFault.TheVariants.{OutOfForm}
-use Rattle.bsp_words.specs.CommandLine.{AnswersWords, number_in, number_read, office, texts_in, values_in, work_from, work_in, work_of}
+use Rattle.bsp_words.specs.CommandLine.{AnswersWords, number_in, number_read, office, texts_in, values_in, work_from, work_in}
 
 -- ---- numbers
 
@@ -107,10 +106,6 @@ found_in_words a words (Err e) same kinds matches = tt
 pub refused_words : (a : App) (words : List Text) (r : Result ArgMatches Error) → a ≡ office → (is_simple_and_free a ≡ true → FailsBy (fault_of a words) r) → IfErr r (HasKind (fault_of office words))
 refused_words a words (Ok m) same kinds = tt
 refused_words a words (Err e) same kinds = (rw same at kinds) simple_and_free
-
--- the answer to words without fault, by the work that is found in them
-pub work_answers : (words : List Text) (work : Work) → fault_of office words ≡ [] → Some (work_of work) ≡ work_from words (subcommand_of office words) → AnswersWords words (Ok work)
-work_answers words work none is = (none, sym is)
 
 pub none_answers : (words : List Text) (misfit : Misfit) → fault_of office words ≡ [] → None ≡ work_from words (subcommand_of office words) → AnswersWords words (Err (OutOfForm misfit))
 none_answers words misfit none is = (none, out_of_form words _ (names_one office words refl none) is)

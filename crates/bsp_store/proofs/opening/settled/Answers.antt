@@ -2,7 +2,7 @@ use Rattle.std.proofs.Common.{inr, ◌∙◌, arith}
 use Rattle.sqlite_trees.specs.View.{IsClean}
 use Rattle.sqlite_rules.proofs.ViewLemmas.{still_quiet}
 use Rattle.bsp_store_open.proofs.OpeningLemmas.{still_clean}
-use Rattle.bsp_store_migration.proofs.OrderLemmas.{ours_in_order}
+use Rattle.bsp_store_open.proofs.OrderLemmas.{ours_in_order}
 use Rattle.bsp_store.proofs.Settling.{committed, fresh}
 use Rattle.bsp_store.proofs.opening.settled.Goals as goal
 

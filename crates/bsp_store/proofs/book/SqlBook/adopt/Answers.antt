@@ -2,7 +2,7 @@ use Rattle.bsp_store.proofs.OpeningLemmas.{not_again, opening_from}
 use Rattle.bsp_store.proofs.book.SqlBook.adopt.Goals as goal
 
 pub opened-requires : goal.opened-requires
-opened-requires g c = record { outside = c.in_ok-conn.ensures.ok.fresh.autocommit; ordered = c.in_ok-conn.ensures.order }
+opened-requires g c = record { outside = c.in_ok-conn.ensures.ok.fresh.autocommit; ordered = c.in_ok-conn.ensures.ordered }
 
 pub returns-in_err-conn : goal.returns-in_err-conn
 returns-in_err-conn g c = record { opening = not_again g.S.Store c.args.conn _ _ c.from_residual.ensures.1 c.in_err-conn.ensures.refused c.in_err-conn.ensures.left }

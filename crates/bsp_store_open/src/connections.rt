@@ -6,10 +6,9 @@ ghost use Rattle.sqlite.specs.Held.{state, IsNew};
 ghost use Rattle.sqlite.specs.State.{HasCleanDisk, IsLive, Opens};
 ghost use Rattle.sqlite.specs.Steps.{IsFresh};
 ghost use Rattle.bsp_store_open.specs.Faults.{is_refusal};
-ghost use Rattle.bsp_store_open.specs.Opening.{LeavesCommitted, Reopens};
-ghost use Rattle.bsp_store_migration.specs.Migrating.{AreAllInOrder};
+ghost use Rattle.bsp_store_open.specs.Opening.{AreAllInOrder, LeavesCommitted, Reopens};
 
-use bsp_store_open::OpenFault;
+use crate::fault::OpenFault;
 use sqlite::{Alter, Connection, Error, ErrorCode};
 use sqlite_trees::store::Store;
 use std::alloc::Global;
@@ -32,17 +31,17 @@ pub fn open_ordered<S: Alter + Drop>(alloc: Global, store: S) -> Result<Connecti
     Connection::over(alloc, store)
 }
 
-/// Opens a connection again over its own store.
+/// Opens a connection again over its own store. It rolls back what is not committed, and tests the whole store once more.
 ///
 /// # Errors
 ///
 /// `NoRoom`, where an allocation is refused, or `Failed` with the error of the store. Each comes with the store.
-pub fn again_ordered<S: Alter + Drop>(
+pub fn again<S: Alter + Drop>(
     alloc: Global,
     conn: Connection<S>,
 ) -> Result<Connection<S>, (OpenFault, S)>
     ensures ok { IfOk result (Reopens S.Store conn) }
-    ensures order { IfOk result (AreAllInOrder S.Store) }
+    ensures ordered { IfOk result (AreAllInOrder S.Store) }
     ensures refused { IfErr result (λ e. is_refusal e.0 ≡ false) }
     ensures left { IfErr result (λ e. LeavesCommitted S.Store conn e.1) }
 {

@@ -1,10 +1,9 @@
 -- A store that is not broken is open, and the rollback left what was committed.
 use Rattle.std.proofs.Common.{Ok, inr, refl, sym, ◌∙◌, arith}
 use Rattle.sqlite_rules.proofs.ViewLemmas.{still_quiet}
-use Rattle.bsp_store_base.proofs.Ordered.{reopened_trees}
 use Rattle.bsp_store_open.proofs.OpeningLemmas.{still_clean}
-use Rattle.bsp_store_migration.proofs.OrderLemmas.{ours_in_order}
-use Rattle.bsp_store_migration.proofs.openings.again_ordered.Goals as goal
+use Rattle.bsp_store_open.proofs.OrderLemmas.{ours_in_order, reopened_trees}
+use Rattle.bsp_store_open.proofs.connections.again.Goals as goal
 
 pub returns-then-is_broken-clause-left : goal.returns-then-is_broken-clause-left
 returns-then-is_broken-clause-left g c =
@@ -31,14 +30,14 @@ returns-in-Err-clause-left g c =
 pub returns-then-is_broken-clause-ok : goal.returns-then-is_broken-clause-ok
 returns-then-is_broken-clause-ok g c = tt
 
-pub returns-then-is_broken-clause-order : goal.returns-then-is_broken-clause-order
-returns-then-is_broken-clause-order g c = tt
+pub returns-then-is_broken-clause-ordered : goal.returns-then-is_broken-clause-ordered
+returns-then-is_broken-clause-ordered g c = tt
 
 pub returns-then-is_broken-clause-refused : goal.returns-then-is_broken-clause-refused
 returns-then-is_broken-clause-refused g c = refl
 
-pub returns-in-Ok-clause-order : goal.returns-in-Ok-clause-order
-returns-in-Ok-clause-order g c = c.in-Ok.ensures.order
+pub returns-in-Ok-clause-ordered : goal.returns-in-Ok-clause-ordered
+returns-in-Ok-clause-ordered g c = c.in-Ok.ensures.order
 
 pub returns-in-Ok-clause-refused : goal.returns-in-Ok-clause-refused
 returns-in-Ok-clause-refused g c = tt
@@ -49,5 +48,5 @@ returns-in-Ok-clause-left g c = tt
 pub returns-in-Err-clause-ok : goal.returns-in-Err-clause-ok
 returns-in-Err-clause-ok g c = tt
 
-pub returns-in-Err-clause-order : goal.returns-in-Err-clause-order
-returns-in-Err-clause-order g c = tt
+pub returns-in-Err-clause-ordered : goal.returns-in-Err-clause-ordered
+returns-in-Err-clause-ordered g c = tt

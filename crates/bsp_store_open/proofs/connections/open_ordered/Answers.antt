@@ -1,6 +1,6 @@
 -- The laws of the store are those that the lemma asks for.
-use Rattle.bsp_store_migration.proofs.OrderLemmas.{opened_in_order}
-use Rattle.bsp_store_migration.proofs.openings.open_ordered.Goals as goal
+use Rattle.bsp_store_open.proofs.OrderLemmas.{opened_in_order}
+use Rattle.bsp_store_open.proofs.connections.open_ordered.Goals as goal
 
 pub returns-clause-order : goal.returns-clause-order
 returns-clause-order g c =

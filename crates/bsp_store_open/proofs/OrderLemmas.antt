@@ -1,9 +1,10 @@
 -- The rows of each table are in the order of their rowids, whatever the schema is.
-use Rattle.std.proofs.Common.{◌≡◌, ◌≤◌, false, List, [], ◌∷◌, map, Result, Ok, Err, IfOk, sym, subst, arith}
+use Rattle.std.proofs.Common.{◌≡◌, ◌≤◌, false, List, [], ◌∷◌, map, IsTrue, Result, Ok, Err, IfOk, sym, subst, ◌∙◌, arith}
+use Rattle.std.proofs.lemmas.Bool.{true_from_ne_false, both_ways}
 use Rattle.std.specs.List.{AllByRecursion}
 use Rattle.sqlite_trees.specs.declared.store.Store.{Ghosts}
 use Rattle.sqlite_trees.specs.declared.store.Shape.TheVariants as shape
-use Rattle.sqlite_trees.specs.View.{View, doubt, IsClean, IsOrdered as IsShapedAll}
+use Rattle.sqlite_trees.specs.View.{View, doubt, IsClean, IsOrdered as IsShapedAll, IsRolledBack as IsUndone}
 use Rattle.sqlite_trees.specs.Objects.{catalog_tree, IsListed}
 use Rattle.sqlite_schema.specs.declared.schema.Schema.{Schema}
 use Rattle.sqlite_schema.specs.declared.schema.Table.{Table}
@@ -13,8 +14,7 @@ use Rattle.sqlite.specs.Held.{Held, state}
 use Rattle.sqlite.specs.State.{HasCleanDisk, IsLive, Opens}
 use Rattle.sqlite.specs.Steps.{IsFresh}
 use Rattle.bsp_store_base.specs.Order.{IsInOrder}
-use Rattle.bsp_store_open.specs.Opening.{IsOrdered}
-use Rattle.bsp_store_migration.specs.Migrating.{AreAllInOrder, AreOrdered}
+use Rattle.bsp_store_open.specs.Opening.{AreAllInOrder, AreOrdered, IsOrdered}
 
 -- the trees that have the shape of a table are tables
 all_in_order : (v : View) → IsShapedAll v.shape v.trees → (tables : List Table) → AllByRecursion (λ t. v.shape t.tree ≡ shape.Table) tables
@@ -49,3 +49,15 @@ opened_in_order g store (Ok c) fresh ordered listed opens clean trees = λ disk.
 -- so are those of our tables
 pub ours_in_order : {S : Type 0} (g : Ghosts S) (h : Held S) → AreAllInOrder g h → IsOrdered g h
 ours_in_order g h all clean ours = subst (λ s. AreOrdered (record { schema = s; trees = (state g h).now.trees })) ours (all clean)
+
+-- the store of a connection was rolled back, and then opened again
+pub reopened_trees : {S E : Type 0} (g : Ghosts S) (before after : S) (r : Result (Held S) E)
+    → ((g.view after).is_open ≡ false → IsTrue (g.view after).is_broken) → (IsClean (g.view after) → (g.view after).is_broken ≡ false)
+    → IsUndone (g.view before) (g.view after) → IfOk r (λ c. doubt (g.view after).is_clean ≤ doubt (state g c).is_clean)
+    → IfOk r (λ c. HasCleanDisk (state g c) → (state g c).now.trees ≡ (g.view after).trees)
+    → IfOk r (λ c. HasCleanDisk (state g c) → (state g c).now.trees ≡ (g.view before).committed)
+reopened_trees g before after (Err e) shut sound undone clean trees = tt
+reopened_trees g before after (Ok c) shut sound undone clean trees = λ disk.
+    let was_clean : IsClean (g.view after) = omega (arith, clean, disk) in
+    let is_open : IsTrue (g.view after).is_open = true_from_ne_false _ (λ closed. both_ways _ (sound was_clean) (shut closed)) in
+    trees disk ∙ (undone.undone is_open).0
