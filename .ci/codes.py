@@ -20,8 +20,6 @@ CODE = re.compile(r"(?<!\w)[A-Z]\d\d(?!\w)")
 ROW = re.compile(r"^\| `?([A-Z]\d\d)`? \|.*$", re.M)
 CAUSES = re.compile(r"^### ([A-Z]\d\d) by its causes\n\n((?:- .*\n)*)", re.M)
 PAGE = TOP / "docs/CODES.md"
-# the pages that have what pages of earlier names had: the texts of the table, which the program prints, name those
-HOMES = {"GUIDE.md": "OPERATION.md", "HTTP.md": "API.md", "ROUTES.md": "API.md", "MEMOS.md": "RULES.md"}
 # a row of the table: the code, the status, the meaning, the remedy and the causes
 ENTRY = re.compile(r'\(\n\s+("[A-Z]\d\d",.*?)^ *\)[],]', re.M | re.S)
 
@@ -45,7 +43,7 @@ def as_page(code, text, causes):
     """A text of the table as the page has it: with links to pages and to the causes."""
     if causes:
         text = text.replace("its causes", f"[{code} by its causes](#{code.lower()}-by-its-causes)")
-    return re.sub(r"\bdocs/([A-Z]+\.md)", lambda it: f"[{it[1]}]({HOMES.get(it[1], it[1])})", text)
+    return re.sub(r"\bdocs/([A-Z]+\.md)", r"[\1](\1)", text)
 
 
 def made(page, entries):

@@ -301,7 +301,7 @@ STATUSES = {"F": " (status 422)"}
 def plain(text):
     """A text of docs/CODES.md without its links."""
     text = re.sub(r"\[[A-Z]\d\d by its causes\]\(#[^)]*\)", "its causes", text)
-    return re.sub(r"\[([A-Z]+\.md)\]\([A-Z]+\.md\)", r"docs/\1", text)
+    return re.sub(r"\[([A-Z]+\.md)\]\(\1\)", r"docs/\1", text)
 
 
 def explained(page, code):
