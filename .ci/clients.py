@@ -353,7 +353,7 @@ def main():
         run_on_standard_input()
         run_twice()
         os.chdir(TOP)
-    office.finish("bsp_office: clients are answered, and statuses are, as docs/COMMANDS.md says")
+    office.finish("bsp_office: clients are answered, and statuses are, as docs/OPERATION.md says")
 
 
 main()

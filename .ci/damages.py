@@ -1,7 +1,7 @@
 """Changes of the book of .ci/store.py, each as SQL, after which the program refuses it or opens it.
 
 RULES has changes of rows: what is wrong, SQL with a mark ?, two texts for the mark, and what the program says is at fault.
-With the first text a rule of the audit (docs/BOOK.md) is broken, and no other; with the second none is. All taxes of items and
+With the first text a rule of the audit (crates/bsp_rows/README.md) is broken, and no other; with the second none is. All taxes of items and
 all tallies are made anew after both, by TAXES_ANEW and the queries of docs/TABLES.md. So a book with the first is refused for
 that rule alone, and one with the second is opened. TAXES has the same of taxes, after which tallies alone are made anew.
 Some of the rules no row can break: what rule 6 compares is one column, and so are the keys of the rules 5 and 18, but for

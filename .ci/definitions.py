@@ -1,12 +1,12 @@
 #!/usr/bin/env python3
-"""Compares the words that public clauses cite with those that docs/DEFINITIONS.md explains.
+"""Compares the words that public clauses cite with those that docs/proofs/DEFINITIONS.md explains.
 
 A word is a name that a file of crates/*/src, tests apart, imports from the specs of a crate of this repository and that a
 public clause cites: `requires` or `ensures` of a public function or of a function of a public trait, or a `ghost` member of
 a public trait or type, as `ghost means` or `ghost invariant`. A clause may have several lines. The name of a proof, which
 the specs declare without a keyword, is no word.
 
-Each word must be bold in a section of docs/DEFINITIONS.md whose heading names the crate of its specs, and each bold word
+Each word must be bold in a section of docs/proofs/DEFINITIONS.md whose heading names the crate of its specs, and each bold word
 of a section must be a name in the specs or the types of those crates. The script lists the words that are not, and ends
 with status 1 if there are any."""
 import functools
@@ -79,7 +79,7 @@ def clauses_of(text, types):
 
 def main():
     explained, unknown = set(), []
-    for section in re.split(r"^## ", (TOP / "docs/DEFINITIONS.md").read_text(encoding="utf-8"), flags=re.M)[1:]:
+    for section in re.split(r"^## ", (TOP / "docs/proofs/DEFINITIONS.md").read_text(encoding="utf-8"), flags=re.M)[1:]:
         crates = re.findall(r"bsp_\w+", section.split("\n")[0])
         known = {name for crate in crates for files in ("specs/*.antt", "src/**/*.rt")
                  for name in named_in(crate, files, NAME.pattern)}
@@ -105,9 +105,9 @@ def main():
     cited = {word: path for word, path in cited.items() if word[1] not in proofs[word[0]]}
     missing = sorted(it for it in cited if it not in explained)
     for crate, name in missing:
-        print(f"docs/DEFINITIONS.md has no word on {name} of {crate}, which {cited[crate, name]} cites")
+        print(f"docs/proofs/DEFINITIONS.md has no word on {name} of {crate}, which {cited[crate, name]} cites")
     for crates, name in unknown:
-        print(f"docs/DEFINITIONS.md explains {name}, which {crates} has not")
+        print(f"docs/proofs/DEFINITIONS.md explains {name}, which {crates} has not")
     print(f"definitions: {len(cited)} words cited, {len(missing)} not explained; {len(unknown)} explained that are no names")
     return 1 if missing or unknown else 0
 

@@ -281,7 +281,7 @@ def main():
         for part in reads, writes, turns, limit, runs, peers, accepting, ports, connections:
             part()
         os.chdir(office.TOP)
-    office.finish("bsp_office: devices and peers that fail are followed as docs/COMMANDS.md says")
+    office.finish("bsp_office: devices and peers that fail are followed as docs/OPERATION.md says")
 
 
 main()

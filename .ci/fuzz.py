@@ -3,7 +3,7 @@
 
 `check` and `hotcheck` end with status 0 or 1 and a report in its form. Two offices, one with its book in memory and one with
 it in a file, are sent the same requests and the same bytes of connections. All have limits of time and of memory. Their
-replies are equal, each has a status of docs/ROUTES.md, and none is 503. What is refused, held or shown leaves the same to
+replies are equal, each has a status of docs/API.md, and none is 503. What is refused, held or shown leaves the same to
 be shown. A change that was done is held when it is sent again, and so is a transaction that was accepted. In the end the
 office with the file is killed; started again, it shows what the other one shows.
 

@@ -277,7 +277,7 @@ def main():
             office.expect(f"{sent[:30]!r}, an allocation refused", wanted, found.result())
         served()
         os.chdir(office.TOP)
-    office.finish("bsp_office: heads are answered, and connections go on, as docs/HTTP.md says")
+    office.finish("bsp_office: heads are answered, and connections go on, as docs/API.md says")
 
 
 main()

@@ -489,7 +489,7 @@ def main():
         other_versions()
         os.chdir(TOP)
     seconds = time.monotonic() - begun
-    office.finish(f"bsp_office: audits, and books of earlier versions, are as docs/COMMANDS.md says, in {seconds:.0f} seconds")
+    office.finish(f"bsp_office: audits, and books of earlier versions, are as docs/OPERATION.md says, in {seconds:.0f} seconds")
 
 
 if __name__ == "__main__":

@@ -5,7 +5,7 @@ and a comparison that counts what differs.
     with office.Office(PROGRAM, "token", "--db", "book.db") as it:
         status, media, body = it.ask("GET", "/office/settlement/24011", TOKEN)
         office.expect("a settlement", 200, status)
-    office.finish("settlements are as docs/ROUTES.md says")
+    office.finish("settlements are as docs/API.md says")
 """
 import argparse
 import http.client

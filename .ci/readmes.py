@@ -2,6 +2,8 @@
 """Compares the README.md of each crate with its sources: what the crate is, its files, what it is built on, and who uses it,
 by the //! lines of its files, or the first /// where there are none, and by crates.txt. With --write it writes them.
 
+What follows the first line that begins with `## ` is written by hand: it is neither compared nor changed.
+
 usage: .ci/readmes.py [--write]
 """
 import re
@@ -53,17 +55,25 @@ def readme(name, crates):
     lines.append(f"Built on: {named(own) or 'no crate of this repository'}{'; of the kit ' + ', '.join(kit) if kit else ''}.")
     if above:
         lines.append(f"Used by: {named(above)}.")
-    lines.append("What is proved: [PROVED](../../docs/PROVED.md). Its place: [ARCHITECTURE](../../docs/ARCHITECTURE.md).")
+    lines.append("What is proved: [PROVED](../../docs/proofs/PROVED.md). Its place: [ARCHITECTURE](../../docs/ARCHITECTURE.md).")
     return "\n".join(lines) + "\n"
+
+
+def halves(path):
+    """The part of a README that is made of the sources, and the part that is written by hand."""
+    text = path.read_text() if path.exists() else ""
+    at = text.find("\n## ")
+    return (text, "") if at < 0 else (text[:at], text[at:])
 
 
 def main():
     crates, wrong = office.crates(), []
     for name in crates:
         path, wanted = TOP / "crates" / name / "README.md", readme(name, crates)
+        made, by_hand = halves(path)
         if "--write" in sys.argv[1:]:
-            path.write_text(wanted)
-        elif not path.exists() or path.read_text() != wanted:
+            path.write_text(wanted + by_hand)
+        elif made != wanted:
             wrong.append(name)
             print(f"{path.relative_to(TOP)} is not what .ci/readmes.py --write writes")
         if "| ? |" in wanted:

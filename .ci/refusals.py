@@ -1,5 +1,5 @@
 #!/usr/bin/env python3
-"""Compares the tables of docs/REFUSALS.md with the sources: each public function of the crates that the tables have whose
+"""Compares the tables of docs/proofs/REFUSALS.md with the sources: each public function of the crates that the tables have whose
 result may be an error is in a row of its crate, each call of a row is such a function, and has each clause that the row names.
 So is each public function that has a `requires` in the table of conditions. Each crate is named, in the tables or beside them;
 `bsp_store_*` names all crates that begin so.
@@ -61,30 +61,30 @@ def differences(rows, conditions, crate):
     (functions, conditional), named = functions_of(crate), set()
     listed = {call for of, calls in conditions if of == crate for call in CODE.findall(calls)}
     for call in sorted(listed ^ conditional):
-        yield f"docs/REFUSALS.md: {crate}, {call}: {'no row of' if call in conditional else 'it has no'} condition"
+        yield f"docs/proofs/REFUSALS.md: {crate}, {call}: {'no row of' if call in conditional else 'it has no'} condition"
     for of, calls, clauses, left in rows:
         if of != crate:
             continue
         for call in CODE.findall(calls):
             named.add(call)
             if call not in functions:
-                yield f"docs/REFUSALS.md: {crate} has no public {call} that may err"
+                yield f"docs/proofs/REFUSALS.md: {crate} has no public {call} that may err"
                 continue
             cited = {*CODE.findall(clauses), *re.findall(r"\(`(=|[a-z_]+)`", left)}
             for clause in sorted(cited - functions[call]):
-                yield f"docs/REFUSALS.md: {crate}, {call} has no clause {clause}"
+                yield f"docs/proofs/REFUSALS.md: {crate}, {call} has no clause {clause}"
     for call in sorted(functions.keys() - named):
-        yield f"docs/REFUSALS.md: {crate}, {call} is in no row"
+        yield f"docs/proofs/REFUSALS.md: {crate}, {call} is in no row"
 
 
 def unnamed(text):
     """The crates that the text does not name."""
     names = [it for it in CODE.findall(text) if it.startswith("bsp_")]
-    return [f"docs/REFUSALS.md: {it} is not named" for it in crates() if not any(fnmatch.fnmatch(it, name) for name in names)]
+    return [f"docs/proofs/REFUSALS.md: {it} is not named" for it in crates() if not any(fnmatch.fnmatch(it, name) for name in names)]
 
 
 def main():
-    text = (TOP / "docs" / "REFUSALS.md").read_text(encoding="utf-8")
+    text = (TOP / "docs" / "proofs" / "REFUSALS.md").read_text(encoding="utf-8")
     rows, conditions = ROW.findall(text), CONDITION.findall(text)
     tables = sorted({it[0] for it in rows + conditions})
     found = unnamed(text) + [it for crate in tables for it in differences(rows, conditions, crate)]

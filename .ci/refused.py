@@ -3,7 +3,7 @@
 - bsp_record_examples on a page with each call of fields, RET files and reports over rows that takes memory, and a run of requests. A call then answers as with ample
   memory, or names the lack of memory; the same case after it answers as with ample memory.
 - bsp_office on words and files. It ends as with ample memory, or with status 3, no output and the line that memory was short.
-- its command `run`, which is sent each request of some conversations twice; these have each request of docs/ROUTES.md.
+- its command `run`, which is sent each request of some conversations twice; these have each request of docs/API.md.
   Each reply is that of ample memory; or one is 503 B01, and the same request after it has the reply of ample memory to the
   first of the two.
 - the same over a book in a file, for each allocation of a short conversation, one in 23 of three others, and one in forty of
@@ -345,7 +345,7 @@ def main():
             begun, count = time.monotonic(), sum(it[1] for it in part())
             print(f"{part.__name__}: {count} allocations refused in turn, in {time.monotonic() - begun:.0f} seconds", flush=True)
         os.chdir(TOP)
-    office.finish(f"refused allocations: each is followed as docs/PROVED.md says, with {lacking} replies of 503 B01")
+    office.finish(f"refused allocations: each is followed as docs/proofs/PROVED.md says, with {lacking} replies of 503 B01")
 
 
 main()

@@ -1,5 +1,5 @@
-"""An office written in Python from the pages of docs/ alone: RULES, PLAN, MEMOS, DESK, ROUTES, CODES, REPORTS and
-FORMATS. It shares nothing with the program. `.ci/markets.py` asks both the same.
+"""An office written in Python from the pages of docs/ alone: RULES, API, CODES and FORMATS. It shares nothing
+with the program. `.ci/markets.py` asks both the same.
 
     second = Second("officetoken00001")
     status, media, body = reply(lambda: second.set_day(datetime.date(2024, 1, 5)))

@@ -526,7 +526,7 @@ def replied(status, body, last=""):
 
 def many_on_one(what, first, reply, wanted):
     """Sends a request and behind it as many of an agent as one connection takes, and one more. It closes after message 65,536
-    (docs/HTTP.md)."""
+    (docs/API.md)."""
     count = 65_536
     sent = first + asked("GET", f"agents/{AGENT}/stock", AGENT_TOKEN) * count
     one, last = replied(*wanted), replied(*wanted, "Connection: close\r\n")

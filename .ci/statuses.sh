@@ -346,5 +346,5 @@ same_error 3 $? 'standard output: No space left on device (os error 28)' '--help
 "$program" 2>/dev/full
 same 2 $? 'no words, standard error full'
 
-[ "$failures" -eq 0 ] && echo 'bsp_office: all statuses are as docs/COMMANDS.md says'
+[ "$failures" -eq 0 ] && echo 'bsp_office: all statuses are as docs/OPERATION.md says'
 exit "$failures"

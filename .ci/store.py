@@ -3,7 +3,7 @@
 the requests of a month, with the program killed after each reply, are answered as over a book in memory; sales that
 were answered before a kill at any moment are there afterwards; the file passes SQLite's integrity check; a book that
 SQLite wrote is opened, and has nothing of a transaction that was left open; the queries of docs/TABLES.md agree with the
-replies; the examples 22, 26, 27, 41 to 43 and 49 of docs/EXAMPLES.md are as it says; a book of 10,000 requests, opened
+replies; the examples 22, 26, 27, 41 to 43 and 49 of examples/README.md are as it says; a book of 10,000 requests, opened
 again, gives the same statements; and a file that is no book, or is a damaged one (.ci/damages.py), is refused with its
 status and one line on standard error. Exits with the number of cases that differ.
 

@@ -299,7 +299,7 @@ def main():
                 compare(part, over_book)
         compare(in_memory, over_memory)
         os.chdir(office.TOP)
-    office.finish(f"bsp_office: {next(numbers):,} connections, whose bytes are as docs/HTTP.md says: heads, pieces, cuts, and each read and write failing")
+    office.finish(f"bsp_office: {next(numbers):,} connections, whose bytes are as docs/API.md says: heads, pieces, cuts, and each read and write failing")
 
 
 main()

@@ -130,7 +130,7 @@ class Room:
         """A program that is not proved: each call says so."""
         stamp, kept = self.program.with_suffix(".stamp"), self.program.with_suffix(".unproved")
         self.expect("unproved", MADE, True, unproved=True)
-        for page in "README.md", "docs/COMMANDS.md":
+        for page in "README.md", "docs/OPERATION.md":
             expect(f"{page} shows the line", True, f"\n    {UNPROVED}\n" in (TOP / page).read_text(encoding="utf-8"))
         self.expect("unproved, kept", MADE, False, unproved=True)
         expect("only this one", [True, False, False], [it.exists() for it in (kept, self.program, stamp)])

@@ -1,5 +1,8 @@
 # Example 5: a sale is accepted.
 # after: opening/plan.hurl opening/callers.hurl
+#
+# V1 is a file of one transaction. Posted by A it is answered
+# `{"results":[{"n":1,"period":"24011","verdict":"accepted"}]}`.
 
 POST {{base}}/agents/12345675/ret
 Bsp-Token: agenttoken000001

@@ -1,5 +1,7 @@
 # Example 9: B sells a number of A's, before A has used it and after.
 # after: opening/plan.hurl opening/callers.hurl
+#
+# B (76543213) reports A's number 1300000001, before A has used it and after: E05.
 
 POST {{base}}/agents/76543213/ret
 Bsp-Token: agenttoken000002

@@ -1,5 +1,7 @@
 # Example 10: B refunds a ticket that nobody has, and one of A's.
 # after: opening/plan.hurl opening/callers.hurl
+#
+# B reports a refund, 1400000000, of A's ticket, which is none of B's, or of 1300000007, which nobody has: E08.
 
 POST {{base}}/agents/76543213/ret
 Bsp-Token: agenttoken000002

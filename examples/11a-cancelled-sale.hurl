@@ -1,5 +1,7 @@
 # Example 11: a cancelled sale that is reported again stays cancelled.
 # after: opening/plan.hurl opening/callers.hurl
+#
+# The net of the period is then `0.00`, and the state of 1300000001 `cancelled`.
 
 POST {{base}}/agents/12345675/ret
 Bsp-Token: agenttoken000001

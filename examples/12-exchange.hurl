@@ -1,5 +1,10 @@
 # Example 12: an exchange takes its ticket until it is cancelled.
 # after: opening/plan.hurl opening/callers.hurl
+#
+# A file with TKTT 1300000003-1, record 3 125-1300000001-6, fare 25000, RA 3500, rate 00500, commission 250, CA 5000,
+# EX 23500. Posted once V1's sale is there it is accepted, with a net of 4750. A refund of the first ticket is then
+# E09. Once a CANX of the exchange is accepted, it is accepted. (`checks.txt`, `check EXCHANGE_FILE`, and
+# `bsp_record_examples`, `write EXCHANGE_FILE`: the file is read.)
 
 POST {{base}}/agents/12345675/ret
 Bsp-Token: agenttoken000001

@@ -1,5 +1,8 @@
 # Example 13: a memo is disputed within its review of 14 days.
 # after: opening/plan.hurl opening/callers.hurl
+#
+# An ADMA issued on 2024-01-05, review 14 days: a dispute on 2024-01-19 is done, again held. The dispute of another on
+# 2024-01-20 is M02. B's dispute of the first, or of 6000000009, which nobody has, is 404 M01.
 
 POST {{base}}/airlines/125/memos
 Bsp-Token: airlinetoken0125

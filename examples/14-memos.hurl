@@ -1,5 +1,9 @@
 # Example 14: memos are billed over two closes.
 # after: opening/plan.hurl opening/callers.hurl opening/memos.hurl
+#
+# On 2024-01-05 two ADMA of 5000 and an ACMA of 100. On 2024-01-19 the first is disputed, and a close bills only the
+# ACMA. A reduction of the first to 5000 is M04, one to 3000 done. A close on 2024-02-01 bills 3000 and 5000, and
+# another one nothing. A's net of 24012 is `80.00` and of 24011 `-1.00`. Closing 24011 again is held.
 
 POST {{base}}/office/day
 Bsp-Token: officetoken00001

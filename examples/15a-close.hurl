@@ -1,5 +1,8 @@
 # Example 15: a period is closed once it is over, and takes no CANX then.
 # after: opening/plan.hurl opening/callers.hurl
+#
+# On 2024-01-15 a close of 24011 is P07; on 2024-01-16 it is done. The day 2024-01-15 again is P04. Once it is closed
+# a CANX of V1's ticket is E09, and V1 is held.
 
 POST {{base}}/agents/12345675/ret
 Bsp-Token: agenttoken000001

@@ -1,5 +1,8 @@
 # Example 15: the documents limit is that of an agent and an airline.
 # after: opening/plan-limit-2.hurl opening/callers.hurl
+#
+# With a documents limit of 2, a third document of the airline in the period is E11. Another airline's is accepted,
+# and so is another agent's.
 
 POST {{base}}/agents/12345675/ret
 Bsp-Token: agenttoken000001

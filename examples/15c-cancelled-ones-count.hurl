@@ -1,5 +1,7 @@
 # Example 15: the documents limit counts a cancelled sale and its CANX.
 # after: opening/plan-limit-2.hurl opening/callers.hurl
+#
+# A cancelled sale and its CANX are two documents.
 
 POST {{base}}/agents/12345675/ret
 Bsp-Token: agenttoken000001

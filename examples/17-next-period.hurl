@@ -1,5 +1,9 @@
 # Example 17: the next period is closed, and has a HOT file of four records.
 # after: opening/plan.hurl opening/callers.hurl opening/month.hurl
+#
+# On 2024-02-01, 24012 is closed. The HOT file of 220 for it is V3, records 4, documents 0, net 0. (`checks.txt`,
+# `hotcheck V3`, and `.ci/statuses.sh`: V3 without its last record, or with net `00000000000000A` in record 4, is H04
+# record 4.)
 
 POST {{base}}/office/day
 Bsp-Token: officetoken00001

@@ -1,5 +1,8 @@
 # Example 18: the HOT file over 10,000 memos of the largest amount has the largest net; that of one more has none.
 # after: opening/plan-limit-20000.hurl opening/callers.hurl
+#
+# The HOT file over 10,000 billed debit memos of 99999999999 has a net of 999999999990000; over 10,001 it is H01. The
+# statement has such sums whole.
 
 # each number: 0000000000 to 0000009999
 POST {{base}}/airlines/125/memos

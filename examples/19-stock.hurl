@@ -1,5 +1,8 @@
 # Example 19: unused ranges are withdrawn.
 # after: opening/plan.hurl opening/callers.hurl
+#
+# Allot 1300000050 to 1300000150 to B: 409 K03. With V1 reported, withdraw A's range: K05. Withdraw 1300000000 to
+# 1300000050 of A: K04. Withdraw B's unused range: done.
 
 POST {{base}}/office/stock/allot
 Bsp-Token: officetoken00001

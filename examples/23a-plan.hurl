@@ -1,4 +1,7 @@
 # Example 23: a plan is published once.
+#
+# PL published twice: done, held. Then on 2024-01-05 PL with 15 review days is P08, a new rate from 2024-01-05 P05, a
+# period from 2024-02-02 P03. `[[period` is P01, PL without currency P02.
 
 POST {{base}}/office/plan
 Bsp-Token: officetoken00001

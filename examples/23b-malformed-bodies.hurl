@@ -1,5 +1,8 @@
 # Example 23: malformed bodies, one of each request that has a body.
 # after: opening/plan.hurl opening/callers.hurl
+#
+# P01 and P02 have the status 400, the other codes of a plan 409. Any other malformed body is 400 N04, and a RET file
+# with a fault 422.
 
 POST {{base}}/office/plan
 Bsp-Token: officetoken00001

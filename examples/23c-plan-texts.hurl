@@ -1,4 +1,6 @@
 # Example 23: plan texts that are no TOML, or have a key that is missing, unknown or wrong.
+#
+# More reasons of P01 and P02, and their order.
 
 # Bytes that are no UTF-8, a key that comes twice, and an integer beyond 64 bits.
 POST {{base}}/office/plan

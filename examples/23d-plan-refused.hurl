@@ -1,5 +1,7 @@
 # Example 23: a plan text is refused for the first of the reasons that apply to it.
 # after: opening/plan.hurl opening/callers.hurl
+#
+# More reasons of P08, P03 and P05, and their order.
 
 # 15 review days, a rate from 2024-01-05 and a period from 2024-02-02; then the last two of these.
 POST {{base}}/office/plan

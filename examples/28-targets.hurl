@@ -1,5 +1,10 @@
 # Example 28: a sale is accepted in the earliest period that is not closed and not over on its day.
 # after: opening/plan.hurl
+#
+# On 2023-12-31 a sale of that day is E10, and on 2024-01-01 it is accepted in 24011. On 2024-01-16 a sale of
+# 2024-01-05 is accepted in 24011, one of 2024-01-16 in 24012. A close of 24012 or of 24021, which nobody knows, is
+# P06, of 24011 done; then another sale of 2024-01-05 is accepted in 24012. On 2024-02-05 a sale of 2024-02-03 is E10;
+# so is one of 2024-01-05 once 24012 is closed.
 
 POST {{base}}/office/day
 Bsp-Token: officetoken00001

@@ -1,5 +1,8 @@
 # Example 29: the rate is that of the latest first day, and 0 before.
 # after: opening/plan.hurl opening/callers.hurl
+#
+# The rate of 125 on 2023-12-31 is 0, on 2024-01-01 500; of 220 it is 0. With a further rate of 600 from 2024-01-10 it
+# is 500 on 2024-01-09, and 600 on 2024-01-10. A sale that claims the rate is accepted, one that claims 1 more is E07.
 
 # A rate of 6.00 % from 2024-01-10 on.
 POST {{base}}/office/plan

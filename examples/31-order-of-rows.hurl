@@ -1,5 +1,9 @@
 # Examples 2 and 31: the first row of the table of verdicts that applies has the code.
 # after: opening/plan.hurl opening/callers.hurl
+#
+# A sale of 1300000001 with check digit 7 is E03. V1's sale of airline 999 with check digit 7 is E01; issued on
+# 2024-01-06 with check digit 7 it is E03. With the number 1300000100-0 and issued on 2024-01-06 it is E04; with that
+# number and CA 1 it is E05.
 
 # Check digits, airlines, days, numbers, amounts; then the sale; then what is there under a number.
 POST {{base}}/agents/12345675/ret

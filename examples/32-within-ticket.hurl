@@ -1,5 +1,9 @@
 # Example 32: a refund and an exchange agree with their ticket.
 # after: opening/plan.hurl opening/callers.hurl
+#
+# V1's sale is there. A refund with fare -20001, RA -3500, rate 00500, commission -1000, CA -23501 is E12. One with
+# fare -10000, no tax, commission -500, CA -10000 is accepted, with a net of -9500. An exchange with fare 15000, RA
+# 3500, EX 23500, CA -5000 is E07.
 
 # What differs from the ticket in one value; then half a refund, and what may not follow it.
 POST {{base}}/agents/12345675/ret

@@ -1,5 +1,9 @@
 # Example 33: a memo that is reduced is billed once, by the reduced amount.
 # after: opening/plan.hurl opening/callers.hurl
+#
+# An ADMA of 5000 issued on 2024-01-05, review 14. `dispute` on 2024-01-19 done, again on 2024-01-20 held; `agree`
+# then M03. `reduce` to 5000 and to 0 M04, to 3000 done, again held, to 2000 M03. A close bills 3000, the next one
+# nothing; `withdraw` then M03.
 
 POST {{base}}/airlines/125/memos
 Bsp-Token: airlinetoken0125

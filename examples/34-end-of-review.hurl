@@ -1,5 +1,8 @@
 # Example 34: an open debit memo is billed once its review is over, and a credit memo at once.
 # after: opening/plan.hurl opening/callers.hurl
+#
+# The memo of example 33, open, and another one of 2024-01-06. A close on 2024-01-20 bills the first, 5000, and not
+# the second; `dispute` of the first is M02, of the second done. An ACMA of 2024-01-20 is billed at once; `agree` M06.
 
 POST {{base}}/airlines/125/memos
 Bsp-Token: airlinetoken0125

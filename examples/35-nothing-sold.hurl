@@ -1,5 +1,7 @@
 # Example 35: a period without documents is settled.
 # after: opening/plan.hurl opening/callers.hurl
+#
+# The settlement has its two totals of `0.00` alone.
 
 POST {{base}}/office/day
 Bsp-Token: officetoken00001

@@ -1,6 +1,9 @@
 # Examples 36 and 48: B has the same replies where A holds the ticket and a memo, and where nobody does.
 # after: opening/plan.hurl opening/callers.hurl opening/ticket-and-memo-of-a.hurl
 # after: opening/plan.hurl opening/callers.hurl
+#
+# Examples 9 and 10, example 13's disputes, and all else that B asks, in a run of its own. In one world A holds the
+# ticket 1300000001 and a memo, in the other nobody does. All replies to B are the same.
 
 POST {{base}}/agents/76543213/memos/dispute
 Bsp-Token: agenttoken000002

@@ -1,5 +1,9 @@
 # Example 37: an airline acts on its own memos.
 # after: opening/plan.hurl opening/callers.hurl opening/memos.hurl
+#
+# With the issues of example 14, 220 upholds 6000000001, and 6000000009, which nobody has: 404 M01 both times. The
+# same issue again is the same, and held. With amount 1 it is another, M05. To 12345686, which is not registered, it
+# is M08.
 
 POST {{base}}/airlines/220/memos/uphold
 Bsp-Token: airlinetoken0220

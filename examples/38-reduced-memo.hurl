@@ -1,5 +1,8 @@
 # Example 38: a reduced memo is known by its first amount.
 # after: opening/plan.hurl opening/callers.hurl opening/memos.hurl 14-memos.hurl
+#
+# Once the memo is reduced to 3000, an issue of 5000 is the same, one of 3000 another. So is one of another kind,
+# reason or agent.
 
 POST {{base}}/airlines/125/memos
 Bsp-Token: airlinetoken0125

@@ -3,6 +3,9 @@
 # after: opening/plan.hurl opening/callers.hurl opening/ticket-and-memo-of-a.hurl
 # after: opening/plan.hurl opening/callers-another-a.hurl opening/rows-of-another-a.hurl
 # after: opening/plan.hurl opening/callers-without-a.hurl
+#
+# The worlds differ in all rows of A. It has no document, or a ticket and a memo; or another token, range, documents
+# and memos; or is not registered. All replies to B are equal, as in `36-asked-by-b.hurl`.
 
 GET {{base}}/agents/12345675/documents/1300000001
 Bsp-Token: agenttoken000002

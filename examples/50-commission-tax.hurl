@@ -1,6 +1,12 @@
 # Example 50: a tax on commission begins, and with it the reports of form 2.
 # after: opening/plan-with-tax.hurl opening/callers.hurl
 # after: opening/plan.hurl opening/callers.hurl opening/tax.hurl
+#
+# PL with a tax on commission of 1900 from 2024-01-16 on. V1 is sold, and 24011 is closed on 2024-01-16: its statement
+# and its HOT file are of form 1. On that day A sells 1300000010-1, issued on 2024-01-16, with V1's amounts: the tax
+# is 190 and the net 22310. On 2024-02-01 24012 is closed: its statement has the column COMMISSION TAX, and the HOT
+# file of 125 is V4 with 13 records. The tax is added on 2024-01-05, or is published with PL: all replies are the
+# same. (`checks.txt`, `hotcheck TAXED`, which is V4; `.ci/statuses.sh`.)
 
 POST {{base}}/agents/12345675/ret
 Bsp-Token: agenttoken000001

@@ -1,5 +1,8 @@
 # Example 51: a refund has the tax of the earlier of its own day of issue and its ticket's.
 # after: opening/plan-with-tax.hurl opening/callers.hurl
+#
+# In 24012, before its close and issued on 2024-01-16, a refund of the whole ticket 1300000001 has the tax 0, and one
+# of 1300000010 the tax -190 at 1900. The latter issued on 2024-01-15 has the tax 0.
 
 POST {{base}}/agents/12345675/ret
 Bsp-Token: agenttoken000001

@@ -1,5 +1,8 @@
 # Example 51: a tax is rounded for each transaction, halves away from zero.
 # after: opening/plan-with-half.hurl opening/callers.hurl
+#
+# A commission of 1 at 5000 has the tax 1, refunded -1. Three such sales have the tax 3, and a commission of 3 has the
+# tax 2.
 
 # Commissions of 0.01, 0.01, 0.01, 0.03 and 0.00 at 50.00 %.
 POST {{base}}/agents/12345675/ret

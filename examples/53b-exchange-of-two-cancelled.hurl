@@ -1,5 +1,8 @@
 # Example 53: a CANX of the exchange gives both tickets back.
 # after: opening/plan.hurl opening/callers.hurl
+#
+# Before the close the CANX of 1300000013-4 is accepted, then the refund 1300000014-5 of 1300000011, and one of
+# 1300000012.
 
 POST {{base}}/agents/12345675/ret
 Bsp-Token: agenttoken000001

@@ -1,5 +1,9 @@
 # Example 54: where a second related document is allowed, and which.
 # after: opening/plan.hurl opening/callers.hurl
+#
+# The exchange of example 53 as the only group of a file. In profile 001 it is F03 record 4. In 002 with its records 3
+# exchanged it is F05 record 4. With `003` it is F02 record 1. With the second related document 1300000099-6, which
+# nobody has, it is E08. (Also `checks.txt`, `check HEADER DOUBLE_SALE` and the lines that follow it.)
 
 POST {{base}}/agents/12345675/ret
 Bsp-Token: agenttoken000001

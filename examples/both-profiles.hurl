@@ -1,5 +1,7 @@
 # A transaction that is reported in both profiles is the same one.
 # after: opening/plan.hurl opening/callers.hurl
+#
+# A transaction that is reported in both profiles is held.
 
 POST {{base}}/agents/12345675/ret
 Bsp-Token: agenttoken000001

@@ -1,5 +1,7 @@
 # The tax is that of the latest first day not after the day of issue, and 0 before the first.
 # after: opening/plan.hurl opening/callers.hurl
+#
+# Taxes of several days: each ticket has that of its day of issue, and each refund that of the earlier day.
 
 # 19.00 % from 2024-01-06 on, none from 2024-01-10 on, and 100.00 % from 2024-01-12 on.
 POST {{base}}/office/plan

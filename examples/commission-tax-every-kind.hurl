@@ -1,5 +1,8 @@
 # Each kind of document in reports of form 2, of two agents and two airlines.
 # after: opening/plan-with-tax.hurl opening/callers.hurl
+#
+# The reports have an exchange of two tickets, too. (Also `checks.txt`: `hotcheck TAXED_KINDS`, `hotcheck
+# DOUBLE_TAXED`.)
 
 POST {{base}}/agents/12345675/ret
 Bsp-Token: agenttoken000001

@@ -1,5 +1,7 @@
 # The largest commission, with a tax of all of it: the net is below zero.
 # after: opening/plan-with-whole.hurl opening/callers.hurl
+#
+# The largest commission with a tax of 100.00 %: the net is below zero, and a refund gives all back.
 
 # A sale by card, and one in cash.
 POST {{base}}/agents/12345675/ret

@@ -1,5 +1,7 @@
 # A tax of 0.00 % makes a period one of form 2; one that begins on the day after it does not.
 # after: opening/plan.hurl opening/callers.hurl
+#
+# A tax that begins on the last day of a period at 0.00 % makes the period one of form 2.
 
 POST {{base}}/office/plan
 Bsp-Token: officetoken00001

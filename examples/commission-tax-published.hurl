@@ -1,5 +1,8 @@
 # A tax on commission is published once, from a later day, and is then held or refused.
 # after: opening/plan.hurl opening/callers.hurl
+#
+# A tax that does not begin after the business day is P05. One that is published is held, and another one of its day
+# P08.
 
 # On 2024-01-05: from this day, and from one that is over.
 POST {{base}}/office/plan

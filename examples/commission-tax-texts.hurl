@@ -1,4 +1,6 @@
 # Plan texts with a tax on commission of another form.
+#
+# Plan texts whose tax is out of its form are P01 or P02.
 
 # A tax without a first day, without hundredths, with a further key, and one that is no table.
 POST {{base}}/office/plan

@@ -1,5 +1,7 @@
 # An office's first close: a sale, the statement, the settlement and the HOT file.
 # after: opening/plan.hurl opening/callers.hurl
+#
+# A first close over V1 alone: statement, settlement and HOT file have the net 225.00.
 
 GET {{base}}/agents/76543213/periods/24011
 Bsp-Token: agenttoken000001

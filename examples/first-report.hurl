@@ -1,5 +1,8 @@
 # An agent's first report: a sale, then a sale, an exchange and a refund in one file, a memo, and the statement.
 # after: opening/plan.hurl opening/callers.hurl
+#
+# An agent's first report, V1, and then `samples/first-report.ret`: a sale, an exchange of V1's ticket and a refund of
+# the sale are accepted. The net is 272.50, and with a memo of 30.00 it is 302.50.
 
 POST {{base}}/agents/12345675/ret
 Bsp-Token: agenttoken000001

@@ -1,5 +1,7 @@
 # A second related ticket is judged as the first one is, and the values of both are added up.
 # after: opening/plan.hurl opening/callers.hurl
+#
+# E03, E08, E09 and E12 come by the second ticket alone, and the values of two different tickets are added up.
 
 # Tickets, a cancelled one and a refunded one; then E08 before E09 by one of two; E03; amounts that are not of both.
 POST {{base}}/agents/12345675/ret

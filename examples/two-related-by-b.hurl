@@ -1,6 +1,9 @@
 # An exchange with another agent's ticket is as one with a ticket that nobody has; so are B's reports of form 2.
 # after: opening/plan-with-half.hurl opening/callers.hurl
 # after: opening/plan-with-half.hurl opening/callers.hurl opening/ticket-and-memo-of-a.hurl
+#
+# An exchange with a ticket of another agent is E08, as one with a ticket that nobody has. B's reports of form 2 are
+# the same in both worlds.
 
 # A sale, and exchanges of it and of a ticket that A has, or nobody.
 POST {{base}}/agents/76543213/ret

@@ -1,4 +1,4 @@
-//! The head of a request, as `docs/HTTP.md` has it.
+//! The head of a request, as `docs/API.md` has it.
 
 use std::net::Ipv6Addr;
 

@@ -1,5 +1,5 @@
 //! The HTTP part of an office in plain Rust, with fixed replies, for many connections in one thread, until it is ended.
-//! Heads are read and judged as `docs/HTTP.md` has them, and turns, times and ends are as there.
+//! Heads are read and judged as `docs/API.md` has them, and turns, times and ends are as there.
 //!
 //! usage: twin PORT
 

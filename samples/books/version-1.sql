@@ -1,4 +1,4 @@
--- A book of version 1: that of example 16 (docs/EXAMPLES.md). 24011 is closed, and no tax on commission was known.
+-- A book of version 1: that of example 16 (examples/README.md). 24011 is closed, and no tax on commission was known.
 -- It has the first ten tables of docs/TABLES.md, which says what their columns mean. Days are counted from 1970-01-01;
 -- the business day of the sales and memos is 19727, which is 2024-01-05.
 BEGIN;

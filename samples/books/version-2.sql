@@ -1,4 +1,4 @@
--- A book of version 2: that of example 16 (docs/EXAMPLES.md), with a tax on commission of 19.00 % from 2024-01-16 on, and
+-- A book of version 2: that of example 16 (examples/README.md), with a tax on commission of 19.00 % from 2024-01-16 on, and
 -- with the sale of that day of example 50. 24011 is closed. It has the first thirteen tables of docs/TABLES.md, which says
 -- what their columns mean. Days are counted from 1970-01-01; 19727 is 2024-01-05, and 19738 is 2024-01-16.
 BEGIN;
