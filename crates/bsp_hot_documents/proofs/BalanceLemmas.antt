@@ -55,5 +55,3 @@ balance_small_more count before code sums h one = record {
   codes = small_add_at count before.codes code sums h.codes one;
   all = small_add count 1 before.all sums h.all one;
 }
-
-}
