@@ -131,8 +131,8 @@ ROWS = [
 
 # requests that are none, or have no body
 REQUESTS = [
-    ("POST /office/days", "N02", 1, "POST /office/days: it is no request: write one of docs/ROUTES.md, as 'POST /office/day'"),
-    ("/office/day", "N02", 1, "/office/day: it is no request: write one of docs/ROUTES.md, as 'POST /office/day'"),
+    ("POST /office/days", "N02", 1, "POST /office/days: it is no request: write one of docs/API.md, as 'POST /office/day'"),
+    ("/office/day", "N02", 1, "/office/day: it is no request: write one of docs/API.md, as 'POST /office/day'"),
     ("GET /office/day", "N03", 1, "GET /office/day: the path has the method POST"),
     ("PUT /airlines/125/memos", "N03", 1, "PUT /airlines/125/memos: the path has the methods GET, POST"),
     ("GET /office/settlement/24011", "OK", 0, "GET /office/settlement/24011: it has no body: what comes with it is ignored"),

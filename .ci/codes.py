@@ -20,13 +20,8 @@ CODE = re.compile(r"(?<!\w)[A-Z]\d\d(?!\w)")
 ROW = re.compile(r"^\| `?([A-Z]\d\d)`? \|.*$", re.M)
 CAUSES = re.compile(r"^### ([A-Z]\d\d) by its causes\n\n((?:- .*\n)*)", re.M)
 PAGE = TOP / "docs/CODES.md"
-# pages that the texts of the table name, and where their content is now
-MOVED = {
-    "MEMOS.md": "RULES.md#what-can-follow-each-state-of-a-memo",
-    "ROUTES.md": "API.md#methods-and-paths",
-    "HTTP.md": "OPERATION.md#a-proxy-in-front",
-    "GUIDE.md": "OPERATION.md",
-}
+# the headings to which the links of some rows lead
+HEADINGS = {"M03": "#what-can-follow-each-state-of-a-memo", "N02": "#methods-and-paths", "T05": "#a-proxy-in-front"}
 # a row of the table: the code, the status, the meaning, the remedy and the causes
 ENTRY = re.compile(r'\(\n\s+("[A-Z]\d\d",.*?)^ *\)[],]', re.M | re.S)
 
@@ -46,17 +41,11 @@ def table():
     return found
 
 
-def link_to(name):
-    """A link to the page that has this name, or that has its content now."""
-    target = MOVED.get(name, name)
-    return f"[{target.partition('#')[0]}]({target})"
-
-
 def as_page(code, text, causes):
     """A text of the table as the page has it: with links to pages and to the causes."""
     if causes:
         text = text.replace("its causes", f"[{code} by its causes](#{code.lower()}-by-its-causes)")
-    return re.sub(r"\bdocs/([A-Z]+\.md)", lambda found: link_to(found[1]), text)
+    return re.sub(r"\bdocs/([A-Z]+\.md)", lambda found: f"[{found[1]}]({found[1]}{HEADINGS.get(code, '')})", text)
 
 
 def made(page, entries):

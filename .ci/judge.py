@@ -14,7 +14,6 @@ import subprocess
 import tempfile
 
 import office
-from codes import MOVED
 from office import TOP, expect, expect_end
 
 PROGRAM = office.program()
@@ -305,11 +304,6 @@ def plain(text):
     return re.sub(r"\[([A-Z]+\.md)\]\(\1(?:#[^)]*)?\)", r"docs/\1", text)
 
 
-def with_pages(text):
-    """A text of `explain` with the pages that have the content now of those that it names."""
-    return re.sub(r"docs/([A-Z]+\.md)", lambda found: f"docs/{MOVED.get(found[1], found[1]).partition('#')[0]}", text)
-
-
 def explained(page, code):
     """What `explain` prints of a code, by its row and its causes in docs/CODES.md."""
     *status, meaning, remedy = (plain(it.strip()) for it in re.search(rf"^\| {code} \|(.*)\|$", page, re.M)[1].split("|"))
@@ -327,7 +321,7 @@ def try_explain():
     expect("explain: the list", (0, sorted(codes)), (listed.returncode, sorted(line[:3] for line in listed.stdout.splitlines())))
     for code in codes:
         said = subprocess.run([PROGRAM, "explain", code], capture_output=True, timeout=60, text=True)
-        expect(f"explain {code}", (0, explained(page, code), ""), (said.returncode, with_pages(said.stdout), said.stderr))
+        expect(f"explain {code}", (0, explained(page, code), ""), (said.returncode, said.stdout, said.stderr))
     for word in ("E13", "E00", "e7", "E7", "Q01", "E007", ""):
         expect_end(f"explain {word}", (2, b"", f"bsp_office: {word} is no code: explain alone lists all\n".encode()), [PROGRAM, "explain", word])
     return len(codes)

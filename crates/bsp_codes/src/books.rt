@@ -8,14 +8,14 @@ pub(crate) const BOOKS: [Row; 4] = [
         "B01",
         "503",
         "Memory was short, and nothing was changed. Or a row or a sum is too big. At a start: memory was short for the book",
-        "Send the same request again. The office gives the program more memory (docs/GUIDE.md)",
+        "Send the same request again. The office gives the program more memory (docs/OPERATION.md)",
         &[],
     ),
     (
         "B02",
         "",
         "At a start, and of `audit`: the file is no book, or a damaged one. The program ends with status 1",
-        "The line says which row or table is at fault. Restore the last backup (docs/GUIDE.md)",
+        "The line says which row or table is at fault. Restore the last backup (docs/OPERATION.md)",
         &[],
     ),
     (
@@ -29,7 +29,7 @@ pub(crate) const BOOKS: [Row; 4] = [
         "B04",
         "",
         "At a start: the file is a book of a later version. Of `audit`: of any other version than 3. The program ends with status 1, and the file stays as it is",
-        "A later book needs its own program. A start brings an earlier one to version 3 (docs/GUIDE.md, Upgrade)",
+        "A later book needs its own program. A start brings an earlier one to version 3 (docs/OPERATION.md, Upgrade)",
         &[],
     ),
 ];

@@ -22,7 +22,7 @@ pub(crate) const MEMOS: [Row; 8] = [
         "M03",
         "409",
         "The state of the memo does not allow this. An airline upholds and reduces a disputed memo alone. A billed memo cannot be withdrawn",
-        "Read the state in `../memos`. docs/MEMOS.md has a drawing of what follows what",
+        "Read the state in `../memos`. docs/RULES.md has a drawing of what follows what",
         &[],
     ),
     (

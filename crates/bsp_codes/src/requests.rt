@@ -15,7 +15,7 @@ pub(crate) const REQUESTS: [Row; 6] = [
         "N02",
         "404",
         "No request has this path. It has a `?`, a `%`, a `/` at its end, an empty value, or a word in other letters",
-        "Take the path from docs/ROUTES.md. No path has a query",
+        "Take the path from docs/API.md. No path has a query",
         &[],
     ),
     (
@@ -104,7 +104,7 @@ pub(crate) const HEADS: [Row; 5] = [
         "T05",
         "501",
         "The body is sent in pieces (`Transfer-Encoding: chunked`)",
-        "Send it with its length. `curl -T -` sends in pieces, `--data-binary` does not. A proxy in front can collect the pieces (docs/HTTP.md)",
+        "Send it with its length. `curl -T -` sends in pieces, `--data-binary` does not. A proxy in front can collect the pieces (docs/OPERATION.md)",
         &[],
     ),
 ];

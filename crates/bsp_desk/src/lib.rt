@@ -1,6 +1,6 @@
 //! The desk: it answers the requests of any callers, one after the other, over any [`Book`](bsp_book::Book).
 //!
-//! The rules are those of `docs/DESK.md`, and `bsp_office_spec` defines them. Each request is one transaction of the
+//! The rules are those of `docs/API.md`, and `bsp_office_spec` defines them. Each request is one transaction of the
 //! book: its reply is made before the commit, so a refusal and a 503 B01 leave the rows as they were.
 //!
 //! `bsp_desk_writes` serves the requests that change the book. `bsp_desk_reads` serves those that show what is in it, and

@@ -1,7 +1,7 @@
 //! The office over HTTP: a connection is served at its desk, by its routes.
 //!
 //! [`serve`] cuts messages from what a peer sends, has the desk answer them, and writes the responses, as
-//! `docs/HTTP.md` has it. [`serve_all`] does so for many connections at once, in one thread. [`messages_are_run`] is the
+//! `docs/API.md` has it. [`serve_all`] does so for many connections at once, in one thread. [`messages_are_run`] is the
 //! law that what connections ask of a desk is a run of requests, so that all that holds of a run holds of them.
 #![tactic(auto)]
 

@@ -104,7 +104,7 @@ fn report_method(rt: &HostRuntime, request: &str, methods: Methods) -> u8 {
 
 /// Reports that a request is none, and answers the exit status.
 fn report_route(rt: &HostRuntime, request: &str) -> u8 {
-    let text = "it is no request: write one of docs/ROUTES.md, as 'POST /office/day'";
+    let text = "it is no request: write one of docs/API.md, as 'POST /office/day'";
     say(rt, request, &text);
     printed(rt, b"N02\n", REFUSED)
 }

@@ -2,7 +2,7 @@
 //!
 //! [`Routes::ask`] answers with the [`Call`] whose path the target is, with another method than those of the
 //! target's resource, or with no route. What a path value says is read elsewhere. Of the public calls only
-//! [`Routes::new`] takes memory. The routes are in `docs/ROUTES.md`.
+//! [`Routes::new`] takes memory. The routes are in `docs/API.md`.
 #![tactic(auto)]
 
 mod asking;
