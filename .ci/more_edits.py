@@ -13,7 +13,8 @@ import subprocess
 import sys
 import tempfile
 
-from office import TOP, crates
+sys.path.insert(0, str(pathlib.Path(__file__).resolve().parents[1] / "tests"))
+from support.tree import TOP, crates
 
 PARTS = "src", "specs", "proofs", "data", "args", "stdin", "stdout", "status"
 REFUSED = "refused, as it must be"

@@ -3,17 +3,19 @@
 and compares each reply, byte for byte; and asks each operation with a wrong token, and each path with another method. A
 client that is generated of it makes a month. Exits with the number of cases that differ.
 
-usage: .ci/openapi.py [PROGRAM]   (with no PROGRAM it takes the one that is built)
+usage: tests/docs/openapi.py [PROGRAM]   (with no PROGRAM it takes the one that is built)
 """
-import json
 import pathlib
 import subprocess
 import sys
 import tempfile
 
-sys.dont_write_bytecode = True
-import office
-from office import TOP, expect
+sys.path.insert(0, str(pathlib.Path(__file__).resolve().parents[1]))
+from support import compare, program as program_under_test
+from support.callers import compact
+from support.compare import expect
+from support.served import Office
+from support.tree import TOP
 
 try:
     import yaml
@@ -38,10 +40,6 @@ TOOLS = [
      "import jsonschema, yaml; open('/usr/share/openapi-specification/schemas/v3.0/schema.json')", BY_SCHEMA),
     ("openapi-spec-validator", [sys.executable, "-c"], "import openapi_spec_validator", BY_PYTHON),
 ]
-
-
-def compact(value):
-    return json.dumps(value, separators=(",", ":"), sort_keys=True).encode()
 
 
 class Description:
@@ -145,28 +143,32 @@ def month(program):
     if not has(["perl", "-MOpenAPI::Client", "-e", "1"]):
         print("this machine has no libopenapi-client-perl: no client of docs/openapi.yaml makes a month")
         return
-    with tempfile.TemporaryDirectory() as folder, office.Office(program, None, "--token", TOKENS["office"], seconds=10) as served:
+    with tempfile.TemporaryDirectory() as folder, Office(seconds=10) as served:
         hot = pathlib.Path(folder, "125.hot")
-        words = ["perl", TOP / ".ci" / "month.pl", PAGE, f"http://127.0.0.1:{served.port}", hot]
+        words = ["perl", TOP / "tests" / "docs" / "month.pl", PAGE, f"http://127.0.0.1:{served.port}", hot]
         made = subprocess.run(words, capture_output=True, text=True, timeout=60)
-        wanted = (TOP / ".ci" / "month.txt").read_text(encoding="utf-8")
+        wanted = (TOP / "tests" / "docs" / "month.txt").read_text(encoding="utf-8")
         expect("a month by a generated client", (0, wanted, ""), (made.returncode, made.stdout, made.stderr))
         checked = subprocess.run([program, "hotcheck", "--quiet", hot], capture_output=True)
         expect("its HOT file", (0, b"OK records 36 documents 5 net 322.50\n"), (checked.returncode, checked.stdout))
 
 
 def main():
-    program = office.program()
+    if len(sys.argv) > 1:
+        program_under_test.choose(sys.argv[1])
+    program = program_under_test.path()
     description = Description(PAGE.read_text(encoding="utf-8"))
     validate()
     asked = {place.split("/")[0] for place in description.whole["x-walk"]}
     expect("the operations that x-walk asks", sorted(description.operations), sorted(asked))
-    served = office.Office(program, None, "--token", TOKENS["office"], "--connections", 1, seconds=10)
+    served = Office("--connections", 1, seconds=10)
     walk(description, program, served)
     refusals(description, served)
     expect("the office's end", (0, "bsp_office: 1 connection served\n"), served.ended())
     month(program)
-    office.finish(f"docs/openapi.yaml: {len(description.whole['x-walk'])} examples are answered as it says")
+    print(compare.differences() or f"docs/openapi.yaml: {len(description.whole['x-walk'])} examples are answered as it says")
+    sys.exit(compare.is_different())
 
 
-main()
+if __name__ == "__main__":
+    main()

@@ -1,15 +1,10 @@
-#!/usr/bin/env python3
-"""Runs the commands of README.md, of docs/ and of samples/README.md as they are printed there, and compares what they print
-with what is shown.
+"""The commands of README.md, of docs/ and of samples/README.md print, as they are printed there, what is shown there.
 
 The commands are in the blocks that begin with ```console; a file without one is left out. A line that begins with $ is a
 command, those that follow it are what it prints. Those of a file are pasted whole into one shell, with no wait between
-them, in a folder that has samples/ and ./bsp_office, a link to PROGRAM. Lines of the office itself, which begin with its
+them, in a folder that has samples/ and ./bsp_office, a link to the program. Lines of the office itself, which begin with its
 name, may come between others: they are compared apart. A line of curl that it could not connect is left out, since curl
-tries again until the office listens. A free port takes the place of 8080, so that two tours can run on one machine.
-
-usage: .ci/tour.py [PROGRAM]   (with no PROGRAM it takes the one that is built)
-"""
+tries again until the office listens. A free port takes the place of 8080, so that two tours can run on one machine."""
 import os
 import re
 import shutil
@@ -17,8 +12,11 @@ import signal
 import subprocess
 import tempfile
 
-import office
-from office import TOP, expect
+import pytest
+
+from support.compare import expect
+from support.served import free_port
+from support.tree import SAMPLES, TOP
 
 # curl, whose lines on standard error are written at once, before what it answers, as on a terminal
 CURL = """#!/bin/bash
@@ -75,29 +73,23 @@ def apart(lines):
     return own, [it for it in lines if it and it not in own and not it.startswith("curl: (7) ")]
 
 
-def compare(name, program):
-    """Pastes the commands of the file, and compares what they print."""
+PAGES = [TOP / "README.md", *sorted(TOP.glob("docs/*.md")), SAMPLES / "README.md"]
+TOURS = [str(it.relative_to(TOP)) for it in PAGES if BLOCK.search(it.read_text(encoding="utf-8"))]
+
+
+def test_there_are_tours():
+    assert "README.md" in TOURS
+
+
+@pytest.mark.parametrize("name", TOURS)
+def test_the_commands_of_a_page(name, program):
     commands = commands_of((TOP / name).read_text(encoding="utf-8"))
-    port = str(office.free_port())
+    port = str(free_port())
     with tempfile.TemporaryDirectory() as folder, tempfile.TemporaryDirectory() as programs:
-        shutil.copytree(f"{TOP}/samples", f"{folder}/samples")
+        shutil.copytree(SAMPLES, f"{folder}/samples")
         os.symlink(program, f"{folder}/bsp_office")
         script = "".join(f"{it}\n" for it, _ in commands).replace("8080", port)
         printed = printed_by(script, folder, path_with_curl(programs))
     wanted = [line.replace("8080", port) for _, lines in commands for line in lines]
-    is_same = all([expect(f"{name}: {what}", one, other)
-                   for what, one, other in zip(("the office", "the commands"), apart(wanted), apart(printed))])
-    if is_same:
-        print(f"{name}: {len(commands)} commands print what it shows")
-
-
-def main():
-    program = office.program()
-    pages = [TOP / "README.md", *sorted(TOP.glob("docs/*.md")), TOP / "samples/README.md"]
-    files = [str(it.relative_to(TOP)) for it in pages if BLOCK.search(it.read_text(encoding="utf-8"))]
-    for name in files:
-        compare(name, program)
-    office.finish(f"the commands of {len(files)} documents print what they show")
-
-
-main()
+    for what, one, other in zip(("the office", "the commands"), apart(wanted), apart(printed)):
+        expect(what, one, other)

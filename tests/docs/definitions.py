@@ -10,10 +10,12 @@ Each word must be bold in a section of docs/DEFINITIONS.md whose heading names t
 of a section must be a name in the specs or the types of those crates. The script lists the words that are not, and ends
 with status 1 if there are any."""
 import functools
+import pathlib
 import re
 import sys
 
-from office import TOP
+sys.path.insert(0, str(pathlib.Path(__file__).resolve().parents[1]))
+from support.tree import TOP
 
 NAME = re.compile(r"[^\W\d][\w\-']*")
 COMMENT = re.compile(r"(?:--|//).*")

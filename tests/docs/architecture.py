@@ -4,10 +4,12 @@
 Each crate of crates.txt is drawn once, and each crate that is drawn is in crates.txt; crates of tests and of cases, which
 nothing uses, are named in docs/CONTRIBUTING.md instead. A crate uses crates that are drawn below it alone, or to its
 right. The script names what differs, and ends with status 1 if anything does."""
+import pathlib
 import re
 import sys
 
-from office import TOP, crates
+sys.path.insert(0, str(pathlib.Path(__file__).resolve().parents[1]))
+from support.tree import TOP, crates
 
 
 def uses():

@@ -3,8 +3,8 @@
 # operation, the status and the body of the reply, records of 136 characters apart. Where a reply is not as the description
 # has it, a line says so.
 #
-# usage: .ci/month.pl DESCRIPTION ADDRESS HOT    (the HOT file of the airline is written to HOT; .ci/openapi.py runs it, and
-#                                                 compares what it prints with .ci/month.txt)
+# usage: tests/docs/month.pl DESCRIPTION ADDRESS HOT    (the HOT file of the airline is written to HOT; tests/docs/openapi.py runs it,
+#                                                        and compares what it prints with month.txt)
 use strict;
 use warnings;
 use Mojo::File;

@@ -1,5 +1,5 @@
 #!/usr/bin/env bash
-# What .ci/wrapper_test.py has in place of rt: it notes its verb and runs the words of $during. As `rt ci` it proves all crates
+# What test_build_script.py has in place of rt: it notes its verb and runs the words of $during. As `rt ci` it proves all crates
 # but $failing and makes a program of their sources. As `rt try` it makes that in $TMPDIR, and reads the last word's file.
 kit=${0%/bin/rt} && echo "$1" >>"$kit/calls"
 [ "$1" != version ] || exec cat "$kit/version"

@@ -1,5 +1,4 @@
-#!/usr/bin/env python3
-"""Tries ./bsp_office in small trees, with a script in place of rt. Exits with the number of cases that differ."""
+"""./bsp_office, which builds the program, in small trees, with build_script_rt.sh in place of rt."""
 import os
 import pathlib
 import pty
@@ -7,10 +6,12 @@ import re
 import shutil
 import signal
 import subprocess
-import tempfile
 import time
 
-from office import TOP, expect, finish
+import pytest
+
+from support.compare import expect
+from support.tree import TOP
 
 CRATES = "# the crates\nbsp_office: middle low clap # and not other\nlow: thiserror\nmiddle: low\nother: low\n"
 NO_RT = "/usr/bin:/bin"
@@ -20,7 +21,7 @@ FIRST = ("bsp_office: a first build proves every crate, in three quarters of an 
          "For a first look without a proof, in about five minutes: ./bsp_office --unproved WORDS")
 PROVED = [FIRST, *(f"bsp_office: {crate} is proved, {at} of 3" for at, crate in enumerate(("low", "middle", "bsp_office"), 1))]
 UNPROVED = "bsp_office: this program is not proved; ./bsp_office without --unproved proves it first, in about an hour"
-RT = (TOP / ".ci" / "wrapper_rt.sh").read_text(encoding="utf-8")
+RT = pathlib.Path(__file__).with_name("build_script_rt.sh").read_text(encoding="utf-8")
 
 
 class Room:
@@ -178,11 +179,27 @@ class Room:
         self.signals("--unproved", said="")
 
 
-# a signal that this script was begun without, as under nohup, is one for the scripts that it begins
-for number in signal.SIGHUP, signal.SIGINT:
-    signal.signal(number, signal.SIG_DFL)
-for case in (Room.sources, Room.two_calls_at_once, Room.not_built, Room.words_and_terminal, Room.signals,
-             Room.unproved, Room.unproved_on_a_terminal, Room.signals_unproved):
-    with tempfile.TemporaryDirectory() as folder:
-        case(Room(pathlib.Path(folder) / case.__name__))
-finish("bsp_office: the script that builds it is right in all cases")
+CASES = [
+    Room.sources,
+    Room.two_calls_at_once,
+    Room.not_built,
+    Room.words_and_terminal,
+    Room.signals,
+    Room.unproved,
+    Room.unproved_on_a_terminal,
+    Room.signals_unproved,
+]
+
+
+@pytest.fixture
+def signals():
+    """A signal that the tests were begun without, as under nohup, is one for the scripts that they begin."""
+    before = {number: signal.signal(number, signal.SIG_DFL) for number in (signal.SIGHUP, signal.SIGINT)}
+    yield
+    for number, handler in before.items():
+        signal.signal(number, handler)
+
+
+@pytest.mark.parametrize("case", CASES, ids=[it.__name__ for it in CASES])
+def test_the_build_script(case, folder, signals):
+    case(Room(folder / case.__name__))

@@ -6,13 +6,15 @@ docs/CODES.md is made of each, and a section `### E07 by its causes` of causes. 
 letter and two digits in a text of crates/*/src, tests and comments apart, as `E05` or `{"code":"N02"}`. Each has one
 entry, and there is no other. The script names what differs, and ends with status 1 if anything does.
 
-usage: .ci/codes.py            compares
-       .ci/codes.py --write    makes the rows and the causes of docs/CODES.md of the table"""
+usage: tests/docs/codes.py            compares
+       tests/docs/codes.py --write    makes the rows and the causes of docs/CODES.md of the table"""
 import json
+import pathlib
 import re
 import sys
 
-from office import TOP
+sys.path.insert(0, str(pathlib.Path(__file__).resolve().parents[1]))
+from support.tree import TOP
 
 COMMENT = re.compile(r"^\s*//.*$|\s//\s.*$", re.M)
 TEXT = re.compile(r'"(?:[^"\\]|\\.)*"')

@@ -6,10 +6,12 @@ So is each public function that has a `requires` in the table of conditions. Eac
 
 A call is NAME or TYPE::NAME; **`=`** is a clause without a name. Ends with status 1 if anything differs."""
 import fnmatch
+import pathlib
 import re
 import sys
 
-from office import TOP, crates
+sys.path.insert(0, str(pathlib.Path(__file__).resolve().parents[1]))
+from support.tree import TOP, crates
 
 ROW = re.compile(r"^\| `(bsp_\w+)` \| (.+?) \| .+? \|(.*?)\|(.*?)\|$", re.M)
 CONDITION = re.compile(r"^\| `(bsp_\w+)` \| ([^|]+) \| [^|]+ \|$", re.M)

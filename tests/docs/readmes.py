@@ -2,13 +2,15 @@
 """Compares the README.md of each crate with its sources: what the crate is, its files, what it is built on, and who uses it,
 by the //! lines of its files, or the first /// where there are none, and by crates.txt. With --write it writes them.
 
-usage: .ci/readmes.py [--write]
+usage: tests/docs/readmes.py [--write]
 """
+import pathlib
 import re
 import sys
 
-import office
-from office import TOP
+sys.path.insert(0, str(pathlib.Path(__file__).resolve().parents[1]))
+from support import tree
+from support.tree import TOP
 
 
 def said(path):
@@ -58,14 +60,14 @@ def readme(name, crates):
 
 
 def main():
-    crates, wrong = office.crates(), []
+    crates, wrong = tree.crates(), []
     for name in crates:
         path, wanted = TOP / "crates" / name / "README.md", readme(name, crates)
         if "--write" in sys.argv[1:]:
             path.write_text(wanted)
         elif not path.exists() or path.read_text() != wanted:
             wrong.append(name)
-            print(f"{path.relative_to(TOP)} is not what .ci/readmes.py --write writes")
+            print(f"{path.relative_to(TOP)} is not what tests/docs/readmes.py --write writes")
         if "| ? |" in wanted:
             wrong.append(name)
             print(f"{name}: a file of src has neither //! nor ///")

@@ -10,13 +10,14 @@ office with the file is killed; started again, it shows what the other one shows
 The line at the end has the numbers of what was tried. A difference is printed with what was sent; the same seed sends
 the same again, as long as the time lasts.
 
-usage: .ci/fuzz.py PROGRAM [SECONDS [SEED]]     (by default 10 seconds, and the seed 1)
-       .ci/fuzz [SECONDS [SEED]]                (the program that is built)
+usage: tests/http/fuzz.py PROGRAM [SECONDS [SEED]]     (by default 10 seconds, and the seed 1)
+       .ci/fuzz [SECONDS [SEED]]                       (the program that is built)
 """
 import collections
 import http.client
 import json
 import os
+import pathlib
 import random
 import re
 import resource
@@ -26,15 +27,19 @@ import sys
 import tempfile
 import time
 
-sys.dont_write_bytecode = True
-import office
+sys.path.insert(0, str(pathlib.Path(__file__).resolve().parents[1]))
+from support import compare, program
+from support.callers import OFFICE
+from support.compare import expect
+from support.records import zoned
+from support.served import Office
+from support.tree import TOP, example_file, sample
 
-PROGRAM = office.program()
+program.choose(sys.argv[1])
 SECONDS = float(sys.argv[2]) if len(sys.argv) > 2 else 10
 RANDOM = random.Random(int(sys.argv[3]) if len(sys.argv) > 3 else 1)
 TRIED = collections.Counter()
 
-OFFICE = "officetoken00001"
 FIRST_AGENTS = {"12345675": "agenttoken000001", "76543213": "agenttoken000002"}
 FIRST_AIRLINES = {"125": "airlinetoken0125", "220": "airlinetoken0220"}
 # the tokens that they have now
@@ -53,12 +58,12 @@ TRIES = 60
 # a refused allocation of 1 GiB ends as want of memory: no input below has a reason for as much
 MEMORY = 1 << 30
 
-RET = [office.sample(f"{name}.ret") for name in (
+RET = [sample(f"{name}.ret") for name in (
     "sale", "card-sale", "exchange", "exchange-of-two", "refund-and-sale", "six-tickets")]
-HOT = [office.sample(f"{name}.hot") for name in ("no-documents", "two-agents", "commission-tax")]
-HOT.append((office.TOP / "examples" / "files" / "125-taxed-kinds.hot").read_bytes())
+HOT = [sample(f"{name}.hot") for name in ("no-documents", "two-agents", "commission-tax")]
+HOT.append(example_file("125-taxed-kinds.hot"))
 # without a tax on commission, with one from the second period on, and with one from the first business day on
-PLAN, TAXED = office.sample("plan.toml"), office.sample("commission-tax.toml")
+PLAN, TAXED = sample("plan.toml"), sample("commission-tax.toml")
 PLANS = [PLAN, TAXED, TAXED.replace(b'from = "2024-01-16"', b'from = "2024-01-05"')]
 TERMS = PLAN[:PLAN.index(b"airline")]
 
@@ -114,12 +119,6 @@ def perhaps(text, share=0.5):
 
 
 # ---- RET files
-
-
-def zoned(units, width=11):
-    """An amount as a signed zoned decimal."""
-    digits = f"{abs(units):0{width}}"
-    return digits[:-1] + ("{ABCDEFGHI" if units >= 0 else "}JKLMNOPQR")[int(digits[-1])]
 
 
 class Ret:
@@ -218,11 +217,11 @@ def try_command():
     command = RANDOM.choice(("check", "hotcheck"))
     base = RANDOM.choice(RET) if command == "check" and RANDOM.random() < 0.5 else ret_file("12345675") if command == "check" else RANDOM.choice(HOT)
     text = perhaps(base, 0.9)
-    ended = subprocess.run([PROGRAM, command, "-"], input=text, capture_output=True, timeout=20, preexec_fn=limit_memory)
+    ended = subprocess.run([program.path(), command, "-"], input=text, capture_output=True, timeout=20, preexec_fn=limit_memory)
     form, lines = REPORTS.get((command, ended.returncode)), ended.stderr.splitlines()
-    office.expect(f"{command} of {text!r}: its status, {ended.returncode}", True, form is not None)
-    office.expect(f"{command} of {text!r}: its report", True, form is not None and form.fullmatch(ended.stdout) is not None)
-    office.expect(f"{command} of {text!r}: its lines for people", 1 if command == "hotcheck" else ended.returncode, len(lines))
+    expect(f"{command} of {text!r}: its status, {ended.returncode}", True, form is not None)
+    expect(f"{command} of {text!r}: its report", True, form is not None and form.fullmatch(ended.stdout) is not None)
+    expect(f"{command} of {text!r}: its lines for people", 1 if command == "hotcheck" else ended.returncode, len(lines))
     TRIED["files"] += 1
 
 
@@ -328,17 +327,17 @@ class Pair:
     """Two offices, of which the second has its book in a file."""
 
     def __init__(self):
-        self.offices = [office.Office(PROGRAM, None, "--token", OFFICE, memory=MEMORY), self.with_file()]
+        self.offices = [Office(memory=MEMORY), self.with_file()]
         self.seen = None
 
     @staticmethod
     def with_file():
-        return office.Office(PROGRAM, None, "--token", OFFICE, "--db", "office.db", memory=MEMORY)
+        return Office("--db", "office.db", memory=MEMORY)
 
     def ask(self, method, path, token=None, body=None):
         """The reply of both."""
         first, second = (it.ask(method, path, token, body) for it in self.offices)
-        office.expect(f"{method} {path} {token} {body!r}: the office with a file", first, second)
+        expect(f"{method} {path} {token} {body!r}: the office with a file", first, second)
         TRIED["requests"] += 1
         return first
 
@@ -353,11 +352,11 @@ class Pair:
         asked = method, path, token, body = request()
         before = self.shown()
         status, _, reply = self.ask(*asked)
-        office.expect(f"{asked}: its status, {status} {reply!r}", True, status in STATUSES)
+        expect(f"{asked}: its status, {status} {reply!r}", True, status in STATUSES)
         done = status == 200 and (reply == b'{"result":"done"}' or b'"verdict":"accepted"' in reply)
         self.seen = None
         if not done:
-            office.expect(f"{asked}: what {status} {reply!r} leaves", before, self.shown())
+            expect(f"{asked}: what {status} {reply!r} leaves", before, self.shown())
             return
         TRIED["changes"] += 1
         if path in ("/office/agents", "/office/airlines"):
@@ -368,9 +367,9 @@ class Pair:
             first, second = (json.loads(it)["results"] for it in (reply, again))
             for one, other in zip(first, second, strict=True):
                 if one["verdict"] == "accepted":
-                    office.expect(f"{asked}: sent again", {**one, "verdict": "held"}, other)
+                    expect(f"{asked}: sent again", {**one, "verdict": "held"}, other)
         elif not path.endswith("/withdraw") or "/memos/" in path:
-            office.expect(f"{asked}: sent again", b'{"result":"held"}', again)
+            expect(f"{asked}: sent again", b'{"result":"held"}', again)
 
     def try_connection(self):
         """Bytes of a connection, which may be several requests."""
@@ -385,10 +384,10 @@ class Pair:
         for it in self.offices:
             it.close()
             replies.append(exchanged(it.port, text))
-        office.expect(f"the bytes {text!r}: the office with a file", replies[0], replies[1])
+        expect(f"the bytes {text!r}: the office with a file", replies[0], replies[1])
         heads = re.match(rb"(HTTP/1\.1 [1-5]\d\d |$)", replies[0])
-        office.expect(f"the bytes {text!r}: the reply {replies[0][:200]!r}", True, heads is not None)
-        office.expect(f"the bytes {text!r}: no 503", False, b"HTTP/1.1 503" in replies[0])
+        expect(f"the bytes {text!r}: the reply {replies[0][:200]!r}", True, heads is not None)
+        expect(f"the bytes {text!r}: no 503", False, b"HTTP/1.1 503" in replies[0])
         self.seen = None
         TRIED["connections"] += 1
 
@@ -398,7 +397,7 @@ class Pair:
         self.offices[1].kill()
         self.offices[1] = self.with_file()
         self.seen = None
-        office.expect("what is shown after a restart", before, self.shown())
+        expect("what is shown after a restart", before, self.shown())
         TRIED["restarts"] += 1
 
 
@@ -426,7 +425,7 @@ def open_market(pair):
             *(("agents", body_of(agent=it, token=token)) for it, token in AGENTS.items()),
             *(("airlines", body_of(airline=it, token=token)) for it, token in AIRLINES.items()),
             *(("stock/allot", body_of(agent=it, first=f"{first}00000000", last=f"{first}00000009")) for it, first in STOCK.items())):
-        office.expect(f"the opening: {path}", 200, pair.ask("POST", f"/office/{path}", OFFICE, body)[0])
+        expect(f"the opening: {path}", 200, pair.ask("POST", f"/office/{path}", OFFICE, body)[0])
 
 
 def try_one(pair):
@@ -453,25 +452,27 @@ def try_market(until):
         try:
             open_market(pair)
             for _ in range(TRIES):
-                if time.monotonic() > until or office.failures:
+                if time.monotonic() > until or compare.is_different():
                     break
                 try_one(pair)
             pair.restart()
         finally:
             for it in pair.offices:
-                it.end()
-            os.chdir(office.TOP)
+                it.stop()
+            os.chdir(TOP)
     TRIED["markets"] += 1
 
 
 def main():
     until = time.monotonic() + SECONDS
-    while time.monotonic() < until and not office.failures:
+    while time.monotonic() < until and not compare.is_different():
         try:
             try_market(until)
         except (http.client.HTTPException, OSError, subprocess.TimeoutExpired, RuntimeError) as fault:
-            office.expect(f"the programs go on: {fault!r}", True, False)
-    office.finish("fuzz: " + ", ".join(f"{count:,} {what}" for what, count in sorted(TRIED.items())) + ", no difference")
+            expect(f"the programs go on: {fault!r}", True, False)
+    print("fuzz: " + ", ".join(f"{count:,} {what}" for what, count in sorted(TRIED.items())))
+    print(compare.differences() or "no difference")
+    sys.exit(compare.is_different())
 
 
 main()

@@ -4,9 +4,11 @@
 A line `file:` names a file of the crate. Each line `old:` has a text that is in that file once, after the pairs before
 it, and the line `new:` behind it has another, or none. The script names each edit that is not so, and each name that two
 edits of a crate have. It ends with status 1 if there is any."""
+import pathlib
 import sys
 
-from office import TOP
+sys.path.insert(0, str(pathlib.Path(__file__).resolve().parents[1]))
+from support.tree import TOP
 
 
 def pairs(lines):

@@ -1,0 +1,17 @@
+"""The pages agree with the sources: each script of this folder compares some of them, and prints what differs."""
+import subprocess
+import sys
+
+import pytest
+
+from support.tree import TOP
+
+SCRIPTS = ["definitions", "architecture", "codes", "refusals", "readmes", "edits"]
+
+
+@pytest.mark.parametrize("name", SCRIPTS)
+def test_pages_agree_with_the_sources(name):
+    words = [sys.executable, "-B", TOP / "tests" / "docs" / f"{name}.py"]
+    ended = subprocess.run(words, stdout=subprocess.PIPE, stderr=subprocess.STDOUT, text=True)
+    print(ended.stdout)
+    assert ended.returncode == 0, ended.stdout
