@@ -26,14 +26,24 @@ def drawn():
 
 def main():
     known, order = uses(), drawn()
-    aside = set(re.findall(r"\bbsp_(?:\w+_)?(?:tests|probe|examples)\b", (TOP / "docs/CONTRIBUTING.md").read_text(encoding="utf-8")))
+    aside = set(
+        re.findall(r"\bbsp_(?:\w+_)?(?:tests|probe|examples)\b", (TOP / "docs/CONTRIBUTING.md").read_text(encoding="utf-8"))
+    )
     faults = [f"{it} is drawn, and is not in crates.txt" for it in order if it not in known]
     faults += [f"{it} is drawn twice" for it in sorted(set(order)) if order.count(it) > 1]
     faults += [f"{it} is neither drawn nor named in docs/CONTRIBUTING.md" for it in known if it not in order and it not in aside]
     for name in (it for it in order if it in known):
-        faults += [f"{name} uses {it}, which is drawn above it" for it in known[name]
-                   if it in order and order.index(it) < order.index(name)]
-    print("\n".join(faults + [f"architecture: {len(order)} crates drawn, {len(known)} in crates.txt, {sum(map(len, known.values()))} uses"]))
+        faults += [
+            f"{name} uses {it}, which is drawn above it"
+            for it in known[name]
+            if it in order and order.index(it) < order.index(name)
+        ]
+    print(
+        "\n".join(
+            faults
+            + [f"architecture: {len(order)} crates drawn, {len(known)} in crates.txt, {sum(map(len, known.values()))} uses"]
+        )
+    )
     return 1 if faults else 0
 
 

@@ -50,6 +50,7 @@ def as_page(code, text, causes):
 
 def made(page, entries):
     """The page with its rows and its causes made of the table."""
+
     def row(code, has_status):
         status, meaning, remedy, causes = entries[code]
         cells = [code, status] if has_status else [code]
@@ -91,9 +92,15 @@ def main():
     faults = [f"the table has no {code}, which {known[code]} writes" for code in sorted(known) if code not in entries]
     faults += [f"the table has {code}, which no source writes" for code in sorted(entries) if code not in known]
     faults += [f"docs/CODES.md has no row of {code}" for code in sorted(entries) if code not in rows]
-    faults += [f"docs/CODES.md has a row of {code}, which is not in the table" for code in sorted(set(rows)) if code not in entries]
+    faults += [
+        f"docs/CODES.md has a row of {code}, which is not in the table" for code in sorted(set(rows)) if code not in entries
+    ]
     faults += [f"docs/CODES.md has {code} in more than one row" for code in sorted(set(rows)) if rows.count(code) > 1]
-    faults += [f"docs/CODES.md has no section of the causes of {code}" for code in sorted(entries) if entries[code][3] and code not in sections]
+    faults += [
+        f"docs/CODES.md has no section of the causes of {code}"
+        for code in sorted(entries)
+        if entries[code][3] and code not in sections
+    ]
     for has, wants in zip(page.splitlines(), made(page, entries).splitlines()):
         if has != wants:
             faults.append(f"docs/CODES.md differs from the table:\n  has   {has}\n  wants {wants}")

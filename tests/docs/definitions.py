@@ -83,8 +83,9 @@ def main():
     explained, unknown = set(), []
     for section in re.split(r"^## ", (TOP / "docs/DEFINITIONS.md").read_text(encoding="utf-8"), flags=re.M)[1:]:
         crates = re.findall(r"bsp_\w+", section.split("\n")[0])
-        known = {name for crate in crates for files in ("specs/*.antt", "src/**/*.rt")
-                 for name in named_in(crate, files, NAME.pattern)}
+        known = {
+            name for crate in crates for files in ("specs/*.antt", "src/**/*.rt") for name in named_in(crate, files, NAME.pattern)
+        }
         for bold in re.findall(r"\*\*(.+?)\*\*", section, re.S):
             for word in (NAME.match(it.strip(" .\n`")) for it in bold.split(",")):
                 explained |= {(crate, word[0]) for crate in crates}

@@ -36,8 +36,12 @@ BY_PERL = "print map { qq($_\\n) } @{JSON::Validator->new->schema($ARGV[0])->sch
 BY_PYTHON = "import sys, yaml, openapi_spec_validator; openapi_spec_validator.validate(yaml.safe_load(open(sys.argv[1])))"
 TOOLS = [
     ("libjson-validator-perl", ["perl", "-MJSON::Validator", "-e"], "1", BY_PERL),
-    ("openapi-specification and python3-jsonschema", ["/usr/bin/python3", "-W", "ignore", "-c"],
-     "import jsonschema, yaml; open('/usr/share/openapi-specification/schemas/v3.0/schema.json')", BY_SCHEMA),
+    (
+        "openapi-specification and python3-jsonschema",
+        ["/usr/bin/python3", "-W", "ignore", "-c"],
+        "import jsonschema, yaml; open('/usr/share/openapi-specification/schemas/v3.0/schema.json')",
+        BY_SCHEMA,
+    ),
     ("openapi-spec-validator", [sys.executable, "-c"], "import openapi_spec_validator", BY_PYTHON),
 ]
 

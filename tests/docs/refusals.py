@@ -24,7 +24,7 @@ CLAUSE = re.compile(r"^\s*ensures(?: (\w+))? \{", re.M)
 def contract(text, at, margin):
     """What comes before the body of the function that begins there."""
     end = re.compile(rf"^{margin}\{{|\{{$|^{margin}\{{\}}", re.M)
-    return text[at:end.search(text, at).start()]
+    return text[at : end.search(text, at).start()]
 
 
 def type_around(text, at):
@@ -37,7 +37,9 @@ def given(crate):
     root = TOP / "crates" / crate / "src" / "lib.rt"
     if not root.exists():
         return None
-    return {name for it in re.findall(r"^pub use ([^;]+);", root.read_text(encoding="utf-8"), re.M) for name in re.findall(r"\w+", it)}
+    return {
+        name for it in re.findall(r"^pub use ([^;]+);", root.read_text(encoding="utf-8"), re.M) for name in re.findall(r"\w+", it)
+    }
 
 
 def functions_of(crate):

@@ -17,8 +17,10 @@ CRATES = "# the crates\nbsp_office: middle low clap # and not other\nlow: thiser
 NO_RT = "/usr/bin:/bin"
 MADE = "bsp_office-src middle-src low-src"
 OTHER = MADE.replace("low-src", "other")
-FIRST = ("bsp_office: a first build proves every crate, in three quarters of an hour on four processors, or up to twice that on two. "
-         "For a first look without a proof, in about five minutes: ./bsp_office --unproved WORDS")
+FIRST = (
+    "bsp_office: a first build proves every crate, in three quarters of an hour on four processors, or up to twice that on two. "
+    "For a first look without a proof, in about five minutes: ./bsp_office --unproved WORDS"
+)
 PROVED = [FIRST, *(f"bsp_office: {crate} is proved, {at} of 3" for at, crate in enumerate(("low", "middle", "bsp_office"), 1))]
 UNPROVED = "bsp_office: this program is not proved; ./bsp_office without --unproved proves it first, in about an hour"
 RT = pathlib.Path(__file__).with_name("build_script_rt.sh").read_text(encoding="utf-8")
@@ -72,8 +74,12 @@ class Room:
         self.expect("a new file", OTHER.replace("middle", "new middle"), True)
         shutil.rmtree(self.tree / "crates/middle/specs")
         self.expect("no such folder", OTHER, True)
-        for name, text in {"a tree/crates.txt": CRATES.replace("low clap", "low"), "a tree/HANDLES": "Net", "kit/KIT-ID": "two",
-                           "a tree/crates/bsp_office/out/bsp_office": "#!/bin/sh"}.items():
+        for name, text in {
+            "a tree/crates.txt": CRATES.replace("low clap", "low"),
+            "a tree/HANDLES": "Net",
+            "kit/KIT-ID": "two",
+            "a tree/crates/bsp_office/out/bsp_office": "#!/bin/sh",
+        }.items():
             self.write(name, text)
             self.expect(f"another {name}", OTHER, True)
         self.program.unlink()
@@ -89,13 +95,19 @@ class Room:
         expect("both", [(f"{MADE}\n", None)] * 2, [it.communicate(timeout=60) for it in calls])
         expect("one builds", "ci\n", (self.folder / "kit/calls").read_text())
         lines = [line for it in errors if not it.seek(0) for line in it.read().splitlines()]
-        expect("one waits", sorted([*PROVED, "bsp_office: waiting for another call, which is building the program"]), sorted(lines))
+        expect(
+            "one waits", sorted([*PROVED, "bsp_office: waiting for another call, which is building the program"]), sorted(lines)
+        )
 
     def not_built(self):
         self.call()
         self.write("a tree/HANDLES", "Net")
         head = "bsp_office: the program is not built. Of the crate that failed first, rt says, but for what is proved:"
-        said, log = ["== middle", "fn middle::second: no proof", "rt: middle NOT PROVED"], f"bsp_office: all of it is in {self.program}.log"
+        said, log = [
+            "== middle",
+            "fn middle::second: no proof",
+            "rt: middle NOT PROVED",
+        ], f"bsp_office: all of it is in {self.program}.log"
         expect("not proved", (4, "", [*PROVED[:2], head, *said, log]), self.call("made", failing="middle"))
         expect("rt stops", (4, "", [FIRST, head, "why", log]), self.call("made", during="echo why; exit 2"))
         self.expect("mended", MADE, True)
@@ -154,13 +166,21 @@ class Room:
         expect("unproved, no rt", (0, OTHER, [UNPROVED]), self.call("--unproved", "made"))
         kept.unlink()
         line = "and rt, which builds it, is not on the path: it comes with the Rattle toolchain kit whose version README.md gives"
-        expect("unproved, no rt and no program", (4, "", [f"bsp_office: the program is missing, {line}"]), self.call("--unproved", "made"))
+        expect(
+            "unproved, no rt and no program",
+            (4, "", [f"bsp_office: the program is missing, {line}"]),
+            self.call("--unproved", "made"),
+        )
 
     def unproved_on_a_terminal(self):
         ours, theirs = pty.openpty()
         it = self.start("--unproved", "made", stderr=theirs, during="sleep 1")
         expect("unproved, on a terminal", (f"{MADE}\n", None), it.communicate(timeout=60))
-        line = r"(\r\x1b\[Kbsp_office: compiling without a proof, which takes about five minutes, \d+ s)+\r\x1b\[K" + re.escape(UNPROVED) + r"\r\n"
+        line = (
+            r"(\r\x1b\[Kbsp_office: compiling without a proof, which takes about five minutes, \d+ s)+\r\x1b\[K"
+            + re.escape(UNPROVED)
+            + r"\r\n"
+        )
         expect("unproved, written over", True, bool(re.fullmatch(line, os.read(ours, 65536).decode())))
 
     def signals(self, *words, said=f"{FIRST}\n"):

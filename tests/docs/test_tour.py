@@ -54,8 +54,16 @@ def path_with_curl(folder):
 
 def printed_by(script, folder, path):
     """The lines that a shell prints which is given the script at once."""
-    shell = subprocess.Popen(["bash"], cwd=folder, stdin=subprocess.PIPE, stdout=subprocess.PIPE, stderr=subprocess.STDOUT,
-                             text=True, start_new_session=True, env={**os.environ, "PATH": path})
+    shell = subprocess.Popen(
+        ["bash"],
+        cwd=folder,
+        stdin=subprocess.PIPE,
+        stdout=subprocess.PIPE,
+        stderr=subprocess.STDOUT,
+        text=True,
+        start_new_session=True,
+        env={**os.environ, "PATH": path},
+    )
     try:
         return shell.communicate(script, timeout=SECONDS)[0].splitlines()
     except subprocess.TimeoutExpired:

@@ -58,18 +58,18 @@ TRIES = 60
 # a refused allocation of 1 GiB ends as want of memory: no input below has a reason for as much
 MEMORY = 1 << 30
 
-RET = [sample(f"{name}.ret") for name in (
-    "sale", "card-sale", "exchange", "exchange-of-two", "refund-and-sale", "six-tickets")]
+RET = [sample(f"{name}.ret") for name in ("sale", "card-sale", "exchange", "exchange-of-two", "refund-and-sale", "six-tickets")]
 HOT = [sample(f"{name}.hot") for name in ("no-documents", "two-agents", "commission-tax")]
 HOT.append(example_file("125-taxed-kinds.hot"))
 # without a tax on commission, with one from the second period on, and with one from the first business day on
 PLAN, TAXED = sample("plan.toml"), sample("commission-tax.toml")
 PLANS = [PLAN, TAXED, TAXED.replace(b'from = "2024-01-16"', b'from = "2024-01-05"')]
-TERMS = PLAN[:PLAN.index(b"airline")]
+TERMS = PLAN[: PLAN.index(b"airline")]
 
 CHECKED = re.compile(
     rb"(\d{6} (TKTT|RFND|CANX) \d{8} \d{3}-\d{10}-\d \d{4}-\d\d-\d\d -?\d+\.\d\d\n)*"
-    rb"records \d+ transactions \d+ sum -?\d+\.\d\d\n")
+    rb"records \d+ transactions \d+ sum -?\d+\.\d\d\n"
+)
 REPORTS = {
     ("check", 0): CHECKED,
     ("check", 1): re.compile(rb"F0[1-9] record \d+\n"),
@@ -103,7 +103,7 @@ def mutated(text):
         elif way == 6:
             lines = bytes(text).splitlines(keepends=True)
             RANDOM.shuffle(lines)
-            text = bytearray(b"".join(lines[:RANDOM.randrange(len(lines) + 1)] if RANDOM.random() < 0.2 else lines))
+            text = bytearray(b"".join(lines[: RANDOM.randrange(len(lines) + 1)] if RANDOM.random() < 0.2 else lines))
         elif way == 7:
             digits = [at for at, byte in enumerate(text) if 48 <= byte < 58]
             for at in RANDOM.sample(digits, min(len(digits), 3)):
@@ -215,7 +215,13 @@ def limit_memory():
 def try_command():
     """A report on mutated bytes."""
     command = RANDOM.choice(("check", "hotcheck"))
-    base = RANDOM.choice(RET) if command == "check" and RANDOM.random() < 0.5 else ret_file("12345675") if command == "check" else RANDOM.choice(HOT)
+    base = (
+        RANDOM.choice(RET)
+        if command == "check" and RANDOM.random() < 0.5
+        else ret_file("12345675")
+        if command == "check"
+        else RANDOM.choice(HOT)
+    )
     text = perhaps(base, 0.9)
     ended = subprocess.run([program.path(), command, "-"], input=text, capture_output=True, timeout=20, preexec_fn=limit_memory)
     form, lines = REPORTS.get((command, ended.returncode)), ended.stderr.splitlines()
@@ -249,29 +255,33 @@ def office_request():
     """A path and a body of the office."""
     first = RANDOM.choice(NUMBERS) // 10 * 10
     span = {"agent": code(AGENTS), "first": f"{first:010}", "last": f"{first + RANDOM.choice((9, 9, 3, -1)):010}"}
-    return RANDOM.choice((
-        lambda: ("plan", perhaps(RANDOM.choice(PLANS), 0.7)),
-        lambda: ("plan", perhaps(TERMS + tax_entry(), 0.2)),
-        lambda: ("day", body_of(day=RANDOM.choice(("2024-01-05", "2024-01-06", "2024-01-16", "2024-02-01", "2023-12-31")))),
-        lambda: ("agents", body_of(agent=code(AGENTS), token=RANDOM.choice(list(AGENTS.values())))),
-        lambda: ("airlines", body_of(airline=code(AIRLINES), token=RANDOM.choice(list(AIRLINES.values())))),
-        lambda: ("stock/allot", body_of(**span)),
-        lambda: ("stock/withdraw", body_of(**span)),
-        lambda: ("ret", perhaps(ret_file(RANDOM.choice(list(AGENTS))), 0.3)),
-        lambda: ("close", body_of(period=code(PERIODS))),
-    ))()
+    return RANDOM.choice(
+        (
+            lambda: ("plan", perhaps(RANDOM.choice(PLANS), 0.7)),
+            lambda: ("plan", perhaps(TERMS + tax_entry(), 0.2)),
+            lambda: ("day", body_of(day=RANDOM.choice(("2024-01-05", "2024-01-06", "2024-01-16", "2024-02-01", "2023-12-31")))),
+            lambda: ("agents", body_of(agent=code(AGENTS), token=RANDOM.choice(list(AGENTS.values())))),
+            lambda: ("airlines", body_of(airline=code(AIRLINES), token=RANDOM.choice(list(AIRLINES.values())))),
+            lambda: ("stock/allot", body_of(**span)),
+            lambda: ("stock/withdraw", body_of(**span)),
+            lambda: ("ret", perhaps(ret_file(RANDOM.choice(list(AGENTS))), 0.3)),
+            lambda: ("close", body_of(period=code(PERIODS))),
+        )
+    )()
 
 
 def agent_request():
     """A path and a body of an agent, and its code."""
     agent = RANDOM.choice(list(AGENTS))
     memo = body_of(airline=code(AIRLINES), document=RANDOM.choice(MEMOS))
-    path, body = RANDOM.choice((
-        lambda: ("ret", perhaps(ret_file(agent), 0.3)),
-        lambda: ("ret", ret_file(agent)),
-        lambda: ("memos/dispute", memo),
-        lambda: ("memos/agree", memo),
-    ))()
+    path, body = RANDOM.choice(
+        (
+            lambda: ("ret", perhaps(ret_file(agent), 0.3)),
+            lambda: ("ret", ret_file(agent)),
+            lambda: ("memos/dispute", memo),
+            lambda: ("memos/agree", memo),
+        )
+    )()
     return agent, path, body
 
 
@@ -280,9 +290,15 @@ def airline_request():
     airline, document = RANDOM.choice(list(AIRLINES)), RANDOM.choice(MEMOS)
     amount = RANDOM.choice((1, 100, 5000, 99_999_999_999, 100_000_000_000, 0, -1, 1 << 63))
     issue = body_of(agent=code(AGENTS), amount=amount, document=document, kind=RANDOM.choice(("ADMA", "ACMA")), reason="fare")
-    path, body = RANDOM.choice((
-        ("memos", issue), ("memos", issue), ("memos/uphold", body_of(document=document)),
-        ("memos/withdraw", body_of(document=document)), ("memos/reduce", body_of(amount=amount, document=document))))
+    path, body = RANDOM.choice(
+        (
+            ("memos", issue),
+            ("memos", issue),
+            ("memos/uphold", body_of(document=document)),
+            ("memos/withdraw", body_of(document=document)),
+            ("memos/reduce", body_of(amount=amount, document=document)),
+        )
+    )
     return airline, path, body
 
 
@@ -313,8 +329,13 @@ def request():
 def looks():
     """What shows a book: paths and tokens."""
     for agent, token in AGENTS.items():
-        for path in ("stock", "memos", *(f"periods/{it}" for it in PERIODS), *(f"statements/{it}" for it in PERIODS),
-                     *(f"documents/{it:010}" for it in NUMBERS)):
+        for path in (
+            "stock",
+            "memos",
+            *(f"periods/{it}" for it in PERIODS),
+            *(f"statements/{it}" for it in PERIODS),
+            *(f"documents/{it:010}" for it in NUMBERS),
+        ):
             yield f"/agents/{agent}/{path}", token
     for airline, token in AIRLINES.items():
         for path in ("memos", *(f"hot/{it}" for it in PERIODS)):
@@ -421,10 +442,12 @@ def exchanged(port, text):
 def open_market(pair):
     """The plan, the callers and their stock."""
     for path, body in (
-            ("plan", RANDOM.choice(PLANS)), ("day", body_of(day="2024-01-05")),
-            *(("agents", body_of(agent=it, token=token)) for it, token in AGENTS.items()),
-            *(("airlines", body_of(airline=it, token=token)) for it, token in AIRLINES.items()),
-            *(("stock/allot", body_of(agent=it, first=f"{first}00000000", last=f"{first}00000009")) for it, first in STOCK.items())):
+        ("plan", RANDOM.choice(PLANS)),
+        ("day", body_of(day="2024-01-05")),
+        *(("agents", body_of(agent=it, token=token)) for it, token in AGENTS.items()),
+        *(("airlines", body_of(airline=it, token=token)) for it, token in AIRLINES.items()),
+        *(("stock/allot", body_of(agent=it, first=f"{first}00000000", last=f"{first}00000009")) for it, first in STOCK.items()),
+    ):
         expect(f"the opening: {path}", 200, pair.ask("POST", f"/office/{path}", OFFICE, body)[0])
 
 
