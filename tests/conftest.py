@@ -12,6 +12,8 @@ from support.served import Office
 
 # so many random markets are tried, where --markets does not say how many
 MARKETS = 40
+# with so many examples Hypothesis begins, which are of few draws
+SMALL = 11
 
 
 def pytest_addoption(parser):
@@ -126,6 +128,16 @@ def market():
 
 
 @pytest.fixture
-def markets(request):
-    """How many times as many random examples are tried as the gate tries."""
+def times(request):
+    """How many times as much is tried at random as the gate tries."""
     return request.config.getoption("markets") / MARKETS
+
+
+@pytest.fixture
+def examples(times):
+    """The settings for so many random examples, or as many times more. Hypothesis begins with small ones beside them."""
+
+    def settings(count, **how):
+        return hypothesis.settings(max_examples=SMALL + round(count * times), **how)
+
+    return settings

@@ -239,11 +239,11 @@ CHANGES = strategies.lists(
 )
 
 
-def test_a_changed_body_is_read_as_by_an_office(office, markets):
+def test_a_changed_body_is_read_as_by_an_office(office, examples):
     """Bodies with a byte or two changed: the command says OK if and only if the office does not answer N04."""
     it = office("--log", "--timeout", 0)
 
-    @hypothesis.settings(max_examples=round(150 * markets))
+    @examples(150)
     @hypothesis.given(strategies.sampled_from(TAKEN), CHANGES)
     def is_the_same(taken, changes):
         request, body = taken[0], bytearray(taken[1])

@@ -111,8 +111,8 @@ def plan_of(book):
     return ended.out
 
 
-def test_a_random_plan_is_printed_as_a_text_that_publishes_it(markets):
-    @hypothesis.settings(max_examples=round(24 * markets))
+def test_a_random_plan_is_printed_as_a_text_that_publishes_it(examples):
+    @examples(12)
     @hypothesis.given(strategies.randoms(use_true_random=False))
     def is_the_same(random):
         market, texts = Market(random), []

@@ -126,6 +126,22 @@ def going_on():
     yield of_office("POST", "close", '{"period":"24012"}')
 
 
+# the statements that make a larger book of version 1, and those of a later version
+SALES = 6000
+LARGER = f"""
+    UPDATE terms SET documents = 20000;
+    UPDATE stock SET hi = '1300009999' WHERE agent = '{A}';
+    WITH RECURSIVE sale (number) AS (
+      SELECT 1300000100 UNION ALL SELECT number + 1 FROM sale WHERE number < {1300000099 + SALES})
+    INSERT INTO item
+    SELECT '{A}', number, 0, '220', 'TKTT', 19727, '24011', 1, printf('%-49s', 'DOE/JANE'), 10000, printf('%78s', ''), 0, 0,
+      NULL, NULL, NULL, 10000, NULL, 'VI'
+    FROM sale;
+    UPDATE tally SET accepted = accepted + {SALES}, living = living + {SALES}, credit = credit + {SALES} * 10000
+    WHERE agent = '{A}' AND airline = '220'"""
+LARGER_TAXES = "; INSERT INTO item_tax SELECT agent, number, 0, 0, 0 FROM item WHERE number >= '1300000100'"
+
+
 # ---- what SQLite reads and writes
 
 

@@ -4,15 +4,12 @@ made as short as can be, and is printed as commands of curl, which can be pasted
 import collections
 import random
 
-import hypothesis
 import pytest
 from hypothesis import strategies
 from hypothesis.stateful import RuleBasedStateMachine, initialize, rule, run_state_machine_as_test
 
 from support.markets import TRIAL_WAYS, WAYS, Market, Trial
 
-# Hypothesis begins with so many examples that have few steps
-SHORT = 12
 CHANCES = strategies.integers(0, 2**32 - 1)
 
 
@@ -51,10 +48,9 @@ def machine(kind, ways, callers, counts):
     return Machine
 
 
-def try_markets(count, steps, *words):
-    """Tries so many markets of so many steps, and says how often each answer came."""
+def try_markets(settings, *words):
+    """Tries markets, and says how often each answer came."""
     counts = collections.Counter()
-    settings = hypothesis.settings(max_examples=count + SHORT, stateful_step_count=steps)
     run_state_machine_as_test(lambda: machine(*words, counts)(), settings=settings)
     print(", ".join(f"{word} {count:,}" for word, count in sorted(counts.items())))
     return counts
@@ -63,13 +59,13 @@ def try_markets(count, steps, *words):
 ANSWERS = ["done", "held", "accepted", "shown", "hot", "settlement", "statements", "N01", *(f"E{it:02}" for it in range(1, 13))]
 
 
-def test_random_markets(request):
-    counts = try_markets(request.config.getoption("markets"), 400, Market, WAYS, [1, 3, 3, 3, 3, 2])
+def test_random_markets(examples):
+    counts = try_markets(examples(40, stateful_step_count=400), Market, WAYS, [1, 3, 3, 3, 3, 2])
     assert [it for it in ANSWERS if not counts[it]] == []
 
 
-def test_random_trials(request):
-    counts = try_markets(request.config.getoption("markets"), 12, Trial, TRIAL_WAYS, [1])
+def test_random_trials(examples):
+    counts = try_markets(examples(40, stateful_step_count=12), Trial, TRIAL_WAYS, [1])
     assert counts["judged"] and counts["judge stopped"]
 
 

@@ -11,6 +11,9 @@ import time
 
 import pytest
 from books import (
+    LARGER,
+    LARGER_TAXES,
+    SALES,
     VERSIONS,
     afterwards,
     bytes_of,
@@ -142,21 +145,6 @@ def test_a_kill_at_each_write(version):
         expect(f"{what}: opened again, its rows", True, new == tables_of("killed.db"))
     expect(f"version {version}, killed: what it leaves first and last", ["old", "new"], [*left[:1], *left[-1:]])
     expect(f"version {version}, killed: old ones come first", sorted(left, reverse=True), left)
-
-
-SALES = 6000
-LARGER = f"""
-    UPDATE terms SET documents = 20000;
-    UPDATE stock SET hi = '1300009999' WHERE agent = '{A}';
-    WITH RECURSIVE sale (number) AS (
-      SELECT 1300000100 UNION ALL SELECT number + 1 FROM sale WHERE number < {1300000099 + SALES})
-    INSERT INTO item
-    SELECT '{A}', number, 0, '220', 'TKTT', 19727, '24011', 1, printf('%-49s', 'DOE/JANE'), 10000, printf('%78s', ''), 0, 0,
-      NULL, NULL, NULL, 10000, NULL, 'VI'
-    FROM sale;
-    UPDATE tally SET accepted = accepted + {SALES}, living = living + {SALES}, credit = credit + {SALES} * 10000
-    WHERE agent = '{A}' AND airline = '220'"""
-LARGER_TAXES = "; INSERT INTO item_tax SELECT agent, number, 0, 0, 0 FROM item WHERE number >= '1300000100'"
 
 
 @pytest.mark.parametrize("version", VERSIONS)
