@@ -13,7 +13,8 @@ import subprocess
 import sys
 import tempfile
 
-from office import TOP, crates
+sys.path.insert(0, str(pathlib.Path(__file__).resolve().parents[1] / "tests"))
+from support.tree import TOP, crates
 
 PARTS = "src", "specs", "proofs", "data", "args", "stdin", "stdout", "status"
 REFUSED = "refused, as it must be"
@@ -41,7 +42,7 @@ def tried(words):
         case []:
             return [edit for it in sorted(crates()) for edit in edits_of(it)]
         case ["--tenth", number] if number.isdecimal():
-            return tried([])[int(number) % 10::10]
+            return tried([])[int(number) % 10 :: 10]
     for it in words:
         if not edits_of(it):
             sys.exit(f"{it} names no edit")
@@ -78,8 +79,15 @@ def lay_out(room, edits):
 def said_in(room):
     """What `rt ci` says there, which is also printed."""
     said = []
-    with subprocess.Popen(["rt", "ci"], cwd=room, stdin=subprocess.DEVNULL, stdout=subprocess.PIPE,
-                          stderr=subprocess.STDOUT, text=True, errors="replace") as it:
+    with subprocess.Popen(
+        ["rt", "ci"],
+        cwd=room,
+        stdin=subprocess.DEVNULL,
+        stdout=subprocess.PIPE,
+        stderr=subprocess.STDOUT,
+        text=True,
+        errors="replace",
+    ) as it:
         for line in it.stdout:
             if line.startswith("rt: ") or ": error" in line:
                 print(line, end="", flush=True)

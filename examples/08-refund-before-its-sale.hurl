@@ -4,7 +4,7 @@
 # A file with RFND 1300000002-0 of 125-1300000001-6 (fare -20000, RA -3500, rate 00500, commission -1000, CA -23500),
 # then V1's TKTT. Judged in turn the refund is E08 and the sale accepted. Posted again: accepted, held. The net of
 # both is 0. (`bsp_record_examples`, `write REFUND_FILE` and `hot-file 125 REFUND_FILE`: the file is read, to those
-# values. `.ci/statuses.sh`: `check` prints both and the sum 0.00.)
+# values. `tests/program/test_statuses.py`: `check` prints both and the sum 0.00.)
 
 POST {{base}}/agents/12345675/ret
 Bsp-Token: agenttoken000001

@@ -2,7 +2,7 @@
 # after: opening/plan.hurl opening/callers.hurl opening/month.hurl
 #
 # On 2024-02-01, 24012 is closed. The HOT file of 220 for it is V3, records 4, documents 0, net 0. (`checks.txt`,
-# `hotcheck V3`, and `.ci/statuses.sh`: V3 without its last record, or with net `00000000000000A` in record 4, is H04
+# `hotcheck V3`, and `tests/program/test_statuses.py`: V3 without its last record, or with net `00000000000000A` in record 4, is H04
 # record 4.)
 
 POST {{base}}/office/day

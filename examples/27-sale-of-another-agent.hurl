@@ -1,7 +1,7 @@
 # Example 27: B reports a sale of A's.
 # after: opening/plan.hurl opening/callers.hurl
 #
-# V1 posted by B: E02, and B's net of 24011 stays `0.00`. (Also `.ci/store.py`.)
+# V1 posted by B: E02, and B's net of 24011 stays `0.00`. (Also `tests/store/test_store.py`.)
 
 POST {{base}}/agents/76543213/ret
 Bsp-Token: agenttoken000002

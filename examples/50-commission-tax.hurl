@@ -6,7 +6,7 @@
 # and its HOT file are of form 1. On that day A sells 1300000010-1, issued on 2024-01-16, with V1's amounts: the tax
 # is 190 and the net 22310. On 2024-02-01 24012 is closed: its statement has the column COMMISSION TAX, and the HOT
 # file of 125 is V4 with 13 records. The tax is added on 2024-01-05, or is published with PL: all replies are the
-# same. (`checks.txt`, `hotcheck TAXED`, which is V4; `.ci/statuses.sh`.)
+# same. (`checks.txt`, `hotcheck TAXED`, which is V4; `tests/program/test_statuses.py`.)
 
 POST {{base}}/agents/12345675/ret
 Bsp-Token: agenttoken000001

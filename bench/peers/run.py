@@ -17,22 +17,24 @@ import tempfile
 import time
 
 TOP = pathlib.Path(__file__).resolve().parents[2]
-sys.path.insert(0, str(TOP / ".ci"))
+sys.path.insert(0, str(TOP / "tests"))
 sys.argv[1:] = sys.argv[1:] or [str(TOP / "crates/bsp_office/out/bsp_office")]
-import office  # noqa: E402
+from support import program, wire  # noqa: E402
+from support.callers import AGENT_TOKEN as AGENT, OFFICE  # noqa: E402
+from support.served import Office  # noqa: E402
+from support.tree import sample  # noqa: E402
 
-PROGRAM = os.path.abspath(sys.argv[1])
-OFFICE, AGENT = "officetoken00001", "agenttoken000001"
-NONE = office.message("GET", "/x", "x")
-STOCK = office.message("GET", "/agents/12345675/stock", AGENT)
-DRIP = office.message("POST", "/office/day", OFFICE, '{"day":"2024-01-05"}')
+program.choose(sys.argv[1])
+NONE = wire.message("GET", "/x", "x")
+STOCK = wire.message("GET", "/agents/12345675/stock", AGENT)
+DRIP = wire.message("POST", "/office/day", OFFICE, '{"day":"2024-01-05"}')
 IDLE, DRIPPING, NEVER_READING, RANGES = 1_000, 20, 5, 3_000
 TIMES, CURLS, RESTING, SECONDS = 2_000, 200, 5_000, 10
 MESSAGES, DEPTH, MANY = 12_800, 16, 64
 
 
 def serving(*words):
-    return office.Office(PROGRAM, None, "--token", OFFICE, "--peers", "10000", "--timeout", "600", "--idle", "0", *words, seconds=60)
+    return Office("--peers", "10000", "--timeout", "600", "--idle", "0", *words, seconds=60)
 
 
 def connected(port):
@@ -44,7 +46,7 @@ def fresh(port):
     begun = time.perf_counter()
     with connected(port) as peer:
         peer.sendall(NONE)
-        office.reply_on(peer)
+        wire.reply_on(peer)
     return (time.perf_counter() - begun) * 1e6
 
 
@@ -56,14 +58,14 @@ def curl(port):
 
 def stock(port):
     """An agent with a stock of many ranges, whose text is a long response."""
-    asked = [("plan", office.sample("plan.toml")), ("day", '{"day":"2024-01-05"}'),
+    asked = [("plan", sample("plan.toml")), ("day", '{"day":"2024-01-05"}'),
              ("agents", '{"agent":"12345675","token":"%s"}' % AGENT)]
     asked += [("stock/allot", '{"agent":"12345675","first":"%d","last":"%d"}' % (first, first + 8))
               for first in range(1_300_000_000, 1_300_000_000 + 10 * RANGES, 10)]
     with connected(port) as peer:
         for path, body in asked:
-            peer.sendall(office.message("POST", f"/office/{path}", OFFICE, body))
-            office.reply_on(peer)
+            peer.sendall(wire.message("POST", f"/office/{path}", OFFICE, body))
+            wire.reply_on(peer)
 
 
 def one_in(part, times):
@@ -124,7 +126,7 @@ def resting():
         peers = [connected(it.port) for _ in range(RESTING)]
         for peer in peers[::2]:
             peer.sendall(NONE)
-            office.reply_on(peer)
+            wire.reply_on(peer)
         time.sleep(1)
         first, _ = used(it.process.pid)
         time.sleep(SECONDS)

@@ -16,14 +16,15 @@ import time
 
 TOP = pathlib.Path(__file__).resolve().parents[2]
 sys.dont_write_bytecode = True
-sys.path += [str(TOP / "bench" / "desk"), str(TOP / ".ci")]
+sys.path += [str(TOP / "bench" / "desk"), str(TOP / "tests")]
 import make_requests
 from make_requests import LARGE, OFFICE, PLAN, Sale, agent_code, agent_token
-from office import Office
+from support import program
+from support.served import Office
 
 IS_IN_FILE = sys.argv[1:2] == ["file"]
 WORDS = sys.argv[1 + IS_IN_FILE:]
-PROGRAM = os.path.abspath(WORDS[0]) if WORDS else f"{TOP}/crates/bsp_office/out/bsp_office"
+program.choose(WORDS[0] if WORDS else program.BUILT)
 SIZES = [int(it) for it in WORDS[1:]] or [100_000, 1_000_000]
 AGENT, AIRLINES, RANGES, ROUNDS, SENT = 7, 50, 4, 7, 400
 # of each range, so that no block of numbers begins or ends with it
@@ -104,7 +105,7 @@ def measured(items, folder):
     words = ["--db", str(folder / f"book{items}")] if IS_IN_FILE else []
     (folder / "token").write_text(OFFICE + "\n")
     os.chmod(folder / "token", 0o600)
-    with Office(PROGRAM, folder / "token", *words, seconds=600) as office:
+    with Office(*words, token_file=folder / "token", seconds=600) as office:
         found = {"a sale of the fill": fill(office, Market(folder), items)}
         own = f"/agents/{agent_code(AGENT)}"
         numbers = [number(n * 7919 % items) for n in range(SENT)]

@@ -1,0 +1,1 @@
+"""What the tests share. Each reader and each writer stands here once."""
