@@ -16,7 +16,15 @@ import sys
 import tempfile
 
 TOP = pathlib.Path(__file__).resolve().parents[2]
-LINKED = ("README.md", "CHANGELOG.md", "docs/**/*.md", "examples/README.md", "samples/README.md", "bench/README.md", "crates/*/README.md")
+LINKED = (
+    "README.md",
+    "CHANGELOG.md",
+    "docs/**/*.md",
+    "examples/README.md",
+    "samples/README.md",
+    "bench/README.md",
+    "crates/*/README.md",
+)
 PAGES = ("README.md", "docs/*.md")
 RECORD = "docs/DECISIONS.md"
 RUN, MOST_PAGES, MOST_WORDS, MOST_README = 12, 14, 32_000, 900
@@ -36,8 +44,10 @@ def found(top, patterns):
 
 def without_code(text):
     """The text with empty lines in the place of its blocks of code."""
+
     def blank(it):
         return "\n" * it[0].count("\n")
+
     return INDENTED.sub(blank, FENCE.sub(blank, text))
 
 
@@ -49,7 +59,7 @@ def anchors(text):
     """The anchors of the headings of a page, as GitHub makes them."""
     names, seen = set(), {}
     for title in HEADING.findall(without_code(text)):
-        plain = LINK.sub(lambda it: it[0][1:it[0].index("]")], title).replace("`", "").lower()
+        plain = LINK.sub(lambda it: it[0][1 : it[0].index("]")], title).replace("`", "").lower()
         name = re.sub(r"[^\w\- ]", "", plain).replace(" ", "-")
         names.add(f"{name}-{seen[name]}" if name in seen else name)
         seen[name] = seen.get(name, 0) + 1
@@ -86,9 +96,9 @@ def repetitions(pages):
     first, told = {}, set()
     for name, text in pages.items():
         for line, part in blocks(text):
-            words = [it.lower() for it in WORD.findall(LINK.sub(lambda it: it[0][1:it[0].index("]")], part))]
+            words = [it.lower() for it in WORD.findall(LINK.sub(lambda it: it[0][1 : it[0].index("]")], part))]
             for at in range(len(words) - RUN + 1):
-                row = tuple(words[at:at + RUN])
+                row = tuple(words[at : at + RUN])
                 other, place = first.setdefault(row, (name, f"{name}:{line}"))
                 if other != name and (place, name, line) not in told:
                     told.add((place, name, line))
@@ -144,7 +154,7 @@ def tried():
                     with (top / name).open("a", encoding="utf-8") as file:
                         file.write(text)
             came = faults(top)
-        if [it[:len(wanted or "")] for it in came] != ([wanted] if wanted else []):
+        if [it[: len(wanted or "")] for it in came] != ([wanted] if wanted else []):
             wrong.append(f"planted: {wanted}; found: {came}")
     return wrong
 

@@ -84,7 +84,9 @@ def differences(rows, conditions, crate):
 def unnamed(text):
     """The crates that the text does not name."""
     names = [it for it in CODE.findall(text) if it.startswith("bsp_")]
-    return [f"docs/proofs/REFUSALS.md: {it} is not named" for it in crates() if not any(fnmatch.fnmatch(it, name) for name in names)]
+    return [
+        f"docs/proofs/REFUSALS.md: {it} is not named" for it in crates() if not any(fnmatch.fnmatch(it, name) for name in names)
+    ]
 
 
 def main():
