@@ -239,9 +239,9 @@ CHANGES = strategies.lists(
 )
 
 
-def test_a_changed_body_is_read_as_by_an_office(office, examples):
+def test_a_changed_body_is_read_as_by_an_office(examples):
     """Bodies with a byte or two changed: the command says OK if and only if the office does not answer N04."""
-    it = office("--log", "--timeout", 0)
+    it = opened()
 
     @examples(150)
     @hypothesis.given(strategies.sampled_from(TAKEN), CHANGES)
@@ -256,6 +256,7 @@ def test_a_changed_body_is_read_as_by_an_office(office, examples):
         assert re.findall(r"(?:agent|airline)token\w+", error) == []
 
     is_the_same()
+    expect("the office ends", 0, it.ended()[0])
 
 
 @pytest.mark.parametrize("request_line, line, status, text", REQUESTS, ids=[it[0] for it in REQUESTS])

@@ -248,12 +248,14 @@ def twice(name):
     return b"".join(message(it) * 2 for it in entries)
 
 
+@pytest.mark.xdist_group("conversations")
 @pytest.mark.parametrize("name", CONVERSATIONS)
 def test_a_conversation(name):
     each_refused(name, lambda _: [program.path(), "run", "--token", OFFICE], twice(name), is_answered)
     tried.append(name)
 
 
+@pytest.mark.xdist_group("conversations")
 def test_some_reply_was_503_b01():
     """Of the conversations above."""
     if tried != CONVERSATIONS:

@@ -2,14 +2,21 @@
 import os
 import pathlib
 import subprocess
+import tempfile
 
 SOURCES = pathlib.Path(__file__).parent / "shims"
+_libraries = {}
 
 
 def built(name):
-    """Builds a shim in this folder: the path of its library."""
-    words = [os.environ.get("CC", "cc"), "-O2", "-shared", "-fPIC", "-o", f"{name}.so", SOURCES / f"{name}.c"]
-    subprocess.run(words, check=True)
+    """Puts a shim into this folder, which is compiled once: the path of its library."""
+    if name not in _libraries:
+        with tempfile.TemporaryDirectory() as folder:
+            path = pathlib.Path(folder, f"{name}.so")
+            words = [os.environ.get("CC", "cc"), "-O2", "-shared", "-fPIC", "-o", path, SOURCES / f"{name}.c"]
+            subprocess.run(words, check=True)
+            _libraries[name] = path.read_bytes()
+    pathlib.Path(f"{name}.so").write_bytes(_libraries[name])
     return os.path.abspath(f"{name}.so")
 
 
