@@ -23,4 +23,4 @@ pub use hint::Hint;
 pub use name::Name;
 pub use reason::Reason;
 pub use taxes::tax_field;
-pub use width::width_reason;
+pub use width::{long_reason, width_reason};

@@ -1,6 +1,6 @@
 //! The width and the characters of a record.
 
-ghost use Rattle.std.specs.Prelude.{◌≡◌, ℕ, length, true, false, IfSome, IfNone};
+ghost use Rattle.std.specs.Prelude.{◌≡◌, ◌≢◌, ◌++◌, ℕ, List, length, true, false, IfSome, IfNone};
 ghost use Rattle.std.specs.List.{list_all};
 ghost use Rattle.bsp_records.specs.Columns.{is_printable, is_wide};
 ghost use Rattle.bsp_explain.specs.declared.before.Before.{Before};
@@ -55,5 +55,16 @@ pub fn width_reason(line: &[u8]) -> Option<Reason>
             cause: cause_of(line),
         }),
         None => None,
+    }
+}
+
+/// Why a line of so many characters, of which these are the first, is no record: they are not 136.
+pub fn long_reason(head: &[u8], width: usize) -> Reason
+    requires { width ≢ 136 }
+    ensures { (more : List ℕ) → length (head.now ++ more) ≡ width → SaysOfWidth (head.now ++ more) result }
+{
+    Reason::Width {
+        width,
+        cause: cause_of(head),
     }
 }

@@ -313,7 +313,3 @@ judged_all lines = judged_from lines [] nothing (record { are = tt; sound = tt; 
 pub narrow_line : (at : Standing) (line : List ℕ) → is_wide line ≡ false → step_line at line ≡ None
 unfolding record_at
 narrow_line at line narrow = rw narrow refl
-
-pub narrow_stops : (at : Standing) (rest : List ℕ) → BeginsOtherwise rest → judge_from at (lines rest) ≡ Err (at.records + 1)
-narrow_stops at rest other =
-    ap (judge_from at) other.first.cut ∙ judge_cons at other.line (lines other.rest) ∙ rw (narrow_line at other.line other.narrow) refl

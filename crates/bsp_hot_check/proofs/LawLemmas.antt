@@ -91,25 +91,11 @@ law lines = record {
 
 -- ---- what is told
 
-abbrev Answer : Type 0
-Answer = Result HotTotals RecordFault
-
-no_fault : (n : ℕ) (at : Standing) → ◌≡◌ {A = Outcome} (Err n) (Ok at) → ⊥
-no_fault n at k = absurd cc
-
 -- of lines that stand so
 pub found : (lines : List (List ℕ)) (at : Standing) → judge_from start lines ≡ Ok at → HasTotals lines (totals_at at)
 found lines at h =
     let f : IsJudged lines (Ok at) = subst (IsJudged lines) h (judged_all lines) in
     record { file = f.file; stands = f.hot; totals_are = ap totals_at f.stands }
 
-pub only_totals : (lines : List (List ℕ)) (at : Standing) → judge_from start lines ≡ Ok at → (file : File) → Hot lines file → ◌≡◌ {A = Answer} (Ok (totals_at at)) (Ok (totals_of_file file))
-only_totals lines at h file hot =
-    ap (λ (x : Standing). Ok (totals_at x)) (same_standing at (standing_of (ended file)) (sym h ∙ hot_judged lines file hot))
-
--- and of lines with a fault
 pub faulty : (lines : List (List ℕ)) (n : ℕ) → judge_from start lines ≡ Err n → IsFirstFault lines n
 faulty lines n h = subst (IsJudged lines) h (judged_all lines)
-
-pub no_file : (lines : List (List ℕ)) (n : ℕ) → judge_from start lines ≡ Err n → (file : File) → Hot lines file → ◌≡◌ {A = Answer} (Err (record { number = n })) (Ok (totals_of_file file))
-no_file lines n h file hot = absurd (no_fault n (standing_of (ended file)) (sym h ∙ hot_judged lines file hot))

@@ -11,5 +11,7 @@ pub mod Chains
 pub mod FormLemmas
 pub mod Judging
 pub mod LawLemmas
+pub mod StateLemmas
+pub mod PieceLemmas
 pub use Rattle.bsp_hot_records.proofs.SizeLemmas as HotRecordsSizeLemmas
 pub use Rattle.bsp_hot_records.proofs.SumLemmas as HotRecordsSumLemmas

@@ -13,6 +13,15 @@ step_or at (Some r) = step at r
 abbrev pub step_line : Standing → List ℕ → Option Standing
 step_line at line = step_or at (judged_at (form_at at.heading) (at.records + 1) line)
 
+-- the state after the lines that follow others, where each is allowed by those before it
+abbrev pub stands_or : Option Standing → (Standing → Option Standing) → Option Standing
+stands_or None more = None
+stands_or (Some at) more = more at
+
+unfoldable pub stands_after : Standing → List (List ℕ) → Option Standing
+stands_after at [] = Some at
+stands_after at (line ∷ lines) = stands_or (step_line at line) (λ next. stands_after next lines)
+
 -- how the lines stand behind others, or the number of the first that those before do not allow
 abbrev pub or_fault : ℕ → Option Standing → (Standing → Result Standing ℕ) → Result Standing ℕ
 or_fault n None more = Err n

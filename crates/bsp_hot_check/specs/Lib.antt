@@ -2,6 +2,7 @@
 pub mod Hot
 pub mod Standings
 pub mod Judging
+pub mod Pieces
 pub mod Checked
 pub use Rattle.bsp_hot_records.specs.Records
 pub use Rattle.bsp_hot_records.specs.Sums

@@ -1,36 +1,37 @@
 //! A HOT file, from its text to its totals.
 
-ghost use Rattle.std.specs.Prelude.{◌≡◌, ◌≤◌, ℕ, List, length, Ok, IfOk, IfErr};
+ghost use Rattle.std.specs.Prelude.{◌≡◌, ◌<◌, ◌+◌, ◌^◌, ℕ, List, Ok, Some, IfOk, IfErr, IfSome, IfNone};
 ghost use Rattle.bsp_records.specs.Lines.{lines};
 ghost use Rattle.bsp_hot_check.specs.Hot.{File, Hot, IsFirstFault, HotOrFault, totals_of_file};
 ghost use Rattle.bsp_hot_check.specs.Standings.{start, IsSmall};
-ghost use Rattle.bsp_hot_check.specs.Judging.{judge_from};
+ghost use Rattle.bsp_hot_check.specs.Judging.{stands_after};
 ghost use Rattle.bsp_hot_check.specs.Checked.{HasTotals};
 
 use crate::model::{HotTotals, RecordFault, Standing};
-use bsp_records::first_record;
 
-/// The state after the lines, or the number of the first that those before do not allow.
-fn judge(bytes: &[u8]) -> Result<Standing, usize>
-    ensures judged { result ≡ judge_from start (lines bytes.now) }
-    ensures small { IfOk result (λ standing. IsSmall standing × (standing.records ≤ length bytes.now)) }
-{
-    let mut standing = Standing::start();
-    let mut rest = bytes;
-    while !rest.is_empty() {
-        let number = standing.records + 1;
-        let Some((line, after)) = first_record(rest) else {
-            return Err(number);
-        };
-        if !standing.take_line(line) {
-            return Err(number);
+impl Standing {
+    /// The fault of the next record.
+    fn next_fault(&self) -> RecordFault
+        requires { self.now.records < 2 ^ 63 }
+        ensures { result.number ≡ self.now.records + 1 }
+    {
+        RecordFault {
+            number: self.records + 1,
         }
-        rest = after;
     }
-    if standing.place.is_ended() {
-        Ok(standing)
-    } else {
-        Err(standing.records + 1)
+
+    /// The totals of the file that lines in this state are, or `None` where its next record is missing.
+    pub fn file_totals(&self) -> Option<HotTotals>
+        requires room { self.now.records < 2 ^ 63 }
+        requires small { IsSmall self.now }
+        ensures found { (ls : List (List ℕ)) → stands_after start ls ≡ Some self.now → IfSome result (HasTotals ls) }
+        ensures missing { (ls : List (List ℕ)) → stands_after start ls ≡ Some self.now → IfNone result (IsFirstFault ls (self.now.records + 1)) }
+    {
+        if self.place.is_ended() {
+            Some(self.totals())
+        } else {
+            None
+        }
     }
 }
 
@@ -48,9 +49,13 @@ pub fn check_hot(bytes: &[u8]) -> Result<HotTotals, RecordFault>
     // Which record is at fault.
     ensures fault { IfErr result (λ fault. IsFirstFault (lines bytes.now) fault.number) }
 {
-    match judge(bytes) {
-        Ok(standing) => Ok(standing.totals()),
-        Err(number) => Err(RecordFault { number }),
+    let mut at = Standing::start();
+    match at.take_last(bytes) {
+        Ok(()) => match at.file_totals() {
+            Some(totals) => Ok(totals),
+            None => Err(at.next_fault()),
+        },
+        Err(_) => Err(at.next_fault()),
     }
 }
 

@@ -100,6 +100,7 @@ impl Standing {
         requires { self.old.records < 2 ^ 63 }
         ensures taken { result ≡ true → step self.old (Record.FileHeader heading) ≡ Some self.new }
         ensures refused { result ≡ false → step self.old (Record.FileHeader heading) ≡ None }
+        ensures same { result ≡ false → self.new ≡ self.old }
     {
         if !matches!(self.place, Place::Start) {
             return false;
@@ -115,6 +116,7 @@ impl Standing {
         requires { self.old.records < 2 ^ 63 }
         ensures taken { result ≡ true → step self.old (Record.PeriodHeader period) ≡ Some self.new }
         ensures refused { result ≡ false → step self.old (Record.PeriodHeader period) ≡ None }
+        ensures same { result ≡ false → self.new ≡ self.old }
     {
         if !(matches!(self.place, Place::Headed) && is_period(self.heading, period)) {
             return false;
@@ -129,6 +131,7 @@ impl Standing {
         requires { self.old.records < 2 ^ 63 }
         ensures taken { result ≡ true → step self.old (Record.OfficeHeader office) ≡ Some self.new }
         ensures refused { result ≡ false → step self.old (Record.OfficeHeader office) ≡ None }
+        ensures same { result ≡ false → self.new ≡ self.old }
     {
         let allowed = matches!(self.place, Place::Between)
             && is_agent_after(self.agent, office.agent)
@@ -149,6 +152,7 @@ impl Standing {
         requires small { IsSmall self.old }
         ensures taken { result ≡ true → step self.old (Record.TransactionHeader header) ≡ Some self.new }
         ensures refused { result ≡ false → step self.old (Record.TransactionHeader header) ≡ None }
+        ensures same { result ≡ false → self.new ≡ self.old }
     {
         let transactions = self.transactions + 1;
         let allowed = self.place.takes_transaction()
@@ -169,6 +173,7 @@ impl Standing {
         requires small { IsSmall self.old }
         ensures taken { result ≡ true → step self.old (Record.Document document) ≡ Some self.new }
         ensures refused { result ≡ false → step self.old (Record.Document document) ≡ None }
+        ensures same { result ≡ false → self.new ≡ self.old }
     {
         let key = DocumentKey {
             code: document.code,
@@ -201,6 +206,7 @@ impl Standing {
         requires part { IsSmallPart next.part }
         ensures taken { result ≡ true → step self.old (Record.PartOf next) ≡ Some self.new }
         ensures refused { result ≡ false → step self.old (Record.PartOf next) ≡ None }
+        ensures same { result ≡ false → self.new ≡ self.old }
     {
         let (Place::InDocument(progress), Some(heading)) = (self.place, self.heading) else {
             return false;
@@ -221,6 +227,7 @@ impl Standing {
         requires small { IsSmall self.old }
         ensures taken { result ≡ true → step self.old (Record.CodeTotals next.now) ≡ Some self.new }
         ensures refused { result ≡ false → step self.old (Record.CodeTotals next.now) ≡ None }
+        ensures same { result ≡ false → self.new ≡ self.old }
     {
         let allowed = is_next(self.office.codes.next_code(self.place), next.code)
             && is_agent(self.agent, next.agent)
@@ -239,6 +246,7 @@ impl Standing {
         requires small { IsSmall self.old }
         ensures taken { result ≡ true → step self.old (Record.OfficeTotals next.now) ≡ Some self.new }
         ensures refused { result ≡ false → step self.old (Record.OfficeTotals next.now) ≡ None }
+        ensures same { result ≡ false → self.new ≡ self.old }
     {
         let allowed = matches!(self.place, Place::Totalled(_))
             && self.office.codes.next_code(self.place).is_none()
@@ -260,6 +268,7 @@ impl Standing {
         requires small { IsSmall self.old }
         ensures taken { result ≡ true → step self.old (Record.PeriodTotals next.now) ≡ Some self.new }
         ensures refused { result ≡ false → step self.old (Record.PeriodTotals next.now) ≡ None }
+        ensures same { result ≡ false → self.new ≡ self.old }
     {
         let allowed = matches!(self.place, Place::Between)
             && is_period(self.heading, next.period)
@@ -279,6 +288,7 @@ impl Standing {
         requires small { IsSmall self.old }
         ensures taken { result ≡ true → step self.old (Record.FileTotals next.now) ≡ Some self.new }
         ensures refused { result ≡ false → step self.old (Record.FileTotals next.now) ≡ None }
+        ensures same { result ≡ false → self.new ≡ self.old }
     {
         let allowed = matches!(self.place, Place::Closed)
             && is_airline(self.heading, next.airline)
@@ -298,6 +308,7 @@ impl Standing {
         requires next { IsSmallRecord next.now }
         ensures taken { result ≡ true → step self.old next.now ≡ Some self.new }
         ensures refused { result ≡ false → step self.old next.now ≡ None }
+        ensures same { result ≡ false → self.new ≡ self.old }
     {
         match next {
             Record::FileHeader(heading) => self.take_heading(*heading),
@@ -314,7 +325,7 @@ impl Standing {
     }
 
     /// Takes one more line of a record's width, where it is a record that those before allow, and
-    /// answers whether it is. After a refusal the state is that of no file.
+    /// answers whether it is. After a refusal the state is as it was.
     pub fn take_line(&mut self, line: &[u8]) -> bool
         requires wide { is_wide line.now ≡ true }
         requires long { length line.now ≡ 136 }
@@ -323,6 +334,7 @@ impl Standing {
         ensures taken { result ≡ true → step_line self.old line.now ≡ Some self.new }
         ensures small { result ≡ true → IsSmallNext self.old self.new }
         ensures refused { result ≡ false → step_line self.old line.now ≡ None }
+        ensures same { result ≡ false → self.new ≡ self.old }
     {
         match read_record(form_at(self.heading), self.records + 1, line) {
             Some(next) => self.take_record(&next),

@@ -5,6 +5,7 @@
 mod check;
 mod judge;
 mod model;
+mod pieces;
 mod places;
 mod standing;
 mod sums;

@@ -1,0 +1,222 @@
+-- Lines of a text that comes in pieces.
+use Rattle.std.proofs.Common.{◌≡◌, ℕ, suc, ◌+◌, ◌-◌, ◌<◌, ◌≤◌, false, ◌&&◌, List, [], ◌∷◌, ◌++◌, length, Some, None, refl, sym, ap, subst, ◌∙◌, arith, inl, inr, append_assoc}
+use Rattle.std.specs.Prelude.{◌==◌, cond, Result, Ok, Err}
+use Rattle.std.proofs.lemmas.Bool.{cases_Bool}
+use Rattle.std.proofs.lemmas.List.{length-take, take-append-drop, append-nil}
+use Rattle.bsp_records.specs.Columns.{is_wide}
+use Rattle.bsp_records.specs.Lines.{lines, begins_with, with_first, before_rest, IsWholeLines, BeginsWithLine, HasFirstLine, BeginsOtherwise}
+use Rattle.bsp_records.proofs.CutLemmas.{lines_nil, some_lines}
+use Rattle.bsp_records.proofs.RestLemmas.{before_itself, rest_itself, rest_of_rest, before_joined, whole_joined, whole_cut, cut_alone, no_lines}
+use Rattle.bsp_hot_check.specs.declared.model.Standing.{Standing}
+use Rattle.bsp_hot_check.specs.declared.model.HotTotals.{HotTotals}
+use Rattle.bsp_hot_check.specs.declared.model.RecordFault.{RecordFault}
+use Rattle.bsp_hot_check.specs.Hot.{File, Hot, IsFirstFault, totals_of_file}
+use Rattle.bsp_hot_check.specs.Checked.{HasTotals}
+use Rattle.bsp_hot_check.specs.Standings.{start}
+use Rattle.bsp_hot_check.proofs.LawLemmas.{law, faulty}
+use Rattle.bsp_hot_check.specs.Judging.{step_line, stands_after, judge_from}
+use Rattle.bsp_hot_check.specs.Pieces.{Takes, Passes, AreRefused, IsRefused}
+use Rattle.bsp_hot_check.proofs.Judging.{judge_cons, narrow_line}
+use Rattle.bsp_hot_check.proofs.StateLemmas.{stands_nil, stands_line, stands_judged}
+
+abbrev Answer : Type 0
+Answer = Result HotTotals RecordFault
+
+-- ---- how long the first line is
+
+lines_cons : (b : ℕ) (bytes : List ℕ) → lines (b ∷ bytes) ≡ cond (b == 10) ([] ∷ lines bytes) (cond ((b == 13) && begins_with 10 bytes) (lines bytes) (with_first b (lines bytes)))
+unfolding lines
+lines_cons b bytes = refl
+
+abbrev first_of : List (List ℕ) → List ℕ
+first_of [] = []
+first_of (line ∷ lines) = line
+
+abbrev rest_of : List (List ℕ) → List (List ℕ)
+rest_of [] = []
+rest_of (line ∷ lines) = lines
+
+first_joined : (b n : ℕ) (xs : List (List ℕ)) → length (first_of xs) ≤ n → length (first_of (with_first b xs)) ≤ suc n
+first_joined b n [] short = omega arith
+first_joined b n (line ∷ lines) short = omega (arith, short)
+
+first_within : (text : List ℕ) → length (first_of (lines text)) ≤ length text
+first_within [] = rw lines_nil (omega arith)
+first_within (b ∷ text) =
+    let short = first_within text in
+    elim (cases_Bool (b == 10)) [
+      | inl e ↦ rw (lines_cons b text, e) (omega arith)
+      | inr e ↦ elim (cases_Bool ((b == 13) && begins_with 10 text)) [
+        | inl f ↦ rw (lines_cons b text, e, f) (omega (arith, short))
+        | inr f ↦ rw (lines_cons b text, e, f) (first_joined b (length text) (lines text) short)
+      ]
+    ]
+
+pub first_short : (text line : List ℕ) (ls : List (List ℕ)) → lines text ≡ line ∷ ls → length line ≤ length text
+first_short text line ls are =
+    let first : length (first_of (lines text)) ≡ length line = ap (λ (xs : List (List ℕ)). length (first_of xs)) are in
+    omega (arith, first, first_within text)
+
+-- a line and its end leave room
+pub line_room : (text line rest : List ℕ) → HasFirstLine text line rest → length line + length rest ≤ length text
+line_room text line rest first =
+    elim first.ended [
+      | inl b ↦
+          let short = first_short (before_rest text rest) line [] (cut_alone text line rest b) in
+          omega (arith, short, length-take (length text - length rest) text, first.rest_is.short)
+      | inr last ↦ omega (arith, ap length last.0, ap length last.1)
+    ]
+
+-- ---- a text without an end
+
+-- what follows the text adds to its line, but for a CR
+pub record Goes (text more : List ℕ) : Type 0 where
+  pub line : List ℕ
+  pub ls : List (List ℕ)
+  pub are : lines (text ++ more) ≡ line ∷ ls
+  pub long : length text ≤ length line + 1
+
+joined : (b : ℕ) (xs : List (List ℕ)) → (line : List ℕ) × (ls : List (List ℕ)) × (with_first b xs ≡ line ∷ ls)
+joined b [] = (b ∷ [], [], refl)
+joined b (line ∷ xs) = (b ∷ line, xs, refl)
+
+one_goes : (b : ℕ) (more : List ℕ) → Goes (b ∷ []) more
+one_goes b [] =
+    let some = some_lines b [] in record { line = some.0; ls = some.1; are = some.2; long = omega arith }
+one_goes b (c ∷ more) =
+    let some = some_lines b (c ∷ more) in record { line = some.0; ls = some.1; are = some.2; long = omega arith }
+
+next_goes : (b c : ℕ) (text more : List ℕ) → (b == 10) ≡ false → ((b == 13) && begins_with 10 (c ∷ text)) ≡ false → Goes (c ∷ text) more → Goes (b ∷ c ∷ text) more
+next_goes b c text more e f goes = record {
+  line = b ∷ goes.line;
+  ls = goes.ls;
+  are = lines_cons b (c ∷ (text ++ more)) ∙ rw (e, f) (ap (with_first b) goes.are);
+  long = omega (arith, goes.long);
+}
+
+pub goes_on : (text more : List ℕ) → 0 < length text → length (first_of (lines text)) ≡ length text → Goes text more
+goes_on [] more some long = absurd (omega (arith, some))
+goes_on (b ∷ []) more some long = one_goes b more
+goes_on (b ∷ c ∷ text) more some long =
+    let next = some_lines c text in
+    elim (cases_Bool (b == 10)) [
+      | inl e ↦
+          let none : length (first_of (lines (b ∷ c ∷ text))) ≡ 0 = rw (lines_cons b (c ∷ text), e) refl in
+          absurd (omega (arith, none, long))
+      | inr e ↦ elim (cases_Bool ((b == 13) && begins_with 10 (c ∷ text))) [
+        | inl f ↦
+            let same : length (first_of (lines (b ∷ c ∷ text))) ≡ length (first_of (lines (c ∷ text))) = rw (lines_cons b (c ∷ text), e, f) refl in
+            absurd (omega (arith, same, long, first_within (c ∷ text)))
+        | inr f ↦
+            let one : length (first_of (lines (b ∷ c ∷ text))) ≡ suc (length next.0) = rw (lines_cons b (c ∷ text), e, f, next.2) refl in
+            let first : length (first_of (lines (c ∷ text))) ≡ length next.0 = rw next.2 refl in
+            next_goes b c text more e f (goes_on (c ∷ text) more (omega arith) (omega (arith, one, first, long)))
+      ]
+    ]
+
+-- ---- a line that is not allowed
+
+-- a line with its end, whatever follows
+pub ended_goes : (text line rest more : List ℕ) → BeginsWithLine text line rest → lines (text ++ more) ≡ line ∷ lines (rest ++ more)
+ended_goes text line rest more b =
+    let whole : before_rest text rest ++ rest ≡ text = ap (λ xs. before_rest text rest ++ xs) b.rest_is.last ∙ take-append-drop (length text - length rest) text in
+    ap (λ xs. lines (xs ++ more)) (sym whole) ∙ ap lines (append_assoc (before_rest text rest) rest more) ∙ b.cut (rest ++ more)
+
+pub ended_wide : (text line rest : List ℕ) → HasFirstLine text line rest → 137 < length text → length line ≡ 136 → BeginsWithLine text line rest
+ended_wide text line rest first some wide =
+    elim first.ended [
+      | inl b ↦ b
+      | inr last ↦ absurd (omega (arith, some, wide, ap length last.0))
+    ]
+
+pub refused_line : (at : Standing) (text line rest : List ℕ) → HasFirstLine text line rest → 137 < length text → length line ≡ 136 → step_line at line ≡ None → IsRefused at text
+refused_line at text line rest first some wide none = λ more.
+    record { line = line; more = lines (rest ++ more); are = ended_goes text line rest more (ended_wide text line rest first some wide); refused = none }
+
+pub wide_long : (line : List ℕ) → 136 < length line → is_wide line ≡ false
+unfolding is_wide
+wide_long line long =
+    let other : (length line == 136) ≡ false = grind (arith, long) in rw other refl
+
+unended_refused : (at : Standing) (text more : List ℕ) → 137 < length text → Goes text more → AreRefused at (lines (text ++ more))
+unended_refused at text more some goes = record {
+  line = goes.line;
+  more = goes.ls;
+  are = goes.are;
+  refused = narrow_line at goes.line (wide_long goes.line (omega (arith, goes.long, some)));
+}
+
+pub refused_narrow : (at : Standing) (text : List ℕ) → BeginsOtherwise text → 137 < length text → IsRefused at text
+refused_narrow at text other some = λ more.
+    elim other.first.ended [
+      | inl b ↦ record { line = other.line; more = lines (other.rest ++ more); are = ended_goes text other.line other.rest more b; refused = narrow_line at other.line other.narrow }
+      | inr last ↦
+          let first : length (first_of (lines text)) ≡ length text = ap (λ (xs : List (List ℕ)). length (first_of xs)) other.first.cut ∙ ap length last.0 in
+          unended_refused at text more some (goes_on text more (omega (arith, some)) first)
+    ]
+
+-- ---- records that are taken
+
+pub takes_none : (at : Standing) (piece : List ℕ) → Takes at piece at piece
+takes_none at piece = record {
+  rest_is = rest_itself piece;
+  whole = λ more. ap (λ xs. lines (xs ++ more)) (before_itself piece) ∙ ap (λ ls. ls ++ lines more) (sym (no_lines piece));
+  stands = ap (stands_after at) (no_lines piece) ∙ stands_nil at;
+  room = omega arith;
+}
+
+pub takes_more : (at mid next : Standing) (piece rest line after : List ℕ) → Takes at piece mid rest → HasFirstLine rest line after → 137 < length rest → length line ≡ 136 → step_line mid line ≡ Some next → next.records ≡ mid.records + 1 → Takes at piece next after
+takes_more at mid next piece rest line after takes first some wide step one =
+    let b = ended_wide rest line after first some wide in
+    let both = before_joined after rest piece b.rest_is takes.rest_is in
+    let whole = whole_joined (before_rest piece rest) (before_rest rest after) takes.whole (whole_cut rest line after b) in
+    let are : lines (before_rest piece after) ≡ lines (before_rest piece rest) ++ line ∷ [] =
+    ap lines both ∙ takes.whole (before_rest rest after) ∙ ap (λ ls. lines (before_rest piece rest) ++ ls) (cut_alone rest line after b) in
+    record {
+      rest_is = rest_of_rest after rest piece b.rest_is takes.rest_is;
+      whole = subst IsWholeLines (sym both) whole;
+      stands = ap (stands_after at) are ∙ stands_line at mid next (lines (before_rest piece rest)) line takes.stands step;
+      room = omega (arith, takes.room, one, wide, line_room rest line after first);
+    }
+
+-- ---- lines with which a text ends
+
+pub passes_none : (at : Standing) (text : List ℕ) → Passes at text at text
+passes_none at text = record { rest_is = rest_itself text; front = []; are = refl; stands = stands_nil at }
+
+pub passes_more : (at mid next : Standing) (text rest line after : List ℕ) → Passes at text mid rest → HasFirstLine rest line after → step_line mid line ≡ Some next → Passes at text next after
+passes_more at mid next text rest line after passes first step = record {
+  rest_is = rest_of_rest after rest text first.rest_is passes.rest_is;
+  front = passes.front ++ line ∷ [];
+  are = passes.are ∙ ap (λ ls. passes.front ++ ls) first.cut ∙ sym (append_assoc passes.front (line ∷ []) (lines after));
+  stands = stands_line at mid next passes.front line passes.stands step;
+}
+
+pub passes_all : (at then : Standing) (text rest : List ℕ) → Passes at text then rest → lines rest ≡ [] → stands_after at (lines text) ≡ Some then
+passes_all at then text rest passes none =
+    ap (stands_after at) (passes.are ∙ ap (λ ls. passes.front ++ ls) none ∙ append-nil passes.front) ∙ passes.stands
+
+pub are_refused : (at : Standing) (text line rest : List ℕ) → HasFirstLine text line rest → step_line at line ≡ None → AreRefused at (lines text)
+are_refused at text line rest first none = record { line = line; more = lines rest; are = first.cut; refused = none }
+
+pub narrow_refused : (at : Standing) (text : List ℕ) → BeginsOtherwise text → AreRefused at (lines text)
+narrow_refused at text other = are_refused at text other.line other.rest other.first (narrow_line at other.line other.narrow)
+
+-- ---- the same as judged
+
+pub refused_judged : (at then : Standing) (text rest : List ℕ) → Passes at text then rest → AreRefused then (lines rest) → judge_from at (lines text) ≡ Err (then.records + 1)
+refused_judged at then text rest passes refused =
+    ap (judge_from at) (passes.are ∙ ap (λ ls. passes.front ++ ls) refused.are)
+    ∙ stands_judged passes.front (refused.line ∷ refused.more) at then passes.stands
+    ∙ judge_cons then refused.line refused.more ∙ rw refused.refused refl
+
+pub refused_faulty : (then : Standing) (text rest : List ℕ) → Passes start text then rest → AreRefused then (lines rest) → IsFirstFault (lines text) (then.records + 1)
+refused_faulty then text rest passes refused = faulty (lines text) (then.records + 1) (refused_judged start then text rest passes refused)
+
+-- ---- what a call answers of a text that is a file
+
+pub found_only : (ls : List (List ℕ)) (totals : HotTotals) → HasTotals ls totals → (file : File) → Hot ls file → ◌≡◌ {A = Answer} (Ok totals) (Ok (totals_of_file file))
+found_only ls totals has file hot = ap Ok (has.totals_are ∙ (law ls).same_totals has.file file has.stands hot)
+
+pub fault_only : (ls : List (List ℕ)) (fault : RecordFault) (n : ℕ) → fault.number ≡ n → IsFirstFault ls n → (file : File) → Hot ls file → ◌≡◌ {A = Answer} (Err fault) (Ok (totals_of_file file))
+fault_only ls fault n is first file hot = absurd ((law ls).not_both n file first hot)
