@@ -1,5 +1,5 @@
 -- The sums of an office with one more row.
-use Rattle.std.proofs.Common.{◌≡◌, ◌<◌, ℕ, ◌+◌, All, List, [], ◌∷◌, ◌++◌, length, map, take, get_or, refl, sym, ap, ◌∙◌, subst}
+use Rattle.std.proofs.Common.{◌≡◌, ◌<◌, ◌≤◌, ℕ, ◌+◌, All, List, [], ◌∷◌, ◌++◌, length, map, take, get_or, refl, sym, ap, ◌∙◌, subst}
 use Rattle.std.proofs.lemmas.List.{map_more}
 use Rattle.std.proofs.lemmas.List.Elements.{All-get_or}
 use Rattle.bsp_hot_check.specs.DocumentCode.{DocumentCode}
@@ -11,7 +11,7 @@ use Rattle.bsp_hot_check.specs.Sums.{add, AreSmall}
 use Rattle.bsp_hot_check.specs.Hot.{Item, item_sums, code_sums}
 use Rattle.bsp_hot_check.specs.Standings.{sums_at, add_at}
 use Rattle.bsp_hot_check.proofs.SumLemmas.{items_sums_snoc, codes_of, codes_snoc}
-use Rattle.bsp_hot_check.proofs.HotRecordsSizeLemmas.{small_add}
+use Rattle.bsp_hot_check.proofs.HotRecordsSizeLemmas.{small_more, small_add}
 use Rattle.bsp_hot_check.proofs.SizeLemmas.{small_add_at}
 use Rattle.bsp_hot_documents.specs.declared.balance.Balance.{Balance}
 use Rattle.bsp_hot_documents.specs.declared.rows.Row.{Row}
@@ -54,4 +54,17 @@ pub balance_small_more : (count : ℕ) (before : Balance) (code : DocumentCode) 
 balance_small_more count before code sums h one = record {
   codes = small_add_at count before.codes code sums h.codes one;
   all = small_add count 1 before.all sums h.all one;
+}
+
+-- small sums are those of more documents, too
+pub small_balance : (n m : ℕ) (b : Balance) → n ≤ m → IsSmallBalance n b → IsSmallBalance m b
+small_balance n m b more h = record {
+  codes = record {
+    tktt = small_more n m b.codes.tktt more h.codes.tktt;
+    rfnd = small_more n m b.codes.rfnd more h.codes.rfnd;
+    canx = small_more n m b.codes.canx more h.codes.canx;
+    adma = small_more n m b.codes.adma more h.codes.adma;
+    acma = small_more n m b.codes.acma more h.codes.acma;
+  };
+  all = small_more n m b.all more h.all;
 }

@@ -1,8 +1,9 @@
 -- Totals in their columns, and the records of an office's totals.
-use Rattle.std.proofs.Common.{◌≡◌, ℕ, ◌+◌, ◌<◌, Bool, true, false, not, List, [], ◌∷◌, ◌++◌, length, map, filter, take, get_or, Result, Ok, Err, ℤ, refl, sym, ap, ◌∙◌, ◌^◌, arith}
+use Rattle.std.proofs.Common.{◌≡◌, ℕ, ◌+◌, ◌<◌, Bool, true, false, not, List, [], ◌∷◌, ◌++◌, length, map, filter, take, drop, get_or, Result, Ok, Err, ℤ, refl, sym, ap, ◌∙◌, ◌^◌, subst, append_assoc, arith}
 use Rattle.std.specs.Int.RustNames.{unsigned_abs}
 use Rattle.std.proofs.lemmas.Int.{ints}
-use Rattle.std.proofs.lemmas.List.{map-append, take_more}
+use Rattle.std.proofs.lemmas.Bool.{lt-ltb}
+use Rattle.std.proofs.lemmas.List.{map-append, take_more, take-append-drop}
 use Rattle.std.proofs.lemmas.List.Elements.{filter-append}
 use Rattle.bsp_fields.specs.FirstFault.{first_fault_or}
 use Rattle.bsp_fields.specs.Decimal.{fixed_digits}
@@ -10,16 +11,23 @@ use Rattle.bsp_fields.specs.Zoned.{spelling, within}
 use Rattle.bsp_fields.specs.declared.fault.FieldFault.TheVariants.{TooLarge}
 use Rattle.bsp_hot_check.specs.DocumentCode.{DocumentCode}
 use Rattle.bsp_hot_check.specs.DocumentCode.TheVariants.{Tktt}
+use Rattle.bsp_hot_check.specs.FileForm.{FileForm}
+use Rattle.bsp_hot_check.specs.FileForm.TheVariants.{One, Two}
 use Rattle.bsp_hot_documents.specs.declared.fault.HotFault.{HotFault}
 use Rattle.bsp_hot_documents.specs.declared.fault.HotFault.TheVariants.{TooWide}
 use Rattle.bsp_hot_check.specs.HotRecordsSums.{Sums}
 use Rattle.bsp_hot_check.specs.Totals.{Totals}
-use Rattle.bsp_hot_check.specs.Records.{Record, code_totals}
+use Rattle.bsp_hot_check.specs.RecordName.{RecordName}
+use Rattle.bsp_hot_check.specs.RecordName.TheVariants.{Bot93, Bot94}
+use Rattle.bsp_hot_check.specs.Records.{code_text, Record, code_totals, office_totals}
 use Rattle.bsp_hot_check.specs.Sums.{net_of, with_net, all_codes, AreSmall}
-use Rattle.bsp_hot_check.specs.Hot.{Item, code_sums, has_code, codes_records}
+use Rattle.bsp_hot_check.specs.Hot.{Item, items_sums, code_sums, has_code, codes_records, closing_records}
 use Rattle.bsp_hot_documents.specs.declared.closing.TotalsText.{TotalsText}
-use Rattle.bsp_hot_documents.specs.Lines.{count_fits, total_fits, totals_fit}
-use Rattle.bsp_hot_documents.specs.Balances.{where_it_fits, totals_text}
+use Rattle.bsp_hot_documents.specs.declared.output.Output.{Output}
+use Rattle.bsp_hot_documents.specs.Lines.{count_fits, total_fits, totals_fit, taxed_totals_fit, tax_text, taxed_totals_fields, named_line}
+use Rattle.bsp_hot_documents.specs.Output.{AddsLineOrFault, AddsOrFault}
+use Rattle.bsp_hot_documents.specs.Balances.{where_it_fits, totals_text, tax_columns, text_or_nothing}
+use Rattle.bsp_hot_documents.proofs.FaultLemmas.{line_or_fault}
 
 -- ---- texts
 
@@ -119,7 +127,44 @@ columns t documents cash credit commission net a b d e f =
     let u = total_is t.net net f in
     rw (p.0, q.0, r.0, s.0, u.0, p.1, q.1, r.1, s.1, u.1) refl
 
+-- the columns of the tax, where there are any
+pub tax_text_is : (form : FileForm) (tax : ℤ) → text_or_nothing (tax_columns form tax) ≡ tax_text form tax
+tax_text_is One tax = refl
+tax_text_is Two tax = refl
+
 -- ---- records
+
+-- an empty field takes no column
+pub no_field : (name : RecordName) (n : ℕ) (first : List ℕ) (fields : List (List ℕ)) → named_line name n (first ∷ [] ∷ fields) ≡ named_line name n (first ∷ fields)
+unfolding named_line
+no_field name n first fields = refl
+
+code_records_one : (agent : ℕ) (items : List Item) (code : DocumentCode) → 0 < (code_sums code items).documents
+    → codes_records agent items (code ∷ []) ≡ code_totals agent code (with_net (code_sums code items)) ∷ []
+code_records_one agent items code h = let test : has_code items code ≡ true = lt-ltb 0 (code_sums code items).documents h in rw test refl
+
+-- of a code with documents its BOT93
+pub code_one : (old new : Output) (agent : ℕ) (items : List Item) (code : DocumentCode) (sums : Sums) (first second : List ℕ) (result : Result (Unit {0}) HotFault)
+    → first ≡ fixed_digits 8 agent → second ≡ code_text code → sums ≡ code_sums code items → 0 < sums.documents
+    → AddsLineOrFault old new (taxed_totals_fit old.form (with_net sums)) (named_line Bot93 (old.records + 1) (first ∷ second ∷ taxed_totals_fields old.form (with_net sums))) result
+    → AddsOrFault old new (codes_records agent items (code ∷ [])) result
+code_one old new agent items code sums first second result p q r some h =
+    let t = with_net sums in
+    let one : codes_records agent items (code ∷ []) ≡ code_totals agent code t ∷ [] =
+    code_records_one agent items code (subst (λ (s : Sums). 0 < s.documents) r some) ∙ ap (λ (s : Sums). code_totals agent code (with_net s) ∷ []) (sym r) in
+    subst (λ records. AddsOrFault old new records result) (sym one)
+    (line_or_fault old new (code_totals agent code t) (taxed_totals_fit old.form t) (named_line Bot93 (old.records + 1) (first ∷ second ∷ taxed_totals_fields old.form t)) result refl (rw (p, q) refl) h)
+
+-- BOT94
+pub office_one : (old new : Output) (agent : ℕ) (items : List Item) (sums : Sums) (first : List ℕ) (result : Result (Unit {0}) HotFault)
+    → first ≡ fixed_digits 8 agent → sums ≡ items_sums items
+    → AddsLineOrFault old new (taxed_totals_fit old.form (with_net sums)) (named_line Bot94 (old.records + 1) (first ∷ [] ∷ taxed_totals_fields old.form (with_net sums))) result
+    → AddsOrFault old new (office_totals agent (with_net (items_sums items)) ∷ []) result
+office_one old new agent items sums first result p r h =
+    let t = with_net sums in
+    subst (λ (s : Sums). AddsOrFault old new (office_totals agent (with_net s) ∷ []) result) r
+    (line_or_fault old new (office_totals agent t) (taxed_totals_fit old.form t) (named_line Bot94 (old.records + 1) (first ∷ [] ∷ taxed_totals_fields old.form t)) result refl
+    (no_field Bot94 (old.records + 1) first (taxed_totals_fields old.form t) ∙ rw p refl) h)
 
 -- ---- the codes in their order
 
@@ -134,3 +179,13 @@ pub codes_more : (agent : ℕ) (items : List Item) (i : ℕ) → i < length all_
 codes_more agent items i within =
     let code = get_or all_codes i Tktt in
     sym (codes_records-append agent items (take i all_codes) (code ∷ [])) ∙ ap (codes_records agent items) (sym (take_more all_codes i Tktt within))
+
+-- those before a code, and the rest
+pub closing_from : (agent : ℕ) (items : List Item) (i : ℕ) → codes_records agent items (take i all_codes) ++ (codes_records agent items (drop i all_codes) ++ office_totals agent (with_net (items_sums items)) ∷ []) ≡ closing_records agent items
+closing_from agent items i =
+    let office : List Record = office_totals agent (with_net (items_sums items)) ∷ [] in
+    let front = codes_records agent items (take i all_codes) in
+    let rest = codes_records agent items (drop i all_codes) in
+    let codes : front ++ rest ≡ codes_records agent items all_codes =
+    sym (codes_records-append agent items (take i all_codes) (drop i all_codes)) ∙ ap (codes_records agent items) (take-append-drop i all_codes) in
+    sym (append_assoc front rest office) ∙ ap (λ records. records ++ office) codes
