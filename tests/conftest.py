@@ -10,23 +10,15 @@ from support import compare, program as program_under_test
 from support.markets import Market
 from support.served import Office
 
-# so many random markets are tried, where --markets does not say how many
+# so many random markets does the gate try
 MARKETS = 40
 # with so many examples Hypothesis begins, which are of few draws
 SMALL = 11
 
 
-def pytest_addoption(parser):
-    parser.addoption("--program", metavar="PATH", default=program_under_test.BUILT, help="the program under test")
-    parser.addoption(
-        "--markets", type=int, metavar="N", default=MARKETS, help="N random markets, and as many more of all that is random"
-    )
-    parser.addoption("--items", type=int, metavar="N", default=50_000, help="the items of the largest books")
-
-
 def pytest_configure(config):
     config.addinivalue_line("markers", "alone: a test that counts seconds, and has no other beside it")
-    program_under_test.choose(config.getoption("program"))
+    program_under_test.choose(config.getoption("program") or program_under_test.BUILT)
     # with --hypothesis-seed N other markets are drawn
     is_seeded = config.getoption("hypothesis_seed", None) is not None
     hypothesis.settings.register_profile(
@@ -42,7 +34,9 @@ def pytest_configure(config):
 
 def pytest_report_header(config):
     seed = config.getoption("hypothesis_seed", None)
-    return f"{config.getoption('markets')} random markets, drawn {'by the seed ' + str(seed) if seed else 'without a seed, each time the same'}"
+    return (
+        f"{config.getoption('markets')} random markets, drawn {'each time the same' if seed is None else f'by the seed {seed}'}"
+    )
 
 
 # ---- comparisons that go on

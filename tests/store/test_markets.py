@@ -10,7 +10,7 @@ from hypothesis.stateful import RuleBasedStateMachine, initialize, rule, run_sta
 
 from support.markets import TRIAL_WAYS, WAYS, Market, Trial
 
-CHANCES = strategies.integers(0, 2**32 - 1)
+CHANCES = strategies.integers(0, 2**16 - 1)
 
 
 def weighted(ways):

@@ -62,7 +62,8 @@ REQUESTS = [*setting_up(), *working(), *looking()]
 
 @pytest.fixture(scope="module")
 def month():
-    """The replies to a month over memory, and the folder of the book in a file, in which the program was killed after each reply."""
+    """The replies to a month over memory; those over a file, in which the program was killed after each reply; the folder of the
+    file; and what SQLite says of it, which writes its log into it."""
     with tempfile.TemporaryDirectory() as folder:
         served = opened()
         wanted = answers(served, REQUESTS)
@@ -72,15 +73,14 @@ def month():
             served = opened(f"{folder}/office.db")
             found.append(ask(served, request))
             served.kill()
-        yield wanted, found, folder
+        yield wanted, found, folder, rows_of(f"{folder}/office.db", "PRAGMA integrity_check")
 
 
 @pytest.fixture
 def replies(month):
     """The replies to a month, whose book is in the file office.db."""
-    wanted, _, folder = month
-    for end in "", "-wal":
-        shutil.copy(f"{folder}/office.db{end}", f"office.db{end}")
+    wanted, _, folder, _ = month
+    shutil.copy(f"{folder}/office.db", "office.db")
     return wanted
 
 
@@ -90,12 +90,12 @@ def test_all_is_answered_over_memory(month):
 
 @pytest.mark.parametrize("number", range(len(REQUESTS)), ids=[f"{at} {it[0]} {it[1]}" for at, it in enumerate(REQUESTS)])
 def test_a_reply_over_a_file_is_that_over_memory(number, month):
-    wanted, found, _ = month
+    wanted, found, *_ = month
     assert found[number] == wanted[number]
 
 
-def test_integrity(replies):
-    assert rows_of("office.db", "PRAGMA integrity_check") == [("ok",)]
+def test_integrity(month):
+    assert month[3] == [("ok",)]
 
 
 # ---- books of other requests
