@@ -4,7 +4,7 @@
 - bsp_office on words and files. It ends as with ample memory, or with status 3, no output and the line that memory was short.
 - its command `run`, which is sent each request of some conversations twice; these have each request of docs/API.md. Each reply
   is that of ample memory; or one is 503 B01, and the same request after it has the reply of ample memory to the first of the two.
-- the same over a book in a file, for each allocation of a short conversation, one in 23 of three others, and one in forty of the
+- the same over a book in a file, for each allocation of a short conversation, one in 23 of three others (--one-in), and one in forty of the
   opening before them; the file is then opened again.
 - the same over books of earlier versions, of samples/books/, for the first hundred allocations and one in forty after them; the
   file is then opened again, and shows what ample memory shows.
