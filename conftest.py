@@ -7,4 +7,5 @@ def pytest_addoption(parser):
     parser.addoption(
         "--markets", type=int, metavar="N", default=40, help="N random markets, and as many more of all that is random"
     )
+    parser.addoption("--one-in", type=int, metavar="N", default=23, help="over a file one in N allocations is refused")
     parser.addoption("--items", type=int, metavar="N", default=50_000, help="the items of the largest books")

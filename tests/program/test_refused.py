@@ -4,8 +4,8 @@
 - bsp_office on words and files. It ends as with ample memory, or with status 3, no output and the line that memory was short.
 - its command `run`, which is sent each request of some conversations twice; these have each request of docs/API.md. Each reply
   is that of ample memory; or one is 503 B01, and the same request after it has the reply of ample memory to the first of the two.
-- the same over a book in a file, for each allocation of a short conversation, one in 23 of three others (--one-in), and one in forty of the
-  opening before them; the file is then opened again.
+- the same over a book in a file, for each allocation of a short conversation, one in 23 of three others (--one-in), and one in forty of
+  the opening before them; the file is then opened again.
 - the same over books of earlier versions, of samples/books/, for the first hundred allocations and one in forty after them; the
   file is then opened again, and shows what ample memory shows.
 - its command `audit` on such a file and on a damaged one, and an opening of the damaged one, for the first hundred allocations and
@@ -292,13 +292,14 @@ def is_kept(asked):
 
 
 @pytest.mark.parametrize("name", KEPT)
-def test_a_conversation_over_a_file(name):
+def test_a_conversation_over_a_file(name, request):
     opened = last_refused(over_new, b"")
     _, entries = examples.conversations(EXAMPLES / f"{name}.hurl")[0]
     asked = [message(it) for it in entries if it.method == "GET"]
     # the opening is the same for each, and the first conversation is the short one
-    is_short = name == KEPT[0]
-    numbers = itertools.chain(range(1, opened, 40), itertools.count(opened + 1)) if is_short else itertools.count(opened + 1, 23)
+    is_short, one_in = name == KEPT[0], request.config.getoption("one_in")
+    later = itertools.count(opened + 1, 1 if is_short else one_in)
+    numbers = itertools.chain(range(1, opened, 1 if one_in == 1 else 40), later) if is_short else later
     each_refused(name, over_new, twice(name), is_kept(asked), numbers)
 
 
