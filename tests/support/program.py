@@ -27,7 +27,7 @@ def choose(path):
 def path():
     """The path of the program under test."""
     if not os.access(_path[0], os.X_OK):
-        raise RuntimeError(f"{_path[0]} is not built: give another by --program PATH")
+        raise RuntimeError(f"{_path[0]} is not built: give another by --program=PATH")
     return _path[0]
 
 
