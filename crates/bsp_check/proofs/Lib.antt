@@ -3,3 +3,8 @@ pub mod Faults
 pub mod Pieces
 pub mod RetReports
 pub mod Reports
+pub mod WindowLemmas
+pub mod LineLemmas
+pub mod TakingLemmas
+pub mod JudgingLemmas
+pub mod HotReports

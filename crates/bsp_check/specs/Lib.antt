@@ -1,5 +1,9 @@
 -- What the contracts of the reports cite.
 pub mod Verdicts
 pub mod Streams
+pub mod Windows
+pub mod Widths
+pub mod HotJudging
+pub mod Inputs
 pub mod RetReport
 pub mod HotReport

@@ -11,7 +11,8 @@ use Rattle.bsp_hot_explain.specs.declared.explanation.HotExplanation.{HotExplana
 use Rattle.bsp_explain.specs.Before.{counted, IsLine}
 use Rattle.bsp_explain.specs.RetReasons.{Says, is_reason_of}
 use Rattle.bsp_hot_explain.specs.Headings.{heading_in}
-use Rattle.bsp_hot_explain.specs.HotReasons.{SaysOfHot, stands_after, record_name}
+use Rattle.bsp_hot_check.specs.Judging.{stands_after}
+use Rattle.bsp_hot_explain.specs.HotReasons.{SaysOfHot, record_name}
 use Rattle.bsp_check.specs.declared.fault.Fault.{Fault}
 use Rattle.bsp_check.specs.declared.verdict.Explanation.TheVariants.{Ret, Hot}
 use Rattle.bsp_check.specs.declared.verdict.Verdict.{Verdict}

@@ -1,4 +1,4 @@
-//! The commands `check` and `hotcheck`: each reads an input whole and writes the report on it.
+//! The commands `check` and `hotcheck`: each reads an input to its end and writes the report on it.
 
 ghost use Rattle.std.specs.Prelude.{◌≡◌, ◌≤◌, ◌<◌, ◌+◌, ◌⊎◌, ℕ, List, length, true, Err, IfOk};
 ghost use Rattle.std.specs.Io.KnownBytes.{Consumes, IsAtEnd, Appends};
@@ -66,11 +66,10 @@ pub fn hotcheck_within<R: Read, W: Write>(
     ensures read_cause { result ≡ Err Fault.Read → reader.new.failed ≡ true }
     ensures write_cause { result ≡ Err Fault.Write → writer.new.failed ≡ true }
 {
-    let all = read_whole(alloc, reader, limit)?;
-    let Ok(report) = hot_report(alloc, &all, list) else {
-        return Err(Fault::Memory);
-    };
-    write_report(writer, &report)
+    match hot_report(alloc, reader, limit, list) {
+        Ok(report) => write_report(writer, &report),
+        Err(fault) => Err(fault),
+    }
 }
 
 /// Reads a RET file of at most 1,073,741,824 bytes, writes the report on it and answers its

@@ -1,17 +1,24 @@
 //! The report on a HOT file.
 
-ghost use Rattle.std.specs.Prelude.{◌≡◌, ◌++◌, IfOk, string_bytes};
+ghost use Rattle.std.specs.Prelude.{◌≡◌, ◌<◌, ◌++◌, ℕ, List, true, false, Err, IfOk, IfErr, string_bytes};
 ghost use Rattle.bsp_ret.specs.Lines.{lines};
 ghost use Rattle.bsp_check.specs.HotReport.{totals_text, fault_text, list_before, IsHotReport};
+ghost use Rattle.bsp_check.specs.HotJudging.{IsHotAnswer};
+ghost use Rattle.bsp_check.specs.Inputs.{IsInputReport, IsUnread};
 ghost use Rattle.bsp_check.specs.Verdicts.{verdict_status, IsHotExplained};
 
+use crate::fault::Fault;
+use crate::hot_judging::{HotAnswer, judge_input, judge_text};
+use crate::reading::read_whole;
 use crate::report::Report;
 use crate::verdict::{Explanation, Verdict};
 use bsp_fields::{NoRoom, write_money};
-use bsp_hot_check::{HotTotals, check_hot};
-use bsp_hot_explain::{explain_hot, heading_of};
+use bsp_hot_check::HotTotals;
+use bsp_hot_explain::HotExplanation;
 use bsp_hot_list::list_hot;
+use bsp_streams::Noted;
 use std::alloc::Global;
+use std::io::Read;
 
 /// The line of a file with these totals.
 fn totals_line(alloc: Global, totals: HotTotals) -> Result<String, NoRoom>
@@ -26,19 +33,6 @@ fn totals_line(alloc: Global, totals: HotTotals) -> Result<String, NoRoom>
     Ok(format!(in alloc; "OK records {records} documents {documents} net {money}\n")?)
 }
 
-/// The text on a file with these totals: its list, where it is asked for, and their line.
-fn file_text(alloc: Global, bytes: &[u8], totals: HotTotals, list: bool) -> Result<Vec<u8>, NoRoom>
-    ensures { IfOk result (λ text. text.items ≡ list_before list (lines bytes.now) ++ totals_text totals) }
-{
-    let line = totals_line(alloc, totals)?.into_bytes();
-    if !list {
-        return Ok(line);
-    }
-    let mut text = list_hot(alloc, bytes)?;
-    text.extend_from_slice(&line)?;
-    Ok(text)
-}
-
 /// The line of the first record at fault.
 fn fault_line(alloc: Global, number: usize) -> Result<String, NoRoom>
     ensures { IfOk result (λ line. string_bytes line ≡ fault_text number) }
@@ -46,19 +40,108 @@ fn fault_line(alloc: Global, number: usize) -> Result<String, NoRoom>
     Ok(format!(in alloc; "H04 record {number}\n")?)
 }
 
-/// The report on the bytes of a HOT file, with its list where that is asked for.
-pub(crate) fn hot_report(alloc: Global, bytes: &[u8], list: bool) -> Result<Report, NoRoom>
-    ensures report { IfOk result (λ report. IsHotReport list bytes.now (verdict_status report.verdict) report.text.items) }
+/// The report on a fault.
+fn refusal(alloc: Global, explanation: HotExplanation) -> Result<Report, NoRoom>
+    ensures verdict { IfOk result (λ report. report.verdict ≡ Verdict.Refused (Explanation.Hot explanation)) }
+    ensures text { IfOk result (λ report. report.text.items ≡ fault_text explanation.record) }
+{
+    Ok(Report {
+        verdict: Verdict::Refused(Explanation::Hot(explanation)),
+        text: fault_line(alloc, explanation.record)?.into_bytes(),
+    })
+}
+
+/// The report on a file or a fault, without a list.
+fn answer_report(alloc: Global, answer: HotAnswer) -> Result<Report, NoRoom>
+    ensures report { (bytes : List ℕ) → IsHotAnswer bytes answer → IfOk result (λ report. IsHotReport false bytes (verdict_status report.verdict) report.text.items) }
+    ensures explained { (bytes : List ℕ) → IsHotAnswer bytes answer → IfOk result (λ report. IsHotExplained bytes report.verdict) }
+{
+    match answer {
+        HotAnswer::Passed(totals, heading) => Ok(Report {
+            verdict: Verdict::Passed(heading),
+            text: totals_line(alloc, totals)?.into_bytes(),
+        }),
+        HotAnswer::Refused(explanation) => refusal(alloc, explanation),
+    }
+}
+
+/// The list of a file with these totals, and their line.
+fn listed(alloc: Global, bytes: &[u8], totals: HotTotals) -> Result<Vec<u8>, NoRoom>
+    ensures { IfOk result (λ text. text.items ≡ list_before true (lines bytes.now) ++ totals_text totals) }
+{
+    let mut text = list_hot(alloc, bytes)?;
+    let line = totals_line(alloc, totals)?;
+    text.extend_from_slice(line.as_bytes())?;
+    Ok(text)
+}
+
+/// The report on the bytes of a HOT file, with its list before it where it is one.
+fn listed_report(alloc: Global, bytes: &[u8]) -> Result<Report, NoRoom>
+    ensures report { IfOk result (λ report. IsHotReport true bytes.now (verdict_status report.verdict) report.text.items) }
     ensures explained { IfOk result (λ report. IsHotExplained bytes.now report.verdict) }
 {
-    match check_hot(bytes) {
-        Ok(totals) => Ok(Report {
-            verdict: Verdict::Passed(heading_of(bytes)),
-            text: file_text(alloc, bytes, totals, list)?,
+    match judge_text(bytes) {
+        HotAnswer::Passed(totals, heading) => Ok(Report {
+            verdict: Verdict::Passed(heading),
+            text: listed(alloc, bytes, totals)?,
         }),
-        Err(fault) => Ok(Report {
-            verdict: Verdict::Refused(Explanation::Hot(explain_hot(bytes, fault))),
-            text: fault_line(alloc, fault.number)?.into_bytes(),
-        }),
+        HotAnswer::Refused(explanation) => refusal(alloc, explanation),
+    }
+}
+
+/// The report on an input, with the list of a file before it. The input is kept, since the list is.
+fn list_input<R: Read>(alloc: Global, reader: &mut Noted<R>, limit: usize) -> Result<Report, Fault>
+    requires { limit < usize.MAX }
+    ensures report { IfOk result (IsInputReport true limit (R.remaining reader.old.inner) (R.remaining reader.new.inner)) }
+    ensures stopped { IfErr result (λ fault. IsUnread limit fault (R.remaining reader.old.inner) (R.remaining reader.new.inner)) }
+    ensures cause { result ≡ Err Fault.Read → reader.new.failed ≡ true }
+{
+    let all = match read_whole(alloc, reader, limit) {
+        Ok(all) => all,
+        Err(fault) => return Err(fault),
+    };
+    match listed_report(alloc, &all) {
+        Ok(report) => Ok(report),
+        Err(_) => Err(Fault::Memory),
+    }
+}
+
+/// The report on an input that is judged while it is read.
+fn judge_and_report<R: Read>(
+    alloc: Global,
+    reader: &mut Noted<R>,
+    limit: usize,
+) -> Result<Report, Fault>
+    requires { limit < usize.MAX }
+    ensures report { IfOk result (IsInputReport false limit (R.remaining reader.old.inner) (R.remaining reader.new.inner)) }
+    ensures stopped { IfErr result (λ fault. IsUnread limit fault (R.remaining reader.old.inner) (R.remaining reader.new.inner)) }
+    ensures cause { result ≡ Err Fault.Read → reader.new.failed ≡ true }
+{
+    let answer = match judge_input(alloc, reader, limit) {
+        Ok(answer) => answer,
+        Err(fault) => return Err(fault),
+    };
+    match answer_report(alloc, answer) {
+        Ok(report) => Ok(report),
+        Err(_) => Err(Fault::Memory),
+    }
+}
+
+/// The report on an input of at most `limit` bytes as a HOT file, with its list where that is asked for.
+pub(crate) fn hot_report<R: Read>(
+    alloc: Global,
+    reader: &mut Noted<R>,
+    limit: usize,
+    list: bool,
+) -> Result<Report, Fault>
+    requires { limit < usize.MAX }
+    ensures report { IfOk result (IsInputReport list limit (R.remaining reader.old.inner) (R.remaining reader.new.inner)) }
+    ensures stopped { IfErr result (λ fault. IsUnread limit fault (R.remaining reader.old.inner) (R.remaining reader.new.inner)) }
+    ensures cause { result ≡ Err Fault.Read → reader.new.failed ≡ true }
+{
+    if list {
+        list_input(alloc, reader, limit)
+    } else {
+        judge_and_report(alloc, reader, limit)
     }
 }

@@ -7,12 +7,15 @@
 
 mod checking;
 mod fault;
+mod hot_judging;
 mod hot_report;
+mod long_line;
 mod reading;
 mod report;
 mod ret_report;
 mod status;
 mod verdict;
+mod window;
 
 pub use bsp_hot_explain::Heading;
 pub use checking::{check, check_within, hotcheck, hotcheck_within};

@@ -3,8 +3,7 @@ pub mod HotLemmas
 pub mod HotRows
 pub mod Differing
 pub mod Steps
-pub mod WalkLemmas
 pub mod HeadingLemmas
 pub mod ReasonLemmas
-pub mod FirstFaults
 pub mod Names
+pub mod LongLemmas

@@ -20,15 +20,6 @@ use Rattle.bsp_hot_explain.specs.declared.reason.HotReason.TheVariants as reason
 use Rattle.bsp_hot_explain.specs.HotFields.{hot_fields}
 use Rattle.bsp_hot_explain.specs.Comparisons.{comparisons, first_differing, is_in_place, is_in_order}
 
--- how lines after a state stand, where each is allowed by those before it
-abbrev pub stands_or : Option Standing → (Standing → Option Standing) → Option Standing
-stands_or None more = None
-stands_or (Some at) more = more at
-
-unfoldable pub stands_after : Standing → List (List ℕ) → Option Standing
-stands_after at [] = Some at
-stands_after at (line ∷ lines) = stands_or (step_line at line) (λ next. stands_after next lines)
-
 -- a record of a file of this form whose digits are those of the name has its letters, and its fields fit
 abbrev pub named_fits : FileForm → RecordName → List ℕ → Bool
 named_fits form name line = bytes_eq (columns 1 3 line) (letters name) && fields_fit form name line

@@ -1,23 +1,20 @@
-//! What is wrong with the first record at fault of a HOT file.
+//! What is wrong with a record at fault of a HOT file, from the record and the state before it.
 
-ghost use Rattle.std.specs.Prelude.{◌≡◌, ◌-◌, ◌<◌, ◌^◌, ℕ, List, take, codes, None, Some};
+ghost use Rattle.std.specs.Prelude.{◌≡◌, ◌+◌, ◌<◌, ◌^◌, ◌++◌, ℕ, List, length, codes};
 ghost use Rattle.std.specs.Str.{bytes_eq};
 ghost use Rattle.bsp_records.specs.Columns.{columns};
 ghost use Rattle.bsp_records.specs.Lines.{lines};
 ghost use Rattle.bsp_explain.specs.Before.{IsLine};
-ghost use Rattle.bsp_hot_check.specs.declared.model.Standing.{Standing as State};
-ghost use Rattle.bsp_hot_check.specs.Hot.{IsFirstFault};
-ghost use Rattle.bsp_hot_check.specs.Standings.{start, IsSmall};
-ghost use Rattle.bsp_hot_explain.specs.HotReasons.{SaysOfHot, record_name, stands_after};
+ghost use Rattle.bsp_hot_check.specs.Standings.{IsSmall};
+ghost use Rattle.bsp_hot_explain.specs.HotReasons.{SaysOfHot, record_name};
 
 use crate::comparison::say_bytes;
 use crate::hot_reasons::{hot_reason, record_name};
 use crate::kind::Kind;
 use crate::next::Expected;
 use crate::reason::{HotReason, Shortness};
-use crate::walk::walk;
-use bsp_explain::{Words, say_columns};
-use bsp_hot_check::{RecordFault, Standing};
+use bsp_explain::{Words, long_reason, say_columns};
+use bsp_hot_check::Standing;
 use bsp_hot_records::RecordName;
 use bsp_records::first_line;
 use std::fmt;
@@ -79,8 +76,8 @@ fn line_reason(at: &Standing, line: &[u8], rest: &[u8], after: &[u8]) -> HotReas
 }
 
 /// What is missing after the records of this state, where a text ends there.
-fn missing(text: &[u8], at: &Standing) -> HotReason {
-    if text.is_empty() {
+fn missing(at: &Standing) -> HotReason {
+    if at.records == 0 {
         HotReason::Foreign(Kind::Empty)
     } else {
         HotReason::Missing(Expected::of(at))
@@ -110,29 +107,62 @@ impl fmt::Display for HotExplanation {
     }
 }
 
-/// Explains the first fault of the text of a HOT file.
-pub fn explain_hot(text: &[u8], fault: RecordFault) -> HotExplanation
-    ensures number { result.record ≡ fault.number }
+/// Explains a line that the records of this state do not allow. `rest` is the text from the line on, or so much of
+/// it that the end of the line is in it.
+pub fn explain_line(at: &Standing, rest: &[u8]) -> HotExplanation
+    requires some { 0 < length rest.now }
+    requires small { IsSmall at.now }
+    requires room { at.now.records < 2 ^ 63 }
+    ensures number { result.record ≡ at.now.records + 1 }
     // The name is that of the line, and the reason is true of it, after the records before it.
-    ensures name { (at : State) (line : List ℕ) → stands_after start (take (fault.number - 1) (lines text.now)) ≡ Some at → IsLine (fault.number - 1) (lines text.now) line → result.name ≡ record_name line }
-    ensures says { (at : State) (line : List ℕ) → stands_after start (take (fault.number - 1) (lines text.now)) ≡ Some at → IsLine (fault.number - 1) (lines text.now) line → SaysOfHot at line result.reason }
-    // There are such records before the first fault.
-    ensures before { IsFirstFault (lines text.now) fault.number → (at : State) × (stands_after start (take (fault.number - 1) (lines text.now)) ≡ Some at) }
+    ensures name { (line : List ℕ) → IsLine 0 (lines rest.now) line → result.name ≡ record_name line }
+    ensures says { (line : List ℕ) → IsLine 0 (lines rest.now) line → SaysOfHot at.now line result.reason }
 {
-    let record = fault.number;
-    let (at, rest) = walk(text, record.saturating_sub(1));
-    if rest.is_empty() {
-        return HotExplanation {
-            record,
-            name: None,
-            reason: missing(text, &at),
-        };
-    }
     let (line, after) = first_line(rest);
-    let reason = line_reason(&at, line, rest, after);
+    let reason = line_reason(at, line, rest, after);
     HotExplanation {
-        record,
+        record: at.records + 1,
         name: record_name(line),
         reason,
+    }
+}
+
+/// What is wrong with a line of more characters than a record has, of which these are the first.
+fn long_line_reason(at: &Standing, head: &[u8], width: usize) -> HotReason
+    requires long { 136 < width }
+    requires head { 12 < length head.now }
+    ensures { (more : List ℕ) → length (head.now ++ more) ≡ width → SaysOfHot at.now (head.now ++ more) result }
+{
+    if at.records == 0 && !begins_file(head) {
+        return HotReason::Foreign(Kind::of(head));
+    }
+    HotReason::Form(long_reason(head, width))
+}
+
+/// Explains a line of so many characters, more than a record has, of which these are the first.
+pub fn explain_long(at: &Standing, head: &[u8], width: usize) -> HotExplanation
+    requires long { 136 < width }
+    requires head { 12 < length head.now }
+    requires room { at.now.records < 2 ^ 63 }
+    ensures number { result.record ≡ at.now.records + 1 }
+    ensures name { (more : List ℕ) → result.name ≡ record_name (head.now ++ more) }
+    ensures says { (more : List ℕ) → length (head.now ++ more) ≡ width → SaysOfHot at.now (head.now ++ more) result.reason }
+{
+    HotExplanation {
+        record: at.records + 1,
+        name: record_name(head),
+        reason: long_line_reason(at, head, width),
+    }
+}
+
+/// Explains that a text ends before the next record, after the records of this state.
+pub fn explain_missing(at: &Standing) -> HotExplanation
+    requires room { at.now.records < 2 ^ 63 }
+    ensures number { result.record ≡ at.now.records + 1 }
+{
+    HotExplanation {
+        record: at.records + 1,
+        name: None,
+        reason: missing(at),
     }
 }

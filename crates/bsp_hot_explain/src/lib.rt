@@ -5,19 +5,16 @@
 mod comparing;
 mod comparison;
 mod explanation;
-mod heading;
 mod hot_fields;
 mod hot_reasons;
 mod kind;
 mod next;
 mod placing;
 mod reason;
-mod walk;
 
 pub use bsp_hot_records::Heading;
 pub use comparison::{Comparison, Value};
-pub use explanation::{HotExplanation, explain_hot};
-pub use heading::heading_of;
+pub use explanation::{HotExplanation, explain_line, explain_long, explain_missing};
 pub use hot_reasons::{hot_reason, record_name};
 pub use kind::Kind;
 pub use next::Expected;
