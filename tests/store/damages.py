@@ -1,4 +1,4 @@
-"""Changes of the book of .ci/store.py, each as SQL, after which the program refuses it or opens it.
+"""Changes of the book of test_store.py, each as SQL, after which the program refuses it or opens it.
 
 RULES has changes of rows: what is wrong, SQL with a mark ?, two texts for the mark, and what the program says is at fault.
 With the first text a rule of the audit (docs/BOOK.md) is broken, and no other; with the second none is. All taxes of items and
