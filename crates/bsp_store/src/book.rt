@@ -1,6 +1,6 @@
 //! A book in tables.
 
-ghost use Rattle.std.specs.Prelude.{◌≡◌, ◌⊎◌, ◌↔◌, IsOkUnless, IsTrue, MatchResult, None, OnErr, OnOk, Some, false, true};
+ghost use Rattle.std.specs.Prelude.{◌≡◌, ◌⊎◌, ◌↔◌, IsOkUnless, IsTrue, None, OnErr, OnOk, Some, false, true};
 ghost use Rattle.bsp_book.specs.Calls.{Commits, FallsBack};
 ghost use Rattle.bsp_book.specs.Listed.{meaning as listed};
 ghost use Rattle.bsp_rows.specs.Rows.{HasNumberKey, key_of};
@@ -101,16 +101,6 @@ impl<S: Alter> SqlBook<S> {
         second_of(list, conn)
     }
 
-    /// Refuses each call after the one with which the book failed.
-    fn expect_working(&self) -> Result<(), BookFault>
-        ensures { MatchResult result (λ done. self.now.failed ≡ false) (λ fault. (fault ≡ BookFault.Failed) × (self.now.failed ≡ true)) }
-    {
-        if self.failed {
-            return Err(BookFault::Failed);
-        }
-        Ok(())
-    }
-
     /// Gives up the open transaction after an error of the store. Where the cause was room and the store can still be
     /// used, nothing is left of the transaction. Otherwise the book has failed.
     fn give_up(&mut self, error: Error) -> BookFault
@@ -171,12 +161,16 @@ impl<S: Alter> Book for SqlBook<S> {
     }
 
     fn begin(&mut self) -> Result<(), BookFault> {
-        self.expect_working()?;
+        if self.failed {
+            return Err(BookFault::Failed);
+        }
         self.list.begin()
     }
 
     fn commit(&mut self) -> Result<(), BookFault> {
-        self.expect_working()?;
+        if self.failed {
+            return Err(BookFault::Failed);
+        }
         match save(self.alloc, &mut self.conn, self.list.tables()) {
             Ok(()) => self.keep(),
             Err(error) => Err(self.give_up(error)),
@@ -184,37 +178,51 @@ impl<S: Alter> Book for SqlBook<S> {
     }
 
     fn roll_back(&mut self) -> Result<(), BookFault> {
-        self.expect_working()?;
+        if self.failed {
+            return Err(BookFault::Failed);
+        }
         self.list.roll_back()
     }
 
     fn agent_token(&mut self, agent: AgentCode) -> Result<Option<Token>, BookFault> {
-        self.expect_working()?;
+        if self.failed {
+            return Err(BookFault::Failed);
+        }
         self.list.agent_token(agent)
     }
 
     fn airline_token(&mut self, airline: AirlineCode) -> Result<Option<Token>, BookFault> {
-        self.expect_working()?;
+        if self.failed {
+            return Err(BookFault::Failed);
+        }
         self.list.airline_token(airline)
     }
 
     fn ranges(&mut self, agent: AgentCode) -> Result<Vec<Range>, BookFault> {
-        self.expect_working()?;
+        if self.failed {
+            return Err(BookFault::Failed);
+        }
         self.list.ranges(agent)
     }
 
     fn stock(&mut self, agent: AgentCode) -> Result<Vec<UsedRange>, BookFault> {
-        self.expect_working()?;
+        if self.failed {
+            return Err(BookFault::Failed);
+        }
         self.list.stock(agent)
     }
 
     fn meets_range(&mut self, range: Range) -> Result<bool, BookFault> {
-        self.expect_working()?;
+        if self.failed {
+            return Err(BookFault::Failed);
+        }
         self.list.meets_range(range)
     }
 
     fn is_range_used(&mut self, agent: AgentCode, range: Range) -> Result<bool, BookFault> {
-        self.expect_working()?;
+        if self.failed {
+            return Err(BookFault::Failed);
+        }
         self.list.is_range_used(agent, range)
     }
 
@@ -223,7 +231,9 @@ impl<S: Alter> Book for SqlBook<S> {
         agent: AgentCode,
         transaction: &Transaction,
     ) -> Result<Vec<Item>, BookFault> {
-        self.expect_working()?;
+        if self.failed {
+            return Err(BookFault::Failed);
+        }
         self.list.items_bearing(agent, transaction)
     }
 
@@ -232,107 +242,145 @@ impl<S: Alter> Book for SqlBook<S> {
         agent: AgentCode,
         number: &[u8; 10],
     ) -> Result<Vec<Item>, BookFault> {
-        self.expect_working()?;
+        if self.failed {
+            return Err(BookFault::Failed);
+        }
         self.list.items_with_number(agent, number)
     }
 
     fn items(&mut self, which: Items) -> Result<Vec<Item>, BookFault> {
-        self.expect_working()?;
+        if self.failed {
+            return Err(BookFault::Failed);
+        }
         self.list.items(which)
     }
 
     fn memo(&mut self, key: MemoKey) -> Result<Option<Memo>, BookFault> {
-        self.expect_working()?;
+        if self.failed {
+            return Err(BookFault::Failed);
+        }
         self.list.memo(key)
     }
 
     fn memos(&mut self, which: Memos) -> Result<Vec<Memo>, BookFault> {
-        self.expect_working()?;
+        if self.failed {
+            return Err(BookFault::Failed);
+        }
         self.list.memos(which)
     }
 
     fn issued_count(&mut self, agent: AgentCode, airline: AirlineCode) -> Result<u64, BookFault> {
-        self.expect_working()?;
+        if self.failed {
+            return Err(BookFault::Failed);
+        }
         self.list.issued_count(agent, airline)
     }
 
     fn tally(&mut self, key: TallyKey) -> Result<Tally, BookFault> {
-        self.expect_working()?;
+        if self.failed {
+            return Err(BookFault::Failed);
+        }
         self.list.tally(key)
     }
 
     fn tallies(&mut self, which: Tallies) -> Result<Vec<Tally>, BookFault> {
-        self.expect_working()?;
+        if self.failed {
+            return Err(BookFault::Failed);
+        }
         self.list.tallies(which)
     }
 
     fn set_agent_token(&mut self, agent: AgentCode, token: Token) -> Result<(), BookFault> {
-        self.expect_working()?;
+        if self.failed {
+            return Err(BookFault::Failed);
+        }
         formed_agent(agent, token);
         self.list.set_agent_token(agent, token)
     }
 
     fn set_airline_token(&mut self, airline: AirlineCode, token: Token) -> Result<(), BookFault> {
-        self.expect_working()?;
+        if self.failed {
+            return Err(BookFault::Failed);
+        }
         formed_airline(airline, token);
         self.list.set_airline_token(airline, token)
     }
 
     fn add_range(&mut self, agent: AgentCode, range: Range) -> Result<(), BookFault> {
-        self.expect_working()?;
+        if self.failed {
+            return Err(BookFault::Failed);
+        }
         formed_range(RangeKey::of(agent, &range), range.last);
         self.list.add_range(agent, range)
     }
 
     fn withdraw_range(&mut self, agent: AgentCode, range: Range) -> Result<(), BookFault> {
-        self.expect_working()?;
+        if self.failed {
+            return Err(BookFault::Failed);
+        }
         self.list.withdraw_range(agent, range)
     }
 
     fn add_item(&mut self, item: &Item) -> Result<(), BookFault> {
-        self.expect_working()?;
+        if self.failed {
+            return Err(BookFault::Failed);
+        }
         formed_under_key(item);
         self.list.add_item(item)
     }
 
     fn end_item(&mut self, key: ItemKey) -> Result<(), BookFault> {
-        self.expect_working()?;
+        if self.failed {
+            return Err(BookFault::Failed);
+        }
         self.list.end_item(key)
     }
 
     fn add_memo(&mut self, memo: &Memo) -> Result<(), BookFault> {
-        self.expect_working()?;
+        if self.failed {
+            return Err(BookFault::Failed);
+        }
         formed_memo(MemoKey::of(memo.fields()), *memo.fields());
         self.list.add_memo(memo)
     }
 
     fn set_memo(&mut self, memo: &Memo) -> Result<(), BookFault> {
-        self.expect_working()?;
+        if self.failed {
+            return Err(BookFault::Failed);
+        }
         formed_memo(MemoKey::of(memo.fields()), *memo.fields());
         self.list.set_memo(memo)
     }
 
     fn bill(&mut self, key: MemoKey, period: PeriodCode) -> Result<(), BookFault> {
-        self.expect_working()?;
+        if self.failed {
+            return Err(BookFault::Failed);
+        }
         formed_period(period);
         self.list.bill(key, period)
     }
 
     fn publish(&mut self, text: &PlanText) -> Result<Result<Change, PlanFault>, BookFault> {
-        self.expect_working()?;
+        if self.failed {
+            return Err(BookFault::Failed);
+        }
         let answer = self.list.publish(text);
         formed_plan(self.list.plan());
         answer
     }
 
     fn set_day(&mut self, day: Day) -> Result<Result<Change, PlanFault>, BookFault> {
-        self.expect_working()?;
+        if self.failed {
+            return Err(BookFault::Failed);
+        }
         formed_day(day);
         self.list.set_day(day)
     }
 
     fn close(&mut self, code: PeriodCode) -> Result<Result<Change, PlanFault>, BookFault> {
-        self.expect_working()?;
+        if self.failed {
+            return Err(BookFault::Failed);
+        }
         let answer = self.list.close(code);
         formed_closed(self.list.plan());
         answer

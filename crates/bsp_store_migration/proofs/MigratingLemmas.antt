@@ -23,10 +23,10 @@ use Rattle.bsp_store_migration.specs.Filled.{AreInOldOrder, HasOldNumber, IsBegu
 use Rattle.bsp_store_migration.specs.Old.{old_number}
 use Rattle.bsp_store_migration.specs.declared.version.OldVersion.{OldVersion}
 use Rattle.bsp_store_migration.specs.declared.version.OldVersion.TheVariants.{First, Second}
-use Rattle.bsp_store_open.specs.Opening.{IsOfOther, KeepsAtRest, Reports, is_known}
+use Rattle.bsp_store_open.specs.Opening.{AreOrdered, IsOfOther, KeepsAtRest, Reports, is_known}
 use Rattle.bsp_store_open.specs.declared.fault.OpenFault.{OpenFault}
 use Rattle.bsp_store_open.specs.declared.fault.OpenFault.TheVariants.{Damaged}
-use Rattle.bsp_store_migration.specs.Migrating.{AreOrdered, HasBegun, HasEnded, HasNoOldBook, IsFilledWith, IsMigrated, IsNumbered, IsOld, KeepsNoOld, KeepsOldBook, KeepsOnlyOld, LeavesMigration, MayEnd}
+use Rattle.bsp_store_migration.specs.Migrating.{HasBegun, HasEnded, HasNoOldBook, IsFilledWith, IsMigrated, IsNumbered, IsOld, KeepsNoOld, KeepsOldBook, KeepsOnlyOld, LeavesMigration, MayEnd}
 
 module _ {S : Type 0} (g : Ghosts S) where
   -- what leaves to a stop no more than there was

@@ -1,17 +1,15 @@
 -- What an opening finds of a book of an earlier version, and what it makes of it.
 use Rattle.std.specs.Prelude.{◌≡◌, ◌⊎◌, ℕ, false, true, List, ◌∷◌, map, IsPermutation, IsTrue, None}
-use Rattle.std.specs.List.{AllByRecursion}
 use Rattle.sqlite_value.specs.Order.{Row, column}
 use Rattle.sqlite_trees.specs.Tree.{Trees}
 use Rattle.sqlite_trees.specs.declared.store.Store.{Ghosts}
-use Rattle.sqlite.specs.Effect.{Database, IsDatabase}
+use Rattle.sqlite.specs.Effect.{IsDatabase}
 use Rattle.sqlite.specs.Held.{Held, state}
 use Rattle.sqlite.specs.State.{HasCleanDisk, IsLive, Shows}
 use Rattle.bsp_book.specs.Rows.{Rows}
 use Rattle.bsp_book.specs.Sound.{Sound}
 use Rattle.bsp_book.specs.Listed.{meaning as listed}
 use Rattle.bsp_book.specs.declared.list.ListBook.{ListBook}
-use Rattle.bsp_store_base.specs.Order.{IsInOrder}
 use Rattle.bsp_store_load.specs.Schema.{our_schema}
 use Rattle.bsp_store_load.specs.Kept.{KeepsRows, Reads, columns_of}
 use Rattle.bsp_store_load.specs.Columns.{count}
@@ -22,7 +20,7 @@ use Rattle.bsp_store_load.specs.Forms.{IsFormed}
 use Rattle.bsp_store_migration.specs.Filled.{HasOldNumber, IsOfOld, KeepsOldRows}
 use Rattle.bsp_store_migration.specs.Old.{old_number, old_schema}
 use Rattle.bsp_store_migration.specs.declared.version.OldVersion.{OldVersion}
-use Rattle.bsp_store_open.specs.Opening.{KeepsAtRest, Reports}
+use Rattle.bsp_store_open.specs.Opening.{AreAllInOrder, KeepsAtRest, Reports}
 use Rattle.bsp_store_open.specs.declared.fault.OpenFault.{OpenFault}
 use Rattle.bsp_store_open.specs.declared.fault.OpenFault.TheVariants.{OtherVersion}
 
