@@ -1,11 +1,12 @@
 //! The fault table over one record, after records in this state, and what the record says.
 
-ghost use Rattle.std.specs.Prelude.{◌≡◌, ◌+◌, ◌^◌, ◌<◌, ◌≤◌, ◌&&◌, length, true, false, unwrap_or, Ok, Err, IfOk, IfErr};
+ghost use Rattle.std.specs.Prelude.{◌≡◌, ◌+◌, ◌*◌, ◌^◌, ◌<◌, ◌≤◌, ◌&&◌, ◌-◌, length, true, false, unsigned_abs, unwrap_or, Ok, Err, IfOk, IfErr, OnOk, OnErr};
 ghost use Rattle.bsp_fields.specs.FirstFault.{first_fault_or};
 ghost use Rattle.bsp_records.specs.Columns.{identifier, is_wide};
 ghost use Rattle.bsp_ret_records.specs.Records.{IsFit, profile_of, sale_fits, related_order, related_fits, amounts_fit, form_of, form_fits, trailer_fits};
 ghost use Rattle.bsp_ret.specs.Said.{record_in};
 ghost use Rattle.bsp_ret.specs.Table.{has_ended, has_counts, has_sum, header_table, is_complete, takes_related, comes_behind, takes_amounts, takes_form, transaction_table, trailer_table, later_table, record_table, row_fault};
+ghost use Rattle.bsp_ret.specs.Standings.{standing_behind, FitsIn};
 
 use crate::model::{FaultCode, Record, Standing};
 use crate::standing::comes_behind;
@@ -195,5 +196,30 @@ pub(crate) fn judge_line(at: Standing, line: &[u8]) -> Result<Record, FaultCode>
         Err(FaultCode::F01)
     } else {
         judge_record(at, line)
+    }
+}
+
+impl Standing {
+    /// Takes the next line, if it is a record that these records allow. Answers what it says.
+    ///
+    /// # Errors
+    ///
+    /// The first row of the fault table that applies to the line. The state is as it was.
+    pub fn step(&mut self, line: &[u8]) -> Result<Record, FaultCode>
+        requires { FitsIn self.old (2 ^ 63 - 1) }
+        ensures row { OnOk result (row_fault self.old line.now ≡ Ok tt) }
+        ensures says { IfOk result (λ said. said ≡ record_in line.now) }
+        ensures state { OnOk result (self.new ≡ standing_behind self.old line.now) }
+        ensures fits { OnOk result (FitsIn self.new (self.old.records + 1)) }
+        ensures fault { IfErr result (λ code. row_fault self.old line.now ≡ Err code) }
+        ensures same { OnErr result (self.new ≡ self.old) }
+    {
+        match judge_line(*self, line) {
+            Ok(next) => {
+                *self = self.with(&next);
+                Ok(next)
+            }
+            Err(code) => Err(code),
+        }
     }
 }

@@ -23,7 +23,7 @@ pub use fields::{
     TrailerFields,
 };
 pub use file::RetFile;
-pub use model::{FaultCode, Progress, RetFault};
+pub use model::{FaultCode, LastRecord, Progress, Record, RetFault, Standing};
 pub use reader::RetReader;
 pub use reading::{fault_or_file, read_ret};
 pub use values::{one_content, transaction};

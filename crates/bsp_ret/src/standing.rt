@@ -44,7 +44,7 @@ pub(crate) fn comes_behind(only: Option<u64>, order: u64) -> bool
 
 impl Standing {
     /// The state before any record.
-    pub(crate) fn start() -> Standing
+    pub fn start() -> Standing
         ensures { result ≡ standing [] }
     {
         Standing {
@@ -100,7 +100,7 @@ impl Standing {
     }
 
     /// A fault of the next record.
-    pub(crate) fn fault(self, code: FaultCode) -> RetFault
+    pub fn fault(self, code: FaultCode) -> RetFault
         requires { self.records < usize.MAX }
         ensures { result ≡ record { code = code; at = self.records + 1 } }
     {
@@ -127,7 +127,8 @@ impl Record {
 }
 
 impl LastRecord {
-    pub(crate) fn has_ended(self) -> bool
+    /// Whether it is a trailer.
+    pub fn has_ended(self) -> bool
         ensures { result ≡ has_ended self }
     {
         matches!(self, LastRecord::Trailer)
