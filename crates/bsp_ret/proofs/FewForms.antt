@@ -18,17 +18,10 @@ use Rattle.bsp_ret_records.specs.Records.{profile_of, code_of, related_order, fo
 use Rattle.bsp_ret.specs.Said.{record_in}
 use Rattle.bsp_ret.specs.Table.{kind, takes_related, takes_amounts, takes_form}
 use Rattle.bsp_ret.specs.Standings.{standing_with}
-use Rattle.bsp_ret.specs.Building.{paid_with}
+use Rattle.bsp_ret.specs.Building.{paid_with, forms_up_to}
 use Rattle.bsp_ret.proofs.Rows.{Clean, clean_header, clean_sale, clean_related, clean_amounts, clean_form, clean_trailer}
 use Rattle.bsp_ret.proofs.Steps.{begins_49}
 use Rattle.bsp_ret.proofs.Sound.{form_known}
-
--- the most forms that a group has up to this record
-abbrev pub forms_up_to : LastRecord → ℕ
-forms_up_to (last.Form Cash) = 1
-forms_up_to (last.Form Credit) = 2
-forms_up_to (last.Form Exchange) = 3
-forms_up_to _ = 0
 
 -- ---- no form before a record 3 or 5
 

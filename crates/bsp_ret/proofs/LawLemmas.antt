@@ -42,7 +42,7 @@ end_read : (ended : Bool) (file : File) (fault : RetFault) → fault_of (cond en
 end_read true file fault = refl
 end_read false file fault = refl
 
-read_behind : (lines : List (List ℕ)) (at : Standing) (d : Draft) → fault_of (read_from at d lines) ≡ fault_behind at lines
+pub read_behind : (lines : List (List ℕ)) (at : Standing) (d : Draft) → fault_of (read_from at d lines) ≡ fault_behind at lines
 read_behind [] at d = ap fault_of (read_nil at d) ∙ end_read (has_ended at.last) _ _ ∙ sym (behind_nil at)
 read_behind (line ∷ lines) at d =
     ap fault_of (read_cons at d line lines)

@@ -1,5 +1,8 @@
 -- Lemmas of this crate.
 pub mod BuildingLemmas
+pub mod NoteLemmas
+pub mod PieceLemmas
+pub mod FeedLemmas
 pub mod SaidLemmas
 pub mod Rows
 pub mod Steps
@@ -12,8 +15,6 @@ pub mod LawLemmas
 pub mod Wide
 pub mod LoopLemmas
 pub mod AnswerLemmas
-pub mod PieceLemmas
-pub mod FeedLemmas
 pub mod GroupLemmas
 pub mod BodyLemmas
 pub mod RelatedLemmas

@@ -1,88 +1,194 @@
--- A text goes on, behind lines that stand so.
-use Rattle.std.proofs.Common.{◌≡◌, ℕ, ◌+◌, ◌-◌, true, false, List, [], ◌∷◌, ◌++◌, length, Some, None, Ok, Err, refl, sym, ap, subst, ◌∙◌, append_assoc}
-use Rattle.std.specs.Prelude.{◌==◌}
-use Rattle.std.proofs.lemmas.List.{append-nil, take-append-drop}
+-- A text that is judged and noted to a place.
+use Rattle.std.proofs.Common.{◌≡◌, ℕ, ℤ, ◌+◌, ◌-◌, ◌*◌, ◌^◌, ◌<◌, ◌≤◌, Bool, true, false, List, [], ◌∷◌, ◌++◌, length, take, drop, Some, None, Ok, Err, refl, sym, ap, subst, ◌∙◌, inl, inr, arith, append_assoc, length-append, length-drop}
+use Rattle.std.specs.Prelude.{◌==◌, unsigned_abs}
+use Rattle.std.proofs.lemmas.Bool.{cases_Bool}
+use Rattle.std.proofs.lemmas.List.{append-nil, take-append-drop, take-append-le, length-take, drop_all}
 use Rattle.bsp_ret.specs.declared.model.FaultCode.{FaultCode}
 use Rattle.bsp_ret.specs.declared.model.FaultCode.TheVariants.{F08, F09}
+use Rattle.bsp_ret.specs.declared.model.Record.{Record}
+use Rattle.bsp_ret.specs.declared.model.Record.TheVariants as said
 use Rattle.bsp_ret.specs.declared.model.Standing.{Standing}
+use Rattle.bsp_ret.specs.declared.notes.Notes.{Notes}
+use Rattle.bsp_ret.specs.declared.notes.Place.{Place}
 use Rattle.bsp_records.specs.Lines.{lines, has_end, before_rest, IsWholeLines, BeginsWithLine}
-use Rattle.bsp_ret.specs.Table.{standing, has_ended, row_fault}
-use Rattle.bsp_ret.specs.Standings.{standing_behind, fault_behind}
-use Rattle.bsp_ret.specs.Pieces.{Leaves, Fails}
-use Rattle.bsp_records.proofs.CutLemmas.{lines_nil, lines_last, some_lines}
-use Rattle.bsp_records.proofs.RestLemmas.{rest_itself, before_itself, rest_of_rest, before_joined, whole_nothing, whole_joined, whole_cut, cut_alone}
-use Rattle.bsp_ret.proofs.Steps.{standing_snoc}
-use Rattle.bsp_ret.proofs.LawLemmas.{behind_nil, behind_cons}
+use Rattle.bsp_ret.specs.Said.{record_in}
+use Rattle.bsp_ret.specs.Table.{kind, standing, has_ended, row_fault, first_fault}
+use Rattle.bsp_ret.specs.Standings.{standing_with, standing_behind, fault_behind, FitsIn}
+use Rattle.bsp_ret.specs.Reading.{Draft, add, read_from, read_all}
+use Rattle.bsp_ret.specs.Building.{paid_with, forms_up_to}
+use Rattle.bsp_ret.specs.Notes.{no_notes, draft_by, draft_of, HasPlaces, IsNoted, IsNotedTo}
+use Rattle.bsp_ret.specs.Pieces.{IsFinal, IsClearSoFar}
+use Rattle.bsp_records.proofs.CutLemmas.{lines_nil, lines_last, some_lines, IsRest-drop}
+use Rattle.bsp_records.proofs.RestLemmas.{whole_nothing, whole_joined, lines_empty}
+use Rattle.bsp_ret.proofs.Rows.{clean}
+use Rattle.bsp_ret.proofs.Steps.{standing_snoc, read_cons}
+use Rattle.bsp_ret.proofs.LawLemmas.{fault_of, behind_cons, read_behind, read_is_fault}
 use Rattle.bsp_ret.proofs.SaidLemmas.{ended_row}
+use Rattle.bsp_ret.proofs.FewForms.{few_forms}
+use Rattle.bsp_ret.proofs.NoteLemmas.{front_joined, part_grown, lines_grown, place_grown, places_grown, groups_grown, IsNext}
 
--- nothing is judged yet
-pub leaves_all : (at : Standing) (bytes : List ℕ) → Leaves at bytes at bytes
-leaves_all at bytes =
-    let none : lines (before_rest bytes bytes) ≡ [] = ap lines (before_itself bytes) ∙ lines_nil in
+-- ---- nothing came
+
+pub noted_nothing : (bytes : List ℕ) (closed : List Place) → bytes ≡ [] → closed ≡ [] → IsNotedTo no_notes closed bytes
+noted_nothing bytes closed none no_groups =
+    rw (none, no_groups)
     record {
-      rest_is = rest_itself bytes;
-      whole = subst IsWholeLines (sym (before_itself bytes)) whole_nothing;
-      stands = λ ls is. is ∙ ap standing (sym (append-nil ls) ∙ ap (λ xs. ls ++ xs) (sym none));
-      clear = λ more. ap (λ xs. fault_behind at (xs ++ more)) none;
+      noted = record {
+        places = record {
+          within = omega arith;
+          header = record { ordered = omega arith; within = omega arith };
+          trailer = record { ordered = omega arith; within = omega arith };
+          latest = record { ordered = omega arith; within = omega arith; paid = rw lines_nil refl };
+          whole = whole_nothing;
+          open_end = λ goes_on. refl;
+          groups = tt;
+        };
+        fits = record { counted = omega arith; small = omega arith; few = omega arith };
+        whole = whole_nothing;
+        stands = rw lines_nil refl;
+        reads = λ more. rw lines_nil refl;
+        few = λ goes_on. omega arith;
+      };
+      unended = refl;
+      nothing_behind = λ ended. omega arith;
     }
 
--- one more line without fault
-pub leaves_more : (at now then : Standing) (bytes rest line after : List ℕ) → Leaves at bytes now rest → BeginsWithLine rest line after → row_fault now line ≡ Ok tt → then ≡ standing_behind now line → Leaves at bytes then after
-leaves_more at now then bytes rest line after left begins none stands =
-    let joined = before_joined after rest bytes begins.rest_is left.rest_is in
-    let front = lines (before_rest bytes rest) in
-    let whole : IsWholeLines (before_rest bytes after) =
-    subst IsWholeLines (sym joined) (whole_joined (before_rest bytes rest) (before_rest rest after) left.whole (whole_cut rest line after begins)) in
-    let lines_are : lines (before_rest bytes after) ≡ front ++ line ∷ [] =
-    ap lines joined ∙ left.whole (before_rest rest after) ∙ ap (λ xs. front ++ xs) (cut_alone rest line after begins) in
-    record {
-      rest_is = rest_of_rest after rest bytes begins.rest_is left.rest_is;
-      whole = whole;
-      stands = λ ls is. stands ∙ ap (λ (x : Standing). standing_behind x line) (left.stands ls is) ∙ sym (standing_snoc (ls ++ front) line)
-          ∙ ap standing (append_assoc ls front (line ∷ []) ∙ ap (λ xs. ls ++ xs) (sym lines_are));
-      clear = λ more. ap (λ xs. fault_behind at (xs ++ more)) lines_are ∙ ap (fault_behind at) (append_assoc front (line ∷ []) more) ∙ left.clear (line ∷ more)
-          ∙ behind_cons now line more ∙ rw (none, stands) refl;
-    }
+-- ---- the text goes on
 
--- the lines of a text that goes on
-goes_on : (at now : Standing) (bytes rest : List ℕ) → Leaves at bytes now rest → (more : List ℕ) → fault_behind at (lines (bytes ++ more)) ≡ fault_behind now (lines (rest ++ more))
-goes_on at now bytes rest left more =
-    let front = before_rest bytes rest in
-    let whole : front ++ rest ≡ bytes = ap (λ xs. front ++ xs) left.rest_is.last ∙ take-append-drop (length bytes - length rest) bytes in
-    ap (λ xs. fault_behind at (lines (xs ++ more))) (sym whole) ∙ ap (λ xs. fault_behind at (lines xs)) (append_assoc front rest more)
-    ∙ ap (fault_behind at) (left.whole (rest ++ more)) ∙ left.clear (lines (rest ++ more))
+-- where the text is cut at what is judged
+pub lines_joined : (bytes : List ℕ) (n : ℕ) → IsWholeLines (take n bytes) → (more : List ℕ) → lines (bytes ++ more) ≡ lines (take n bytes) ++ lines (drop n bytes ++ more)
+lines_joined bytes n whole more =
+    ap (λ xs. lines (xs ++ more)) (sym (take-append-drop n bytes)) ∙ ap lines (append_assoc (take n bytes) (drop n bytes) more) ∙ whole (drop n bytes ++ more)
+
+-- the first fault is that of what is left
+pub left_fault : (notes : Notes) (closed : List Place) (bytes : List ℕ) → IsNoted notes closed bytes → (more : List ℕ) → first_fault (lines (bytes ++ more)) ≡ fault_behind notes.at (lines (drop notes.judged bytes ++ more))
+left_fault notes closed bytes known more =
+    let left = lines (drop notes.judged bytes ++ more) in
+    ap first_fault (lines_joined bytes notes.judged known.whole more) ∙ sym (read_is_fault (lines (take notes.judged bytes) ++ left))
+    ∙ ap fault_of (known.reads left) ∙ read_behind left notes.at (draft_of notes closed bytes)
 
 -- a line at fault
-pub fails_at_line : (at now : Standing) (bytes rest line after : List ℕ) (code : FaultCode) → Leaves at bytes now rest → BeginsWithLine rest line after → row_fault now line ≡ Err code → Fails at bytes (record { code = code; at = now.records + 1 })
-fails_at_line at now bytes rest line after code left begins fault more =
-    let front = before_rest rest after in
-    let whole : front ++ after ≡ rest = ap (λ xs. front ++ xs) begins.rest_is.last ∙ take-append-drop (length rest - length after) rest in
+pub fails_at_line : (notes : Notes) (closed : List Place) (bytes line after : List ℕ) (code : FaultCode) → IsNoted notes closed bytes → BeginsWithLine (drop notes.judged bytes) line after → row_fault notes.at line ≡ Err code
+    → IsFinal bytes (record { code = code; at = notes.at.records + 1 })
+fails_at_line notes closed bytes line after code known begins fault more =
+    let rest = drop notes.judged bytes in
+    let whole : before_rest rest after ++ after ≡ rest = ap (λ xs. before_rest rest after ++ xs) begins.rest_is.last ∙ take-append-drop (length rest - length after) rest in
     let cut : lines (rest ++ more) ≡ line ∷ lines (after ++ more) =
-    ap (λ xs. lines (xs ++ more)) (sym whole) ∙ ap lines (append_assoc front after more) ∙ begins.cut (after ++ more) in
-    goes_on at now bytes rest left more ∙ ap (fault_behind now) cut ∙ behind_cons now line (lines (after ++ more)) ∙ rw fault refl
+    ap (λ xs. lines (xs ++ more)) (sym whole) ∙ ap lines (append_assoc (before_rest rest after) after more) ∙ begins.cut (after ++ more) in
+    left_fault notes closed bytes known more ∙ ap (fault_behind notes.at) cut ∙ behind_cons notes.at line (lines (after ++ more)) ∙ rw fault refl
 
 -- a line that begins behind a trailer
-pub fails_behind : (at now : Standing) (bytes rest : List ℕ) → Leaves at bytes now rest → has_ended now.last ≡ true → (length rest == 0) ≡ false → Fails at bytes (record { code = F09; at = now.records + 1 })
-fails_behind at now bytes [] left ended some = absurd (cc some)
-fails_behind at now bytes (b ∷ rest) left ended some = λ more.
+behind_trailer : (at : Standing) (rest more : List ℕ) → 0 < length rest → has_ended at.last ≡ true → fault_behind at (lines (rest ++ more)) ≡ Some (record { code = F09; at = at.records + 1 })
+behind_trailer at [] more some ended = absurd (omega arith)
+behind_trailer at (b ∷ rest) more some ended =
     let k = some_lines b (rest ++ more) in
-    goes_on at now bytes (b ∷ rest) left more ∙ ap (fault_behind now) k.2 ∙ behind_cons now k.0 k.1 ∙ rw (ended_row now k.0 ended) refl
+    ap (fault_behind at) k.2 ∙ behind_cons at k.0 k.1 ∙ rw (ended_row at k.0 ended) refl
 
--- ---- no more comes
+pub fails_behind : (notes : Notes) (closed : List Place) (bytes : List ℕ) → IsNoted notes closed bytes → has_ended notes.at.last ≡ true → notes.judged < length bytes → IsFinal bytes (record { code = F09; at = notes.at.records + 1 })
+fails_behind notes closed bytes known ended some more =
+    left_fault notes closed bytes known more
+    ∙ behind_trailer notes.at (drop notes.judged bytes) more (omega (arith, length-drop notes.judged bytes, some)) ended
 
--- a last line without fault
-pub rest_judged : (at then : Standing) (rest : List ℕ) → lines rest ≡ rest ∷ [] → row_fault at rest ≡ Ok tt → then ≡ standing_behind at rest → fault_behind at (lines rest) ≡ fault_behind then []
-rest_judged at then rest one none stands = ap (fault_behind at) one ∙ behind_cons at rest [] ∙ rw (none, stands) refl
+nothing_left : (bytes : List ℕ) (n : ℕ) → length bytes ≤ n → drop n bytes ≡ []
+nothing_left bytes n all = drop_all n bytes all
 
-pub rest_fails : (at : Standing) (rest : List ℕ) (code : FaultCode) → lines rest ≡ rest ∷ [] → row_fault at rest ≡ Err code → fault_behind at (lines rest) ≡ Some (record { code = code; at = at.records + 1 })
-rest_fails at rest code one fault = ap (fault_behind at) one ∙ behind_cons at rest [] ∙ rw fault refl
+-- what the reader answers of text without fault
+pub clear_so_far : (notes : Notes) (closed : List Place) (bytes : List ℕ) → IsNotedTo notes closed bytes → IsClearSoFar bytes
+clear_so_far notes closed bytes known =
+    let n = notes.judged in
+    let within = known.noted.places.within in
+    let rest = drop n bytes in
+    let size : length bytes - length rest ≡ n = omega (arith, length-drop n bytes, within) in
+    let front : before_rest bytes rest ≡ take n bytes = ap (λ k. take k bytes) size in
+    let stood : standing (lines (before_rest bytes rest)) ≡ notes.at = ap (λ xs. standing (lines xs)) front ∙ sym known.noted.stands in
+    record {
+      rest = rest;
+      rest_is = IsRest-drop bytes n within;
+      unended = known.unended;
+      whole = subst IsWholeLines (sym front) known.noted.whole;
+      clear = λ more. ap (λ xs. first_fault (lines xs ++ more)) front ∙ sym (read_is_fault (lines (take n bytes) ++ more))
+          ∙ ap fault_of (known.noted.reads more) ∙ read_behind more notes.at (draft_of notes closed bytes) ∙ ap (λ (at : Standing). fault_behind at more) (sym stood);
+      nothing_behind = λ ended. let all = known.nothing_behind (ap (λ (at : Standing). has_ended at.last) (sym stood) ∙ ended) in nothing_left bytes n all;
+    }
 
-pub none_behind : (at : Standing) → has_ended at.last ≡ true → fault_behind at [] ≡ None
-none_behind at ended = behind_nil at ∙ rw ended refl
+-- ---- one more line
 
-pub trailer_lacks : (at : Standing) → has_ended at.last ≡ false → fault_behind at [] ≡ Some (record { code = F08; at = at.records + 1 })
-trailer_lacks at open_end = behind_nil at ∙ rw open_end refl
+pub last_with : (at : Standing) (next : Record) → (standing_with at next).last ≡ kind next
+last_with at (said.Header profile) = refl
+last_with at (said.Sale code) = refl
+last_with at (said.Related order) = refl
+last_with at said.Amounts = refl
+last_with at (said.Form form amount) = refl
+last_with at said.Trailer = refl
 
-pub one_unended : (rest : List ℕ) → has_end rest ≡ false → (length rest == 0) ≡ false → lines rest ≡ rest ∷ []
-one_unended [] unended some = absurd (cc some)
-one_unended (b ∷ rest) unended some = lines_last b rest unended
+pub records_with : (at : Standing) (next : Record) → (standing_with at next).records ≡ at.records + 1
+records_with at (said.Header profile) = refl
+records_with at (said.Sale code) = refl
+records_with at (said.Related order) = refl
+records_with at said.Amounts = refl
+records_with at (said.Form form amount) = refl
+records_with at said.Trailer = refl
+
+-- a line without fault is behind no trailer
+pub open_before : (at : Standing) (line : List ℕ) → row_fault at line ≡ Ok tt → has_ended at.last ≡ false
+open_before at line none =
+    elim (cases_Bool (has_ended at.last)) [
+      | inl ended ↦ absurd (let k = sym none ∙ ended_row at line ended in cc k)
+      | inr goes_on ↦ goes_on
+    ]
+
+-- what is known of one more line
+pub record IsMore (old new : Notes) (closed more : List Place) (bytes line : List ℕ) (next : Record) : Type 0 where
+  pub none : row_fault old.at line ≡ Ok tt
+  pub says : next ≡ record_in line
+  pub stands : new.at ≡ standing_behind old.at line
+  pub fits : FitsIn new.at (old.at.records + 1)
+  pub draft : draft_by (has_ended (kind next)) new more bytes ≡ add (draft_by false old closed bytes) line
+  pub places : HasPlaces (has_ended (kind next)) new more bytes
+  pub sum : has_ended (kind next) ≡ false → new.latest.paid ≡ paid_with old.latest.paid next
+  pub bound : unsigned_abs new.latest.paid ≤ unsigned_abs old.latest.paid + 99_999_999_999
+
+pub noted_more : (old new : Notes) (closed more : List Place) (bytes line after : List ℕ) (next : Record) → IsNoted old closed bytes → IsNext bytes old.judged line after new.judged → IsMore old new closed more bytes line next → IsNoted new more bytes
+noted_more old new closed more bytes line after next known cut is =
+    let stands : new.at ≡ standing_with old.at next = is.stands ∙ ap (standing_with old.at) (sym is.says) in
+    let last_is : new.at.last ≡ kind next = ap (λ (at : Standing). at.last) stands ∙ last_with old.at next in
+    let ended_is : has_ended new.at.last ≡ has_ended (kind next) = ap has_ended last_is in
+    let goes_on : has_ended old.at.last ≡ false = open_before old.at line is.none in
+    let front = front_joined bytes old.judged new.judged (omega (arith, cut.before)) in
+    let lines_are : lines (take new.judged bytes) ≡ lines (take old.judged bytes) ++ line ∷ [] =
+    ap lines front ∙ known.whole _ ∙ ap (λ ls. lines (take old.judged bytes) ++ ls) cut.single in
+    let then = add (draft_by false old closed bytes) line in
+    let same : (further : List (List ℕ)) → read_from new.at (draft_of new more bytes) further ≡ read_from (standing_behind old.at line) then further =
+    λ further. ap (λ b. read_from new.at (draft_by b new more bytes) further) ended_is ∙ ap (λ (d : Draft). read_from new.at d further) is.draft ∙ ap (λ (at : Standing). read_from at then further) is.stands in
+    record {
+      places = rw ended_is is.places;
+      fits = record { counted = is.fits.counted; small = is.fits.small; few = omega (arith, is.fits.few, known.fits.few, cut.before) };
+      whole = subst IsWholeLines (sym front) (whole_joined (take old.judged bytes) _ known.whole cut.whole);
+      stands = is.stands ∙ ap (λ (at : Standing). standing_behind at line) known.stands ∙ sym (standing_snoc (lines (take old.judged bytes)) line) ∙ ap standing (sym lines_are);
+      reads = λ further. ap (λ ls. read_all (ls ++ further)) lines_are ∙ ap read_all (append_assoc (lines (take old.judged bytes)) (line ∷ []) further) ∙ known.reads (line ∷ further)
+          ∙ ap (λ b. read_from old.at (draft_by b old closed bytes) (line ∷ further)) goes_on ∙ read_cons old.at (draft_by false old closed bytes) line further ∙ rw is.none refl ∙ sym (same further);
+      few = λ on. let few = few_forms old.at line old.latest.paid new.latest.paid next (clean old.at line is.none) is.says (is.sum (sym ended_is ∙ on)) is.bound (known.few goes_on) in rw last_is few;
+    }
+
+-- ---- a step of the loop
+
+pub places_with : (b ended : Bool) (notes : Notes) (at : Standing) (closed : List Place) (bytes : List ℕ) → ended ≡ b → HasPlaces ended notes closed bytes → HasPlaces b (record notes { at = at }) closed bytes
+places_with b ended notes at closed bytes is has = record {
+  within = has.within;
+  header = has.header;
+  trailer = has.trailer;
+  latest = has.latest;
+  whole = has.whole;
+  open_end = λ on. has.open_end (is ∙ on);
+  groups = has.groups;
+}
+
+-- what was in a list first is still first
+pub kept_on : (first now new : List Place) → take (length first) now ≡ first → take (length now) new ≡ now → take (length first) new ≡ first
+kept_on first now new kept still =
+    let whole : now ++ drop (length now) new ≡ new = ap (λ (xs : List Place). xs ++ drop (length now) new) (sym still) ∙ take-append-drop (length now) new in
+    let few : length first ≤ length now = omega (arith, length-take (length first) now, ap length kept) in
+    ap (take (length first)) (sym whole) ∙ take-append-le (length first) now (drop (length now) new) few ∙ kept
+
+pub few_small : (size forms : ℕ) → forms ≤ 3 → size ≤ forms * 10 ^ 11 → size ≤ 3 * 10 ^ 11
+few_small size forms most few = omega arith

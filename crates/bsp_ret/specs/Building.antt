@@ -1,5 +1,8 @@
 -- What the reader holds of a file that it has read to a place.
 use Rattle.std.specs.Prelude.{◌≡◌, ◌<◌, ℕ, ℤ, pos, ◌+ℤ◌, List, length}
+use Rattle.bsp_ret_records.specs.declared.codes.FormOfPayment.TheVariants.{Cash, Credit, Exchange}
+use Rattle.bsp_ret.specs.declared.model.LastRecord.{LastRecord}
+use Rattle.bsp_ret.specs.declared.model.LastRecord.TheVariants as last
 use Rattle.bsp_ret.specs.declared.model.Record.{Record}
 use Rattle.bsp_ret.specs.declared.model.Record.TheVariants as said
 use Rattle.bsp_ret.specs.Table.{total_paid}
@@ -38,3 +41,10 @@ paid_with sum begins = pos 0
 -- the sum is that of the text from the last group on, up to the rest
 abbrev pub HasPaidTo : ℤ → List ℕ → List ℕ → Type 0
 HasPaidTo sum latest rest = sum ≡ total_paid (lines (before_rest latest rest))
+
+-- the most forms that a group has up to this record
+abbrev pub forms_up_to : LastRecord → ℕ
+forms_up_to (last.Form Cash) = 1
+forms_up_to (last.Form Credit) = 2
+forms_up_to (last.Form Exchange) = 3
+forms_up_to _ = 0

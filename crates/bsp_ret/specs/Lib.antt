@@ -6,6 +6,7 @@ pub mod Ret
 pub mod Law
 pub mod Reading
 pub mod Building
+pub mod Notes
 pub mod Pieces
 pub mod Groups
 pub mod Content

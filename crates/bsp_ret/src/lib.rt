@@ -7,6 +7,7 @@ mod fields;
 mod file;
 mod judge;
 mod model;
+mod notes;
 mod pieces;
 mod reader;
 mod reading;

@@ -1,70 +1,97 @@
 //! Lines that are judged as their bytes come.
 
-ghost use Rattle.std.specs.Prelude.{◌≡◌, ◌+◌, ◌-◌, ◌^◌, [], true, false, Some, None, length, IfOk, IfErr};
-ghost use Rattle.bsp_records.specs.Lines.{lines, has_end};
-ghost use Rattle.bsp_ret.specs.Table.{has_ended};
-ghost use Rattle.bsp_ret.specs.Standings.{FitsIn, fault_behind};
-ghost use Rattle.bsp_ret.specs.Pieces.{Leaves, Fails};
+ghost use Rattle.std.specs.Prelude.{◌≡◌, ◌≤◌, ◌<◌, List, length, drop, take, false, Ok, Err, IfOk, IfErr, IfSome, IfNone, MatchResult};
+ghost use Rattle.bsp_records.specs.Lines.{lines, has_end, BeginsWithLine};
+ghost use Rattle.bsp_ret.specs.Standings.{FitsIn};
+ghost use Rattle.bsp_ret.specs.Reading.{read_all};
+ghost use Rattle.bsp_ret.specs.Notes.{IsNoted, IsNotedTo, IsFileNoted};
+ghost use Rattle.bsp_ret.specs.Pieces.{IsStop};
 
-use crate::judge::judge_line;
-use crate::model::{FaultCode, RetFault, Standing};
-use bsp_records::ended_line;
+use crate::model::{FaultCode, RetFault};
+use crate::notes::{Notes, Place, Span};
+use bsp_records::{ended_line, first_record};
 
-/// Judges the lines that have an end, and whether a line begins behind a trailer. Answers the state
-/// of the records then, and the bytes that are left.
-pub(crate) fn judge_lines(at: Standing, bytes: &[u8]) -> Result<(Standing, &[u8]), RetFault>
-    requires { FitsIn at (2 ^ 63 - length bytes.now) }
-    ensures left { IfOk result (λ x. Leaves at bytes.now x.0 x.1.now) }
-    ensures fits { IfOk result (λ x. FitsIn x.0 (at.records + (length bytes.now - length x.1.now))) }
-    ensures unended { IfOk result (λ x. has_end x.1.now ≡ false) }
-    ensures ended { IfOk result (λ x. has_ended x.0.last ≡ true → x.1.now ≡ []) }
-    ensures fault { IfErr result (λ e. Fails at bytes.now e) }
+/// Why lines are not judged on.
+#[derive(Clone, Copy)]
+pub(crate) enum Stop {
+    /// An allocation was refused.
+    Memory,
+    /// A line is at fault.
+    Fault(RetFault),
+}
+
+/// The first line that has an end, and the bytes behind that end. Whole records are tried first.
+#[inline(always)]
+fn next_line(bytes: &[u8]) -> Option<(&[u8], &[u8])>
+    ensures some { IfSome result (λ x. BeginsWithLine bytes.now x.0.now x.1.now) }
+    ensures none { IfNone result (has_end bytes.now ≡ false) }
 {
-    let mut now = at;
-    let mut rest = bytes;
-    while let Some((line, after)) = ended_line(rest) {
-        match judge_line(now, line) {
-            Ok(next) => now = now.with(&next),
-            Err(code) => return Err(now.fault(code)),
+    if bytes.len() > 136 {
+        if let Some((line, after)) = first_record(bytes) {
+            if line.len() + after.len() < bytes.len() {
+                return Some((line, after));
+            }
         }
-        rest = after;
     }
-    if now.last.has_ended() && !rest.is_empty() {
-        return Err(now.fault(FaultCode::F09));
-    }
-    Ok((now, rest))
+    ended_line(bytes)
 }
 
-/// Judges a last line without an end, if there is one. Answers the state of the records then.
-fn judge_last(at: Standing, rest: &[u8]) -> Result<Standing, RetFault>
-    requires fits { FitsIn at (2 ^ 63 - length rest.now) }
-    requires unended { has_end rest.now ≡ false }
-    ensures judged { IfOk result (λ then. fault_behind at (lines rest.now) ≡ fault_behind then []) }
-    ensures records { IfOk result (λ then. then.records ≡ at.records + length (lines rest.now)) }
-    ensures fits { IfOk result (λ then. FitsIn then (at.records + length rest.now)) }
-    ensures fault { IfErr result (λ e. fault_behind at (lines rest.now) ≡ Some e) }
+/// Judges and notes the lines that have an end, and whether a line begins behind a trailer.
+pub(crate) fn judge_lines(
+    notes: Notes,
+    closed: &mut Vec<Place>,
+    bytes: &[u8],
+) -> Result<Notes, Stop>
+    requires { IsNoted notes closed.old.items bytes.now }
+    ensures ok { IfOk result (λ now. IsNotedTo now closed.new.items bytes.now) }
+    ensures kept { take (length closed.old.items) closed.new.items ≡ closed.old.items }
+    ensures stop { IfErr result (λ stop. IsStop bytes.now stop) }
 {
+    let mut now = notes;
+    while let Some((line, after)) = next_line(&bytes[now.judged..]) {
+        let next = match now.at.step(line) {
+            Ok(next) => next,
+            Err(code) => return Err(Stop::Fault(now.at.fault(code))),
+        };
+        let Ok(()) = now.add(closed, &next, bytes, line, after) else {
+            return Err(Stop::Memory);
+        };
+    }
+    if now.at.last.has_ended() && now.judged < bytes.len() {
+        return Err(Stop::Fault(now.at.fault(FaultCode::F09)));
+    }
+    Ok(now)
+}
+
+/// Judges and notes the bytes that are left when no more come.
+pub(crate) fn judge_rest(notes: Notes, bytes: &[u8]) -> Result<Notes, RetFault>
+    requires fits { FitsIn notes.at notes.judged }
+    requires within { notes.judged ≤ length bytes.now }
+    ensures ok { (closed : List Place) → IsNotedTo notes closed bytes.now → IfOk result (λ now. IsFileNoted now closed bytes.now) }
+    ensures fault { (closed : List Place) → IsNotedTo notes closed bytes.now → IfErr result (λ fault. read_all (lines bytes.now) ≡ Err fault) }
+{
+    let rest = &bytes[notes.judged..];
     if rest.is_empty() {
-        return Ok(at);
+        return if notes.at.last.has_ended() {
+            Ok(notes)
+        } else {
+            Err(notes.at.fault(FaultCode::F08))
+        };
     }
-    match judge_line(at, rest) {
-        Ok(next) => Ok(at.with(&next)),
-        Err(code) => Err(at.fault(code)),
+    let mut at = notes.at;
+    if let Err(code) = at.step(rest) {
+        return Err(notes.at.fault(code));
     }
-}
-
-/// Judges the bytes that are left when no more come. Answers the state of the records then.
-pub(crate) fn judge_rest(at: Standing, rest: &[u8]) -> Result<Standing, RetFault>
-    requires fits { FitsIn at (2 ^ 63 - length rest.now) }
-    requires unended { has_end rest.now ≡ false }
-    ensures none { IfOk result (λ then. fault_behind at (lines rest.now) ≡ None) }
-    ensures records { IfOk result (λ then. then.records ≡ at.records + length (lines rest.now)) }
-    ensures fits { IfOk result (λ then. FitsIn then (at.records + length rest.now)) }
-    ensures fault { IfErr result (λ e. fault_behind at (lines rest.now) ≡ Some e) }
-{
-    match judge_last(at, rest) {
-        Ok(then) if then.last.has_ended() => Ok(then),
-        Ok(then) => Err(then.fault(FaultCode::F08)),
-        Err(fault) => Err(fault),
+    if !at.last.has_ended() {
+        return Err(at.fault(FaultCode::F08));
     }
+    Ok(Notes {
+        judged: bytes.len(),
+        at,
+        trailer: Span {
+            from: notes.judged,
+            to: bytes.len(),
+        },
+        ..notes
+    })
 }

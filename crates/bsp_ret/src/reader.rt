@@ -4,37 +4,36 @@ ghost use Rattle.std.specs.Prelude.{◌≡◌, ◌⊎◌, [], ◌++◌, Ok, Err,
 ghost use Rattle.bsp_records.specs.Lines.{lines};
 ghost use Rattle.bsp_ret.specs.Table.{first_fault};
 ghost use Rattle.bsp_ret.specs.Ret.{File, Ret};
-ghost use Rattle.bsp_ret.specs.Reading.{no_memory};
+ghost use Rattle.bsp_ret.specs.Reading.{read_all, no_memory};
 ghost use Rattle.bsp_ret.specs.Pieces.{Fed, IsFinal, IsClearSoFar, fault_at_end};
 
+use crate::building::Building;
 use crate::file::RetFile;
-use crate::model::{FaultCode, Progress, RetFault, Standing};
-use crate::pieces::{judge_lines, judge_rest};
-use crate::reading::read_ret;
+use crate::model::{FaultCode, Progress, RetFault};
+use crate::notes::{Notes, Place, groups};
+use crate::pieces::{Stop, judge_lines, judge_rest};
 use std::alloc::Global;
 use std::marker::Model;
 
-/// A reader of a RET file whose bytes come in pieces. It keeps one copy of the bytes. A contract
-/// sees the bytes that came and how far the reader is.
+/// A reader of a RET file whose bytes come in pieces. It keeps one copy of the bytes, and notes where
+/// their records are. A contract sees the bytes that came and how far the reader is.
 #[derive(Drop)]
 pub struct RetReader {
     alloc: Global,
     bytes: Vec<u8>,
-    judged: usize,
-    at: Standing,
+    notes: Notes,
+    closed: Vec<Place>,
     progress: Progress,
 }
 
 impl Model for RetReader {
-    ghost use Rattle.std.specs.Prelude.{drop, length, ◌≤◌};
-    ghost use Rattle.bsp_ret.specs.Standings.{FitsIn};
     ghost use Rattle.bsp_ret.specs.Pieces.{Fed, IsKnown};
 
     ghost Value = { Fed };
 
     ghost view = { λ r. record { bytes = r.bytes.items; progress = r.progress } };
 
-    ghost invariant = { λ r. (r.judged ≤ length r.bytes.items) × FitsIn r.at r.judged × IsKnown r.progress r.at r.bytes.items (drop r.judged r.bytes.items) };
+    ghost invariant = { λ r. IsKnown r.progress r.notes r.closed.items r.bytes.items };
 }
 
 impl RetReader {
@@ -45,8 +44,8 @@ impl RetReader {
         RetReader {
             alloc,
             bytes: Vec::new(alloc),
-            judged: 0,
-            at: Standing::start(),
+            notes: Notes::new(),
+            closed: Vec::new(alloc),
             progress: Progress::Reading,
         }
     }
@@ -73,17 +72,25 @@ impl RetReader {
             Progress::Ended => return self.feed_behind(piece),
             Progress::Reading => {}
         }
+        let came = self.bytes.len();
+        let count = self.closed.len();
         self.bytes.extend_from_slice(piece)?;
-        let (_, rest) = self.bytes.split_at(self.judged);
-        match judge_lines(self.at, rest) {
-            Ok((at, left)) => {
-                self.judged = self.bytes.len() - left.len();
-                self.at = at;
+        match judge_lines(self.notes, &mut self.closed, &self.bytes) {
+            Ok(notes) => {
+                self.notes = notes;
                 Ok(())
             }
-            Err(fault) => {
+            Err(Stop::Fault(fault)) => {
                 self.progress = Progress::Failed(fault);
                 Err(fault)
+            }
+            Err(Stop::Memory) => {
+                self.bytes.truncate(came);
+                self.closed.truncate(count);
+                Err(RetFault {
+                    code: FaultCode::F10,
+                    at: 0,
+                })
             }
         }
     }
@@ -98,7 +105,7 @@ impl RetReader {
         if piece.is_empty() {
             return Ok(());
         }
-        let fault = self.at.fault(FaultCode::F09);
+        let fault = self.notes.at.fault(FaultCode::F09);
         self.progress = Progress::Failed(fault);
         Err(fault)
     }
@@ -121,18 +128,17 @@ impl RetReader {
             Progress::Ended => return Ok(()),
             Progress::Reading => {}
         }
-        let (_, rest) = self.bytes.split_at(self.judged);
-        let at = match judge_rest(self.at, rest) {
-            Ok(at) => at,
+        match judge_rest(self.notes, &self.bytes) {
+            Ok(notes) => {
+                self.notes = notes;
+                self.progress = Progress::Ended;
+                Ok(())
+            }
             Err(fault) => {
                 self.progress = Progress::Failed(fault);
-                return Err(fault);
+                Err(fault)
             }
-        };
-        self.at = at;
-        self.judged = self.bytes.len();
-        self.progress = Progress::Ended;
-        Ok(())
+        }
     }
 
     /// The file, the one that `read_ret` gives of all bytes fed. Another call gives it again.
@@ -151,8 +157,31 @@ impl RetReader {
         match self.progress {
             Progress::Failed(fault) => Err(fault),
             Progress::Reading => Err(self.unended()),
-            Progress::Ended => read_ret(self.alloc, &self.bytes),
+            Progress::Ended => self.noted(),
         }
+    }
+
+    /// The file that is noted.
+    fn noted(&self) -> Result<RetFile<'_>, RetFault>
+        requires { self.now.progress ≡ Progress.Ended }
+        ensures file { IfOk result (λ file. read_all (lines self.now.bytes) ≡ Ok file) }
+        ensures read { IfErr result (λ fault. (file : File) × (read_all (lines self.now.bytes) ≡ Ok file)) }
+        ensures fault { IfErr result (λ fault. fault ≡ no_memory) }
+    {
+        let Notes {
+            header,
+            latest,
+            trailer,
+            ..
+        } = self.notes;
+        let closed = groups(self.alloc, &self.bytes, &self.closed, latest)?;
+        Ok(RetFile::of(Building {
+            header: &self.bytes[header.from..header.to],
+            closed,
+            latest: &[],
+            paid: 0,
+            trailer: &self.bytes[trailer.from..trailer.to],
+        }))
     }
 
     /// The fault of a text that has not ended: its trailer lacks.
@@ -160,13 +189,13 @@ impl RetReader {
         requires { self.now.progress ≡ Progress.Reading }
         ensures { result ≡ fault_at_end FaultCode.F08 self.now.bytes }
     {
-        let (_, rest) = self.bytes.split_at(self.judged);
-        if rest.is_empty() {
-            return self.at.fault(FaultCode::F08);
+        let Notes { judged, at, .. } = self.notes;
+        if judged == self.bytes.len() {
+            return at.fault(FaultCode::F08);
         }
         RetFault {
             code: FaultCode::F08,
-            at: self.at.records + 2,
+            at: at.records + 2,
         }
     }
 }

@@ -1,38 +1,53 @@
-use Rattle.std.proofs.Common.{◌∙◌, sym, ap, arith}
-use Rattle.bsp_ret.specs.Standings.{standing_with}
-use Rattle.bsp_ret.proofs.PieceLemmas.{leaves_all, leaves_more, fails_at_line, fails_behind}
+use Rattle.std.proofs.Common.{◌≡◌, ◌-◌, ◌+◌, ◌∙◌, length, drop, refl, sym, ap}
+use Rattle.std.proofs.lemmas.List.{take_rest}
+use Rattle.bsp_ret.specs.declared.model.Standing.{Standing}
+use Rattle.bsp_records.specs.Lines.{BeginsWithLine}
+use Rattle.bsp_ret.specs.Building.{forms_up_to}
+use Rattle.bsp_ret.proofs.FewForms.{three_forms}
+use Rattle.bsp_ret.proofs.NoteLemmas.{one_next}
+use Rattle.bsp_ret.proofs.PieceLemmas.{fails_at_line, fails_behind, open_before, places_with, kept_on, few_small, noted_more}
 use Rattle.bsp_ret.proofs.pieces.judge_lines.Goals as goal
 
-pub loop-line-init : goal.loop-line-init
-loop-line-init c = record {
-  left = leaves_all c.args.at c.args.bytes.now;
-  fits = record { counted = c.requires.counted; small = c.requires.small; few = omega arith };
-}
-
-pub returns-in-Err-clause-fault : goal.returns-in-Err-clause-fault
-returns-in-Err-clause-fault c =
+pub returns-in-Err-clause-stop : goal.returns-in-Err-clause-stop
+returns-in-Err-clause-stop c =
     let l = c.loop-line in
-    rw c.fault.ensures (fails_at_line c.args.at l.now c.args.bytes.now l.rest.now c.in-Some.line.now c.in-Some.after.now c.in-Err.code l.invariant.left c.in-Some.ensures.some c.in-Err.ensures.fault)
+    let begins = rw (take_rest c.args.bytes.now l.now.judged) at c.in-Some.ensures.some in
+    rw (c.fault.ensures, c.in-Err.ensures.same) (fails_at_line l.now l.closed.items c.args.bytes.now c.in-Some.line.now c.in-Some.after.now c.in-Err.code l.invariant.noted begins c.in-Err.ensures.fault)
+
+pub add-requires-clause-places : goal.add-requires-clause-places
+add-requires-clause-places c =
+    let l = c.loop-line in
+    places_with _ _ l.now c.step.new.self l.closed.items c.args.bytes.now (open_before l.now.at c.in-Some.line.now c.in-Ok.ensures.row) l.invariant.noted.places
+
+pub add-requires-clause-small : goal.add-requires-clause-small
+add-requires-clause-small c =
+    let l = c.loop-line in
+    few_small _ (forms_up_to l.now.at.last) (three_forms l.now.at.last) (l.invariant.noted.few (open_before l.now.at c.in-Some.line.now c.in-Ok.ensures.row))
 
 pub loop-line-preserved : goal.loop-line-preserved
 loop-line-preserved c =
     let l = c.loop-line in
     let line = c.in-Some.line.now in
     let after = c.in-Some.after.now in
-    let then = c.with-now.result in
-    let stands = c.with-now.ensures.standing ∙ ap (standing_with l.now) c.in-Ok.ensures.says in
-    let one_more = c.with-now.ensures.records in
-    let begins = c.in-Some.ensures.some in
+    let added = c.in-Ok-add.ensures in
+    let begins = rw (take_rest c.args.bytes.now l.now.judged) at c.in-Some.ensures.some in
+    let next = one_next c.args.bytes.now l.now.judged line after l.invariant.noted.places.within begins in
     record {
-      left = leaves_more c.args.at l.now then c.args.bytes.now l.rest.now line after l.invariant.left begins c.in-Ok.ensures.row stands;
-      fits = record {
-        counted = c.with-now.ensures.counted;
-        small = c.with-now.ensures.small;
-        few = omega (arith, one_more, begins.shorter, l.invariant.fits.few, l.invariant.left.rest_is.short);
-      };
+      noted = noted_more l.now c.add.new.self l.closed.items c.add.new.closed.items c.args.bytes.now line after c.in-Ok.next l.invariant.noted (rw added.judged next)
+          record {
+            none = c.in-Ok.ensures.row;
+            says = c.in-Ok.ensures.says;
+            stands = added.at ∙ c.in-Ok.ensures.state;
+            fits = rw added.at c.in-Ok.ensures.fits;
+            draft = added.draft;
+            places = added.places;
+            sum = added.sum;
+            bound = added.bound;
+          };
+      kept = kept_on c.args.closed.now.items l.closed.items c.add.new.closed.items l.invariant.kept added.kept;
     }
 
-pub returns-then-not-is_empty-clause-fault : goal.returns-then-not-is_empty-clause-fault
-returns-then-not-is_empty-clause-fault c =
+pub returns-then-now-bytes-clause-stop : goal.returns-then-now-bytes-clause-stop
+returns-then-now-bytes-clause-stop c =
     let l = c.loop-line in
-    rw c.fault-then-not-is_empty.ensures (fails_behind c.args.at l.now c.args.bytes.now l.rest.now l.invariant.left (sym c.has_ended.ensures ∙ c.if-has_ended.true) (sym c.is_empty.ensures ∙ c.if-not-is_empty.true))
+    rw c.fault-then-now-bytes.ensures (fails_behind l.now l.closed.items c.args.bytes.now l.invariant.noted (sym c.has_ended.ensures ∙ c.if-has_ended.true) c.if-now-bytes.true)

@@ -8,9 +8,9 @@ use Rattle.bsp_records.proofs.RestLemmas.{lines_empty}
 use Rattle.bsp_ret.specs.Standings.{standing_with}
 use Rattle.bsp_ret.specs.Table.{kind}
 use Rattle.bsp_ret.specs.Reading.{read_all}
-use Rattle.bsp_ret.specs.Building.{draft_of}
+use Rattle.bsp_ret.specs.Building.{draft_of, forms_up_to}
 use Rattle.bsp_ret.proofs.Rows.{clean}
-use Rattle.bsp_ret.proofs.FewForms.{forms_up_to, few_forms, three_forms, kind_with}
+use Rattle.bsp_ret.proofs.FewForms.{few_forms, three_forms, kind_with}
 use Rattle.bsp_ret.proofs.LoopLemmas.{goes_on, fails, ends, lacks, fails_ended, fails_narrow}
 use Rattle.bsp_ret.proofs.reading.read.Goals as goal
 

@@ -1,8 +1,7 @@
 use Rattle.std.proofs.Common.{◌≡◌, ◌≤◌, ◌+◌, ◌*◌, ◌^◌, length, unsigned_abs}
 use Rattle.bsp_records.specs.Lines.{lines}
 use Rattle.bsp_ret.specs.Reading.{read_from, read_all}
-use Rattle.bsp_ret.specs.Building.{draft_of, IsReadTo, HasPaidTo}
-use Rattle.bsp_ret.proofs.FewForms.{forms_up_to}
+use Rattle.bsp_ret.specs.Building.{draft_of, IsReadTo, HasPaidTo, forms_up_to}
 use Rattle.bsp_ret.proofs.reading.read.Given as goal
 
 abbrev pub invariant-loop-rest : goal.invariant-loop-rest
