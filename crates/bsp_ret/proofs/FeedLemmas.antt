@@ -10,6 +10,8 @@ use Rattle.bsp_ret.specs.declared.model.RetFault.{RetFault}
 use Rattle.bsp_ret.specs.declared.model.Record.{Record}
 use Rattle.bsp_ret.specs.declared.model.Record.TheVariants as said
 use Rattle.bsp_ret.specs.declared.model.Standing.{Standing}
+use Rattle.bsp_ret.specs.declared.model.Progress.{Progress}
+use Rattle.bsp_ret.specs.declared.model.Progress.TheVariants.{Reading, Ended, Failed}
 use Rattle.bsp_ret.specs.declared.notes.Notes.{Notes}
 use Rattle.bsp_ret.specs.declared.notes.Place.{Place}
 use Rattle.bsp_records.specs.Lines.{lines, has_end, IsWholeLines}
@@ -18,6 +20,7 @@ use Rattle.bsp_ret.specs.Table.{kind, has_ended, row_fault}
 use Rattle.bsp_ret.specs.Standings.{standing_behind, FitsIn}
 use Rattle.bsp_ret.specs.Reading.{Draft, add, read_from, read_all}
 use Rattle.bsp_ret.specs.Notes.{bytes_of, draft_by, draft_of, HasPlaces, IsNoted, IsNotedTo, IsFileNoted}
+use Rattle.bsp_ret.specs.Pieces.{IsKnown}
 use Rattle.bsp_records.proofs.CutLemmas.{lines_last}
 use Rattle.bsp_records.proofs.RestLemmas.{lines_empty}
 use Rattle.bsp_ret.proofs.LoopLemmas.{goes_on, fails, ends, lacks}
@@ -178,3 +181,15 @@ last_trailer notes new closed bytes known some none stands fits ended header lat
       count = ap (λ (at : Standing). at.records) stands ∙ records_with notes.at (record_in line) ∙ sym (came_some notes closed bytes known some);
       read = ends new.at (draft_by true new closed bytes) [] (read_all (lines bytes)) refl ended so_far;
     }
+
+-- ---- how far a reader is
+
+pub known_reading : (p : Progress) (notes : Notes) (closed : List Place) (bytes : List ℕ) → p ≡ Reading → IsKnown p notes closed bytes → IsNotedTo notes closed bytes
+known_reading Reading notes closed bytes is known = known
+known_reading Ended notes closed bytes is known = absurd (cc is)
+known_reading (Failed fault) notes closed bytes is known = absurd (cc is)
+
+pub known_ended : (p : Progress) (notes : Notes) (closed : List Place) (bytes : List ℕ) → p ≡ Ended → IsKnown p notes closed bytes → IsFileNoted notes closed bytes
+known_ended Ended notes closed bytes is known = known
+known_ended Reading notes closed bytes is known = absurd (cc is)
+known_ended (Failed fault) notes closed bytes is known = absurd (cc is)

@@ -165,7 +165,6 @@ impl RetReader {
     fn noted(&self) -> Result<RetFile<'_>, RetFault>
         requires { self.now.progress ≡ Progress.Ended }
         ensures file { IfOk result (λ file. read_all (lines self.now.bytes) ≡ Ok file) }
-        ensures read { IfErr result (λ fault. (file : File) × (read_all (lines self.now.bytes) ≡ Ok file)) }
         ensures fault { IfErr result (λ fault. fault ≡ no_memory) }
     {
         let Notes {
