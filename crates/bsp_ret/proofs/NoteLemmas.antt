@@ -1,11 +1,11 @@
 -- The places of a text's records.
-use Rattle.std.proofs.Common.{◌≡◌, ℕ, ℤ, pos, ◌+ℤ◌, ◌+◌, ◌-◌, ◌<◌, ◌≤◌, Bool, true, false, List, [], ◌∷◌, ◌++◌, length, map, take, drop, refl, sym, ap, subst, ◌∙◌, inl, inr, arith, length-drop}
+use Rattle.std.proofs.Common.{◌≡◌, ℕ, ℤ, pos, ◌+ℤ◌, ◌+◌, ◌-◌, ◌<◌, ◌≤◌, Bool, true, false, List, [], ◌∷◌, ◌++◌, length, take, drop, refl, sym, ap, subst, ◌∙◌, inl, inr, arith, length-drop}
 use Rattle.std.specs.Prelude.{◌==◌, ◌&&◌}
 use Rattle.std.specs.List.{slice_range}
 use Rattle.std.proofs.lemmas.Bool.{cases_Bool, and_parts}
 use Rattle.std.proofs.lemmas.List.{map-append, take-append-le, drop-append-le, drop-drop, length-take, length-take-le}
 use Rattle.std.proofs.Math.Seq.{take-add}
-use Rattle.bsp_records.specs.Lines.{with_first, begins_with, lines, IsRest, before_rest, IsWholeLines, BeginsWithLine}
+use Rattle.bsp_records.specs.Lines.{with_first, begins_with, lines, before_rest, IsWholeLines, BeginsWithLine}
 use Rattle.bsp_records.proofs.CutLemmas.{lines_nil, first_ended}
 use Rattle.bsp_records.proofs.RestLemmas.{whole_nothing, whole_joined, whole_cut, cut_alone}
 use Rattle.bsp_ret.specs.declared.notes.Notes.{Notes}

@@ -1,31 +1,31 @@
 -- A text that is judged and noted to a place.
-use Rattle.std.proofs.Common.{◌≡◌, ℕ, ℤ, ◌+◌, ◌-◌, ◌*◌, ◌^◌, ◌<◌, ◌≤◌, Bool, true, false, List, [], ◌∷◌, ◌++◌, length, take, drop, Some, None, Ok, Err, refl, sym, ap, subst, ◌∙◌, inl, inr, arith, append_assoc, length-append, length-drop}
-use Rattle.std.specs.Prelude.{◌==◌, unsigned_abs}
+use Rattle.std.proofs.Common.{◌≡◌, ℕ, ◌+◌, ◌-◌, ◌*◌, ◌^◌, ◌<◌, ◌≤◌, Bool, true, false, List, [], ◌∷◌, ◌++◌, length, take, drop, Some, Ok, Err, refl, sym, ap, subst, ◌∙◌, inl, inr, arith, append_assoc, length-drop}
+use Rattle.std.specs.Prelude.{unsigned_abs}
 use Rattle.std.proofs.lemmas.Bool.{cases_Bool}
-use Rattle.std.proofs.lemmas.List.{append-nil, take-append-drop, take-append-le, length-take, drop_all}
+use Rattle.std.proofs.lemmas.List.{take-append-drop, take-append-le, length-take, drop_all}
 use Rattle.bsp_ret.specs.declared.model.FaultCode.{FaultCode}
-use Rattle.bsp_ret.specs.declared.model.FaultCode.TheVariants.{F08, F09}
+use Rattle.bsp_ret.specs.declared.model.FaultCode.TheVariants.{F09}
 use Rattle.bsp_ret.specs.declared.model.Record.{Record}
 use Rattle.bsp_ret.specs.declared.model.Record.TheVariants as said
 use Rattle.bsp_ret.specs.declared.model.Standing.{Standing}
 use Rattle.bsp_ret.specs.declared.notes.Notes.{Notes}
 use Rattle.bsp_ret.specs.declared.notes.Place.{Place}
-use Rattle.bsp_records.specs.Lines.{lines, has_end, before_rest, IsWholeLines, BeginsWithLine}
+use Rattle.bsp_records.specs.Lines.{lines, before_rest, IsWholeLines, BeginsWithLine}
 use Rattle.bsp_ret.specs.Said.{record_in}
 use Rattle.bsp_ret.specs.Table.{kind, standing, has_ended, row_fault, first_fault}
 use Rattle.bsp_ret.specs.Standings.{standing_with, standing_behind, fault_behind, FitsIn}
 use Rattle.bsp_ret.specs.Reading.{Draft, add, read_from, read_all}
-use Rattle.bsp_ret.specs.Building.{paid_with, forms_up_to}
+use Rattle.bsp_ret.specs.Building.{paid_with}
 use Rattle.bsp_ret.specs.Notes.{no_notes, draft_by, draft_of, HasPlaces, IsNoted, IsNotedTo}
 use Rattle.bsp_ret.specs.Pieces.{IsFinal, IsClearSoFar}
-use Rattle.bsp_records.proofs.CutLemmas.{lines_nil, lines_last, some_lines, IsRest-drop}
-use Rattle.bsp_records.proofs.RestLemmas.{whole_nothing, whole_joined, lines_empty}
+use Rattle.bsp_records.proofs.CutLemmas.{lines_nil, some_lines, IsRest-drop}
+use Rattle.bsp_records.proofs.RestLemmas.{whole_nothing, whole_joined}
 use Rattle.bsp_ret.proofs.Rows.{clean}
 use Rattle.bsp_ret.proofs.Steps.{standing_snoc, read_cons}
 use Rattle.bsp_ret.proofs.LawLemmas.{fault_of, behind_cons, read_behind, read_is_fault}
 use Rattle.bsp_ret.proofs.SaidLemmas.{ended_row}
 use Rattle.bsp_ret.proofs.FewForms.{few_forms}
-use Rattle.bsp_ret.proofs.NoteLemmas.{front_joined, part_grown, lines_grown, place_grown, places_grown, groups_grown, IsNext}
+use Rattle.bsp_ret.proofs.NoteLemmas.{front_joined, IsNext}
 
 -- ---- nothing came
 

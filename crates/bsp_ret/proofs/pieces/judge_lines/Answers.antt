@@ -1,7 +1,5 @@
-use Rattle.std.proofs.Common.{◌≡◌, ◌-◌, ◌+◌, ◌∙◌, length, drop, refl, sym, ap}
+use Rattle.std.proofs.Common.{◌∙◌, sym}
 use Rattle.std.proofs.lemmas.List.{take_rest}
-use Rattle.bsp_ret.specs.declared.model.Standing.{Standing}
-use Rattle.bsp_records.specs.Lines.{BeginsWithLine}
 use Rattle.bsp_ret.specs.Building.{forms_up_to}
 use Rattle.bsp_ret.proofs.FewForms.{three_forms}
 use Rattle.bsp_ret.proofs.NoteLemmas.{one_next}

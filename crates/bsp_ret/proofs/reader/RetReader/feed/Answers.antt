@@ -1,4 +1,4 @@
-use Rattle.std.proofs.Common.{◌≡◌, ◌∙◌, List, ℕ, refl, sym, ap}
+use Rattle.std.proofs.Common.{◌≡◌, refl, ap}
 use Rattle.bsp_ret.specs.Pieces.{Fed}
 use Rattle.bsp_ret.proofs.PieceLemmas.{clear_so_far}
 use Rattle.bsp_ret.proofs.FeedLemmas.{known_reading, noted_on}

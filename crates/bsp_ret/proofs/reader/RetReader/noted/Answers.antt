@@ -1,4 +1,4 @@
-use Rattle.std.proofs.Common.{◌≡◌, ◌∙◌, Ok, length, sym, ap}
+use Rattle.std.proofs.Common.{◌∙◌, length, ap}
 use Rattle.bsp_records.specs.Lines.{lines}
 use Rattle.bsp_ret.specs.Pieces.{Fed}
 use Rattle.bsp_ret.specs.Notes.{IsFileNoted, file_of}

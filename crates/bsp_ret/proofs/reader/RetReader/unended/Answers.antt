@@ -1,4 +1,4 @@
-use Rattle.std.proofs.Common.{◌≡◌, ◌+◌, ◌<◌, ◌∙◌, List, ℕ, length, refl, sym, ap, arith}
+use Rattle.std.proofs.Common.{◌≡◌, ◌+◌, ◌<◌, ◌∙◌, List, ℕ, length, refl, ap, arith}
 use Rattle.bsp_ret.specs.declared.model.FaultCode.TheVariants.{F08}
 use Rattle.bsp_ret.specs.declared.model.RetFault.{RetFault}
 use Rattle.bsp_records.specs.Lines.{lines}
