@@ -10,7 +10,6 @@ ghost use Rattle.bsp_ret_records.specs.Values.{IsSale};
 ghost use Rattle.bsp_ret.specs.Sales.{HasSale};
 ghost use Rattle.bsp_ret.specs.Groups.{records_of, sale_alone, with_records, HasRecords};
 
-use crate::building::Building;
 use crate::fields::{GroupFields, HeaderFields, TrailerFields};
 use crate::records::Records;
 use bsp_fields::Total;
@@ -94,20 +93,23 @@ impl<'a> Group<'a> {
 }
 
 impl<'a> RetFile<'a> {
-    ghost use Rattle.bsp_ret.specs.Building.{file_of};
     ghost use Rattle.bsp_ret.specs.Ret.{HasLines, flatten, file_lines};
     ghost use Rattle.bsp_ret.specs.Table.{total_paid};
     ghost use Rattle.bsp_ret.specs.Slices.{IsHeaderOf, IsTrailerOf, HasFields};
 
-    /// The file of what was read to the end.
-    pub(crate) fn of(building: Building<'a>) -> RetFile<'a>
-        requires { HasLines (file_of building) }
-        ensures { result ≡ file_of building.entry }
+    /// The file of these parts.
+    pub(crate) fn of(
+        header: &'a [u8],
+        groups: Vec<Group<'a>>,
+        trailer: &'a [u8],
+    ) -> RetFile<'a>
+        requires { HasLines (record { header = header.now; groups = groups.items; trailer = trailer.now }) }
+        ensures { result ≡ record { header = header.now; groups = groups.entry.items; trailer = trailer.now } }
     {
         RetFile {
-            header: building.header,
-            groups: building.closed,
-            trailer: building.trailer,
+            header,
+            groups,
+            trailer,
         }
     }
 

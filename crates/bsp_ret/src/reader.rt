@@ -7,7 +7,6 @@ ghost use Rattle.bsp_ret.specs.Ret.{File, Ret};
 ghost use Rattle.bsp_ret.specs.Reading.{read_all, no_memory};
 ghost use Rattle.bsp_ret.specs.Pieces.{Fed, IsFinal, IsClearSoFar, fault_at_end};
 
-use crate::building::Building;
 use crate::file::RetFile;
 use crate::model::{FaultCode, Progress, RetFault};
 use crate::notes::{Notes, Place, groups};
@@ -128,17 +127,16 @@ impl RetReader {
             Progress::Ended => return Ok(()),
             Progress::Reading => {}
         }
-        match judge_rest(self.notes, &self.bytes) {
-            Ok(notes) => {
-                self.notes = notes;
-                self.progress = Progress::Ended;
-                Ok(())
-            }
+        let notes = match judge_rest(self.notes, &self.bytes) {
+            Ok(notes) => notes,
             Err(fault) => {
                 self.progress = Progress::Failed(fault);
-                Err(fault)
+                return Err(fault);
             }
-        }
+        };
+        self.notes = notes;
+        self.progress = Progress::Ended;
+        Ok(())
     }
 
     /// The file, the one that `read_ret` gives of all bytes fed. Another call gives it again.
@@ -174,13 +172,11 @@ impl RetReader {
             ..
         } = self.notes;
         let closed = groups(self.alloc, &self.bytes, &self.closed, latest)?;
-        Ok(RetFile::of(Building {
-            header: &self.bytes[header.from..header.to],
+        Ok(RetFile::of(
+            &self.bytes[header.from..header.to],
             closed,
-            latest: &[],
-            paid: 0,
-            trailer: &self.bytes[trailer.from..trailer.to],
-        }))
+            &self.bytes[trailer.from..trailer.to],
+        ))
     }
 
     /// The fault of a text that has not ended: its trailer lacks.

@@ -6,8 +6,8 @@ use Rattle.bsp_ret.proofs.LawLemmas.{fault_of, read_is_fault}
 use Rattle.bsp_ret.proofs.FeedLemmas.{known_reading}
 use Rattle.bsp_ret.proofs.reader.RetReader.finish.Goals as goal
 
-pub returns-in-Ok-clause-reading : goal.returns-in-Ok-clause-reading
-returns-in-Ok-clause-reading c = λ reading.
+pub returns-clause-reading : goal.returns-clause-reading
+returns-clause-reading c = λ reading.
     let r = c.self.inside in
     let known : IsNotedTo r.notes r.closed.items c.deref.result.now = rw c.deref.ensures.value (known_reading r.progress r.notes r.closed.items r.bytes.items c.in-Reading.is c.self.invariant) in
     let bytes : c.deref.result.now ≡ c.args.self.now.bytes = c.deref.ensures.value ∙ ap (λ (f : Fed). f.bytes) c.self.view_is in
