@@ -98,11 +98,7 @@ impl<'a> RetFile<'a> {
     ghost use Rattle.bsp_ret.specs.Slices.{IsHeaderOf, IsTrailerOf, HasFields};
 
     /// The file of these parts.
-    pub(crate) fn of(
-        header: &'a [u8],
-        groups: Vec<Group<'a>>,
-        trailer: &'a [u8],
-    ) -> RetFile<'a>
+    pub(crate) fn of(header: &'a [u8], groups: Vec<Group<'a>>, trailer: &'a [u8]) -> RetFile<'a>
         requires { HasLines (record { header = header.now; groups = groups.items; trailer = trailer.now }) }
         ensures { result ≡ record { header = header.now; groups = groups.entry.items; trailer = trailer.now } }
     {

@@ -59,12 +59,7 @@ pub fn read_ret(alloc: Global, bytes: &[u8]) -> Result<RetFile<'_>, RetFault>
     ensures fault { IfErr result (λ e. (e ≡ no_memory) ⊎ (first_fault (lines bytes.now) ≡ Some e)) }
 {
     match read(alloc, bytes) {
-        Ok(Building {
-            header,
-            closed,
-            trailer,
-            ..
-        }) => Ok(RetFile::of(header, closed, trailer)),
+        Ok(building) => Ok(RetFile::of(building.header, building.closed, building.trailer)),
         Err(fault) => Err(fault),
     }
 }
