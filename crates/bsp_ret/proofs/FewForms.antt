@@ -25,17 +25,17 @@ use Rattle.bsp_ret.proofs.Sound.{form_known}
 
 -- ---- no form before a record 3 or 5
 
-none_before_related : (l : LastRecord) (code : TransactionCode) (profile : Profile) (only : Option ℕ) → takes_related l code profile only ≡ true → forms_up_to l ≡ 0
+pub none_before_related : (l : LastRecord) (code : TransactionCode) (profile : Profile) (only : Option ℕ) → takes_related l code profile only ≡ true → forms_up_to l ≡ 0
 none_before_related (last.Form form) code profile only h = absurd cc
 none_before_related _ code profile only h = refl
 
-none_before_amounts : (l : LastRecord) (code : TransactionCode) → takes_amounts l code ≡ true → forms_up_to l ≡ 0
+pub none_before_amounts : (l : LastRecord) (code : TransactionCode) → takes_amounts l code ≡ true → forms_up_to l ≡ 0
 none_before_amounts (last.Form form) code h = absurd cc
 none_before_amounts _ code h = refl
 
 -- ---- a form comes later than those before it
 
-one_more_form : (l : LastRecord) (code : TransactionCode) (related : Bool) (form : FormOfPayment) → takes_form l code related (Some form) ≡ true → forms_up_to l + 1 ≤ forms_up_to (last.Form form)
+pub one_more_form : (l : LastRecord) (code : TransactionCode) (related : Bool) (form : FormOfPayment) → takes_form l code related (Some form) ≡ true → forms_up_to l + 1 ≤ forms_up_to (last.Form form)
 one_more_form last.Amounts code related Cash h = omega arith
 one_more_form last.Amounts code related Credit h = omega arith
 one_more_form last.Amounts code related Exchange h = omega arith
@@ -54,33 +54,33 @@ one_more_form last.Trailer code related form h = absurd cc
 
 -- ---- what each record says
 
-says_49 : (line : List ℕ) → identifier line ≡ 49 → record_in line ≡ said.Header (unwrap_or (profile_of line) P001)
+pub says_49 : (line : List ℕ) → identifier line ≡ 49 → record_in line ≡ said.Header (unwrap_or (profile_of line) P001)
 unfolding record_in
 says_49 line name = rw name refl
 
-says_50 : (line : List ℕ) → identifier line ≡ 50 → record_in line ≡ said.Sale (unwrap_or (code_of line) Tktt)
+pub says_50 : (line : List ℕ) → identifier line ≡ 50 → record_in line ≡ said.Sale (unwrap_or (code_of line) Tktt)
 unfolding record_in
 says_50 line name = rw name refl
 
-says_51 : (line : List ℕ) → identifier line ≡ 51 → record_in line ≡ said.Related (related_order line)
+pub says_51 : (line : List ℕ) → identifier line ≡ 51 → record_in line ≡ said.Related (related_order line)
 unfolding record_in
 says_51 line name = rw name refl
 
-says_53 : (line : List ℕ) → identifier line ≡ 53 → record_in line ≡ said.Amounts
+pub says_53 : (line : List ℕ) → identifier line ≡ 53 → record_in line ≡ said.Amounts
 unfolding record_in
 says_53 line name = rw name refl
 
-says_56 : (line : List ℕ) (form : FormOfPayment) → identifier line ≡ 56 → form_of line ≡ Some form → record_in line ≡ said.Form form (form_amount line)
+pub says_56 : (line : List ℕ) (form : FormOfPayment) → identifier line ≡ 56 → form_of line ≡ Some form → record_in line ≡ said.Form form (form_amount line)
 unfolding record_in
 says_56 line form name is = rw (name, is) refl
 
-says_90 : (line : List ℕ) → identifier line ≡ 90 → record_in line ≡ said.Trailer
+pub says_90 : (line : List ℕ) → identifier line ≡ 90 → record_in line ≡ said.Trailer
 unfolding record_in
 says_90 line name = rw name refl
 
 -- ---- the sum of a group's forms, up to each record
 
-none_paid : (new : ℤ) (most : ℕ) → new ≡ pos 0 → unsigned_abs new ≤ most
+pub none_paid : (new : ℤ) (most : ℕ) → new ≡ pos 0 → unsigned_abs new ≤ most
 none_paid new most none = omega (arith, ints, none)
 
 pub few_forms : (at : Standing) (line : List ℕ) (sum new : ℤ) (next : Record) → Clean at line → next ≡ record_in line → new ≡ paid_with sum next → unsigned_abs new ≤ unsigned_abs sum + 99_999_999_999 → unsigned_abs sum ≤ forms_up_to at.last * 10 ^ 11

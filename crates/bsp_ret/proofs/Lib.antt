@@ -24,3 +24,4 @@ pub mod SameContent
 pub use Rattle.bsp_records.proofs.CharacterLemmas
 pub use Rattle.bsp_records.proofs.FieldLemmas
 pub use Rattle.bsp_records.proofs.TextLemmas
+pub mod JudgingLemmas

@@ -32,7 +32,7 @@ known : {A : Type 0} (o : Option A) → is_some o ≡ true → (x : A) × (o ≡
 known None h = absurd cc
 known (Some x) h = (x, refl)
 
-sale_known : (line : List ℕ) → sale_fits line ≡ true → (code : TransactionCode) × (code_of line ≡ Some code)
+pub sale_known : (line : List ℕ) → sale_fits line ≡ true → (code : TransactionCode) × (code_of line ≡ Some code)
 sale_known line h = known (code_of line) (sale_fields line h).code
 
 vendor_known : (form : Option FormOfPayment) (text : List ℕ) → vendor_fits form text ≡ true → (kind : FormOfPayment) × (form ≡ Some kind)

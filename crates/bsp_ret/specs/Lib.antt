@@ -11,6 +11,7 @@ pub mod Pieces
 pub mod Groups
 pub mod Content
 pub mod Sales
+pub mod Judging
 pub mod Slices
 pub mod Texts
 pub use Rattle.bsp_records.specs.Columns

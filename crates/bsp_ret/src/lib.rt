@@ -6,6 +6,7 @@ mod building;
 mod fields;
 mod file;
 mod judge;
+mod judging;
 mod model;
 mod notes;
 mod pieces;
@@ -24,6 +25,7 @@ pub use fields::{
     TrailerFields,
 };
 pub use file::RetFile;
+pub use judging::{FileTotals, Judging};
 pub use model::{FaultCode, LastRecord, Progress, Record, RetFault, Standing};
 pub use reader::RetReader;
 pub use reading::{fault_or_file, read_ret};
