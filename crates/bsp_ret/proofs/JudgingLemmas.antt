@@ -21,12 +21,13 @@ use Rattle.bsp_ret.specs.declared.model.FaultCode.TheVariants.{F08}
 use Rattle.bsp_ret.specs.declared.judging.FileTotals.{FileTotals}
 use Rattle.bsp_ret.specs.Ret.{File, flatten, file_lines, AreGroups}
 use Rattle.bsp_ret.specs.Sales.{HaveSales}
-use Rattle.bsp_ret.specs.Standings.{standing_with, standing_behind, FitsIn}
+use Rattle.bsp_ret.specs.Standings.{standing_with, standing_behind, fault_behind, FitsIn}
+use Rattle.bsp_ret.specs.Pieces.{IsClear}
 use Rattle.bsp_ret.specs.Reading.{Draft, with_group, add, read_from, read_all}
 use Rattle.bsp_ret.specs.Judging.{Judged, IsSaleOf, HasBegun, AreSalesOf, AreTaken, completed, with_payment, BeginsWith, Continues, IsNear, IsSmall, IsFileOf, may_go_on, forms_up_to}
 use Rattle.bsp_ret.proofs.FewForms.{none_before_related, none_before_amounts, one_more_form, none_paid, says_49, says_50, says_51, says_53, says_56, says_90}
 use Rattle.bsp_ret.proofs.GroupLemmas.{wide_length, has_sale}
-use Rattle.bsp_ret.proofs.LawLemmas.{fault_of, read_is_fault, is_file}
+use Rattle.bsp_ret.proofs.LawLemmas.{fault_of, read_is_fault, read_behind, is_file}
 use Rattle.bsp_ret.proofs.Rows.{Clean, clean, clean_header, clean_sale, clean_related, clean_amounts, clean_form, clean_trailer}
 use Rattle.bsp_ret.proofs.SaidLemmas.{paid_by, paid_said}
 use Rattle.bsp_ret.proofs.Sound.{form_known}
@@ -354,6 +355,10 @@ fault_of_taken ls sales j t open_end =
     sym (read_is_fault ls) ∙ ap fault_of read
 
 -- ---- a record at fault
+
+-- none of the lines that were taken is at fault
+pub clear_of_taken : (ls : List (List ℕ)) (sales : List PaidSale) (j : Judged) → AreTaken ls j sales → IsClear ls
+clear_of_taken ls sales j t = λ more. sym (read_is_fault (ls ++ more)) ∙ ap fault_of (t.reads more) ∙ read_behind more j.at t.draft ∙ ap (λ (s : Standing). fault_behind s more) t.state
 
 pub fault_at_line : (ls more : List (List ℕ)) (sales : List PaidSale) (j : Judged) (line : List ℕ) (code : FaultCode) → AreTaken ls j sales → row_fault j.at line ≡ Err code → first_fault (ls ++ line ∷ more) ≡ Some (record { code = code; at = j.at.records + 1 })
 fault_at_line ls more sales j line code t row =
