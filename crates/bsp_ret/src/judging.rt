@@ -99,7 +99,8 @@ impl Judging {
 
     /// The state of the records.
     pub fn state(&self) -> Standing
-        ensures { result ≡ self.now.at }
+        ensures value { result ≡ self.now.at }
+        ensures counted { result.transactions ≤ result.records }
     {
         self.at
     }
