@@ -1,6 +1,5 @@
 -- A file that is judged record by record: what was taken of it, and its transactions.
 use Rattle.std.specs.Prelude.{◌≡◌, ◌≤◌, ℕ, ℤ, pos, ◌+◌, ◌*◌, ◌^◌, ◌+ℤ◌, unsigned_abs, Bool, true, false, List, [], ◌∷◌, ◌++◌, length, Option, Some, None, IfSome, is_some, if◌then◌else◌}
-use Rattle.bsp_ret_records.specs.declared.codes.FormOfPayment.TheVariants.{Cash, Credit, Exchange}
 use Rattle.bsp_ret_records.specs.declared.transactions.PaidSale.{PaidSale}
 use Rattle.bsp_ret_records.specs.Values.{IsSale}
 use Rattle.bsp_ret.specs.declared.model.LastRecord.{LastRecord}
@@ -13,6 +12,7 @@ use Rattle.bsp_ret.specs.Table.{standing, total_paid}
 use Rattle.bsp_ret.specs.Ret.{Ret, File, flatten, file_lines}
 use Rattle.bsp_ret.specs.Reading.{Draft, read_from, read_all}
 use Rattle.bsp_ret.specs.Sales.{HaveSales}
+use Rattle.bsp_ret.specs.Building.{forms_up_to}
 
 -- the state of the records, and the last transaction, where it may go on
 pub record Judged : Type 0 where
@@ -94,13 +94,6 @@ may_go_on last.Start = false
 may_go_on last.Header = false
 may_go_on last.Trailer = false
 may_go_on _ = true
-
--- the most forms that a transaction has up to this record
-abbrev pub forms_up_to : LastRecord → ℕ
-forms_up_to (last.Form Cash) = 1
-forms_up_to (last.Form Credit) = 2
-forms_up_to (last.Form Exchange) = 3
-forms_up_to _ = 0
 
 pub record IsSmall (at : Standing) (begun : Option PaidSale) : Type 0 where
   pub counted : at.transactions ≤ at.records
