@@ -1,149 +1,113 @@
--- The first fault of a text is one of the line whose number it has.
-use Rattle.std.proofs.Common.{◌≡◌, ℕ, ◌+◌, ◌-◌, ◌⊎◌, false, List, [], ◌∷◌, ◌++◌, length, take, drop, Some, Result, Ok, Err, refl, sym, ap, ◌∙◌, inl, inr, arith, append_assoc, append-nil, length-append}
-use Rattle.std.specs.Prelude.{◌==◌}
-use Rattle.std.specs.List.{last_or}
-use Rattle.std.proofs.lemmas.Bool.{cases_Bool}
+-- The explanation of the first fault of some lines.
+use Rattle.std.proofs.Common.{◌≡◌, ℕ, ◌+◌, ◌-◌, true, false, List, [], ◌∷◌, ◌++◌, length, take, drop, Some, None, Ok, Err, refl, sym, ap, subst, ◌∙◌, arith, append_assoc, append-nil}
 use Rattle.std.proofs.lemmas.List.{take_at, drop_at}
+use Rattle.bsp_records.specs.Lines.{lines}
 use Rattle.bsp_ret.specs.declared.model.FaultCode.{FaultCode}
 use Rattle.bsp_ret.specs.declared.model.FaultCode.TheVariants.{F08}
 use Rattle.bsp_ret.specs.declared.model.RetFault.{RetFault}
-use Rattle.bsp_ret.specs.declared.model.Record.{Record}
-use Rattle.bsp_ret.specs.declared.model.Record.TheVariants as said
-use Rattle.bsp_ret.specs.Said.{record_in}
-use Rattle.bsp_ret.specs.Table.{kind, kind_or_start, standing, has_ended, is_start, row_fault, or_later, fault_from, first_fault}
-use Rattle.bsp_explain.specs.declared.before.Before.{Before}
-use Rattle.bsp_explain.specs.Before.{counted, IsLine}
+use Rattle.bsp_ret.specs.declared.model.Standing.{Standing}
+use Rattle.bsp_ret.specs.Table.{standing, has_ended, row_fault, first_fault}
+use Rattle.bsp_ret.specs.Standings.{standing_behind, fault_behind}
+use Rattle.bsp_ret.specs.Pieces.{IsClear}
+use Rattle.bsp_ret.proofs.Steps.{standing_snoc}
+use Rattle.bsp_ret.proofs.LawLemmas.{is_first, behind_cons}
+use Rattle.bsp_ret.proofs.PieceLemmas.{none_behind, trailer_lacks}
+use Rattle.bsp_explain.specs.declared.explanation.Explanation.{Explanation}
 use Rattle.bsp_explain.specs.declared.reason.Reason.{Reason}
-use Rattle.bsp_explain.specs.RetReasons.{Says, is_without, IsStandingOf}
-use Rattle.bsp_explain.proofs.RowLemmas.{row_is}
+use Rattle.bsp_explain.specs.declared.reason.Reason.TheVariants.{NoTrailer}
+use Rattle.bsp_explain.specs.Lines.{IsLine}
+use Rattle.bsp_explain.specs.RetReasons.{Says, is_reason_of}
+use Rattle.bsp_explain.specs.RetFaults.{SaysOfRetFault}
 
--- a row applies to a line of the rest, and the fault has its number
-record IsFaultOf (before rest : List (List ℕ)) (f : RetFault) : Type 0 where
-  front : List (List ℕ)
-  line : List ℕ
-  more : List (List ℕ)
-  cut : rest ≡ front ++ line ∷ more
-  number : f.at ≡ length before + length front + 1
-  row : row_fault (standing (before ++ front)) line ≡ Err f.code
+-- ---- lines without fault
 
-one_later : (before : List (List ℕ)) (line : List ℕ) (rest : List (List ℕ)) (f : RetFault) → IsFaultOf (before ++ line ∷ []) rest f → IsFaultOf before (line ∷ rest) f
-one_later before line rest f later =
-    let count : length (before ++ line ∷ []) ≡ length before + 1 = length-append before (line ∷ []) in
+-- no lines are without fault
+pub clear_nothing : IsClear []
+clear_nothing more = sym (is_first [] more)
+
+-- one more line without fault
+pub clear_more : (ls : List (List ℕ)) (line : List ℕ) (at : Standing) → at ≡ standing ls → IsClear ls → row_fault at line ≡ Ok tt → IsClear (ls ++ line ∷ [])
+clear_more ls line at stands clear none more =
+    ap first_fault (append_assoc ls (line ∷ []) more) ∙ clear (line ∷ more) ∙ ap (λ (x : Standing). fault_behind x (line ∷ more)) (sym stands)
+    ∙ behind_cons at line more ∙ rw none refl ∙ ap (λ (x : Standing). fault_behind (standing_behind x line) more) stands
+    ∙ ap (λ (x : Standing). fault_behind x more) (sym (standing_snoc ls line))
+
+pub stands_more : (ls : List (List ℕ)) (line : List ℕ) (at then : Standing) → at ≡ standing ls → then ≡ standing_behind at line → then ≡ standing (ls ++ line ∷ [])
+stands_more ls line at then stands is = is ∙ ap (λ (x : Standing). standing_behind x line) stands ∙ sym (standing_snoc ls line)
+
+-- all lines are, and the last is a trailer
+pub clear_file : (ls : List (List ℕ)) (at : Standing) → at ≡ standing ls → IsClear ls → has_ended at.last ≡ true → first_fault ls ≡ None
+clear_file ls at stands clear ended =
+    ap first_fault (sym (append-nil ls)) ∙ clear [] ∙ ap (λ (x : Standing). fault_behind x []) (sym stands) ∙ none_behind at ended
+
+-- ---- what follows them is at fault
+
+says_of_next : (ls more : List (List ℕ)) (at : Standing) (code : FaultCode) (e : Explanation) → at ≡ standing ls → IsClear ls → fault_behind at more ≡ Some (record { code = code; at = at.records + 1 })
+    → e.record ≡ at.records + 1 → ((line : List ℕ) → IsLine 0 more line → Says (at.records + 1) at line e.reason) → is_reason_of code e.reason ≡ true
+    → ((records : ℕ) (before : Standing) → e.reason ≡ NoTrailer records before → (records ≡ at.records + 1) × (before ≡ at)) → SaysOfRetFault (ls ++ more) e
+says_of_next ls more at code e stands clear fault number says row trailer =
+    let count : length ls ≡ at.records + 1 - 1 = omega (arith, ap (λ (x : Standing). x.records) stands) in
+    let before : at ≡ standing (take (at.records + 1 - 1) (ls ++ more)) = stands ∙ ap standing (sym (take_at ls more (at.records + 1 - 1) count)) in
+    let after : drop (at.records + 1 - 1) (ls ++ more) ≡ more = drop_at ls more (at.records + 1 - 1) count in
     record {
-      front = line ∷ later.front;
-      line = later.line;
-      more = later.more;
-      cut = ap (λ ls. line ∷ ls) later.cut;
-      number = omega (arith, later.number, count);
-      row = ap (λ ls. row_fault (standing ls) later.line) (sym (append_assoc before (line ∷ []) later.front)) ∙ later.row;
+      fault = record { code = code; at = at.records + 1 };
+      is_first = clear more ∙ ap (λ (x : Standing). fault_behind x more) (sym stands) ∙ fault;
+      number = number;
+      row = row;
+      says = λ line is. subst (λ (x : Standing). Says (at.records + 1) x line e.reason) before (says line (is.0, sym after ∙ is.1));
+      trailer = λ records x is. let same = trailer records x is in (same.0, same.1 ∙ before);
     }
 
-here : (before : List (List ℕ)) (line : List ℕ) (rest : List (List ℕ)) (f : RetFault) (code : FaultCode) → row_fault (standing before) line ≡ Err code → record { code = code; at = length before + 1 } ≡ f → IsFaultOf before (line ∷ rest) f
-here before line rest f code row is = record {
-  front = [];
-  line = line;
-  more = rest;
-  cut = refl;
-  number = sym (ap (λ (x : RetFault). x.at) is) ∙ omega arith;
-  row = ap (λ ls. row_fault (standing ls) line) (append-nil before) ∙ row ∙ ap (λ (x : RetFault). Err x.code) is;
+-- a line
+pub says_of_line : (ls : List (List ℕ)) (line : List ℕ) (more : List (List ℕ)) (at : Standing) (code : FaultCode) (e : Explanation) → at ≡ standing ls → IsClear ls → row_fault at line ≡ Err code
+    → e.record ≡ at.records + 1 → Says (at.records + 1) at line e.reason → is_reason_of code e.reason ≡ true → SaysOfRetFault (ls ++ line ∷ more) e
+says_of_line ls line more at code e stands clear fault number says row =
+    says_of_next ls (line ∷ more) at code e stands clear (behind_cons at line more ∙ rw fault refl) number
+    (λ other is. let same : line ≡ other = cc is.1 in subst (λ (xs : List ℕ). Says (at.records + 1) at xs e.reason) same says)
+    row
+    (λ records before is. subst (λ (reason : Reason). Says (at.records + 1) at line reason) is says)
+
+no_line : (line : List ℕ) → IsLine 0 [] line → ⊥
+no_line line is = absurd (cc is.1)
+
+-- a trailer that is missing
+pub says_of_missing : (ls : List (List ℕ)) (at : Standing) (e : Explanation) → at ≡ standing ls → IsClear ls → has_ended at.last ≡ false
+    → e.record ≡ at.records + 1 → e.reason ≡ NoTrailer (at.records + 1) at → SaysOfRetFault ls e
+says_of_missing ls at e stands clear open_end number reason =
+    subst (λ (xs : List (List ℕ)). SaysOfRetFault xs e) (append-nil ls)
+    (says_of_next ls [] at F08 e stands clear (trailer_lacks at open_end) number
+    (λ line is. absurd (no_line line is))
+    (ap (is_reason_of F08) reason)
+    (λ records before is. let same : NoTrailer records before ≡ NoTrailer (at.records + 1) at = sym is ∙ reason in (cc same, cc same)))
+
+-- ---- a text
+
+-- the lines before the rest of a text are without fault
+pub record IsJudgedTo (at : Standing) (text rest : List ℕ) : Type 0 where
+  pub ls : List (List ℕ)
+  pub are : lines text ≡ ls ++ lines rest
+  pub stands : at ≡ standing ls
+  pub clear : IsClear ls
+
+pub judged_nothing : (at : Standing) (text : List ℕ) → at ≡ standing [] → IsJudgedTo at text text
+judged_nothing at text is = record { ls = []; are = refl; stands = is; clear = clear_nothing }
+
+pub judged_more : (at then : Standing) (text rest line after : List ℕ) → IsJudgedTo at text rest → lines rest ≡ line ∷ lines after → row_fault at line ≡ Ok tt → then ≡ standing_behind at line → IsJudgedTo then text after
+judged_more at then text rest line after judged cut none is = record {
+  ls = judged.ls ++ line ∷ [];
+  are = judged.are ∙ ap (λ xs. judged.ls ++ xs) cut ∙ sym (append_assoc judged.ls (line ∷ []) (lines after));
+  stands = stands_more judged.ls line at then judged.stands is;
+  clear = clear_more judged.ls line at judged.stands judged.clear none;
 }
 
-either_later : (before : List (List ℕ)) (line : List ℕ) (rest : List (List ℕ)) (f : RetFault) → (IsFaultOf (before ++ line ∷ []) rest f) ⊎ (f.code ≡ F08) → (IsFaultOf before (line ∷ rest) f) ⊎ (f.code ≡ F08)
-either_later before line rest f (inl later) = inl (one_later before line rest f later)
-either_later before line rest f (inr ended) = inr ended
+pub judged_fails : (at : Standing) (text rest line after : List ℕ) (code : FaultCode) (e : Explanation) → IsJudgedTo at text rest → lines rest ≡ line ∷ lines after → row_fault at line ≡ Err code
+    → e.record ≡ at.records + 1 → Says (at.records + 1) at line e.reason → is_reason_of code e.reason ≡ true → SaysOfRetFault (lines text) e
+judged_fails at text rest line after code e judged cut fault number says row =
+    subst (λ (xs : List (List ℕ)). SaysOfRetFault xs e) (sym (judged.are ∙ ap (λ xs. judged.ls ++ xs) cut))
+    (says_of_line judged.ls line (lines after) at code e judged.stands judged.clear fault number says row)
 
-some_inside : (x f : RetFault) → Some x ≡ Some f → x ≡ f
-some_inside x f h = cc
-
-found_in : (before rest : List (List ℕ)) (f : RetFault) → fault_from before rest ≡ Some f → (IsFaultOf before rest f) ⊎ (f.code ≡ F08)
-found_in before [] f h =
-    elim (cases_Bool (has_ended (standing before).last)) [
-      | inl ended ↦ let none = rw ended at h in absurd (cc none)
-      | inr open_end ↦ let some = rw open_end at h in inr (ap (λ (x : RetFault). x.code) (sym (some_inside (record { code = F08; at = length before + 1 }) f some)))
-    ]
-found_in before (line ∷ rest) f h =
-    let P : Result (Unit {0}) FaultCode → Type 0 = λ r. row_fault (standing before) line ≡ r → or_later r (length before + 1) (fault_from (before ++ line ∷ []) rest) ≡ Some f → (IsFaultOf before (line ∷ rest) f) ⊎ (f.code ≡ F08) in
-    (elim (row_fault (standing before) line) as P [
-      | Ok none ↦ λ row g. either_later before line rest f (found_in (before ++ line ∷ []) rest f g)
-      | Err code ↦ λ row g. inl (here before line rest f code row (some_inside (record { code = code; at = length before + 1 }) f g))
-    ]) refl h
-
--- ---- the standing that the lines before it leave
-
-kind_is : (r : Record) → is_start (kind r) ≡ false
-kind_is (said.Header profile) = refl
-kind_is (said.Sale code) = refl
-kind_is (said.Related order) = refl
-kind_is said.Amounts = refl
-kind_is (said.Form form amount) = refl
-kind_is said.Trailer = refl
-
-not_start : (line : List ℕ) (ls : List (List ℕ)) → is_start (kind_or_start (last_or (Some line) ls)) ≡ false
-not_start line [] = kind_is (record_in line)
-not_start line (next ∷ ls) = not_start next ls
-
-is_first : (front : List (List ℕ)) → is_start (standing front).last ≡ (length front + 1 == 1)
-is_first [] = refl
-is_first (line ∷ front) =
-    let later : (length (line ∷ front) + 1 == 1) ≡ false = grind arith in not_start line front ∙ sym later
-
-is_standing : (front : List (List ℕ)) → IsStandingOf (length front + 1) (counted front) (standing front)
-is_standing front = record { first = is_first front; number = refl; transactions = refl; sum = refl }
-
-without_not : (ls : List (List ℕ)) (f : RetFault) (found : IsFaultOf [] ls f) (line : List ℕ) → IsLine (f.at - 1) ls line → is_without f.code f.at (counted (take (f.at - 1) ls)) line ≡ false
-without_not ls f found line is =
-    let at : f.at ≡ length found.front + 1 = found.number ∙ omega arith in
-    let skipped : f.at - 1 ≡ length found.front = omega (arith, at) in
-    let front : take (f.at - 1) ls ≡ found.front = rw (skipped, found.cut) (take_at found.front (found.line ∷ found.more) (length found.front) refl) in
-    let after : drop (f.at - 1) ls ≡ found.line ∷ found.more = rw (skipped, found.cut) (drop_at found.front (found.line ∷ found.more) (length found.front) refl) in
-    let same : line ≡ found.line = cc (is.1, after) in
-    rw (front, same, at) (row_is f.code (length found.front + 1) (counted found.front) (standing found.front) found.line (is_standing found.front) found.row)
-
--- what the first fault of a text says of its line
-pub fault_of_line : (ls : List (List ℕ)) (f : RetFault) (line : List ℕ) → first_fault ls ≡ Some f → IsLine (f.at - 1) ls line → is_without f.code f.at (counted (take (f.at - 1) ls)) line ≡ false
-fault_of_line ls f line first is =
-    elim (found_in [] ls f first) [
-      | inl found ↦ without_not ls f found line is
-      | inr ended ↦ rw ended refl
-    ]
-
-no_line : (ls : List (List ℕ)) (f : RetFault) → IsFaultOf [] ls f → drop (f.at - 1) ls ≡ [] → ⊥
-no_line ls f found none =
-    let at : f.at ≡ length found.front + 1 = found.number ∙ omega arith in
-    let skipped : f.at - 1 ≡ length found.front = omega (arith, at) in
-    let after : drop (f.at - 1) ls ≡ found.line ∷ found.more = rw (skipped, found.cut) (drop_at found.front (found.line ∷ found.more) (length found.front) refl) in
-    cc (after, none)
-
--- and of no line, where the text ends before it
-pub fault_after : (ls : List (List ℕ)) (f : RetFault) (line : List ℕ) → first_fault ls ≡ Some f → drop (f.at - 1) ls ≡ [] → is_without f.code f.at (counted (take (f.at - 1) ls)) line ≡ false
-fault_after ls f line first none =
-    elim (found_in [] ls f first) [
-      | inl found ↦ absurd (no_line ls f found none)
-      | inr ended ↦ rw ended refl
-    ]
-
--- ---- the line after a part of a text
-
--- a line after so many is the first of what is left
-pub same_line : (ls rest : List (List ℕ)) (n : ℕ) (line found : List ℕ) → rest ≡ drop n ls → IsLine n ls line → IsLine 0 rest found → found ≡ line
-same_line ls rest n line found left is first = cc (left, is.1, first.1)
-
-pub not_empty : (ls rest : List (List ℕ)) (n : ℕ) (line : List ℕ) → rest ≡ drop n ls → IsLine n ls line → rest ≡ [] → ⊥
-not_empty ls rest n line left is empty = cc (left, is.1, empty)
-
-line_from : (ls rest : List (List ℕ)) (n : ℕ) (found : List ℕ) → rest ≡ drop n ls → IsLine 0 rest found → IsLine n ls found
-line_from ls rest n found left first = (first.0, sym left ∙ first.1)
-
--- what is said of the line found is said of the line that is meant
-pub said_of_line : (ls rest : List (List ℕ)) (n : ℕ) (before : Before) (line found : List ℕ) (r : Reason) → before ≡ counted (take (n - 1) ls) → rest ≡ drop (n - 1) ls → IsLine (n - 1) ls line → (IsLine 0 rest found) ⊎ (rest ≡ []) → Says n before found r → Says n (counted (take (n - 1) ls)) line r
-said_of_line ls rest n before line found r count left is (inl first) said =
-    rw (← count, ← same_line ls rest (n - 1) line found left is first) said
-said_of_line ls rest n before line found r count left is (inr empty) said =
-    absurd (not_empty ls rest (n - 1) line left is empty)
-
--- and the first fault is one of it
-pub row_of_line : (ls rest : List (List ℕ)) (f : RetFault) (before : Before) (found : List ℕ) → before ≡ counted (take (f.at - 1) ls) → rest ≡ drop (f.at - 1) ls → (IsLine 0 rest found) ⊎ (rest ≡ []) → first_fault ls ≡ Some f → is_without f.code f.at before found ≡ false
-row_of_line ls rest f before found count left (inl line) first =
-    rw count (fault_of_line ls f found first (line_from ls rest (f.at - 1) found left line))
-row_of_line ls rest f before found count left (inr empty) first =
-    rw count (fault_after ls f found first (sym left ∙ empty))
+-- nothing is left
+pub judged_all : (at : Standing) (text rest : List ℕ) → IsJudgedTo at text rest → lines rest ≡ [] → (at ≡ standing (lines text)) × IsClear (lines text)
+judged_all at text rest judged none =
+    let all : lines text ≡ judged.ls = judged.are ∙ ap (λ xs. judged.ls ++ xs) none ∙ append-nil judged.ls in
+    (judged.stands ∙ ap standing (sym all), subst IsClear (sym all) judged.clear)

@@ -5,6 +5,5 @@ pub mod TaxLemmas
 pub mod RetLemmas
 pub mod RowLemmas
 pub mod TrailerLemmas
-pub mod BeforeLemmas
 pub mod FaultLemmas
 pub mod WidthLemmas

@@ -10,9 +10,8 @@ use Rattle.bsp_ret.specs.declared.model.FaultCode.{FaultCode}
 use Rattle.bsp_ret.specs.declared.model.FaultCode.TheVariants.{F01, F02, F03, F04, F05, F06, F07, F09}
 use Rattle.bsp_ret.specs.declared.model.Standing.{Standing}
 use Rattle.bsp_ret.specs.Table.{has_ended, is_start, is_complete, takes_related, comes_behind, takes_amounts, takes_form, has_counts, has_sum, header_table, transaction_table, trailer_table, later_table, record_table, row_fault}
-use Rattle.bsp_explain.specs.declared.before.Before.{Before}
 use Rattle.bsp_explain.specs.declared.reason.Reason.{Reason}
-use Rattle.bsp_explain.specs.RetReasons.{record_fits, may_be_second, is_without, IsStandingOf}
+use Rattle.bsp_explain.specs.RetReasons.{record_fits, may_be_second, is_without}
 
 -- a fault of a table is that of its first row, or of the others where the first does not apply
 row_or : (test : Bool) (fault code : FaultCode) (rows : List (Bool × FaultCode)) (P : FaultCode → Bool) → (test ≡ true → P fault ≡ false) → (test ≡ false → first_fault_or {V = Unit {0}} rows tt ≡ Err code → P code ≡ false) → first_fault_or {V = Unit {0}} ((test, fault) ∷ rows) tt ≡ Err code → P code ≡ false
@@ -23,9 +22,9 @@ no_row : (code : FaultCode) (P : FaultCode → Bool) → first_fault_or {V = Uni
 no_row code P h = absurd (cc h)
 
 -- what a row needs of what it is asked: that the record is wide, and what else it knows
-abbrev Row : FaultCode → ℕ → Before → List ℕ → List (Bool × FaultCode) → Type 0
-Row code n before line rows =
-    first_fault_or {V = Unit {0}} rows tt ≡ Err code → is_without code n before line ≡ false
+abbrev Row : FaultCode → Standing → List ℕ → List (Bool × FaultCode) → Type 0
+Row code at line rows =
+    first_fault_or {V = Unit {0}} rows tt ≡ Err code → is_without code at line ≡ false
 
 unset : (b : Bool) → not b ≡ true → b ≡ false
 unset true h = absurd (cc h)
@@ -35,15 +34,15 @@ set : (b : Bool) → not b ≡ false → b ≡ true
 set b h = not-false b h
 
 -- of a field's row, in the tables of the header and of the other records
-not_fit : (n : ℕ) (before : Before) (line : List ℕ) (first : Bool) → is_wide line ≡ true → first ≡ (n == 1) → record_fits first line ≡ false → (not (is_wide line) || record_fits (n == 1) line) ≡ false
-not_fit n before line first wide is unfit = rw (wide, ← is, unfit) refl
+not_fit : (at : Standing) (line : List ℕ) (first : Bool) → is_wide line ≡ true → is_start at.last ≡ first → record_fits first line ≡ false → (not (is_wide line) || record_fits (is_start at.last) line) ≡ false
+not_fit at line first wide is unfit = rw (wide, is, unfit) refl
 
-not_form : (n : ℕ) (before : Before) (line : List ℕ) (first : Bool) → is_wide line ≡ true → first ≡ (n == 1) → record_fits first line ≡ false → is_without F05 n before line ≡ false
-not_form n before line first wide is unfit = rw (wide, ← is, unfit) refl
+not_form : (at : Standing) (line : List ℕ) (first : Bool) → is_wide line ≡ true → is_start at.last ≡ first → record_fits first line ≡ false → is_without F05 at line ≡ false
+not_form at line first wide is unfit = rw (wide, is, unfit) refl
 
 -- of a record 3, which may be the second of its group
-not_behind : (n : ℕ) (before : Before) (line : List ℕ) → is_wide line ≡ true → false ≡ (n == 1) → (identifier line == 51) ≡ true → is_without F05 n before line ≡ false
-not_behind n before line wide later name = rw (wide, ← later, name) (and_right _ false refl)
+not_behind : (at : Standing) (line : List ℕ) → is_wide line ≡ true → is_start at.last ≡ false → (identifier line == 51) ≡ true → is_without F05 at line ≡ false
+not_behind at line wide later name = rw (wide, later, name) (and_right _ false refl)
 
 not_header : (line : List ℕ) → is_header line ≡ false → record_fits true line ≡ false
 not_header line h = rw h refl
@@ -54,20 +53,20 @@ not_production line h = elim (cases_Bool (is_header line)) [ inl a ↦ rw (a, h)
 not_header_fits : (line : List ℕ) → header_fits line ≡ false → record_fits true line ≡ false
 not_header_fits line h = elim (cases_Bool (is_header line && is_production line)) [ inl a ↦ rw (a, h) refl | inr a ↦ rw a refl ]
 
-header_row : (code : FaultCode) (n : ℕ) (before : Before) (line : List ℕ) → is_wide line ≡ true → true ≡ (n == 1) → Row code n before line (header_table line)
-header_row code n before line wide first =
-    let P : FaultCode → Bool = λ k. is_without k n before line in
+header_row : (code : FaultCode) (at : Standing) (line : List ℕ) → is_wide line ≡ true → is_start at.last ≡ true → Row code at line (header_table line)
+header_row code at line wide first =
+    let P : FaultCode → Bool = λ k. is_without k at line in
     row_or (not (is_header line)) F02 code ((not (is_production line), F04) ∷ (not (header_fits line), F05) ∷ []) P
-    (λ t. not_fit n before line true wide first (not_header line (unset (is_header line) t)))
+    (λ t. not_fit at line true wide first (not_header line (unset (is_header line) t)))
     (λ f. row_or (not (is_production line)) F04 code ((not (header_fits line), F05) ∷ []) P
-    (λ t. not_fit n before line true wide first (not_production line (unset (is_production line) t)))
+    (λ t. not_fit at line true wide first (not_production line (unset (is_production line) t)))
     (λ g. row_or (not (header_fits line)) F05 code [] P
-    (λ t. not_form n before line true wide first (not_header_fits line (unset (header_fits line) t)))
+    (λ t. not_form at line true wide first (not_header_fits line (unset (header_fits line) t)))
     (λ k. no_row code P)))
 
-transaction_row : (code : FaultCode) (n : ℕ) (before : Before) (line : List ℕ) (allowed fits : Bool) (number : ℕ) → is_wide line ≡ true → (fits ≡ false → is_without F05 n before line ≡ false) → Row code n before line (transaction_table allowed number fits line)
-transaction_row code n before line allowed fits number wide unfit =
-    let P : FaultCode → Bool = λ k. is_without k n before line in
+transaction_row : (code : FaultCode) (at : Standing) (line : List ℕ) (allowed fits : Bool) (number : ℕ) → is_wide line ≡ true → (fits ≡ false → is_without F05 at line ≡ false) → Row code at line (transaction_table allowed number fits line)
+transaction_row code at line allowed fits number wide unfit =
+    let P : FaultCode → Bool = λ k. is_without k at line in
     row_or (not (allowed && spells number (transaction_number line))) F03 code ((not fits, F05) ∷ []) P
     (λ t. ap not wide)
     (λ f. row_or (not fits) F05 code [] P
@@ -75,64 +74,63 @@ transaction_row code n before line allowed fits number wide unfit =
     (λ k. no_row code P))
 
 -- a record of that test
-tested : (n : ℕ) (before : Before) (line : List ℕ) (fits : Bool) → is_wide line ≡ true → false ≡ (n == 1) → record_fits false line ≡ fits → fits ≡ false → is_without F05 n before line ≡ false
-tested n before line fits wide first is unfit = not_form n before line false wide first (is ∙ unfit)
+tested : (at : Standing) (line : List ℕ) (fits : Bool) → is_wide line ≡ true → is_start at.last ≡ false → record_fits false line ≡ fits → fits ≡ false → is_without F05 at line ≡ false
+tested at line fits wide later is unfit = not_form at line false wide later (is ∙ unfit)
 
-no_counts : (n : ℕ) (before : Before) (at : Standing) (line : List ℕ) → IsStandingOf n before at → is_wide line ≡ true → trailer_fits line ≡ true → has_counts at line ≡ false → is_without F06 n before line ≡ false
-no_counts n before at line is_standing wide fits other =
-    rw (wide, fits, ← is_standing.number, ← is_standing.transactions) other
+no_counts : (at : Standing) (line : List ℕ) → is_wide line ≡ true → trailer_fits line ≡ true → has_counts at line ≡ false → is_without F06 at line ≡ false
+no_counts at line wide fits other = rw (wide, fits) other
 
-no_sum : (n : ℕ) (before : Before) (at : Standing) (line : List ℕ) → IsStandingOf n before at → is_wide line ≡ true → trailer_fits line ≡ true → has_sum at line ≡ false → is_without F07 n before line ≡ false
-no_sum n before at line is_standing wide fits other = rw (wide, fits, ← is_standing.sum) other
+no_sum : (at : Standing) (line : List ℕ) → is_wide line ≡ true → trailer_fits line ≡ true → has_sum at line ≡ false → is_without F07 at line ≡ false
+no_sum at line wide fits other = rw (wide, fits) other
 
-trailer_row : (code : FaultCode) (n : ℕ) (before : Before) (at : Standing) (line : List ℕ) → IsStandingOf n before at → is_wide line ≡ true → false ≡ (n == 1) → ((identifier line == 90) ≡ true → record_fits false line ≡ trailer_fits line) → Row code n before line (trailer_table at line)
-trailer_row code n before at line is_standing wide first is =
-    let P : FaultCode → Bool = λ k. is_without k n before line in
+trailer_row : (code : FaultCode) (at : Standing) (line : List ℕ) → is_wide line ≡ true → is_start at.last ≡ false → ((identifier line == 90) ≡ true → record_fits false line ≡ trailer_fits line) → Row code at line (trailer_table at line)
+trailer_row code at line wide later is =
+    let P : FaultCode → Bool = λ k. is_without k at line in
     let complete = is_complete at.last at.code at.related in
     row_or (not ((identifier line == 90) && complete)) F03 code ((not (trailer_fits line), F05) ∷ (not (has_counts at line), F06) ∷ (not (has_sum at line), F07) ∷ []) P
     (λ t. ap not wide)
     (λ f. let named = (and_parts (identifier line == 90) complete (set ((identifier line == 90) && complete) f)).0 in
     row_or (not (trailer_fits line)) F05 code ((not (has_counts at line), F06) ∷ (not (has_sum at line), F07) ∷ []) P
-    (λ t. not_form n before line false wide first (is named ∙ unset (trailer_fits line) t))
+    (λ t. not_form at line false wide later (is named ∙ unset (trailer_fits line) t))
     (λ g. row_or (not (has_counts at line)) F06 code ((not (has_sum at line), F07) ∷ []) P
-    (λ t. no_counts n before at line is_standing wide (set (trailer_fits line) g) (unset (has_counts at line) t))
+    (λ t. no_counts at line wide (set (trailer_fits line) g) (unset (has_counts at line) t))
     (λ k. row_or (not (has_sum at line)) F07 code [] P
-    (λ t. no_sum n before at line is_standing wide (set (trailer_fits line) g) (unset (has_sum at line) t))
+    (λ t. no_sum at line wide (set (trailer_fits line) g) (unset (has_sum at line) t))
     (λ j. no_row code P))))
 
-later_row : (code : FaultCode) (n : ℕ) (before : Before) (at : Standing) (line : List ℕ) → IsStandingOf n before at → is_wide line ≡ true → false ≡ (n == 1) → Row code n before line (later_table at line)
-later_row code n before at line is_standing wide first =
+later_row : (code : FaultCode) (at : Standing) (line : List ℕ) → is_wide line ≡ true → is_start at.last ≡ false → Row code at line (later_table at line)
+later_row code at line wide later =
     elim (cases_Bool (identifier line == 50)) [
-      | inl a ↦ rw a (transaction_row code n before line (is_complete at.last at.code at.related) (sale_fits line) (at.transactions + 1) wide (tested n before line (sale_fits line) wide first (rw a refl)))
+      | inl a ↦ rw a (transaction_row code at line (is_complete at.last at.code at.related) (sale_fits line) (at.transactions + 1) wide (tested at line (sale_fits line) wide later (rw a refl)))
       | inr a ↦ elim (cases_Bool (identifier line == 51)) [
-        | inl b ↦ rw (a, b) (transaction_row code n before line (takes_related at.last at.code at.profile at.only) (related_fits line && comes_behind at.only (related_order line)) at.transactions wide (λ unfit. not_behind n before line wide first b))
+        | inl b ↦ rw (a, b) (transaction_row code at line (takes_related at.last at.code at.profile at.only) (related_fits line && comes_behind at.only (related_order line)) at.transactions wide (λ unfit. not_behind at line wide later b))
         | inr b ↦ elim (cases_Bool (identifier line == 53)) [
-          | inl d ↦ rw (a, b, d) (transaction_row code n before line (takes_amounts at.last at.code) (amounts_fit line) at.transactions wide (tested n before line (amounts_fit line) wide first (rw (a, b, d) refl)))
+          | inl d ↦ rw (a, b, d) (transaction_row code at line (takes_amounts at.last at.code) (amounts_fit line) at.transactions wide (tested at line (amounts_fit line) wide later (rw (a, b, d) refl)))
           | inr d ↦ elim (cases_Bool (identifier line == 56)) [
-            | inl e ↦ rw (a, b, d, e) (transaction_row code n before line (takes_form at.last at.code at.related (form_of line)) (form_fits line) at.transactions wide (tested n before line (form_fits line) wide first (rw (a, b, d, e) refl)))
-            | inr e ↦ rw (a, b, d, e) (trailer_row code n before at line is_standing wide first (λ z. rw (a, b, d, e, z) refl))
+            | inl e ↦ rw (a, b, d, e) (transaction_row code at line (takes_form at.last at.code at.related (form_of line)) (form_fits line) at.transactions wide (tested at line (form_fits line) wide later (rw (a, b, d, e) refl)))
+            | inr e ↦ rw (a, b, d, e) (trailer_row code at line wide later (λ z. rw (a, b, d, e, z) refl))
           ]
         ]
       ]
     ]
 
-table_row : (code : FaultCode) (n : ℕ) (before : Before) (at : Standing) (line : List ℕ) → IsStandingOf n before at → is_wide line ≡ true → Row code n before line (record_table at line)
-table_row code n before at line is_standing wide =
+table_row : (code : FaultCode) (at : Standing) (line : List ℕ) → is_wide line ≡ true → Row code at line (record_table at line)
+table_row code at line wide =
     elim (cases_Bool (is_start at.last)) [
-      | inl start ↦ rw start (header_row code n before line wide (sym start ∙ is_standing.first))
-      | inr later ↦ rw later (later_row code n before at line is_standing wide (sym later ∙ is_standing.first))
+      | inl start ↦ rw start (header_row code at line wide start)
+      | inr later ↦ rw later (later_row code at line wide later)
     ]
 
--- a record to which a row applies is at fault in that row
-pub row_is : (code : FaultCode) (n : ℕ) (before : Before) (at : Standing) (line : List ℕ) → IsStandingOf n before at → row_fault at line ≡ Err code → is_without code n before line ≡ false
+-- a line to which a row applies is at fault in that row
+pub row_is : (code : FaultCode) (at : Standing) (line : List ℕ) → row_fault at line ≡ Err code → is_without code at line ≡ false
 unfolding row_fault
-row_is code n before at line is_standing =
-    let P : FaultCode → Bool = λ k. is_without k n before line in
+row_is code at line =
+    let P : FaultCode → Bool = λ k. is_without k at line in
     row_or (has_ended at.last) F09 code ((not (is_wide line), F01) ∷ record_table at line) P
     (λ t. refl)
     (λ f. row_or (not (is_wide line)) F01 code (record_table at line) P
     (λ t. unset (is_wide line) t)
-    (λ g. table_row code n before at line is_standing (set (is_wide line) g)))
+    (λ g. table_row code at line (set (is_wide line) g)))
 
 -- ---- a line of another width
 

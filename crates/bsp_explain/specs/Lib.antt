@@ -3,5 +3,6 @@ pub mod Fields
 pub mod TaxFields
 pub mod RetFields
 pub mod Reasons
-pub mod Before
+pub mod Lines
 pub mod RetReasons
+pub mod RetFaults

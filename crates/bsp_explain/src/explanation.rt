@@ -1,21 +1,23 @@
 //! Explanations as people read them.
 
-ghost use Rattle.std.specs.Prelude.{◌≡◌, ◌⊎◌, ◌-◌, ◌<◌, ◌^◌, ℕ, List, [], take, true, false, Some};
+ghost use Rattle.std.specs.Prelude.{◌≡◌, ◌≢◌, ◌+◌, ◌++◌, ◌≤◌, ◌<◌, ◌^◌, ℕ, List, length, true, None, Err, IfSome, IfNone, IfOk, IfErr};
 ghost use Rattle.bsp_records.specs.Lines.{lines};
-ghost use Rattle.bsp_ret.specs.Table.{first_fault};
-ghost use Rattle.bsp_explain.specs.Before.{counted, IsLine};
-ghost use Rattle.bsp_explain.specs.RetReasons.{Says, is_reason_of, is_without};
+ghost use Rattle.bsp_ret.specs.Table.{standing, first_fault, row_fault};
+ghost use Rattle.bsp_ret.specs.Pieces.{IsClear};
+ghost use Rattle.bsp_explain.specs.Lines.{IsLine};
+ghost use Rattle.bsp_explain.specs.RetReasons.{Says, is_reason_of};
+ghost use Rattle.bsp_explain.specs.RetFaults.{SaysOfRetFault};
 
-use crate::before::{Before, text_after};
 use crate::field::Field;
 use crate::form::Form;
 use crate::hint::{Hint, hint_of, say_moved_day, say_short};
 use crate::name::Name;
 use crate::reason::Reason;
-use crate::ret_reasons::ret_reason;
+use crate::ret_reasons::{is_start, ret_reason};
+use crate::width::long_reason;
 use bsp_fault_texts::{Characters, Words};
 use bsp_records::first_line;
-use bsp_ret::RetFault;
+use bsp_ret::{FaultCode, Standing};
 use std::fmt;
 
 /// What is wrong with a record of a RET file. It is displayed as ``record 3, columns 32-33: tax place 2 has
@@ -40,60 +42,120 @@ fn found_in(line: &[u8], reason: Reason) -> Option<Characters> {
     }
 }
 
-/// What is wrong with a line of a RET file, or that it has no such fault.
-fn line_reason(fault: RetFault, line: &[u8], before: Before) -> Reason
-    requires { before.transactions < 2 ^ 64 - 1 }
-    ensures says { Says fault.at before line.now result }
-    ensures row { is_without fault.code fault.at before line.now ≡ false → is_reason_of fault.code result ≡ true }
+/// What is wrong with a line by that row of the fault table, or that it has no such fault.
+#[tactic(auto, using(crate::proofs::RowLemmas::row_is))]
+fn line_reason(at: Standing, code: FaultCode, line: &[u8]) -> Reason
+    requires room { at.records < 2 ^ 63 }
+    requires counted { at.transactions ≤ at.records }
+    ensures says { Says (at.records + 1) at line.now result }
+    ensures row { row_fault at line.now ≡ Err code → is_reason_of code result ≡ true }
 {
-    match ret_reason(fault, line, before) {
+    match ret_reason(at, code, line) {
         Some(reason) => reason,
         None => Reason::NotFound,
     }
 }
 
-/// The first line of a text, or an empty one where it has none.
-fn first_or_empty(text: &[u8]) -> &[u8]
-    ensures { IsLine 0 (lines text.now) result.now ⊎ (lines text.now ≡ []) }
+/// Explains the line with which a text begins, which the records of this state do not allow, by that row of the
+/// fault table.
+pub fn explain_line(at: &Standing, code: FaultCode, text: &[u8]) -> Explanation
+    requires some { 0 < length text.now }
+    requires room { at.now.records < 2 ^ 63 }
+    requires counted { at.now.transactions ≤ at.now.records }
+    ensures number { result.record ≡ at.now.records + 1 }
+    // The reason is true of the line, after the records before it.
+    ensures says { (line : List ℕ) → IsLine 0 (lines text.now) line → Says (at.now.records + 1) at.now line result.reason }
+    // Where the line is at fault in that row, the reason is one of the row.
+    ensures row { (line : List ℕ) → IsLine 0 (lines text.now) line → row_fault at.now line ≡ Err code → is_reason_of code result.reason ≡ true }
 {
-    if text.is_empty() {
-        return text;
-    }
-    first_line(text).0
-}
-
-/// What is wrong with the line of a text whose number a fault has, what the line has there, and what more it shows.
-fn text_reason(text: &[u8], fault: RetFault) -> (Reason, Option<Characters>, Option<Hint>)
-    ensures says { (line : List ℕ) → IsLine (fault.at - 1) (lines text.now) line → Says fault.at (counted (take (fault.at - 1) (lines text.now))) line result.0 }
-    ensures trailer { (records : ℕ) (before : Before) → result.0 ≡ Reason.NoTrailer records before → (records ≡ fault.at) × (before ≡ counted (take (fault.at - 1) (lines text.now))) }
-    ensures explained { first_fault (lines text.now) ≡ Some fault → is_reason_of fault.code result.0 ≡ true }
-{
-    let (before, rest) = text_after(text, fault.at.saturating_sub(1));
-    let line = first_or_empty(rest);
-    let reason = line_reason(fault, line, before);
-    (
-        reason,
-        found_in(line, reason),
-        hint_of(line, fault.at == 1, reason),
-    )
-}
-
-/// Explains the first fault of the text of a RET file.
-pub fn explain_ret(text: &[u8], fault: RetFault) -> Explanation
-    ensures number { result.record ≡ fault.at }
-    // The reason is true of the line, after what is counted before it.
-    ensures says { (line : List ℕ) → IsLine (fault.at - 1) (lines text.now) line → Says fault.at (counted (take (fault.at - 1) (lines text.now))) line result.reason }
-    // A trailer that is missing has to state what is counted in the lines.
-    ensures trailer { (records : ℕ) (before : Before) → result.reason ≡ Reason.NoTrailer records before → (records ≡ fault.at) × (before ≡ counted (take (fault.at - 1) (lines text.now))) }
-    // The fault that the reader answers for the text has a reason of its row.
-    ensures explained { first_fault (lines text.now) ≡ Some fault → is_reason_of fault.code result.reason ≡ true }
-{
-    let (reason, found, hint) = text_reason(text, fault);
+    let (line, _) = first_line(text);
+    let reason = line_reason(*at, code, line);
     Explanation {
-        record: fault.at,
+        record: at.records + 1,
         reason,
-        found,
-        hint,
+        found: found_in(line, reason),
+        hint: hint_of(line, is_start(*at), reason),
+    }
+}
+
+/// What is wrong with a line of so many characters, of which these are the first.
+fn long_line_reason(code: FaultCode, head: &[u8], width: usize) -> Reason
+    requires other { width ≢ 136 }
+    ensures says { (at : Standing) (more : List ℕ) → length (head.now ++ more) ≡ width → Says (at.records + 1) at (head.now ++ more) result }
+    ensures row { (at : Standing) (more : List ℕ) → length (head.now ++ more) ≡ width → row_fault at (head.now ++ more) ≡ Err code → is_reason_of code result ≡ true }
+{
+    match code {
+        FaultCode::F09 => Reason::AfterTrailer { width },
+        _ => long_reason(head, width),
+    }
+}
+
+/// Explains a line of so many characters, which are not as many as a record has, by that row of the fault table. These
+/// are the first of them.
+pub fn explain_long(at: &Standing, code: FaultCode, head: &[u8], width: usize) -> Explanation
+    requires other { width ≢ 136 }
+    requires room { at.now.records < 2 ^ 63 }
+    ensures number { result.record ≡ at.now.records + 1 }
+    ensures says { (more : List ℕ) → length (head.now ++ more) ≡ width → Says (at.now.records + 1) at.now (head.now ++ more) result.reason }
+    ensures row { (more : List ℕ) → length (head.now ++ more) ≡ width → row_fault at.now (head.now ++ more) ≡ Err code → is_reason_of code result.reason ≡ true }
+{
+    Explanation {
+        record: at.records + 1,
+        reason: long_line_reason(code, head, width),
+        found: None,
+        hint: None,
+    }
+}
+
+/// Explains that a file ends without a trailer, after the records of this state.
+pub fn explain_missing(at: &Standing) -> Explanation
+    requires { at.now.records < 2 ^ 63 }
+    ensures number { result.record ≡ at.now.records + 1 }
+    // The trailer has to state what is counted in the records.
+    ensures trailer { result.reason ≡ Reason.NoTrailer (at.now.records + 1) at.now }
+{
+    let records = at.records + 1;
+    Explanation {
+        record: records,
+        reason: Reason::NoTrailer { records, at: *at },
+        found: None,
+        hint: None,
+    }
+}
+
+/// Judges the lines of a text. Answers their state.
+///
+/// # Errors
+///
+/// The explanation of the first line that those before it do not allow.
+fn judge_lines(text: &[u8]) -> Result<Standing, Explanation>
+    ensures state { IfOk result (λ at. at ≡ standing (lines text.now)) }
+    ensures clear { IfOk result (λ at. IsClear (lines text.now)) }
+    ensures few { IfOk result (λ at. at.records < 2 ^ 63) }
+    ensures explained { IfErr result (SaysOfRetFault (lines text.now)) }
+{
+    let mut at = Standing::start();
+    let mut rest = text;
+    while !rest.is_empty() {
+        let (line, after) = first_line(rest);
+        match at.step(line) {
+            Ok(_) => {}
+            Err(code) => return Err(explain_line(&at, code, rest)),
+        }
+        rest = after;
+    }
+    Ok(at)
+}
+
+/// Explains the first fault of the text of a RET file, if it has one.
+pub fn explain_ret(text: &[u8]) -> Option<Explanation>
+    ensures explained { IfSome result (SaysOfRetFault (lines text.now)) }
+    ensures none { IfNone result (first_fault (lines text.now) ≡ None) }
+{
+    match judge_lines(text) {
+        Ok(at) if at.last.has_ended() => None,
+        Ok(at) => Some(explain_missing(&at)),
+        Err(explanation) => Some(explanation),
     }
 }
 

@@ -2,7 +2,6 @@
 //! is at fault, with its columns, and what more the record shows. Fields, their forms and their names are of RET and HOT files.
 #![tactic(auto)]
 
-mod before;
 mod explanation;
 mod field;
 mod form;
@@ -14,9 +13,10 @@ mod ret_reasons;
 mod taxes;
 mod width;
 
-pub use before::Before;
 pub use bsp_fault_texts::{Cause, Money, Words};
-pub use explanation::{Explanation, explain_ret, say_columns};
+pub use explanation::{
+    Explanation, explain_line, explain_long, explain_missing, explain_ret, say_columns,
+};
 pub use field::{Field, first_unfit};
 pub use form::Form;
 pub use hint::Hint;

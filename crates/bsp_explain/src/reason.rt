@@ -3,11 +3,11 @@
 ghost use Rattle.std.specs.Prelude.{◌≡◌};
 ghost use Rattle.bsp_explain.specs.Reasons.{columns_of};
 
-use crate::before::Before;
 use crate::field::Field;
 use bsp_fault_texts::{
-    Cause, Money, Place, Words, say_count, say_end, say_payment, say_place, say_sum, say_width,
+    Cause, Money, Words, say_count, say_end, say_payment, say_place, say_sum, say_width,
 };
+use bsp_ret::Standing;
 use bsp_ret_records::FormOfPayment;
 
 /// What is wrong with a record. It is said without its columns.
@@ -38,8 +38,8 @@ pub enum Reason {
     Place {
         /// Its identifier.
         identifier: char,
-        /// What the records before it leave.
-        place: Place,
+        /// The state of the records before it.
+        at: Standing,
     },
     /// The second of two records 3 does not come after the first, by its airline and its document.
     RelatedOrder,
@@ -47,8 +47,8 @@ pub enum Reason {
     Payment {
         /// Its form of payment.
         form: Option<FormOfPayment>,
-        /// What the records before it leave.
-        place: Place,
+        /// The state of the records before it.
+        at: Standing,
     },
     /// A trailer states another number of records, header and trailer included.
     RecordCount {
@@ -74,14 +74,13 @@ pub enum Reason {
     NoTrailer {
         /// How many records there are with the trailer.
         records: usize,
-        /// What the trailer has to state.
-        before: Before,
+        /// The state of the records before it, whose transactions and sum it has to state.
+        at: Standing,
     },
     AfterTrailer {
         /// How many characters it has.
         width: usize,
     },
-    NoMemory,
     NotFound,
 }
 
@@ -110,7 +109,6 @@ impl Reason {
             Reason::RelatedOrder => "the related document does not come after the one before it",
             Reason::AfterTrailer { .. } =>
                 "a line follows the trailer: remove it; if it begins with `1`, a second file begins here: send that as a file of its own",
-            Reason::NoMemory => "out of memory",
             // (`NotFound`: `say` says all others)
             _ => "the record has no such fault",
         }
@@ -119,13 +117,7 @@ impl Reason {
     /// Says what is wrong, where a count or the sum of a trailer is, or its place.
     fn say_of_trailer(self, words: &mut Words) {
         match self {
-            Reason::NoTrailer { records, before } => say_end(
-                words,
-                before.place,
-                records,
-                before.transactions,
-                before.sum,
-            ),
+            Reason::NoTrailer { records, at } => say_end(words, records, &at),
             Reason::AfterTrailer { width: 0 } => {
                 words.add("an empty line follows the trailer: remove it");
             }
@@ -160,8 +152,8 @@ impl Reason {
                 words.add("the transaction number is not ");
                 words.show_padded(next, 6);
             }
-            Reason::Place { identifier, place } => say_place(words, identifier, place),
-            Reason::Payment { form, place } => say_payment(words, form, place),
+            Reason::Place { identifier, at } => say_place(words, identifier, &at),
+            Reason::Payment { form, at } => say_payment(words, form, &at),
             _ => self.say_of_trailer(words),
         }
     }

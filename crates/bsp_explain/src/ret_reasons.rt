@@ -1,15 +1,12 @@
-//! What is wrong with a record of a RET file, found again from the record and from what was counted
-//! before it.
+//! What is wrong with a record of a RET file, from the record and from the state of those before it.
 
-ghost use Rattle.std.specs.Prelude.{◌≡◌, ◌==◌, ◌||◌, ◌-◌, ◌<◌, ◌^◌, ℕ, not, length, true, false, IfSome, IfNone};
-ghost use Rattle.bsp_fields.specs.Zoned.{zoned_reading};
+ghost use Rattle.std.specs.Prelude.{◌≡◌, ◌||◌, ◌+◌, ◌-◌, ◌≤◌, ◌<◌, ◌^◌, ℕ, not, length, true, false, IfSome, IfNone};
 ghost use Rattle.bsp_records.specs.Columns.{is_wide};
-ghost use Rattle.bsp_ret_records.specs.Records.{IsFit, trailer_fits, total};
-ghost use Rattle.bsp_ret.specs.Table.{has_value};
+ghost use Rattle.bsp_ret_records.specs.Records.{IsFit, trailer_fits};
+ghost use Rattle.bsp_ret.specs.Table.{is_start, has_counts, has_sum};
 ghost use Rattle.bsp_explain.specs.Fields.{first_unfit, IsAtFault};
-ghost use Rattle.bsp_explain.specs.RetReasons.{record_fits, record_fields, wanted_number, has_number, has_next_number, Says, is_reason_of, has_stated, may_be_second, is_without};
+ghost use Rattle.bsp_explain.specs.RetReasons.{record_fits, record_fields, wanted_number, has_number, has_next_number, Says, is_reason_of, may_be_second, is_without};
 
-use crate::before::Before;
 use crate::field::Field;
 use crate::reason::Reason;
 use crate::ret_fields::{
@@ -18,7 +15,7 @@ use crate::ret_fields::{
 use crate::width::width_reason;
 use bsp_fault_texts::Money;
 use bsp_records::{number_of, spells};
-use bsp_ret::{FaultCode, RetFault};
+use bsp_ret::{FaultCode, LastRecord, Standing};
 use bsp_ret_records::{
     form_of, record_count, told_records, told_sum, trailer_fits, transaction_count,
     transaction_number,
@@ -77,59 +74,67 @@ fn has_next_number(line: &[u8], transactions: usize) -> bool
 }
 
 /// Why a record may not follow those before it, where it may not.
-fn place_reason(line: &[u8], before: Before) -> Reason
+fn place_reason(at: Standing, line: &[u8]) -> Reason
     requires wide { length line.now ≡ 136 }
-    requires room { before.transactions < 2 ^ 64 - 1 }
-    ensures says { (n : ℕ) → Says n before line.now result }
+    requires room { at.transactions < 2 ^ 64 - 1 }
+    ensures says { (n : ℕ) → Says n at line.now result }
     ensures row { is_reason_of FaultCode.F03 result ≡ true }
 {
-    if !has_next_number(line, before.transactions) {
-        return Reason::TransactionNumber(wanted_number(line, before.transactions));
+    if !has_next_number(line, at.transactions) {
+        return Reason::TransactionNumber(wanted_number(line, at.transactions));
     }
     match line[0] {
         b'8' => Reason::Payment {
             form: form_of(line),
-            place: before.place,
+            at,
         },
         b'2' | b'3' | b'5' | b'Z' => Reason::Place {
             identifier: line[0] as char,
-            place: before.place,
+            at,
         },
         _ => Reason::Identifier(line[0] as char),
     }
 }
 
+/// Whether the next record is the first.
+pub(crate) fn is_start(at: Standing) -> bool
+    ensures { result ≡ is_start at.last }
+{
+    matches!(at.last, LastRecord::Start)
+}
+
 /// Which field of a record is not in its form.
-fn field_reason(number: usize, line: &[u8]) -> Option<Reason>
+fn field_reason(at: Standing, line: &[u8]) -> Option<Reason>
     requires { length line.now ≡ 136 }
-    ensures says { (before : Before) → IfSome result (Says number before line.now) }
+    ensures says { (n : ℕ) → IfSome result (Says n at line.now) }
     ensures row_two { IfSome result (λ reason. is_reason_of FaultCode.F02 reason ≡ true) }
     ensures row_four { IfSome result (λ reason. is_reason_of FaultCode.F04 reason ≡ true) }
     ensures row_five { IfSome result (λ reason. is_reason_of FaultCode.F05 reason ≡ true) }
-    ensures none { IfNone result (record_fits (number == 1) line.now ≡ true) }
+    ensures none { IfNone result (record_fits (is_start at.last) line.now ≡ true) }
 {
-    match record_field(number == 1, line) {
+    match record_field(is_start(at), line) {
         Some(field) => Some(Reason::Unfit(field)),
         None => None,
     }
 }
 
-/// Which count of a trailer differs from its number and the transactions before it.
+/// Which count of a trailer differs from the records with it and the transactions before it.
 #[tactic(auto, using(crate::proofs::TrailerLemmas::stated_both, crate::proofs::TrailerLemmas::stated_digits))]
-fn count_reason(line: &[u8], number: usize, before: Before) -> Option<Reason>
-    requires { IsFit trailer_fits line.now }
-    ensures says { IfSome result (Says number before line.now) }
+fn count_reason(at: Standing, line: &[u8]) -> Option<Reason>
+    requires fits { IsFit trailer_fits line.now }
+    requires room { at.records < 2 ^ 63 }
+    ensures says { IfSome result (Says (at.records + 1) at line.now) }
     ensures row { IfSome result (λ reason. is_reason_of FaultCode.F06 reason ≡ true) }
-    ensures none { IfNone result (has_stated number before.transactions line.now ≡ true) }
+    ensures none { IfNone result (has_counts at line.now ≡ true) }
 {
+    let counted = at.records + 1;
     let stated = told_records(line) as u64;
-    if stated != number as u64 {
-        let counted = number;
+    if stated != counted as u64 {
         return Some(Reason::RecordCount { stated, counted });
     }
+    let counted = at.transactions;
     let stated = number_of(transaction_count(line));
-    if stated != before.transactions as u64 {
-        let counted = before.transactions;
+    if stated != counted as u64 {
         return Some(Reason::TransactionCount { stated, counted });
     }
     None
@@ -137,80 +142,80 @@ fn count_reason(line: &[u8], number: usize, before: Before) -> Option<Reason>
 
 /// Whether the sum of a trailer differs from that of the forms before it.
 #[tactic(auto, using(crate::proofs::TrailerLemmas::stated_same))]
-fn sum_reason(line: &[u8], before: Before) -> Option<Reason>
+fn sum_reason(at: Standing, line: &[u8]) -> Option<Reason>
     requires { IsFit trailer_fits line.now }
-    ensures says { (n : ℕ) → IfSome result (Says n before line.now) }
+    ensures says { (n : ℕ) → IfSome result (Says n at line.now) }
     ensures row { IfSome result (λ reason. is_reason_of FaultCode.F07 reason ≡ true) }
-    ensures none { IfNone result (has_value before.sum (zoned_reading 15 (total line.now)) ≡ true) }
+    ensures none { IfNone result (has_sum at line.now ≡ true) }
 {
     let stated = told_sum(line).get();
-    if stated == before.sum {
+    if stated == at.sum {
         return None;
     }
     Some(Reason::Sum {
         stated: Money { units: stated },
-        summed: Money { units: before.sum },
+        summed: Money { units: at.sum },
     })
 }
 
 /// Which field is not in its form, of a record of the right width.
-fn field_fault(number: usize, line: &[u8]) -> Option<Reason>
-    ensures says { (before : Before) → IfSome result (Says number before line.now) }
+fn field_fault(at: Standing, line: &[u8]) -> Option<Reason>
+    ensures says { (n : ℕ) → IfSome result (Says n at line.now) }
     ensures row_two { IfSome result (λ reason. is_reason_of FaultCode.F02 reason ≡ true) }
     ensures row_four { IfSome result (λ reason. is_reason_of FaultCode.F04 reason ≡ true) }
-    ensures row_five { IfSome result (λ reason. is_reason_of FaultCode.F05 reason ≡ true) }
-    ensures none { IfNone result ((not (is_wide line.now) || record_fits (number == 1) line.now) ≡ true) }
+    ensures none { IfNone result ((not (is_wide line.now) || record_fits (is_start at.last) line.now) ≡ true) }
 {
     if line.len() != 136 {
         return None;
     }
-    field_reason(number, line)
+    field_reason(at, line)
 }
 
 /// Whether a record may be the second record 3 of its group.
-fn may_be_second(number: usize, line: &[u8]) -> bool
+fn may_be_second(at: Standing, line: &[u8]) -> bool
     requires { length line.now ≡ 136 }
-    ensures { result ≡ may_be_second (number == 1) line.now }
+    ensures { result ≡ may_be_second (is_start at.last) line.now }
 {
-    number != 1 && line[0] == b'3'
+    !is_start(at) && line[0] == b'3'
 }
 
 /// Which field is not in its form, or that a record 3 does not come after the one before it.
-fn form_fault(number: usize, line: &[u8]) -> Option<Reason>
-    ensures says { (before : Before) → IfSome result (Says number before line.now) }
+fn form_fault(at: Standing, line: &[u8]) -> Option<Reason>
+    ensures says { (n : ℕ) → IfSome result (Says n at line.now) }
     ensures row { IfSome result (λ reason. is_reason_of FaultCode.F05 reason ≡ true) }
-    ensures none { (before : Before) → IfNone result (is_without FaultCode.F05 number before line.now ≡ true) }
+    ensures none { IfNone result (is_without FaultCode.F05 at line.now ≡ true) }
 {
     if line.len() != 136 {
         return None;
     }
-    if let Some(reason) = field_reason(number, line) {
+    if let Some(reason) = field_reason(at, line) {
         return Some(reason);
     }
-    if may_be_second(number, line) {
+    if may_be_second(at, line) {
         return Some(Reason::RelatedOrder);
     }
     None
 }
 
 /// Why a record of the right width may not follow those before it.
-fn place_fault(line: &[u8], before: Before) -> Option<Reason>
-    requires { before.transactions < 2 ^ 64 - 1 }
-    ensures says { (n : ℕ) → IfSome result (Says n before line.now) }
+fn place_fault(at: Standing, line: &[u8]) -> Option<Reason>
+    requires { at.transactions < 2 ^ 64 - 1 }
+    ensures says { (n : ℕ) → IfSome result (Says n at line.now) }
     ensures row { IfSome result (λ reason. is_reason_of FaultCode.F03 reason ≡ true) }
     ensures none { IfNone result (not (is_wide line.now) ≡ true) }
 {
     if line.len() != 136 {
         return None;
     }
-    Some(place_reason(line, before))
+    Some(place_reason(at, line))
 }
 
 /// Which count differs, of a trailer whose fields fit.
-fn count_fault(line: &[u8], number: usize, before: Before) -> Option<Reason>
-    ensures says { IfSome result (Says number before line.now) }
+fn count_fault(at: Standing, line: &[u8]) -> Option<Reason>
+    requires { at.records < 2 ^ 63 }
+    ensures says { IfSome result (Says (at.records + 1) at line.now) }
     ensures row { IfSome result (λ reason. is_reason_of FaultCode.F06 reason ≡ true) }
-    ensures none { IfNone result (is_without FaultCode.F06 number before line.now ≡ true) }
+    ensures none { IfNone result (is_without FaultCode.F06 at line.now ≡ true) }
 {
     if line.len() != 136 {
         return None;
@@ -218,14 +223,14 @@ fn count_fault(line: &[u8], number: usize, before: Before) -> Option<Reason>
     if !trailer_fits(line) {
         return None;
     }
-    count_reason(line, number, before)
+    count_reason(at, line)
 }
 
 /// Whether the sum differs, of a trailer whose fields fit.
-fn sum_fault(line: &[u8], before: Before) -> Option<Reason>
-    ensures says { (n : ℕ) → IfSome result (Says n before line.now) }
+fn sum_fault(at: Standing, line: &[u8]) -> Option<Reason>
+    ensures says { (n : ℕ) → IfSome result (Says n at line.now) }
     ensures row { IfSome result (λ reason. is_reason_of FaultCode.F07 reason ≡ true) }
-    ensures none { (n : ℕ) → IfNone result (is_without FaultCode.F07 n before line.now ≡ true) }
+    ensures none { IfNone result (is_without FaultCode.F07 at line.now ≡ true) }
 {
     if line.len() != 136 {
         return None;
@@ -233,38 +238,34 @@ fn sum_fault(line: &[u8], before: Before) -> Option<Reason>
     if !trailer_fits(line) {
         return None;
     }
-    sum_reason(line, before)
+    sum_reason(at, line)
 }
 
-/// What is wrong with a line of a RET file that the reader refused with that fault, from what was
-/// counted before it. `None` where the line has no such fault.
-pub(crate) fn ret_reason(fault: RetFault, line: &[u8], before: Before) -> Option<Reason>
-    requires { before.transactions < 2 ^ 64 - 1 }
-    // The reason is true of the line, and is one of the fault's row.
-    ensures says { IfSome result (Says fault.at before line.now) }
-    ensures row { IfSome result (λ reason. is_reason_of fault.code reason ≡ true) }
+/// What is wrong with a line by that row of the fault table, after records of this state. `None` where the
+/// line has no such fault.
+pub(crate) fn ret_reason(at: Standing, code: FaultCode, line: &[u8]) -> Option<Reason>
+    requires room { at.records < 2 ^ 63 }
+    requires counted { at.transactions ≤ at.records }
+    // The reason is true of the line, and is one of the row.
+    ensures says { IfSome result (Says (at.records + 1) at line.now) }
+    ensures row { IfSome result (λ reason. is_reason_of code reason ≡ true) }
     // There is a reason for each line that is at fault in that row.
-    ensures none { IfNone result (is_without fault.code fault.at before line.now ≡ true) }
+    ensures none { IfNone result (is_without code at line.now ≡ true) }
 {
     let width = width_reason(line);
-    let field = field_fault(fault.at, line);
-    let form = form_fault(fault.at, line);
-    let place = place_fault(line, before);
-    let count = count_fault(line, fault.at, before);
-    let sum = sum_fault(line, before);
-    match fault.code {
+    let field = field_fault(at, line);
+    let form = form_fault(at, line);
+    let place = place_fault(at, line);
+    let count = count_fault(at, line);
+    let sum = sum_fault(at, line);
+    match code {
         FaultCode::F01 => width,
-        FaultCode::F02 => field,
+        FaultCode::F02 | FaultCode::F04 => field,
         FaultCode::F03 => place,
-        FaultCode::F04 => field,
         FaultCode::F05 => form,
         FaultCode::F06 => count,
         FaultCode::F07 => sum,
-        FaultCode::F08 => Some(Reason::NoTrailer {
-            records: fault.at,
-            before,
-        }),
         FaultCode::F09 => Some(Reason::AfterTrailer { width: line.len() }),
-        FaultCode::F10 => Some(Reason::NoMemory),
+        FaultCode::F08 | FaultCode::F10 => None,
     }
 }

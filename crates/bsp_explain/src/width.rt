@@ -3,10 +3,10 @@
 ghost use Rattle.std.specs.Prelude.{◌≡◌, ◌≢◌, ◌++◌, ℕ, List, length, true, false, IfSome, IfNone};
 ghost use Rattle.std.specs.List.{list_all};
 ghost use Rattle.bsp_records.specs.Columns.{is_printable, is_wide};
-ghost use Rattle.bsp_explain.specs.declared.before.Before.{Before};
 ghost use Rattle.bsp_explain.specs.Reasons.{SaysOfWidth};
 ghost use Rattle.bsp_explain.specs.RetReasons.{Says, is_reason_of};
 ghost use Rattle.bsp_ret.specs.declared.model.FaultCode.TheVariants.{F01};
+ghost use Rattle.bsp_ret.specs.declared.model.Standing.{Standing};
 
 use crate::reason::Reason;
 use bsp_fault_texts::{Cause, cause_of};
@@ -36,7 +36,7 @@ fn unprintable(line: &[u8]) -> Option<(u8, u8)>
 /// Why a line is no record of 136 characters from 0x20 to 0x7E.
 #[tactic(auto, unfolding(bsp_records::specs::Columns::is_wide))]
 pub fn width_reason(line: &[u8]) -> Option<Reason>
-    ensures says { (n : ℕ) (before : Before) → IfSome result (Says n before line.now) }
+    ensures says { (n : ℕ) (at : Standing) → IfSome result (Says n at line.now) }
     ensures row { IfSome result (λ reason. is_reason_of F01 reason ≡ true) }
     ensures says_of_width { IfSome result (SaysOfWidth line.now) }
     ensures narrow { IfSome result (λ reason. is_wide line.now ≡ false) }
@@ -61,7 +61,9 @@ pub fn width_reason(line: &[u8]) -> Option<Reason>
 /// Why a line of so many characters, of which these are the first, is no record: they are not 136.
 pub fn long_reason(head: &[u8], width: usize) -> Reason
     requires { width ≢ 136 }
-    ensures { (more : List ℕ) → length (head.now ++ more) ≡ width → SaysOfWidth (head.now ++ more) result }
+    ensures says { (n : ℕ) (at : Standing) (more : List ℕ) → length (head.now ++ more) ≡ width → Says n at (head.now ++ more) result }
+    ensures says_of_width { (more : List ℕ) → length (head.now ++ more) ≡ width → SaysOfWidth (head.now ++ more) result }
+    ensures row { is_reason_of F01 result ≡ true }
 {
     Reason::Width {
         width,

@@ -2,9 +2,9 @@
 
 use crate::money::Money;
 use crate::order::ending_text;
-use crate::place::Place;
 use crate::words::Words;
 use crate::zoned::ZonedTotal;
+use bsp_ret::Standing;
 
 /// Says that the number of these is not what a trailer states.
 pub fn say_count(words: &mut Words, what: &'static str, stated: u64, counted: usize) {
@@ -31,16 +31,16 @@ pub fn say_sum(words: &mut Words, stated: Money, summed: Money) {
     words.add("`");
 }
 
-/// Says what a file lacks that ends at a place: a record of its last transaction, or else the trailer, which states
-/// these numbers and the sum, in minor units.
-pub fn say_end(words: &mut Words, place: Place, records: usize, transactions: usize, sum: i128) {
-    if let Some(text) = ending_text(place) {
+/// Says what a file lacks that ends after the records of this state: a record of its last transaction, or else
+/// the trailer, which states this number of records, and the transactions and the sum.
+pub fn say_end(words: &mut Words, records: usize, at: &Standing) {
+    if let Some(text) = ending_text(at) {
         words.add_all(&["the file ends here: ", text]);
         return;
     }
     words.add("the file ends without a trailer: write `Z");
     words.show_padded(records, 7);
-    words.show_padded(transactions, 7);
-    ZonedTotal { units: sum }.say(words);
+    words.show_padded(at.transactions, 7);
+    ZonedTotal { units: at.sum }.say(words);
     words.add("`, and 106 spaces up to 136 characters");
 }

@@ -4,7 +4,7 @@ ghost use Rattle.std.specs.Prelude.{◌≡◌, ◌+◌, ◌<◌, ◌^◌, ◌++�
 ghost use Rattle.std.specs.Str.{bytes_eq};
 ghost use Rattle.bsp_records.specs.Columns.{columns};
 ghost use Rattle.bsp_records.specs.Lines.{lines};
-ghost use Rattle.bsp_explain.specs.Before.{IsLine};
+ghost use Rattle.bsp_explain.specs.Lines.{IsLine};
 ghost use Rattle.bsp_hot_check.specs.Standings.{IsSmall};
 ghost use Rattle.bsp_hot_explain.specs.HotReasons.{SaysOfHot, record_name};
 

@@ -21,6 +21,14 @@ fn say_plan(rt: &HostRuntime, file: &str, body: &[u8], fault: PlanFault) -> Resu
     Ok(())
 }
 
+/// Says why a RET file is refused.
+fn say_ret(rt: &HostRuntime, file: &str, body: &[u8]) {
+    if let Some(explanation) = explain_ret(body) {
+        let verdict = Verdict::Refused(Explanation::Ret(explanation));
+        say_answer(rt, file, &Ok(verdict));
+    }
+}
+
 /// Says why a RET file is refused, or a plan text.
 fn say_file(
     rt: &HostRuntime,
@@ -29,9 +37,8 @@ fn say_file(
     found: Option<BodyFault>,
 ) -> Result<(), NoRoom> {
     match found {
-        Some(BodyFault::Ret(fault)) => {
-            let explanation = Explanation::Ret(explain_ret(body, fault));
-            say_answer(rt, file, &Ok(Verdict::Refused(explanation)));
+        Some(BodyFault::Ret(_)) => {
+            say_ret(rt, file, body);
             Ok(())
         }
         Some(BodyFault::Plan(fault)) => say_plan(rt, file, body, fault),

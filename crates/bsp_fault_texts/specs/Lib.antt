@@ -1,2 +1,0 @@
--- What the contracts of texts of faults cite.
-pub mod Place
