@@ -4,10 +4,9 @@ use Rattle.std.proofs.lemmas.List.{take_at, drop_at}
 use Rattle.bsp_records.specs.Lines.{lines}
 use Rattle.bsp_ret.specs.declared.model.FaultCode.{FaultCode}
 use Rattle.bsp_ret.specs.declared.model.FaultCode.TheVariants.{F08}
-use Rattle.bsp_ret.specs.declared.model.RetFault.{RetFault}
 use Rattle.bsp_ret.specs.declared.model.Standing.{Standing}
 use Rattle.bsp_ret.specs.Table.{standing, has_ended, row_fault, first_fault}
-use Rattle.bsp_ret.specs.Standings.{standing_behind, fault_behind}
+use Rattle.bsp_ret.specs.Standings.{standing_behind, fault_behind, FitsIn}
 use Rattle.bsp_ret.specs.Pieces.{IsClear}
 use Rattle.bsp_ret.proofs.Steps.{standing_snoc}
 use Rattle.bsp_ret.proofs.LawLemmas.{is_first, behind_cons}
@@ -105,6 +104,9 @@ pub judged_fails : (at : Standing) (text rest line after : List ℕ) (code : Fau
 judged_fails at text rest line after code e judged cut fault number says row =
     subst (λ (xs : List (List ℕ)). SaysOfRetFault xs e) (sym (judged.are ∙ ap (λ xs. judged.ls ++ xs) cut))
     (says_of_line judged.ls line (lines after) at code e judged.stands judged.clear fault number says row)
+
+pub fits_nothing : (at : Standing) (most : ℕ) → at ≡ standing [] → FitsIn at most
+fits_nothing at most is = subst (λ (x : Standing). FitsIn x most) (sym is) record { counted = omega arith; small = omega arith; few = omega arith }
 
 -- nothing is left
 pub judged_all : (at : Standing) (text rest : List ℕ) → IsJudgedTo at text rest → lines rest ≡ [] → (at ≡ standing (lines text)) × IsClear (lines text)

@@ -1,5 +1,5 @@
 -- What a row of the fault table says of its record.
-use Rattle.std.proofs.Common.{◌≡◌, ◌≢◌, ℕ, ◌+◌, Bool, true, false, not, ◌&&◌, ◌||◌, List, [], ◌∷◌, Option, Some, None, IfNone, Err, length, refl, sym, ap, ◌∙◌, inl, inr, arith}
+use Rattle.std.proofs.Common.{◌≡◌, ◌≢◌, ℕ, ◌+◌, Bool, true, false, not, ◌&&◌, ◌||◌, List, [], ◌∷◌, Option, Some, None, IfNone, Err, length, refl, ap, subst, ◌∙◌, inl, inr, arith}
 use Rattle.std.specs.Prelude.{◌==◌}
 use Rattle.std.proofs.lemmas.Bool.{cases_Bool, and_parts, and_right, not-false, eqb-true}
 use Rattle.bsp_fields.specs.FirstFault.{first_fault_or}
@@ -10,8 +10,9 @@ use Rattle.bsp_ret.specs.declared.model.FaultCode.{FaultCode}
 use Rattle.bsp_ret.specs.declared.model.FaultCode.TheVariants.{F01, F02, F03, F04, F05, F06, F07, F09}
 use Rattle.bsp_ret.specs.declared.model.Standing.{Standing}
 use Rattle.bsp_ret.specs.Table.{has_ended, is_start, is_complete, takes_related, comes_behind, takes_amounts, takes_form, has_counts, has_sum, header_table, transaction_table, trailer_table, later_table, record_table, row_fault}
+use Rattle.bsp_ret.proofs.SaidLemmas.{ended_row, narrow_row}
 use Rattle.bsp_explain.specs.declared.reason.Reason.{Reason}
-use Rattle.bsp_explain.specs.RetReasons.{record_fits, may_be_second, is_without}
+use Rattle.bsp_explain.specs.RetReasons.{record_fits, may_be_second, is_reason_of, is_without}
 
 -- a fault of a table is that of its first row, or of the others where the first does not apply
 row_or : (test : Bool) (fault code : FaultCode) (rows : List (Bool × FaultCode)) (P : FaultCode → Bool) → (test ≡ true → P fault ≡ false) → (test ≡ false → first_fault_or {V = Unit {0}} rows tt ≡ Err code → P code ≡ false) → first_fault_or {V = Unit {0}} ((test, fault) ∷ rows) tt ≡ Err code → P code ≡ false
@@ -137,6 +138,14 @@ row_is code at line =
 not_wide : (line : List ℕ) → length line ≢ 136 → is_wide line ≡ false
 unfolding is_wide
 not_wide line other = let narrow : (length line == 136) ≡ false = grind arith in rw narrow refl
+
+-- is at fault in the row of its width, or else after a trailer
+pub narrow_row_is : (at : Standing) (line : List ℕ) (code : FaultCode) (r : Reason) → length line ≢ 136 → row_fault at line ≡ Err code → code ≢ F09 → is_reason_of F01 r ≡ true → is_reason_of code r ≡ true
+narrow_row_is at line code r other fault goes_on reason =
+    elim (cases_Bool (has_ended at.last)) [
+      | inl ended ↦ let row = ended_row at line ended in absurd (goes_on (cc (row, fault)))
+      | inr open_end ↦ let row = narrow_row at line open_end (not_wide line other) in let is : F01 ≡ code = cc (row, fault) in subst (λ (k : FaultCode). is_reason_of k r ≡ true) is reason
+    ]
 
 -- has no fault of a record of the right width
 pub narrow_or : (line : List ℕ) (x : Bool) → length line ≢ 136 → (not (is_wide line) || x) ≡ true

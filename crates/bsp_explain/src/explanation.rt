@@ -152,10 +152,14 @@ pub fn explain_ret(text: &[u8]) -> Option<Explanation>
     ensures explained { IfSome result (SaysOfRetFault (lines text.now)) }
     ensures none { IfNone result (first_fault (lines text.now) ≡ None) }
 {
-    match judge_lines(text) {
-        Ok(at) if at.last.has_ended() => None,
-        Ok(at) => Some(explain_missing(&at)),
-        Err(explanation) => Some(explanation),
+    let at = match judge_lines(text) {
+        Ok(at) => at,
+        Err(explanation) => return Some(explanation),
+    };
+    if at.last.has_ended() {
+        None
+    } else {
+        Some(explain_missing(&at))
     }
 }
 
