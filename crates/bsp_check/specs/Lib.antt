@@ -3,6 +3,7 @@ pub mod Verdicts
 pub mod Streams
 pub mod Windows
 pub mod Widths
+pub mod Judging
 pub mod HotJudging
 pub mod Inputs
 pub mod RetReport

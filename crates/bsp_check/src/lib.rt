@@ -9,6 +9,7 @@ mod checking;
 mod fault;
 mod hot_judging;
 mod hot_report;
+mod judging;
 mod long_line;
 mod reading;
 mod report;
