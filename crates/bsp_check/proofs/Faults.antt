@@ -11,13 +11,13 @@ IsNotRead TooLong = Unit {0}
 IsNotRead Write = Unit {0}
 IsNotRead Memory = Unit {0}
 
-abbrev IsNotLong : Fault → Type 0
+abbrev pub IsNotLong : Fault → Type 0
 IsNotLong Read = Unit {0}
 IsNotLong TooLong = ⊥
 IsNotLong Write = Unit {0}
 IsNotLong Memory = Unit {0}
 
-abbrev IsNotWrite : Fault → Type 0
+abbrev pub IsNotWrite : Fault → Type 0
 IsNotWrite Read = Unit {0}
 IsNotWrite TooLong = Unit {0}
 IsNotWrite Write = ⊥

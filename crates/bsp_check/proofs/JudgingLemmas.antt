@@ -1,73 +1,19 @@
--- What a HOT file is judged to be.
-use Rattle.std.proofs.Common.{◌≡◌, ℕ, ◌+◌, ◌-◌, ◌<◌, ◌≤◌, true, false, List, [], ◌∷◌, ◌++◌, length, take, drop, Option, Some, inl, inr, refl, sym, ap, subst, ◌∙◌, arith, append_assoc}
+-- What is said of the line of an input that is not allowed.
+use Rattle.std.proofs.Common.{◌≡◌, ℕ, ◌+◌, ◌*◌, ◌-◌, ◌^◌, ◌<◌, ◌≤◌, true, false, List, [], ◌∷◌, ◌++◌, length, take, drop, Option, Some, None, refl, sym, ap, subst, ◌∙◌, arith, append_assoc}
 use Rattle.std.proofs.lemmas.List.{append-nil, length-append, length-take-le, take-append-le, take-append-drop}
 use Rattle.std.proofs.lemmas.Bool.{false≢true}
-use Rattle.std.proofs.Math.Seq.{drop-append_seam}
 use Rattle.std.specs.Io.KnownBytes.{Consumes, IsAtEnd}
 use Rattle.std.proofs.KnownBytes.{Consumes-nil, Consumes-trans}
-use Rattle.bsp_ret.specs.Lines.{lines}
-use Rattle.bsp_records.proofs.CutLemmas.{some_lines}
-use Rattle.bsp_hot_check.specs.declared.model.Standing.{Standing}
-use Rattle.bsp_hot_check.specs.Standings.{start}
-use Rattle.bsp_hot_check.specs.Hot.{IsFirstFault}
-use Rattle.bsp_hot_check.specs.Judging.{stands_after}
-use Rattle.bsp_hot_check.specs.Pieces.{AreRefused}
-use Rattle.bsp_hot_check.proofs.StateLemmas.{stands_count, before_is, refused_first}
+use Rattle.bsp_records.specs.Lines.{lines}
+use Rattle.bsp_records.proofs.CutLemmas.{some_lines, lines_nil}
 use Rattle.bsp_explain.specs.Before.{IsLine}
-use Rattle.bsp_hot_explain.specs.declared.explanation.HotExplanation.{HotExplanation}
-use Rattle.bsp_hot_explain.specs.HotReasons.{SaysOfHot, record_name}
 use Rattle.bsp_check.specs.declared.fault.Fault.{Fault}
-use Rattle.bsp_check.specs.declared.fault.Fault.TheVariants.{Read, TooLong, Write, Memory}
 use Rattle.bsp_check.specs.declared.window.Window.{Window}
-use Rattle.bsp_check.specs.Verdicts.{SaysOfHotFault}
-use Rattle.bsp_check.specs.Windows.{room, text_of, last_of, IsWindow, Fills, Drains, Stops}
+use Rattle.bsp_check.specs.Windows.{room, text_of, last_of, MayFollow, IsWindow, Fills, Drains, Stops}
 use Rattle.bsp_check.specs.Widths.{all_but_one, HasWidth}
-use Rattle.bsp_check.specs.HotJudging.{MayFollow, IsStopped, IsTaken, IsExplained, IsRefusal}
-use Rattle.bsp_check.proofs.WindowLemmas.{stops_after}
-use Rattle.bsp_check.proofs.TakingLemmas.{text_long, last_long}
-
--- what is said of the first of some lines
-abbrev pub NamesFirst : List (List ℕ) → HotExplanation → Type 0
-NamesFirst ls e = (line : List ℕ) → IsLine 0 ls line → e.name ≡ record_name line
-
-abbrev pub SaysOfFirst : Standing → List (List ℕ) → HotExplanation → Type 0
-SaysOfFirst at ls e = (line : List ℕ) → IsLine 0 ls line → SaysOfHot at line e.reason
-
--- ---- the first record at fault
-
-later_line : (ls more : List (List ℕ)) (n : ℕ) (line : List ℕ) → n ≡ length ls → IsLine n (ls ++ more) line → IsLine 0 more line
-later_line ls more n line is h = (h.0, sym (drop-append_seam ls more) ∙ ap (λ k. drop k (ls ++ more)) (sym is) ∙ h.1)
-
-back_one : (n m : ℕ) → n ≡ m + 1 → n - 1 ≡ m
-back_one n m is = omega (arith, is)
-
-pub says_of_fault : (bytes : List ℕ) (ls more : List (List ℕ)) (at : Standing) (e : HotExplanation) → lines bytes ≡ ls ++ more → stands_after start ls ≡ Some at → e.record ≡ at.records + 1 → IsFirstFault (lines bytes) (at.records + 1) → NamesFirst more e → SaysOfFirst at more e → SaysOfHotFault bytes e
-says_of_fault bytes ls more at e are stands number first name says =
-    let First : ℕ → Type 0 = λ n. IsFirstFault (lines bytes) n in
-    let count = stands_count ls start at stands in
-    let back = back_one e.record at.records number in
-    let here : e.record - 1 ≡ length ls = omega (arith, back, count) in
-    let Line : List (List ℕ) → (List ℕ) → Type 0 = λ xs line. IsLine (e.record - 1) xs line in
-    record {
-      is_first = subst First (sym number) first;
-      state = at;
-      stands = ap (λ k. stands_after start (take k (lines bytes))) back ∙ ap (λ xs. stands_after start (take at.records xs)) are ∙ ap (stands_after start) (before_is ls more at stands) ∙ stands;
-      name = λ line is. name line (later_line ls more (e.record - 1) line here (subst (λ (xs : List (List ℕ)). Line xs line) are is));
-      says = λ line is. says line (later_line ls more (e.record - 1) line here (subst (λ (xs : List (List ℕ)). Line xs line) are is));
-    }
-
-pub says_of_refused : (bytes : List ℕ) (ls more : List (List ℕ)) (at : Standing) (e : HotExplanation) → lines bytes ≡ ls ++ more → stands_after start ls ≡ Some at → e.record ≡ at.records + 1 → AreRefused at more → NamesFirst more e → SaysOfFirst at more e → SaysOfHotFault bytes e
-says_of_refused bytes ls more at e are stands number refused name says =
-    let First : List (List ℕ) → Type 0 = λ xs. IsFirstFault xs (at.records + 1) in
-    let first = refused_first ls refused.more refused.line at stands refused.refused in
-    says_of_fault bytes ls more at e are stands number (subst First (sym (are ∙ ap (λ xs. ls ++ xs) refused.are)) first) name says
-
-no_first : (line : List ℕ) → IsLine 0 [] line → ⊥
-no_first line is = absurd (omega (arith, ap length is.1))
-
-pub says_of_missing : (bytes : List ℕ) (at : Standing) (e : HotExplanation) → stands_after start (lines bytes) ≡ Some at → e.record ≡ at.records + 1 → IsFirstFault (lines bytes) (at.records + 1) → SaysOfHotFault bytes e
-says_of_missing bytes at e stands number first =
-    says_of_fault bytes (lines bytes) [] at e (sym (append-nil (lines bytes))) stands number first (λ line is. absurd (no_first line is)) (λ line is. absurd (no_first line is))
+use Rattle.bsp_check.specs.Inputs.{IsUnread}
+use Rattle.bsp_check.specs.Judging.{IsAfterFew, Explains, IsJudged, IsTaken, IsExplained, IsRefused}
+use Rattle.bsp_check.proofs.WindowLemmas.{stops_after, later_stops, text_long, last_long}
 
 -- ---- an explanation
 
@@ -75,13 +21,11 @@ same_text : (text other line : List ℕ) → text ≡ other → IsLine 0 (lines 
 same_text text other line same is = subst (λ (xs : List ℕ). IsLine 0 (lines xs) line) same is
 
 -- of a line whose end is in the window, or with which the input ends
-pub explained_here : (at : Standing) (e : HotExplanation) (w : Window) (a : Option (List ℕ)) → IsWindow w → (w.ended ≡ true → IsAtEnd a)
+pub explained_here : (Says : List ℕ → Type 0) (text : List ℕ) (w : Window) (a : Option (List ℕ)) → IsWindow w → (w.ended ≡ true → IsAtEnd a)
     → ((more : List ℕ) → MayFollow w.ended more → (line : List ℕ) → IsLine 0 (lines (text_of w ++ more)) line → IsLine 0 (lines (text_of w)) line)
-    → e.record ≡ at.records + 1 → NamesFirst (lines (text_of w)) e → SaysOfFirst at (lines (text_of w)) e → IsExplained at e w w a a
-explained_here at e w a window end whole number name says =
-    let text = text_of w in
-    let known : (more line : List ℕ) → MayFollow w.ended more → IsLine 0 (lines ((text ++ []) ++ more)) line → IsLine 0 (lines text) line =
-    λ more line follows is. whole more follows line (same_text ((text ++ []) ++ more) (text ++ more) line (ap (λ xs. xs ++ more) (append-nil text)) is) in
+    → text ≡ text_of w → ((line : List ℕ) → IsLine 0 (lines text) line → Says line) → IsExplained Says w w a a
+explained_here Says text w a window end whole same says =
+    let now = text_of w in
     record {
       got = [];
       taken = Consumes-nil a;
@@ -89,11 +33,9 @@ explained_here at e w a window end whole number name says =
       window = window;
       at_end = end;
       stays = λ ended. (refl, ended);
-      explains = record {
-        number = number;
-        name = λ more follows line is. name line (known more line follows is);
-        says = λ more follows line is. says line (known more line follows is);
-      };
+      says = λ more follows line is.
+          let first = whole more follows line (same_text ((now ++ []) ++ more) (now ++ more) line (ap (λ xs. xs ++ more) (append-nil now)) is) in
+          says line (same_text now text line (sym same) first);
     }
 
 some_first : (text more : List ℕ) → 0 < length text → (line : List ℕ) × (ls : List (List ℕ)) × (lines (text ++ more) ≡ line ∷ ls)
@@ -117,16 +59,10 @@ head_of text line n within begins =
     let same : take n front ≡ take n text = sym (take-append-le n front (last_of 1 text) (omega (arith, within, long))) ∙ ap (take n) (take-append-drop (length text - 1) text) in
     (drop n front ++ begins.0, begins.1 ∙ ap (λ xs. xs ++ begins.0) (sym (take-append-drop n front)) ∙ append_assoc (take n front) (drop n front) begins.0 ∙ ap (λ xs. xs ++ (drop n front ++ begins.0)) same)
 
-pub explained_longer : (at : Standing) (e : HotExplanation) (head : List ℕ) (width : ℕ) (old new : Window) (a b : Option (List ℕ)) → old.ended ≡ false → length (text_of old) ≡ room → head ≡ take 1024 (text_of old) → HasWidth (text_of old) width old new a b
-    → e.record ≡ at.records + 1 → ((more : List ℕ) → e.name ≡ record_name (head ++ more)) → ((more : List ℕ) → length (head ++ more) ≡ width → SaysOfHot at (head ++ more) e.reason) → IsExplained at e old new a b
-explained_longer at e head width old new a b goes full head_is has number name says =
+pub explained_longer : (Says : List ℕ → Type 0) (head : List ℕ) (width : ℕ) (old new : Window) (a b : Option (List ℕ)) → old.ended ≡ false → length (text_of old) ≡ room → head ≡ take 1024 (text_of old) → HasWidth (text_of old) width old new a b
+    → ((more : List ℕ) → length (head ++ more) ≡ width → Says (head ++ more)) → IsExplained Says old new a b
+explained_longer Says head width old new a b goes full head_is has says =
     let text = text_of old in
-    let known : (more line : List ℕ) → IsLine 0 (lines ((text ++ has.got) ++ more)) line → IsLine 0 (lines (text ++ (has.got ++ more))) line =
-    λ more line is. same_text ((text ++ has.got) ++ more) (text ++ (has.got ++ more)) line (append_assoc text has.got more) is in
-    let front : (more line : List ℕ) → MayFollow new.ended more → IsLine 0 (lines ((text ++ has.got) ++ more)) line → (x : List ℕ) × (line ≡ head ++ x) =
-    λ more line follows is.
-    let found = head_of text line 1024 (omega (arith, full)) (has.begins more follows line (known more line is)) in
-    (found.0, found.1 ∙ ap (λ xs. xs ++ found.0) (sym head_is)) in
     record {
       got = has.got;
       taken = has.taken;
@@ -134,34 +70,26 @@ explained_longer at e head width old new a b goes full head_is has number name s
       window = has.window;
       at_end = has.at_end;
       stays = λ ended. absurd (false≢true (sym goes ∙ ended));
-      explains = record {
-        number = number;
-        name = λ more follows line is.
-            let found = front more line follows is in name found.0 ∙ ap record_name (sym found.1);
-        says = λ more follows line is.
-            let found = front more line follows is in
-            let long = ap length (sym found.1) ∙ has.width_is more follows line (known more line is) in
-            subst (λ (xs : List ℕ). SaysOfHot at xs e.reason) (sym found.1) (says found.0 long);
-      };
+      says = λ more follows line is.
+          let known = same_text ((text ++ has.got) ++ more) (text ++ (has.got ++ more)) line (append_assoc text has.got more) is in
+          let found = head_of text line 1024 (omega (arith, full)) (has.begins more follows line known) in
+          let same : line ≡ head ++ found.0 = found.1 ∙ ap (λ xs. xs ++ found.0) (sym head_is) in
+          subst Says (sym same) (says found.0 (ap length (sym same) ∙ has.width_is more follows line known));
     }
 
 -- ---- the input is read to its end
 
-refusal_text : (rest one two three more : List ℕ) → (rest ++ (one ++ (two ++ three))) ++ more ≡ ((rest ++ one) ++ two) ++ (three ++ more)
-refusal_text rest one two three more =
-    ap (λ xs. xs ++ more) (sym (append_assoc rest one (two ++ three)) ∙ sym (append_assoc (rest ++ one) two three)) ∙ append_assoc ((rest ++ one) ++ two) three more
+refused_text : (rest one two three : List ℕ) → rest ++ (one ++ (two ++ three)) ≡ ((rest ++ one) ++ two) ++ three
+refused_text rest one two three = sym (append_assoc rest one (two ++ three)) ∙ sym (append_assoc (rest ++ one) two three)
 
 none_joined : (xs ys : List ℕ) → xs ≡ [] → ys ≡ [] → xs ++ ys ≡ []
 none_joined xs ys none also = rw (none, also) refl
 
-pub refusal : (at : Standing) (e : HotExplanation) (rest : List ℕ) (old mid next new : Window) (a b c d : Option (List ℕ)) → Fills rest old mid a b → IsExplained at e mid next b c → Drains next new c d → IsRefusal at e rest old new a d
-refusal at e rest old mid next new a b c d fills told drains =
+pub refused : (Says : List ℕ → Type 0) (rest : List ℕ) (old mid next new : Window) (a b c d : Option (List ℕ)) → Fills rest old mid a b → IsExplained Says mid next b c → Drains next new c d → IsRefused Says rest old new a d
+refused Says rest old mid next new a b c d fills told drains =
     let one = fills.reads in
     let got = one.got ++ (told.got ++ drains.got) in
-    let begins : text_of mid ++ told.got ≡ (rest ++ one.got) ++ told.got = ap (λ xs. xs ++ told.got) one.text_is in
-    let later : (more : List ℕ) → MayFollow true more → MayFollow next.ended (drains.got ++ more) = λ more follows ended. none_joined drains.got more (drains.stays ended) (follows refl) in
-    let known : (more line : List ℕ) → IsLine 0 (lines ((rest ++ got) ++ more)) line → IsLine 0 (lines ((text_of mid ++ told.got) ++ (drains.got ++ more))) line =
-    λ more line is. same_text ((rest ++ got) ++ more) ((text_of mid ++ told.got) ++ (drains.got ++ more)) line (refusal_text rest one.got told.got drains.got more ∙ ap (λ xs. xs ++ (drains.got ++ more)) (sym begins)) is in
+    let all : rest ++ got ≡ (text_of mid ++ told.got) ++ drains.got = refused_text rest one.got told.got drains.got ∙ ap (λ xs. (xs ++ told.got) ++ drains.got) (sym one.text_is) in
     record {
       got = got;
       taken = Consumes-trans a b d one.got (told.got ++ drains.got) one.taken (Consumes-trans b c d told.got drains.got told.taken drains.taken);
@@ -173,63 +101,58 @@ refusal at e rest old mid next new a b c d fills told drains =
           let first = one.stays ended in
           let second = told.stays first.1 in
           none_joined one.got (told.got ++ drains.got) first.0 (none_joined told.got drains.got second.0 (drains.stays second.1));
-      explains = record {
-        number = told.explains.number;
-        name = λ more follows line is. told.explains.name (drains.got ++ more) (later more follows) line (known more line is);
-        says = λ more follows line is. told.explains.says (drains.got ++ more) (later more follows) line (known more line is);
-      };
+      says = λ line is. told.says drains.got drains.stays line (same_text (rest ++ got) ((text_of mid ++ told.got) ++ drains.got) line all is);
     }
 
-pub later_stops : (rest : List ℕ) (fault : Fault) (old mid : Window) (a b c : Option (List ℕ)) → Fills rest old mid a b → Stops mid.left fault b c → Stops old.left fault a c
-later_stops rest fault old mid a b c fills stops = stops_after old.left mid.left fault fills.reads.got a b c fills.reads.taken fills.reads.left stops
-
-pub explained_stops : (at : Standing) (e : HotExplanation) (rest : List ℕ) (fault : Fault) (old mid next : Window) (a b c d : Option (List ℕ)) → Fills rest old mid a b → IsExplained at e mid next b c → Stops next.left fault c d → Stops old.left fault a d
-explained_stops at e rest fault old mid next a b c d fills told stops =
+pub explained_stops : (Says : List ℕ → Type 0) (rest : List ℕ) (fault : Fault) (old mid next : Window) (a b c d : Option (List ℕ)) → Fills rest old mid a b → IsExplained Says mid next b c → Stops next.left fault c d → Stops old.left fault a d
+explained_stops Says rest fault old mid next a b c d fills told stops =
     later_stops rest fault old mid a b d fills (stops_after mid.left next.left fault told.got b c d told.taken told.left stops)
-
--- the answer on all that was read
-pub refusal_says : (at : Standing) (e : HotExplanation) (front rest : List ℕ) (old new : Window) (a b : Option (List ℕ)) → IsStopped at front rest old.ended → (told : IsRefusal at e rest old new a b) → SaysOfHotFault (front ++ (rest ++ told.got)) e
-refusal_says at e front rest old new a b stopped told =
-    let all = rest ++ told.got in
-    let none : all ++ [] ≡ all = append-nil all in
-    let follows : MayFollow true [] = λ ended. refl in
-    says_of_refused (front ++ all) stopped.ls (lines all) at e (stopped.are told.got told.stays) stopped.stands told.explains.number (stopped.refused told.got told.stays)
-    (λ line is. told.explains.name [] follows line (same_text all (all ++ []) line (sym none) is))
-    (λ line is. told.explains.says [] follows line (same_text all (all ++ []) line (sym none) is))
 
 -- ---- an input that is judged
 
-pub answer_refused : (at : Standing) (e : HotExplanation) (kept left limit : ℕ) (w new : Window) (a b c : Option (List ℕ)) → left ≡ limit + 1 → IsTaken at kept left w a b → 0 < kept → IsRefusal at e (last_of kept (text_of w)) w new b c
-    → (x : List ℕ) × Consumes a c x × IsAtEnd c × (length x ≤ limit) × SaysOfHotFault x e
-answer_refused at e kept left limit w new a b c is taken some told =
-    let rest = last_of kept (text_of w) in
-    let long = last_long (text_of w) kept (omega (arith, taken.within, text_long w taken.sound)) in
-    let more = told.window.within told.ended in (
-      taken.front ++ (rest ++ told.got),
-      subst (Consumes a c) (append_assoc taken.front rest told.got) (Consumes-trans a b c (taken.front ++ rest) told.got taken.taken told.taken),
+pub judged_all : {J F E : Type 0} (HasTaken : J → List (List ℕ) → Type 0) (IsAtFault : J → List ℕ → F → Type 0) (IsRefusal : List (List ℕ) → E → Type 0) (judge : J) (kept left limit : ℕ) (w : Window) (a b : Option (List ℕ)) → left ≡ limit + 1 → left < 2 ^ 64 → IsTaken HasTaken IsAtFault judge kept None left w a b → w.ended ≡ true
+    → (x : List ℕ) × Consumes a b x × IsAtEnd b × (length x ≤ limit) × IsJudged HasTaken IsRefusal judge (lines x) None
+judged_all HasTaken IsAtFault IsRefusal judge kept left limit w a b is fits t ended =
+    let none : t.rest ≡ [] = t.stop.1 ended in
+    let nothing : MayFollow w.ended [] = λ e. refl in
+    let more = t.sound.within ended in
+    let front : t.front ++ t.rest ≡ t.front = ap (λ xs. t.front ++ xs) none ∙ append-nil t.front in
+    let are : lines t.front ≡ t.ls =
+    sym (ap lines (ap (λ xs. t.front ++ (xs ++ [])) none ∙ append-nil t.front)) ∙ t.are [] nothing ∙ ap (λ xs. t.ls ++ lines (xs ++ [])) none ∙ ap (λ xs. t.ls ++ xs) lines_nil ∙ append-nil t.ls in
+    (t.front, subst (Consumes a b) front t.taken, t.at_end ended, omega (arith, is, t.left_is, more), (subst (HasTaken judge) (sym are) t.has, omega (arith, ap length are, t.few, t.left_is, fits)))
+
+pub judged_refused : {J F E : Type 0} (HasTaken : J → List (List ℕ) → Type 0) (IsAtFault : J → List ℕ → F → Type 0) (IsRefusal : List (List ℕ) → E → Type 0) (judge : J) (kept left limit : ℕ) (fault : F) (refusal : E) (w new : Window) (a b c : Option (List ℕ)) → left ≡ limit + 1 → IsTaken HasTaken IsAtFault judge kept (Some fault) left w a b
+    → IsRefused (Explains HasTaken IsAtFault IsRefusal judge fault refusal) (last_of kept (text_of w)) w new b c
+    → (x : List ℕ) × Consumes a c x × IsAtEnd c × (length x ≤ limit) × IsJudged HasTaken IsRefusal judge (lines x) (Some refusal)
+judged_refused HasTaken IsAtFault IsRefusal judge kept left limit fault refusal w new a b c is t told =
+    let long = ap length t.rest_is ∙ last_long (text_of w) kept (omega (arith, t.within, text_long w t.sound)) in
+    let more = told.window.within told.ended in
+    let first = t.stop.1 told.got told.stays in
+    let line = first.0 in
+    let known : last_of kept (text_of w) ++ told.got ≡ t.rest ++ told.got = ap (λ xs. xs ++ told.got) (sym t.rest_is) in
+    let are : lines (t.front ++ (t.rest ++ told.got)) ≡ t.ls ++ line ∷ first.1 = t.are told.got told.stays ∙ ap (λ xs. t.ls ++ xs) first.2 in
+    let said = told.says line (first.1, ap lines known ∙ first.2) first.3 t.ls t.has first.1 in
+    let Refuses : List (List ℕ) → Type 0 = λ ls. IsRefusal ls refusal in (
+      t.front ++ (t.rest ++ told.got),
+      subst (Consumes a c) (append_assoc t.front t.rest told.got) (Consumes-trans a b c (t.front ++ t.rest) told.got t.taken told.taken),
       told.at_end,
-      omega (arith, is, taken.left_is, told.left, more, long, length-append taken.front (rest ++ told.got), length-append rest told.got),
-      refusal_says at e taken.front rest w new b c (taken.stopped some) told,
+      omega (arith, is, t.left_is, told.left, more, long, length-append t.front (t.rest ++ told.got), length-append t.rest told.got),
+      subst Refuses (sym are) said,
     )
 
-pub taken_stops : (at : Standing) (kept left : ℕ) (fault : Fault) (w : Window) (a b c : Option (List ℕ)) → IsTaken at kept left w a b → Stops w.left fault b c → Stops left fault a c
-taken_stops at kept left fault w a b c taken stops =
-    let rest = last_of kept (text_of w) in
-    let long = last_long (text_of w) kept (omega (arith, taken.within, text_long w taken.sound)) in
-    stops_after left w.left fault (taken.front ++ rest) a b c taken.taken (omega (arith, taken.left_is, long, length-append taken.front rest)) stops
+-- the judge of an input has taken few lines
+pub judge_few : {J F : Type 0} (HasTaken : J → List (List ℕ) → Type 0) (IsAtFault : J → List ℕ → F → Type 0) (judge : J) (kept left : ℕ) (fault : Option F) (w : Window) (a b : Option (List ℕ)) → left < 2 ^ 64 → IsTaken HasTaken IsAtFault judge kept fault left w a b → IsAfterFew HasTaken judge
+judge_few HasTaken IsAtFault judge kept left fault w a b fits t = (t.ls, t.has, omega (arith, t.few, t.left_is, fits))
 
-pub stopped_within : (left most : ℕ) (fault : Fault) (a c : Option (List ℕ)) → left ≡ most → Stops left fault a c → (x : List ℕ) × Consumes a c x × (length x ≤ most)
-stopped_within left most fault a c is stops = (stops.got, stops.taken, omega (arith, is, stops.within))
+pub some_kept : {J F : Type 0} (HasTaken : J → List (List ℕ) → Type 0) (IsAtFault : J → List ℕ → F → Type 0) (judge : J) (kept left : ℕ) (fault : F) (w : Window) (a b : Option (List ℕ)) → IsTaken HasTaken IsAtFault judge kept (Some fault) left w a b → 0 < kept
+some_kept HasTaken IsAtFault judge kept left fault w a b t =
+    omega (arith, t.stop.0, ap length t.rest_is, last_long (text_of w) kept (omega (arith, t.within, text_long w t.sound)))
 
-abbrev IsLong : Fault → Type 0
-IsLong Read = ⊥
-IsLong TooLong = Unit {0}
-IsLong Write = Unit {0}
-IsLong Memory = Unit {0}
+-- ---- an input that is not judged
 
-pub stopped_long : (left most : ℕ) (fault : Fault) (a c : Option (List ℕ)) → left ≡ most → fault ≡ TooLong → Stops left fault a c → (x : List ℕ) × Consumes a c x × (length x ≡ most)
-stopped_long left most fault a c is long stops =
-    elim stops.either [
-      | inl read ↦ absurd (subst IsLong (sym (sym read ∙ long)) tt)
-      | inr more ↦ (stops.got, stops.taken, more.1 ∙ is)
-    ]
+pub unread : (left limit : ℕ) (fault : Fault) (a b : Option (List ℕ)) → left ≡ limit + 1 → Stops left fault a b → IsUnread limit fault a b
+unread left limit fault a b is stops = record {
+  stopped = (stops.got, stops.taken, omega (arith, is, stops.within));
+  not_write = stops.not_write;
+  long = λ long. (stops.got, stops.taken, stops.long long ∙ is);
+}

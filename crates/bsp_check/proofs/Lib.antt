@@ -7,4 +7,5 @@ pub mod WindowLemmas
 pub mod LineLemmas
 pub mod TakingLemmas
 pub mod JudgingLemmas
+pub mod HotLemmas
 pub mod HotReports

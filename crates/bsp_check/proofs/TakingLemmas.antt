@@ -1,193 +1,182 @@
--- Records that are taken from an input.
-use Rattle.std.proofs.Common.{◌≡◌, ℕ, Bool, ◌+◌, ◌-◌, ◌<◌, ◌≤◌, true, List, [], ◌++◌, length, take, drop, Option, Some, refl, sym, ap, subst, ◌∙◌, arith, append_assoc, length-drop}
-use Rattle.std.proofs.lemmas.List.{append-nil, length-append, length-take-le, take-append-drop}
-use Rattle.std.specs.Io.KnownBytes.{Consumes}
-use Rattle.std.proofs.Math.Seq.{take-length}
-use Rattle.std.proofs.KnownBytes.{Consumes-trans}
-use Rattle.bsp_ret.specs.Lines.{lines, IsWholeLines, before_rest}
+-- Lines that are taken from an input.
+use Rattle.std.proofs.Common.{◌≡◌, ℕ, Bool, ◌+◌, ◌*◌, ◌-◌, ◌^◌, ◌<◌, ◌≤◌, true, false, List, [], ◌∷◌, ◌++◌, length, take, drop, Option, Some, None, inl, inr, refl, sym, ap, subst, ◌∙◌, arith, append_assoc}
+use Rattle.std.proofs.lemmas.Bool.{false≢true}
+use Rattle.std.proofs.lemmas.List.{append-nil, length-append, take-append-drop}
+use Rattle.std.specs.Prelude.{IfSome, IfNone}
+use Rattle.std.specs.Io.KnownBytes.{Consumes, IsAtEnd}
+use Rattle.std.proofs.KnownBytes.{Consumes-nil, Consumes-trans}
+use Rattle.bsp_records.specs.Columns.{is_wide}
+use Rattle.bsp_records.specs.Lines.{lines, IsRest, before_rest, BeginsWithLine, HasFirstLine, BeginsOtherwise}
 use Rattle.bsp_records.proofs.CutLemmas.{lines_nil}
-use Rattle.bsp_records.proofs.RestLemmas.{some_bytes, whole_nothing, whole_joined}
-use Rattle.bsp_hot_check.proofs.HotRecordsSizeLemmas.{no_small}
-use Rattle.bsp_hot_check.specs.declared.model.Standing.{Standing}
-use Rattle.bsp_hot_check.specs.Standings.{start, IsSmall}
-use Rattle.bsp_hot_check.specs.Judging.{stands_after}
-use Rattle.bsp_hot_check.specs.Pieces.{Takes, Passes, AreRefused, IsRefused}
-use Rattle.bsp_hot_check.proofs.StateLemmas.{stands_nil, stands_append}
+use Rattle.bsp_records.proofs.RestLemmas.{rest_itself, rest_of_rest}
+use Rattle.bsp_hot_check.proofs.PieceLemmas.{line_room, Goes, goes_on, ended_goes, ended_wide, wide_long}
 use Rattle.bsp_check.specs.declared.fault.Fault.{Fault}
 use Rattle.bsp_check.specs.declared.window.Window.{Window}
-use Rattle.bsp_check.proofs.WindowLemmas.{stops_after}
-use Rattle.bsp_check.specs.Windows.{text_of, last_of, IsWindow, Fills, Stops}
-use Rattle.bsp_check.specs.HotJudging.{MayFollow, IsStopped, IsGoing, IsTaken, IsEndTaken}
+use Rattle.bsp_check.specs.Windows.{text_of, last_of, room, MayFollow, IsWindow, Fills, Stops}
+use Rattle.bsp_check.specs.Judging.{most_unended, IsAfterFew, HasTakenMore, BeginsAtFault, IsStop, Takes, TakesTo, IsTaken}
+use Rattle.bsp_check.proofs.WindowLemmas.{stops_after, text_long, last_long}
 
--- ---- a line that is not allowed is some bytes
+-- ---- the first line of a text, whatever follows
 
-pub refused_some : (at : Standing) (text : List ℕ) → AreRefused at (lines text) → 0 < length text
-refused_some at text refused = some_bytes text (omega (arith, ap length refused.are))
+-- nothing follows
+nothing_more : (text more : List ℕ) (ended : Bool) → ended ≡ true → MayFollow ended more → text ++ more ≡ text
+nothing_more text more ended is follows = ap (λ xs. text ++ xs) (follows is) ∙ append-nil text
 
-pub refused_more : (at : Standing) (text : List ℕ) → IsRefused at text → 0 < length text
-refused_more at text refused =
-    let At : List ℕ → Type 0 = λ xs. AreRefused at (lines xs) in refused_some at text (subst At (append-nil text) (refused []))
+-- a line of a record's width, with its end or at the end of the text
+pub wide_cut : (text line rest : List ℕ) (ended : Bool) → HasFirstLine text line rest → most_unended ended < length text → length line ≡ 136 → (more : List ℕ) → MayFollow ended more → lines (text ++ more) ≡ line ∷ lines (rest ++ more)
+wide_cut text line rest true first some wide more follows =
+    ap lines (nothing_more text more true refl follows) ∙ first.cut ∙ ap (λ xs. line ∷ lines xs) (sym (nothing_more rest more true refl follows))
+wide_cut text line rest false first some wide more follows = ended_goes text line rest more (ended_wide text line rest first some wide)
 
-pub end_refused : (at then : Standing) (text known rest : List ℕ) → known ≡ text → Passes at known then rest → AreRefused then (lines rest) → IsEndTaken at text then (length rest)
-end_refused at then text known rest same passes refused =
-    let last : rest ≡ last_of (length rest) text = passes.rest_is.last ∙ ap (λ xs. drop (length xs - length rest) xs) same in
-    let On : List ℕ → Type 0 = λ xs. Passes at xs then rest in
-    let To : List ℕ → Type 0 = λ xs. Passes at text then xs in
-    let At : List ℕ → Type 0 = λ xs. AreRefused then (lines xs) in
-    let some = refused_some then rest refused in
-    (λ none. absurd (omega (arith, some, none)), λ more. (subst To last (subst On same passes), subst At last refused))
+-- another line, which may go on
+first_narrow : (text more : List ℕ) → 137 < length text → Goes text more → (line : List ℕ) × (after : List (List ℕ)) × (lines (text ++ more) ≡ line ∷ after) × (is_wide line ≡ false)
+first_narrow text more some goes = (goes.line, goes.ls, goes.are, wide_long goes.line (omega (arith, goes.long, some)))
 
--- ---- the records of a window
+pub narrow_cut : (text : List ℕ) (ended : Bool) → BeginsOtherwise text → most_unended ended < length text → (more : List ℕ) → MayFollow ended more → (line : List ℕ) × (after : List (List ℕ)) × (lines (text ++ more) ≡ line ∷ after) × (is_wide line ≡ false)
+narrow_cut text true other some more follows =
+    (other.line, lines other.rest, ap lines (nothing_more text more true refl follows) ∙ other.first.cut, other.narrow)
+narrow_cut text false other some more follows =
+    elim other.first.ended [
+      | inl b ↦ (other.line, lines (other.rest ++ more), ended_goes text other.line other.rest more b, other.narrow)
+      | inr last ↦ first_narrow text more some (goes_on text more (omega (arith, some)) (rw other.first.cut (ap length last.0)))
+    ]
 
-start_small : IsSmall start
-start_small = record {
-  offices = omega arith;
-  transactions = omega arith;
-  file = no_small 0;
-  codes = record { tktt = no_small 0; rfnd = no_small 0; canx = no_small 0; adma = no_small 0; acma = no_small 0 };
-  all = no_small 0;
+-- ---- lines that are taken
+
+pub takes_none : {J : Type 0} (HasTaken : J → List (List ℕ) → Type 0) (ended : Bool) (judge : J) (text : List ℕ) → Takes HasTaken ended judge judge text text
+takes_none HasTaken ended judge text = record {
+  rest_is = rest_itself text;
+  ls = [];
+  are = λ more follows. refl;
+  taken = λ ls has. subst (HasTaken judge) (sym (append-nil ls)) has;
+  room = omega arith;
 }
 
-pub text_long : (w : Window) → IsWindow w → length (text_of w) ≡ w.filled
-text_long w window = length-take-le w.filled w.room.items (omega (arith, window.filled, window.wide))
+pub takes_more : {J F : Type 0} (HasTaken : J → List (List ℕ) → Type 0) (ended : Bool) (old mid new : J) (found : Option F) (text rest line after : List ℕ) → Takes HasTaken ended old mid text rest → HasFirstLine rest line after → most_unended ended < length rest → length line ≡ 136 → found ≡ None → IfNone found (HasTakenMore HasTaken (line ∷ []) mid new) → Takes HasTaken ended old new text after
+takes_more {F = F} HasTaken ended old mid new found text rest line after takes first some wide is taken =
+    let Taken : Option F → Type 0 = λ x. IfNone x (HasTakenMore HasTaken (line ∷ []) mid new) in
+    let one : HasTakenMore HasTaken (line ∷ []) mid new = subst Taken is taken in
+    record {
+      rest_is = rest_of_rest after rest text first.rest_is takes.rest_is;
+      ls = takes.ls ++ line ∷ [];
+      are = λ more follows. takes.are more follows ∙ ap (λ xs. takes.ls ++ xs) (wide_cut rest line after ended first some wide more follows) ∙ sym (append_assoc takes.ls (line ∷ []) (lines (after ++ more)));
+      taken = λ ls has. subst (HasTaken new) (append_assoc ls takes.ls (line ∷ [])) (one (ls ++ takes.ls) (takes.taken ls has));
+      room = omega (arith, takes.room, line_room rest line after first, wide, length-append takes.ls (line ∷ []));
+    }
 
-pub last_long : (text : List ℕ) (kept : ℕ) → kept ≤ length text → length (last_of kept text) ≡ kept
-last_long text kept within = omega (arith, within, length-drop (length text - kept) text)
+-- a line of a record's width that is not allowed
+pub wide_fault : {J F : Type 0} (IsAtFault : J → List ℕ → F → Type 0) (ended : Bool) (judge : J) (fault : F) (rest line after : List ℕ) → HasFirstLine rest line after → most_unended ended < length rest → length line ≡ 136 → IsAtFault judge line fault → BeginsAtFault IsAtFault ended judge rest fault
+wide_fault IsAtFault ended judge fault rest line after first some wide at_fault = λ more follows. (line, lines (after ++ more), wide_cut rest line after ended first some wide more follows, at_fault)
+
+-- another line
+pub narrow_fault : {J F : Type 0} (IsAtFault : J → List ℕ → F → Type 0) (ended : Bool) (judge : J) (fault : F) (rest : List ℕ) → BeginsOtherwise rest → most_unended ended < length rest → ((line : List ℕ) → is_wide line ≡ false → IsAtFault judge line fault) → BeginsAtFault IsAtFault ended judge rest fault
+narrow_fault IsAtFault ended judge fault rest other some none = λ more follows.
+    let found = narrow_cut rest ended other some more follows in (found.0, found.1, found.2, none found.0 found.3)
+
+-- so few bytes that no more lines are taken
+pub few_left : (ended : Bool) (rest : List ℕ) → length rest ≤ most_unended ended → (length rest ≤ 137) × (ended ≡ true → rest ≡ [])
+few_left true [] few = (omega arith, λ is. refl)
+few_left true (b ∷ rest) few = absurd (omega (arith, few))
+few_left false rest few = (few, λ is. absurd (false≢true is))
+
+-- ---- where no more lines are taken
+
+pub takes_few : {J : Type 0} (HasTaken : J → List (List ℕ) → Type 0) (ended : Bool) (old mid : J) (text rest : List ℕ) → Takes HasTaken ended old mid text rest → ((ls : List (List ℕ)) × HasTaken old ls × (length ls + length text < 2 ^ 62)) → IsAfterFew HasTaken mid
+takes_few HasTaken ended old mid text rest takes few = (few.0 ++ takes.ls, takes.taken few.0 few.1, omega (arith, few.2, takes.room, length-append few.0 takes.ls))
+
+pub to_wide : {J F : Type 0} (HasTaken : J → List (List ℕ) → Type 0) (IsAtFault : J → List ℕ → F → Type 0) (ended : Bool) (old mid new : J) (found : Option F) (fault : F) (text rest line after : List ℕ) → Takes HasTaken ended old mid text rest → HasFirstLine rest line after → most_unended ended < length rest → length line ≡ 136 → found ≡ Some fault → IfSome found (λ why. IsAtFault mid line why) → IfSome found (λ why. new ≡ mid) → TakesTo HasTaken IsAtFault ended old new text (length rest) (Some fault)
+to_wide {J = J} {F = F} HasTaken IsAtFault ended old mid new found fault text rest line after takes first some wide is refused unchanged =
+    let Refused : Option F → Type 0 = λ x. IfSome x (λ why. IsAtFault mid line why) in
+    let Unchanged : Option F → Type 0 = λ x. IfSome x (λ why. new ≡ mid) in
+    let same : new ≡ mid = subst Unchanged is unchanged in
+    let To : J → Type 0 = λ judge. TakesTo HasTaken IsAtFault ended old judge text (length rest) (Some fault) in
+    subst To (sym same) (record { rest = rest; long = refl; takes = takes; stop = (omega (arith, some), wide_fault IsAtFault ended mid fault rest line after first some wide (subst Refused is refused)) })
+
+pub to_narrow : {J F : Type 0} (HasTaken : J → List (List ℕ) → Type 0) (IsAtFault : J → List ℕ → F → Type 0) (ended : Bool) (old mid : J) (fault : F) (text rest : List ℕ) → Takes HasTaken ended old mid text rest → BeginsOtherwise rest → most_unended ended < length rest → ((line : List ℕ) → is_wide line ≡ false → IsAtFault mid line fault) → TakesTo HasTaken IsAtFault ended old mid text (length rest) (Some fault)
+to_narrow HasTaken IsAtFault ended old mid fault text rest takes other some none =
+    record { rest = rest; long = refl; takes = takes; stop = (omega (arith, some), narrow_fault IsAtFault ended mid fault rest other some none) }
+
+pub to_end : {J F : Type 0} (HasTaken : J → List (List ℕ) → Type 0) (IsAtFault : J → List ℕ → F → Type 0) (ended : Bool) (old mid : J) (text rest : List ℕ) → Takes HasTaken ended old mid text rest → length rest ≤ most_unended ended → TakesTo HasTaken IsAtFault ended old mid text (length rest) None
+to_end HasTaken IsAtFault ended old mid text rest takes few = record { rest = rest; long = refl; takes = takes; stop = few_left ended rest few }
+
+-- ---- the lines of a window
 
 nothing_last : (text : List ℕ) → text ≡ [] → last_of 0 text ≡ []
 nothing_last text none = rw none refl
 
-pub going_first : (at : Standing) (old new : Window) (a b : Option (List ℕ)) → at ≡ start → text_of old ≡ [] → Fills (last_of 0 (text_of old)) old new a b → IsGoing at old.left new a b
-going_first at old new a b is none fills =
-    let reads = fills.reads in
-    let text : text_of new ≡ reads.got = reads.text_is ∙ ap (λ xs. xs ++ reads.got) (nothing_last (text_of old) none) in
-    let At : Standing → Type 0 = λ s. stands_after start (lines []) ≡ Some s in
-    record {
-      front = [];
-      taken = subst (Consumes a b) (sym text) reads.taken;
-      whole = whole_nothing;
-      stands = subst At (sym is) (ap (stands_after start) lines_nil ∙ stands_nil start);
-      left_is = omega (arith, reads.left, ap length text);
-      sound = reads.window;
-      at_end = reads.at_end;
-      full = fills.full;
-      small = subst IsSmall (sym is) start_small;
-      few = omega (arith, ap (λ (s : Standing). s.records) is);
-    }
+pub taken_none : {J F : Type 0} (HasTaken : J → List (List ℕ) → Type 0) (IsAtFault : J → List ℕ → F → Type 0) (judge : J) (w : Window) (a : Option (List ℕ)) → HasTaken judge [] → IsWindow w → text_of w ≡ [] → w.ended ≡ false → IsTaken HasTaken IsAtFault judge 0 None w.left w a a
+taken_none HasTaken IsAtFault judge w a has window nothing goes = record {
+  front = [];
+  rest = [];
+  taken = Consumes-nil a;
+  within = omega arith;
+  rest_is = sym (nothing_last (text_of w) nothing);
+  left_is = omega arith;
+  sound = window;
+  at_end = λ ended. absurd (false≢true (sym goes ∙ ended));
+  ls = [];
+  are = λ more follows. refl;
+  has = has;
+  few = omega arith;
+  stop = (omega arith, λ ended. refl);
+}
 
 -- what is before the rest of a text, and the rest
 both_parts : (text rest : List ℕ) → rest ≡ drop (length text - length rest) text → before_rest text rest ++ rest ≡ text
 both_parts text rest last = ap (λ xs. before_rest text rest ++ xs) last ∙ take-append-drop (length text - length rest) text
 
--- the records before the rest, too
-lines_more : (at then : Standing) (front text rest : List ℕ) → IsWholeLines front → stands_after start (lines front) ≡ Some at → Takes at text then rest → stands_after start (lines (front ++ before_rest text rest)) ≡ Some then
-lines_more at then front text rest whole stands takes =
-    ap (stands_after start) (whole (before_rest text rest)) ∙ stands_append (lines front) (lines (before_rest text rest)) start at stands ∙ takes.stands
+rest_long : {J F : Type 0} (HasTaken : J → List (List ℕ) → Type 0) (IsAtFault : J → List ℕ → F → Type 0) (judge : J) (kept left : ℕ) (fault : Option F) (w : Window) (a b : Option (List ℕ)) → (t : IsTaken HasTaken IsAtFault judge kept fault left w a b) → length t.rest ≡ kept
+rest_long HasTaken IsAtFault judge kept left fault w a b t = ap length t.rest_is ∙ last_long (text_of w) kept (omega (arith, t.within, text_long w t.sound))
 
-long_parts : (text rest : List ℕ) → rest ≡ drop (length text - length rest) text → length (before_rest text rest) + length rest ≡ length text
-long_parts text rest last = sym (length-append (before_rest text rest) rest) ∙ ap length (both_parts text rest last)
+-- the text of the next window
+next_text : {J F : Type 0} (HasTaken : J → List (List ℕ) → Type 0) (IsAtFault : J → List ℕ → F → Type 0) (judge : J) (kept left : ℕ) (fault : Option F) (mid new : Window) (a b c : Option (List ℕ)) → (t : IsTaken HasTaken IsAtFault judge kept fault left mid a b) → (fills : Fills (last_of kept (text_of mid)) mid new b c) → text_of new ≡ t.rest ++ fills.reads.got
+next_text HasTaken IsAtFault judge kept left fault mid new a b c t fills = fills.reads.text_is ∙ ap (λ xs. xs ++ fills.reads.got) (sym t.rest_is)
 
-pub going_on : (at then : Standing) (left : ℕ) (rest : List ℕ) (mid new : Window) (a b c : Option (List ℕ)) → IsGoing at left mid a b → Takes at (text_of mid) then rest → IsSmall then → Fills rest mid new b c → IsGoing then left new a c
-going_on at then left rest mid new a b c going takes small fills =
-    let text = text_of mid in
-    let front = going.front in
-    let before = before_rest text rest in
+-- there is room for its lines
+pub taken_few : {J F : Type 0} (HasTaken : J → List (List ℕ) → Type 0) (IsAtFault : J → List ℕ → F → Type 0) (judge : J) (kept left : ℕ) (fault : Option F) (mid new : Window) (text : List ℕ) (a b : Option (List ℕ)) → IsTaken HasTaken IsAtFault judge kept fault left mid a b → left < 2 ^ 64 → IsWindow new → text ≡ text_of new
+    → (ls : List (List ℕ)) × HasTaken judge ls × (length ls + length text < 2 ^ 62)
+taken_few HasTaken IsAtFault judge kept left fault mid new text a b t fits window same = (t.ls, t.has, omega (arith, t.few, t.left_is, fits, ap length same, text_long new window, window.filled))
+
+pub taken_more : {J F : Type 0} (HasTaken : J → List (List ℕ) → Type 0) (IsAtFault : J → List ℕ → F → Type 0) (at then : J) (kept next left : ℕ) (was fault : Option F) (mid new : Window) (text : List ℕ) (a b c : Option (List ℕ)) → IsTaken HasTaken IsAtFault at kept was left mid a b → mid.ended ≡ false → Fills (last_of kept (text_of mid)) mid new b c → text ≡ text_of new
+    → TakesTo HasTaken IsAtFault new.ended at then text next fault → IsTaken HasTaken IsAtFault then next fault left new a c
+taken_more HasTaken IsAtFault at then kept next left was fault mid new text a b c t goes fills is to =
     let reads = fills.reads in
-    let last = takes.rest_is.last in
-    let long = long_parts text rest last in
-    let all : (front ++ text) ++ reads.got ≡ (front ++ before) ++ text_of new =
-    ap (λ xs. (front ++ xs) ++ reads.got) (sym (both_parts text rest last)) ∙ ap (λ xs. xs ++ reads.got) (sym (append_assoc front before rest))
-    ∙ append_assoc (front ++ before) rest reads.got ∙ ap (λ xs. (front ++ before) ++ xs) (sym reads.text_is) in
+    let got = reads.got in
+    let takes = to.takes in
+    let front = t.front in
+    let same : text ≡ t.rest ++ got = is ∙ next_text HasTaken IsAtFault at kept left was mid new a b c t fills in
+    let before = before_rest text to.rest in
+    let both = both_parts text to.rest takes.rest_is.last in
+    let parts : length before + length to.rest ≡ length text = sym (length-append before to.rest) ∙ ap length both in
+    let long = ap length is ∙ text_long new reads.window in
+    let all : (front ++ t.rest) ++ got ≡ (front ++ before) ++ to.rest =
+    append_assoc front t.rest got ∙ ap (λ xs. front ++ xs) (sym same ∙ sym both) ∙ sym (append_assoc front before to.rest) in
+    let cut : (more : List ℕ) → (front ++ before) ++ (to.rest ++ more) ≡ front ++ (t.rest ++ (got ++ more)) =
+    λ more. append_assoc front before (to.rest ++ more) ∙ ap (λ xs. front ++ xs) (sym (append_assoc before to.rest more) ∙ ap (λ xs. xs ++ more) (both ∙ same) ∙ append_assoc t.rest got more) in
+    let known : (more : List ℕ) → t.rest ++ (got ++ more) ≡ text ++ more = λ more. sym (append_assoc t.rest got more) ∙ ap (λ xs. xs ++ more) (sym same) in
     record {
       front = front ++ before;
-      taken = subst (Consumes a c) all (Consumes-trans a b c (front ++ text) reads.got going.taken reads.taken);
-      whole = whole_joined front before going.whole takes.whole;
-      stands = lines_more at then front text rest going.whole going.stands takes;
-      left_is = omega (arith, going.left_is, reads.left, long, length-append front before, ap length reads.text_is, length-append rest reads.got);
+      rest = to.rest;
+      taken = subst (Consumes a c) all (Consumes-trans a b c (front ++ t.rest) got t.taken reads.taken);
+      within = omega (arith, to.long, takes.rest_is.short, long);
+      rest_is = takes.rest_is.last ∙ ap (λ n. drop (length text - n) text) (sym to.long) ∙ ap (last_of next) is;
+      left_is = omega (arith, t.left_is, reads.left, rest_long HasTaken IsAtFault at kept left was mid a b t, ap length same, length-append t.rest got, parts, to.long, length-append front before);
       sound = reads.window;
       at_end = reads.at_end;
-      full = fills.full;
-      small = small;
-      few = omega (arith, going.few, takes.room, long, length-append front before);
+      ls = t.ls ++ takes.ls;
+      are = λ more follows. ap lines (cut more) ∙ t.are (got ++ more) (λ ended. absurd (false≢true (sym goes ∙ ended)))
+          ∙ ap (λ xs. t.ls ++ lines xs) (known more) ∙ ap (λ xs. t.ls ++ xs) (takes.are more follows) ∙ sym (append_assoc t.ls takes.ls (lines (to.rest ++ more)));
+      has = takes.taken t.ls t.has;
+      few = omega (arith, t.few, takes.room, parts, length-append front before, length-append t.ls takes.ls);
+      stop = to.stop;
     }
 
--- ---- the line that is not allowed
-
-pub taken_stopped : (at then : Standing) (left kept : ℕ) (w : Window) (a b : Option (List ℕ)) → IsGoing at left w a b → Takes at (text_of w) then (last_of kept (text_of w)) → IsRefused then (last_of kept (text_of w)) → IsSmall then → 0 < kept → kept ≤ w.filled → IsTaken then kept left w a b
-taken_stopped at then left kept w a b going takes refused small some within =
-    let text = text_of w in
-    let front = going.front in
-    let rest = last_of kept text in
-    let before = before_rest text rest in
-    let last = takes.rest_is.last in
-    let long = long_parts text rest last in
-    let whole = whole_joined front before going.whole takes.whole in
-    let kept_is = last_long text kept (omega (arith, within, text_long w going.sound)) in
-    let all : front ++ text ≡ (front ++ before) ++ rest = ap (λ xs. front ++ xs) (sym (both_parts text rest last)) ∙ sym (append_assoc front before rest) in
-    record {
-      front = front ++ before;
-      taken = subst (Consumes a b) all going.taken;
-      within = within;
-      left_is = omega (arith, going.left_is, long, kept_is, length-append front before);
-      sound = going.sound;
-      at_end = going.at_end;
-      small = small;
-      few = λ fits. omega (arith, going.few, takes.room, going.left_is, long, fits);
-      all = λ none. absurd (omega (arith, some, none));
-      stopped = λ more. record {
-        ls = lines (front ++ before);
-        stands = lines_more at then front text rest going.whole going.stands takes;
-        are = λ further follows. whole (rest ++ further);
-        refused = λ further follows. refused further;
-      };
-    }
-
-end_lines : (at then : Standing) (front text : List ℕ) → IsWholeLines front → stands_after start (lines front) ≡ Some at → stands_after at (lines text) ≡ Some then → stands_after start (lines (front ++ text)) ≡ Some then
-end_lines at then front text whole stands all = ap (stands_after start) (whole text) ∙ stands_append (lines front) (lines text) start at stands ∙ all
-
-end_stopped : (at then : Standing) (front before rest text : List ℕ) → IsWholeLines front → stands_after start (lines front) ≡ Some at → before ++ rest ≡ text → Passes at text then rest → AreRefused then (lines rest) → IsStopped then (front ++ before) rest true
-end_stopped at then front before rest text whole stands both passes refused =
-    let Refused : List ℕ → Type 0 = λ xs. AreRefused then (lines xs) in
-    let none : (more : List ℕ) → MayFollow true more → rest ++ more ≡ rest = λ more follows. ap (λ xs. rest ++ xs) (follows refl) ∙ append-nil rest in
-    let cut : lines ((front ++ before) ++ rest) ≡ (lines front ++ passes.front) ++ lines rest =
-    ap lines (append_assoc front before rest ∙ ap (λ xs. front ++ xs) both) ∙ whole text ∙ ap (λ ls. lines front ++ ls) passes.are ∙ sym (append_assoc (lines front) passes.front (lines rest)) in
-    record {
-      ls = lines front ++ passes.front;
-      stands = stands_append (lines front) passes.front start at stands ∙ passes.stands;
-      are = λ more follows. ap (λ xs. lines ((front ++ before) ++ xs)) (none more follows) ∙ cut ∙ ap (λ xs. (lines front ++ passes.front) ++ lines xs) (sym (none more follows));
-      refused = λ more follows. subst Refused (sym (none more follows)) refused;
-    }
-
-pub taken_end : (at then : Standing) (left kept : ℕ) (w : Window) (a b : Option (List ℕ)) → IsGoing at left w a b → w.ended ≡ true → IsEndTaken at (text_of w) then kept → IsSmall then → kept ≤ w.filled → then.records ≤ at.records + w.filled → IsTaken then kept left w a b
-taken_end at then left kept w a b going ended end small within more =
-    let text = text_of w in
-    let front = going.front in
-    let rest = last_of kept text in
-    let before = take (length text - kept) text in
-    let long = text_long w going.sound in
-    let kept_is = last_long text kept (omega (arith, within, long)) in
-    let both : before ++ rest ≡ text = take-append-drop (length text - kept) text in
-    let parts : length before + length rest ≡ length text = sym (length-append before rest) ∙ ap length both in
-    let Ended : Bool → Type 0 = λ e. IsStopped then (front ++ before) rest e in
-    record {
-      front = front ++ before;
-      taken = subst (Consumes a b) (ap (λ xs. front ++ xs) (sym both) ∙ sym (append_assoc front before rest)) going.taken;
-      within = within;
-      left_is = omega (arith, going.left_is, parts, kept_is, length-append front before);
-      sound = going.sound;
-      at_end = going.at_end;
-      small = small;
-      few = λ fits. omega (arith, going.few, going.left_is, more, fits, going.sound.filled);
-      all = λ none.
-          let zero : length text - 0 ≡ length text = omega arith in
-          let whole_text : before ≡ text = ap (λ k. take (length text - k) text) none ∙ ap (λ k. take k text) zero ∙ take-length text in
-          (ended, ap (λ xs. stands_after start (lines (front ++ xs))) whole_text ∙ end_lines at then front text going.whole going.stands (end.0 none));
-      stopped = λ some.
-          let found = end.1 some in
-          subst Ended (sym ended) (end_stopped at then front before rest text going.whole going.stands both found.0 found.1);
-    }
+-- fewer bytes are left to be read
+pub taken_less : {J F : Type 0} (HasTaken : J → List (List ℕ) → Type 0) (IsAtFault : J → List ℕ → F → Type 0) (judge : J) (kept left : ℕ) (mid new : Window) (a b c : Option (List ℕ)) → IsTaken HasTaken IsAtFault judge kept None left mid a b → Fills (last_of kept (text_of mid)) mid new b c → new.ended ≡ false → new.left < mid.left
+taken_less HasTaken IsAtFault judge kept left mid new a b c t fills goes =
+    omega (arith, fills.full goes, fills.reads.left, ap length (next_text HasTaken IsAtFault judge kept left None mid new a b c t fills), length-append t.rest fills.reads.got, t.stop.0)
 
 -- an input that stops later
-pub going_stops : (at : Standing) (left : ℕ) (fault : Fault) (w : Window) (a b c : Option (List ℕ)) → IsGoing at left w a b → Stops w.left fault b c → Stops left fault a c
-going_stops at left fault w a b c going stops =
-    stops_after left w.left fault (going.front ++ text_of w) a b c going.taken (omega (arith, going.left_is, length-append going.front (text_of w))) stops
+pub taken_stops : {J F : Type 0} (HasTaken : J → List (List ℕ) → Type 0) (IsAtFault : J → List ℕ → F → Type 0) (judge : J) (kept left : ℕ) (fault : Option F) (why : Fault) (w : Window) (a b c : Option (List ℕ)) → IsTaken HasTaken IsAtFault judge kept fault left w a b → Stops w.left why b c → Stops left why a c
+taken_stops HasTaken IsAtFault judge kept left fault why w a b c t stops =
+    stops_after left w.left why (t.front ++ t.rest) a b c t.taken (omega (arith, t.left_is, rest_long HasTaken IsAtFault judge kept left fault w a b t, length-append t.front t.rest)) stops

@@ -1,5 +1,5 @@
 -- Windows over an input.
-use Rattle.std.proofs.Common.{◌≡◌, ℕ, ◌+◌, ◌-◌, ◌≤◌, true, false, List, [], ◌++◌, length, take, drop, Option, inl, inr, refl, sym, ap, ◌∙◌, arith, append_assoc, length-drop}
+use Rattle.std.proofs.Common.{◌≡◌, ℕ, ◌+◌, ◌-◌, ◌≤◌, true, false, List, [], ◌++◌, length, take, drop, Option, refl, sym, ap, subst, ◌∙◌, arith, append_assoc, length-drop}
 use Rattle.std.proofs.lemmas.Bool.{false≢true}
 use Rattle.std.proofs.lemmas.List.{append-nil, length-append, length-take-le, take-append-le, drop-take}
 use Rattle.std.proofs.lemmas.List.Edits.{take-paste}
@@ -9,9 +9,10 @@ use Rattle.std.specs.Prelude.{Result, Ok, Err, OnOk}
 use Rattle.std.specs.Io.KnownBytes.{Consumes, IsAtEnd, Keeps}
 use Rattle.std.proofs.KnownBytes.{Consumes-nil, Consumes-trans, Consumes-kept}
 use Rattle.bsp_check.specs.declared.fault.Fault.{Fault}
-use Rattle.bsp_check.specs.declared.fault.Fault.TheVariants.{Read, TooLong}
+use Rattle.bsp_check.specs.declared.fault.Fault.TheVariants.{Read, TooLong, Write, Memory}
 use Rattle.bsp_check.specs.declared.window.Window.{Window}
-use Rattle.bsp_check.specs.Windows.{room, text_of, last_of, IsWindow, Reads, Fills, Draining, Drains, Stops}
+use Rattle.bsp_check.proofs.Faults.{IsNotLong, IsNotWrite}
+use Rattle.bsp_check.specs.Windows.{room, text_of, last_of, IsWindow, Reads, Fills, Drains, Stops}
 
 -- ---- one read
 
@@ -80,10 +81,22 @@ reads_more text old mid new a b c first next = record {
 }
 
 pub too_long : (text : List ℕ) (old mid : Window) (a b : Option (List ℕ)) → Reads text old mid a b → mid.left ≡ 0 → Stops old.left TooLong a b
-too_long text old mid a b reads none = record { got = reads.got; taken = reads.taken; within = omega (arith, reads.left); either = inr (refl, omega (arith, reads.left, none)) }
+too_long text old mid a b reads none = record {
+  got = reads.got;
+  taken = reads.taken;
+  within = omega (arith, reads.left);
+  not_write = λ is. subst IsNotWrite is tt;
+  long = λ is. omega (arith, reads.left, none);
+}
 
 pub read_fails : (text : List ℕ) (old mid : Window) (a b c : Option (List ℕ)) (fault : Fault) → Reads text old mid a b → Keeps b c → fault ≡ Read → Stops old.left fault a c
-read_fails text old mid a b c fault reads kept is = record { got = reads.got; taken = Consumes-kept a b c reads.got reads.taken kept; within = omega (arith, reads.left); either = inl is }
+read_fails text old mid a b c fault reads kept is = record {
+  got = reads.got;
+  taken = Consumes-kept a b c reads.got reads.taken kept;
+  within = omega (arith, reads.left);
+  not_write = λ write. subst IsNotWrite (sym is ∙ write) tt;
+  long = λ long. absurd (subst IsNotLong (sym is ∙ long) tt);
+}
 
 pub filled_full : (text : List ℕ) (old new : Window) (a b : Option (List ℕ)) → Reads text old new a b → room ≤ new.filled → Fills text old new a b
 filled_full text old new a b reads full = record {
@@ -127,13 +140,20 @@ stops_after left mid fault got a b c taken sum stops = record {
   got = got ++ stops.got;
   taken = Consumes-trans a b c got stops.got taken stops.taken;
   within = omega (arith, sum, stops.within, length-append got stops.got);
-  either = elim stops.either [
-    | inl read ↦ inl read
-    | inr long ↦ inr (long.0, omega (arith, sum, long.1, length-append got stops.got))
-  ];
+  not_write = stops.not_write;
+  long = λ is. omega (arith, sum, stops.long is, length-append got stops.got);
 }
 
 -- ---- reading on
+
+-- the input was read on
+pub record Draining (old now : Window) (before after : Option (List ℕ)) : Type 0 where
+  pub got : List ℕ
+  pub taken : Consumes before after got
+  pub left : now.left + length got ≡ old.left
+  pub window : IsWindow now
+  pub at_end : now.ended ≡ true → IsAtEnd after
+  pub stays : old.ended ≡ true → (got ≡ []) × (now.ended ≡ true)
 
 pub draining_none : (w : Window) (a : Option (List ℕ)) → IsWindow w → (w.ended ≡ true → IsAtEnd a) → Draining w w a a
 draining_none w a window end = record { got = []; taken = Consumes-nil a; left = omega arith; window = window; at_end = end; stays = λ ended. (refl, ended) }
@@ -157,3 +177,25 @@ draining_stops fault old mid a b c first stops = stops_after old.left mid.left f
 
 pub drained : (old now : Window) (a b : Option (List ℕ)) → Draining old now a b → now.ended ≡ true → Drains old now a b
 drained old now a b on ended = record { got = on.got; taken = on.taken; left = on.left; window = on.window; ended = ended; at_end = on.at_end ended; stays = λ was. (on.stays was).0 }
+
+-- ---- what was read
+
+pub text_long : (w : Window) → IsWindow w → length (text_of w) ≡ w.filled
+text_long w window = length-take-le w.filled w.room.items (omega (arith, window.filled, window.wide))
+
+pub last_long : (text : List ℕ) (kept : ℕ) → kept ≤ length text → length (last_of kept text) ≡ kept
+last_long text kept within = omega (arith, within, length-drop (length text - kept) text)
+
+-- an input that stops after the window was filled
+pub later_stops : (rest : List ℕ) (fault : Fault) (old mid : Window) (a b c : Option (List ℕ)) → Fills rest old mid a b → Stops mid.left fault b c → Stops old.left fault a c
+later_stops rest fault old mid a b c fills stops = stops_after old.left mid.left fault fills.reads.got a b c fills.reads.taken fills.reads.left stops
+
+-- an allocation was refused
+pub no_room : (left : ℕ) (a : Option (List ℕ)) → Stops left Memory a a
+no_room left a = record {
+  got = [];
+  taken = Consumes-nil a;
+  within = omega arith;
+  not_write = λ is. subst IsNotWrite is tt;
+  long = λ is. absurd (subst IsNotLong is tt);
+}

@@ -1,8 +1,8 @@
 -- The part of an input that is judged next.
-use Rattle.std.specs.Prelude.{◌≡◌, ◌≤◌, ◌<◌, ◌+◌, ◌-◌, ◌⊎◌, ℕ, true, false, List, [], ◌++◌, length, take, drop, Option}
+use Rattle.std.specs.Prelude.{◌≡◌, ◌≢◌, ◌≤◌, ◌<◌, ◌+◌, ◌-◌, ℕ, Bool, true, false, List, [], ◌++◌, length, take, drop, Option}
 use Rattle.std.specs.Io.KnownBytes.{Consumes, IsAtEnd}
 use Rattle.bsp_check.specs.declared.fault.Fault.{Fault}
-use Rattle.bsp_check.specs.declared.fault.Fault.TheVariants.{Read, TooLong}
+use Rattle.bsp_check.specs.declared.fault.Fault.TheVariants.{TooLong, Write}
 use Rattle.bsp_check.specs.declared.window.Window.{Window}
 
 -- the most bytes that are kept
@@ -16,6 +16,10 @@ text_of w = take w.filled w.room.items
 -- the last bytes of it, so many
 abbrev pub last_of : ℕ → List ℕ → List ℕ
 last_of kept text = drop (length text - kept) text
+
+-- what may follow: nothing where the input has ended
+abbrev pub MayFollow : Bool → List ℕ → Type 0
+MayFollow ended more = ended ≡ true → more ≡ []
 
 -- where it has ended, a byte more might have been read
 pub record IsWindow (w : Window) : Type 0 where
@@ -38,15 +42,6 @@ pub record Fills (text : List ℕ) (old new : Window) (before after : Option (Li
   pub reads : Reads text old new before after
   pub full : new.ended ≡ false → length (text_of new) ≡ room
 
--- the input was read on
-pub record Draining (old now : Window) (before after : Option (List ℕ)) : Type 0 where
-  pub got : List ℕ
-  pub taken : Consumes before after got
-  pub left : now.left + length got ≡ old.left
-  pub window : IsWindow now
-  pub at_end : now.ended ≡ true → IsAtEnd after
-  pub stays : old.ended ≡ true → (got ≡ []) × (now.ended ≡ true)
-
 -- the input was read to its end
 pub record Drains (old new : Window) (before after : Option (List ℕ)) : Type 0 where
   pub got : List ℕ
@@ -57,9 +52,10 @@ pub record Drains (old new : Window) (before after : Option (List ℕ)) : Type 0
   pub at_end : IsAtEnd after
   pub stays : old.ended ≡ true → got ≡ []
 
--- a read failed, or more than so many bytes would have to be read
+-- a read failed, an allocation was refused, or more than so many bytes would have to be read
 pub record Stops (left : ℕ) (fault : Fault) (before after : Option (List ℕ)) : Type 0 where
   pub got : List ℕ
   pub taken : Consumes before after got
   pub within : length got ≤ left
-  pub either : (fault ≡ Read) ⊎ ((fault ≡ TooLong) × (length got ≡ left))
+  pub not_write : fault ≢ Write
+  pub long : fault ≡ TooLong → length got ≡ left

@@ -8,7 +8,7 @@ ghost use Rattle.bsp_check.specs.Inputs.{IsInputReport, IsUnread};
 ghost use Rattle.bsp_check.specs.Verdicts.{verdict_status, IsHotExplained};
 
 use crate::fault::Fault;
-use crate::hot_judging::{HotAnswer, judge_input, judge_text};
+use crate::hot_judging::{HotAnswer, judge_hot, judge_text};
 use crate::reading::read_whole;
 use crate::report::Report;
 use crate::verdict::{Explanation, Verdict};
@@ -117,7 +117,7 @@ fn judge_and_report<R: Read>(
     ensures stopped { IfErr result (λ fault. IsUnread limit fault (R.remaining reader.old.inner) (R.remaining reader.new.inner)) }
     ensures cause { result ≡ Err Fault.Read → reader.new.failed ≡ true }
 {
-    let answer = match judge_input(alloc, reader, limit) {
+    let answer = match judge_hot(alloc, reader, limit) {
         Ok(answer) => answer,
         Err(fault) => return Err(fault),
     };

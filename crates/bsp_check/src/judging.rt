@@ -9,6 +9,9 @@ ghost use Rattle.bsp_check.specs.Inputs.{IsUnread};
 ghost use Rattle.bsp_check.specs.Judging.{IsAfterFew, HasTakenMore, Explains, IsJudged};
 
 use crate::fault::Fault;
+use crate::refusing::refuse;
+use crate::taking::take_all;
+use crate::window::Window;
 use bsp_fields::NoRoom;
 use bsp_streams::Noted;
 use std::alloc::Global;
@@ -76,5 +79,18 @@ pub(crate) fn judge_input<R: Read, J: Judge>(
     ensures stopped { IfErr result (λ fault. IsUnread limit fault (R.remaining reader.old.inner) (R.remaining reader.new.inner)) }
     ensures cause { result ≡ Err Fault.Read → reader.new.failed ≡ true }
 {
-    Err(Fault::Memory)
+    let Ok(mut window) = Window::new(alloc, limit + 1) else {
+        return Err(Fault::Memory);
+    };
+    let taken = match take_all(reader, &mut window, judge) {
+        Ok(taken) => taken,
+        Err(fault) => return Err(fault),
+    };
+    let Some(fault) = taken.fault else {
+        return Ok(None);
+    };
+    match refuse(reader, &mut window, judge, taken.kept, fault) {
+        Ok(refusal) => Ok(Some(refusal)),
+        Err(fault) => Err(fault),
+    }
 }

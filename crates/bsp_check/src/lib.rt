@@ -12,9 +12,11 @@ mod hot_report;
 mod judging;
 mod long_line;
 mod reading;
+mod refusing;
 mod report;
 mod ret_report;
 mod status;
+mod taking;
 mod verdict;
 mod window;
 

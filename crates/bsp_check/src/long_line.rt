@@ -4,8 +4,7 @@ ghost use Rattle.std.specs.Prelude.{◌≡◌, ◌<◌, ◌≤◌, ◌+◌, ◌^
 ghost use Rattle.std.specs.Io.KnownBytes.{IsAtEnd};
 ghost use Rattle.bsp_ret.specs.Lines.{lines, has_end};
 ghost use Rattle.bsp_explain.specs.Before.{IsLine};
-ghost use Rattle.bsp_check.specs.Windows.{text_of, room, IsWindow, Stops};
-ghost use Rattle.bsp_check.specs.HotJudging.{MayFollow};
+ghost use Rattle.bsp_check.specs.Windows.{text_of, room, MayFollow, IsWindow, Stops};
 ghost use Rattle.bsp_check.specs.Widths.{HasWidth};
 
 use crate::fault::Fault;

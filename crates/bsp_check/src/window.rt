@@ -2,7 +2,7 @@
 
 ghost use Rattle.std.specs.Prelude.{◌≡◌, ◌≢◌, ◌≤◌, ◌<◌, ◌+◌, [], true, false, length, IfOk, IfErr, OnOk, OnErr, Err};
 ghost use Rattle.std.specs.Io.KnownBytes.{IsAtEnd, Keeps};
-ghost use Rattle.bsp_check.specs.Windows.{text_of, last_of, IsWindow, Reads, Fills, Stops};
+ghost use Rattle.bsp_check.specs.Windows.{text_of, last_of, IsWindow, Reads, Fills, Drains, Stops};
 
 use crate::fault::Fault;
 use bsp_streams::Noted;
@@ -113,5 +113,22 @@ impl Window {
         self.room.copy_within(self.filled - kept..self.filled, 0);
         self.filled = kept;
         self.fill(reader)
+    }
+
+    /// Reads on to the end of the input, and keeps nothing of it.
+    pub(crate) fn drain<R: Read>(&mut self, reader: &mut Noted<R>) -> Result<(), Fault>
+        requires window { IsWindow self.old }
+        requires end { self.old.ended ≡ true → IsAtEnd (R.remaining reader.old.inner) }
+        ensures drained { OnOk result (Drains self.old self.new (R.remaining reader.old.inner) (R.remaining reader.new.inner)) }
+        ensures stopped { IfErr result (λ fault. Stops self.old.left fault (R.remaining reader.old.inner) (R.remaining reader.new.inner)) }
+        ensures cause { result ≡ Err Fault.Read → reader.new.failed ≡ true }
+    {
+        while !self.ended {
+            match self.advance(reader, 0) {
+                Ok(()) => {}
+                Err(fault) => return Err(fault),
+            }
+        }
+        Ok(())
     }
 }

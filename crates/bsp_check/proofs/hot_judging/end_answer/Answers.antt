@@ -1,6 +1,6 @@
 use Rattle.bsp_ret.specs.Lines.{lines}
 use Rattle.bsp_hot_explain.proofs.HeadingLemmas.{heading_of_state}
-use Rattle.bsp_check.proofs.JudgingLemmas.{says_of_missing}
+use Rattle.bsp_check.proofs.HotLemmas.{says_of_missing}
 use Rattle.bsp_check.proofs.hot_judging.end_answer.Goals as goal
 
 pub returns-in-Some : goal.returns-in-Some

@@ -2,8 +2,7 @@ use Rattle.std.proofs.Common.{◌∙◌, sym, ap}
 use Rattle.bsp_ret.specs.Lines.{lines}
 use Rattle.bsp_hot_check.specs.declared.model.Standing.{Standing}
 use Rattle.bsp_hot_check.specs.Judging.{stands_after}
-use Rattle.bsp_check.proofs.TakingLemmas.{refused_some}
-use Rattle.bsp_check.proofs.JudgingLemmas.{says_of_refused}
+use Rattle.bsp_check.proofs.HotLemmas.{refused_some, says_of_refused}
 use Rattle.bsp_check.proofs.hot_judging.judge_text.Goals as goal
 
 pub returns-in-Ok : goal.returns-in-Ok

@@ -1,8 +1,9 @@
-use Rattle.std.proofs.Common.{length, take, sym, ap, ◌∙◌, arith}
+use Rattle.std.proofs.Common.{ℕ, List, length, take, sym, ap, ◌∙◌, arith}
 use Rattle.std.proofs.lemmas.List.{length-take-le}
 use Rattle.bsp_check.specs.Windows.{text_of}
+use Rattle.bsp_check.specs.Judging.{Explains}
 use Rattle.bsp_check.proofs.JudgingLemmas.{width_long, explained_longer}
-use Rattle.bsp_check.proofs.hot_judging.explain_longer.Goals as goal
+use Rattle.bsp_check.proofs.refusing.explain_longer.Goals as goal
 
 pub slice_bounds-copy_from_slice-end-2 : goal.slice_bounds-copy_from_slice-end-2
 slice_bounds-copy_from_slice-end-2 g c = sym (length-take-le 1024 c.text.result.now (omega (arith, ap length c.text.ensures.text, c.requires.full)))
@@ -15,6 +16,6 @@ explain_long-requires-clause-long g c = width_long (text_of c.args.window.now) c
 
 pub returns-in-Ok-clause-explained : goal.returns-in-Ok-clause-explained
 returns-in-Ok-clause-explained g c =
-    let told = c.explain_long.ensures in
-    explained_longer c.args.at.now c.explain_long.result c.copy_from_slice.new.self c.in-Ok.width c.args.window.now c.line_width.new.window _ _ c.requires.goes_on c.requires.full
-    (c.copy_from_slice.ensures.after ∙ ap (take 1024) c.text.ensures.text) c.in-Ok.ensures.width told.number told.name told.says
+    let Says : List ℕ → Type 0 = Explains g.J.Judge.HasTaken g.J.Judge.IsAtFault g.J.Judge.IsRefusal c.args.judge.now c.args.fault c.explain_long.result in
+    explained_longer Says c.copy_from_slice.new.self c.in-Ok.width c.args.window.now c.line_width.new.window _ _ c.requires.goes_on c.requires.full
+    (c.copy_from_slice.ensures.after ∙ ap (take 1024) c.text.ensures.text) c.in-Ok.ensures.width c.explain_long.ensures
