@@ -1,7 +1,8 @@
 -- What a HOT file is judged to be.
-use Rattle.std.proofs.Common.{◌≡◌, ℕ, ◌+◌, ◌-◌, ◌^◌, ◌<◌, List, [], ◌∷◌, ◌++◌, length, take, drop, Some, None, refl, sym, ap, subst, ◌∙◌, arith}
+use Rattle.std.proofs.Common.{◌≡◌, ℕ, ◌+◌, ◌-◌, ◌^◌, ◌<◌, ◌≤◌, List, [], ◌∷◌, ◌++◌, length, take, drop, Option, Some, None, refl, sym, ap, subst, ◌∙◌, arith}
 use Rattle.std.proofs.lemmas.List.{append-nil}
 use Rattle.std.proofs.Math.Seq.{drop-append_seam}
+use Rattle.std.specs.Io.KnownBytes.{Consumes, IsAtEnd}
 use Rattle.bsp_records.specs.Lines.{lines}
 use Rattle.bsp_records.proofs.RestLemmas.{some_bytes}
 use Rattle.bsp_hot_check.proofs.HotRecordsSizeLemmas.{no_small}
@@ -15,7 +16,7 @@ use Rattle.bsp_explain.specs.Before.{IsLine}
 use Rattle.bsp_hot_explain.specs.declared.explanation.HotExplanation.{HotExplanation}
 use Rattle.bsp_hot_explain.specs.HotReasons.{SaysOfHot, record_name}
 use Rattle.bsp_check.specs.Verdicts.{SaysOfHotFault}
-use Rattle.bsp_check.specs.Judging.{IsAfterFew, HasTakenMore, Explains}
+use Rattle.bsp_check.specs.Judging.{IsAfterFew, HasTakenMore, Explains, IsJudged}
 use Rattle.bsp_check.specs.HotJudging.{HasTakenHot, IsHotRefusal}
 
 -- what is said of the first of some lines
@@ -88,6 +89,12 @@ start_taken at is = let Taken : Standing → Type 0 = λ s. HasTakenHot s [] in 
 -- how many records there are
 pub taken_room : (at : Standing) → IsAfterFew HasTakenHot at → at.records < 2 ^ 62
 taken_room at few = omega (arith, stands_count few.0 start at few.1.0, few.2)
+
+pub answered_room : (at : Standing) (found : Option HotExplanation) (limit : ℕ) (a b : Option (List ℕ)) → found ≡ None → ((x : List ℕ) × Consumes a b x × IsAtEnd b × (length x ≤ limit) × IsJudged HasTakenHot IsHotRefusal at (lines x) found) → at.records < 2 ^ 62
+answered_room at found limit a b is answer =
+    let Judged : Option HotExplanation → Type 0 = λ x. IsJudged HasTakenHot IsHotRefusal at (lines answer.0) x in
+    let all : HasTakenHot at (lines answer.0) × (length (lines answer.0) < 2 ^ 62) = subst Judged is answer.4 in
+    taken_room at (lines answer.0, all.0, all.1)
 
 pub taken_line : (at next : Standing) (line : List ℕ) → step_line at line ≡ Some next → IsSmall next → HasTakenMore HasTakenHot (line ∷ []) at next
 taken_line at next line step small = λ ls has. (stands_line start at next ls line has.0 step, small)

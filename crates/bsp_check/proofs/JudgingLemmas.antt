@@ -12,7 +12,7 @@ use Rattle.bsp_check.specs.declared.window.Window.{Window}
 use Rattle.bsp_check.specs.Windows.{room, text_of, last_of, MayFollow, IsWindow, Fills, Drains, Stops}
 use Rattle.bsp_check.specs.Widths.{all_but_one, HasWidth}
 use Rattle.bsp_check.specs.Inputs.{IsUnread}
-use Rattle.bsp_check.specs.Judging.{IsAfterFew, Explains, IsJudged, IsTaken, IsExplained, IsRefused}
+use Rattle.bsp_check.specs.Judging.{IsAfterFew, Explains, IsJudged, BeginsAtFault, IsStop, IsTaken, IsExplained, IsRefused}
 use Rattle.bsp_check.proofs.WindowLemmas.{stops_after, later_stops, text_long, last_long}
 
 -- ---- an explanation
@@ -110,10 +110,12 @@ explained_stops Says rest fault old mid next a b c d fills told stops =
 
 -- ---- an input that is judged
 
-pub judged_all : {J F E : Type 0} (HasTaken : J → List (List ℕ) → Type 0) (IsAtFault : J → List ℕ → F → Type 0) (IsRefusal : List (List ℕ) → E → Type 0) (judge : J) (kept left limit : ℕ) (w : Window) (a b : Option (List ℕ)) → left ≡ limit + 1 → left < 2 ^ 64 → IsTaken HasTaken IsAtFault judge kept None left w a b → w.ended ≡ true
+pub judged_all : {J F E : Type 0} (HasTaken : J → List (List ℕ) → Type 0) (IsAtFault : J → List ℕ → F → Type 0) (IsRefusal : List (List ℕ) → E → Type 0) (judge : J) (kept left limit : ℕ) (found : Option F) (w : Window) (a b : Option (List ℕ)) → left ≡ limit + 1 → left < 2 ^ 64 → found ≡ None → IsTaken HasTaken IsAtFault judge kept found left w a b → w.ended ≡ true
     → (x : List ℕ) × Consumes a b x × IsAtEnd b × (length x ≤ limit) × IsJudged HasTaken IsRefusal judge (lines x) None
-judged_all HasTaken IsAtFault IsRefusal judge kept left limit w a b is fits t ended =
-    let none : t.rest ≡ [] = t.stop.1 ended in
+judged_all {F = F} HasTaken IsAtFault IsRefusal judge kept left limit found w a b is fits nothing_found t ended =
+    let Stop : Option F → Type 0 = λ x. IsStop IsAtFault w.ended judge t.rest x in
+    let stop : (length t.rest ≤ 137) × (w.ended ≡ true → t.rest ≡ []) = subst Stop nothing_found t.stop in
+    let none : t.rest ≡ [] = stop.1 ended in
     let nothing : MayFollow w.ended [] = λ e. refl in
     let more = t.sound.within ended in
     let front : t.front ++ t.rest ≡ t.front = ap (λ xs. t.front ++ xs) none ∙ append-nil t.front in
@@ -121,13 +123,15 @@ judged_all HasTaken IsAtFault IsRefusal judge kept left limit w a b is fits t en
     sym (ap lines (ap (λ xs. t.front ++ (xs ++ [])) none ∙ append-nil t.front)) ∙ t.are [] nothing ∙ ap (λ xs. t.ls ++ lines (xs ++ [])) none ∙ ap (λ xs. t.ls ++ xs) lines_nil ∙ append-nil t.ls in
     (t.front, subst (Consumes a b) front t.taken, t.at_end ended, omega (arith, is, t.left_is, more), (subst (HasTaken judge) (sym are) t.has, omega (arith, ap length are, t.few, t.left_is, fits)))
 
-pub judged_refused : {J F E : Type 0} (HasTaken : J → List (List ℕ) → Type 0) (IsAtFault : J → List ℕ → F → Type 0) (IsRefusal : List (List ℕ) → E → Type 0) (judge : J) (kept left limit : ℕ) (fault : F) (refusal : E) (w new : Window) (a b c : Option (List ℕ)) → left ≡ limit + 1 → IsTaken HasTaken IsAtFault judge kept (Some fault) left w a b
+pub judged_refused : {J F E : Type 0} (HasTaken : J → List (List ℕ) → Type 0) (IsAtFault : J → List ℕ → F → Type 0) (IsRefusal : List (List ℕ) → E → Type 0) (judge : J) (kept left limit : ℕ) (found : Option F) (fault : F) (refusal : E) (w new : Window) (a b c : Option (List ℕ)) → left ≡ limit + 1 → found ≡ Some fault → IsTaken HasTaken IsAtFault judge kept found left w a b
     → IsRefused (Explains HasTaken IsAtFault IsRefusal judge fault refusal) (last_of kept (text_of w)) w new b c
     → (x : List ℕ) × Consumes a c x × IsAtEnd c × (length x ≤ limit) × IsJudged HasTaken IsRefusal judge (lines x) (Some refusal)
-judged_refused HasTaken IsAtFault IsRefusal judge kept left limit fault refusal w new a b c is t told =
+judged_refused {F = F} HasTaken IsAtFault IsRefusal judge kept left limit found fault refusal w new a b c is fault_is t told =
+    let Stop : Option F → Type 0 = λ x. IsStop IsAtFault w.ended judge t.rest x in
+    let stop : (0 < length t.rest) × BeginsAtFault IsAtFault w.ended judge t.rest fault = subst Stop fault_is t.stop in
     let long = ap length t.rest_is ∙ last_long (text_of w) kept (omega (arith, t.within, text_long w t.sound)) in
     let more = told.window.within told.ended in
-    let first = t.stop.1 told.got told.stays in
+    let first = stop.1 told.got told.stays in
     let line = first.0 in
     let known : last_of kept (text_of w) ++ told.got ≡ t.rest ++ told.got = ap (λ xs. xs ++ told.got) (sym t.rest_is) in
     let are : lines (t.front ++ (t.rest ++ told.got)) ≡ t.ls ++ line ∷ first.1 = t.are told.got told.stays ∙ ap (λ xs. t.ls ++ xs) first.2 in

@@ -1,5 +1,6 @@
 use Rattle.std.proofs.Common.{Bool, sym, subst, ◌∙◌}
 use Rattle.bsp_check.specs.declared.fault.Fault.TheVariants.{Memory}
+use Rattle.bsp_check.specs.Windows.{text_of, last_of}
 use Rattle.bsp_check.specs.Judging.{TakesTo}
 use Rattle.bsp_check.proofs.TakingLemmas.{taken_none, taken_more, taken_stops}
 use Rattle.bsp_check.proofs.WindowLemmas.{later_stops, no_room}
@@ -17,7 +18,7 @@ pub returns-in-Err-take_lines-clause-stopped : goal.returns-in-Err-take_lines-cl
 returns-in-Err-take_lines-clause-stopped g c =
     let l = c.loop-window in
     let new = c.advance.new in
-    taken_stops g.J.Judge.HasTaken g.J.Judge.IsAtFault l.judge l.taken.kept c.args.window.now.left l.taken.fault Memory l.window _ _ _ l.invariant.taken (later_stops _ Memory l.window new.self _ _ _ c.in-Ok.ensures.filled (no_room new.self.left (g.R.Read.remaining new.reader.inner)))
+    taken_stops g.J.Judge.HasTaken g.J.Judge.IsAtFault l.judge l.taken.kept c.args.window.now.left l.taken.fault Memory l.window _ _ _ l.invariant.taken (later_stops (last_of l.taken.kept (text_of l.window)) Memory l.window new.self _ _ _ c.in-Ok.ensures.filled (no_room new.self.left (g.R.Read.remaining new.reader.inner)))
 
 pub loop-window-preserved : goal.loop-window-preserved
 loop-window-preserved g c =
