@@ -1,5 +1,5 @@
 -- What is said of the line of an input that is not allowed.
-use Rattle.std.proofs.Common.{◌≡◌, ℕ, ◌+◌, ◌*◌, ◌-◌, ◌^◌, ◌<◌, ◌≤◌, true, false, List, [], ◌∷◌, ◌++◌, length, take, drop, Option, Some, None, refl, sym, ap, subst, ◌∙◌, arith, append_assoc}
+use Rattle.std.proofs.Common.{◌≡◌, ℕ, ◌+◌, ◌-◌, ◌^◌, ◌<◌, ◌≤◌, true, false, List, [], ◌∷◌, ◌++◌, length, take, drop, Option, Some, None, refl, sym, ap, subst, ◌∙◌, arith, append_assoc}
 use Rattle.std.proofs.lemmas.List.{append-nil, length-append, length-take-le, take-append-le, take-append-drop}
 use Rattle.std.proofs.lemmas.Bool.{false≢true}
 use Rattle.std.specs.Io.KnownBytes.{Consumes, IsAtEnd}
@@ -12,7 +12,7 @@ use Rattle.bsp_check.specs.declared.window.Window.{Window}
 use Rattle.bsp_check.specs.Windows.{room, text_of, last_of, MayFollow, IsWindow, Fills, Drains, Stops}
 use Rattle.bsp_check.specs.Widths.{all_but_one, HasWidth}
 use Rattle.bsp_check.specs.Inputs.{IsUnread}
-use Rattle.bsp_check.specs.Judging.{IsAfterFew, Explains, IsJudged, BeginsAtFault, IsStop, IsTaken, IsExplained, IsRefused}
+use Rattle.bsp_check.specs.Judging.{Explains, IsJudged, BeginsAtFault, IsStop, IsTaken, IsExplained, IsRefused}
 use Rattle.bsp_check.proofs.WindowLemmas.{stops_after, later_stops, text_long, last_long}
 
 -- ---- an explanation
@@ -143,14 +143,6 @@ judged_refused {F = F} HasTaken IsAtFault IsRefusal judge kept left limit found 
       omega (arith, is, t.left_is, told.left, more, long, length-append t.front (t.rest ++ told.got), length-append t.rest told.got),
       subst Refuses (sym are) said,
     )
-
--- the judge of an input has taken few lines
-pub judge_few : {J F : Type 0} (HasTaken : J → List (List ℕ) → Type 0) (IsAtFault : J → List ℕ → F → Type 0) (judge : J) (kept left : ℕ) (fault : Option F) (w : Window) (a b : Option (List ℕ)) → left < 2 ^ 64 → IsTaken HasTaken IsAtFault judge kept fault left w a b → IsAfterFew HasTaken judge
-judge_few HasTaken IsAtFault judge kept left fault w a b fits t = (t.ls, t.has, omega (arith, t.few, t.left_is, fits))
-
-pub some_kept : {J F : Type 0} (HasTaken : J → List (List ℕ) → Type 0) (IsAtFault : J → List ℕ → F → Type 0) (judge : J) (kept left : ℕ) (fault : F) (w : Window) (a b : Option (List ℕ)) → IsTaken HasTaken IsAtFault judge kept (Some fault) left w a b → 0 < kept
-some_kept HasTaken IsAtFault judge kept left fault w a b t =
-    omega (arith, t.stop.0, ap length t.rest_is, last_long (text_of w) kept (omega (arith, t.within, text_long w t.sound)))
 
 -- ---- an input that is not judged
 

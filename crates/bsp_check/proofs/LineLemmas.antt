@@ -2,14 +2,15 @@
 use Rattle.std.proofs.Common.{◌≡◌, ℕ, zero, suc, ◌+◌, ◌-◌, ◌<◌, Bool, true, false, ◌&&◌, ◌||◌, List, [], ◌∷◌, ◌++◌, length, take, drop, Option, refl, sym, ap, subst, ◌∙◌, arith, append_assoc, length-drop}
 use Rattle.std.specs.Prelude.{◌==◌, cond}
 use Rattle.std.proofs.lemmas.List.{append-nil, length-append, length-take-le, take-append-drop}
+use Rattle.std.specs.Io.KnownBytes.{Consumes, IsAtEnd}
 use Rattle.std.proofs.KnownBytes.{Consumes-trans}
 use Rattle.bsp_ret.specs.Lines.{lines, begins_with, with_first, has_end, BeginsWithLine}
 use Rattle.bsp_records.proofs.CutLemmas.{some_lines, first_ended}
 use Rattle.bsp_hot_check.proofs.PieceLemmas.{ended_goes}
 use Rattle.bsp_explain.specs.Before.{IsLine}
 use Rattle.bsp_check.specs.declared.window.Window.{Window}
-use Rattle.bsp_check.specs.Windows.{text_of, last_of, Fills}
-use Rattle.bsp_check.specs.Widths.{all_but_one, IsWithin, HasWidth}
+use Rattle.bsp_check.specs.Windows.{text_of, last_of, IsWindow, Fills}
+use Rattle.bsp_check.specs.Widths.{all_but_one, HasWidth}
 
 lines_cons : (b : ℕ) (bytes : List ℕ) → lines (b ∷ bytes) ≡ cond (b == 10) ([] ∷ lines bytes) (cond ((b == 13) && begins_with 10 bytes) (lines bytes) (with_first b (lines bytes)))
 unfolding lines
@@ -83,6 +84,22 @@ pub ended_line_known : (text more first : List ℕ) (ended : Bool) → ended ≡
 ended_line_known text more first ended is follows line = nothing_more text more first (follows is) line
 
 -- ---- a line that is longer than a window
+
+-- bytes without an end are before the window, whose first byte is none
+pub record IsWithin (text : List ℕ) (before_it : ℕ) (old now : Window) (before after : Option (List ℕ)) : Type 0 where
+  pub got : List ℕ
+  pub taken : Consumes before after got
+  pub line : List ℕ
+  pub more : List ℕ
+  pub line_is : line ≡ all_but_one text ++ more
+  pub unended : has_end line ≡ false
+  pub long : before_it ≡ length line
+  pub are : text ++ got ≡ line ++ text_of now
+  pub first : begins_with 10 (text_of now) ≡ false
+  pub some : 0 < length (text_of now)
+  pub left : now.left + length got ≡ old.left
+  pub window : IsWindow now
+  pub at_end : now.ended ≡ true → IsAtEnd after
 
 before_last : (text : List ℕ) → all_but_one text ++ last_of 1 text ≡ text
 before_last text = take-append-drop (length text - 1) text

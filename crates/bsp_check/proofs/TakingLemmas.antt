@@ -1,19 +1,18 @@
 -- Lines that are taken from an input.
-use Rattle.std.proofs.Common.{◌≡◌, ℕ, Bool, ◌+◌, ◌*◌, ◌-◌, ◌^◌, ◌<◌, ◌≤◌, true, false, List, [], ◌∷◌, ◌++◌, length, take, drop, Option, Some, None, inl, inr, refl, sym, ap, subst, ◌∙◌, arith, append_assoc}
+use Rattle.std.proofs.Common.{◌≡◌, ℕ, Bool, ◌+◌, ◌-◌, ◌<◌, ◌≤◌, true, false, List, [], ◌∷◌, ◌++◌, length, drop, Option, Some, None, inl, inr, refl, sym, ap, subst, ◌∙◌, arith, append_assoc}
 use Rattle.std.proofs.lemmas.Bool.{false≢true}
 use Rattle.std.proofs.lemmas.List.{append-nil, length-append, take-append-drop}
 use Rattle.std.specs.Prelude.{IfSome, IfNone}
-use Rattle.std.specs.Io.KnownBytes.{Consumes, IsAtEnd}
+use Rattle.std.specs.Io.KnownBytes.{Consumes}
 use Rattle.std.proofs.KnownBytes.{Consumes-nil, Consumes-trans}
 use Rattle.bsp_records.specs.Columns.{is_wide}
-use Rattle.bsp_records.specs.Lines.{lines, IsRest, before_rest, BeginsWithLine, HasFirstLine, BeginsOtherwise}
-use Rattle.bsp_records.proofs.CutLemmas.{lines_nil}
+use Rattle.bsp_records.specs.Lines.{lines, before_rest, HasFirstLine, BeginsOtherwise}
 use Rattle.bsp_records.proofs.RestLemmas.{rest_itself, rest_of_rest}
 use Rattle.bsp_hot_check.proofs.PieceLemmas.{line_room, Goes, goes_on, ended_goes, ended_wide, wide_long}
 use Rattle.bsp_check.specs.declared.fault.Fault.{Fault}
 use Rattle.bsp_check.specs.declared.window.Window.{Window}
-use Rattle.bsp_check.specs.Windows.{text_of, last_of, room, MayFollow, IsWindow, Fills, Stops}
-use Rattle.bsp_check.specs.Judging.{most_unended, IsAfterFew, HasTakenMore, BeginsAtFault, IsStop, Takes, TakesTo, IsTaken}
+use Rattle.bsp_check.specs.Windows.{text_of, last_of, MayFollow, IsWindow, Fills, Stops}
+use Rattle.bsp_check.specs.Judging.{most_unended, HasTakenMore, BeginsAtFault, Takes, TakesTo, IsTaken}
 use Rattle.bsp_check.proofs.WindowLemmas.{stops_after, text_long, last_long}
 
 -- ---- the first line of a text, whatever follows
@@ -81,9 +80,6 @@ few_left false rest few = (few, λ is. absurd (false≢true is))
 
 -- ---- where no more lines are taken
 
-pub takes_few : {J : Type 0} (HasTaken : J → List (List ℕ) → Type 0) (ended : Bool) (old mid : J) (text rest : List ℕ) → Takes HasTaken ended old mid text rest → ((ls : List (List ℕ)) × HasTaken old ls × (length ls + length text < 2 ^ 62)) → IsAfterFew HasTaken mid
-takes_few HasTaken ended old mid text rest takes few = (few.0 ++ takes.ls, takes.taken few.0 few.1, omega (arith, few.2, takes.room, length-append few.0 takes.ls))
-
 pub to_wide : {J F : Type 0} (HasTaken : J → List (List ℕ) → Type 0) (IsAtFault : J → List ℕ → F → Type 0) (ended : Bool) (old mid new : J) (found : Option F) (fault : F) (text rest line after : List ℕ) → Takes HasTaken ended old mid text rest → HasFirstLine rest line after → most_unended ended < length rest → length line ≡ 136 → found ≡ Some fault → IfSome found (λ why. IsAtFault mid line why) → IfSome found (λ why. new ≡ mid) → TakesTo HasTaken IsAtFault ended old new text (length rest) (Some fault)
 to_wide {J = J} {F = F} HasTaken IsAtFault ended old mid new found fault text rest line after takes first some wide is refused unchanged =
     let Refused : Option F → Type 0 = λ x. IfSome x (λ why. IsAtFault mid line why) in
@@ -95,9 +91,6 @@ to_wide {J = J} {F = F} HasTaken IsAtFault ended old mid new found fault text re
 pub to_narrow : {J F : Type 0} (HasTaken : J → List (List ℕ) → Type 0) (IsAtFault : J → List ℕ → F → Type 0) (ended : Bool) (old mid : J) (fault : F) (text rest : List ℕ) → Takes HasTaken ended old mid text rest → BeginsOtherwise rest → most_unended ended < length rest → ((line : List ℕ) → is_wide line ≡ false → IsAtFault mid line fault) → TakesTo HasTaken IsAtFault ended old mid text (length rest) (Some fault)
 to_narrow HasTaken IsAtFault ended old mid fault text rest takes other some none =
     record { rest = rest; long = refl; takes = takes; stop = (omega (arith, some), narrow_fault IsAtFault ended mid fault rest other some none) }
-
-pub to_end : {J F : Type 0} (HasTaken : J → List (List ℕ) → Type 0) (IsAtFault : J → List ℕ → F → Type 0) (ended : Bool) (old mid : J) (text rest : List ℕ) → Takes HasTaken ended old mid text rest → length rest ≤ most_unended ended → TakesTo HasTaken IsAtFault ended old mid text (length rest) None
-to_end HasTaken IsAtFault ended old mid text rest takes few = record { rest = rest; long = refl; takes = takes; stop = few_left ended rest few }
 
 -- ---- the lines of a window
 
@@ -132,11 +125,6 @@ rest_long HasTaken IsAtFault judge kept left fault w a b t = ap length t.rest_is
 next_text : {J F : Type 0} (HasTaken : J → List (List ℕ) → Type 0) (IsAtFault : J → List ℕ → F → Type 0) (judge : J) (kept left : ℕ) (fault : Option F) (mid new : Window) (a b c : Option (List ℕ)) → (t : IsTaken HasTaken IsAtFault judge kept fault left mid a b) → (fills : Fills (last_of kept (text_of mid)) mid new b c) → text_of new ≡ t.rest ++ fills.reads.got
 next_text HasTaken IsAtFault judge kept left fault mid new a b c t fills = fills.reads.text_is ∙ ap (λ xs. xs ++ fills.reads.got) (sym t.rest_is)
 
--- there is room for its lines
-pub taken_few : {J F : Type 0} (HasTaken : J → List (List ℕ) → Type 0) (IsAtFault : J → List ℕ → F → Type 0) (judge : J) (kept left : ℕ) (fault : Option F) (mid new : Window) (text : List ℕ) (a b : Option (List ℕ)) → IsTaken HasTaken IsAtFault judge kept fault left mid a b → left < 2 ^ 64 → IsWindow new → text ≡ text_of new
-    → (ls : List (List ℕ)) × HasTaken judge ls × (length ls + length text < 2 ^ 62)
-taken_few HasTaken IsAtFault judge kept left fault mid new text a b t fits window same = (t.ls, t.has, omega (arith, t.few, t.left_is, fits, ap length same, text_long new window, window.filled))
-
 pub taken_more : {J F : Type 0} (HasTaken : J → List (List ℕ) → Type 0) (IsAtFault : J → List ℕ → F → Type 0) (at then : J) (kept next left : ℕ) (was fault : Option F) (mid new : Window) (text : List ℕ) (a b c : Option (List ℕ)) → IsTaken HasTaken IsAtFault at kept was left mid a b → mid.ended ≡ false → Fills (last_of kept (text_of mid)) mid new b c → text ≡ text_of new
     → TakesTo HasTaken IsAtFault new.ended at then text next fault → IsTaken HasTaken IsAtFault then next fault left new a c
 taken_more HasTaken IsAtFault at then kept next left was fault mid new text a b c t goes fills is to =
@@ -170,11 +158,6 @@ taken_more HasTaken IsAtFault at then kept next left was fault mid new text a b 
       few = omega (arith, t.few, takes.room, parts, length-append front before, length-append t.ls takes.ls);
       stop = to.stop;
     }
-
--- fewer bytes are left to be read
-pub taken_less : {J F : Type 0} (HasTaken : J → List (List ℕ) → Type 0) (IsAtFault : J → List ℕ → F → Type 0) (judge : J) (kept left : ℕ) (mid new : Window) (a b c : Option (List ℕ)) → IsTaken HasTaken IsAtFault judge kept None left mid a b → Fills (last_of kept (text_of mid)) mid new b c → new.ended ≡ false → new.left < mid.left
-taken_less HasTaken IsAtFault judge kept left mid new a b c t fills goes =
-    omega (arith, fills.full goes, fills.reads.left, ap length (next_text HasTaken IsAtFault judge kept left None mid new a b c t fills), length-append t.rest fills.reads.got, t.stop.0)
 
 -- an input that stops later
 pub taken_stops : {J F : Type 0} (HasTaken : J → List (List ℕ) → Type 0) (IsAtFault : J → List ℕ → F → Type 0) (judge : J) (kept left : ℕ) (fault : Option F) (why : Fault) (w : Window) (a b c : Option (List ℕ)) → IsTaken HasTaken IsAtFault judge kept fault left w a b → Stops w.left why b c → Stops left why a c

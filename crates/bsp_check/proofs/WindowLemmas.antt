@@ -9,7 +9,7 @@ use Rattle.std.specs.Prelude.{Result, Ok, Err, OnOk}
 use Rattle.std.specs.Io.KnownBytes.{Consumes, IsAtEnd, Keeps}
 use Rattle.std.proofs.KnownBytes.{Consumes-nil, Consumes-trans, Consumes-kept}
 use Rattle.bsp_check.specs.declared.fault.Fault.{Fault}
-use Rattle.bsp_check.specs.declared.fault.Fault.TheVariants.{Read, TooLong, Write, Memory}
+use Rattle.bsp_check.specs.declared.fault.Fault.TheVariants.{Read, TooLong, Memory}
 use Rattle.bsp_check.specs.declared.window.Window.{Window}
 use Rattle.bsp_check.proofs.Faults.{IsNotLong, IsNotWrite}
 use Rattle.bsp_check.specs.Windows.{room, text_of, last_of, IsWindow, Reads, Fills, Drains, Stops}

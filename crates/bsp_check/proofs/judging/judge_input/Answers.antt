@@ -1,4 +1,4 @@
-use Rattle.std.proofs.Common.{◌+◌, arith}
+use Rattle.std.proofs.Common.{arith}
 use Rattle.bsp_check.proofs.TakingLemmas.{taken_stops}
 use Rattle.bsp_check.proofs.JudgingLemmas.{judged_all, judged_refused, unread}
 use Rattle.bsp_check.proofs.judging.judge_input.Goals as goal

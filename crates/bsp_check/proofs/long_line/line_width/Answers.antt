@@ -2,9 +2,8 @@ use Rattle.std.proofs.Common.{◌+◌, ◌-◌, ℕ, length, sym, ap, subst, ◌
 use Rattle.bsp_ret.specs.Lines.{lines}
 use Rattle.bsp_hot_check.proofs.PieceLemmas.{line_room}
 use Rattle.bsp_check.specs.Windows.{text_of}
-use Rattle.bsp_check.specs.Widths.{IsWithin}
 use Rattle.bsp_check.proofs.WindowLemmas.{stops_after}
-use Rattle.bsp_check.proofs.LineLemmas.{within_start, within_more, within_sum, width_found}
+use Rattle.bsp_check.proofs.LineLemmas.{IsWithin, within_start, within_more, within_sum, width_found}
 use Rattle.bsp_check.proofs.long_line.line_width.Goals as goal
 
 pub loop-window-init : goal.loop-window-init

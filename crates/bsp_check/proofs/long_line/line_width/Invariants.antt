@@ -1,7 +1,7 @@
 use Rattle.std.proofs.Common.{◌≡◌, ◌+◌, false, length}
 use Rattle.std.specs.Prelude.{if◌then◌else◌}
 use Rattle.bsp_check.specs.Windows.{room, text_of}
-use Rattle.bsp_check.specs.Widths.{IsWithin}
+use Rattle.bsp_check.proofs.LineLemmas.{IsWithin}
 use Rattle.bsp_check.proofs.long_line.line_width.Given as goal
 
 abbrev pub invariant-loop-window : goal.invariant-loop-window
