@@ -1,23 +1,13 @@
 -- Lemmas on the report on a RET file.
-use Rattle.std.proofs.Common.{◌≡◌, ℕ, suc, ◌+◌, ◌<◌, List, [], ◌∷◌, ◌++◌, length, take, get_or, refl, sym, ap, subst, ◌∙◌, arith, append_assoc, length-take}
+use Rattle.std.proofs.Common.{◌≡◌, ℕ, suc, ◌+◌, List, [], ◌∷◌, ◌++◌, length, Option, Some, None, is_some, option_to_list, cond, refl, sym, ap, subst, ◌∙◌, arith, append_assoc, append-nil, length-append}
 use Rattle.std.specs.List.{concat}
-use Rattle.std.proofs.lemmas.List.{take_more, append-nil}
 use Rattle.bsp_ret.specs.PaidSale.{PaidSale}
-use Rattle.bsp_ret.specs.Sales.{HasSale}
-use Rattle.bsp_check.specs.RetReport.{transaction_text, transactions_text, HaveSales, AreReported}
-
-sales_more : (n : ℕ) (groups : List (List (List ℕ))) (ts : List PaidSale) (group : List (List ℕ)) (t : PaidSale) → HaveSales n groups ts → HasSale (n + length groups) group t → HaveSales n (groups ++ group ∷ []) (ts ++ t ∷ [])
-sales_more n [] [] group t have has = (subst (λ (k : ℕ). HasSale k group t) (omega arith) has, tt)
-sales_more n (first ∷ groups) (u ∷ ts) group t have has =
-    (have.0, sales_more (suc n) groups ts group t have.1 (subst (λ (k : ℕ). HasSale k group t) (omega arith) has))
-sales_more n [] (u ∷ ts) group t have has = absurd have
-sales_more n (first ∷ groups) [] group t have has = absurd have
-
-same_length : (n : ℕ) (groups : List (List (List ℕ))) (ts : List PaidSale) → HaveSales n groups ts → length groups ≡ length ts
-same_length n [] [] have = refl
-same_length n (group ∷ groups) (t ∷ ts) have = ap suc (same_length (suc n) groups ts have.1)
-same_length n [] (t ∷ ts) have = absurd have
-same_length n (group ∷ groups) [] have = absurd have
+use Rattle.bsp_ret.specs.declared.judging.FileTotals.{FileTotals}
+use Rattle.bsp_ret.specs.Judging.{Judged, AreTaken, IsFileOf}
+use Rattle.bsp_ret.specs.Lines.{lines}
+use Rattle.bsp_check.specs.declared.ret_judging.RetJudge.{RetJudge}
+use Rattle.bsp_check.specs.RetJudging.{HasTakenRet}
+use Rattle.bsp_check.specs.RetReport.{transaction_text, transactions_text, total_text, IsFileReport}
 
 text_more : (n : ℕ) (ts : List PaidSale) (t : PaidSale) → transactions_text n (ts ++ t ∷ []) ≡ transactions_text n ts ++ transaction_text (n + length ts) t
 text_more n [] t = append-nil (transaction_text n t) ∙ ap (λ k. transaction_text k t) (omega arith)
@@ -25,27 +15,34 @@ text_more n (u ∷ ts) t =
     ap (λ rest. transaction_text n u ++ rest) (text_more (suc n) ts t ∙ ap (λ k. transactions_text (suc n) ts ++ transaction_text k t) (omega arith))
     ∙ sym (append_assoc (transaction_text n u) (transactions_text (suc n) ts) (transaction_text (n + suc (length ts)) t))
 
-pub nothing_reported : (old : List ℕ) → AreReported old [] old
-nothing_reported old = record { sales = []; have = tt; text_is = sym (append-nil old) }
-
 -- one more transaction
-pub more_reported : (old text more : List ℕ) (groups : List (List (List ℕ))) (index : ℕ) (t : PaidSale) → index < length groups → AreReported old (take index groups) text → HasSale (index + 1) (get_or groups index []) t → more ≡ text ++ transaction_text (index + 1) t → AreReported old (take (index + 1) groups) more
-more_reported old text more groups index t below are has is =
-    let ts = are.sales in
-    let few : length (take index groups) ≡ index = length-take index groups ∙ omega (arith, below) in
-    let count : length ts ≡ index = sym (same_length 1 (take index groups) ts are.have) ∙ few in
-    let at : index + 1 ≡ 1 + length ts = omega (arith, count) in
-    let at_groups : index + 1 ≡ 1 + length (take index groups) = omega (arith, few) in
-    let Numbered : ℕ → Type 0 = λ k. HasSale k (get_or groups index []) t in
-    let Groups : List (List (List ℕ)) → Type 0 = λ gs. HaveSales 1 gs (ts ++ t ∷ []) in
-    record {
-      sales = ts ++ t ∷ [];
-      have = subst Groups (sym (take_more groups index [] below)) (sales_more 1 (take index groups) ts (get_or groups index []) t are.have (subst Numbered at_groups has));
-      text_is = is
-          ∙ ap (λ front. front ++ transaction_text (index + 1) t) are.text_is
-          ∙ append_assoc old (transactions_text 1 ts) (transaction_text (index + 1) t)
-          ∙ ap (λ rest. old ++ rest) (ap (λ k. transactions_text 1 ts ++ transaction_text k t) at ∙ sym (text_more 1 ts t));
-    }
+pub text_after : (sales : List PaidSale) (p : PaidSale) (number : ℕ) (text more : List ℕ) → text ≡ transactions_text 1 sales → number ≡ length sales + 1 → more ≡ text ++ transaction_text number p → more ≡ transactions_text 1 (sales ++ p ∷ [])
+text_after sales p number text more is at pushed =
+    let behind : number ≡ 1 + length sales = omega (arith, at) in
+    pushed ∙ ap (λ front. front ++ transaction_text number p) is ∙ ap (λ k. transactions_text 1 sales ++ transaction_text k p) behind ∙ sym (text_more 1 sales p)
+
+-- the number of the transaction that a record completes
+number_of : (ls : List (List ℕ)) (sales : List PaidSale) (j : Judged) (p : PaidSale) → AreTaken ls j sales → j.begun ≡ Some p → j.at.transactions ≡ length sales + 1
+number_of ls sales j p t begun = t.count ∙ ap (λ (o : Option PaidSale). length sales + cond (is_some o) 1 0) begun
+
+-- one more line, which completes no transaction
+pub taken_none : (judge more : RetJudge) (line : List ℕ) (ls : List (List ℕ)) → ((sales : List PaidSale) → AreTaken ls judge.judging sales → AreTaken (ls ++ line ∷ []) more.judging (sales ++ [])) → more.text.items ≡ judge.text.items → HasTakenRet judge ls → HasTakenRet more (ls ++ line ∷ [])
+taken_none judge more line ls step same has = (has.0 ++ [], step has.0 has.1, same ∙ has.2 ∙ ap (transactions_text 1) (sym (append-nil has.0)))
+
+-- or one
+pub taken_one : (judge more : RetJudge) (line : List ℕ) (number : ℕ) (p : PaidSale) (ls : List (List ℕ)) → ((sales : List PaidSale) → AreTaken ls judge.judging sales → AreTaken (ls ++ line ∷ []) more.judging (sales ++ p ∷ [])) → judge.judging.begun ≡ Some p → number ≡ judge.judging.at.transactions → more.text.items ≡ judge.text.items ++ transaction_text number p → HasTakenRet judge ls → HasTakenRet more (ls ++ line ∷ [])
+taken_one judge more line number p ls step begun at pushed has =
+    (has.0 ++ p ∷ [], step has.0 has.1, text_after has.0 p number judge.text.items more.text.items has.2 (at ∙ number_of ls has.0 judge.judging p has.1 begun) pushed)
+
+-- what is so of the lines that were taken, and of the report
+pub is_file_report : (bytes text line : List ℕ) (sales : List PaidSale) (totals : FileTotals) → IsFileOf (lines bytes) sales totals → text ≡ transactions_text 1 sales → line ≡ total_text totals.records totals.transactions totals.sum → IsFileReport bytes (text ++ line)
+is_file_report bytes text line sales totals is front back = record {
+  file = is.file;
+  stands = is.ret;
+  sales = sales;
+  have = is.sales_are;
+  text_is = rw (front, back, is.records, is.transactions, is.sum) refl;
+}
 
 -- seven texts, each appended behind those before it
 pub joined_seven : (old a b c d e f g : List ℕ) → ((((((old ++ a) ++ b) ++ c) ++ d) ++ e) ++ f) ++ g ≡ old ++ concat (a ∷ b ∷ c ∷ d ∷ e ∷ f ∷ g ∷ [])

@@ -7,4 +7,5 @@ pub mod Judging
 pub mod HotJudging
 pub mod Inputs
 pub mod RetReport
+pub mod RetJudging
 pub mod HotReport

@@ -8,7 +8,7 @@ use Rattle.bsp_fields.specs.Money.{money_text}
 use Rattle.bsp_ret.specs.ReportedDocument.{ReportedDocument}
 use Rattle.bsp_ret.specs.Sale.{Sale}
 use Rattle.bsp_ret.specs.PaidSale.{PaidSale}
-use Rattle.bsp_ret.specs.Sales.{HasSale}
+use Rattle.bsp_ret.specs.Sales.{HaveSales}
 use Rattle.bsp_ret.specs.declared.model.RetFault.{RetFault}
 use Rattle.bsp_ret.specs.RetRecordsTexts.{code_text}
 use Rattle.bsp_ret.specs.Texts.{fault_text}
@@ -30,13 +30,6 @@ transaction_text n p = concat (fixed_digits 6 n ∷ codes " " ∷ sale_text p.sa
 abbrev pub transactions_text : ℕ → List PaidSale → List ℕ
 transactions_text n [] = []
 transactions_text n (p ∷ sales) = transaction_text n p ++ transactions_text (suc n) sales
-
--- the groups have these records 2 and these sums of their forms, from number n on
-abbrev pub HaveSales : ℕ → List (List (List ℕ)) → List PaidSale → Type 0
-HaveSales n [] [] = Unit {0}
-HaveSales n (group ∷ groups) (p ∷ sales) = HasSale n group p × HaveSales (suc n) groups sales
-HaveSales n [] (p ∷ sales) = ⊥
-HaveSales n (group ∷ groups) [] = ⊥
 
 abbrev pub total_text : ℕ → ℕ → ℤ → List ℕ
 total_text records transactions sum =
@@ -67,9 +60,3 @@ pub record IsFaultReport (bytes text : List ℕ) : Type 0 where
 -- the report on these bytes, with its exit status
 abbrev pub IsRetReport : List ℕ → ℕ → List ℕ → Type 0
 IsRetReport bytes status text = ((status ≡ 0) × IsFileReport bytes text) ⊎ ((status ≡ 1) × IsFaultReport bytes text)
-
--- records 2 of the groups, and their lines behind the old text
-pub record AreReported (old : List ℕ) (groups : List (List (List ℕ))) (text : List ℕ) : Type 0 where
-  pub sales : List PaidSale
-  pub have : HaveSales 1 groups sales
-  pub text_is : text ≡ old ++ transactions_text 1 sales

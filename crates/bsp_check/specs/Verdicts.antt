@@ -1,15 +1,12 @@
 -- The verdict on an input, with its exit status and the explanation of a fault.
 use Rattle.std.specs.Prelude.{◌≡◌, ℕ, ◌-◌, List, take, true, Result, Ok, Err, Some, None}
 use Rattle.bsp_ret.specs.Lines.{lines}
-use Rattle.bsp_ret.specs.declared.model.RetFault.{RetFault}
-use Rattle.bsp_ret.specs.Table.{first_fault}
 use Rattle.bsp_hot_check.specs.Hot.{IsFirstFault}
-use Rattle.bsp_explain.specs.declared.explanation.Explanation.{Explanation as RetExplanation}
 use Rattle.bsp_hot_check.specs.declared.model.Standing.{Standing}
 use Rattle.bsp_hot_check.specs.Standings.{start}
 use Rattle.bsp_hot_explain.specs.declared.explanation.HotExplanation.{HotExplanation}
-use Rattle.bsp_explain.specs.Before.{counted, IsLine}
-use Rattle.bsp_explain.specs.RetReasons.{Says, is_reason_of}
+use Rattle.bsp_explain.specs.Lines.{IsLine}
+use Rattle.bsp_explain.specs.RetFaults.{SaysOfRetFault}
 use Rattle.bsp_hot_explain.specs.Headings.{heading_in}
 use Rattle.bsp_hot_check.specs.Judging.{stands_after}
 use Rattle.bsp_hot_explain.specs.HotReasons.{SaysOfHot, record_name}
@@ -28,18 +25,10 @@ abbrev pub status_of : Result Verdict Fault → ℕ
 status_of (Ok verdict) = verdict_status verdict
 status_of (Err fault) = 3
 
--- the explanation is of the first fault of the bytes as a RET file
-pub record SaysOfRetFault (bytes : List ℕ) (explanation : RetExplanation) : Type 0 where
-  pub fault : RetFault
-  pub is_first : first_fault (lines bytes) ≡ Some fault
-  pub number : explanation.record ≡ fault.at
-  pub row : is_reason_of fault.code explanation.reason ≡ true
-  pub says : (line : List ℕ) → IsLine (fault.at - 1) (lines bytes) line → Says fault.at (counted (take (fault.at - 1) (lines bytes))) line explanation.reason
-
 -- what a verdict says of the bytes, as a RET file: of one without fault nothing
 abbrev pub IsRetExplained : List ℕ → Verdict → Type 0
 IsRetExplained bytes (Passed heading) = heading ≡ None
-IsRetExplained bytes (Refused (Ret explanation)) = SaysOfRetFault bytes explanation
+IsRetExplained bytes (Refused (Ret explanation)) = SaysOfRetFault (lines bytes) explanation
 IsRetExplained bytes (Refused (Hot explanation)) = ⊥
 
 -- the explanation is of the first record of the bytes at fault, as a HOT file; the records before it have this state

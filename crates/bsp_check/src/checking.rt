@@ -9,7 +9,6 @@ ghost use Rattle.bsp_check.specs.Verdicts.{status_of, IsRetExplained, IsHotExpla
 
 use crate::fault::Fault;
 use crate::hot_report::hot_report;
-use crate::reading::read_whole;
 use crate::report::write_report;
 use crate::ret_report::ret_report;
 use crate::verdict::Verdict;
@@ -39,11 +38,10 @@ pub fn check_within<R: Read, W: Write>(
     ensures read_cause { result ≡ Err Fault.Read → reader.new.failed ≡ true }
     ensures write_cause { result ≡ Err Fault.Write → writer.new.failed ≡ true }
 {
-    let all = read_whole(alloc, reader, limit)?;
-    let Ok(report) = ret_report(alloc, &all) else {
-        return Err(Fault::Memory);
-    };
-    write_report(writer, &report)
+    match ret_report(alloc, reader, limit) {
+        Ok(report) => write_report(writer, &report),
+        Err(fault) => Err(fault),
+    }
 }
 
 /// Reads a HOT file of at most `limit` bytes, writes the report on it and answers its verdict. Where `list`

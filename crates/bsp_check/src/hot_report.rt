@@ -92,7 +92,7 @@ fn listed_report(alloc: Global, bytes: &[u8]) -> Result<Report, NoRoom>
 /// The report on an input, with the list of a file before it. The input is kept, since the list is.
 fn list_input<R: Read>(alloc: Global, reader: &mut Noted<R>, limit: usize) -> Result<Report, Fault>
     requires { limit < usize.MAX }
-    ensures report { IfOk result (IsInputReport true limit (R.remaining reader.old.inner) (R.remaining reader.new.inner)) }
+    ensures report { IfOk result (IsInputReport (IsHotReport true) IsHotExplained limit (R.remaining reader.old.inner) (R.remaining reader.new.inner)) }
     ensures stopped { IfErr result (λ fault. IsUnread limit fault (R.remaining reader.old.inner) (R.remaining reader.new.inner)) }
     ensures cause { result ≡ Err Fault.Read → reader.new.failed ≡ true }
 {
@@ -113,7 +113,7 @@ fn judge_and_report<R: Read>(
     limit: usize,
 ) -> Result<Report, Fault>
     requires { limit < usize.MAX }
-    ensures report { IfOk result (IsInputReport false limit (R.remaining reader.old.inner) (R.remaining reader.new.inner)) }
+    ensures report { IfOk result (IsInputReport (IsHotReport false) IsHotExplained limit (R.remaining reader.old.inner) (R.remaining reader.new.inner)) }
     ensures stopped { IfErr result (λ fault. IsUnread limit fault (R.remaining reader.old.inner) (R.remaining reader.new.inner)) }
     ensures cause { result ≡ Err Fault.Read → reader.new.failed ≡ true }
 {
@@ -135,7 +135,7 @@ pub(crate) fn hot_report<R: Read>(
     list: bool,
 ) -> Result<Report, Fault>
     requires { limit < usize.MAX }
-    ensures report { IfOk result (IsInputReport list limit (R.remaining reader.old.inner) (R.remaining reader.new.inner)) }
+    ensures report { IfOk result (IsInputReport (IsHotReport list) IsHotExplained limit (R.remaining reader.old.inner) (R.remaining reader.new.inner)) }
     ensures stopped { IfErr result (λ fault. IsUnread limit fault (R.remaining reader.old.inner) (R.remaining reader.new.inner)) }
     ensures cause { result ≡ Err Fault.Read → reader.new.failed ≡ true }
 {

@@ -14,6 +14,7 @@ mod long_line;
 mod reading;
 mod refusing;
 mod report;
+mod ret_judging;
 mod ret_report;
 mod status;
 mod taking;

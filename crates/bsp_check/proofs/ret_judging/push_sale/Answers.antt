@@ -3,7 +3,7 @@ use Rattle.bsp_fields.specs.Days.{day_text}
 use Rattle.bsp_ret.specs.RetRecordsTexts.{code_text}
 use Rattle.bsp_check.specs.RetReport.{document_text, sale_text}
 use Rattle.bsp_check.proofs.RetReports.{joined_seven}
-use Rattle.bsp_check.proofs.ret_report.push_sale.Goals as goal
+use Rattle.bsp_check.proofs.ret_judging.push_sale.Goals as goal
 
 pub returns : goal.returns
 unfolding sale_text
