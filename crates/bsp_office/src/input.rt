@@ -21,6 +21,17 @@ impl Input {
         }
         Ok(Input::File(File::open(rt, name)?))
     }
+
+    /// How many bytes it has, where that is known.
+    pub(crate) fn size(&self) -> Option<u64> {
+        match self {
+            Input::File(file) => match file.metadata() {
+                Ok(metadata) if metadata.is_file() => Some(metadata.len()),
+                _ => None,
+            },
+            Input::Standard(_) => None,
+        }
+    }
 }
 
 impl Read for Input {

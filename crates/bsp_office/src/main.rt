@@ -16,6 +16,7 @@ mod lines;
 mod listening;
 mod log;
 mod plans;
+mod progress;
 mod remarks;
 mod run;
 mod serving;

@@ -7,6 +7,7 @@ use crate::input::Input;
 use crate::judging::run_judge;
 use crate::listening::Port;
 use crate::plans::{run_plan, run_plan_of};
+use crate::progress::{Shown, clear};
 use crate::remarks::{say, say_answer, say_unopened};
 use crate::serving::{run_office, serve_office};
 use crate::whole_files::short_of_memory;
@@ -43,8 +44,10 @@ fn run_check(rt: &HostRuntime, file: &str, quiet: bool) -> u8 {
     let Some(input) = opened(rt, file, quiet) else {
         return FAILED;
     };
-    let (mut input, mut output) = (Noted::new(input), Noted::new(io::writer(rt)));
+    let mut input = Noted::new(Shown::new(rt, input, quiet));
+    let mut output = Noted::new(io::writer(rt));
     let answer = check(rt.alloc(), &mut input, &mut output);
+    clear(input);
     ended(rt, file, quiet, &answer)
 }
 
@@ -53,8 +56,10 @@ fn run_hotcheck(rt: &HostRuntime, file: &str, quiet: bool, list: bool) -> u8 {
     let Some(input) = opened(rt, file, quiet) else {
         return FAILED;
     };
-    let (mut input, mut output) = (Noted::new(input), Noted::new(io::writer(rt)));
+    let mut input = Noted::new(Shown::new(rt, input, quiet));
+    let mut output = Noted::new(io::writer(rt));
     let answer = hotcheck(rt.alloc(), &mut input, &mut output, list);
+    clear(input);
     ended(rt, file, quiet, &answer)
 }
 
