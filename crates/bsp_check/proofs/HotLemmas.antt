@@ -12,7 +12,7 @@ use Rattle.bsp_hot_check.specs.Hot.{IsFirstFault}
 use Rattle.bsp_hot_check.specs.Judging.{step_line, stands_after}
 use Rattle.bsp_hot_check.specs.Pieces.{AreRefused}
 use Rattle.bsp_hot_check.proofs.StateLemmas.{stands_nil, stands_line, stands_count, before_is, refused_first}
-use Rattle.bsp_explain.specs.Before.{IsLine}
+use Rattle.bsp_explain.specs.Lines.{IsLine}
 use Rattle.bsp_hot_explain.specs.declared.explanation.HotExplanation.{HotExplanation}
 use Rattle.bsp_hot_explain.specs.HotReasons.{SaysOfHot, record_name}
 use Rattle.bsp_check.specs.Verdicts.{SaysOfHotFault}

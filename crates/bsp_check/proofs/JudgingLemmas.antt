@@ -6,7 +6,7 @@ use Rattle.std.specs.Io.KnownBytes.{Consumes, IsAtEnd}
 use Rattle.std.proofs.KnownBytes.{Consumes-nil, Consumes-trans}
 use Rattle.bsp_records.specs.Lines.{lines}
 use Rattle.bsp_records.proofs.CutLemmas.{some_lines, lines_nil}
-use Rattle.bsp_explain.specs.Before.{IsLine}
+use Rattle.bsp_explain.specs.Lines.{IsLine}
 use Rattle.bsp_check.specs.declared.fault.Fault.{Fault}
 use Rattle.bsp_check.specs.declared.window.Window.{Window}
 use Rattle.bsp_check.specs.Windows.{room, text_of, last_of, MayFollow, IsWindow, Fills, Drains, Stops}

@@ -7,7 +7,7 @@ use Rattle.std.proofs.KnownBytes.{Consumes-trans}
 use Rattle.bsp_ret.specs.Lines.{lines, begins_with, with_first, has_end, BeginsWithLine}
 use Rattle.bsp_records.proofs.CutLemmas.{some_lines, first_ended}
 use Rattle.bsp_hot_check.proofs.PieceLemmas.{ended_goes}
-use Rattle.bsp_explain.specs.Before.{IsLine}
+use Rattle.bsp_explain.specs.Lines.{IsLine}
 use Rattle.bsp_check.specs.declared.window.Window.{Window}
 use Rattle.bsp_check.specs.Windows.{text_of, last_of, IsWindow, Fills}
 use Rattle.bsp_check.specs.Widths.{all_but_one, HasWidth}

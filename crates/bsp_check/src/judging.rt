@@ -4,7 +4,7 @@ ghost use Rattle.std.specs.Prelude.{◌≡◌, ◌<◌, ◌≤◌, ◌++◌, [],
 ghost use Rattle.std.specs.Io.KnownBytes.{IsAtEnd, Consumes};
 ghost use Rattle.bsp_records.specs.Columns.{is_wide};
 ghost use Rattle.bsp_records.specs.Lines.{lines};
-ghost use Rattle.bsp_explain.specs.Before.{IsLine};
+ghost use Rattle.bsp_explain.specs.Lines.{IsLine};
 ghost use Rattle.bsp_check.specs.Inputs.{IsUnread};
 ghost use Rattle.bsp_check.specs.Judging.{IsAfterFew, HasTakenMore, Explains, IsJudged};
 

@@ -3,7 +3,7 @@
 ghost use Rattle.std.specs.Prelude.{◌≡◌, ◌<◌, ◌≤◌, ◌+◌, ◌^◌, ◌++◌, ℕ, List, true, false, length, Err, IfOk, IfErr};
 ghost use Rattle.std.specs.Io.KnownBytes.{IsAtEnd};
 ghost use Rattle.bsp_ret.specs.Lines.{lines, has_end};
-ghost use Rattle.bsp_explain.specs.Before.{IsLine};
+ghost use Rattle.bsp_explain.specs.Lines.{IsLine};
 ghost use Rattle.bsp_check.specs.Windows.{text_of, room, MayFollow, IsWindow, Stops};
 ghost use Rattle.bsp_check.specs.Widths.{HasWidth};
 
