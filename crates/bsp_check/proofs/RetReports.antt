@@ -1,12 +1,21 @@
 -- Lemmas on the report on a RET file.
-use Rattle.std.proofs.Common.{◌≡◌, ℕ, suc, ◌+◌, List, [], ◌∷◌, ◌++◌, length, Option, Some, None, is_some, option_to_list, cond, refl, sym, ap, subst, ◌∙◌, arith, append_assoc, append-nil, length-append}
+use Rattle.std.proofs.Common.{◌≡◌, ℕ, suc, ◌+◌, List, [], ◌∷◌, ◌++◌, length, Option, Some, None, true, false, Err, is_some, option_to_list, cond, refl, sym, ap, subst, ◌∙◌, arith, append_assoc, append-nil, length-append}
 use Rattle.std.specs.List.{concat}
 use Rattle.bsp_ret.specs.PaidSale.{PaidSale}
 use Rattle.bsp_ret.specs.declared.judging.FileTotals.{FileTotals}
 use Rattle.bsp_ret.specs.Judging.{Judged, AreTaken, IsFileOf}
 use Rattle.bsp_ret.specs.Lines.{lines}
 use Rattle.bsp_check.specs.declared.ret_judging.RetJudge.{RetJudge}
-use Rattle.bsp_check.specs.RetJudging.{HasTakenRet}
+use Rattle.bsp_check.specs.RetJudging.{HasTakenRet, IsRetRefusal}
+use Rattle.bsp_ret.specs.declared.model.FaultCode.{FaultCode}
+use Rattle.bsp_ret.specs.declared.model.RetFault.{RetFault}
+use Rattle.bsp_ret.specs.declared.model.Standing.{Standing}
+use Rattle.bsp_ret.specs.Table.{has_ended, row_fault, first_fault}
+use Rattle.bsp_ret.proofs.JudgingLemmas.{clear_of_taken, fault_at_line}
+use Rattle.bsp_explain.specs.declared.explanation.Explanation.{Explanation}
+use Rattle.bsp_explain.specs.declared.reason.Reason.TheVariants.{NoTrailer}
+use Rattle.bsp_explain.specs.RetReasons.{Says, is_reason_of}
+use Rattle.bsp_explain.proofs.FaultLemmas.{says_of_line, says_of_missing}
 use Rattle.bsp_check.specs.RetReport.{transaction_text, transactions_text, total_text, IsFileReport}
 
 text_more : (n : ℕ) (ts : List PaidSale) (t : PaidSale) → transactions_text n (ts ++ t ∷ []) ≡ transactions_text n ts ++ transaction_text (n + length ts) t
@@ -47,3 +56,26 @@ is_file_report bytes text line sales totals is front back = record {
 -- seven texts, each appended behind those before it
 pub joined_seven : (old a b c d e f g : List ℕ) → ((((((old ++ a) ++ b) ++ c) ++ d) ++ e) ++ f) ++ g ≡ old ++ concat (a ∷ b ∷ c ∷ d ∷ e ∷ f ∷ g ∷ [])
 joined_seven old a b c d e f g = simp (append_assoc, append-nil) refl
+
+-- ---- a line at fault
+
+-- the refusal of a line, after lines that were taken
+pub refused_line : (ls after : List (List ℕ)) (judge : RetJudge) (line : List ℕ) (code : FaultCode) (fault : RetFault) (e : Explanation) → HasTakenRet judge ls → row_fault judge.judging.at line ≡ Err code → fault ≡ record { code = code; at = judge.judging.at.records + 1 }
+    → e.record ≡ judge.judging.at.records + 1 → Says (judge.judging.at.records + 1) judge.judging.at line e.reason → is_reason_of code e.reason ≡ true → IsRetRefusal (ls ++ line ∷ after) (record { fault = fault; explanation = e })
+refused_line ls after judge line code fault e has row is number says of =
+    let j = judge.judging in record {
+      is_first = fault_at_line ls after has.0 j line code has.1 row ∙ ap Some (sym is);
+      says = says_of_line ls line after j.at code e has.1.state (clear_of_taken ls has.0 j has.1) row number says of;
+    }
+
+-- of a file without its trailer
+pub refused_end : (ls : List (List ℕ)) (judge : RetJudge) (fault : RetFault) (e : Explanation) → HasTakenRet judge ls → first_fault ls ≡ Some fault → has_ended judge.judging.at.last ≡ false → e.record ≡ judge.judging.at.records + 1 → e.reason ≡ NoTrailer (judge.judging.at.records + 1) judge.judging.at
+    → IsRetRefusal ls (record { fault = fault; explanation = e })
+refused_end ls judge fault e has first open_end number reason = record {
+  is_first = first;
+  says = says_of_missing ls judge.judging.at e has.1.state (clear_of_taken ls has.0 judge.judging has.1) open_end number reason;
+}
+
+-- as many records as lines
+pub records_are : (ls : List (List ℕ)) (judge : RetJudge) → HasTakenRet judge ls → judge.judging.at.records ≡ length ls
+records_are ls judge has = ap (λ (at : Standing). at.records) has.1.state

@@ -1,6 +1,6 @@
 //! The report on a RET file.
 
-ghost use Rattle.std.specs.Prelude.{◌≡◌, ◌<◌, ◌^◌, ℕ, List, Err, IfOk, IfErr, string_bytes};
+ghost use Rattle.std.specs.Prelude.{◌≡◌, ◌<◌, ◌^◌, ℕ, List, Err, IfOk, IfErr, string_bytes, true};
 ghost use Rattle.bsp_ret.specs.Lines.{lines};
 ghost use Rattle.bsp_check.specs.RetReport.{total_text, fault_report, IsRetReport};
 ghost use Rattle.bsp_check.specs.RetJudging.{HasTakenRet, IsRetRefusal};
