@@ -1,5 +1,5 @@
 -- Lemmas on the report on a RET file.
-use Rattle.std.proofs.Common.{◌≡◌, ℕ, suc, ◌+◌, List, [], ◌∷◌, ◌++◌, length, Option, Some, None, true, false, Err, is_some, option_to_list, cond, refl, sym, ap, subst, ◌∙◌, arith, append_assoc, append-nil, length-append}
+use Rattle.std.proofs.Common.{◌≡◌, ℕ, suc, ◌+◌, List, [], ◌∷◌, ◌++◌, length, Option, Some, None, true, false, Err, is_some, option_to_list, cond, inl, inr, refl, sym, ap, subst, ◌∙◌, arith, append_assoc, append-nil, length-append}
 use Rattle.std.specs.List.{concat}
 use Rattle.bsp_ret.specs.PaidSale.{PaidSale}
 use Rattle.bsp_ret.specs.declared.judging.FileTotals.{FileTotals}
@@ -15,7 +15,8 @@ use Rattle.bsp_ret.proofs.JudgingLemmas.{clear_of_taken, fault_at_line}
 use Rattle.bsp_explain.specs.declared.explanation.Explanation.{Explanation}
 use Rattle.bsp_explain.specs.declared.reason.Reason.TheVariants.{NoTrailer}
 use Rattle.bsp_explain.specs.RetReasons.{Says, is_reason_of}
-use Rattle.bsp_explain.proofs.FaultLemmas.{says_of_line, says_of_missing}
+use Rattle.bsp_explain.proofs.FaultLemmas.{clear_file, says_of_line, says_of_missing}
+use Rattle.std.proofs.lemmas.Bool.{cases_Bool}
 use Rattle.bsp_check.specs.RetReport.{transaction_text, transactions_text, total_text, IsFileReport}
 
 text_more : (n : ℕ) (ts : List PaidSale) (t : PaidSale) → transactions_text n (ts ++ t ∷ []) ≡ transactions_text n ts ++ transaction_text (n + length ts) t
@@ -69,11 +70,19 @@ refused_line ls after judge line code fault e has row is number says of =
     }
 
 -- of a file without its trailer
-pub refused_end : (ls : List (List ℕ)) (judge : RetJudge) (fault : RetFault) (e : Explanation) → HasTakenRet judge ls → first_fault ls ≡ Some fault → has_ended judge.judging.at.last ≡ false → e.record ≡ judge.judging.at.records + 1 → e.reason ≡ NoTrailer (judge.judging.at.records + 1) judge.judging.at
+not_ended : (ls : List (List ℕ)) (judge : RetJudge) (fault : RetFault) → HasTakenRet judge ls → first_fault ls ≡ Some fault → has_ended judge.judging.at.last ≡ false
+not_ended ls judge fault has first =
+    let at = judge.judging.at in
+    elim (cases_Bool (has_ended at.last)) [
+      | inl ended ↦ absurd (cc (first, clear_file ls at has.1.state (clear_of_taken ls has.0 judge.judging has.1) ended))
+      | inr going ↦ going
+    ]
+
+pub refused_end : (ls : List (List ℕ)) (judge : RetJudge) (fault : RetFault) (e : Explanation) → HasTakenRet judge ls → first_fault ls ≡ Some fault → e.record ≡ judge.judging.at.records + 1 → e.reason ≡ NoTrailer (judge.judging.at.records + 1) judge.judging.at
     → IsRetRefusal ls (record { fault = fault; explanation = e })
-refused_end ls judge fault e has first open_end number reason = record {
+refused_end ls judge fault e has first number reason = record {
   is_first = first;
-  says = says_of_missing ls judge.judging.at e has.1.state (clear_of_taken ls has.0 judge.judging has.1) open_end number reason;
+  says = says_of_missing ls judge.judging.at e has.1.state (clear_of_taken ls has.0 judge.judging has.1) (not_ended ls judge fault has first) number reason;
 }
 
 -- as many records as lines

@@ -9,8 +9,7 @@ use Rattle.bsp_ret.specs.Table.{standing, has_ended, row_fault, first_fault}
 use Rattle.bsp_ret.specs.Standings.{standing_behind, fault_behind, FitsIn}
 use Rattle.bsp_ret.specs.Pieces.{IsClear}
 use Rattle.bsp_ret.proofs.Steps.{standing_snoc}
-use Rattle.bsp_ret.proofs.LawLemmas.{is_first, behind_cons}
-use Rattle.bsp_ret.proofs.PieceLemmas.{none_behind, trailer_lacks}
+use Rattle.bsp_ret.proofs.LawLemmas.{is_first, behind_nil, behind_cons}
 use Rattle.bsp_explain.specs.declared.explanation.Explanation.{Explanation}
 use Rattle.bsp_explain.specs.declared.reason.Reason.{Reason}
 use Rattle.bsp_explain.specs.declared.reason.Reason.TheVariants.{NoTrailer}
@@ -37,7 +36,7 @@ stands_more ls line at then stands is = is ∙ ap (λ (x : Standing). standing_b
 -- all lines are, and the last is a trailer
 pub clear_file : (ls : List (List ℕ)) (at : Standing) → at ≡ standing ls → IsClear ls → has_ended at.last ≡ true → first_fault ls ≡ None
 clear_file ls at stands clear ended =
-    ap first_fault (sym (append-nil ls)) ∙ clear [] ∙ ap (λ (x : Standing). fault_behind x []) (sym stands) ∙ none_behind at ended
+    ap first_fault (sym (append-nil ls)) ∙ clear [] ∙ ap (λ (x : Standing). fault_behind x []) (sym stands) ∙ behind_nil at ∙ rw ended refl
 
 -- ---- what follows them is at fault
 
@@ -74,7 +73,7 @@ pub says_of_missing : (ls : List (List ℕ)) (at : Standing) (e : Explanation) �
     → e.record ≡ at.records + 1 → e.reason ≡ NoTrailer (at.records + 1) at → SaysOfRetFault ls e
 says_of_missing ls at e stands clear open_end number reason =
     subst (λ (xs : List (List ℕ)). SaysOfRetFault xs e) (append-nil ls)
-    (says_of_next ls [] at F08 e stands clear (trailer_lacks at open_end) number
+    (says_of_next ls [] at F08 e stands clear (behind_nil at ∙ rw open_end refl) number
     (λ line is. absurd (no_line line is))
     (ap (is_reason_of F08) reason)
     (λ records before is. let same : NoTrailer records before ≡ NoTrailer (at.records + 1) at = sym is ∙ reason in (cc same, cc same)))
