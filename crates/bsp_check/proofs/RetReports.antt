@@ -1,5 +1,5 @@
 -- Lemmas on the report on a RET file.
-use Rattle.std.proofs.Common.{◌≡◌, ℕ, suc, ◌+◌, List, [], ◌∷◌, ◌++◌, length, Option, Some, None, true, false, Err, is_some, option_to_list, cond, inl, inr, refl, sym, ap, subst, ◌∙◌, arith, append_assoc, append-nil, length-append}
+use Rattle.std.proofs.Common.{◌≡◌, ℕ, suc, ◌+◌, List, [], ◌∷◌, ◌++◌, length, Option, Some, None, IfSome, true, false, Err, is_some, option_to_list, cond, inl, inr, refl, sym, ap, subst, ◌∙◌, arith, append_assoc, append-nil, length-append}
 use Rattle.std.specs.List.{concat}
 use Rattle.bsp_ret.specs.PaidSale.{PaidSale}
 use Rattle.bsp_ret.specs.declared.judging.FileTotals.{FileTotals}
@@ -35,14 +35,23 @@ text_after sales p number text more is at pushed =
 number_of : (ls : List (List ℕ)) (sales : List PaidSale) (j : Judged) (p : PaidSale) → AreTaken ls j sales → j.begun ≡ Some p → j.at.transactions ≡ length sales + 1
 number_of ls sales j p t begun = t.count ∙ ap (λ (o : Option PaidSale). length sales + cond (is_some o) 1 0) begun
 
+-- what a step takes, and the transaction that it completes, if it does
+abbrev pub IsStep : RetJudge → RetJudge → List ℕ → Option PaidSale → List (List ℕ) → Type 0
+IsStep judge more line ended ls = (sales : List PaidSale) → AreTaken ls judge.judging sales → AreTaken (ls ++ line ∷ []) more.judging (sales ++ option_to_list ended)
+
 -- one more line, which completes no transaction
-pub taken_none : (judge more : RetJudge) (line : List ℕ) (ls : List (List ℕ)) → ((sales : List PaidSale) → AreTaken ls judge.judging sales → AreTaken (ls ++ line ∷ []) more.judging (sales ++ [])) → more.text.items ≡ judge.text.items → HasTakenRet judge ls → HasTakenRet more (ls ++ line ∷ [])
-taken_none judge more line ls step same has = (has.0 ++ [], step has.0 has.1, same ∙ has.2 ∙ ap (transactions_text 1) (sym (append-nil has.0)))
+pub taken_none : (judge more : RetJudge) (line : List ℕ) (ended : Option PaidSale) (ls : List (List ℕ)) → ended ≡ None → IsStep judge more line ended ls → more.text.items ≡ judge.text.items → HasTakenRet judge ls → HasTakenRet more (ls ++ line ∷ [])
+taken_none judge more line ended ls none step same has =
+    let Taken : Option PaidSale → Type 0 = λ o. AreTaken (ls ++ line ∷ []) more.judging (has.0 ++ option_to_list o) in
+    (has.0 ++ [], subst Taken none (step has.0 has.1), same ∙ has.2 ∙ ap (transactions_text 1) (sym (append-nil has.0)))
 
 -- or one
-pub taken_one : (judge more : RetJudge) (line : List ℕ) (number : ℕ) (p : PaidSale) (ls : List (List ℕ)) → ((sales : List PaidSale) → AreTaken ls judge.judging sales → AreTaken (ls ++ line ∷ []) more.judging (sales ++ p ∷ [])) → judge.judging.begun ≡ Some p → number ≡ judge.judging.at.transactions → more.text.items ≡ judge.text.items ++ transaction_text number p → HasTakenRet judge ls → HasTakenRet more (ls ++ line ∷ [])
-taken_one judge more line number p ls step begun at pushed has =
-    (has.0 ++ p ∷ [], step has.0 has.1, text_after has.0 p number judge.text.items more.text.items has.2 (at ∙ number_of ls has.0 judge.judging p has.1 begun) pushed)
+pub taken_one : (judge more : RetJudge) (line : List ℕ) (ended : Option PaidSale) (number : ℕ) (p : PaidSale) (ls : List (List ℕ)) → ended ≡ Some p → IsStep judge more line ended ls → IfSome ended (λ q. judge.judging.begun ≡ Some q) → number ≡ judge.judging.at.transactions
+    → more.text.items ≡ judge.text.items ++ transaction_text number p → HasTakenRet judge ls → HasTakenRet more (ls ++ line ∷ [])
+taken_one judge more line ended number p ls some step begun at pushed has =
+    let Taken : Option PaidSale → Type 0 = λ o. AreTaken (ls ++ line ∷ []) more.judging (has.0 ++ option_to_list o) in
+    let Begun : Option PaidSale → Type 0 = λ o. IfSome o (λ q. judge.judging.begun ≡ Some q) in
+    (has.0 ++ p ∷ [], subst Taken some (step has.0 has.1), text_after has.0 p number judge.text.items more.text.items has.2 (at ∙ number_of ls has.0 judge.judging p has.1 (subst Begun some begun)) pushed)
 
 -- what is so of the lines that were taken, and of the report
 pub is_file_report : (bytes text line : List ℕ) (sales : List PaidSale) (totals : FileTotals) → IsFileOf (lines bytes) sales totals → text ≡ transactions_text 1 sales → line ≡ total_text totals.records totals.transactions totals.sum → IsFileReport bytes (text ++ line)

@@ -1,10 +1,11 @@
 //! The report on a RET file.
 
-ghost use Rattle.std.specs.Prelude.{◌≡◌, ◌<◌, ◌^◌, ℕ, List, Err, IfOk, IfErr, string_bytes, true};
+ghost use Rattle.std.specs.Prelude.{◌≡◌, ◌<◌, ◌^◌, ℕ, List, None, Err, IfOk, IfErr, string_bytes, true};
 ghost use Rattle.bsp_ret.specs.Lines.{lines};
 ghost use Rattle.bsp_check.specs.RetReport.{total_text, fault_report, IsRetReport};
 ghost use Rattle.bsp_check.specs.RetJudging.{HasTakenRet, IsRetRefusal};
 ghost use Rattle.bsp_check.specs.Inputs.{IsInputReport, IsUnread};
+ghost use Rattle.bsp_check.specs.Judging.{IsJudged};
 ghost use Rattle.bsp_check.specs.Verdicts.{verdict_status, IsRetExplained};
 
 use crate::fault::Fault;
@@ -14,20 +15,20 @@ use crate::ret_judging::{RetJudge, RetRefusal};
 use crate::verdict::{Explanation, Verdict};
 use bsp_explain::explain_missing;
 use bsp_fields::{NoRoom, write_money};
-use bsp_ret::{FileTotals, RetFault};
+use bsp_ret::RetFault;
 use bsp_streams::Noted;
 use std::alloc::Global;
 use std::io::Read;
 
 /// The line of the whole file: its records, transactions and sum in minor units.
-fn total_line(alloc: Global, totals: FileTotals) -> Result<String, NoRoom>
-    ensures { IfOk result (λ text. string_bytes text ≡ total_text totals.records totals.transactions totals.sum) }
+fn total_line(
+    alloc: Global,
+    records: usize,
+    transactions: usize,
+    sum: i128,
+) -> Result<String, NoRoom>
+    ensures { IfOk result (λ text. string_bytes text ≡ total_text records transactions sum) }
 {
-    let FileTotals {
-        records,
-        transactions,
-        sum,
-    } = totals;
     let money = write_money(alloc, sum)?;
     Ok(format!(in alloc; "records {records} transactions {transactions} sum {money}\n")?)
 }
@@ -64,7 +65,7 @@ fn ended_report(alloc: Global, judge: RetJudge) -> Result<Report, NoRoom>
     let RetJudge { judging, mut text } = judge;
     match judging.end() {
         Ok(totals) => {
-            let line = total_line(alloc, totals)?;
+            let line = total_line(alloc, totals.records, totals.transactions, totals.sum)?;
             text.extend_from_slice(line.as_bytes())?;
             Ok(Report {
                 verdict: Verdict::Passed(None),
@@ -75,6 +76,22 @@ fn ended_report(alloc: Global, judge: RetJudge) -> Result<Report, NoRoom>
             let explanation = explain_missing(&judging.state());
             refusal_report(alloc, RetRefusal { fault, explanation })
         }
+    }
+}
+
+/// The report on an input of which this was judged: that all its lines were taken, or its refusal.
+fn judged_report(
+    alloc: Global,
+    judge: RetJudge,
+    refusal: Option<RetRefusal>,
+) -> Result<Report, NoRoom>
+    requires few { refusal ≡ None → judge.judging.at.records < 2 ^ 62 }
+    ensures report { (bytes : List ℕ) → IsJudged HasTakenRet IsRetRefusal judge (lines bytes) refusal → IfOk result (λ report. IsRetReport bytes (verdict_status report.verdict) report.text.items) }
+    ensures explained { (bytes : List ℕ) → IsJudged HasTakenRet IsRetRefusal judge (lines bytes) refusal → IfOk result (λ report. IsRetExplained bytes report.verdict) }
+{
+    match refusal {
+        None => ended_report(alloc, judge),
+        Some(refusal) => refusal_report(alloc, refusal),
     }
 }
 
@@ -90,12 +107,11 @@ pub(crate) fn ret_report<R: Read>(
     ensures cause { result ≡ Err Fault.Read → reader.new.failed ≡ true }
 {
     let mut judge = RetJudge::start(alloc);
-    let report = match judge_input(alloc, reader, limit, &mut judge) {
-        Ok(None) => ended_report(alloc, judge),
-        Ok(Some(refusal)) => refusal_report(alloc, refusal),
+    let refusal = match judge_input(alloc, reader, limit, &mut judge) {
+        Ok(refusal) => refusal,
         Err(fault) => return Err(fault),
     };
-    match report {
+    match judged_report(alloc, judge, refusal) {
         Ok(report) => Ok(report),
         Err(_) => Err(Fault::Memory),
     }

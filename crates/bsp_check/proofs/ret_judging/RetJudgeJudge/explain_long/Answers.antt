@@ -4,6 +4,6 @@ use Rattle.bsp_check.proofs.ret_judging.RetJudgeJudge.explain_long.Goals as goal
 
 pub returns : goal.returns
 returns c = λ more long row ls has after.
-    let at = c.state.ensures.value in
+    let at = c.state-at.ensures.value in
     refused_line ls after c.args.self.now (c.args.head.now ++ more) c.args.code c.fault.result c.explain_long.result has row (rw (← at) c.fault.ensures)
       (rw (← at) c.explain_long.ensures.number) (rw (← at) (c.explain_long.ensures.says more long)) (c.explain_long.ensures.row more long (rw at row))
