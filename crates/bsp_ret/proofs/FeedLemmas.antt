@@ -59,7 +59,7 @@ noted_on notes closed old piece known =
       places = places_on (has_ended notes.at.last) notes closed old piece known.places;
       fits = known.fits;
       whole = subst IsWholeLines (sym front) known.whole;
-      stands = rw front known.stands;
+      state_is = rw front known.state_is;
       reads = λ more. rw (front, draft) (known.reads more);
       few = known.few;
     }
@@ -83,7 +83,7 @@ some_left bytes n some = grind (arith, length-drop n bytes, some)
 came : (notes : Notes) (closed : List Place) (bytes : List ℕ) → IsNoted notes closed bytes → length (lines bytes) ≡ notes.at.records + length (lines (drop notes.judged bytes))
 came notes closed bytes known =
     ap length (all_lines notes closed bytes known) ∙ length-append (lines (take notes.judged bytes)) (lines (drop notes.judged bytes))
-    ∙ ap (λ (k : ℕ). k + length (lines (drop notes.judged bytes))) (sym (ap (λ (x : Standing). x.records) known.stands))
+    ∙ ap (λ (k : ℕ). k + length (lines (drop notes.judged bytes))) (sym (ap (λ (x : Standing). x.records) known.state_is))
 
 one_unended : (rest : List ℕ) → has_end rest ≡ false → 0 < length rest → lines rest ≡ rest ∷ []
 one_unended [] unended some = absurd (omega arith)
@@ -130,16 +130,16 @@ last_fails notes closed bytes code known some fault =
 -- with that line read
 last_read : (notes : Notes) (closed : List Place) (bytes : List ℕ) (at : Standing) → IsNotedTo notes closed bytes → notes.judged < length bytes → row_fault notes.at (drop notes.judged bytes) ≡ Ok tt → at ≡ standing_behind notes.at (drop notes.judged bytes)
     → read_from at (add (draft_by false notes closed bytes) (drop notes.judged bytes)) [] ≡ read_all (lines bytes)
-last_read notes closed bytes at known some none stands =
+last_read notes closed bytes at known some none state_is =
     let line = drop notes.judged bytes in
     let going = open_before notes.at line none in
     let so_far = ap (λ b. read_from notes.at (draft_by b notes closed bytes) (lines line)) (sym going) ∙ all_read notes closed bytes known.noted in
-    goes_on notes.at at (draft_by false notes closed bytes) _ (lines line) [] line (read_all (lines bytes)) (last_line notes closed bytes known some) none stands refl so_far
+    goes_on notes.at at (draft_by false notes closed bytes) _ (lines line) [] line (read_all (lines bytes)) (last_line notes closed bytes known some) none state_is refl so_far
 
 pub last_lacks : (notes : Notes) (closed : List Place) (bytes : List ℕ) (at : Standing) → IsNotedTo notes closed bytes → notes.judged < length bytes → row_fault notes.at (drop notes.judged bytes) ≡ Ok tt → at ≡ standing_behind notes.at (drop notes.judged bytes) → has_ended at.last ≡ false
     → read_all (lines bytes) ≡ Err (record { code = F08; at = at.records + 1 })
-last_lacks notes closed bytes at known some none stands going =
-    lacks at _ [] (read_all (lines bytes)) refl going (last_read notes closed bytes at known some none stands)
+last_lacks notes closed bytes at known some none state_is going =
+    lacks at _ [] (read_all (lines bytes)) refl going (last_read notes closed bytes at known some none state_is)
 
 trailer_said : (next : Record) → has_ended (kind next) ≡ true → next ≡ said.Trailer
 trailer_said (said.Header profile) is = absurd (cc is)
@@ -156,14 +156,14 @@ draft_ended old new closed bytes line header latest trailer says = rw (header, l
 
 pub last_trailer : (notes new : Notes) (closed : List Place) (bytes : List ℕ) → IsNotedTo notes closed bytes → notes.judged < length bytes → row_fault notes.at (drop notes.judged bytes) ≡ Ok tt → new.at ≡ standing_behind notes.at (drop notes.judged bytes)
     → FitsIn new.at (notes.at.records + 1) → has_ended new.at.last ≡ true → new.header ≡ notes.header → new.latest ≡ notes.latest → new.judged ≡ length bytes → new.trailer ≡ record { from = notes.judged; to = length bytes } → IsFileNoted new closed bytes
-last_trailer notes new closed bytes known some none stands fits ended header latest judged trailer =
+last_trailer notes new closed bytes known some none state_is fits ended header latest judged trailer =
     let line = drop notes.judged bytes in
     let has = known.noted.places in
-    let says = trailer_said (record_in line) (ap has_ended (sym (ap (λ (at : Standing). at.last) stands ∙ last_with notes.at (record_in line))) ∙ ended) in
+    let says = trailer_said (record_in line) (ap has_ended (sym (ap (λ (at : Standing). at.last) state_is ∙ last_with notes.at (record_in line))) ∙ ended) in
     let size : length line ≤ length bytes - notes.judged = omega (arith, length-drop notes.judged bytes) in
     let text : bytes_of bytes new.trailer ≡ line = ap (bytes_of bytes) trailer ∙ take_all (length bytes - notes.judged) line size in
     let draft = draft_ended notes new closed bytes line header latest text says in
-    let so_far = ap (λ (d : Draft). read_from new.at d []) draft ∙ last_read notes closed bytes new.at known some none stands in
+    let so_far = ap (λ (d : Draft). read_from new.at d []) draft ∙ last_read notes closed bytes new.at known some none state_is in
     record {
       places = rw (header, latest, judged, trailer)
           record {
@@ -176,7 +176,7 @@ last_trailer notes new closed bytes known some none stands fits ended header lat
             groups = places_further bytes notes.judged (length bytes) closed has.within has.groups;
           };
       fits = record { counted = fits.counted; small = fits.small; few = omega (arith, fits.few, known.noted.fits.few, some) };
-      count = ap (λ (at : Standing). at.records) stands ∙ records_with notes.at (record_in line) ∙ sym (came_some notes closed bytes known some);
+      count = ap (λ (at : Standing). at.records) state_is ∙ records_with notes.at (record_in line) ∙ sym (came_some notes closed bytes known some);
       read = ends new.at (draft_by true new closed bytes) [] (read_all (lines bytes)) refl ended so_far;
     }
 

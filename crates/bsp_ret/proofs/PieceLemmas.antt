@@ -45,7 +45,7 @@ noted_nothing bytes closed none no_groups =
         };
         fits = record { counted = omega arith; small = omega arith; few = omega arith };
         whole = whole_nothing;
-        stands = rw lines_nil refl;
+        state_is = rw lines_nil refl;
         reads = λ more. rw lines_nil refl;
         few = λ goes_on. omega arith;
       };
@@ -100,7 +100,7 @@ clear_so_far notes closed bytes known =
     let rest = drop n bytes in
     let size : length bytes - length rest ≡ n = omega (arith, length-drop n bytes, within) in
     let front : before_rest bytes rest ≡ take n bytes = ap (λ k. take k bytes) size in
-    let stood : standing (lines (before_rest bytes rest)) ≡ notes.at = ap (λ xs. standing (lines xs)) front ∙ sym known.noted.stands in
+    let stood : standing (lines (before_rest bytes rest)) ≡ notes.at = ap (λ xs. standing (lines xs)) front ∙ sym known.noted.state_is in
     record {
       rest = rest;
       rest_is = IsRest-drop bytes n within;
@@ -141,7 +141,7 @@ open_before at line none =
 pub record IsMore (old new : Notes) (closed more : List Place) (bytes line : List ℕ) (next : Record) : Type 0 where
   pub none : row_fault old.at line ≡ Ok tt
   pub says : next ≡ record_in line
-  pub stands : new.at ≡ standing_behind old.at line
+  pub state_is : new.at ≡ standing_behind old.at line
   pub fits : FitsIn new.at (old.at.records + 1)
   pub draft : draft_by (has_ended (kind next)) new more bytes ≡ add (draft_by false old closed bytes) line
   pub places : HasPlaces (has_ended (kind next)) new more bytes
@@ -150,8 +150,8 @@ pub record IsMore (old new : Notes) (closed more : List Place) (bytes line : Lis
 
 pub noted_more : (old new : Notes) (closed more : List Place) (bytes line after : List ℕ) (next : Record) → IsNoted old closed bytes → IsNext bytes old.judged line after new.judged → IsMore old new closed more bytes line next → IsNoted new more bytes
 noted_more old new closed more bytes line after next known cut is =
-    let stands : new.at ≡ standing_with old.at next = is.stands ∙ ap (standing_with old.at) (sym is.says) in
-    let last_is : new.at.last ≡ kind next = ap (λ (at : Standing). at.last) stands ∙ last_with old.at next in
+    let state_is : new.at ≡ standing_with old.at next = is.state_is ∙ ap (standing_with old.at) (sym is.says) in
+    let last_is : new.at.last ≡ kind next = ap (λ (at : Standing). at.last) state_is ∙ last_with old.at next in
     let ended_is : has_ended new.at.last ≡ has_ended (kind next) = ap has_ended last_is in
     let goes_on : has_ended old.at.last ≡ false = open_before old.at line is.none in
     let front = front_joined bytes old.judged new.judged (omega (arith, cut.before)) in
@@ -159,12 +159,12 @@ noted_more old new closed more bytes line after next known cut is =
     ap lines front ∙ known.whole _ ∙ ap (λ ls. lines (take old.judged bytes) ++ ls) cut.single in
     let then = add (draft_by false old closed bytes) line in
     let same : (further : List (List ℕ)) → read_from new.at (draft_of new more bytes) further ≡ read_from (standing_behind old.at line) then further =
-    λ further. ap (λ b. read_from new.at (draft_by b new more bytes) further) ended_is ∙ ap (λ (d : Draft). read_from new.at d further) is.draft ∙ ap (λ (at : Standing). read_from at then further) is.stands in
+    λ further. ap (λ b. read_from new.at (draft_by b new more bytes) further) ended_is ∙ ap (λ (d : Draft). read_from new.at d further) is.draft ∙ ap (λ (at : Standing). read_from at then further) is.state_is in
     record {
       places = rw ended_is is.places;
       fits = record { counted = is.fits.counted; small = is.fits.small; few = omega (arith, is.fits.few, known.fits.few, cut.before) };
       whole = subst IsWholeLines (sym front) (whole_joined (take old.judged bytes) _ known.whole cut.whole);
-      stands = is.stands ∙ ap (λ (at : Standing). standing_behind at line) known.stands ∙ sym (standing_snoc (lines (take old.judged bytes)) line) ∙ ap standing (sym lines_are);
+      state_is = is.state_is ∙ ap (λ (at : Standing). standing_behind at line) known.state_is ∙ sym (standing_snoc (lines (take old.judged bytes)) line) ∙ ap standing (sym lines_are);
       reads = λ further. ap (λ ls. read_all (ls ++ further)) lines_are ∙ ap read_all (append_assoc (lines (take old.judged bytes)) (line ∷ []) further) ∙ known.reads (line ∷ further)
           ∙ ap (λ b. read_from old.at (draft_by b old closed bytes) (line ∷ further)) goes_on ∙ read_cons old.at (draft_by false old closed bytes) line further ∙ rw is.none refl ∙ sym (same further);
       few = λ on. let few = few_forms old.at line old.latest.paid new.latest.paid next (clean old.at line is.none) is.says (is.sum (sym ended_is ∙ on)) is.bound (known.few goes_on) in rw last_is few;

@@ -90,7 +90,7 @@ pub record IsNoted (notes : Notes) (closed : List Place) (bytes : List ℕ) : Ty
   pub places : HasPlaces (has_ended notes.at.last) notes closed bytes
   pub fits : FitsIn notes.at notes.judged
   pub whole : IsWholeLines (take notes.judged bytes)
-  pub stands : notes.at ≡ standing (lines (take notes.judged bytes))
+  pub state_is : notes.at ≡ standing (lines (take notes.judged bytes))
   pub reads : (more : List (List ℕ)) → read_all (lines (take notes.judged bytes) ++ more) ≡ read_from notes.at (draft_of notes closed bytes) more
   pub few : has_ended notes.at.last ≡ false → unsigned_abs notes.latest.paid ≤ forms_up_to notes.at.last * 10 ^ 11
 

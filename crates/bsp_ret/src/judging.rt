@@ -137,6 +137,7 @@ impl Judging {
     pub fn end(&self) -> Result<FileTotals, RetFault>
         requires { self.now.at.records < 2 ^ 63 }
         ensures file { IfOk result (λ totals. (ls : List (List ℕ)) (sales : List Paid) → AreTaken ls self.now sales → IsFileOf ls sales totals) }
+        ensures small { IfOk result (λ totals. unsigned_abs totals.sum ≤ 2 ^ 63 * 10 ^ 11) }
         ensures fault { IfErr result (λ fault. (ls : List (List ℕ)) (sales : List Paid) → AreTaken ls self.now sales → first_fault ls ≡ Some fault) }
     {
         let Standing {

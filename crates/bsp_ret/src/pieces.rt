@@ -20,7 +20,8 @@ pub(crate) enum Stop {
     Fault(RetFault),
 }
 
-/// The first line that has an end, and the bytes behind that end. Whole records are tried first.
+/// The first line that has an end, and the bytes behind that end. A whole record is tried first: it
+/// has 136 characters, so that more bytes than these have its end.
 #[inline(always)]
 fn next_line(bytes: &[u8]) -> Option<(&[u8], &[u8])>
     ensures some { IfSome result (λ x. BeginsWithLine bytes.now x.0.now x.1.now) }
@@ -28,9 +29,7 @@ fn next_line(bytes: &[u8]) -> Option<(&[u8], &[u8])>
 {
     if bytes.len() > 136 {
         if let Some((line, after)) = first_record(bytes) {
-            if line.len() + after.len() < bytes.len() {
-                return Some((line, after));
-            }
+            return Some((line, after));
         }
     }
     ended_line(bytes)

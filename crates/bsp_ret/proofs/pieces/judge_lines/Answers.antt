@@ -35,7 +35,7 @@ loop-line-preserved c =
           record {
             none = c.in-Ok.ensures.row;
             says = c.in-Ok.ensures.says;
-            stands = added.at ∙ c.in-Ok.ensures.state;
+            state_is = added.at ∙ c.in-Ok.ensures.state;
             fits = rw added.at c.in-Ok.ensures.fits;
             draft = added.draft;
             places = added.places;
