@@ -1,5 +1,5 @@
 -- Lemmas on the report on a RET file.
-use Rattle.std.proofs.Common.{◌≡◌, ℕ, suc, ◌+◌, List, [], ◌∷◌, ◌++◌, length, Option, Some, None, IfSome, true, false, Err, is_some, option_to_list, cond, inl, inr, refl, sym, ap, subst, ◌∙◌, arith, append_assoc, append-nil, length-append}
+use Rattle.std.proofs.Common.{◌≡◌, ℕ, suc, ◌+◌, List, [], ◌∷◌, ◌++◌, length, Option, Some, None, IfSome, true, false, Err, is_some, option_to_list, cond, inl, inr, refl, sym, ap, subst, ◌∙◌, arith, append_assoc, append-nil}
 use Rattle.std.specs.List.{concat}
 use Rattle.bsp_ret.specs.PaidSale.{PaidSale}
 use Rattle.bsp_ret.specs.declared.judging.FileTotals.{FileTotals}

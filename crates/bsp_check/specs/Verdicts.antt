@@ -1,5 +1,5 @@
 -- The verdict on an input, with its exit status and the explanation of a fault.
-use Rattle.std.specs.Prelude.{◌≡◌, ℕ, ◌-◌, List, take, true, Result, Ok, Err, Some, None}
+use Rattle.std.specs.Prelude.{◌≡◌, ℕ, ◌-◌, List, take, Result, Ok, Err, Some, None}
 use Rattle.bsp_ret.specs.Lines.{lines}
 use Rattle.bsp_hot_check.specs.Hot.{IsFirstFault}
 use Rattle.bsp_hot_check.specs.declared.model.Standing.{Standing}

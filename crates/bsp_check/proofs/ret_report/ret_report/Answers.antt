@@ -1,4 +1,4 @@
-use Rattle.std.proofs.Common.{◌≡◌, ◌∙◌, ◌<◌, ◌^◌, ℕ, List, Option, None, length, subst, arith}
+use Rattle.std.proofs.Common.{◌≡◌, ◌<◌, ◌^◌, ℕ, List, Option, None, subst, arith}
 use Rattle.bsp_records.specs.Lines.{lines}
 use Rattle.bsp_check.specs.declared.ret_judging.RetJudge.{RetJudge}
 use Rattle.bsp_check.specs.declared.ret_judging.RetRefusal.{RetRefusal}

@@ -1,5 +1,4 @@
 use Rattle.std.proofs.Common.{◌∙◌, sym, ap}
-use Rattle.bsp_ret.specs.declared.model.LastRecord.{LastRecord}
 use Rattle.bsp_ret.specs.declared.model.Standing.{Standing}
 use Rattle.bsp_ret.specs.Table.{has_ended}
 use Rattle.bsp_ret.proofs.SaidLemmas.{ended_row, narrow_row}

@@ -6,7 +6,7 @@ use Rattle.bsp_check.proofs.ret_judging.RetJudgeJudge.take.Goals as goal
 pub returns-in-Ok-clause-taken : goal.returns-in-Ok-clause-taken
 returns-in-Ok-clause-taken c = λ ls has.
     taken_one c.args.self.now (record { judging = c.step.new.self; text = c.push_transaction.new.out }) c.args.line.now c.in-Ok-Some.field-0 _ c.in-Ok-Some.paid ls c.in-Ok-Some.field-0-is
-      (c.in-Ok-Some.ensures.taken ls) c.in-Ok-Some.ensures.ended (ap (λ (at : Standing). at.transactions) c.state-number.ensures.value) c.in-Ok.ensures has
+    (c.in-Ok-Some.ensures.taken ls) c.in-Ok-Some.ensures.ended (ap (λ (at : Standing). at.transactions) c.state-number.ensures.value) c.in-Ok.ensures has
 
 pub returns-in-Ok-None-clause-taken : goal.returns-in-Ok-None-clause-taken
 returns-in-Ok-None-clause-taken c = λ ls has.
