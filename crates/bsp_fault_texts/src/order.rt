@@ -77,8 +77,9 @@ fn place_text(identifier: char, at: &Standing) -> &'static str {
 /// What a file lacks before its trailer, where it ends after the records of this state.
 pub(crate) fn ending_text(at: &Standing) -> Option<&'static str> {
     match (at.last, at.code) {
-        (LastRecord::Start, _) =>
-            Some("it is empty, and the smallest file has a header and a trailer"),
+        (LastRecord::Start, _) => Some(
+            "it is empty, and the smallest file has a header and a trailer",
+        ),
         (LastRecord::Sale, TransactionCode::Canx) => None,
         (LastRecord::Sale | LastRecord::Related | LastRecord::Amounts, _) => Some(next_text(at)),
         _ => None,
