@@ -3,8 +3,8 @@
 #
 # A file with RFND 1300000002-0 of 125-1300000001-6 (fare -20000, RA -3500, rate 00500, commission -1000, CA -23500),
 # then V1's TKTT. Judged in turn the refund is E08 and the sale accepted. Posted again: accepted, held. The net of
-# both is 0. (`bsp_record_examples`, `write REFUND_FILE` and `hot-file 125 REFUND_FILE`: the file is read, to those
-# values. `tests/program/test_statuses.py`: `check` prints both and the sum 0.00.)
+# both is 0. The HOT file of 125 has those values. (`bsp_record_examples`, `write REFUND_FILE`: the file is read.
+# `tests/program/test_statuses.py`: `check` prints both and the sum 0.00.)
 
 POST {{base}}/agents/12345675/ret
 Bsp-Token: agenttoken000001
@@ -22,3 +22,20 @@ GET {{base}}/agents/12345675/periods/24011
 Bsp-Token: agenttoken000001
 HTTP 200
 {"closed":false,"documents":2,"net":"0.00","period":"24011"}
+
+POST {{base}}/office/day
+Bsp-Token: officetoken00001
+{"day":"2024-01-16"}
+HTTP 200
+{"result":"done"}
+
+POST {{base}}/office/close
+Bsp-Token: officetoken00001
+{"period":"24011"}
+HTTP 200
+{"result":"done"}
+
+GET {{base}}/airlines/125/hot/24011
+Bsp-Token: airlinetoken0125
+HTTP 200
+file,examples/files/125-refund-and-sale.hot;

@@ -8,9 +8,7 @@
 # for 24011 is V2: records 19, documents 2, net 17500. The one of 220 has 17 records. They are BFH01, BCH02, BOH03,
 # and the sale by card (BKT06, BKS24, BKS30, BKS39, BKP84). Then come the debit memo (BKT06, BKS24, BKS30, BKP84),
 # BOT93 of TKTT and of ADMA, BOT94, BCT95, BFT99. It has documents 2, CA 3000, CC 10000, commission 0, net 3000. The
-# reports are the same once 24012 is closed. (`checks.txt`: `hotcheck V2`, `hotcheck OF_220`. `bsp_record_examples`,
-# `statement`, `settlement` and `hot-file`: over rows alone, with V1's sale and an ADMA of 5000 of 125 to A, the
-# statement of A and the settlement have the net 275.00.)
+# reports are the same once 24012 is closed. (`checks.txt`: `hotcheck V2`, `hotcheck OF_220`.)
 
 GET {{base}}/agents/12345675/statements/24011
 Bsp-Token: agenttoken000001

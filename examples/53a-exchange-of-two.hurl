@@ -4,8 +4,8 @@
 # 1300000011-2 and 1300000012-3 are sold with V1's amounts, then 1300000013-4 in exchange for both, in profile 002:
 # fare 45000, RA 7000, rate 00500, commission 250, CA 5000, EX 47000. It is accepted with a net of 4750. A refund of
 # 1300000011 is then E09, and one of 1300000012 too. `hotcheck` of the file of 125 with these three: `OK records 25
-# documents 3 net 497.50`. (`checks.txt`, `hotcheck DOUBLE`; `bsp_record_examples`, `write DOUBLE_EXCHANGE` and
-# `hot-file 125 DOUBLE_EXCHANGE`; `tests/program/test_statuses.py`.)
+# documents 3 net 497.50`. (`checks.txt`, `hotcheck DOUBLE`; `bsp_record_examples`, `write DOUBLE_EXCHANGE`;
+# `tests/program/test_statuses.py`.)
 
 POST {{base}}/agents/12345675/ret
 Bsp-Token: agenttoken000001

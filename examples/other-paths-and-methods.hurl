@@ -5,6 +5,11 @@ Bsp-Token: officetoken00001
 HTTP 404
 {"code":"N02"}
 
+GET {{base}}/agents
+Bsp-Token: officetoken00001
+HTTP 404
+{"code":"N02"}
+
 GET {{base}}/office/settlement/24011?text
 HTTP 404
 {"code":"N02"}

@@ -1,5 +1,5 @@
 """The built programs with their first allocation refused, then with their second, and so on until a run refuses none:
-- bsp_record_examples on a page with each call of fields, RET files and reports over rows that takes memory, and a run of requests.
+- bsp_record_examples on a page with each call of fields and RET files that takes memory.
   A call then answers as with ample memory, or names the lack of memory; the same case after it answers as with ample memory.
 - bsp_office on words and files. It ends as with ample memory, or with status 3, no output and the line that memory was short.
 - its command `run`, which is sent each request of some conversations twice; these have each request of docs/API.md. Each reply
@@ -35,7 +35,7 @@ from support.wire import replies
 SHORT = re.compile(rb"bsp_office: .*out of memory\n")
 NOTES = re.compile(rb"(bsp_office: (\S+\.db: (new book|day .*)|[A-Z]+ /\S* 503 B01 14)\n)*")
 # how a call names the lack of memory
-LACKS = re.compile(rb"F10|NoRoom|out of memory|503 \{\"code\":\"B01\"\}|standard input or output failed")
+LACKS = re.compile(rb"F10|NoRoom|out of memory|standard input or output failed")
 JUDGE = "judge --plan plan.toml --day 2024-01-05 --agent 12345675 --stock 1300000000-1300000099"
 WORDS = [
     "check v1.ret",

@@ -9,8 +9,7 @@
 - the same with many of all else: 1,000 airlines, 1,000 agents, as many ranges of one agent, 20,001 memos to it, which one close
   bills, 60,000 periods and taxes, and 500 closes;
 - `run` with 65,536 requests of strangers, the most that one connection has, and with as many of an agent;
-- `bsp_record_examples` with a RET file of 10,000 sales, read and written, with reports over its transactions, and with a run of
-  20,000 requests.
+- `bsp_record_examples` with a RET file of 10,000 sales, read and written.
 Each test prints how long its parts took."""
 import contextlib
 import datetime
@@ -28,7 +27,7 @@ import pytest
 
 from support import program
 from support.callers import AGENT, AGENT_TOKEN, DONE, HELD, OFFICE
-from support.compare import expect, expect_end
+from support.compare import expect
 from support.records import RECORD, header, line, money, trailer, zoned
 from support.served import Office
 from support.wire import message, response
@@ -591,43 +590,19 @@ def test_the_most_requests_of_a_connection(caller):
 # ---- calls that no request makes
 
 
-# the calls on a RET file, and those of reports over its transactions
 READS = "reader bytes MOST; finish; file", "reader feed MOST; finish; file", "write MOST; MOST"
-REPORTS = f"statement {AGENT} MOST", "settlement 24011 MOST", "hot-file 125 MOST"
-MANY_REQUESTS = f"run 20000 GET /agents/{AGENT}/stock {AGENT_TOKEN}"
-
-
-def answers_in(cases, out):
-    """What each case gave."""
-    at, found = 0, []
-    for case, after in zip(cases, [*cases[1:], None]):
-        begun = out.index(f"{case} = ", at) + len(case) + 3
-        at = out.index(f"\n{after} = ", begun) + 1 if after else len(out)
-        found.append(out[begun:at].rstrip("\n"))
-    return found
 
 
 def test_calls_on_a_ret_file():
-    """Reads a RET file of 10,000 sales, in one piece and byte by byte, and writes it again. Writes the reports over its
-    transactions and a memo of 50.00: a statement, a settlement and a HOT file, which the program then checks."""
+    """Reads a RET file of 10,000 sales, in one piece and byte by byte, and writes it again."""
     count, text = 10_000, ret_file(10_000, FIRST).decode()
-    records = "".join(f"  {it[0]}|{it[1:].rstrip()}\n" for it in text.splitlines())
-    page = "".join(f"{it}\n" for it in ("MOST:", records, *READS, *REPORTS, MANY_REQUESTS))
+    records = "".join(f"  MOST {it.rstrip()}\n" for it in text.splitlines())
+    page = records + "".join(f"{it}\n" for it in READS)
     ended = timed(
         "calls on a RET file", lambda: subprocess.run([program.EXAMPLES], input=page.encode(), capture_output=True, timeout=600)
     )
     if not expect("calls on a RET file: their end", (0, b""), (ended.returncode, ended.stderr)):
         return
-    *reads, statement, settlement, hot, replies = answers_in([*READS, *REPORTS, MANY_REQUESTS], ended.stdout.decode())
-    found = f"records {3 * count + 2}, transactions {count}, sum {23_500 * count}"
-    expect("calls on a RET file", [f"done; done; {found}", f"done; done; {found}", f"the same, {len(text)} bytes"], reads)
-    expect("a run of many requests", '20000 times 403 {"code":"N01"}', replies)
-    net = money(22_500 * count + 5_000)
-    expect("the statement over rows", True, statement.endswith(f" {net}"))
-    expect("the settlement over rows", 4, settlement.count(f" {net}\n") + settlement.endswith(f" {net}"))
-    wanted = (
-        0,
-        f"OK records {5 * count + 12} documents {count + 1} net {net}\n".encode(),
-        b"bsp_office: standard input: airline 125, period 24011\n",
-    )
-    expect_end("the HOT file over rows", wanted, [program.path(), "hotcheck", "-"], input=f"{hot}\n".encode())
+    found = f"done; done; records {3 * count + 2}, transactions {count}, sum {23_500 * count}"
+    wanted = [f"{case} = {it}" for case, it in zip(READS, (found, found, f"the same, {len(text)} bytes"))]
+    expect("calls on a RET file", wanted, ended.stdout.decode().splitlines()[-len(READS) :])

@@ -2,21 +2,17 @@
 
 use crate::fault::{Answered, Fault};
 use crate::fields;
-use crate::lines::Line;
 use crate::output::Output;
-use crate::page::Page;
+use crate::page::{Page, is_case};
 
 /// Writes a line, with its answer where it is a case.
 fn write_line(page: &Page<'_>, line: &str, out: &mut Output) -> Answered {
     out.push(line);
-    if let Line::Case = Line::of(line) {
+    if is_case(line) {
         out.push(" = ");
         fields::answer(page, line, out)?;
     }
     out.push("\n");
-    if out.is_short {
-        return Err(Fault::Memory);
-    }
     Ok(())
 }
 
@@ -24,6 +20,9 @@ fn write_line(page: &Page<'_>, line: &str, out: &mut Output) -> Answered {
 pub fn answer_page(page: &Page<'_>, out: &mut Output) -> Answered {
     for line in page.text.lines() {
         write_line(page, line, out)?;
+        if out.is_short {
+            return Err(Fault::Memory);
+        }
     }
     Ok(())
 }

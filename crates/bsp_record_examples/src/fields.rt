@@ -1,81 +1,75 @@
-//! The calls of amounts, money, document numbers, agents, days and sums.
+//! The calls of amounts, money, document numbers, agents and days, and how a fault of a HOT file is displayed.
 
-use crate::fault::Answered;
+use crate::fault::{Answered, Fault};
 use crate::files;
 use crate::output::{Output, say};
 use crate::page::Page;
-use crate::words::{Words, first_word, number, shown};
-use bsp_fields::{
-    AgentCode, Amount, Day, DocNumber, FieldFault, read_amount, write_amount, write_money,
-};
-use bsp_hot_records::Sums;
+use crate::words::{first_word, number};
+use bsp_fields::{AgentCode, Day, DocNumber, read_amount, write_amount, write_money};
+use bsp_hot_check::RecordFault;
 use std::alloc::Global;
+use std::str;
 
-/// Appends an amount, and how it is written.
-fn show_amount(amount: Result<Amount, FieldFault>, out: &mut Output) -> Answered {
-    match amount {
+/// Appends the amount that a text is, and how it is written.
+fn show_amount(text: &[u8], out: &mut Output) -> Answered {
+    match read_amount(text) {
         Ok(amount) => {
             let written = write_amount(amount);
-            say!(out, "{}, written {}", amount.get(), shown(&written));
+            let written = str::from_utf8(&written).unwrap_or("no text");
+            say!(out, "{}, written {written}", amount.get());
         }
         Err(fault) => out.fault(fault),
     }
     Ok(())
 }
 
-/// Writes minor units as money.
+/// Appends minor units as money.
 fn show_money(alloc: Global, units: &str, out: &mut Output) -> Answered {
-    match write_money(alloc, number(units)?) {
+    let units = number(units)?;
+    match write_money(alloc, units) {
         Ok(money) => out.push(money.as_str()),
         Err(no_room) => out.say(no_room),
     }
     Ok(())
 }
 
-/// Reads a document number beside its check digit.
+/// Appends a document number that is read beside its check digit.
 fn show_document(text: &str, out: &mut Output) -> Answered {
     let (digits, check) = first_word(text);
-    match DocNumber::read(digits.as_bytes(), number(check)?) {
-        Ok(document) => say!(out, "{document}, check digit {}", document.check_digit()),
-        Err(fault) => out.fault(fault),
-    }
-    Ok(())
+    let check = number(check)?;
+    out.found(DocNumber::read(digits.as_bytes(), check))
 }
 
-/// Numbers the day so many days after one.
+/// Appends the number of the day so many days after one.
 fn show_plus(text: &str, out: &mut Output) -> Answered {
     let (day, days) = first_word(text);
-    let day = Day::read_text(day.as_bytes())?;
     let days = number(days)?;
+    let Ok(day) = Day::read_text(day.as_bytes()) else {
+        return Err(Fault::Case);
+    };
     out.say(day.plus(days));
     Ok(())
 }
 
-/// Appends the sums of a document with a cash, a credit, a commission and a tax on it, and the net of these.
-fn show_sums(mut words: Words<'_>, out: &mut Output) -> Answered {
-    let paid = Sums {
-        documents: 0,
-        cash: i128::from(number::<i32>(words.word())?),
-        credit: i128::from(number::<i32>(words.word())?),
-        commission: i128::from(number::<i32>(words.word())?),
-        tax: i128::from(number::<i32>(words.word())?),
-    };
-    say!(out, "{:?}, net {}", Sums::DOCUMENT.plus(paid), paid.net());
+/// Appends how the fault of a HOT file at the record of a number is displayed.
+fn show_hot_fault(text: &str, out: &mut Output) -> Answered {
+    let number = number(text)?;
+    out.say(RecordFault { number });
     Ok(())
 }
 
-/// Makes the call of a case, of fields or files.
+/// Appends the answer to a case.
 pub fn answer(page: &Page<'_>, case: &str, out: &mut Output) -> Answered {
     let (word, rest) = first_word(case);
     let text = rest.as_bytes();
     match word {
-        "amount" => show_amount(read_amount(text), out),
+        "amount" => show_amount(text, out),
         "money" => show_money(page.alloc, rest, out),
         "document" => show_document(rest, out),
         "agent" => out.found(AgentCode::read(text)),
         "day" => out.found(Day::read_record(text)),
         "plus" => show_plus(rest, out),
-        "sums" => show_sums(Words { rest }, out),
+        "hot-fault" => show_hot_fault(rest, out),
         _ => files::answer(page, word, rest, out),
     }
 }

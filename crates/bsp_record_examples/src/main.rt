@@ -1,19 +1,15 @@
-//! Worked examples of single calls: of fields, of RET files in pieces and written, of reports over rows, and of runs
-//! of requests. It reads a page of cases from standard input, makes the call that each case names, and writes the page
-//! with what the calls gave. The page says how a case is written. The status is 1 where a line is no case.
+//! Worked examples of single calls: of fields, and of RET files in pieces and written. It reads a page of cases from
+//! standard input, makes the call that each case names, and writes the page with what the calls gave. The page says
+//! how a case is written. The status is 1 where a line is no case.
 #![tactic(auto)]
 
 mod answers;
-mod desk;
 mod fault;
 mod fields;
 mod files;
-mod lines;
-mod notation;
 mod output;
 mod page;
 mod reader;
-mod reports;
 mod ret;
 mod texts;
 mod words;

@@ -1,7 +1,6 @@
 //! What is printed.
 
 use crate::fault::Answered;
-use crate::words::shown;
 use bsp_fields::FieldFault;
 use std::alloc::{AllocError, Global};
 use std::fmt::Display;
@@ -21,8 +20,9 @@ pub struct Output {
 impl Output {
     /// Nothing so far.
     pub fn new(alloc: Global) -> Result<Output, AllocError> {
+        let text = String::with_capacity(alloc, ROOM)?;
         Ok(Output {
-            text: String::with_capacity(alloc, ROOM)?,
+            text,
             is_short: false,
         })
     }
@@ -31,11 +31,6 @@ impl Output {
     pub fn push(&mut self, text: &str) {
         let pushed = self.text.push_str(text);
         self.is_short |= pushed.is_err();
-    }
-
-    /// Appends the characters that a call gave.
-    pub fn characters(&mut self, characters: &[u8]) {
-        self.push(shown(characters));
     }
 
     /// Appends what a value displays.

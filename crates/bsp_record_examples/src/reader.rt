@@ -1,19 +1,17 @@
 //! The calls of a reader of a RET file that comes in pieces, one after another.
 
 use crate::fault::{Answered, Fault};
-use crate::output::Output;
+use crate::output::{Output, say};
 use crate::page::Page;
-use crate::ret::{Outcome, counted, show};
 use crate::texts::text_of;
 use crate::words::first_word;
-use bsp_ret::{FaultCode, RetFault, RetReader};
+use bsp_ret::{FaultCode, RetFault, RetFile, RetReader};
 
 /// Feeds a piece; where memory was short, feeds it again.
 fn feed(reader: &mut RetReader, piece: &[u8]) -> Result<(), RetFault> {
-    let fed = reader.feed(piece);
-    match fed {
+    match reader.feed(piece) {
         Err(fault) if fault.code == FaultCode::F10 => reader.feed(piece),
-        _ => fed,
+        fed => fed,
     }
 }
 
@@ -25,22 +23,27 @@ fn feed_bytes(reader: &mut RetReader, text: &[u8]) -> Result<(), RetFault> {
     Ok(())
 }
 
-/// The counts of a reader's file; where memory was short, asks for it again.
-fn file_of(reader: &RetReader) -> Outcome {
-    let outcome = counted(reader.file());
-    match outcome {
-        Err(fault) if fault.code == FaultCode::F10 => counted(reader.file()),
-        _ => outcome,
-    }
-}
-
 /// Appends what a call gave that gives no value.
-fn show_done(done: Result<(), RetFault>, out: &mut Output) -> Answered {
+fn show_done(done: Result<(), RetFault>, out: &mut Output) {
     match done {
         Ok(()) => out.push("done"),
         Err(fault) => out.say(fault),
     }
-    Ok(())
+}
+
+/// Appends the numbers of records and transactions of a file, and its sum in minor units.
+fn show_file(file: Result<RetFile<'_>, RetFault>, out: &mut Output) {
+    match file {
+        Ok(file) => {
+            let (records, transactions) = (file.record_count(), file.transactions());
+            let sum = file.sum().get();
+            say!(
+                out,
+                "records {records}, transactions {transactions}, sum {sum}"
+            );
+        }
+        Err(fault) => out.say(fault),
+    }
 }
 
 /// Makes the call of a word, and appends what it gave.
@@ -49,15 +52,16 @@ fn make(reader: &mut RetReader, word: &str, text: &[u8], out: &mut Output) -> An
         "feed" => show_done(feed(reader, text), out),
         "bytes" => show_done(feed_bytes(reader, text), out),
         "finish" => show_done(reader.finish(), out),
-        "file" => show(file_of(reader), out),
-        _ => Err(Fault::Word),
+        "file" => show_file(reader.file(), out),
+        _ => return Err(Fault::Case),
     }
+    Ok(())
 }
 
 /// Makes the call that a text says: `feed V1`, `bytes V1`, `finish` or `file`.
 fn take(page: &Page<'_>, step: &str, reader: &mut RetReader, out: &mut Output) -> Answered {
-    let (word, parts) = first_word(step);
-    let text = text_of(page, parts)?;
+    let (word, names) = first_word(step);
+    let text = text_of(page, names)?;
     make(reader, word, &text, out)
 }
 
