@@ -1,6 +1,7 @@
 #!/usr/bin/env bash
 # Measures read_ret and RetReader against a plain Rust reader of the same format, in one run: the best
-# of five readings each of one file in memory, as ratios, and the growth from a tenth of the file.
+# of five readings each of one file in memory, as ratios, and the growth from a tenth of the file. The plain reader
+# also puts the file together from the same pieces first.
 #
 # usage: bench/read_ret/run.sh [MEGABYTES]     (300 by default; needs python3 and rustc)
 megabytes=${1:-300}
@@ -59,9 +60,10 @@ best() { awk -v name="$1" '$1 == name && (!n++ || $2 < least) {least = $2} END {
 for file in tenth whole; do
   "$program" <"$work/$file.ret" >"$work/$file.out"
   "$work/plain" <"$work/$file.ret" >"$work/$file.plain"
-  plain=$(sed 's/.* in \([0-9]*\) us/\1/' "$work/$file.plain")
+  plain=$(sed 's/.* in \([0-9]*\) us, .*/\1/' "$work/$file.plain")
+  pieces=$(sed 's/.* in pieces in \([0-9]*\) us/\1/' "$work/$file.plain")
   ours=$(best read_ret <"$work/$file.out")
   fed=$(best RetReader <"$work/$file.out")
   echo "$file: $(stat -c %s "$work/$file.ret") bytes; plain Rust: $(cat "$work/$file.plain")"
-  echo "$file: read_ret $ours us, $(awk "BEGIN {printf \"%.2f\", $ours / $plain}") of plain; RetReader with finish and file $fed us, $(awk "BEGIN {printf \"%.2f\", $fed / $plain}") of plain"
+  echo "$file: read_ret $ours us, $(awk "BEGIN {printf \"%.2f\", $ours / $plain}") of plain; RetReader with finish and file $fed us, $(awk "BEGIN {printf \"%.2f, %.2f\", $fed / $plain, $fed / $pieces}") of plain and of plain in pieces"
 done
