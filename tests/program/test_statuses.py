@@ -658,15 +658,30 @@ def test_a_stream_that_is_closed_or_full(redirection, words, status, error):
     expect(f"{ended.stderr!r}, wanted {error!r}", True, is_error(error, ended.stderr))
 
 
-def test_an_input_for_which_there_is_no_memory():
+def under_a_limit(*words):
+    """How a command ends on 1,000,000,000 bytes of standard input, with half of that as memory."""
+
     def limit():
         resource.setrlimit(resource.RLIMIT_AS, (500_000 * 1024,) * 2)
 
     with subprocess.Popen(["head", "-c", "1000000000", "/dev/zero"], stdout=subprocess.PIPE) as zeros:
-        words = [program.path(), "check", "-"]
-        ended = subprocess.run(words, stdin=zeros.stdout, capture_output=True, timeout=300, preexec_fn=limit)
+        ended = subprocess.run(
+            [program.path(), *words, "-"], stdin=zeros.stdout, capture_output=True, timeout=300, preexec_fn=limit
+        )
         zeros.stdout.close()
+    return ended
+
+
+def test_an_input_for_which_there_is_no_memory():
+    ended = under_a_limit("hotcheck", "--list")
     assert (ended.returncode, ended.stderr) == (3, b"bsp_office: standard input: out of memory\n")
+
+
+@pytest.mark.parametrize("command, report", [("check", b"F01 record 1\n"), ("hotcheck", b"H04 record 1\n")])
+def test_an_input_that_is_larger_than_memory(command, report):
+    ended = under_a_limit(command)
+    assert (ended.returncode, ended.stdout) == (1, report)
+    assert ended.stderr.startswith(b"bsp_office: standard input: record 1")
 
 
 COMMANDS = ["", "check", "judge", "plan", "explain", "hotcheck", "audit", "run", "serve"]
