@@ -1,5 +1,5 @@
 """The built programs with their first allocation refused, then with their second, and so on until a run refuses none:
-- bsp_record_examples on a page with each call of fields and RET files that takes memory.
+- bsp_record_examples on a page with each call of fields and RET files that takes memory, and a run of requests with reports.
   A call then answers as with ample memory, or names the lack of memory; the same case after it answers as with ample memory.
 - bsp_office on words and files. It ends as with ample memory, or with status 3, no output and the line that memory was short.
 - its command `run`, which is sent each request of some conversations twice; these have each request of docs/API.md. Each reply

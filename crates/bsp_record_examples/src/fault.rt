@@ -1,6 +1,10 @@
 //! Why a line has no answer.
 
+use bsp_book::BookFault;
+use bsp_fields::FieldFault;
+use bsp_hot::HotFault;
 use bsp_ret::{FaultCode, RetFault};
+use bsp_statement::StatementFault;
 use std::alloc::AllocError;
 use std::io;
 
@@ -35,6 +39,36 @@ impl From<RetFault> for Fault {
             FaultCode::F10 => Fault::Memory,
             _ => Fault::Case,
         }
+    }
+}
+
+impl From<FieldFault> for Fault {
+    fn from(_: FieldFault) -> Fault {
+        Fault::Case
+    }
+}
+
+impl From<StatementFault> for Fault {
+    fn from(fault: StatementFault) -> Fault {
+        match fault {
+            StatementFault::NoMemory => Fault::Memory,
+            StatementFault::NotClosed => Fault::Case,
+        }
+    }
+}
+
+impl From<HotFault> for Fault {
+    fn from(fault: HotFault) -> Fault {
+        match fault {
+            HotFault::NoMemory => Fault::Memory,
+            HotFault::NotClosed | HotFault::TooWide => Fault::Case,
+        }
+    }
+}
+
+impl From<BookFault> for Fault {
+    fn from(_: BookFault) -> Fault {
+        Fault::Memory
     }
 }
 

@@ -1,12 +1,13 @@
-//! Worked examples of single calls: of fields, and of RET files in pieces and written. It reads a page of cases from
-//! standard input, makes the call that each case names, and writes the page with what the calls gave. The page says
-//! how a case is written. The status is 1 where a line is no case.
+//! Worked examples of single calls: of fields, of RET files in pieces and written, and of a run of requests with reports
+//! over its rows. It reads a page of cases from standard input, makes the call that each case names, and writes the page
+//! with what the calls gave. The page says how a case is written. The status is 1 where a line is no case.
 #![tactic(auto)]
 
 mod answers;
 mod fault;
 mod fields;
 mod files;
+mod office;
 mod output;
 mod page;
 mod reader;

@@ -4,6 +4,7 @@ use crate::fault::Answered;
 use bsp_fields::FieldFault;
 use std::alloc::{AllocError, Global};
 use std::fmt::Display;
+use std::str;
 
 /// The bytes that take no further memory.
 const ROOM: usize = 65_536;
@@ -31,6 +32,11 @@ impl Output {
     pub fn push(&mut self, text: &str) {
         let pushed = self.text.push_str(text);
         self.is_short |= pushed.is_err();
+    }
+
+    /// Appends characters.
+    pub fn characters(&mut self, characters: &[u8]) {
+        self.push(str::from_utf8(characters).unwrap_or("no text"));
     }
 
     /// Appends what a value displays.
