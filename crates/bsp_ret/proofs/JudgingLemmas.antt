@@ -29,6 +29,7 @@ use Rattle.bsp_ret.specs.Building.{forms_up_to}
 use Rattle.bsp_ret.proofs.FewForms.{none_before_related, none_before_amounts, one_more_form, none_paid, says_49, says_50, says_51, says_53, says_56, says_90}
 use Rattle.bsp_ret.proofs.GroupLemmas.{wide_length, has_sale}
 use Rattle.bsp_ret.proofs.LawLemmas.{fault_of, read_is_fault, read_behind, is_file}
+use Rattle.bsp_ret.proofs.PieceLemmas.{last_with}
 use Rattle.bsp_ret.proofs.Rows.{Clean, clean, clean_header, clean_sale, clean_related, clean_amounts, clean_form, clean_trailer}
 use Rattle.bsp_ret.proofs.SaidLemmas.{paid_by, paid_said}
 use Rattle.bsp_ret.proofs.Sound.{form_known}
@@ -278,14 +279,6 @@ bounded_more at line begun now (clean_trailer p h) b goes near =
     let says = says_90 line h.name in
     let With : Record → Type 0 = λ r. Continues begun r line now in
     rw says (bounded_none last.Trailer now refl (subst With says goes))
-
-last_with : (at : Standing) (said_it : Record) → (standing_with at said_it).last ≡ kind said_it
-last_with at (said.Header profile) = refl
-last_with at (said.Sale code) = refl
-last_with at (said.Related order) = refl
-last_with at said.Amounts = refl
-last_with at (said.Form form amount) = refl
-last_with at said.Trailer = refl
 
 pub small_more : (at then_at : Standing) (line : List ℕ) (said_it : Record) (begun now : Option PaidSale) (most : ℕ) → row_fault at line ≡ Ok tt → said_it ≡ record_in line → then_at ≡ standing_behind at line → FitsIn then_at most → IsSmall at begun → Continues begun said_it line now → IsNear begun now → IsSmall then_at now
 small_more at then_at line said_it begun now most row says stands fits small goes near =

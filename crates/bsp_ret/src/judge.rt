@@ -200,6 +200,35 @@ pub(crate) fn judge_line(at: Standing, line: &[u8]) -> Result<Record, FaultCode>
 }
 
 impl Standing {
+    #[tactic(auto, using(crate::proofs::SaidLemmas::ended_row))]
+    /// Takes the next record, if these records allow it. Answers what it says.
+    ///
+    /// # Errors
+    ///
+    /// The first row of the fault table that applies to it. The state is as it was.
+    pub fn step_record(&mut self, line: &[u8]) -> Result<Record, FaultCode>
+        requires fits { FitsIn self.old (2 ^ 63 - 1) }
+        requires wide { is_wide line.now ≡ true }
+        requires long { length line.now ≡ 136 }
+        ensures row { OnOk result (row_fault self.old line.now ≡ Ok tt) }
+        ensures says { IfOk result (λ said. said ≡ record_in line.now) }
+        ensures state { OnOk result (self.new ≡ standing_behind self.old line.now) }
+        ensures fits { OnOk result (FitsIn self.new (self.old.records + 1)) }
+        ensures fault { IfErr result (λ code. row_fault self.old line.now ≡ Err code) }
+        ensures same { OnErr result (self.new ≡ self.old) }
+    {
+        if self.last.has_ended() {
+            return Err(FaultCode::F09);
+        }
+        match judge_record(*self, line) {
+            Ok(next) => {
+                *self = self.with(&next);
+                Ok(next)
+            }
+            Err(code) => Err(code),
+        }
+    }
+
     /// Takes the next line, if it is a record that these records allow. Answers what it says.
     ///
     /// # Errors

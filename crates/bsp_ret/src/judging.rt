@@ -1,7 +1,8 @@
 //! A RET file that is judged record by record, of which no text is kept.
 
-ghost use Rattle.std.specs.Prelude.{◌≡◌, ◌≤◌, ◌<◌, ◌*◌, ◌^◌, ◌++◌, ◌∷◌, [], ℕ, List, Err, Some, IfOk, IfErr, IfSome, OnOk, OnErr, unsigned_abs};
+ghost use Rattle.std.specs.Prelude.{◌≡◌, true, length, ◌≤◌, ◌<◌, ◌*◌, ◌^◌, ◌++◌, ◌∷◌, [], ℕ, List, Err, Some, IfOk, IfErr, IfSome, OnOk, OnErr, unsigned_abs};
 ghost use Rattle.std.specs.Option.{option_to_list};
+ghost use Rattle.bsp_records.specs.Columns.{is_wide};
 ghost use Rattle.bsp_ret_records.specs.Records.{IsFit, sale_fits};
 ghost use Rattle.bsp_ret_records.specs.declared.codes.TransactionCode.{TransactionCode};
 ghost use Rattle.bsp_ret_records.specs.declared.transactions.PaidSale.{PaidSale as Paid};
@@ -112,14 +113,16 @@ impl Judging {
     ///
     /// The first row of the fault table that applies to the line. Nothing was taken.
     pub fn step(&mut self, line: &[u8]) -> Result<Option<PaidSale>, FaultCode>
-        requires { self.old.at.records < 2 ^ 62 }
+        requires few { self.old.at.records < 2 ^ 62 }
+        requires wide { is_wide line.now ≡ true }
+        requires long { length line.now ≡ 136 }
         ensures state { OnOk result (self.new.at ≡ standing_behind self.old.at line.now) }
         ensures taken { IfOk result (λ ended. (ls : List (List ℕ)) (sales : List Paid) → AreTaken ls self.old sales → AreTaken (ls ++ line.now ∷ []) self.new (sales ++ option_to_list ended)) }
         ensures ended { IfOk result (λ ended. IfSome ended (λ p. self.old.begun ≡ Some p)) }
         ensures fault { IfErr result (λ code. row_fault self.old.at line.now ≡ Err code) }
         ensures same { OnErr result (self.new ≡ self.old) }
     {
-        match self.at.step(line) {
+        match self.at.step_record(line) {
             Ok(next) => {
                 let ended = completed(self.begun, &next);
                 self.begun = go_on(self.begun, &next, line);

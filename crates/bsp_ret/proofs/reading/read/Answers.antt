@@ -11,6 +11,7 @@ use Rattle.bsp_ret.specs.Reading.{read_all}
 use Rattle.bsp_ret.specs.Building.{draft_of, forms_up_to}
 use Rattle.bsp_ret.proofs.Rows.{clean}
 use Rattle.bsp_ret.proofs.FewForms.{few_forms, three_forms, kind_with}
+use Rattle.bsp_ret.proofs.PieceLemmas.{few_small}
 use Rattle.bsp_ret.proofs.LoopLemmas.{goes_on, fails, ends, lacks, fails_ended, fails_narrow}
 use Rattle.bsp_ret.proofs.reading.read.Goals as goal
 
@@ -22,9 +23,6 @@ whole_room n = omega arith
 
 room_with : (records more after rest whole : ℕ) → more ≡ records + 1 → after < rest → records + rest ≤ whole → more + after ≤ whole
 room_with records more after rest whole is shorter room = omega arith
-
-few_small : (size forms : ℕ) → forms ≤ 3 → size ≤ forms * 10 ^ 11 → size ≤ 3 * 10 ^ 11
-few_small size forms most few = omega arith
 
 few_with : (size forms same : ℕ) → forms ≡ same → size ≤ same * 10 ^ 11 → size ≤ forms * 10 ^ 11
 few_with size forms same is few = rw is few
