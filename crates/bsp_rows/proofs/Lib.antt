@@ -15,6 +15,7 @@ pub mod CountLemmas
 pub mod KeptLemmas
 pub mod DemandLemmas
 pub mod LoopLemmas
+pub mod CountedLemmas
 pub mod ItemRuleLemmas
 pub mod PlanRuleLemmas
 pub mod AuditSteps

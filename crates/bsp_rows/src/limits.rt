@@ -127,17 +127,6 @@ pub(crate) fn are_related_once(
     are_within(alloc, &keys, 1)
 }
 
-/// The tally to which each item adds.
-fn item_tallies(alloc: Global, items: &BTreeMap<ItemKey, Item>) -> Result<Vec<TallyKey>, AllocError>
-    ensures { IfOk result (λ keys. keys.items ≡ map item_tally_key (values items.now)) }
-{
-    let mut keys = Vec::new(alloc);
-    for item in items.values() {
-        keys.push(TallyKey::of_item(item))?;
-    }
-    Ok(keys)
-}
-
 /// Whether no agent has more items of an airline in a period than the limit.
 pub(crate) fn are_documents_within(
     alloc: Global,
@@ -146,8 +135,16 @@ pub(crate) fn are_documents_within(
 ) -> Result<bool, AllocError>
     ensures { IfOk result (λ within. Decides within (AreWithin tally_cmp limit (map item_tally_key (values items.now)))) }
 {
-    let keys = item_tallies(alloc, items)?;
-    are_within(alloc, &keys, limit)
+    let mut counts: BTreeMap<TallyKey, u32> = BTreeMap::new(alloc);
+    for item in items.values() {
+        let key = TallyKey::of_item(item);
+        let count = counts.get(&key).copied().unwrap_or(0);
+        if count >= limit {
+            return Ok(false);
+        }
+        counts.insert(key, count + 1)?;
+    }
+    Ok(true)
 }
 
 /// The airline and the agent of a memo.

@@ -1,22 +1,9 @@
-//! Whether the taxes of items and the second related documents are those of the items.
+//! Whether the second related documents are those of the items.
 
 use bsp_memory_tables::ItemTable;
 use bsp_rows::{Item, ItemKey, ReportedDocument};
-use bsp_store_base::{ItemTax, TicketKey, second_related};
+use bsp_store_base::{TicketKey, second_related};
 use std::collections::BTreeMap;
-
-/// The first tax that is no item's.
-pub(crate) fn first_spare_tax<'t>(
-    taxes: &'t BTreeMap<ItemKey, ItemTax>,
-    items: &ItemTable,
-) -> Option<&'t ItemKey> {
-    for (key, _) in taxes {
-        if items.get(*key).is_none() {
-            return Some(key);
-        }
-    }
-    None
-}
 
 /// The item of a ticket.
 fn item_of(ticket: &TicketKey, items: &ItemTable) -> Option<Item> {

@@ -2,7 +2,7 @@
 
 ghost use Rattle.bsp_store_load.specs.Kept.{Spares};
 
-use crate::beside::{first_spare_second, first_spare_tax};
+use crate::beside::first_spare_second;
 use crate::damage::Damage;
 use crate::end::{End, at_key, at_row};
 use crate::key::{item_key, memo_key, range_key, ticket_key};
@@ -15,12 +15,13 @@ use bsp_rows::{ItemKey, ReportedDocument, Unsound};
 use bsp_store_base::{ItemTax, TicketKey};
 use bsp_store_load::{
     Agents, PlanRows, Ranges, StoredItems, StoredMemos, StoredSeconds, StoredTable, StoredTaxes,
-    WholeTable, plan_tables,
+    TaxedTables, WholeTable, plan_tables,
 };
 use bsp_store_open::{OpenFault, is_known, load_rows, plan_rows, rows_of, version_in};
 use sqlite::{Alter, Connection, Row};
 use std::alloc::Global;
 use std::collections::BTreeMap;
+use std::mem;
 
 /// Ends at a table that has not one row where it must, or more than one where it may have one.
 fn search_counts(rows: &PlanRows) -> Result<(), End> {
@@ -88,28 +89,25 @@ fn search_beside<S: Alter>(
 fn search_sales<S: Alter>(
     alloc: Global,
     conn: &mut Connection<S>,
-    tables: &mut Tables,
-    taxes: &BTreeMap<ItemKey, ItemTax>,
+    memory: &mut TaxedTables,
     seconds: &BTreeMap<TicketKey, ReportedDocument>,
 ) -> Result<(), End>
     ensures spares { Spares S.Store conn.old conn.new }
 {
-    let items = StoredItems { taxes, seconds };
-    search_rows(alloc, conn, tables, Table::Item, &items)?;
-    search_rows(alloc, conn, tables, Table::Memo, &StoredMemos)
+    search_rows(alloc, conn, memory, Table::Item, &StoredItems { seconds })?;
+    search_rows(alloc, conn, &mut memory.tables, Table::Memo, &StoredMemos)
 }
 
 /// Ends at the first tax and the first second related document that is of no item.
 fn search_spare(
     alloc: Global,
-    tables: &Tables,
-    taxes: &BTreeMap<ItemKey, ItemTax>,
+    memory: &TaxedTables,
     seconds: &BTreeMap<TicketKey, ReportedDocument>,
 ) -> Result<(), End> {
-    if let Some(key) = first_spare_tax(taxes, tables.item_table()) {
+    if let Some(key) = memory.taxes.keys().next() {
         return Err(at_key(Table::ItemTax, item_key(alloc, key)));
     }
-    match first_spare_second(seconds, tables.item_table()) {
+    match first_spare_second(seconds, memory.tables.item_table()) {
         Some(ticket) => Err(at_key(Table::SecondRelated, ticket_key(alloc, ticket))),
         None => Ok(()),
     }
@@ -119,15 +117,14 @@ fn search_spare(
 fn search_into<S: Alter>(
     alloc: Global,
     conn: &mut Connection<S>,
-    tables: &mut Tables,
-    taxes: &mut BTreeMap<ItemKey, ItemTax>,
+    memory: &mut TaxedTables,
     seconds: &mut BTreeMap<TicketKey, ReportedDocument>,
 ) -> Result<(), End>
     ensures spares { Spares S.Store conn.old conn.new }
 {
-    search_beside(alloc, conn, taxes, seconds)?;
-    search_sales(alloc, conn, tables, taxes, seconds)?;
-    search_spare(alloc, tables, taxes, seconds)
+    search_beside(alloc, conn, &mut memory.taxes, seconds)?;
+    search_sales(alloc, conn, memory, seconds)?;
+    search_spare(alloc, memory, seconds)
 }
 
 /// Ends at what damages the items and the memos, which are put into memory.
@@ -138,9 +135,18 @@ fn search_documents<S: Alter>(
 ) -> Result<(), End>
     ensures spares { Spares S.Store conn.old conn.new }
 {
-    let mut taxes = BTreeMap::new(alloc);
+    let mut memory = TaxedTables {
+        tables: mem::replace(tables, Tables::new(alloc)),
+        taxes: BTreeMap::new(alloc),
+    };
     let mut seconds = BTreeMap::new(alloc);
-    search_into(alloc, conn, tables, &mut taxes, &mut seconds)
+    let found = search_into(alloc, conn, &mut memory, &mut seconds);
+    let TaxedTables {
+        tables: filled,
+        taxes: _,
+    } = memory;
+    *tables = filled;
+    found
 }
 
 /// Ends at the row of tallies, or of their taxes, that is not what the rows add up to, or the table that has too few or too

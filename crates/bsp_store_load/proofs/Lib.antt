@@ -20,6 +20,7 @@ pub mod Loaders
 pub mod CallerLoaders
 pub mod BesideLoaders
 pub mod SaleLoaders
+pub mod TaxedLemmas
 pub mod Building
 pub mod RowReads
 pub mod RangeReads

@@ -1,11 +1,12 @@
 -- What the tables beside that of items keep of the items.
-use Rattle.std.specs.Prelude.{◌≡◌, false, Option, Some, option_and_then}
+use Rattle.std.specs.Prelude.{◌≡◌, false, Option, Some, None, option_and_then, option_map}
 use Rattle.std.specs.FinMap.{FinMap, entries, from_sorted, get}
 use Rattle.std.specs.List.{filter_map}
+use Rattle.std.specs.Option.{option_xor}
 use Rattle.bsp_rows.specs.GroupValues.{second_of}
 use Rattle.bsp_rows.specs.Item.{Item}
 use Rattle.bsp_rows.specs.ReportedDocument.{ReportedDocument}
-use Rattle.bsp_rows.specs.Rows.{HasNumberKey, item_cmp, key_of}
+use Rattle.bsp_rows.specs.Rows.{HasNumberKey, Rows, item_cmp, key_of}
 use Rattle.bsp_rows.specs.Sound.{IsRight}
 use Rattle.bsp_rows.specs.Verdicts.{is_wrong_place}
 use Rattle.bsp_rows.specs.declared.keys.ItemKey.{ItemKey}
@@ -24,6 +25,10 @@ tax_entry e = Some (e.0, tax_with e.1)
 -- those of all items
 unfoldable pub taxes_of : FinMap item_cmp Item → FinMap item_cmp ItemTax
 taxes_of items = from_sorted (filter_map tax_entry (entries items))
+
+-- the tax that is kept at a key: the one that is left there, or that of the item in memory; none where both are
+abbrev pub kept_tax : FinMap item_cmp ItemTax → FinMap item_cmp Item → ItemKey → Option ItemTax
+kept_tax left items k = option_xor (get left k) (option_map tax_with (get items k))
 
 -- ---- second related documents
 
@@ -54,3 +59,24 @@ module _ (taxes : FinMap item_cmp ItemTax) (seconds : FinMap ticket_cmp Reported
     pub formed : IsItemEntry e
     pub right : IsRight e.0 e.1
     pub joined : IsJoined
+
+-- the same apart from its tax
+pub record IsRelatedItem (seconds : FinMap ticket_cmp ReportedDocument) (e : ItemKey × Item) : Type 0 where
+  pub formed : IsItemEntry e
+  pub right : IsRight e.0 e.1
+  pub second : second_of e.1.transaction ≡ second_at seconds e.0
+
+-- rows, and the tax that is kept at each key
+abbrev pub Taxed : Type 0
+Taxed = Rows × (ItemKey → Option ItemTax)
+
+-- no item of the key is in memory, and the tax that is kept there is the item's
+pub record LacksItem (e : ItemKey × Item) (w : Taxed) : Type 0 where
+  pub keyed : key_of e.1 ≡ e.0
+  pub none : get w.0.items e.0 ≡ None
+  pub taxed : w.1 e.0 ≡ Some (tax_with e.1)
+
+-- no item of the key is in memory, and its tax is left
+pub record IsAwaited (left : FinMap item_cmp ItemTax) (rows : Rows) (e : ItemKey × Item) : Type 0 where
+  pub none : get rows.items e.0 ≡ None
+  pub tax : get left e.0 ≡ Some (tax_with e.1)

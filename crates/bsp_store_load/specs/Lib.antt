@@ -1,8 +1,8 @@
 pub mod Entries
 pub mod Gathered
 pub mod Loading
-pub mod Adding
 pub mod Beside
+pub mod Adding
 pub mod Nothing
 pub mod Stored
 pub mod Contents

@@ -1,16 +1,10 @@
-//! The table of the taxes of items: each row, put into a map, and the map against the items in memory.
+//! The table of the taxes of items: each row, put into a map.
 
-ghost use Rattle.std.specs.Prelude.{◌≡◌, ◌↔◌, IsTrue};
-ghost use Rattle.std.specs.FinMap.{from_entries};
-ghost use Rattle.bsp_memory_tables.specs.ItemTables.{item_rows};
-ghost use Rattle.bsp_store_load.specs.Beside.{taxes_of};
-
-use crate::entries::{EntryOf, are_entries_of, put_new};
+use crate::entries::put_new;
 use crate::equal::is_row;
 use crate::load::StoredTable;
 use bsp_memory_rows::NoRoom;
-use bsp_memory_tables::ItemTable;
-use bsp_rows::{Item, ItemKey};
+use bsp_rows::ItemKey;
 use bsp_store_base::ItemTax;
 use bsp_store_items::{ItemTaxRow, item_taxes_query, read_item_tax};
 use sqlite::Row;
@@ -64,29 +58,4 @@ impl StoredTable<ItemKey, ItemTax, BTreeMap<ItemKey, ItemTax>> for StoredTaxes {
         }
         Ok(put_new(taxes, key, tax)?)
     }
-}
-
-/// Each item has a tax, under its own key.
-#[derive(Clone, Copy)]
-struct TaxOf;
-
-impl EntryOf<ItemKey, Item, ItemKey, ItemTax> for TaxOf {
-    ghost use Rattle.bsp_store_load.specs.Beside.{tax_entry};
-
-    ghost entry_of = { tax_entry };
-
-    fn has_entry(&self, _key: &ItemKey, _item: &Item) -> bool {
-        true
-    }
-
-    fn is_entry(&self, key: &ItemKey, item: &Item, own_key: &ItemKey, own: &ItemTax) -> bool {
-        *own_key == *key && *own == ItemTax::of(item)
-    }
-}
-
-/// Whether the taxes are those of the items of a table, each under its item's key.
-pub fn are_taxes(taxes: &BTreeMap<ItemKey, ItemTax>, items: &ItemTable) -> bool
-    ensures { IsTrue result ↔ (from_entries taxes.now.entries ≡ taxes_of (item_rows items.now)) }
-{
-    are_entries_of(&TaxOf, taxes, items.map())
 }

@@ -1,11 +1,17 @@
-//! The table of items: each row, put into memory with what other tables keep of its item.
+//! The table of items: each row, put into memory with what other tables keep of its item. The tax of an item is then taken
+//! out of those that are left, so that the taxes of items in memory take no memory twice.
 
-ghost use Rattle.std.specs.Prelude.{◌≡◌, IfSome, Some};
-ghost use Rattle.std.specs.FinMap.{from_entries};
+ghost use Rattle.std.specs.Prelude.{◌≡◌, ◌↔◌, false, IfOk, IfSome, IsTrue, OnOk, Some};
+ghost use Rattle.std.specs.FinMap.{from_entries, get, remove};
 ghost use Rattle.bsp_rows.specs.Item.{Item as ItemEntry};
+ghost use Rattle.bsp_rows.specs.Rows.{item_cmp};
+ghost use Rattle.bsp_rows.specs.Writes.{with_item};
 ghost use Rattle.bsp_rows.specs.declared.keys.ItemKey.{ItemKey as KeyEntry};
+ghost use Rattle.bsp_memory_rows.specs.Tables.{rows_of};
 ghost use Rattle.bsp_store_base.specs.Columns.{item_row};
-ghost use Rattle.bsp_store_load.specs.Beside.{IsKeyed, IsStoredItem, second_at};
+ghost use Rattle.bsp_store_base.specs.Taxes.{tax_with};
+ghost use Rattle.bsp_store_load.specs.Beside.{IsAwaited, IsKeyed, IsStoredItem, second_at};
+ghost use Rattle.bsp_store_load.specs.Formed.{AreWhole};
 
 use crate::equal::is_row;
 use crate::formed::formed_item;
@@ -17,11 +23,57 @@ use bsp_store_items::{ItemRow, items_query, read_item, read_item_key};
 use sqlite::Row;
 use std::collections::BTreeMap;
 
-/// Items, each with its tax and its second related document, which other tables keep.
+/// Tables, and the taxes of the items that are not in them yet.
+#[derive(Drop)]
+pub struct TaxedTables {
+    /// The tables.
+    pub tables: Tables,
+    /// The taxes that are left, by the keys of their items.
+    pub taxes: BTreeMap<ItemKey, ItemTax>,
+}
+
+/// The tax at a key, if there is one.
+fn tax_at(taxes: &BTreeMap<ItemKey, ItemTax>, key: &ItemKey) -> Option<ItemTax>
+    ensures { result ≡ get (from_entries {R = item_cmp} taxes.now.entries) key.now }
+{
+    taxes.get(key).copied()
+}
+
+/// Whether the tax of an item is the one at a key.
+fn has_tax(taxes: &BTreeMap<ItemKey, ItemTax>, key: &ItemKey, item: &Item) -> bool
+    ensures { IsTrue result ↔ (get (from_entries {R = item_cmp} taxes.now.entries) key.now ≡ Some (tax_with item.now)) }
+{
+    tax_at(taxes, key) == Some(ItemTax::of(item))
+}
+
+impl TaxedTables {
+    /// Puts an item into the tables, and takes its tax out of those that are left. It answers false, and puts nothing,
+    /// where the tax that is left at its key is another or none, or there is an item of its key.
+    fn put(&mut self, key: &ItemKey, item: &Item) -> Result<bool, NoRoom>
+        requires { IsKeyed (key.now, item.now) }
+        ensures derived { OnOk result (AreWhole self.old.tables → AreWhole self.new.tables) }
+        ensures lacks { IfOk result (λ done. IsTrue done ↔ IsAwaited (from_entries self.old.taxes.entries) (rows_of self.old.tables) (key.now, item.now)) }
+        ensures kept { IfOk result (λ done. done ≡ false → self.new ≡ self.old) }
+        ensures rows { IfOk result (λ done. IsTrue done → rows_of self.new.tables ≡ with_item item.now (rows_of self.old.tables)) }
+        ensures taxes { IfOk result (λ done. IsTrue done → from_entries {R = item_cmp} self.new.taxes.entries ≡ remove (from_entries self.old.taxes.entries) key.now) }
+    {
+        if !has_tax(&self.taxes, key, item) {
+            return Ok(false);
+        }
+        if self.tables.item_table().get(*key).is_some() {
+            return Ok(false);
+        }
+        formed_item(*key, *item);
+        self.tables.add_item(item)?;
+        self.tables.commit();
+        let _ = self.taxes.remove(key);
+        Ok(true)
+    }
+}
+
+/// Items, each with its second related document, which another table keeps.
 #[derive(Clone, Copy)]
 pub struct StoredItems<'a> {
-    /// The taxes by the keys of their items.
-    pub taxes: &'a BTreeMap<ItemKey, ItemTax>,
     /// The second related documents by their tickets.
     pub seconds: &'a BTreeMap<TicketKey, ReportedDocument>,
 }
@@ -36,66 +88,59 @@ impl StoredItems<'_> {
     }
 
     /// The item that a row reads as, under its key; none where no tax of its key is kept.
-    fn read(&self, row: &Row) -> Option<(ItemKey, Item)>
+    fn read(&self, taxes: &BTreeMap<ItemKey, ItemTax>, row: &Row) -> Option<(ItemKey, Item)>
         ensures keyed { IfSome result IsKeyed }
-        ensures entry { (e : KeyEntry × ItemEntry) → IsStoredItem (from_entries self.now.taxes.now.entries) (from_entries self.now.seconds.now.entries) e → row.now ≡ item_row e → result ≡ Some e }
+        ensures entry { (e : KeyEntry × ItemEntry) → IsStoredItem (from_entries taxes.now.entries) (from_entries self.now.seconds.now.entries) e → row.now ≡ item_row e → result ≡ Some e }
     {
         let key = read_item_key(row)?;
-        let tax = self.taxes.get(&key).copied()?;
+        let tax = taxes.get(&key).copied()?;
         let item = read_item(row, &key, tax, self.second_at(&key))?;
         Some((ItemKey::of(&item)?, item))
     }
 }
 
-impl<'a> StoredTable<ItemKey, Item, Tables> for StoredItems<'a> {
-    ghost use Rattle.std.specs.Prelude.{◌≡◌, map, None};
-    ghost use Rattle.std.specs.FinMap.{entries, from_entries, get};
-    ghost use Rattle.bsp_rows.specs.Rows.{Rows, key_of};
+impl<'a> StoredTable<ItemKey, Item, TaxedTables> for StoredItems<'a> {
+    ghost use Rattle.std.specs.Prelude.{◌≡◌, map};
+    ghost use Rattle.std.specs.FinMap.{entries, from_entries};
     ghost use Rattle.bsp_rows.specs.Writes.{with_item};
     ghost use Rattle.bsp_memory_rows.specs.Tables.{rows_of};
     ghost use Rattle.bsp_store_base.specs.Columns.{item_row};
     ghost use Rattle.bsp_store_base.specs.Content.{item_part};
-    ghost use Rattle.bsp_store_load.specs.Adding.{item_added};
-    ghost use Rattle.bsp_store_load.specs.Beside.{IsStoredItem};
+    ghost use Rattle.bsp_store_load.specs.Adding.{taxed_added};
+    ghost use Rattle.bsp_store_load.specs.Beside.{IsRelatedItem, LacksItem, Taxed, kept_tax};
     ghost use Rattle.bsp_store_load.specs.Formed.{AreWhole};
 
     ghost part = { item_part };
 
-    ghost Whole = { Rows };
+    ghost Whole = { Taxed };
 
-    ghost whole = { rows_of };
+    ghost whole = { λ memory. (rows_of memory.tables, kept_tax (from_entries memory.taxes.entries) (rows_of memory.tables).items) };
 
-    ghost is_kept = { AreWhole };
+    ghost is_kept = { λ memory. AreWhole memory.tables };
 
     ghost row_of = { item_row };
 
-    ghost with_entry = { λ e. with_item e.1 };
+    ghost with_entry = { λ e w. (with_item e.1 w.0, w.1) };
 
-    ghost fits = { λ table e. IsStoredItem (from_entries table.taxes.now.entries) (from_entries table.seconds.now.entries) e };
+    ghost fits = { λ table e. IsRelatedItem (from_entries table.seconds.now.entries) e };
 
-    ghost lacks = { λ e rows. (key_of e.1 ≡ e.0) × (get rows.items e.0 ≡ None) };
+    ghost lacks = { LacksItem };
 
-    ghost rows_in = { λ rows. map item_row (entries rows.items) };
+    ghost rows_in = { λ w. map item_row (entries w.0.items) };
 
-    ghost adds = { item_added };
+    ghost adds = { taxed_added };
 
     fn query(&self) -> &'static str {
         items_query()
     }
 
-    fn put(&self, tables: &mut Tables, row: &Row) -> Result<bool, NoRoom> {
-        let Some((key, item)) = self.read(row) else {
+    fn put(&self, memory: &mut TaxedTables, row: &Row) -> Result<bool, NoRoom> {
+        let Some((key, item)) = self.read(&memory.taxes, row) else {
             return Ok(false);
         };
         if !is_row(row, &ItemRow::of(&key, &item).values()) {
             return Ok(false);
         }
-        if tables.item_table().get(key).is_some() {
-            return Ok(false);
-        }
-        formed_item(key, item);
-        tables.add_item(&item)?;
-        tables.commit();
-        Ok(true)
+        memory.put(&key, &item)
     }
 }

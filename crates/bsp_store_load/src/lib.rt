@@ -2,9 +2,9 @@
 //!
 //! [`all_rows`] answers the rows of a table as they are. [`plan_tables`] makes tables in memory with the plan and the tokens of airlines. [`load_table`] puts the rows of a
 //! further table into them, one at a time as a query shows them. The taxes and the second related documents of items are
-//! put into maps first, with which the items are then put. [`are_taxes`] and [`are_seconds`] say whether these maps are
-//! those of the items in memory, [`are_tallies`] and [`are_tally_taxes`] whether the tallies of a store are those of the
-//! tables.
+//! put into maps first, with which the items are then put; the tax of each is taken out of its map. [`are_seconds`] says
+//! whether the second related documents are those of the items in memory, [`are_tallies`] and [`are_tally_taxes`] whether
+//! the tallies of a store are those of the tables.
 #![tactic(auto)]
 
 mod airline_map;
@@ -39,8 +39,8 @@ pub use formed::{
     formed_agent, formed_airline, formed_closed, formed_day, formed_item, formed_memo,
     formed_period, formed_plan, formed_range,
 };
-pub use item_taxes::{StoredTaxes, are_taxes};
-pub use items::StoredItems;
+pub use item_taxes::StoredTaxes;
+pub use items::{StoredItems, TaxedTables};
 pub use listed::{RowOf, are_placed_rows_of, are_rows_of};
 pub use load::{StoredTable, load_table};
 pub use memos::StoredMemos;

@@ -3,7 +3,7 @@ use Rattle.std.proofs.Common.{◌≡◌, ℕ, List, Bool, true, false, Option, S
 use Rattle.std.specs.List.{AllByRecursion}
 use Rattle.std.proofs.lemmas.Bool.{false≢true}
 use Rattle.std.proofs.lemmas.Option.{none-some}
-use Rattle.std.specs.FinMap.{FinMap, empty, entries}
+use Rattle.std.specs.FinMap.{FinMap, empty, entries, get}
 use Rattle.sqlite_trees.specs.Tree.{Trees}
 use Rattle.bsp_book.specs.Rows.{Rows, item_cmp, no_rows}
 use Rattle.bsp_book.specs.Sound.{Sound}
@@ -11,7 +11,7 @@ use Rattle.bsp_store_load.specs.MemoryRowsTables.{IsDerived, rows_of}
 use Rattle.bsp_store_load.specs.Tables.{Tables}
 use Rattle.bsp_store_load.specs.Kept.{KeepsRows, Part, columns_of}
 use Rattle.bsp_store_load.specs.Content.{Content, agent_part, airline_part, commission_tax_part, content_with, form, item_part, item_tax_part, meta_part, period_part, rate_part, second_part, stock_part, tally_part, tally_tax_part, terms_part, width_of}
-use Rattle.bsp_store_load.specs.Beside.{IsJoined, IsStoredItem, taxes_of}
+use Rattle.bsp_store_load.specs.Beside.{IsJoined, IsStoredItem, kept_tax, taxes_of}
 use Rattle.bsp_store_load.specs.Columns.{second_row, tax_row}
 use Rattle.bsp_store_load.specs.Contents.{IsContentOf, content_now}
 use Rattle.bsp_store_load.specs.Forms.{IsFormed}
@@ -26,8 +26,9 @@ use Rattle.bsp_store_load.proofs.CallerLoaders.{agents_loader, ranges_loader}
 use Rattle.bsp_store_load.proofs.JoinLemmas.{items_joined, items_may}
 use Rattle.bsp_store_load.proofs.Loaders.{Leaves, Loads, others, rows_here, whole_here}
 use Rattle.bsp_store_load.proofs.SaleLoaders.{items_loader, memos_loader}
+use Rattle.bsp_store_load.proofs.TaxedLemmas.{LeavesTaxed, LoadsTaxed, all_are_left, none_is_left, plainly, still, were_taxes_of}
 use Rattle.bsp_store_load.proofs.TableLemmas.{items_right, memos_fit, memos_may}
-use Rattle.bsp_store_open.specs.Loaded.{AreBeside, AreCallersLoaded, AreItemsLoaded, AreRight, AreSalesLoaded, AreSecondsRead, AreTaxesRead, HasNoCallers, HasNoSales, IsAllLoaded, IsPlanned, NoFormed, NoRight}
+use Rattle.bsp_store_open.specs.Loaded.{AreBeside, AreCallersLoaded, AreItemsLoaded, AreRight, AreSalesLoaded, AreSecondsRead, AreTaxesRead, HasNoCallers, HasNoSales, IsAllLoaded, IsBeside, IsPlanned, NoFormed, NoRight}
 use Rattle.bsp_store_load.specs.Stored.{AreRowsOfPlan, IsFormedPlan}
 use Rattle.bsp_store_load.specs.Published.{Published}
 use Rattle.bsp_store_load.specs.SoundPlan.{IsSoundPlan}
@@ -136,6 +137,27 @@ module _ (trees : Trees) (zero one : Rows) (none : HasNoSales zero) (taxes : Fin
 
   pub no_items_loaded : Leaves (items_loader taxes seconds) trees zero one → NoRight trees
   no_items_loaded items c formed right keeps = none-some _ (sym (whole_here (items_loader taxes seconds) trees zero one (Some items.0) items.1 none.items c formed keeps (items_fit c formed right keeps)).0)
+
+  -- the same as the taxes are taken out of those that are left
+  module _ (left : FinMap item_cmp ItemTax) where
+    all_left : kept_tax taxes zero.items ≡ get taxes
+    all_left = all_are_left taxes zero.items none.items
+
+    module _ (loads : LoadsTaxed seconds trees (zero, kept_tax taxes zero.items) (one, kept_tax left one.items) None) where
+      kept : kept_tax left one.items ≡ get taxes
+      kept = still taxes seconds trees (zero, kept_tax taxes zero.items) (one, kept_tax left one.items) None all_left loads
+
+      plain : Loads (items_loader taxes seconds) trees zero one None
+      plain = plainly taxes seconds trees (zero, kept_tax taxes zero.items) (one, kept_tax left one.items) None all_left loads
+
+      pub taxed_loaded : IsBeside left seconds one.items → AreItemsLoaded trees zero one
+      taxed_loaded beside = items_loaded plain (record { taxes_are = were_taxes_of taxes left one.items kept beside.none_left; seconds_are = beside.seconds_are })
+
+      pub others_left : (IsBeside left seconds one.items → ⊥) → NoRight trees
+      others_left other = others_beside plain (λ are. other (record { none_left = none_is_left taxes left one.items kept are.taxes_are; seconds_are = are.seconds_are }))
+
+    pub no_items_taxed : LeavesTaxed seconds trees (zero, kept_tax taxes zero.items) (one, kept_tax left one.items) → NoRight trees
+    no_items_taxed row = no_items_loaded (row.0, plainly taxes seconds trees (zero, kept_tax taxes zero.items) (one, kept_tax left one.items) (Some row.0) all_left row.1)
 
 -- ---- items and memos
 

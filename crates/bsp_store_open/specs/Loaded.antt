@@ -93,6 +93,11 @@ pub record AreBeside (taxes : FinMap item_cmp ItemTax) (seconds : FinMap ticket_
   pub taxes_are : taxes ≡ taxes_of items
   pub seconds_are : seconds ≡ seconds_of items
 
+-- no tax is left that is none of the items in memory, and the second related documents are theirs
+pub record IsBeside (left : FinMap item_cmp ItemTax) (seconds : FinMap ticket_cmp ReportedDocument) (items : FinMap item_cmp Item) : Type 0 where
+  pub none_left : left ≡ empty
+  pub seconds_are : seconds ≡ seconds_of items
+
 -- the rows of items, of their taxes and of their second related documents are in memory, and nothing else has changed
 pub record AreItemsLoaded (trees : Trees) (old new : Rows) : Type 0 where
   pub others : new ≡ record old { items = new.items }

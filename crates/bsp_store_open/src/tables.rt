@@ -11,7 +11,7 @@ ghost use Rattle.bsp_store_load.specs.MemoryRowsTables.{rows_of};
 ghost use Rattle.bsp_store_load.specs.Schema.{our_schema};
 ghost use Rattle.bsp_store_load.specs.Stored.{AreCommitted};
 ghost use Rattle.bsp_store_open.specs.Faults.{is_refusal};
-ghost use Rattle.bsp_store_open.specs.Loaded.{AreBeside, AreCallersLoaded, AreItemsLoaded, AreSalesLoaded, AreSecondsRead, AreTaxesRead, HasNoCallers, HasNoSales, IsAllLoaded, IsPlanned, KeepsNone, NoFormed, NoRight, OtherTallies};
+ghost use Rattle.bsp_store_open.specs.Loaded.{AreCallersLoaded, AreItemsLoaded, AreSalesLoaded, AreSecondsRead, AreTaxesRead, HasNoCallers, HasNoSales, IsAllLoaded, IsBeside, IsPlanned, KeepsNone, NoFormed, NoRight, OtherTallies};
 ghost use Rattle.bsp_store_open.specs.Opening.{Finds, HasNoBook, Misses};
 
 use crate::fault::OpenFault;
@@ -19,12 +19,13 @@ use crate::given::{made_of, unless_fault};
 use crate::reading::{expect_tables, plan_rows, rows_of};
 use bsp_store_load::{
     Agents, ItemKey, ItemTax, Ranges, ReportedDocument, StoredItems, StoredMemos, StoredSeconds,
-    StoredTable, StoredTaxes, Tables, TicketKey, WholeTable, are_seconds, are_tallies,
-    are_tally_taxes, are_taxes, load_table, plan_tables,
+    StoredTable, StoredTaxes, Tables, TaxedTables, TicketKey, WholeTable, are_seconds, are_tallies,
+    are_tally_taxes, load_table, plan_tables,
 };
 use sqlite::{Alter, Connection, Row};
 use std::alloc::Global;
 use std::collections::BTreeMap;
+use std::mem;
 
 /// Tables with the plan of a store and the tokens of its airlines, and nothing else.
 fn planned_tables<S: Alter>(alloc: Global, conn: &mut Connection<S>) -> Result<Tables, OpenFault>
@@ -117,44 +118,71 @@ fn seconds<S: Alter>(
     Ok(seconds)
 }
 
-/// Refuses taxes and second related documents that are not those of the items in memory.
+/// Refuses taxes that are left, which are those of no item, and second related documents that are not those of the items in
+/// memory.
 fn expect_beside(
-    tables: &Tables,
-    taxes: &BTreeMap<ItemKey, ItemTax>,
+    memory: &TaxedTables,
     seconds: &BTreeMap<TicketKey, ReportedDocument>,
 ) -> Result<(), OpenFault>
-    ensures same { OnOk result (AreBeside (from_entries taxes.now.entries) (from_entries seconds.now.entries) (rows_of tables.now).items) }
-    ensures other { IfErr result (λ fault. ¬ AreBeside (from_entries taxes.now.entries) (from_entries seconds.now.entries) (rows_of tables.now).items) }
+    ensures same { OnOk result (IsBeside (from_entries memory.now.taxes.entries) (from_entries seconds.now.entries) (rows_of memory.now.tables).items) }
+    ensures other { IfErr result (λ fault. ¬ IsBeside (from_entries memory.now.taxes.entries) (from_entries seconds.now.entries) (rows_of memory.now.tables).items) }
     ensures fault { IfErr result (λ fault. fault ≡ OpenFault.Damaged) }
 {
-    let items = tables.item_table();
-    if !are_taxes(taxes, items) {
+    if !memory.taxes.is_empty() {
         return Err(OpenFault::Damaged);
     }
-    if !are_seconds(seconds, items) {
+    if !are_seconds(seconds, memory.tables.item_table()) {
         return Err(OpenFault::Damaged);
     }
     Ok(())
 }
 
-/// Puts items into memory, each with its tax and its second related document, and refuses taxes and documents of others.
-fn load_with<S: Alter>(
+/// Puts items into tables, each with its tax, which is taken out, and its second related document. It refuses taxes and
+/// documents of others.
+fn load_taxed<S: Alter>(
     conn: &mut Connection<S>,
-    tables: &mut Tables,
-    taxes: &BTreeMap<ItemKey, ItemTax>,
+    memory: &mut TaxedTables,
     seconds: &BTreeMap<TicketKey, ReportedDocument>,
 ) -> Result<(), OpenFault>
-    ensures whole { OnOk result (AreWhole tables.old → AreWhole tables.new) }
-    ensures found { OnOk result (Finds S.Store conn.old conn.new (λ trees. AreTaxesRead trees (from_entries taxes.now.entries) → AreSecondsRead trees (from_entries seconds.now.entries) → HasNoSales (rows_of tables.old) → AreItemsLoaded trees (rows_of tables.old) (rows_of tables.new))) }
-    ensures missed { IfErr result (λ fault. is_refusal fault ≡ true → Misses S.Store conn.old conn.new (λ trees. AreTaxesRead trees (from_entries taxes.now.entries) → AreSecondsRead trees (from_entries seconds.now.entries) → HasNoSales (rows_of tables.old) → NoRight trees)) }
+    ensures whole { OnOk result (AreWhole memory.old.tables → AreWhole memory.new.tables) }
+    ensures found { OnOk result (Finds S.Store conn.old conn.new (λ trees. AreTaxesRead trees (from_entries memory.old.taxes.entries) → AreSecondsRead trees (from_entries seconds.now.entries) → HasNoSales (rows_of memory.old.tables) → AreItemsLoaded trees (rows_of memory.old.tables) (rows_of memory.new.tables))) }
+    ensures missed { IfErr result (λ fault. is_refusal fault ≡ true → Misses S.Store conn.old conn.new (λ trees. AreTaxesRead trees (from_entries memory.old.taxes.entries) → AreSecondsRead trees (from_entries seconds.now.entries) → HasNoSales (rows_of memory.old.tables) → NoRight trees)) }
     ensures fault { IfErr result (λ fault. is_refusal fault ≡ true → fault ≡ OpenFault.Damaged) }
     ensures spares { Spares S.Store conn.old conn.new }
 {
-    load(&StoredItems { taxes, seconds }, conn, tables)?;
-    expect_beside(tables, taxes, seconds)
+    load(&StoredItems { seconds }, conn, memory)?;
+    expect_beside(memory, seconds)
 }
 
-/// Puts items into memory with what two other tables keep of them. What is read of these is dropped then.
+/// Puts items into memory, each with its tax and its second related document, and refuses taxes and documents of others. The
+/// tax of an item that is put is dropped at once.
+fn load_with<S: Alter>(
+    alloc: Global,
+    conn: &mut Connection<S>,
+    tables: &mut Tables,
+    taxes: BTreeMap<ItemKey, ItemTax>,
+    seconds: &BTreeMap<TicketKey, ReportedDocument>,
+) -> Result<(), OpenFault>
+    ensures whole { OnOk result (AreWhole tables.old → AreWhole tables.new) }
+    ensures found { OnOk result (Finds S.Store conn.old conn.new (λ trees. AreTaxesRead trees (from_entries taxes.entries) → AreSecondsRead trees (from_entries seconds.now.entries) → HasNoSales (rows_of tables.old) → AreItemsLoaded trees (rows_of tables.old) (rows_of tables.new))) }
+    ensures missed { IfErr result (λ fault. is_refusal fault ≡ true → Misses S.Store conn.old conn.new (λ trees. AreTaxesRead trees (from_entries taxes.entries) → AreSecondsRead trees (from_entries seconds.now.entries) → HasNoSales (rows_of tables.old) → NoRight trees)) }
+    ensures fault { IfErr result (λ fault. is_refusal fault ≡ true → fault ≡ OpenFault.Damaged) }
+    ensures spares { Spares S.Store conn.old conn.new }
+{
+    let mut memory = TaxedTables {
+        tables: mem::replace(tables, Tables::new(alloc)),
+        taxes,
+    };
+    let loaded = load_taxed(conn, &mut memory, seconds);
+    let TaxedTables {
+        tables: filled,
+        taxes: _,
+    } = memory;
+    *tables = filled;
+    loaded
+}
+
+/// Puts items into memory with what two other tables keep of them. The documents that are read are dropped then.
 fn load_items<S: Alter>(
     alloc: Global,
     conn: &mut Connection<S>,
@@ -168,7 +196,7 @@ fn load_items<S: Alter>(
 {
     let taxes = taxes(alloc, conn)?;
     let seconds = seconds(alloc, conn)?;
-    load_with(conn, tables, &taxes, &seconds)
+    load_with(alloc, conn, tables, taxes, &seconds)
 }
 
 /// Puts items and memos into memory, which makes the tallies.

@@ -1,64 +1,35 @@
-use Rattle.std.proofs.Common.{◌≡◌, true}
+use Rattle.std.proofs.Common.{◌≡◌, OnOk, subst, true}
+use Rattle.std.specs.Prelude.{IfErr}
 use Rattle.std.specs.FinMap.{from_entries}
-use Rattle.sqlite_trees.specs.Tree.{Trees}
 use Rattle.bsp_book.specs.Rows.{item_cmp}
-use Rattle.bsp_store_load.proofs.Loaders.{Leaves}
-use Rattle.bsp_store_load.proofs.SaleLoaders.{items_loader}
+use Rattle.bsp_store_load.specs.Formed.{AreWhole}
 use Rattle.bsp_store_load.specs.MemoryRowsTables.{rows_of}
 use Rattle.bsp_store_load.specs.Seconds.{ticket_cmp}
+use Rattle.bsp_store_load.specs.Tables.{Tables}
 use Rattle.bsp_store_open.specs.Faults.{is_refusal}
-use Rattle.bsp_store_open.specs.Loaded.{AreSecondsRead, AreTaxesRead, HasNoSales, NoRight}
-use Rattle.bsp_store_open.specs.Opening.{Misses}
-use Rattle.bsp_store_open.proofs.LoadedLemmas.{items_loaded, no_items_loaded, others_beside}
-use Rattle.bsp_store_open.specs.declared.fault.OpenFault.TheVariants.{Damaged}
-use Rattle.bsp_store_open.proofs.OpeningLemmas.{if_err, misses_more, on_ok, passed_on, weaker, none_done}
+use Rattle.bsp_store_open.specs.Loaded.{AreItemsLoaded, AreSecondsRead, AreTaxesRead, HasNoSales, NoRight}
+use Rattle.bsp_store_open.specs.Opening.{Finds, Misses}
 use Rattle.bsp_store_open.proofs.tables.load_with.Goals as goal
 
-pub returns-in_err-load-clause-missed : goal.returns-in_err-load-clause-missed
-returns-in_err-load-clause-missed g c =
-    let taxes = from_entries {R = item_cmp} c.args.taxes.now.entries in
-    let seconds = from_entries {R = ticket_cmp} c.args.seconds.now.entries in
-    let zero = rows_of c.args.tables.now in
-    let one = rows_of c.load.new.memory in
-    let missed : Trees → Type 0 = λ trees. AreTaxesRead trees taxes → AreSecondsRead trees seconds → HasNoSales zero → NoRight trees in
-    passed_on (λ fault. is_refusal fault ≡ true → Misses g.S.Store c.args.conn.now c.load.new.conn missed) _ _ c.from_residual.ensures.1
-    (λ refused. misses_more g.S.Store c.args.conn.now c.load.new.conn (λ trees. Leaves (items_loader taxes seconds) trees zero one) missed (c.in_err-load.ensures.missed refused)
-    (λ trees left read documents none. no_items_loaded trees zero one none taxes seconds read documents left))
+pub returns-clause-whole : goal.returns-clause-whole
+returns-clause-whole g c = subst (λ (t : Tables). OnOk c.load_taxed-loaded.result (AreWhole t → AreWhole c.load_taxed-loaded.new.memory.tables)) c.replace.ensures.value c.load_taxed-loaded.ensures.whole
 
 pub returns-clause-found : goal.returns-clause-found
 returns-clause-found g c =
-    let taxes = from_entries {R = item_cmp} c.args.taxes.now.entries in
+    let taxes = from_entries {R = item_cmp} c.args.taxes.entries in
     let seconds = from_entries {R = ticket_cmp} c.args.seconds.now.entries in
-    let zero = rows_of c.args.tables.now in
-    let one = rows_of c.load.new.memory in
-    on_ok _ _ c.expect_beside.result c.expect_beside.ensures.same (λ beside. weaker g.S.Store _ _ _ _ (λ trees loads read documents none. items_loaded trees zero one none taxes seconds read documents loads beside) c.in_ok-load.ensures.found)
+    subst (λ (t : Tables). OnOk c.load_taxed-loaded.result (Finds g.S.Store c.args.conn.now c.load_taxed-loaded.new.conn (λ trees. AreTaxesRead trees taxes → AreSecondsRead trees seconds → HasNoSales (rows_of t)
+    → AreItemsLoaded trees (rows_of t) (rows_of c.load_taxed-loaded.new.memory.tables)))) c.replace.ensures.value c.load_taxed-loaded.ensures.found
 
 pub returns-clause-missed : goal.returns-clause-missed
 returns-clause-missed g c =
-    let taxes = from_entries {R = item_cmp} c.args.taxes.now.entries in
+    let taxes = from_entries {R = item_cmp} c.args.taxes.entries in
     let seconds = from_entries {R = ticket_cmp} c.args.seconds.now.entries in
-    let zero = rows_of c.args.tables.now in
-    let one = rows_of c.load.new.memory in
-    if_err _ _ c.expect_beside.result c.expect_beside.ensures.other (λ fault other refused clean ours read documents none.
-    others_beside _ zero one none taxes seconds read documents (c.in_ok-load.ensures.found.found clean) other)
-
-pub returns-in_err-load-clause-whole : goal.returns-in_err-load-clause-whole
-returns-in_err-load-clause-whole g c = none_done _ _ c.from_residual.ensures.0
-
-pub returns-in_err-load-clause-found : goal.returns-in_err-load-clause-found
-returns-in_err-load-clause-found g c = none_done _ _ c.from_residual.ensures.0
-
-pub returns-in_err-load-clause-fault : goal.returns-in_err-load-clause-fault
-returns-in_err-load-clause-fault g c = passed_on (λ fault. is_refusal fault ≡ true → fault ≡ Damaged) _ _ c.from_residual.ensures.1 c.in_err-load.ensures.fault
-
-pub returns-in_err-load-clause-spares : goal.returns-in_err-load-clause-spares
-returns-in_err-load-clause-spares g c = c.in_err-load.ensures.spares
-
-pub returns-clause-whole : goal.returns-clause-whole
-returns-clause-whole g c = on_ok _ _ c.expect_beside.result c.expect_beside.ensures.same (λ beside whole. c.in_ok-load.ensures.derived whole)
+    subst (λ (t : Tables). IfErr c.load_taxed-loaded.result (λ fault. is_refusal fault ≡ true → Misses g.S.Store c.args.conn.now c.load_taxed-loaded.new.conn (λ trees. AreTaxesRead trees taxes → AreSecondsRead trees seconds
+    → HasNoSales (rows_of t) → NoRight trees))) c.replace.ensures.value c.load_taxed-loaded.ensures.missed
 
 pub returns-clause-fault : goal.returns-clause-fault
-returns-clause-fault g c = if_err _ _ c.expect_beside.result c.expect_beside.ensures.fault (λ fault is refused. is)
+returns-clause-fault g c = c.load_taxed-loaded.ensures.fault
 
 pub returns-clause-spares : goal.returns-clause-spares
-returns-clause-spares g c = c.in_ok-load.ensures.spares
+returns-clause-spares g c = c.load_taxed-loaded.ensures.spares

@@ -1,0 +1,59 @@
+use Rattle.std.proofs.Common.{◌≡◌, refl, sym, ap, subst, ◌∙◌}
+use Rattle.std.proofs.lemmas.Bool.{both_ways}
+use Rattle.std.specs.Prelude.{IfSome}
+use Rattle.std.specs.FinMap.{from_entries}
+use Rattle.bsp_rows.specs.Item.{Item}
+use Rattle.bsp_rows.specs.Rows.{item_cmp}
+use Rattle.bsp_rows.specs.declared.keys.ItemKey.{ItemKey}
+use Rattle.bsp_memory_rows.specs.Tables.{rows_of}
+use Rattle.bsp_store_base.specs.Columns.{item_row}
+use Rattle.bsp_store_load.specs.Beside.{IsAwaited, IsKeyed, Taxed, kept_tax}
+use Rattle.bsp_store_load.specs.Entries.{has_real}
+use Rattle.bsp_store_load.proofs.PlainRows.{plain_item}
+use Rattle.bsp_store_load.proofs.RowReads.{not_none, own_is, own_row}
+use Rattle.bsp_store_load.proofs.TaxedLemmas.{awaited, if_all, if_ok, is_stored, lacks_item, now_put, put_taxed}
+use Rattle.bsp_store_load.specs.declared.items.TaxedTables.{TaxedTables}
+use Rattle.bsp_store_load.proofs.items.StoredItemsStoredTableItemKeyItemTaxedTables.put.Goals as goal
+
+pub returns-in_default-clause-entry : goal.returns-in_default-clause-entry
+returns-in_default-clause-entry c = λ e fits lacks is.
+    absurd (not_none item_row c.args.row.now c.read.result e (c.read.ensures.entry e (is_stored _ _ e _ fits lacks) is) c.in_default.is)
+
+pub returns-then-not-is_row-clause-entry : goal.returns-then-not-is_row-clause-entry
+returns-then-not-is_row-clause-entry c = λ e fits lacks is.
+    let own = own_row item_row c.args.row.now c.read.result e (c.read.ensures.entry e (is_stored _ _ e _ fits lacks) is) (c.in-Some.key, c.in-Some.item) c.in-Some.is is in
+    let fine = c.is_row.ensures.whole (own ∙ sym c.of.ensures ∙ sym c.values.ensures) (ap has_real is ∙ plain_item e) in
+    absurd (both_ways _ c.if-not-is_row.true fine)
+
+pub put-requires : goal.put-requires
+put-requires c = subst (λ o. IfSome o IsKeyed) c.in-Some.is c.read.ensures.keyed
+
+-- what is in memory, as clauses see it
+abbrev whole : TaxedTables → Taxed
+whole m = (rows_of m.tables, kept_tax (from_entries {R = item_cmp} m.taxes.entries) (rows_of m.tables).items)
+
+pub returns-clause-kept : goal.returns-clause-kept
+returns-clause-kept c = if_ok _ _ c.put.result c.put.ensures.kept (λ done same no. ap whole (same no))
+
+pub returns-clause-row : goal.returns-clause-row
+returns-clause-row c =
+    let left = from_entries {R = item_cmp} c.args.memory.now.taxes.entries in
+    let rows = rows_of c.args.memory.now.tables in
+    let e : ItemKey × Item = (c.in-Some.key, c.in-Some.item) in
+    let row_is = c.is_row.ensures.same c.if-not-is_row.false ∙ c.values.ensures ∙ c.of.ensures in
+    let own = subst (λ o. IfSome o IsKeyed) c.in-Some.is c.read.ensures.keyed in
+    if_all _ _ _ _ c.put.result c.put.ensures.lacks c.put.ensures.rows c.put.ensures.taxes (λ done lacks put out t.
+    let it = lacks.0 t in
+    (e, row_is, lacks_item left rows e own.keyed it, now_put left rows e _ _ own.keyed it (put t) (out t)))
+
+pub returns-clause-entry : goal.returns-clause-entry
+returns-clause-entry c =
+    let left = from_entries {R = item_cmp} c.args.memory.now.taxes.entries in
+    let rows = rows_of c.args.memory.now.tables in
+    let own : ItemKey × Item = (c.in-Some.key, c.in-Some.item) in
+    if_all _ _ _ _ c.put.result c.put.ensures.lacks c.put.ensures.rows c.put.ensures.taxes (λ done lacks put out e fits new is.
+    let same : own ≡ e = own_is item_row c.args.row.now c.read.result e (c.read.ensures.entry e (is_stored left rows e _ fits new) is) own c.in-Some.is in
+    let it : IsAwaited left rows own = subst (IsAwaited left rows) (sym same) (awaited left rows e new) in
+    let keyed = (subst (λ o. IfSome o IsKeyed) c.in-Some.is c.read.ensures.keyed).keyed in
+    let told = lacks.1 it in
+    (told, now_put left rows own _ _ keyed it (put told) (out told) ∙ ap (λ p. put_taxed p (whole c.args.memory.now)) same))

@@ -1,0 +1,7 @@
+use Rattle.std.proofs.Common.{sym, ◌∙◌}
+use Rattle.bsp_maps.proofs.UndoLemmas.{found}
+use Rattle.bsp_rows.proofs.KeyOrders.{item_total}
+use Rattle.bsp_store_load.proofs.items.tax_at.Goals as goal
+
+pub returns : goal.returns
+returns c = c.copied.ensures ∙ c.get.ensures.value ∙ sym (found item_total c.args.taxes.now.entries c.args.key.now)
