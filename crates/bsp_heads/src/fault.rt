@@ -4,7 +4,7 @@
 ///
 /// The first that applies is answered. The order is: too large, malformed (no head, or a fault of
 /// `Host`), a transfer coding, and a length that is malformed, missing or too large.
-#[derive(Clone, Copy, PartialEq, Eq)]
+#[derive(Clone, Copy)]
 pub enum HeadFault {
     /// The text is no head of a request. Or it has several `Host` fields, one whose value is no host,
     /// or none on HTTP/1.1 (RFC 9112, 3.2). Or its `Content-Length` comes twice or is not made of
@@ -22,7 +22,7 @@ pub enum HeadFault {
 }
 
 /// A refusal of a head, and the form of its answer.
-#[derive(Clone, Copy, PartialEq, Eq)]
+#[derive(Clone, Copy)]
 pub struct Refused {
     /// The first fault that applies.
     pub fault: HeadFault,

@@ -3,7 +3,7 @@
 use httparse::spans::Span;
 
 /// What a head asks for.
-#[derive(Clone, Copy, PartialEq, Eq)]
+#[derive(Clone, Copy)]
 pub struct Wanted {
     /// The bytes of the request's body; 0 where it has none (RFC 9112, 6.3).
     pub body: usize,
@@ -18,7 +18,7 @@ pub struct Wanted {
 }
 
 /// A head that was read: where its parts are in its text, and what it asks for.
-#[derive(Clone, Copy, PartialEq, Eq)]
+#[derive(Clone, Copy)]
 pub struct HeadParts {
     /// The method (RFC 9110, section 9).
     pub method: Span,

@@ -9,7 +9,7 @@ use memchr::memchr_iter;
 ///
 /// A line ends by LF or CR LF (RFC 9112, 2.2). Empty lines before the request line belong to the head, which
 /// ends with the first empty line after it.
-#[derive(Clone, Copy, PartialEq, Eq)]
+#[derive(Clone, Copy)]
 pub struct Scan {
     /// Whether a line that is not empty has ended.
     seen: bool,

@@ -15,7 +15,7 @@ use Rattle.bsp_hot_check.specs.Checked.{HasTotals}
 use Rattle.bsp_hot_check.specs.Standings.{start}
 use Rattle.bsp_hot_check.proofs.LawLemmas.{law, faulty}
 use Rattle.bsp_hot_check.specs.Judging.{step_line, stands_after, judge_from}
-use Rattle.bsp_hot_check.specs.Pieces.{Takes, Passes, AreRefused, IsRefused}
+use Rattle.bsp_hot_check.specs.Pieces.{Passes, AreRefused}
 use Rattle.bsp_hot_check.proofs.Judging.{judge_cons, narrow_line}
 use Rattle.bsp_hot_check.proofs.StateLemmas.{stands_nil, stands_line, stands_judged}
 
@@ -129,55 +129,10 @@ ended_wide text line rest first some wide =
       | inr last ↦ absurd (omega (arith, some, wide, ap length last.0))
     ]
 
-pub refused_line : (at : Standing) (text line rest : List ℕ) → HasFirstLine text line rest → 137 < length text → length line ≡ 136 → step_line at line ≡ None → IsRefused at text
-refused_line at text line rest first some wide none = λ more.
-    record { line = line; more = lines (rest ++ more); are = ended_goes text line rest more (ended_wide text line rest first some wide); refused = none }
-
 pub wide_long : (line : List ℕ) → 136 < length line → is_wide line ≡ false
 unfolding is_wide
 wide_long line long =
     let other : (length line == 136) ≡ false = grind (arith, long) in rw other refl
-
-unended_refused : (at : Standing) (text more : List ℕ) → 137 < length text → Goes text more → AreRefused at (lines (text ++ more))
-unended_refused at text more some goes = record {
-  line = goes.line;
-  more = goes.ls;
-  are = goes.are;
-  refused = narrow_line at goes.line (wide_long goes.line (omega (arith, goes.long, some)));
-}
-
-pub refused_narrow : (at : Standing) (text : List ℕ) → BeginsOtherwise text → 137 < length text → IsRefused at text
-refused_narrow at text other some = λ more.
-    elim other.first.ended [
-      | inl b ↦ record { line = other.line; more = lines (other.rest ++ more); are = ended_goes text other.line other.rest more b; refused = narrow_line at other.line other.narrow }
-      | inr last ↦
-          let first : length (first_of (lines text)) ≡ length text = ap (λ (xs : List (List ℕ)). length (first_of xs)) other.first.cut ∙ ap length last.0 in
-          unended_refused at text more some (goes_on text more (omega (arith, some)) first)
-    ]
-
--- ---- records that are taken
-
-pub takes_none : (at : Standing) (piece : List ℕ) → Takes at piece at piece
-takes_none at piece = record {
-  rest_is = rest_itself piece;
-  whole = λ more. ap (λ xs. lines (xs ++ more)) (before_itself piece) ∙ ap (λ ls. ls ++ lines more) (sym (no_lines piece));
-  stands = ap (stands_after at) (no_lines piece) ∙ stands_nil at;
-  room = omega arith;
-}
-
-pub takes_more : (at mid next : Standing) (piece rest line after : List ℕ) → Takes at piece mid rest → HasFirstLine rest line after → 137 < length rest → length line ≡ 136 → step_line mid line ≡ Some next → next.records ≡ mid.records + 1 → Takes at piece next after
-takes_more at mid next piece rest line after takes first some wide step one =
-    let b = ended_wide rest line after first some wide in
-    let both = before_joined after rest piece b.rest_is takes.rest_is in
-    let whole = whole_joined (before_rest piece rest) (before_rest rest after) takes.whole (whole_cut rest line after b) in
-    let are : lines (before_rest piece after) ≡ lines (before_rest piece rest) ++ line ∷ [] =
-    ap lines both ∙ takes.whole (before_rest rest after) ∙ ap (λ ls. lines (before_rest piece rest) ++ ls) (cut_alone rest line after b) in
-    record {
-      rest_is = rest_of_rest after rest piece b.rest_is takes.rest_is;
-      whole = subst IsWholeLines (sym both) whole;
-      stands = ap (stands_after at) are ∙ stands_line at mid next (lines (before_rest piece rest)) line takes.stands step;
-      room = omega (arith, takes.room, one, wide, line_room rest line after first);
-    }
 
 -- ---- lines with which a text ends
 

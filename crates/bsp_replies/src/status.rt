@@ -55,7 +55,7 @@ impl Status {
 }
 
 /// The media type of a body (RFC 9110, 8.3).
-#[derive(Clone, Copy, PartialEq, Eq)]
+#[derive(Clone, Copy)]
 pub enum Media {
     /// `application/json` (RFC 8259).
     Json,

@@ -4,7 +4,7 @@ use crate::call::Call;
 use crate::methods::Methods;
 
 /// What a method and a target ask for, with path values of type `V`.
-#[derive(Clone, Copy, PartialEq, Eq)]
+#[derive(Clone, Copy)]
 pub enum Asking<V> {
     /// The call whose path and method they are.
     Call(Call<V>),

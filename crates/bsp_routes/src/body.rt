@@ -6,7 +6,7 @@ ghost use Rattle.bsp_routes.specs.Calls.{body_of, method_of, method_with};
 use crate::call::{AgentCall, AirlineCall, Call, OfficeCall};
 
 /// Which body a call has.
-#[derive(Clone, Copy, PartialEq, Eq)]
+#[derive(Clone, Copy)]
 pub enum BodyKind {
     /// None: the method is GET, and a body that comes is ignored.
     NoBody,

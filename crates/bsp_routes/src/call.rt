@@ -1,7 +1,7 @@
 //! The calls of the office, the agents and the airlines.
 
 /// What the office asks, with path values of type `V`.
-#[derive(Clone, Copy, PartialEq, Eq)]
+#[derive(Clone, Copy)]
 pub enum OfficeCall<V> {
     /// Publish a plan text.
     Plan,
@@ -24,7 +24,7 @@ pub enum OfficeCall<V> {
 }
 
 /// What an agent asks, with path values of type `V`.
-#[derive(Clone, Copy, PartialEq, Eq)]
+#[derive(Clone, Copy)]
 pub enum AgentCall<V> {
     /// Report a RET file.
     Ret,
@@ -45,7 +45,7 @@ pub enum AgentCall<V> {
 }
 
 /// What an airline asks, with path values of type `V`.
-#[derive(Clone, Copy, PartialEq, Eq)]
+#[derive(Clone, Copy)]
 pub enum AirlineCall<V> {
     /// The airline's memos.
     Memos,
@@ -63,7 +63,7 @@ pub enum AirlineCall<V> {
 
 /// A call by the caller that its path names, an agent or an airline by its code. Path values are as they are
 /// in the path: whether one is well-formed is read elsewhere.
-#[derive(Clone, Copy, PartialEq, Eq)]
+#[derive(Clone, Copy)]
 pub enum Call<V> {
     /// A call of the office.
     Office(OfficeCall<V>),

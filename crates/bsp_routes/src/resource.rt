@@ -7,7 +7,7 @@ ghost use Rattle.bsp_routes.specs.Routed.{bytes_before};
 use crate::methods::Methods;
 
 /// A resource (RFC 9110, 3.1): what paths of one pattern name, whatever their values.
-#[derive(Clone, Copy, PartialEq, Eq)]
+#[derive(Clone, Copy)]
 pub enum Resource {
     Plan,
     Day,

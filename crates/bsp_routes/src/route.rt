@@ -12,7 +12,7 @@ use crate::methods::Methods;
 use crate::resource::Resource;
 
 /// A call, by its resource and by how many bytes of the target its path values have.
-#[derive(Clone, Copy, PartialEq, Eq)]
+#[derive(Clone, Copy)]
 pub struct Located {
     pub(crate) resource: Resource,
     pub(crate) posts: bool,
@@ -37,7 +37,7 @@ impl Located {
 }
 
 /// What a method and a target ask for.
-#[derive(Clone, Copy, PartialEq, Eq)]
+#[derive(Clone, Copy)]
 pub enum Route {
     /// The call whose path and method they are.
     Call(Located),
