@@ -9,7 +9,8 @@
 - the same with many of all else: 1,000 airlines, 1,000 agents, as many ranges of one agent, 20,001 memos to it, which one close
   bills, 60,000 periods and taxes, and 500 closes;
 - `run` with 65,536 requests of strangers, the most that one connection has, and with as many of an agent;
-- `bsp_record_examples` with a RET file of 10,000 sales, read and written.
+- `bsp_record_examples` with a RET file of 10,000 sales, read and written; and with such a file in a run of requests, with the reports
+  over its rows.
 Each test prints how long its parts took."""
 import contextlib
 import datetime
@@ -606,3 +607,28 @@ def test_calls_on_a_ret_file():
     found = f"done; done; records {3 * count + 2}, transactions {count}, sum {23_500 * count}"
     wanted = [f"{case} = {it}" for case, it in zip(READS, (found, found, f"the same, {len(text)} bytes"))]
     expect("calls on a RET file", wanted, ended.stdout.decode().splitlines()[-len(READS) :])
+
+
+def test_a_run_with_reports():
+    """Asks the requests of a period in one run, with a RET file of 10,000 sales, and writes the reports over its rows."""
+    count, text = 10_000, ret_file(10_000, FIRST).decode()
+    case = "run MOST_PLAN; MOST"
+    plan = (
+        'currency = "EUR"\nreview_days = 14\ndocuments_limit = 99999\nairline = ["125"]\n'
+        '[[rate]]\nairline = "125"\nfrom = "2024-01-01"\nhundredths = 500\n'
+        '[[period]]\ncode = "24011"\nfirst = "2024-01-01"\nlast = "2024-01-15"\nremit = "2024-02-15"\n'
+    )
+    named = (("MOST_PLAN", plan), ("MOST", text))
+    records = "".join(f"  {name} {it.rstrip()}\n" for name, lines in named for it in lines.splitlines())
+    page = f"{records}{case}\n".encode()
+    ended = timed("a run with reports", lambda: subprocess.run([program.EXAMPLES], input=page, capture_output=True, timeout=600))
+    lines = ended.stdout.decode().splitlines()
+    expect("its end", (0, b"", True), (ended.returncode, ended.stderr, f'{case} = 200 {{"result":"done"}}' in lines))
+    results = [it for it in lines if it.startswith('200 {"results"')]
+    expect("verdicts", [count], [it.count('"verdict":"accepted"') for it in results])
+    gross, commission = money(23_500 * count), money(1_000 * count)
+    net = money(22_500 * count + 5_000)
+    wanted = f"TOT {count} {gross} 0.00 {commission} 50.00 {net}"
+    totals = [" ".join(it.split()) for it in lines if it.startswith(("sound", "TOT ", "TOTAL "))]
+    expect("reports", ["sound", wanted, f"TOTAL AGENTS {net}", f"TOTAL AIRLINES {net}"], totals)
+    expect("the HOT file", 5 * count + 4 + 8, sum(len(it) == 136 and it[:3] in ("BFH", "BCH", "BOH", "BKT", "BKS", "BKP", "BOT", "BCT", "BFT") for it in lines))

@@ -51,7 +51,7 @@ fn office<'t>(routes: &Routes, target: &'t [u8], body: &'t [u8]) -> Request<'t> 
 fn requests<'t>(routes: &Routes, plan: &'t [u8], file: &'t RetFile<'t>) -> [Request<'t>; 9] {
     let agent = br#"{"agent":"12345675","token":"agenttoken000001"}"#;
     let airline = br#"{"airline":"125","token":"airlinetoken0125"}"#;
-    let range = br#"{"agent":"12345675","first":"1300000000","last":"1300000099"}"#;
+    let range = br#"{"agent":"12345675","first":"1300000000","last":"1300009999"}"#;
     let memo =
         br#"{"agent":"12345675","amount":5000,"document":"6000000001","kind":"ADMA","reason":"fare"}"#;
     [
@@ -116,6 +116,16 @@ fn show_all(of: &Rows<'_>, out: &mut Output) -> Answered {
     Ok(())
 }
 
+/// Appends whether the rows of a book are sound.
+fn show_soundness(book: &ListBook, out: &mut Output) -> Answered {
+    out.push(if book.sound()? {
+        "sound\n"
+    } else {
+        "not sound\n"
+    });
+    Ok(())
+}
+
 /// Appends the reports over the rows of the agent.
 fn show_reports(alloc: Global, book: &mut ListBook, out: &mut Output) -> Answered {
     let agent = AgentCode::read(b"12345675")?;
@@ -143,11 +153,13 @@ fn new_desk(alloc: Global) -> Result<Desk<ListBook>, Fault> {
     Desk::open(alloc, ListBook::new(alloc), office).map_err(|_| Fault::Memory)
 }
 
-/// Asks requests of a new desk, and appends the reports over the book that they leave.
+/// Asks requests of a new desk. Appends whether the book that they leave is sound, and the reports over it.
 fn ask(alloc: Global, requests: &[Request<'_>], out: &mut Output) -> Answered {
     let mut desk = new_desk(alloc)?;
     run(&mut desk, requests, out)?;
-    show_reports(alloc, &mut desk.close(), out)
+    let mut book = desk.close();
+    show_soundness(&book, out)?;
+    show_reports(alloc, &mut book, out)
 }
 
 /// Asks the requests with a plan and a file.
