@@ -32,9 +32,12 @@ use Rattle.bsp_words.specs.declared.work.WordsFault.TheVariants.{Refused, OutOfF
 
 -- ---- the command line, as `clap` reads it
 
--- an argument without a name in front, which must be there
+-- an argument without a name in front, which must be there or not
+abbrev pub word_rule : Text → Bool → Rule
+word_rule id required = record (new_rule id) { required = required }
+
 abbrev pub wanted_word : Text → Rule
-wanted_word id = record (new_rule id) { required = true }
+wanted_word id = word_rule id true
 
 -- a flag: --ID
 abbrev pub flag_rule : Text → Rule
@@ -394,23 +397,23 @@ serve_work rows =
     (limits_in rows))
     (number_in 16 (codes "port") rows)
 
--- the work on files that need no office
-unfoldable pub trial_in : List Text → Text → List Row → Option AskedWork
-trial_in words name rows =
-    if bytes_eq name (codes "judge") then judge_work words rows
-    else if bytes_eq name (codes "plan") then plan_work rows
+-- the work of a command whose values make no list
+unfoldable pub single_in : Text → List Row → Option AskedWork
+single_in name rows =
+    if bytes_eq name (codes "check") then check_work rows
+    else if bytes_eq name (codes "hotcheck") then hotcheck_work rows
+    else if bytes_eq name (codes "audit") then audit_work rows
+    else if bytes_eq name (codes "run") then run_work rows
+    else if bytes_eq name (codes "serve") then serve_work rows
     else if bytes_eq name (codes "body") then body_work rows
     else if bytes_eq name (codes "explain") then explain_work rows
     else None
 
 unfoldable pub work_in : List Text → Text → List Row → Option AskedWork
 work_in words name rows =
-    if bytes_eq name (codes "check") then check_work rows
-    else if bytes_eq name (codes "hotcheck") then hotcheck_work rows
-    else if bytes_eq name (codes "audit") then audit_work rows
-    else if bytes_eq name (codes "run") then run_work rows
-    else if bytes_eq name (codes "serve") then serve_work rows
-    else trial_in words name rows
+    if bytes_eq name (codes "judge") then judge_work words rows
+    else if bytes_eq name (codes "plan") then plan_work rows
+    else single_in name rows
 
 abbrev pub work_from : List Text → Option (Text × List Row) → Option AskedWork
 work_from words = option_and_then (λ p. work_in words p.0 p.1)

@@ -1,27 +1,24 @@
 -- The commands of the program by their rows.
-use Rattle.std.specs.Prelude.{map}
-use Rattle.clap.specs.Words.{Rule, Shape, Text, new_app, new_rule}
-use Rattle.bsp_words.specs.CommandLine.{flag_rule, limit_option, named_option, needed_option, port_rule, repeated_option, some_option, wanted_word}
+use Rattle.std.specs.Prelude.{Bool, map}
+use Rattle.clap.specs.Words.{Rule, Shape, Text, new_app}
+use Rattle.bsp_words.specs.CommandLine.{flag_rule, limit_option, named_option, number_option, repeated_option, word_rule}
 use Rattle.bsp_words.specs.Filling.{with_rules}
 use Rattle.bsp_words.specs.declared.commands.Argument.{Argument}
 use Rattle.bsp_words.specs.declared.commands.Form.{Form}
 use Rattle.bsp_words.specs.declared.commands.Form.TheVariants as form
 use Rattle.bsp_words.specs.declared.commands.CommandRow.{CommandRow}
 
--- the rule of an argument of that name and form
-abbrev pub rule_by : Text → Form → Rule
-rule_by id form.Flag = flag_rule id
-rule_by id (form.Named value) = named_option id
-rule_by id (form.Needed value) = needed_option id
-rule_by id (form.Repeated value) = repeated_option id
-rule_by id (form.Some value) = some_option id
-rule_by id form.Word = wanted_word id
-rule_by id form.OptionalWord = new_rule id
-rule_by id form.Port = port_rule
-rule_by id (form.Limit value least most default) = limit_option id least most default.now
+-- the rule of an argument of that name and form, which must be there or not
+abbrev pub rule_by : Text → Form → Bool → Rule
+rule_by id form.Word required = word_rule id required
+rule_by id form.Flag required = record (flag_rule id) { required = required }
+rule_by id (form.Named value) required = record (named_option id) { required = required }
+rule_by id (form.Repeated value) required = record (repeated_option id) { required = required }
+rule_by id (form.Number value least most) required = record (number_option id least most) { required = required }
+rule_by id (form.Limit value least most default) required = record (limit_option id least most default.now) { required = required }
 
 abbrev pub rule_at : Argument → Rule
-rule_at a = rule_by a.id.now a.form
+rule_at a = rule_by a.id.now a.form a.required
 
 -- the command of a row
 abbrev pub shape_at : CommandRow → Shape

@@ -1,9 +1,12 @@
 //! The command line, as `clap` reads it: made of the rows of the commands and of their arguments.
 
-ghost use Rattle.std.specs.Prelude.{◌≡◌, ◌++◌, ◌∷◌, [], IfOk, IsOkAnd, OnOk, false, map, pos};
+ghost use Rattle.std.specs.Prelude.{◌≡◌, ◌++◌, ◌∷◌, [], IfOk, IsOkAnd, OnOk, Some, codes, false, map, pos};
+ghost use Rattle.clap.specs.Simple.{on_top};
 ghost use Rattle.clap.specs.declared.builder.value_parser.ValueParser.TheVariants.{Signed};
-ghost use Rattle.clap.specs.Words.{app_of, new_rule, rule_of};
-ghost use Rattle.bsp_words.specs.CommandLine.{flag_rule, limit_option, named_option, needed_option, office, office_shapes, port_rule, repeated_option, some_option};
+ghost use Rattle.clap.specs.declared.builder.texts.Texts.TheVariants.{One};
+ghost use Rattle.clap.specs.Words.{app_of, new_app, rule_of};
+ghost use Rattle.clap.specs.declared.builder.command.Command.TheViews.{out-Command as fields_of};
+ghost use Rattle.bsp_words.specs.CommandLine.{needs_subcommand, office, office_shapes, word_rule};
 ghost use Rattle.bsp_words.specs.Commands.{rule_at, shape_at};
 ghost use Rattle.bsp_words.specs.Filling.{of_one, rules_in, shapes_in};
 
@@ -15,58 +18,6 @@ use std::alloc::{AllocError, Global};
 /// The version of the program.
 const VERSION: &str = "1.0.0";
 
-/// The flag `--ID`.
-fn flag<'a>(alloc: Global, id: &'a str, help: &'a str) -> Arg<'a>
-    ensures rule { rule_of result ≡ flag_rule id.entry.now }
-    ensures local { result.global ≡ false }
-{
-    Arg::new(alloc, id)
-        .long(id)
-        .action(ArgAction::SetTrue)
-        .help(help)
-}
-
-/// The option `--ID VALUE`.
-fn option<'a>(alloc: Global, id: &'a str, value: &'a str, help: &'a str) -> Arg<'a>
-    ensures rule { rule_of result ≡ named_option id.entry.now }
-    ensures local { result.global ≡ false }
-{
-    Arg::new(alloc, id).long(id).value_name(value).help(help)
-}
-
-/// The option `--ID VALUE`, which must be there.
-fn needed<'a>(alloc: Global, id: &'a str, value: &'a str, help: &'a str) -> Arg<'a>
-    ensures rule { rule_of result ≡ needed_option id.entry.now }
-    ensures local { result.global ≡ false }
-{
-    option(alloc, id, value, help).required(true)
-}
-
-/// The option `--ID VALUE`, which may come more than once.
-fn repeated<'a>(alloc: Global, id: &'a str, value: &'a str, help: &'a str) -> Arg<'a>
-    ensures rule { rule_of result ≡ repeated_option id.entry.now }
-    ensures local { result.global ≡ false }
-{
-    option(alloc, id, value, help).action(ArgAction::Append)
-}
-
-/// The option `--ID VALUE`, which must be there, and may come more than once.
-fn some<'a>(alloc: Global, id: &'a str, value: &'a str, help: &'a str) -> Arg<'a>
-    ensures rule { rule_of result ≡ some_option id.entry.now }
-    ensures local { result.global ≡ false }
-{
-    repeated(alloc, id, value, help).required(true)
-}
-
-fn port_option<'a>(alloc: Global, help: &'a str) -> Arg<'a>
-    ensures rule { rule_of result ≡ port_rule }
-    ensures local { result.global ≡ false }
-{
-    option(alloc, "port", "N", help)
-        .required(true)
-        .value_parser(clap::value_parser!(u16).range(1..))
-}
-
 /// What reads a number from the least to the most.
 fn numbers<'a>(least: u32, most: u32) -> ValueParser<'a>
     ensures { result ≡ Signed (pos least) (pos most) }
@@ -74,30 +25,28 @@ fn numbers<'a>(least: u32, most: u32) -> ValueParser<'a>
     clap::value_parser!(u32).range(i64::from(least)..=i64::from(most))
 }
 
-/// The option `--ID VALUE` with a number from the least to the most, which is the default where it is absent.
-fn limit<'a>(
-    alloc: Global,
-    id: &'a str,
-    value: &'a str,
-    least: u32,
-    most: u32,
-    default: &'a str,
-    help: &'a str,
-) -> Arg<'a>
-    ensures rule { rule_of result ≡ limit_option id.entry.now least most default.entry.now }
+/// A word with the name and the help of a row.
+fn word<'a>(alloc: Global, row: &Argument) -> Arg<'a>
+    ensures rule { rule_of result ≡ word_rule row.now.id.now row.now.required }
     ensures local { result.global ≡ false }
 {
-    option(alloc, id, value, help)
-        .value_parser(numbers(least, most))
-        .default_value(default)
+    Arg::new(alloc, row.id)
+        .help(row.help)
+        .required(row.required)
 }
 
-/// A word, which may be absent.
-fn word<'a>(alloc: Global, id: &'a str, help: &'a str) -> Arg<'a>
-    ensures rule { rule_of result ≡ new_rule id.entry.now }
-    ensures local { result.global ≡ false }
+/// The option `--ID VALUE` in place of a word.
+fn named<'a>(arg: Arg<'a>, id: &'a str, value: &'a str) -> Arg<'a>
+    ensures { result ≡ record arg.entry { long = Some id.entry; val_names = One value.entry } }
 {
-    Arg::new(alloc, id).help(help)
+    arg.long(id).value_name(value)
+}
+
+/// Such an option with a number from the least to the most.
+fn numbered<'a>(arg: Arg<'a>, id: &'a str, value: &'a str, least: u32, most: u32) -> Arg<'a>
+    ensures { result ≡ record arg.entry { long = Some id.entry; val_names = One value.entry; value_parser = Some (Signed (pos least) (pos most)) } }
+{
+    named(arg, id, value).value_parser(numbers(least, most))
 }
 
 /// The argument of a row.
@@ -105,21 +54,19 @@ fn argument<'a>(alloc: Global, row: &Argument) -> Arg<'a>
     ensures rule { rule_of result ≡ rule_at row.now }
     ensures local { result.global ≡ false }
 {
+    let arg = word(alloc, row);
     match row.form {
-        Form::Flag => flag(alloc, row.id, row.help),
-        Form::Named(value) => option(alloc, row.id, value, row.help),
-        Form::Needed(value) => needed(alloc, row.id, value, row.help),
-        Form::Repeated(value) => repeated(alloc, row.id, value, row.help),
-        Form::Some(value) => some(alloc, row.id, value, row.help),
-        Form::Word => word(alloc, row.id, row.help).required(true),
-        Form::OptionalWord => word(alloc, row.id, row.help),
-        Form::Port => port_option(alloc, row.help),
+        Form::Word => arg,
+        Form::Flag => arg.long(row.id).action(ArgAction::SetTrue),
+        Form::Named(value) => named(arg, row.id, value),
+        Form::Repeated(value) => named(arg, row.id, value).action(ArgAction::Append),
+        Form::Number { value, least, most } => numbered(arg, row.id, value, least, most),
         Form::Limit {
             value,
             least,
             most,
             default,
-        } => limit(alloc, row.id, value, least, most, default, row.help),
+        } => numbered(arg, row.id, value, least, most).default_value(default),
     }
 }
 
@@ -163,21 +110,14 @@ fn push_arguments<'a>(
     Ok(())
 }
 
-/// Adds the command of a row, filled with these arguments.
-fn push_filled<'a>(
-    alloc: Global,
-    commands: &mut Vec<Command<'a>>,
-    row: &CommandRow,
-    arguments: Vec<Arg<'a>>,
-) -> Result<(), AllocError>
-    requires { rules_in arguments.items ≡ of_one (map rule_at row.now.arguments.now) }
-    ensures { OnOk result (shapes_in commands.new.items ≡ shapes_in commands.old.items ++ of_one (shape_at row.now ∷ [])) }
+/// The command of a row, without its arguments.
+fn titled<'a>(alloc: Global, row: &CommandRow) -> Command<'a>
+    ensures app { app_of result ≡ new_app row.now.name.now }
+    ensures local { (fields_of result).has_globals ≡ false }
 {
-    let command = Command::new(alloc, row.name)
+    Command::new(alloc, row.name)
         .about(row.about)
         .after_help(row.example)
-        .args(arguments);
-    push_made(commands, command)
 }
 
 /// Adds the command of a row.
@@ -190,7 +130,8 @@ fn push_command<'a>(
 {
     let mut arguments = Vec::new(alloc);
     push_arguments(alloc, &mut arguments, row.arguments)?;
-    push_filled(alloc, commands, row, arguments)
+    let command = titled(alloc, row).args(arguments);
+    push_made(commands, command)
 }
 
 /// Adds the command of each row.
@@ -213,8 +154,18 @@ fn push_office<'a>(alloc: Global, commands: &mut Vec<Command<'a>>) -> Result<(),
 {
     push_commands(alloc, commands, file_commands())?;
     push_commands(alloc, commands, text_commands())?;
-    push_commands(alloc, commands, book_commands())?;
-    Ok(())
+    push_commands(alloc, commands, book_commands())
+}
+
+/// The program, without its commands.
+fn program<'a>(alloc: Global) -> Command<'a>
+    ensures { app_of result ≡ on_top needs_subcommand (new_app (codes "bsp_office")) }
+{
+    Command::new(alloc, "bsp_office")
+        .about("The office of a billing and settlement plan")
+        .version(VERSION)
+        .subcommand_required(true)
+        .disable_help_subcommand(true)
 }
 
 /// The command line of the program.
@@ -223,10 +174,5 @@ pub(crate) fn office_command<'a>(alloc: Global) -> Result<Command<'a>, AllocErro
 {
     let mut filled = Vec::new(alloc);
     push_office(alloc, &mut filled)?;
-    Command::new(alloc, "bsp_office")
-        .about("The office of a billing and settlement plan")
-        .version(VERSION)
-        .subcommand_required(true)
-        .disable_help_subcommand(true)
-        .subcommands(filled)
+    program(alloc).subcommands(filled)
 }

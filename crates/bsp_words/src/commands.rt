@@ -5,24 +5,21 @@ ghost use Rattle.bsp_words.specs.CommandLine.{book_shapes, file_shapes, text_sha
 ghost use Rattle.bsp_words.specs.Commands.{shape_at};
 
 /// How an argument is given.
-#[derive(Clone, Copy)]
 pub(crate) enum Form {
+    /// A word.
+    Word,
     /// The flag `--ID`.
     Flag,
     /// The option `--ID VALUE`, with the name of its value.
     Named(&'static str),
-    /// Such an option that must be there.
-    Needed(&'static str),
     /// Such an option that may come more than once.
     Repeated(&'static str),
-    /// Such an option that must be there, and may come more than once.
-    Some(&'static str),
-    /// A word that must be there.
-    Word,
-    /// A word that may be absent.
-    OptionalWord,
-    /// The option that names the port.
-    Port,
+    /// Such an option with a number from the least to the most.
+    Number {
+        value: &'static str,
+        least: u32,
+        most: u32,
+    },
     /// Such an option with a number from the least to the most, which is the default where it is absent.
     Limit {
         value: &'static str,
@@ -33,16 +30,16 @@ pub(crate) enum Form {
 }
 
 /// An argument of a command.
-#[derive(Clone, Copy)]
 pub(crate) struct Argument {
     /// Its name.
     pub(crate) id: &'static str,
     pub(crate) form: Form,
+    /// Whether it must be there.
+    pub(crate) required: bool,
     pub(crate) help: &'static str,
 }
 
 /// A command.
-#[derive(Clone, Copy)]
 pub(crate) struct CommandRow {
     pub(crate) name: &'static str,
     pub(crate) about: &'static str,
@@ -54,36 +51,42 @@ pub(crate) struct CommandRow {
 const QUIET: Argument = Argument {
     id: "quiet",
     form: Form::Flag,
+    required: false,
     help: "says nothing of the file on standard error",
 };
 
 const FILE: Argument = Argument {
     id: "FILE",
     form: Form::Word,
+    required: true,
     help: "the file, or - for standard input",
 };
 
 const BOOK: Argument = Argument {
     id: "FILE",
     form: Form::Word,
+    required: true,
     help: "the file that keeps the book, which is not changed",
 };
 
 const TOKEN: Argument = Argument {
     id: "token",
     form: Form::Named("T"),
+    required: false,
     help: "the office's token, of 16 to 64 letters and digits",
 };
 
 const TOKEN_FILE: Argument = Argument {
     id: "token-file",
     form: Form::Named("FILE"),
+    required: false,
     help: "a file whose first line is the token: other users of the machine do not see it",
 };
 
 const DB: Argument = Argument {
     id: "db",
     form: Form::Named("FILE"),
+    required: false,
     help: "the file that keeps the book, made where it is not there; without it the book is in memory",
 };
 
@@ -105,6 +108,7 @@ static FILES: [CommandRow; 3] = [
             Argument {
                 id: "list",
                 form: Form::Flag,
+                required: false,
                 help: "prints a line for each document and memo, and the totals of each agent, too",
             },
             FILE,
@@ -118,37 +122,44 @@ static FILES: [CommandRow; 3] = [
         arguments: &[
             Argument {
                 id: "plan",
-                form: Form::Some("PLAN"),
+                form: Form::Repeated("PLAN"),
+                required: true,
                 help: "a published plan text, the earliest first",
             },
             Argument {
                 id: "day",
-                form: Form::Needed("DAY"),
+                form: Form::Named("DAY"),
+                required: true,
                 help: "the business day, as 2024-01-05",
             },
             Argument {
                 id: "agent",
-                form: Form::Needed("A"),
+                form: Form::Named("A"),
+                required: true,
                 help: "the agent, eight digits",
             },
             Argument {
                 id: "stock",
-                form: Form::Some("FIRST-LAST"),
+                form: Form::Repeated("FIRST-LAST"),
+                required: true,
                 help: "a range of its numbers, as 1300000000-1300000099",
             },
             Argument {
                 id: "file",
                 form: Form::Repeated("EARLIER"),
+                required: false,
                 help: "a RET file reported before, the earliest first",
             },
             Argument {
                 id: "closed",
                 form: Form::Repeated("PERIOD"),
+                required: false,
                 help: "a period that the office closed after the earlier files before it",
             },
             Argument {
                 id: "statement",
                 form: Form::Named("PERIOD"),
+                required: false,
                 help: "prints the agent's statement of this period, as if it were closed now, too",
             },
             FILE,
@@ -166,21 +177,25 @@ static TEXTS: [CommandRow; 3] = [
             Argument {
                 id: "after",
                 form: Form::Repeated("PUBLISHED"),
+                required: false,
                 help: "a text published before, the earliest first",
             },
             Argument {
                 id: "day",
                 form: Form::Named("DAY"),
+                required: false,
                 help: "the business day on which the text is published; without it 2000-01-01",
             },
             Argument {
                 id: "of",
                 form: Form::Named("BOOK"),
+                required: false,
                 help: "prints the plan of the book in this file instead, as a text; the book is not changed",
             },
             Argument {
                 id: "FILE",
-                form: Form::OptionalWord,
+                form: Form::Word,
+                required: false,
                 help: "the file, or - for standard input; it is there unless --of is",
             },
         ],
@@ -193,6 +208,7 @@ static TEXTS: [CommandRow; 3] = [
             Argument {
                 id: "REQUEST",
                 form: Form::Word,
+                required: true,
                 help: "the method and the target in one word, as 'POST /office/day'",
             },
             FILE,
@@ -204,7 +220,8 @@ static TEXTS: [CommandRow; 3] = [
         example: "Example: bsp_office explain E07",
         arguments: &[Argument {
             id: "CODE",
-            form: Form::OptionalWord,
+            form: Form::Word,
+            required: false,
             help: "a letter and two digits, as E07; without it all codes are listed",
         }],
     },
@@ -231,7 +248,12 @@ static BOOKS: [CommandRow; 3] = [
         arguments: &[
             Argument {
                 id: "port",
-                form: Form::Port,
+                form: Form::Number {
+                    value: "N",
+                    least: 1,
+                    most: 65_535,
+                },
+                required: true,
                 help: "the port, from 1 to 65535",
             },
             TOKEN,
@@ -245,6 +267,7 @@ static BOOKS: [CommandRow; 3] = [
                     most: 1_000_000,
                     default: "1000000",
                 },
+                required: false,
                 help: "how many connections to serve, from 1 to 1000000",
             },
             Argument {
@@ -255,6 +278,7 @@ static BOOKS: [CommandRow; 3] = [
                     most: 10_000,
                     default: "256",
                 },
+                required: false,
                 help: "how many of them at once, from 1 to 10000",
             },
             Argument {
@@ -265,6 +289,7 @@ static BOOKS: [CommandRow; 3] = [
                     most: 3600,
                     default: "30",
                 },
+                required: false,
                 help: "how many seconds a message may take, from 1 to 3600; with 0 without end",
             },
             Argument {
@@ -275,11 +300,13 @@ static BOOKS: [CommandRow; 3] = [
                     most: 3600,
                     default: "60",
                 },
+                required: false,
                 help: "how many seconds a connection may be between messages; with 0 without end",
             },
             Argument {
                 id: "log",
                 form: Form::Flag,
+                required: false,
                 help: "prints a line for each reply on standard error",
             },
         ],

@@ -1,6 +1,6 @@
 //! The order in which the options `--file` and `--closed` come among the words.
 
-ghost use Rattle.std.specs.Prelude.{◌≡◌, ◌++◌, ◌∷◌, IfOk, List, drop, map};
+ghost use Rattle.std.specs.Prelude.{◌≡◌, ◌++◌, ◌∷◌, IfOk, List, OnOk, drop, map};
 ghost use Rattle.bsp_words.specs.Order.{as_list, in_order, is_option, mark_of, marks_in};
 
 use crate::work::Earlier;
@@ -61,6 +61,17 @@ fn next_of(closed: &[PeriodCode], taken: usize, mark: Mark) -> (Option<Earlier>,
     }
 }
 
+/// Adds what comes next, if anything does.
+fn push_next(earlier: &mut Vec<Earlier>, next: Option<Earlier>) -> Result<(), AllocError>
+    ensures { OnOk result (earlier.new.items ≡ earlier.old.items ++ as_list next) }
+{
+    let Some(step) = next else {
+        return Ok(());
+    };
+    earlier.push(step)?;
+    Ok(())
+}
+
 /// The files and the periods in the order of the words.
 pub(crate) fn in_order(
     alloc: Global,
@@ -73,10 +84,8 @@ pub(crate) fn in_order(
     let mut earlier = Vec::new(alloc);
     for mark in marks {
         let (next, now_taken) = next_of(closed, taken, *mark);
+        push_next(&mut earlier, next)?;
         taken = now_taken;
-        if let Some(step) = next {
-            earlier.push(step)?;
-        }
     }
     Ok(earlier)
 }

@@ -1,8 +1,8 @@
 //! The work of `plan`.
 
-ghost use Rattle.std.specs.Prelude.{◌≡◌, IfOk, Some, option_map};
-ghost use Rattle.clap.specs.Words.{found_of, rows_of};
-ghost use Rattle.bsp_words.specs.CommandLine.{day_of, plan_of_work, plan_text_work, plan_work, work_of};
+ghost use Rattle.std.specs.Prelude.{◌≡◌, IfOk, codes, option_map};
+ghost use Rattle.clap.specs.Words.{first_of, found_of, rows_of};
+ghost use Rattle.bsp_words.specs.CommandLine.{day_of, plan_of_work, plan_text_work, plan_work, read_if_any, texts_in, values_in, work_of};
 
 use crate::values::{has_values, value_of, values_of};
 use crate::work::{Misfit, Work};
@@ -17,6 +17,38 @@ pub(crate) fn day_of(text: &str) -> Option<Day>
     Day::read_text(text.as_bytes()).ok()
 }
 
+/// The day of the text, if one is given; none where it is out of its form.
+fn day_given(matches: &ArgMatches<'_>) -> Option<Option<Day>>
+    ensures { result ≡ read_if_any day_of (first_of (codes "day") (rows_of (found_of matches.now))) }
+{
+    let Some(text) = value_of(matches, "day") else {
+        return Some(None);
+    };
+    let Some(day) = day_of(text) else {
+        return None;
+    };
+    Some(Some(day))
+}
+
+/// The work of a text over these published before.
+fn text_over<'a>(
+    matches: &ArgMatches<'a>,
+    file: &'a str,
+    published: Vec<&'a str>,
+) -> Option<Work<'a>>
+    requires { texts_in published.items ≡ values_in (codes "after") (rows_of (found_of matches.now)) }
+    ensures { option_map work_of result ≡ plan_text_work file.now (rows_of (found_of matches.now)) }
+{
+    let Some(day) = day_given(matches) else {
+        return None;
+    };
+    Some(Work::Plan {
+        file,
+        published,
+        day,
+    })
+}
+
 /// The work of a text over those published before.
 fn text_work<'a>(
     alloc: Global,
@@ -25,27 +57,8 @@ fn text_work<'a>(
 ) -> Result<Option<Work<'a>>, AllocError>
     ensures { IfOk result (λ work. option_map work_of work ≡ plan_text_work file.now (rows_of (found_of matches.now))) }
 {
-    let published = match values_of(alloc, matches, "after") {
-        Ok(published) => published,
-        Err(error) => return Err(error),
-    };
-    let Some(text) = value_of(matches, "day") else {
-        let day = None;
-        return Ok(Some(Work::Plan {
-            file,
-            published,
-            day,
-        }));
-    };
-    let Some(day) = day_of(text) else {
-        return Ok(None);
-    };
-    let day = Some(day);
-    Ok(Some(Work::Plan {
-        file,
-        published,
-        day,
-    }))
+    let published = values_of(alloc, matches, "after")?;
+    Ok(text_over(matches, file, published))
 }
 
 /// The work on the plan of a book.

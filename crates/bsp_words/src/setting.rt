@@ -2,6 +2,7 @@
 
 ghost use Rattle.std.specs.Prelude.{◌≡◌, IfOk, codes, length, map, option_and_then, option_map};
 ghost use Rattle.clap.specs.Words.{first_of, found_of, rows_of};
+ghost use Rattle.bsp_words.specs.Order.{in_order, marks_in};
 ghost use Rattle.bsp_words.specs.CommandLine.{agent_of, all_read, day_of, earlier_in, first_number, is_range, judge_work, last_number, lists_in, lists_of, period_of, range_of, read_if_any, setting_from, setting_in, setting_of, texts_in, values_in, work_of};
 
 use crate::order::{in_order, marks_in};
@@ -128,6 +129,30 @@ fn stock_given(alloc: Global, matches: &ArgMatches<'_>) -> Result<Option<Vec<Ran
     ranges_in(alloc, &texts)
 }
 
+/// The periods that were closed; none where one is out of its form.
+fn closed_given(
+    alloc: Global,
+    matches: &ArgMatches<'_>,
+) -> Result<Option<Vec<PeriodCode>>, AllocError>
+    ensures { IfOk result (λ periods. option_map (λ p. p.items) periods
+        ≡ all_read period_of (values_in (codes "closed") (rows_of (found_of matches.now)))) }
+{
+    let texts = values_of(alloc, matches, "closed")?;
+    periods_in(alloc, &texts)
+}
+
+/// The files and these closes in the order of the words.
+fn earlier_with<S: AsStr>(
+    alloc: Global,
+    words: &[S],
+    closed: &[PeriodCode],
+) -> Result<Vec<Earlier>, AllocError>
+    ensures { IfOk result (λ earlier. earlier.items ≡ in_order (marks_in (map S.text words.now)) closed.now) }
+{
+    let marks = marks_in(alloc, words)?;
+    in_order(alloc, &marks, closed)
+}
+
 /// The files and the closes in the order of the words; none where a period is out of its form.
 fn earlier_given<S: AsStr>(
     alloc: Global,
@@ -136,12 +161,10 @@ fn earlier_given<S: AsStr>(
 ) -> Result<Option<Vec<Earlier>>, AllocError>
     ensures { IfOk result (λ earlier. option_map (λ e. e.items) earlier ≡ earlier_in (map S.text words.now) (rows_of (found_of matches.now))) }
 {
-    let texts = values_of(alloc, matches, "closed")?;
-    let Some(closed) = periods_in(alloc, &texts)? else {
+    let Some(closed) = closed_given(alloc, matches)? else {
         return Ok(None);
     };
-    let marks = marks_in(alloc, words)?;
-    let earlier = in_order(alloc, &marks, &closed)?;
+    let earlier = earlier_with(alloc, words, &closed)?;
     Ok(Some(earlier))
 }
 

@@ -1,11 +1,11 @@
 //! From the words of a command line to the work that they ask for.
 //!
 //! A further command is a row of a table of `commands.rt`, a variant of [`Work`], and a function that makes its work of the values
-//! found. It also has a row in `work_in`.
+//! found. It also has a row in `work_in` or `single_in`.
 
 ghost use Rattle.std.specs.Prelude.{◌≡◌, IfOk, IfErr, [], map, option_map};
 ghost use Rattle.clap.specs.Words.{HasKind, fault_of, found_of, rows_of, subcommand_of, subcommand_rows_of};
-ghost use Rattle.bsp_words.specs.CommandLine.{AnswersWords, asked_book, asked_token, audit_work, body_work, book_of, check_work, explain_work, hotcheck_work, limits_in, office, run_work, serve_work, token_of, trial_in, work_from, work_in, work_of};
+ghost use Rattle.bsp_words.specs.CommandLine.{AnswersWords, asked_book, asked_token, audit_work, body_work, book_of, check_work, explain_work, hotcheck_work, limits_in, office, run_work, serve_work, single_in, token_of, work_from, work_in, work_of};
 
 use crate::command_line::office_command;
 use crate::plan::{plan_given, plan_misfit};
@@ -325,22 +325,20 @@ fn serve_given<'a>(matches: &ArgMatches<'a>) -> Option<Work<'a>>
     })
 }
 
-/// The work of a command on files that need no office.
-#[tactic(auto, unfolding(crate::specs::CommandLine::trial_in))]
-fn trial_given<'a, S: AsStr>(
-    alloc: Global,
-    words: &[S],
-    name: &str,
-    matches: &ArgMatches<'a>,
-) -> Result<Option<Work<'a>>, AllocError>
-    ensures { IfOk result (λ work. option_map work_of work ≡ trial_in (map S.text words.now) name.now (rows_of (found_of matches.now))) }
+/// The work of a command whose values make no list.
+#[tactic(auto, unfolding(crate::specs::CommandLine::single_in))]
+fn single_given<'a>(name: &str, matches: &ArgMatches<'a>) -> Option<Work<'a>>
+    ensures { option_map work_of result ≡ single_in name.now (rows_of (found_of matches.now)) }
 {
     match name {
-        "judge" => judge_given(alloc, words, matches),
-        "plan" => plan_given(alloc, matches),
-        "body" => Ok(body_given(matches)),
-        "explain" => Ok(explain_given(matches)),
-        _ => Ok(None),
+        "check" => check_given(matches),
+        "hotcheck" => hotcheck_given(matches),
+        "audit" => audit_given(matches),
+        "run" => run_given(matches),
+        "serve" => serve_given(matches),
+        "body" => body_given(matches),
+        "explain" => explain_given(matches),
+        _ => None,
     }
 }
 
@@ -354,12 +352,9 @@ fn work_given<'a, S: AsStr>(
     ensures { IfOk result (λ work. option_map work_of work ≡ work_in (map S.text words.now) name.now (rows_of (found_of matches.now))) }
 {
     match name {
-        "check" => Ok(check_given(matches)),
-        "hotcheck" => Ok(hotcheck_given(matches)),
-        "audit" => Ok(audit_given(matches)),
-        "run" => Ok(run_given(matches)),
-        "serve" => Ok(serve_given(matches)),
-        _ => trial_given(alloc, words, name, matches),
+        "judge" => judge_given(alloc, words, matches),
+        "plan" => plan_given(alloc, matches),
+        _ => Ok(single_given(name, matches)),
     }
 }
 
