@@ -6,10 +6,27 @@ use Rattle.std.proofs.lemmas.List.{at_drop_more, map_push, take_more}
 use Rattle.std.proofs.lemmas.List.Elements.{filter_map-append}
 use Rattle.clap.specs.Words.{Text}
 use Rattle.bsp_words.specs.CommandLine.{all_read, texts_in}
+use Rattle.bsp_words.specs.Order.{as_list, in_order}
+use Rattle.bsp_words.specs.declared.order.Mark.{Mark}
+use Rattle.bsp_words.specs.declared.work.Earlier.{Earlier}
+
+found_one : {Y Z : Type 0} (h : Y → Option Z) (y : Y) (o : Option Z) → h y ≡ o → filter_map h (y ∷ []) ≡ as_list (h y)
+found_one h y None is = rw is refl
+found_one h y (Some z) is = rw is refl
 
 -- what is found of the items before a place, and of the one there
-pub found_more : {X Y Z : Type 0} (h : Y → Option Z) (f : X → Y) (xs : List X) (i : ℕ) (d : X) (found : List Z) → i < length xs → found ≡ filter_map h (map f (take i xs)) → filter_map h (map f (take (i + 1) xs)) ≡ found ++ filter_map h (f (get_or xs i d) ∷ [])
-found_more h f xs i d found within was = rw (take_more xs i d within, map_push, filter_map-append, was) refl
+pub found_more : {X Y Z : Type 0} (h : Y → Option Z) (f : X → Y) (xs : List X) (i : ℕ) (d : X) (found now : List Z) → i < length xs → found ≡ filter_map h (map f (take i xs)) → now ≡ found ++ as_list (h (f (get_or xs i d))) → now ≡ filter_map h (map f (take (i + 1) xs))
+found_more h f xs i d found now within was is =
+    is ∙ ap (λ l. found ++ l) (sym (found_one h (f (get_or xs i d)) (h (f (get_or xs i d))) refl)) ∙ sym (rw (take_more xs i d within, map_push, filter_map-append, was) refl)
+
+-- what comes of the marks before a place, and of the one there
+pub step_more : (marks : List Mark) (closed : List ℕ) (i taken later : ℕ) (d : Mark) (whole earlier now : List Earlier) (next : Option Earlier) → i < length marks → whole ≡ earlier ++ in_order (drop i marks) (drop taken closed) → ((rest : List Mark) → in_order (get_or marks i d ∷ rest) (drop taken closed) ≡ as_list next ++ in_order rest (drop later closed)) → now ≡ earlier ++ as_list next → whole ≡ now ++ in_order (drop (i + 1) marks) (drop later closed)
+step_more marks closed i taken later d whole earlier now next within was step pushed =
+    was
+    ∙ at_drop_more (λ l. earlier ++ in_order l (drop taken closed)) marks i d within
+    ∙ ap (λ l. earlier ++ l) (step (drop (i + 1) marks))
+    ∙ sym (append_assoc earlier (as_list next) (in_order (drop (i + 1) marks) (drop later closed)))
+    ∙ ap (λ l. l ++ in_order (drop (i + 1) marks) (drop later closed)) (sym pushed)
 
 -- the values that are read before a place, and what is read behind it
 pub read_one : {X : Type 0} (read : Text → Option X) (items : List X) (text : Bor Text) (x : X) (rest : List (Bor Text)) (whole : Option (List X)) → Some x ≡ read text.now → whole ≡ option_map (λ xs. items ++ xs) (all_read read (texts_in (text ∷ rest))) → whole ≡ option_map (λ xs. (items ++ x ∷ []) ++ xs) (all_read read (texts_in rest))

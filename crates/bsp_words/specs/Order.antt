@@ -29,6 +29,6 @@ in_order (File ∷ marks) periods = earlier.File ∷ in_order marks periods
 in_order (Closed ∷ marks) [] = in_order marks []
 in_order (Closed ∷ marks) (p ∷ periods) = earlier.Closed p ∷ in_order marks periods
 
-abbrev pub as_list : Option Earlier → List Earlier
+abbrev pub as_list : {X : Type 0} → Option X → List X
 as_list None = []
-as_list (Some step) = step ∷ []
+as_list (Some x) = x ∷ []

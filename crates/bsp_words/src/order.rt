@@ -35,15 +35,24 @@ fn mark_of(word: &[u8]) -> Option<Mark>
     }
 }
 
+/// Adds an item, if there is one.
+fn push_some<T: Drop>(items: &mut Vec<T>, item: Option<T>) -> Result<(), AllocError>
+    ensures { OnOk result (items.new.items ≡ items.old.items ++ as_list item) }
+{
+    let Some(item) = item else {
+        return Ok(());
+    };
+    items.push(item)?;
+    Ok(())
+}
+
 /// The options among the words, in their order.
 pub(crate) fn marks_in<S: AsStr>(alloc: Global, words: &[S]) -> Result<Vec<Mark>, AllocError>
     ensures { IfOk result (λ marks. marks.items ≡ marks_in (map S.text words.now)) }
 {
     let mut marks = Vec::new(alloc);
     for word in words {
-        if let Some(mark) = mark_of(word.as_str().as_bytes()) {
-            marks.push(mark)?;
-        }
+        push_some(&mut marks, mark_of(word.as_str().as_bytes()))?;
     }
     Ok(marks)
 }
@@ -61,17 +70,6 @@ fn next_of(closed: &[PeriodCode], taken: usize, mark: Mark) -> (Option<Earlier>,
     }
 }
 
-/// Adds what comes next, if anything does.
-fn push_next(earlier: &mut Vec<Earlier>, next: Option<Earlier>) -> Result<(), AllocError>
-    ensures { OnOk result (earlier.new.items ≡ earlier.old.items ++ as_list next) }
-{
-    let Some(step) = next else {
-        return Ok(());
-    };
-    earlier.push(step)?;
-    Ok(())
-}
-
 /// The files and the periods in the order of the words.
 pub(crate) fn in_order(
     alloc: Global,
@@ -84,7 +82,7 @@ pub(crate) fn in_order(
     let mut earlier = Vec::new(alloc);
     for mark in marks {
         let (next, now_taken) = next_of(closed, taken, *mark);
-        push_next(&mut earlier, next)?;
+        push_some(&mut earlier, next)?;
         taken = now_taken;
     }
     Ok(earlier)
