@@ -2,8 +2,8 @@
 
 use crate::entry::Row;
 
-/// The codes `F`.
-pub(crate) const FILES: [Row; 10] = [
+/// The codes `F01` to `F03`.
+pub(crate) const F01_TO_F03: [Row; 3] = [
     (
         "F01",
         "422",
@@ -34,6 +34,10 @@ pub(crate) const FILES: [Row; 10] = [
             "A second record 3 is in a file of profile 001: write `002` in columns 28 to 30 of the header",
         ],
     ),
+];
+
+/// The codes `F04` and `F05`.
+pub(crate) const F04_TO_F05: [Row; 2] = [
     (
         "F04",
         "422",
@@ -59,6 +63,10 @@ pub(crate) const FILES: [Row; 10] = [
             "A column that no field uses is not a space, or the second record 3 does not come after the first by airline and document",
         ],
     ),
+];
+
+/// The codes `F06` to `F10`.
+pub(crate) const F06_TO_F10: [Row; 5] = [
     (
         "F06",
         "422",

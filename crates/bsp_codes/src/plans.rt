@@ -2,8 +2,8 @@
 
 use crate::entry::Row;
 
-/// The codes `P`.
-pub(crate) const PLANS: [Row; 9] = [
+/// The codes `P01` and `P02`.
+pub(crate) const P01_TO_P02: [Row; 2] = [
     (
         "P01",
         "400",
@@ -29,6 +29,10 @@ pub(crate) const PLANS: [Row; 9] = [
             "No other key is allowed, nor one of these in other letters",
         ],
     ),
+];
+
+/// The codes `P03` to `P09`.
+pub(crate) const P03_TO_P09: [Row; 7] = [
     (
         "P03",
         "409",

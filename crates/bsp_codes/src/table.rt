@@ -8,22 +8,38 @@ ghost use Rattle.bsp_codes.specs.Table.{entry_named, said_by, said_in, table};
 
 use crate::books::BOOKS;
 use crate::entry::{Entry, Row};
-use crate::files::FILES;
+use crate::files::{F01_TO_F03, F04_TO_F05, F06_TO_F10};
 use crate::memos::MEMOS;
-use crate::plans::PLANS;
+use crate::plans::{P01_TO_P02, P03_TO_P09};
 use crate::reports::{DOCUMENTS, HOT_FILES, PERIODS};
-use crate::requests::{HEADS, REQUESTS};
+use crate::requests::{HEADS, N01_TO_N03, N04, N05_TO_N06};
 use crate::stocks::STOCKS;
-use crate::verdicts::VERDICTS;
+use crate::verdicts::{E01_TO_E06, E07_TO_E09, E10_TO_E12};
 
 #[tactic(auto, unfolding(crate::specs::Table::table))]
-/// The table, a part for each letter.
-pub(crate) fn parts() -> [&'static [Row]; 11]
+/// The table in its parts.
+pub(crate) fn parts() -> [&'static [Row]; 18]
     ensures { flat_map (λ part. map said_in part.now) result ≡ table }
 {
     [
-        &REQUESTS, &HEADS, &FILES, &VERDICTS, &PLANS, &STOCKS, &MEMOS, &DOCUMENTS, &PERIODS,
-        &HOT_FILES, &BOOKS,
+        &N01_TO_N03,
+        &N04,
+        &N05_TO_N06,
+        &HEADS,
+        &F01_TO_F03,
+        &F04_TO_F05,
+        &F06_TO_F10,
+        &E01_TO_E06,
+        &E07_TO_E09,
+        &E10_TO_E12,
+        &P01_TO_P02,
+        &P03_TO_P09,
+        &STOCKS,
+        &MEMOS,
+        &DOCUMENTS,
+        &PERIODS,
+        &HOT_FILES,
+        &BOOKS,
     ]
 }
 

@@ -2,8 +2,8 @@
 
 use crate::entry::Row;
 
-/// The codes `E`.
-pub(crate) const VERDICTS: [Row; 12] = [
+/// The codes `E01` to `E06`.
+pub(crate) const E01_TO_E06: [Row; 6] = [
     (
         "E01",
         "",
@@ -46,6 +46,10 @@ pub(crate) const VERDICTS: [Row; 12] = [
         "Take another number. To correct a sale report a CANX of its number, and then the sale with a new number",
         &[],
     ),
+];
+
+/// The codes `E07` to `E09`.
+pub(crate) const E07_TO_E09: [Row; 3] = [
     (
         "E07",
         "",
@@ -74,6 +78,10 @@ pub(crate) const VERDICTS: [Row; 12] = [
         "A ticket is given back once. To take back a refund or an exchange report a CANX of its number. After the close report a refund in place of the CANX",
         &[],
     ),
+];
+
+/// The codes `E10` to `E12`.
+pub(crate) const E10_TO_E12: [Row; 3] = [
     (
         "E10",
         "",
