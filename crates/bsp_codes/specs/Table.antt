@@ -6,8 +6,8 @@ use Rattle.std.specs.Str.{bytes_eq}
 use Rattle.bsp_codes.specs.declared.books.TheConstants.{BOOKS}
 use Rattle.bsp_codes.specs.declared.entry.Entry.{Entry}
 use Rattle.bsp_codes.specs.declared.files.TheConstants.{F01_TO_F03, F04_TO_F05, F06_TO_F10}
-use Rattle.bsp_codes.specs.declared.memos.TheConstants.{MEMOS}
-use Rattle.bsp_codes.specs.declared.plans.TheConstants.{P01_TO_P02, P03_TO_P09}
+use Rattle.bsp_codes.specs.declared.memos.TheConstants.{M01_TO_M04, M05_TO_M08}
+use Rattle.bsp_codes.specs.declared.plans.TheConstants.{P01_TO_P02, P03_TO_P05, P06_TO_P09}
 use Rattle.bsp_codes.specs.declared.reports.TheConstants.{DOCUMENTS, HOT_FILES, PERIODS}
 use Rattle.bsp_codes.specs.declared.requests.TheConstants.{HEADS, N01_TO_N03, N04, N05_TO_N06}
 use Rattle.bsp_codes.specs.declared.stocks.TheConstants.{STOCKS}
@@ -43,7 +43,7 @@ unfoldable pub table : List Said
 table =
     map
     said_at
-    (N01_TO_N03 ++ (N04 ++ (N05_TO_N06 ++ (HEADS ++ (F01_TO_F03 ++ (F04_TO_F05 ++ (F06_TO_F10 ++ (E01_TO_E06 ++ (E07_TO_E09 ++ (E10_TO_E12 ++ (P01_TO_P02 ++ (P03_TO_P09 ++ (STOCKS ++ (MEMOS ++ (DOCUMENTS ++ (PERIODS ++ (HOT_FILES ++ BOOKS)))))))))))))))))
+    (N01_TO_N03 ++ (N04 ++ (N05_TO_N06 ++ (HEADS ++ (F01_TO_F03 ++ (F04_TO_F05 ++ (F06_TO_F10 ++ (E01_TO_E06 ++ (E07_TO_E09 ++ (E10_TO_E12 ++ (P01_TO_P02 ++ (P03_TO_P05 ++ (P06_TO_P09 ++ (STOCKS ++ (M01_TO_M04 ++ (M05_TO_M08 ++ (DOCUMENTS ++ (PERIODS ++ (HOT_FILES ++ BOOKS)))))))))))))))))))
 
 -- what is said of the code, if it is one
 abbrev pub entry_named : List ℕ → Option Said

@@ -2,8 +2,8 @@
 
 use crate::entry::Row;
 
-/// The codes `M`.
-pub(crate) const MEMOS: [Row; 8] = [
+/// The codes `M01` to `M04`.
+pub(crate) const M01_TO_M04: [Row; 4] = [
     (
         "M01",
         "404",
@@ -32,6 +32,10 @@ pub(crate) const MEMOS: [Row; 8] = [
         "Send the amount that is left, below the old one. To take all of it back withdraw the memo",
         &[],
     ),
+];
+
+/// The codes `M05` to `M08`.
+pub(crate) const M05_TO_M08: [Row; 4] = [
     (
         "M05",
         "409",

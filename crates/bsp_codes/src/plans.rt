@@ -31,8 +31,8 @@ pub(crate) const P01_TO_P02: [Row; 2] = [
     ),
 ];
 
-/// The codes `P03` to `P09`.
-pub(crate) const P03_TO_P09: [Row; 7] = [
+/// The codes `P03` to `P05`.
+pub(crate) const P03_TO_P05: [Row; 3] = [
     (
         "P03",
         "409",
@@ -54,6 +54,10 @@ pub(crate) const P03_TO_P09: [Row; 7] = [
         "Let it begin on a day after the business day: `bsp_office plan --day DAY FILE` names each that does not",
         &[],
     ),
+];
+
+/// The codes `P06` to `P09`.
+pub(crate) const P06_TO_P09: [Row; 4] = [
     (
         "P06",
         "409",

@@ -9,8 +9,8 @@ ghost use Rattle.bsp_codes.specs.Table.{entry_named, said_by, said_in, table};
 use crate::books::BOOKS;
 use crate::entry::{Entry, Row};
 use crate::files::{F01_TO_F03, F04_TO_F05, F06_TO_F10};
-use crate::memos::MEMOS;
-use crate::plans::{P01_TO_P02, P03_TO_P09};
+use crate::memos::{M01_TO_M04, M05_TO_M08};
+use crate::plans::{P01_TO_P02, P03_TO_P05, P06_TO_P09};
 use crate::reports::{DOCUMENTS, HOT_FILES, PERIODS};
 use crate::requests::{HEADS, N01_TO_N03, N04, N05_TO_N06};
 use crate::stocks::STOCKS;
@@ -18,7 +18,7 @@ use crate::verdicts::{E01_TO_E06, E07_TO_E09, E10_TO_E12};
 
 #[tactic(auto, unfolding(crate::specs::Table::table))]
 /// The table in its parts.
-pub(crate) fn parts() -> [&'static [Row]; 18]
+pub(crate) fn parts() -> [&'static [Row]; 20]
     ensures { flat_map (λ part. map said_in part.now) result ≡ table }
 {
     [
@@ -33,9 +33,11 @@ pub(crate) fn parts() -> [&'static [Row]; 18]
         &E07_TO_E09,
         &E10_TO_E12,
         &P01_TO_P02,
-        &P03_TO_P09,
+        &P03_TO_P05,
+        &P06_TO_P09,
         &STOCKS,
-        &MEMOS,
+        &M01_TO_M04,
+        &M05_TO_M08,
         &DOCUMENTS,
         &PERIODS,
         &HOT_FILES,
