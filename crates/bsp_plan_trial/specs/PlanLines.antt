@@ -11,6 +11,7 @@ use Rattle.bsp_calendar.specs.declared.entries.CommissionTax.{CommissionTax}
 use Rattle.bsp_calendar.specs.declared.entries.Period.{Period}
 use Rattle.bsp_calendar.specs.declared.entries.Rate.{Rate}
 use Rattle.bsp_calendar.specs.declared.entries.Terms.{Terms}
+use Rattle.bsp_plan_trial.specs.declared.plan_lines.Counts.{Counts}
 
 abbrev pub change_line : Change → List ℕ
 change_line Done = codes "done\n"
@@ -41,13 +42,26 @@ period_line q =
 unfoldable pub tax_line : CommissionTax → List ℕ
 tax_line t = concat (codes "commission_tax from " ∷ day_text t.from ∷ codes " hundredths " ∷ decimal t.hundredths ∷ codes "\n" ∷ [])
 
--- the entries of a plan that are new beside those of the plan before
-unfoldable pub new_lines : Published → Published → List ℕ
-new_lines before p =
-    flat_map airline_line (drop (length before.airlines) p.airlines)
-    ++ (flat_map rate_line (drop (length before.rates) p.rates)
-    ++ (flat_map period_line (drop (length before.periods) p.periods)
-    ++ flat_map tax_line (drop (length before.commission_taxes) p.commission_taxes)))
+-- how many entries of each kind a plan has
+abbrev pub counts_of : Published → Counts
+counts_of p = record {
+  airlines = length p.airlines;
+  rates = length p.rates;
+  periods = length p.periods;
+  commission_taxes = length p.commission_taxes;
+}
 
-unfoldable pub plan_lines : Change → Published → Published → List ℕ
-plan_lines change before p = change_line change ++ (terms_lines p.terms ++ new_lines before p)
+-- the entries of a plan behind those known
+unfoldable pub lines_beyond : Counts → Published → List ℕ
+lines_beyond known p =
+    flat_map airline_line (drop known.airlines p.airlines)
+    ++ (flat_map rate_line (drop known.rates p.rates)
+    ++ (flat_map period_line (drop known.periods p.periods)
+    ++ flat_map tax_line (drop known.commission_taxes p.commission_taxes)))
+
+unfoldable pub lines_of : Change → Counts → Published → List ℕ
+lines_of change known p = change_line change ++ (terms_lines p.terms ++ lines_beyond known p)
+
+-- with each entry that is new beside those of the plan before
+abbrev pub plan_lines : Change → Published → Published → List ℕ
+plan_lines change before p = lines_of change (counts_of before) p

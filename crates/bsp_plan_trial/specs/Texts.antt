@@ -1,5 +1,5 @@
 -- What the text of a plan says.
-use Rattle.std.specs.Prelude.{◌≡◌, ℕ, ◌≤◌, List, [], ◌∷◌, codes, Option, Some, Ok, pos}
+use Rattle.std.specs.Prelude.{◌≡◌, ℕ, ◌≤◌, List, [], codes, Option, Some, Ok, pos}
 use Rattle.std.specs.Cmp.Lexicographic.{slice_cmp}
 use Rattle.std.specs.Ordering.{nat_cmp, match_ordering}
 use Rattle.toml.specs.Data.{Data, integer, array, Items, Members, no_members, member, depth, items_depth, members_depth}

@@ -1,14 +1,35 @@
 //! What a plan text publishes, a line for each entry.
 
-ghost use Rattle.std.specs.Prelude.{◌≡◌, ◌++◌, IfOk, OnOk, drop, length};
+ghost use Rattle.std.specs.Prelude.{◌≡◌, ◌++◌, IfOk, OnOk, drop};
 ghost use Rattle.std.specs.List.{flat_map};
-ghost use Rattle.bsp_plan_trial.specs.PlanLines.{airline_line, change_line, new_lines, period_line, plan_lines, rate_line, tax_line, terms_line, terms_lines};
+ghost use Rattle.bsp_plan_trial.specs.PlanLines.{change_line, counts_of, lines_beyond, lines_of, terms_line, terms_lines};
 
 use crate::lines::push_fields;
 use bsp_calendar::{CommissionTax, Period, Plan, Rate, Terms};
 use bsp_fields::{AirlineCode, Change};
 use itoa::Buffer;
 use std::alloc::{AllocError, Global};
+
+/// How many entries of each kind a plan has.
+#[derive(Clone, Copy)]
+pub(crate) struct Counts {
+    airlines: usize,
+    rates: usize,
+    periods: usize,
+    commission_taxes: usize,
+}
+
+/// An entry of a plan, which has a line.
+trait Lined {
+    ghost use Rattle.std.specs.Prelude.{◌≡◌, ◌++◌, List, OnOk, ℕ};
+
+    // Its line.
+    ghost line: { Self → List ℕ };
+
+    /// Appends its line.
+    fn push_line(&self, text: &mut Vec<u8>) -> Result<(), AllocError>
+        ensures { OnOk result (text.new.items ≡ text.old.items ++ line self.now) };
+}
 
 /// Whether the text changes the plan.
 fn change_line(change: Change) -> &'static [u8]
@@ -37,98 +58,78 @@ fn push_terms(text: &mut Vec<u8>, terms: &Terms) -> Result<(), AllocError>
     push_fields(text, &fields)
 }
 
-#[tactic(auto, unfolding(crate::specs::PlanLines::airline_line))]
-fn push_airline(text: &mut Vec<u8>, airline: AirlineCode) -> Result<(), AllocError>
-    ensures { OnOk result (text.new.items ≡ text.old.items ++ airline_line airline) }
-{
-    let fields: [&[u8]; 3] = [b"airline ", &airline.digits(), b"\n"];
-    push_fields(text, &fields)
-}
+impl Lined for AirlineCode {
+    ghost use Rattle.bsp_plan_trial.specs.PlanLines.{airline_line};
 
-#[tactic(auto, unfolding(crate::specs::PlanLines::rate_line))]
-fn push_rate(text: &mut Vec<u8>, rate: &Rate) -> Result<(), AllocError>
-    ensures { OnOk result (text.new.items ≡ text.old.items ++ rate_line rate.now) }
-{
-    let mut hundredths = Buffer::new();
-    let fields: [&[u8]; 7] = [
-        b"rate ",
-        &rate.airline.digits(),
-        b" from ",
-        &rate.from.write_text(),
-        b" hundredths ",
-        hundredths.format(rate.hundredths).as_bytes(),
-        b"\n",
-    ];
-    push_fields(text, &fields)
-}
+    ghost line = { airline_line };
 
-#[tactic(auto, unfolding(crate::specs::PlanLines::period_line))]
-fn push_period(text: &mut Vec<u8>, period: &Period) -> Result<(), AllocError>
-    ensures { OnOk result (text.new.items ≡ text.old.items ++ period_line period.now) }
-{
-    let fields: [&[u8]; 9] = [
-        b"period ",
-        &period.code.digits(),
-        b" first ",
-        &period.first.write_text(),
-        b" last ",
-        &period.last.write_text(),
-        b" remit ",
-        &period.remittance.write_text(),
-        b"\n",
-    ];
-    push_fields(text, &fields)
-}
-
-#[tactic(auto, unfolding(crate::specs::PlanLines::tax_line))]
-fn push_tax(text: &mut Vec<u8>, tax: &CommissionTax) -> Result<(), AllocError>
-    ensures { OnOk result (text.new.items ≡ text.old.items ++ tax_line tax.now) }
-{
-    let mut hundredths = Buffer::new();
-    let fields: [&[u8]; 5] = [
-        b"commission_tax from ",
-        &tax.from.write_text(),
-        b" hundredths ",
-        hundredths.format(tax.hundredths).as_bytes(),
-        b"\n",
-    ];
-    push_fields(text, &fields)
-}
-
-fn push_airlines(text: &mut Vec<u8>, airlines: &[AirlineCode]) -> Result<(), AllocError>
-    ensures { OnOk result (text.new.items ≡ text.old.items ++ flat_map airline_line airlines.now) }
-{
-    for airline in airlines {
-        push_airline(text, *airline)?;
+    #[tactic(auto, unfolding(crate::specs::PlanLines::airline_line))]
+    fn push_line(&self, text: &mut Vec<u8>) -> Result<(), AllocError> {
+        let fields: [&[u8]; 3] = [b"airline ", &self.digits(), b"\n"];
+        push_fields(text, &fields)
     }
-    Ok(())
 }
 
-fn push_rates(text: &mut Vec<u8>, rates: &[Rate]) -> Result<(), AllocError>
-    ensures { OnOk result (text.new.items ≡ text.old.items ++ flat_map rate_line rates.now) }
-{
-    for rate in rates {
-        push_rate(text, rate)?;
+impl Lined for Rate {
+    ghost use Rattle.bsp_plan_trial.specs.PlanLines.{rate_line};
+
+    ghost line = { rate_line };
+
+    #[tactic(auto, unfolding(crate::specs::PlanLines::rate_line))]
+    fn push_line(&self, text: &mut Vec<u8>) -> Result<(), AllocError> {
+        let mut hundredths = Buffer::new();
+        let fields: [&[u8]; 7] = [
+            b"rate ",
+            &self.airline.digits(),
+            b" from ",
+            &self.from.write_text(),
+            b" hundredths ",
+            hundredths.format(self.hundredths).as_bytes(),
+            b"\n",
+        ];
+        push_fields(text, &fields)
     }
-    Ok(())
 }
 
-fn push_periods(text: &mut Vec<u8>, periods: &[Period]) -> Result<(), AllocError>
-    ensures { OnOk result (text.new.items ≡ text.old.items ++ flat_map period_line periods.now) }
-{
-    for period in periods {
-        push_period(text, period)?;
+impl Lined for Period {
+    ghost use Rattle.bsp_plan_trial.specs.PlanLines.{period_line};
+
+    ghost line = { period_line };
+
+    #[tactic(auto, unfolding(crate::specs::PlanLines::period_line))]
+    fn push_line(&self, text: &mut Vec<u8>) -> Result<(), AllocError> {
+        let fields: [&[u8]; 9] = [
+            b"period ",
+            &self.code.digits(),
+            b" first ",
+            &self.first.write_text(),
+            b" last ",
+            &self.last.write_text(),
+            b" remit ",
+            &self.remittance.write_text(),
+            b"\n",
+        ];
+        push_fields(text, &fields)
     }
-    Ok(())
 }
 
-fn push_taxes(text: &mut Vec<u8>, taxes: &[CommissionTax]) -> Result<(), AllocError>
-    ensures { OnOk result (text.new.items ≡ text.old.items ++ flat_map tax_line taxes.now) }
-{
-    for tax in taxes {
-        push_tax(text, tax)?;
+impl Lined for CommissionTax {
+    ghost use Rattle.bsp_plan_trial.specs.PlanLines.{tax_line};
+
+    ghost line = { tax_line };
+
+    #[tactic(auto, unfolding(crate::specs::PlanLines::tax_line))]
+    fn push_line(&self, text: &mut Vec<u8>) -> Result<(), AllocError> {
+        let mut hundredths = Buffer::new();
+        let fields: [&[u8]; 5] = [
+            b"commission_tax from ",
+            &self.from.write_text(),
+            b" hundredths ",
+            hundredths.format(self.hundredths).as_bytes(),
+            b"\n",
+        ];
+        push_fields(text, &fields)
     }
-    Ok(())
 }
 
 /// The items of a list behind so many.
@@ -139,28 +140,15 @@ fn beyond<T>(items: &[T], known: usize) -> &[T]
     &items[from..]
 }
 
-fn new_airlines<'p>(before: &Plan, plan: &'p Plan) -> &'p [AirlineCode]
-    ensures { result.now ≡ drop (length before.now.airlines) plan.now.airlines }
+/// Appends the lines of the entries of a list behind so many.
+fn push_beyond<E: Lined>(text: &mut Vec<u8>, entries: &[E], known: usize) -> Result<(), AllocError>
+    ensures { OnOk result (text.new.items ≡ text.old.items ++ flat_map E.line (drop known entries.now)) }
 {
-    beyond(plan.airlines(), before.airlines().len())
-}
-
-fn new_rates<'p>(before: &Plan, plan: &'p Plan) -> &'p [Rate]
-    ensures { result.now ≡ drop (length before.now.rates) plan.now.rates }
-{
-    beyond(plan.rates(), before.rates().len())
-}
-
-fn new_periods<'p>(before: &Plan, plan: &'p Plan) -> &'p [Period]
-    ensures { result.now ≡ drop (length before.now.periods) plan.now.periods }
-{
-    beyond(plan.periods(), before.periods().len())
-}
-
-fn new_taxes<'p>(before: &Plan, plan: &'p Plan) -> &'p [CommissionTax]
-    ensures { result.now ≡ drop (length before.now.commission_taxes) plan.now.commission_taxes }
-{
-    beyond(plan.commission_taxes(), before.commission_taxes().len())
+    let behind = beyond(entries, known);
+    for entry in behind {
+        entry.push_line(text)?;
+    }
+    Ok(())
 }
 
 /// Appends the terms of a plan, where it has some.
@@ -173,27 +161,40 @@ fn push_known_terms(text: &mut Vec<u8>, plan: &Plan) -> Result<(), AllocError>
     }
 }
 
-/// Appends the entries of a plan that are new beside those of the plan before.
-fn push_new(text: &mut Vec<u8>, before: &Plan, plan: &Plan) -> Result<(), AllocError>
-    ensures { OnOk result (text.new.items ≡ text.old.items ++ new_lines before.now plan.now) }
+/// Appends the entries of a plan behind those known.
+fn push_new(text: &mut Vec<u8>, known: Counts, plan: &Plan) -> Result<(), AllocError>
+    ensures { OnOk result (text.new.items ≡ text.old.items ++ lines_beyond known plan.now) }
 {
-    push_airlines(text, new_airlines(before, plan))?;
-    push_rates(text, new_rates(before, plan))?;
-    push_periods(text, new_periods(before, plan))?;
-    push_taxes(text, new_taxes(before, plan))
+    push_beyond(text, plan.airlines(), known.airlines)?;
+    push_beyond(text, plan.rates(), known.rates)?;
+    push_beyond(text, plan.periods(), known.periods)?;
+    push_beyond(text, plan.commission_taxes(), known.commission_taxes)
 }
 
-/// What was published between two states of a plan: whether it changed, its terms, and each new entry in its order.
+/// How many entries of each kind a plan has.
+pub(crate) fn counts_of(plan: &Plan) -> Counts
+    ensures { result ≡ counts_of plan.now }
+{
+    Counts {
+        airlines: plan.airlines().len(),
+        rates: plan.rates().len(),
+        periods: plan.periods().len(),
+        commission_taxes: plan.commission_taxes().len(),
+    }
+}
+
+/// What was published since so many entries of a plan were known: whether it changed, its terms, and each new entry in
+/// its order.
 pub(crate) fn plan_lines(
     alloc: Global,
     change: Change,
-    before: &Plan,
+    known: Counts,
     plan: &Plan,
 ) -> Result<Vec<u8>, AllocError>
-    ensures { IfOk result (λ text. text.items ≡ plan_lines change before.now plan.now) }
+    ensures { IfOk result (λ text. text.items ≡ lines_of change known plan.now) }
 {
     let mut text = Vec::from_slice(alloc, change_line(change))?;
     push_known_terms(&mut text, plan)?;
-    push_new(&mut text, before, plan)?;
+    push_new(&mut text, known, plan)?;
     Ok(text)
 }

@@ -5,7 +5,7 @@ ghost use Rattle.std.specs.List.{FoldsTo};
 ghost use Rattle.bsp_calendar.specs.Published.{Published, opening};
 ghost use Rattle.bsp_plan_trial.specs.Plans.{IsOnDay, IsPublished, IsReady, IsRefused, IsRefusedBefore, IsReported, IsTried, IsStopped, code_of, texts_of};
 
-use crate::plan_lines::plan_lines;
+use crate::plan_lines::{counts_of, plan_lines};
 use bsp_calendar::{Plan, PlanFault, read_plan};
 use bsp_fields::{Change, Day};
 use std::alloc::Global;
@@ -110,16 +110,26 @@ pub fn plan_before(
 fn report_on(alloc: Global, plan: &mut Plan, text: &[u8]) -> Result<Vec<u8>, PlanFault>
     ensures { MatchResult result (λ lines. IsReported plan.old text.now lines.items) (IsStopped plan.old text.now) }
 {
-    let Ok(before) = plan.copied() else {
-        return Err(PlanFault::NoMemory);
-    };
-    let change = match publish(alloc, plan, text) {
-        Ok(change) => change,
-        Err(fault) => return Err(fault),
-    };
-    match plan_lines(alloc, change, &before, plan) {
+    let known = counts_of(plan);
+    let change = publish(alloc, plan, text)?;
+    match plan_lines(alloc, change, known, plan) {
         Ok(lines) => Ok(lines),
         Err(_) => Err(PlanFault::NoMemory),
+    }
+}
+
+/// What a text publishes over a plan of so many texts, as lines.
+fn report_after(
+    alloc: Global,
+    plan: &mut Plan,
+    place: usize,
+    text: &[u8],
+) -> Result<Vec<u8>, PlanRefused>
+    ensures { MatchResult result (λ lines. IsReported plan.old text.now lines.items) (λ refused. IsStopped plan.old text.now refused.fault × (refused.place ≡ place)) }
+{
+    match report_on(alloc, plan, text) {
+        Ok(lines) => Ok(lines),
+        Err(fault) => Err(PlanRefused { place, fault }),
     }
 }
 
@@ -140,15 +150,8 @@ pub fn try_plan(
     ensures { MatchResult result (λ lines. (plan : Published) × IsReady (texts_of published.now) day plan × IsReported plan text.now lines.items)
         (IsRefused (texts_of published.now) day text.now) }
 {
-    let mut plan = match plan_before(alloc, published, day) {
-        Ok(plan) => plan,
-        Err(refused) => return Err(refused),
-    };
-    match report_on(alloc, &mut plan, text) {
-        Ok(lines) => Ok(lines),
-        Err(fault) => Err(PlanRefused {
-            place: published.len(),
-            fault,
-        }),
+    match plan_before(alloc, published, day) {
+        Ok(mut plan) => report_after(alloc, &mut plan, published.len(), text),
+        Err(refused) => Err(refused),
     }
 }

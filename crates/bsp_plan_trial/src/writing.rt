@@ -45,10 +45,10 @@ fn put_terms(alloc: Global, table: &mut Table, terms: &Terms) -> Result<(), Allo
     ensures { OnOk result (PutsTerms terms.now (table_view table.old) (table_view table.new)) }
 {
     let currency = currency_value(alloc, terms.currency)?;
-    let review_days = number_value(terms.review_days as u32);
-    let documents_limit = number_value(terms.documents_limit);
     put(alloc, table, "currency", currency)?;
+    let review_days = number_value(terms.review_days as u32);
     put(alloc, table, "review_days", review_days)?;
+    let documents_limit = number_value(terms.documents_limit);
     put(alloc, table, "documents_limit", documents_limit)?;
     Ok(())
 }

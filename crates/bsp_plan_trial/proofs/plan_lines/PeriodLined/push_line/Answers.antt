@@ -1,5 +1,5 @@
 use Rattle.bsp_plan_trial.specs.PlanLines.{period_line}
-use Rattle.bsp_plan_trial.proofs.plan_lines.push_period.Goals as goal
+use Rattle.bsp_plan_trial.proofs.plan_lines.PeriodLined.push_line.Goals as goal
 
 pub returns : goal.returns
 unfolding period_line

@@ -1,5 +1,5 @@
 use Rattle.bsp_plan_trial.specs.PlanLines.{tax_line}
-use Rattle.bsp_plan_trial.proofs.plan_lines.push_tax.Goals as goal
+use Rattle.bsp_plan_trial.proofs.plan_lines.CommissionTaxLined.push_line.Goals as goal
 
 pub returns : goal.returns
 unfolding tax_line

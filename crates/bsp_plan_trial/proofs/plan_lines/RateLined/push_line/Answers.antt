@@ -1,5 +1,5 @@
 use Rattle.bsp_plan_trial.specs.PlanLines.{rate_line}
-use Rattle.bsp_plan_trial.proofs.plan_lines.push_rate.Goals as goal
+use Rattle.bsp_plan_trial.proofs.plan_lines.RateLined.push_line.Goals as goal
 
 pub returns : goal.returns
 unfolding rate_line
