@@ -673,13 +673,15 @@ def under_a_limit(*words):
 
 
 def test_an_input_for_which_there_is_no_memory():
-    ended = under_a_limit("hotcheck", "--list")
+    ended = under_a_limit("plan")
     assert (ended.returncode, ended.stderr) == (3, b"bsp_office: standard input: out of memory\n")
 
 
-@pytest.mark.parametrize("command, report", [("check", b"F01 record 1\n"), ("hotcheck", b"H04 record 1\n")])
-def test_an_input_that_is_larger_than_memory(command, report):
-    ended = under_a_limit(command)
+@pytest.mark.parametrize(
+    "words, report", [("check", b"F01 record 1\n"), ("hotcheck", b"H04 record 1\n"), ("hotcheck --list", b"H04 record 1\n")]
+)
+def test_an_input_that_is_larger_than_memory(words, report):
+    ended = under_a_limit(*words.split())
     assert (ended.returncode, ended.stdout) == (1, report)
     assert ended.stderr.startswith(b"bsp_office: standard input: record 1")
 

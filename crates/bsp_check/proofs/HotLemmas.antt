@@ -4,7 +4,6 @@ use Rattle.std.proofs.lemmas.List.{append-nil}
 use Rattle.std.proofs.Math.Seq.{drop-append_seam}
 use Rattle.std.specs.Io.KnownBytes.{Consumes, IsAtEnd}
 use Rattle.bsp_records.specs.Lines.{lines}
-use Rattle.bsp_records.proofs.RestLemmas.{some_bytes}
 use Rattle.bsp_hot_check.proofs.HotRecordsSizeLemmas.{no_small}
 use Rattle.bsp_hot_check.specs.declared.model.Standing.{Standing}
 use Rattle.bsp_hot_check.specs.Standings.{start, IsSmall}
@@ -15,9 +14,11 @@ use Rattle.bsp_hot_check.proofs.StateLemmas.{stands_nil, stands_line, stands_cou
 use Rattle.bsp_explain.specs.Lines.{IsLine}
 use Rattle.bsp_hot_explain.specs.declared.explanation.HotExplanation.{HotExplanation}
 use Rattle.bsp_hot_explain.specs.HotReasons.{SaysOfHot, record_name}
+use Rattle.bsp_hot_list.specs.Taken.{IsListOfFew}
+use Rattle.bsp_check.specs.declared.listing.Listing.{Listing}
 use Rattle.bsp_check.specs.Verdicts.{SaysOfHotFault}
-use Rattle.bsp_check.specs.Judging.{IsAfterFew, HasTakenMore, Explains, IsJudged}
-use Rattle.bsp_check.specs.HotJudging.{HasTakenHot, IsHotRefusal}
+use Rattle.bsp_check.specs.Judging.{IsAfterFew, HasTakenMore, IsJudged}
+use Rattle.bsp_check.specs.HotJudging.{HasListed, HasTakenHot, IsHotRefusal}
 
 -- what is said of the first of some lines
 abbrev pub NamesFirst : List (List ℕ) → HotExplanation → Type 0
@@ -71,9 +72,6 @@ says_of_missing bytes at e stands number first =
 
 -- ---- lines that are taken
 
-pub refused_some : (at : Standing) (text : List ℕ) → AreRefused at (lines text) → 0 < length text
-refused_some at text refused = some_bytes text (omega (arith, ap length refused.are))
-
 start_small : IsSmall start
 start_small = record {
   offices = omega arith;
@@ -99,10 +97,24 @@ answered_room at found limit a b is answer =
 pub taken_line : (at next : Standing) (line : List ℕ) → step_line at line ≡ Some next → IsSmall next → HasTakenMore HasTakenHot (line ∷ []) at next
 taken_line at next line step small = λ ls has. (stands_line start at next ls line has.0 step, small)
 
+-- ---- lines that are listed
+
+pub few_listed : (listing : Listing) → IsAfterFew HasListed listing → IsAfterFew HasTakenHot listing.at
+few_listed listing few = (few.0, few.1.0, few.2)
+
+pub list_few : (listing : Listing) → IsAfterFew HasListed listing → IsListOfFew listing.list
+list_few listing few = (few.0, few.1.1, few.2)
+
+pub listed_few : (ls : List (List ℕ)) (listing : Listing) (refused : Option HotExplanation) → IsJudged HasListed IsHotRefusal listing ls refused → refused ≡ None → IsAfterFew HasListed listing
+listed_few ls listing refused judged none =
+    let Judged : Option HotExplanation → Type 0 = λ o. IsJudged HasListed IsHotRefusal listing ls o in
+    let all = subst Judged none judged in (ls, all.0, all.1)
+
 -- ---- the explanation of a line that is not allowed
 
+-- after any lines with this state the explanation is of the line and any that follow it
 abbrev pub ExplainsHot : Standing → HotExplanation → List ℕ → Type 0
-ExplainsHot at e line = Explains HasTakenHot (λ s l (u : Unit {0}). step_line s l ≡ None) IsHotRefusal at tt e line
+ExplainsHot at e line = step_line at line ≡ None → (ls : List (List ℕ)) → HasTakenHot at ls → (after : List (List ℕ)) → IsHotRefusal (ls ++ line ∷ after) e
 
 pub explains_hot : (at : Standing) (e : HotExplanation) (line : List ℕ) → e.record ≡ at.records + 1 → e.name ≡ record_name line → SaysOfHot at line e.reason → ExplainsHot at e line
 explains_hot at e line number name says = λ none ls has after bytes are.

@@ -61,7 +61,7 @@ impl Judge for Standing {
 }
 
 /// What a text is whose lines have this state.
-fn end_answer(at: &Standing) -> HotAnswer
+pub(crate) fn end_answer(at: &Standing) -> HotAnswer
     requires small { IsSmall at.now }
     requires room { at.now.records < 2 ^ 63 }
     ensures { (bytes : List ℕ) → stands_after start (lines bytes) ≡ Some at.now → IsHotAnswer bytes result }
@@ -88,16 +88,5 @@ pub(crate) fn judge_hot<R: Read>(
         Ok(None) => Ok(end_answer(&at)),
         Ok(Some(explanation)) => Ok(HotAnswer::Refused(explanation)),
         Err(fault) => Err(fault),
-    }
-}
-
-/// Judges a whole text as a HOT file.
-pub(crate) fn judge_text(text: &[u8]) -> HotAnswer
-    ensures { IsHotAnswer text.now result }
-{
-    let mut at = Standing::start();
-    match at.take_last(text) {
-        Ok(()) => end_answer(&at),
-        Err(rest) => HotAnswer::Refused(explain_line(&at, rest)),
     }
 }

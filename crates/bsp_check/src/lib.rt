@@ -10,6 +10,7 @@ mod fault;
 mod hot_judging;
 mod hot_report;
 mod judging;
+mod listing;
 mod long_line;
 mod reading;
 mod refusing;

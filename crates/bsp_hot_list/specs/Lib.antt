@@ -1,2 +1,3 @@
 -- What the contracts of the list of a HOT file cite.
 pub mod Listed
+pub mod Taken

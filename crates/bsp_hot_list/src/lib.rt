@@ -5,4 +5,4 @@ mod amounts;
 mod lines;
 mod list;
 
-pub use list::list_hot;
+pub use list::HotList;

@@ -2,7 +2,7 @@
 
 ghost use Rattle.std.specs.Prelude.{◌≡◌, ◌++◌, IfOk, OnOk, codes, length, string_bytes};
 ghost use Rattle.bsp_fields.specs.Decimal.{fixed_digits};
-ghost use Rattle.bsp_hot_list.specs.Listed.{amounts_text, charges_text, document_key, document_text, heading_text, issued_text, payments_text, totals_text};
+ghost use Rattle.bsp_hot_list.specs.Listed.{amounts_text, charges_text, document_key, heading_text, issued_text, payments_text, totals_text};
 
 use bsp_fields::{NoRoom, write_digits, write_money};
 use bsp_hot_records::{AgentDigits, Document, Heading, Sums, Totals};
@@ -65,8 +65,8 @@ fn push_totals(alloc: Global, out: &mut Vec<u8>, totals: Totals) -> Result<(), N
     Ok(())
 }
 
-/// Appends the amounts of a document.
-fn push_amounts(alloc: Global, out: &mut Vec<u8>, totals: Totals) -> Result<(), NoRoom>
+/// Appends the amounts of a document, with which its line ends.
+pub(crate) fn push_amounts(alloc: Global, out: &mut Vec<u8>, totals: Totals) -> Result<(), NoRoom>
     ensures { OnOk result (out.new.items ≡ out.old.items ++ amounts_text totals) }
 {
     let text = amounts_text(alloc, totals)?;
@@ -102,20 +102,17 @@ fn push_issued(out: &mut Vec<u8>, line: &[u8]) -> Result<(), AllocError>
     Ok(())
 }
 
-/// Appends the line of a document, of whose records these are the totals.
-pub(crate) fn push_document(
-    alloc: Global,
+/// Appends what BKS24 gives the line of a document: the agent, the code, the number and the day of issue.
+pub(crate) fn push_begun(
     out: &mut Vec<u8>,
     document: &Document,
     line: &[u8],
-    totals: Totals,
-) -> Result<(), NoRoom>
+) -> Result<(), AllocError>
     requires { length line.now ≡ 136 }
-    ensures { OnOk result (out.new.items ≡ out.old.items ++ document_text document.now line.now totals) }
+    ensures { OnOk result (out.new.items ≡ out.old.items ++ (document_key document.now ++ issued_text line.now)) }
 {
     push_key(out, document)?;
-    push_issued(out, line)?;
-    push_amounts(alloc, out, totals)
+    push_issued(out, line)
 }
 
 /// Appends the line of the airline and the period.

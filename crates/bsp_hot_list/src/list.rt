@@ -1,80 +1,165 @@
-//! The list of a HOT file.
+//! The list of a HOT file whose records come one after another.
 
-ghost use Rattle.std.specs.Prelude.{◌≡◌, ◌≤◌, ◌+◌, ◌^◌, ◌++◌, IfOk, OnOk, length};
-ghost use Rattle.bsp_records.specs.Lines.{lines};
-ghost use Rattle.bsp_hot_list.specs.Listed.{document_sums, form_after, list_text, listed};
+ghost use Rattle.std.specs.Prelude.{◌≡◌, ◌≤◌, ◌<◌, ◌^◌, ◌+◌, ◌++◌, ◌∷◌, [], ℕ, List, length, true, IfOk, IfSome, OnOk};
+ghost use Rattle.bsp_records.specs.Columns.{is_wide};
+ghost use Rattle.bsp_hot_records.specs.Judged.{IsSmallRecord};
+ghost use Rattle.bsp_hot_list.specs.Listed.{list_text};
+ghost use Rattle.bsp_hot_list.specs.Taken.{IsListOf, IsOtherTaken, IsListOfFew, IsSmallStage, begun, ended, form_of, stage_after, stage_with};
 
-use crate::amounts::document_sums;
-use crate::lines::{push_agent, push_document, push_file, push_heading};
+use crate::amounts::part_sums;
+use crate::lines::{push_agent, push_amounts, push_begun, push_file, push_heading};
 use bsp_fields::NoRoom;
-use bsp_hot_records::{FileForm, Record, Totals, read_record};
-use bsp_records::first_record;
+use bsp_hot_records::{FileForm, Record, Sums, Totals, read_record};
 use std::alloc::Global;
 
-/// Appends the line of a record, where it has one. `next` is its number and one, and `after` the text
-/// after it, in a file of that form.
-fn push_record(
+/// Which lines come next.
+#[derive(Clone, Copy)]
+enum Stage {
+    /// Any.
+    Between,
+    /// Records of a document, which add up to these sums so far. Its amounts are not in the list yet.
+    Document(Sums),
+    /// None that is listed: a line was no record.
+    Ended,
+}
+
+/// The list of the lines of a HOT file that were taken: a line with its airline and its period, one for each document and
+/// memo, one for each agent, and one for the file. It ends at the first line that is no record.
+#[derive(Drop)]
+pub struct HotList {
     alloc: Global,
-    out: &mut Vec<u8>,
+    text: Vec<u8>,
     form: FileForm,
+    // the number of the next record
     next: usize,
-    found: &Record,
-    line: &[u8],
-    after: &[u8],
-) -> Result<(), NoRoom>
-    requires long { length line.now ≡ 136 }
-    requires from { 1 ≤ next }
-    requires room { next + length after.now ≤ 2 ^ 63 }
-    ensures { OnOk result (out.new.items ≡ out.old.items ++ listed found.now line.now (document_sums form next (lines after.now))) }
+    stage: Stage,
+}
+
+/// The stage after a record that is a part of the document whose records come; none for any other line.
+fn stage_with(stage: Stage, next: usize, found: &Option<Record>) -> Option<Stage>
+    requires small { IsSmallStage next stage }
+    requires few { next ≤ 2 ^ 62 }
+    requires part { IfSome found.now IsSmallRecord }
+    ensures { result ≡ stage_with stage found.now }
 {
-    match found {
-        Record::FileHeader(heading) => push_heading(out, heading)?,
-        Record::Document(document) => {
-            let sums = document_sums(form, next, after);
-            let net = sums.net();
-            push_document(alloc, out, document, line, Totals { sums, net })?;
+    match stage {
+        Stage::Document(sums) => match found {
+            Some(Record::PartOf(found)) => {
+                Some(Stage::Document(sums.plus(part_sums(found.part))))
+            }
+            _ => None,
+        },
+        _ => None,
+    }
+}
+
+impl HotList {
+    /// The list of no lines.
+    pub fn new(alloc: Global) -> HotList
+        ensures { IsListOf result [] }
+    {
+        HotList {
+            alloc,
+            text: Vec::new(alloc),
+            form: FileForm::One,
+            next: 1,
+            stage: Stage::Between,
         }
-        Record::OfficeTotals(office) => push_agent(alloc, out, office.agent, office.totals)?,
-        Record::FileTotals(file) => push_file(alloc, out, file.totals)?,
-        _ => {}
     }
-    Ok(())
-}
 
-/// The form of the file after a record.
-fn form_after(form: FileForm, found: &Record) -> FileForm
-    ensures { result ≡ form_after form found.now }
-{
-    match found {
-        Record::FileHeader(heading) => heading.form,
-        _ => form,
+    /// Adds the amounts of the document whose records came.
+    fn end_document(&mut self) -> Result<(), NoRoom>
+        requires { IsSmallStage (2 ^ 62) self.old.stage }
+        ensures text { OnOk result (self.new.text.items ≡ self.old.text.items ++ ended self.old.stage) }
+        ensures form { self.new.form ≡ self.old.form }
+        ensures next { self.new.next ≡ self.old.next }
+    {
+        if let Stage::Document(sums) = self.stage {
+            let net = sums.net();
+            push_amounts(self.alloc, &mut self.text, Totals { sums, net })?;
+        }
+        Ok(())
     }
-}
 
-/// The list of a HOT file: a line with its airline and its period, one for each document and memo, one for
-/// each agent, and one for the file. It ends at the first line that is no record.
-///
-/// # Errors
-///
-/// `NoRoom` where an allocation was refused, and for no other cause.
-pub fn list_hot(alloc: Global, text: &[u8]) -> Result<Vec<u8>, NoRoom>
-    ensures { IfOk result (λ list. list.items ≡ list_text (lines text.now)) }
-{
-    let mut out = Vec::new(alloc);
-    let mut form = FileForm::One;
-    let mut number = 1;
-    let mut rest = text;
-    while !rest.is_empty() {
-        let Some((line, after)) = first_record(rest) else {
-            return Ok(out);
-        };
-        let Some(found) = read_record(form, number, line) else {
-            return Ok(out);
-        };
-        number += 1;
-        push_record(alloc, &mut out, form, number, &found, line, after)?;
-        form = form_after(form, &found);
-        rest = after;
+    /// Adds what is known of a record before those that follow it.
+    fn begin_record(&mut self, found: &Record, line: &[u8]) -> Result<(), NoRoom>
+        requires { length line.now ≡ 136 }
+        ensures text { OnOk result (self.new.text.items ≡ self.old.text.items ++ begun found.now line.now) }
+        ensures form { OnOk result (self.new.form ≡ form_of self.old.form found.now) }
+        ensures next { self.new.next ≡ self.old.next }
+        ensures stage { OnOk result (self.new.stage ≡ stage_after found.now) }
+    {
+        self.stage = Stage::Between;
+        match found {
+            Record::FileHeader(heading) => {
+                self.form = heading.form;
+                push_heading(&mut self.text, heading)?;
+            }
+            Record::Document(document) => {
+                self.stage = Stage::Document(Sums::DOCUMENT);
+                push_begun(&mut self.text, document, line)?;
+            }
+            Record::OfficeTotals(office) => {
+                push_agent(self.alloc, &mut self.text, office.agent, office.totals)?;
+            }
+            Record::FileTotals(file) => push_file(self.alloc, &mut self.text, file.totals)?,
+            _ => {}
+        }
+        Ok(())
     }
-    Ok(out)
+
+    /// Adds a line that is no part of the document whose records came.
+    fn take_other(&mut self, found: &Option<Record>, line: &[u8]) -> Result<(), NoRoom>
+        requires small { IsSmallStage (2 ^ 62) self.old.stage }
+        requires long { length line.now ≡ 136 }
+        ensures { OnOk result (IsOtherTaken self.old self.new found.now line.now) }
+    {
+        self.end_document()?;
+        match found {
+            Some(found) => self.begin_record(found, line),
+            None => {
+                self.stage = Stage::Ended;
+                Ok(())
+            }
+        }
+    }
+
+    /// Adds the next line, of a record's width.
+    ///
+    /// # Errors
+    ///
+    /// `NoRoom` where an allocation was refused, and for no other cause.
+    pub fn take(&mut self, line: &[u8]) -> Result<(), NoRoom>
+        requires wide { is_wide line.now ≡ true }
+        requires long { length line.now ≡ 136 }
+        requires few { IsListOfFew self.old }
+        ensures { OnOk result ((ls : List (List ℕ)) → IsListOf self.old ls → IsListOf self.new (ls ++ line.now ∷ [])) }
+    {
+        if let Stage::Ended = self.stage {
+            return Ok(());
+        }
+        let found = read_record(self.form, self.next, line);
+        let stage = stage_with(self.stage, self.next, &found);
+        self.next += 1;
+        match stage {
+            Some(stage) => {
+                self.stage = stage;
+                Ok(())
+            }
+            None => self.take_other(&found, line),
+        }
+    }
+
+    /// The list, whose file ends here.
+    ///
+    /// # Errors
+    ///
+    /// `NoRoom` where an allocation was refused, and for no other cause.
+    pub fn finish(mut self) -> Result<Vec<u8>, NoRoom>
+        requires few { IsListOfFew self }
+        ensures { IfOk result (λ list. (ls : List (List ℕ)) → IsListOf self ls → list.items ≡ list_text ls) }
+    {
+        self.end_document()?;
+        Ok(self.text)
+    }
 }
