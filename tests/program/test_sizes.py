@@ -631,4 +631,8 @@ def test_a_run_with_reports():
     wanted = f"TOT {count} {gross} 0.00 {commission} 50.00 {net}"
     totals = [" ".join(it.split()) for it in lines if it.startswith(("sound", "TOT ", "TOTAL "))]
     expect("reports", ["sound", wanted, f"TOTAL AGENTS {net}", f"TOTAL AIRLINES {net}"], totals)
-    expect("the HOT file", 5 * count + 4 + 8, sum(len(it) == 136 and it[:3] in ("BFH", "BCH", "BOH", "BKT", "BKS", "BKP", "BOT", "BCT", "BFT") for it in lines))
+    expect(
+        "the HOT file",
+        5 * count + 4 + 8,
+        sum(len(it) == 136 and it[:3] in ("BFH", "BCH", "BOH", "BKT", "BKS", "BKP", "BOT", "BCT", "BFT") for it in lines),
+    )
