@@ -1,5 +1,5 @@
 -- Codes in decimal digits, as the WHERE of a key compares its columns.
-use Rattle.std.proofs.Common.{◌≡◌, ℕ, zero, suc, ◌+◌, ◌^◌, ◌<◌, Bool, true, false, [], ◌∷◌, ◌&&◌, cond, refl, subst, sym, ap, ap₂, ◌∙◌, arith, Ordering, Less, Equal, Greater, is_eq, nat_cmp}
+use Rattle.std.proofs.Common.{◌≡◌, ℕ, zero, suc, ◌+◌, ◌^◌, ◌<◌, Bool, true, false, ◌&&◌, cond, refl, subst, sym, ap, ap₂, ◌∙◌, arith, Ordering, Less, Equal, Greater, is_eq, nat_cmp}
 use Rattle.std.specs.Prelude.{nat_lt, pos}
 use Rattle.std.specs.Bool.{Decides}
 use Rattle.std.specs.Ordering.{bool_cmp, ordering_then}
@@ -12,15 +12,13 @@ use Rattle.std.proofs.lemmas.Bool.Decides.{same_from_decides}
 use Rattle.std.proofs.lemmas.Map.Text.{is_eq-slice_cmp}
 use Rattle.std.proofs.lemmas.Slice.Eq.{bytes_eq-Decides}
 use Rattle.sqlite_value.specs.declared.value.Value.TheVariants.{Text}
-use Rattle.sqlite_value.specs.Order.{Row}
 use Rattle.sqlite_value.specs.declared.keys.Collation.TheVariants.{Binary}
 use Rattle.sqlite_sql.specs.declared.ops.BinaryOp.TheVariants.{Compare}
 use Rattle.sqlite_sql.specs.declared.ops.CompareOp.TheVariants.{Eq}
 use Rattle.sqlite_sql.specs.Ops.{binary, is_true}
 use Rattle.bsp_rows.specs.Decimal.{number_of, fixed_digits}
-use Rattle.bsp_rows.specs.declared.keys.TallyKey.{TallyKey}
 use Rattle.bsp_rows.proofs.DecimalLemmas.{number_of-fixed_digits}
-use Rattle.bsp_store_base.specs.Columns.{agent_text, airline_text, code_digits, flag, period_text}
+use Rattle.bsp_store_base.specs.Columns.{code_digits, flag}
 use Rattle.bsp_store_base.proofs.Values.{same_text, same_int, and_true}
 
 -- ---- the number of the digits
@@ -85,9 +83,3 @@ two_columns t u r s first second = ap₂ ◌&&◌ first (one_column u s second) 
 
 pub three_columns : (t u v : Bool) (r s q : Ordering) → t ≡ is_eq r → u ≡ is_eq s → v ≡ is_eq q → (t && (u && (v && true))) ≡ is_eq (ordering_then r (ordering_then s q))
 three_columns t u v r s q first second third = ap₂ ◌&&◌ first (two_columns u v s q second third) ∙ both r (ordering_then s q)
-
--- ---- the key of a tally
-
--- the parameters of the key, one for each column
-abbrev pub tally_key_row : TallyKey → Row
-tally_key_row key = agent_text key.agent ∷ airline_text key.airline ∷ period_text key.period ∷ []

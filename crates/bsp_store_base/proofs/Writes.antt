@@ -1,13 +1,8 @@
 -- What a write to one of our tables ensures, whichever table it is.
-use Rattle.std.proofs.Common.{◌≡◌, ℕ, ◌+◌, ◌-◌, ◌==◌, Bool, true, false, List, [], ◌∷◌, ◌++◌, map, length, Ok, Err, Result, OnOk, OnErr, refl}
-use Rattle.std.specs.List.{range_with_len}
+use Rattle.std.proofs.Common.{◌≡◌, ℕ, ◌==◌, Bool, true, false, List, [], length, Ok, Err, Result, OnOk, OnErr, refl}
 use Rattle.std.specs.Prelude.{⊤}
 use Rattle.sqlite_value.specs.Order.{Row}
-use Rattle.sqlite_value.specs.declared.keys.Collation.TheVariants.{Binary}
 use Rattle.sqlite_trees.specs.declared.store.Store.{Ghosts}
-use Rattle.sqlite_sql.specs.Term.{Term, col, op2}
-use Rattle.sqlite_sql.specs.declared.ops.BinaryOp.TheVariants.{Compare}
-use Rattle.sqlite_sql.specs.declared.ops.CompareOp.TheVariants.{Eq}
 use Rattle.sqlite_schema.specs.declared.schema.Keys.TheVariants.{Enforced}
 use Rattle.sqlite_rules.specs.Action.{works}
 use Rattle.sqlite.specs.declared.error.Error.{Error}
@@ -16,18 +11,6 @@ use Rattle.sqlite.specs.Held.{Held, state}
 use Rattle.bsp_store_base.specs.Calls.{Changes, GivesUp}
 use Rattle.bsp_store_base.specs.Schema.{our_schema}
 use Rattle.bsp_store_base.specs.Content.{Content}
-
--- a column is what a parameter is
-abbrev pub eq : ℕ → ℕ → Term
-eq column param = op2 (Compare Eq Binary) (col 1 column) (col 0 param)
-
--- WHERE the first columns are what the first parameters are
-abbrev pub key_test : ℕ → List Term
-key_test keys = map (λ i. eq (i + 1) i) (range_with_len 0 keys)
-
--- what an UPDATE makes of a row, whose first columns stay: its rowid, and then the new row
-abbrev pub key_project : ℕ → ℕ → List Term
-key_project keys width = col 1 0 ∷ col 1 0 ∷ (map (col 1) (range_with_len 1 keys) ++ map (col 0) (range_with_len keys (width - keys)))
 
 -- no foreign key acts: each has NO ACTION
 no_deed : (tree : ℕ) (olds news : List Row) (deletes : Bool) → (length news == 0) ≡ deletes → works our_schema Enforced 0 tree olds news ≡ []

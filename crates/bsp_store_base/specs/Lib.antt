@@ -11,5 +11,6 @@ pub mod Calls
 pub mod Forms
 pub mod Shows
 pub mod Schema
+pub mod MapTables
 pub mod Order
 pub mod Made

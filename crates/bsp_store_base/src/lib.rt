@@ -2,13 +2,14 @@
 //! of them, and the columns of a row read.
 //!
 //! [`make_tables`] makes the fourteen tables in a store that [`is_bare`]. [`is_ours`] tests that a store has these tables
-//! and nothing else, column by column, so that a caller knows the schema that its statements are read by. [`reopen`]
-//! gives a connection back of which the order of the rows is known too.
+//! and nothing else, column by column, so that a caller knows the schema that its statements are read by. A
+//! [`KeyedTable`] has the statements of a table whose rows are found by keys, and [`put`] leaves a value or none at a key.
 #![tactic(auto)]
 
 mod airlines;
 mod digits;
 mod indexes;
+mod keyed_table;
 mod made;
 mod plain;
 mod reading;
@@ -19,6 +20,7 @@ mod tickets;
 
 pub use airlines::{AirlineEntry, place_of};
 pub use digits::{agent_digits, airline_digits, number_digits, period_digits};
+pub use keyed_table::{KeyedTable, Statements, put};
 pub use made::{is_bare, make_tables};
 pub use reading::{
     agent_at, airline_at, amount_at, below_at, day_at, int_at, is_null, number_at, period_at,

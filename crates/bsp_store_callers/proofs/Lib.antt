@@ -1,11 +1,5 @@
 pub mod Back
-pub mod CallerTables
 pub mod Orders
-pub mod Shown
-pub mod Texts
 pub mod MemoBack
-pub mod MemoOrders
-pub mod TallyTable
-pub mod MemoTable
 pub mod OtherTexts
-pub mod MemoShown
+pub mod Tables

@@ -2,21 +2,35 @@
 use Rattle.std.proofs.Common.{◌≡◌, map, ◌∙◌, Less, nat_cmp}
 use Rattle.std.specs.FinMap.{entries}
 use Rattle.sqlite_trees.specs.Tree.{IsAscending}
-use Rattle.bsp_store_base.proofs.Rising.{IsBefore, entries_rise, rows_rise}
-use Rattle.bsp_rows.specs.Rows.{range_cmp}
-use Rattle.bsp_store_base.specs.Columns.{agent_row, stock_row}
+use Rattle.bsp_rows.specs.Rows.{memo_cmp, range_cmp}
+use Rattle.bsp_rows.specs.Tallies.{tally_cmp}
+use Rattle.bsp_store_base.specs.Columns.{agent_row, memo_row, stock_row, tally_row}
 use Rattle.bsp_store_base.specs.Content.{Content}
-use Rattle.bsp_store_base.specs.Forms.{IsFormed, IsAgentEntry, IsRangeEntry}
-use Rattle.bsp_store_base.proofs.Orders.{code_order, one_order, two_orders}
-use Rattle.bsp_store_callers.proofs.Texts.{by_code, by_range}
+use Rattle.bsp_store_base.specs.Forms.{IsAgentEntry, IsFormed, IsMemoEntry, IsRangeEntry, IsTallyKey}
+use Rattle.bsp_store_base.specs.MapTables.{by_keys}
+use Rattle.bsp_store_base.proofs.Orders.{code_order, one_order, three_orders, two_orders}
+use Rattle.bsp_store_base.proofs.Rising.{IsBefore, entries_rise, rows_rise}
+use Rattle.bsp_store_callers.specs.Tables.{agents_map, memos_map, ranges_map, tallies_map}
 
-pub agents_rise : (c : Content) → IsFormed c → IsAscending (IsBefore by_code) (map agent_row (entries c.agents))
+pub agents_rise : (c : Content) → IsFormed c → IsAscending (IsBefore (by_keys agents_map)) (map agent_row (entries c.agents))
 agents_rise c formed =
-    rows_rise IsAgentEntry (λ a b. nat_cmp a.0 b.0 ≡ Less) (IsBefore by_code) agent_row
+    rows_rise IsAgentEntry (λ a b. nat_cmp a.0 b.0 ≡ Less) (IsBefore (by_keys agents_map)) agent_row
     (λ a b f g less. one_order _ _ (code_order 8 a.0 b.0 f.agent.has_digits g.agent.has_digits) ∙ less) (entries c.agents) formed.agents (entries_rise nat_cmp c.agents)
 
-pub ranges_rise : (c : Content) → IsFormed c → IsAscending (IsBefore by_range) (map stock_row (entries c.ranges))
+pub ranges_rise : (c : Content) → IsFormed c → IsAscending (IsBefore (by_keys ranges_map)) (map stock_row (entries c.ranges))
 ranges_rise c formed =
-    rows_rise IsRangeEntry (λ a b. range_cmp a.0 b.0 ≡ Less) (IsBefore by_range) stock_row
+    rows_rise IsRangeEntry (λ a b. range_cmp a.0 b.0 ≡ Less) (IsBefore (by_keys ranges_map)) stock_row
     (λ a b f g less. two_orders _ _ _ _ (code_order 8 a.0.agent b.0.agent f.agent.has_digits g.agent.has_digits) (code_order 10 a.0.first b.0.first f.first g.first) ∙ less)
     (entries c.ranges) formed.ranges (entries_rise range_cmp c.ranges)
+
+pub memos_rise : (c : Content) → IsFormed c → IsAscending (IsBefore (by_keys memos_map)) (map memo_row (entries c.memos))
+memos_rise c formed =
+    rows_rise IsMemoEntry (λ a b. memo_cmp a.0 b.0 ≡ Less) (IsBefore (by_keys memos_map)) memo_row
+    (λ a b f g less. two_orders _ _ _ _ (code_order 3 a.0.airline b.0.airline f.airline.has_digits g.airline.has_digits) (code_order 10 a.0.document b.0.document f.document g.document) ∙ less)
+    (entries c.memos) formed.memos (entries_rise memo_cmp c.memos)
+
+pub tallies_rise : (c : Content) → IsFormed c → IsAscending (IsBefore (by_keys tallies_map)) (map tally_row (entries c.tallies))
+tallies_rise c formed =
+    rows_rise (λ e. IsTallyKey e.0) (λ a b. tally_cmp a.0 b.0 ≡ Less) (IsBefore (by_keys tallies_map)) tally_row
+    (λ a b f g less. three_orders _ _ _ _ _ _ (code_order 8 a.0.agent b.0.agent f.agent.has_digits g.agent.has_digits) (code_order 3 a.0.airline b.0.airline f.airline.has_digits g.airline.has_digits) (code_order 5 a.0.period b.0.period f.period g.period) ∙ less)
+    (entries c.tallies) formed.tallies (entries_rise tally_cmp c.tallies)

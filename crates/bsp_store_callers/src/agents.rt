@@ -1,17 +1,12 @@
 //! The table of agents.
 
-ghost use Rattle.std.specs.Prelude.{◌≡◌, is_some, None, true, ⊤, OnOk, OnErr};
-ghost use Rattle.std.specs.FinMap.{get, insert, remove};
+ghost use Rattle.std.specs.Prelude.{◌≡◌};
 ghost use Rattle.sqlite.specs.Values.{bound};
 ghost use Rattle.bsp_store_base.specs.Columns.{agent_row};
-ghost use Rattle.bsp_store_base.specs.Calls.{Changes, GivesUp};
-ghost use Rattle.bsp_store_base.specs.Synced.{with_value};
-ghost use Rattle.bsp_store_base.specs.Content.{agent_part};
-ghost use Rattle.bsp_store_base.specs.Shows.{ShowsTable};
 ghost use Rattle.bsp_store_callers.specs.Callers.{agent_texts};
 
 use bsp_rows::{AgentCode, Token};
-use bsp_store_base::agent_digits;
+use bsp_store_base::{KeyedTable, Statements, agent_digits};
 use sqlite::{Alter, Connection, Error};
 use sqlite_value::value::ValueRef;
 
@@ -44,72 +39,43 @@ impl AgentRow {
     }
 }
 
-fn delete_agent<S: Alter>(conn: &mut Connection<S>, code: AgentCode) -> Result<usize, Error>
-    ensures ok { OnOk result (Changes S.Store conn.old conn.new (λ now. ⊤) (λ now. record now { agents = remove now.agents code })) }
-    ensures err { OnErr result (GivesUp S.Store conn.old conn.new) }
-{
-    let digits = agent_digits(code);
-    conn.execute(
-        "DELETE FROM agent WHERE code = ?1",
-        &[ValueRef::Text(&digits)],
-    )
-}
+/// The table of agents: their tokens.
+pub struct Agents;
 
-fn insert_agent<S: Alter>(
-    conn: &mut Connection<S>,
-    code: AgentCode,
-    token: &Token,
-) -> Result<usize, Error>
-    ensures ok { OnOk result (Changes S.Store conn.old conn.new (λ now. get now.agents code ≡ None) (λ now. record now { agents = insert now.agents code token.now })) }
-    ensures err { OnErr result (GivesUp S.Store conn.old conn.new) }
-{
-    let row = AgentRow::of(code, token);
-    let values = row.values();
-    conn.execute("INSERT INTO agent (code, token) VALUES (?1, ?2)", &values)
-}
+impl KeyedTable<AgentCode, Token> for Agents {
+    ghost use Rattle.std.specs.Ordering.{nat_cmp};
+    ghost use Rattle.bsp_store_callers.specs.Tables.{agents_map};
 
-fn update_agent<S: Alter>(
-    conn: &mut Connection<S>,
-    code: AgentCode,
-    token: &Token,
-) -> Result<usize, Error>
-    ensures ok { OnOk result (Changes S.Store conn.old conn.new (λ now. is_some (get now.agents code) ≡ true) (λ now. record now { agents = insert now.agents code token.now })) }
-    ensures err { OnErr result (GivesUp S.Store conn.old conn.new) }
-{
-    let row = AgentRow::of(code, token);
-    let values = row.values();
-    conn.execute("UPDATE agent SET token = ?2 WHERE code = ?1", &values)
-}
+    ghost order = { nat_cmp };
 
-/// Leaves this token at the agent's code, or no row. One statement writes it, by whether the table has a row of the code.
-///
-/// # Errors
-///
-/// Those of the store.
-pub fn put_agent<S: Alter>(
-    conn: &mut Connection<S>,
-    code: AgentCode,
-    is_there: bool,
-    token: Option<Token>,
-) -> Result<(), Error>
-    ensures ok { OnOk result (Changes S.Store conn.old conn.new (λ now. is_some (get now.agents code) ≡ is_there) (λ now. record now { agents = with_value code token now.agents })) }
-    ensures err { OnErr result (GivesUp S.Store conn.old conn.new) }
-{
-    if let Some(token) = token {
-        if is_there {
-            update_agent(conn, code, &token)?;
-        } else {
-            insert_agent(conn, code, &token)?;
+    ghost table = { agents_map };
+
+    fn statements(&self) -> Statements {
+        Statements {
+            delete: "DELETE FROM agent WHERE code = ?1",
+            insert: "INSERT INTO agent (code, token) VALUES (?1, ?2)",
+            update: "UPDATE agent SET token = ?2 WHERE code = ?1",
+            query: "SELECT code, token FROM agent ORDER BY code",
         }
-    } else if is_there {
-        delete_agent(conn, code)?;
     }
-    Ok(())
-}
 
-/// The query for the rows of all agents, in the order of their codes.
-pub fn agents_query() -> &'static str
-    ensures { ShowsTable agent_part result.now }
-{
-    "SELECT code, token FROM agent ORDER BY code"
+    fn run_on_key<S: Alter>(
+        &self,
+        conn: &mut Connection<S>,
+        text: &str,
+        code: &AgentCode,
+    ) -> Result<usize, Error> {
+        let digits = agent_digits(*code);
+        conn.execute(text, &[ValueRef::Text(&digits)])
+    }
+
+    fn run_on_row<S: Alter>(
+        &self,
+        conn: &mut Connection<S>,
+        text: &str,
+        code: &AgentCode,
+        token: &Token,
+    ) -> Result<usize, Error> {
+        conn.execute(text, &AgentRow::of(*code, token).values())
+    }
 }

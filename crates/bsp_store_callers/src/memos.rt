@@ -1,20 +1,16 @@
 //! The table of the memos.
 
-ghost use Rattle.std.specs.Prelude.{◌≡◌, is_some, None, true, ⊤, OnOk, OnErr, option_map};
-ghost use Rattle.std.specs.FinMap.{get, insert, remove};
+ghost use Rattle.std.specs.Prelude.{◌≡◌, option_map};
 ghost use Rattle.sqlite_value.specs.Value.{owned};
 ghost use Rattle.sqlite_value.specs.declared.value.Value.TheVariants.{Text};
-ghost use Rattle.sqlite.specs.Held.{state};
 ghost use Rattle.sqlite.specs.Values.{bound, bound_value, or_null};
 ghost use Rattle.bsp_store_base.specs.Columns.{code_digits, memo_row};
-ghost use Rattle.bsp_store_base.specs.Calls.{Changes, GivesUp};
-ghost use Rattle.bsp_store_base.specs.Synced.{with_value};
-ghost use Rattle.bsp_store_base.specs.Content.{memo_part};
-ghost use Rattle.bsp_store_base.specs.Shows.{ShowsTable};
 ghost use Rattle.bsp_store_callers.specs.MemoWritten.{memo_written};
 
 use bsp_rows::{Memo, MemoKey, MemoKind, MemoState, PeriodCode, Reason};
-use bsp_store_base::{agent_digits, airline_digits, number_digits, period_digits};
+use bsp_store_base::{
+    KeyedTable, Statements, agent_digits, airline_digits, number_digits, period_digits,
+};
 use sqlite::{Alter, Connection, Error};
 use sqlite_value::value::ValueRef;
 
@@ -90,81 +86,47 @@ impl MemoRow {
     }
 }
 
-fn delete_memo<S: Alter>(conn: &mut Connection<S>, key: &MemoKey) -> Result<usize, Error>
-    ensures ok { OnOk result (Changes S.Store conn.old conn.new (λ now. ⊤) (λ now. record now { memos = remove now.memos key.now })) }
-    ensures err { OnErr result (GivesUp S.Store conn.old conn.new) }
-{
-    let airline = airline_digits(key.airline);
-    let number = number_digits(key.document);
-    conn.execute(
-        "DELETE FROM memo WHERE airline = ?1 AND number = ?2",
-        &[ValueRef::Text(&airline), ValueRef::Text(&number)],
-    )
-}
+/// The table of the memos.
+pub struct Memos;
 
-fn insert_memo<S: Alter>(
-    conn: &mut Connection<S>,
-    key: &MemoKey,
-    memo: &Memo,
-) -> Result<usize, Error>
-    ensures ok { OnOk result (Changes S.Store conn.old conn.new (λ now. get now.memos key.now ≡ None) (λ now. record now { memos = insert now.memos key.now memo.now })) }
-    ensures err { OnErr result (GivesUp S.Store conn.old conn.new) }
-{
-    let row = MemoRow::of(key, memo);
-    conn.execute(
-        "INSERT INTO memo (airline, number, agent, kind, amount, first_amount, reason, issued, state, \
-         billed) VALUES (?1, ?2, ?3, ?4, ?5, ?6, ?7, ?8, ?9, ?10)",
-        &row.values(),
-    )
-}
+impl KeyedTable<MemoKey, Memo> for Memos {
+    ghost use Rattle.bsp_rows.specs.Rows.{memo_cmp};
+    ghost use Rattle.bsp_store_callers.specs.Tables.{memos_map};
 
-fn update_memo<S: Alter>(
-    conn: &mut Connection<S>,
-    key: &MemoKey,
-    memo: &Memo,
-) -> Result<usize, Error>
-    ensures ok { OnOk result (Changes S.Store conn.old conn.new (λ now. is_some (get now.memos key.now) ≡ true) (λ now. record now { memos = insert now.memos key.now memo.now })) }
-    ensures err { OnErr result (GivesUp S.Store conn.old conn.new) }
-{
-    let row = MemoRow::of(key, memo);
-    conn.execute(
-        "UPDATE memo SET agent = ?3, kind = ?4, amount = ?5, first_amount = ?6, reason = ?7, issued = ?8, \
-         state = ?9, billed = ?10 WHERE airline = ?1 AND number = ?2",
-        &row.values(),
-    )
-}
+    ghost order = { memo_cmp };
 
-/// Makes the row of a key that of a memo, or leaves none. One statement writes it, by whether the table has a row of the
-/// key.
-///
-/// # Errors
-///
-/// Where the store fails; then the transaction is to be rolled back.
-pub fn put_memo<S: Alter>(
-    conn: &mut Connection<S>,
-    key: MemoKey,
-    is_there: bool,
-    memo: Option<Memo>,
-) -> Result<(), Error>
-    ensures ok { OnOk result (Changes S.Store conn.old conn.new (λ now. is_some (get now.memos key) ≡ is_there) (λ now. record now { memos = with_value key memo now.memos })) }
-    ensures err { OnErr result (GivesUp S.Store conn.old conn.new) }
-{
-    if let Some(memo) = memo {
-        if is_there {
-            update_memo(conn, &key, &memo)?;
-        } else {
-            insert_memo(conn, &key, &memo)?;
+    ghost table = { memos_map };
+
+    fn statements(&self) -> Statements {
+        Statements {
+            delete: "DELETE FROM memo WHERE airline = ?1 AND number = ?2",
+            insert: "INSERT INTO memo (airline, number, agent, kind, amount, first_amount, reason, issued, state, \
+                billed) VALUES (?1, ?2, ?3, ?4, ?5, ?6, ?7, ?8, ?9, ?10)",
+            update: "UPDATE memo SET agent = ?3, kind = ?4, amount = ?5, first_amount = ?6, reason = ?7, issued = ?8, \
+                state = ?9, billed = ?10 WHERE airline = ?1 AND number = ?2",
+            query: "SELECT airline, number, agent, kind, amount, first_amount, reason, issued, state, billed FROM memo \
+                ORDER BY airline, number",
         }
-    } else if is_there {
-        delete_memo(conn, &key)?;
     }
-    Ok(())
-}
 
-/// The query for all rows of the table, in the order of their keys.
-pub fn memos_query() -> &'static str
-    ensures { ShowsTable memo_part result.now }
-{
-    "SELECT airline, number, agent, kind, amount, first_amount, reason, issued, state, billed FROM memo \
-     ORDER BY airline, number"
+    fn run_on_key<S: Alter>(
+        &self,
+        conn: &mut Connection<S>,
+        text: &str,
+        key: &MemoKey,
+    ) -> Result<usize, Error> {
+        let airline = airline_digits(key.airline);
+        let number = number_digits(key.document);
+        conn.execute(text, &[ValueRef::Text(&airline), ValueRef::Text(&number)])
+    }
+
+    fn run_on_row<S: Alter>(
+        &self,
+        conn: &mut Connection<S>,
+        text: &str,
+        key: &MemoKey,
+        memo: &Memo,
+    ) -> Result<usize, Error> {
+        conn.execute(text, &MemoRow::of(key, memo).values())
+    }
 }

@@ -1,17 +1,12 @@
 //! The table of ranges of stock.
 
-ghost use Rattle.std.specs.Prelude.{◌≡◌, is_some, None, true, ⊤, OnOk, OnErr};
-ghost use Rattle.std.specs.FinMap.{get, insert, remove};
+ghost use Rattle.std.specs.Prelude.{◌≡◌};
 ghost use Rattle.sqlite.specs.Values.{bound};
 ghost use Rattle.bsp_store_base.specs.Columns.{stock_row};
-ghost use Rattle.bsp_store_base.specs.Calls.{Changes, GivesUp};
-ghost use Rattle.bsp_store_base.specs.Synced.{with_value};
-ghost use Rattle.bsp_store_base.specs.Content.{stock_part};
-ghost use Rattle.bsp_store_base.specs.Shows.{ShowsTable};
 ghost use Rattle.bsp_store_callers.specs.Callers.{range_texts};
 
 use bsp_rows::{DocNumber, RangeKey};
-use bsp_store_base::{agent_digits, number_digits};
+use bsp_store_base::{KeyedTable, Statements, agent_digits, number_digits};
 use sqlite::{Alter, Connection, Error};
 use sqlite_value::value::ValueRef;
 
@@ -47,80 +42,44 @@ impl RangeRow {
     }
 }
 
-fn delete_range<S: Alter>(conn: &mut Connection<S>, key: &RangeKey) -> Result<usize, Error>
-    ensures ok { OnOk result (Changes S.Store conn.old conn.new (λ now. ⊤) (λ now. record now { ranges = remove now.ranges key.now })) }
-    ensures err { OnErr result (GivesUp S.Store conn.old conn.new) }
-{
-    let agent = agent_digits(key.agent);
-    let first = number_digits(key.first);
-    conn.execute(
-        "DELETE FROM stock WHERE agent = ?1 AND lo = ?2",
-        &[ValueRef::Text(&agent), ValueRef::Text(&first)],
-    )
-}
+/// The table of ranges of stock: the last number of each, under its first.
+pub struct Ranges;
 
-fn insert_range<S: Alter>(
-    conn: &mut Connection<S>,
-    key: &RangeKey,
-    up_to: DocNumber,
-) -> Result<usize, Error>
-    ensures ok { OnOk result (Changes S.Store conn.old conn.new (λ now. get now.ranges key.now ≡ None) (λ now. record now { ranges = insert now.ranges key.now up_to })) }
-    ensures err { OnErr result (GivesUp S.Store conn.old conn.new) }
-{
-    let row = RangeRow::of(key, up_to);
-    let values = row.values();
-    conn.execute(
-        "INSERT INTO stock (agent, lo, hi) VALUES (?1, ?2, ?3)",
-        &values,
-    )
-}
+impl KeyedTable<RangeKey, DocNumber> for Ranges {
+    ghost use Rattle.bsp_rows.specs.Rows.{range_cmp};
+    ghost use Rattle.bsp_store_callers.specs.Tables.{ranges_map};
 
-fn update_range<S: Alter>(
-    conn: &mut Connection<S>,
-    key: &RangeKey,
-    up_to: DocNumber,
-) -> Result<usize, Error>
-    ensures ok { OnOk result (Changes S.Store conn.old conn.new (λ now. is_some (get now.ranges key.now) ≡ true) (λ now. record now { ranges = insert now.ranges key.now up_to })) }
-    ensures err { OnErr result (GivesUp S.Store conn.old conn.new) }
-{
-    let row = RangeRow::of(key, up_to);
-    let values = row.values();
-    conn.execute(
-        "UPDATE stock SET hi = ?3 WHERE agent = ?1 AND lo = ?2",
-        &values,
-    )
-}
+    ghost order = { range_cmp };
 
-/// Leaves this last number at the agent's first number, or no row. One statement writes it, by whether the table has a
-/// row of the key.
-///
-/// # Errors
-///
-/// Those of the store.
-pub fn put_range<S: Alter>(
-    conn: &mut Connection<S>,
-    key: &RangeKey,
-    is_there: bool,
-    up_to: Option<DocNumber>,
-) -> Result<(), Error>
-    ensures ok { OnOk result (Changes S.Store conn.old conn.new (λ now. is_some (get now.ranges key.now) ≡ is_there) (λ now. record now { ranges = with_value key.now up_to now.ranges })) }
-    ensures err { OnErr result (GivesUp S.Store conn.old conn.new) }
-{
-    if let Some(up_to) = up_to {
-        if is_there {
-            update_range(conn, key, up_to)?;
-        } else {
-            insert_range(conn, key, up_to)?;
+    ghost table = { ranges_map };
+
+    fn statements(&self) -> Statements {
+        Statements {
+            delete: "DELETE FROM stock WHERE agent = ?1 AND lo = ?2",
+            insert: "INSERT INTO stock (agent, lo, hi) VALUES (?1, ?2, ?3)",
+            update: "UPDATE stock SET hi = ?3 WHERE agent = ?1 AND lo = ?2",
+            query: "SELECT agent, lo, hi FROM stock ORDER BY agent, lo",
         }
-    } else if is_there {
-        delete_range(conn, key)?;
     }
-    Ok(())
-}
 
-/// The query for the rows of all ranges, in the order of their agents and first numbers.
-pub fn ranges_query() -> &'static str
-    ensures { ShowsTable stock_part result.now }
-{
-    "SELECT agent, lo, hi FROM stock ORDER BY agent, lo"
+    fn run_on_key<S: Alter>(
+        &self,
+        conn: &mut Connection<S>,
+        text: &str,
+        key: &RangeKey,
+    ) -> Result<usize, Error> {
+        let agent = agent_digits(key.agent);
+        let first = number_digits(key.first);
+        conn.execute(text, &[ValueRef::Text(&agent), ValueRef::Text(&first)])
+    }
+
+    fn run_on_row<S: Alter>(
+        &self,
+        conn: &mut Connection<S>,
+        text: &str,
+        key: &RangeKey,
+        up_to: &DocNumber,
+    ) -> Result<usize, Error> {
+        conn.execute(text, &RangeRow::of(key, *up_to).values())
+    }
 }

@@ -1,12 +1,5 @@
 pub mod Back
 pub mod Orders
-pub mod ItemTable
-pub mod Texts
 pub mod Written
-pub mod Shown
-pub mod ItemTaxTable
-pub mod TallyTaxTable
-pub mod SecondTable
-pub mod TaxOrders
 pub mod TaxBack
-pub mod TaxShown
+pub mod Tables

@@ -1,18 +1,14 @@
 //! The tax on the commission of each item, as a row of its table.
 
-ghost use Rattle.std.specs.Prelude.{◌≡◌, is_some, None, true, ⊤, OnOk, OnErr};
-ghost use Rattle.std.specs.FinMap.{get, insert, remove};
+ghost use Rattle.std.specs.Prelude.{◌≡◌};
 ghost use Rattle.sqlite.specs.Values.{bound};
 ghost use Rattle.bsp_store_base.specs.Columns.{tax_row};
-ghost use Rattle.bsp_store_base.specs.Content.{item_tax_part};
-ghost use Rattle.bsp_store_base.specs.Shows.{ShowsTable};
-ghost use Rattle.bsp_store_base.specs.Calls.{Changes, GivesUp};
-ghost use Rattle.bsp_store_base.specs.Synced.{with_value};
 ghost use Rattle.bsp_store_items.specs.TaxWritten.{item_tax_written};
 
+use crate::items::run_on_item_key;
 use crate::row::flag;
 use bsp_rows::{Item, ItemKey};
-use bsp_store_base::{ItemTax, agent_digits, number_digits};
+use bsp_store_base::{ItemTax, KeyedTable, Statements, agent_digits, number_digits};
 use sqlite::{Alter, Connection, Error};
 use sqlite_value::value::ValueRef;
 
@@ -55,84 +51,43 @@ impl ItemTaxRow {
     }
 }
 
-fn delete_item_tax<S: Alter>(conn: &mut Connection<S>, key: &ItemKey) -> Result<usize, Error>
-    ensures ok { OnOk result (Changes S.Store conn.old conn.new (λ now. ⊤) (λ now. record now { item_taxes = remove now.item_taxes key.now })) }
-    ensures err { OnErr result (GivesUp S.Store conn.old conn.new) }
-{
-    let agent = agent_digits(key.agent);
-    let number = number_digits(key.number);
-    conn.execute(
-        "DELETE FROM item_tax WHERE agent = ?1 AND number = ?2 AND canx = ?3",
-        &[
-            ValueRef::Text(&agent),
-            ValueRef::Text(&number),
-            flag(key.is_canx),
-        ],
-    )
-}
+/// The table of the taxes of items. What it has of an item is the tax on its commission.
+pub struct ItemTaxes;
 
-fn insert_item_tax<S: Alter>(
-    conn: &mut Connection<S>,
-    key: &ItemKey,
-    item: &Item,
-) -> Result<usize, Error>
-    ensures ok { OnOk result (Changes S.Store conn.old conn.new (λ now. get now.item_taxes key.now ≡ None) (λ now. record now { item_taxes = insert now.item_taxes key.now item.now })) }
-    ensures err { OnErr result (GivesUp S.Store conn.old conn.new) }
-{
-    let tax = ItemTax::of(item);
-    let row = ItemTaxRow::of(key, &tax);
-    conn.execute(
-        "INSERT INTO item_tax (agent, number, canx, tax, hundredths) VALUES (?1, ?2, ?3, ?4, ?5)",
-        &row.values(),
-    )
-}
+impl KeyedTable<ItemKey, Item> for ItemTaxes {
+    ghost use Rattle.bsp_rows.specs.Rows.{item_cmp};
+    ghost use Rattle.bsp_store_items.specs.Tables.{item_taxes_map};
 
-fn update_item_tax<S: Alter>(
-    conn: &mut Connection<S>,
-    key: &ItemKey,
-    item: &Item,
-) -> Result<usize, Error>
-    ensures ok { OnOk result (Changes S.Store conn.old conn.new (λ now. is_some (get now.item_taxes key.now) ≡ true) (λ now. record now { item_taxes = insert now.item_taxes key.now item.now })) }
-    ensures err { OnErr result (GivesUp S.Store conn.old conn.new) }
-{
-    let tax = ItemTax::of(item);
-    let row = ItemTaxRow::of(key, &tax);
-    conn.execute(
-        "UPDATE item_tax SET tax = ?4, hundredths = ?5 WHERE agent = ?1 AND number = ?2 AND canx = ?3",
-        &row.values(),
-    )
-}
+    ghost order = { item_cmp };
 
-/// Makes the row of a key that of the tax of an item, or leaves none. One statement writes it, by whether the table has a
-/// row of the key.
-///
-/// # Errors
-///
-/// Where the store fails; then the transaction is to be rolled back.
-pub fn put_item_tax<S: Alter>(
-    conn: &mut Connection<S>,
-    key: &ItemKey,
-    is_there: bool,
-    item: Option<Item>,
-) -> Result<(), Error>
-    ensures ok { OnOk result (Changes S.Store conn.old conn.new (λ now. is_some (get now.item_taxes key.now) ≡ is_there) (λ now. record now { item_taxes = with_value key.now item now.item_taxes })) }
-    ensures err { OnErr result (GivesUp S.Store conn.old conn.new) }
-{
-    if let Some(item) = item {
-        if is_there {
-            update_item_tax(conn, key, &item)?;
-        } else {
-            insert_item_tax(conn, key, &item)?;
+    ghost table = { item_taxes_map };
+
+    fn statements(&self) -> Statements {
+        Statements {
+            delete: "DELETE FROM item_tax WHERE agent = ?1 AND number = ?2 AND canx = ?3",
+            insert: "INSERT INTO item_tax (agent, number, canx, tax, hundredths) VALUES (?1, ?2, ?3, ?4, ?5)",
+            update: "UPDATE item_tax SET tax = ?4, hundredths = ?5 WHERE agent = ?1 AND number = ?2 AND canx = ?3",
+            query: "SELECT agent, number, canx, tax, hundredths FROM item_tax ORDER BY agent, number, canx",
         }
-    } else if is_there {
-        delete_item_tax(conn, key)?;
     }
-    Ok(())
-}
 
-/// The query for the rows of the table, in the order of their keys.
-pub fn item_taxes_query() -> &'static str
-    ensures { ShowsTable item_tax_part result.now }
-{
-    "SELECT agent, number, canx, tax, hundredths FROM item_tax ORDER BY agent, number, canx"
+    fn run_on_key<S: Alter>(
+        &self,
+        conn: &mut Connection<S>,
+        text: &str,
+        key: &ItemKey,
+    ) -> Result<usize, Error> {
+        run_on_item_key(conn, text, key)
+    }
+
+    fn run_on_row<S: Alter>(
+        &self,
+        conn: &mut Connection<S>,
+        text: &str,
+        key: &ItemKey,
+        item: &Item,
+    ) -> Result<usize, Error> {
+        let tax = ItemTax::of(item);
+        conn.execute(text, &ItemTaxRow::of(key, &tax).values())
+    }
 }

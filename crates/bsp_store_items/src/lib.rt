@@ -5,17 +5,17 @@
 
 mod columns;
 mod item_taxes;
+mod items;
 mod reading;
 mod row;
 mod seconds;
 mod tally_taxes;
 mod tax_rows;
-mod writing;
 
-pub use item_taxes::{ItemTaxRow, item_taxes_query, put_item_tax};
-pub use reading::{items_query, read_item, read_item_key, read_reported};
+pub use item_taxes::{ItemTaxRow, ItemTaxes};
+pub use items::Items;
+pub use reading::{read_item, read_item_key, read_reported};
 pub use row::{ItemRow, flag};
-pub use seconds::{SecondRow, put_second, seconds_query};
-pub use tally_taxes::{TallyTaxRow, put_tally_tax, tally_taxes_query};
+pub use seconds::{SecondRow, Seconds};
+pub use tally_taxes::{TallyTaxRow, TallyTaxes};
 pub use tax_rows::{read_item_tax, read_second};
-pub use writing::put_item;

@@ -6,8 +6,6 @@ ghost use Rattle.sqlite_value.specs.declared.value.Value.TheVariants.{Int};
 ghost use Rattle.bsp_fields.specs.CivilDay.{CivilDay, is_day};
 ghost use Rattle.bsp_fields.specs.Days.{day_number};
 ghost use Rattle.bsp_store_items.specs.Reading.{amounts_in, card_in, document_in, item_in, key_in, numbered, related_in, reported_in, transaction_in};
-ghost use Rattle.bsp_store_base.specs.Content.{item_part};
-ghost use Rattle.bsp_store_base.specs.Shows.{ShowsTable};
 ghost use Rattle.bsp_store_base.specs.Reading.{amount_in, if_there};
 
 use crate::columns::{read_flag, read_kind, read_rate, read_taxes, read_wide};
@@ -17,14 +15,6 @@ use bsp_store_base::{
     ItemTax, agent_at, airline_at, amount_at, day_at, is_null, number_at, period_at,
 };
 use sqlite::Row;
-
-/// The query for the rows of the items, in the order of their keys.
-pub fn items_query() -> &'static str
-    ensures { ShowsTable item_part result.now }
-{
-    "SELECT agent, number, canx, airline, code, issued, period, alive, name, fare, taxes, rate, \
-     commission, rel_airline, rel_number, ca, cc, ex, vendor FROM item ORDER BY agent, number, canx"
-}
 
 /// Reads the item of a key out of a row, whatever another program wrote there. Its tax and its second related document
 /// are in other tables.

@@ -1,17 +1,12 @@
 //! The tax of each tally, as a row of its table.
 
-ghost use Rattle.std.specs.Prelude.{◌≡◌, is_some, None, true, ⊤, OnOk, OnErr};
-ghost use Rattle.std.specs.FinMap.{get, insert, remove};
+ghost use Rattle.std.specs.Prelude.{◌≡◌};
 ghost use Rattle.sqlite.specs.Values.{bound};
 ghost use Rattle.bsp_store_base.specs.Columns.{tally_tax_row};
-ghost use Rattle.bsp_store_base.specs.Content.{tally_tax_part};
-ghost use Rattle.bsp_store_base.specs.Shows.{ShowsTable};
-ghost use Rattle.bsp_store_base.specs.Calls.{Changes, GivesUp};
-ghost use Rattle.bsp_store_base.specs.Synced.{with_value};
 ghost use Rattle.bsp_store_items.specs.TaxWritten.{tally_tax_written};
 
 use bsp_rows::{Tally, TallyKey};
-use bsp_store_base::{agent_digits, airline_digits, period_digits};
+use bsp_store_base::{KeyedTable, Statements, agent_digits, airline_digits, period_digits};
 use sqlite::{Alter, Connection, Error};
 use sqlite_value::value::ValueRef;
 
@@ -50,83 +45,52 @@ impl TallyTaxRow {
     }
 }
 
-fn delete_tally_tax<S: Alter>(conn: &mut Connection<S>, key: &TallyKey) -> Result<usize, Error>
-    ensures ok { OnOk result (Changes S.Store conn.old conn.new (λ now. ⊤) (λ now. record now { tally_taxes = remove now.tally_taxes key.now })) }
-    ensures err { OnErr result (GivesUp S.Store conn.old conn.new) }
-{
-    let agent = agent_digits(key.agent);
-    let airline = airline_digits(key.airline);
-    let period = period_digits(key.period);
-    conn.execute(
-        "DELETE FROM tally_tax WHERE agent = ?1 AND airline = ?2 AND period = ?3",
-        &[
-            ValueRef::Text(&agent),
-            ValueRef::Text(&airline),
-            ValueRef::Text(&period),
-        ],
-    )
-}
+/// The table of the taxes of tallies.
+pub struct TallyTaxes;
 
-fn insert_tally_tax<S: Alter>(
-    conn: &mut Connection<S>,
-    key: &TallyKey,
-    tally: &Tally,
-) -> Result<usize, Error>
-    ensures ok { OnOk result (Changes S.Store conn.old conn.new (λ now. get now.tally_taxes key.now ≡ None) (λ now. record now { tally_taxes = insert now.tally_taxes key.now tally.now })) }
-    ensures err { OnErr result (GivesUp S.Store conn.old conn.new) }
-{
-    let row = TallyTaxRow::of(key, tally);
-    conn.execute(
-        "INSERT INTO tally_tax (agent, airline, period, tax) VALUES (?1, ?2, ?3, ?4)",
-        &row.values(),
-    )
-}
+impl KeyedTable<TallyKey, Tally> for TallyTaxes {
+    ghost use Rattle.bsp_rows.specs.Tallies.{tally_cmp};
+    ghost use Rattle.bsp_store_items.specs.Tables.{tally_taxes_map};
 
-fn update_tally_tax<S: Alter>(
-    conn: &mut Connection<S>,
-    key: &TallyKey,
-    tally: &Tally,
-) -> Result<usize, Error>
-    ensures ok { OnOk result (Changes S.Store conn.old conn.new (λ now. is_some (get now.tally_taxes key.now) ≡ true) (λ now. record now { tally_taxes = insert now.tally_taxes key.now tally.now })) }
-    ensures err { OnErr result (GivesUp S.Store conn.old conn.new) }
-{
-    let row = TallyTaxRow::of(key, tally);
-    conn.execute(
-        "UPDATE tally_tax SET tax = ?4 WHERE agent = ?1 AND airline = ?2 AND period = ?3",
-        &row.values(),
-    )
-}
+    ghost order = { tally_cmp };
 
-/// Makes the row of a key that of the tax of a tally, or leaves none. One statement writes it, by whether the table has a
-/// row of the key.
-///
-/// # Errors
-///
-/// Where the store fails; then the transaction is to be rolled back.
-pub fn put_tally_tax<S: Alter>(
-    conn: &mut Connection<S>,
-    key: TallyKey,
-    is_there: bool,
-    tally: Option<Tally>,
-) -> Result<(), Error>
-    ensures ok { OnOk result (Changes S.Store conn.old conn.new (λ now. is_some (get now.tally_taxes key) ≡ is_there) (λ now. record now { tally_taxes = with_value key tally now.tally_taxes })) }
-    ensures err { OnErr result (GivesUp S.Store conn.old conn.new) }
-{
-    if let Some(tally) = tally {
-        if is_there {
-            update_tally_tax(conn, &key, &tally)?;
-        } else {
-            insert_tally_tax(conn, &key, &tally)?;
+    ghost table = { tally_taxes_map };
+
+    fn statements(&self) -> Statements {
+        Statements {
+            delete: "DELETE FROM tally_tax WHERE agent = ?1 AND airline = ?2 AND period = ?3",
+            insert: "INSERT INTO tally_tax (agent, airline, period, tax) VALUES (?1, ?2, ?3, ?4)",
+            update: "UPDATE tally_tax SET tax = ?4 WHERE agent = ?1 AND airline = ?2 AND period = ?3",
+            query: "SELECT agent, airline, period, tax FROM tally_tax ORDER BY agent, airline, period",
         }
-    } else if is_there {
-        delete_tally_tax(conn, &key)?;
     }
-    Ok(())
-}
 
-/// The query for all rows of the table, in the order of their keys.
-pub fn tally_taxes_query() -> &'static str
-    ensures { ShowsTable tally_tax_part result.now }
-{
-    "SELECT agent, airline, period, tax FROM tally_tax ORDER BY agent, airline, period"
+    fn run_on_key<S: Alter>(
+        &self,
+        conn: &mut Connection<S>,
+        text: &str,
+        key: &TallyKey,
+    ) -> Result<usize, Error> {
+        let agent = agent_digits(key.agent);
+        let airline = airline_digits(key.airline);
+        let period = period_digits(key.period);
+        conn.execute(
+            text,
+            &[
+                ValueRef::Text(&agent),
+                ValueRef::Text(&airline),
+                ValueRef::Text(&period),
+            ],
+        )
+    }
+
+    fn run_on_row<S: Alter>(
+        &self,
+        conn: &mut Connection<S>,
+        text: &str,
+        key: &TallyKey,
+        tally: &Tally,
+    ) -> Result<usize, Error> {
+        conn.execute(text, &TallyTaxRow::of(key, tally).values())
+    }
 }

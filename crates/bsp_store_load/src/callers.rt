@@ -5,7 +5,10 @@ use crate::formed::{formed_agent, formed_range};
 use crate::load::StoredTable;
 use bsp_memory_rows::{NoRoom, Tables};
 use bsp_rows::{AgentCode, DocNumber, RangeKey, Token};
-use bsp_store_callers::{AgentRow, RangeRow, agents_query, ranges_query, read_agent, read_range};
+use bsp_store_base::KeyedTable;
+use bsp_store_callers::{
+    AgentRow, Agents as AgentTable, RangeRow, Ranges as RangeTable, read_agent, read_range,
+};
 use sqlite::Row;
 
 /// Tokens of agents.
@@ -45,7 +48,7 @@ impl StoredTable<AgentCode, Token, Tables> for Agents {
     ghost adds = { agent_added };
 
     fn query(&self) -> &'static str {
-        agents_query()
+        AgentTable.statements().query
     }
 
     fn put(&self, tables: &mut Tables, row: &Row) -> Result<bool, NoRoom> {
@@ -102,7 +105,7 @@ impl StoredTable<RangeKey, DocNumber, Tables> for Ranges {
     ghost adds = { range_added };
 
     fn query(&self) -> &'static str {
-        ranges_query()
+        RangeTable.statements().query
     }
 
     fn put(&self, tables: &mut Tables, row: &Row) -> Result<bool, NoRoom> {

@@ -5,8 +5,8 @@ use crate::equal::is_row;
 use crate::load::StoredTable;
 use bsp_memory_rows::NoRoom;
 use bsp_rows::ItemKey;
-use bsp_store_base::ItemTax;
-use bsp_store_items::{ItemTaxRow, item_taxes_query, read_item_tax};
+use bsp_store_base::{ItemTax, KeyedTable};
+use bsp_store_items::{ItemTaxRow, ItemTaxes, read_item_tax};
 use sqlite::Row;
 use std::collections::BTreeMap;
 
@@ -46,7 +46,7 @@ impl StoredTable<ItemKey, ItemTax, BTreeMap<ItemKey, ItemTax>> for StoredTaxes {
     ghost adds = { entry_added item_total tax_row };
 
     fn query(&self) -> &'static str {
-        item_taxes_query()
+        ItemTaxes.statements().query
     }
 
     fn put(&self, taxes: &mut BTreeMap<ItemKey, ItemTax>, row: &Row) -> Result<bool, NoRoom> {

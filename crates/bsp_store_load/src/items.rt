@@ -18,8 +18,8 @@ use crate::formed::formed_item;
 use crate::load::StoredTable;
 use bsp_memory_rows::{NoRoom, Tables};
 use bsp_rows::{Item, ItemKey, ReportedDocument};
-use bsp_store_base::{ItemTax, TicketKey};
-use bsp_store_items::{ItemRow, items_query, read_item, read_item_key};
+use bsp_store_base::{ItemTax, KeyedTable, TicketKey};
+use bsp_store_items::{ItemRow, Items, read_item, read_item_key};
 use sqlite::Row;
 use std::collections::BTreeMap;
 
@@ -131,7 +131,7 @@ impl<'a> StoredTable<ItemKey, Item, TaxedTables> for StoredItems<'a> {
     ghost adds = { taxed_added };
 
     fn query(&self) -> &'static str {
-        items_query()
+        Items.statements().query
     }
 
     fn put(&self, memory: &mut TaxedTables, row: &Row) -> Result<bool, NoRoom> {

@@ -5,7 +5,8 @@ use crate::formed::formed_memo;
 use crate::load::StoredTable;
 use bsp_memory_rows::{NoRoom, Tables};
 use bsp_rows::{Memo, MemoKey};
-use bsp_store_callers::{MemoRow, memos_query, read_memo};
+use bsp_store_base::KeyedTable;
+use bsp_store_callers::{MemoRow, Memos, read_memo};
 use sqlite::Row;
 
 /// Memos.
@@ -46,7 +47,7 @@ impl StoredTable<MemoKey, Memo, Tables> for StoredMemos {
     ghost adds = { memo_added };
 
     fn query(&self) -> &'static str {
-        memos_query()
+        Memos.statements().query
     }
 
     fn put(&self, tables: &mut Tables, row: &Row) -> Result<bool, NoRoom> {

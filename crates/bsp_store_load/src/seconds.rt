@@ -11,8 +11,8 @@ use crate::load::StoredTable;
 use bsp_memory_rows::NoRoom;
 use bsp_memory_tables::ItemTable;
 use bsp_rows::{Item, ItemKey, ReportedDocument};
-use bsp_store_base::{TicketKey, second_related};
-use bsp_store_items::{SecondRow, read_second, seconds_query};
+use bsp_store_base::{KeyedTable, TicketKey, second_related};
+use bsp_store_items::{SecondRow, Seconds, read_second};
 use sqlite::Row;
 use std::collections::BTreeMap;
 
@@ -53,7 +53,7 @@ impl StoredTable<TicketKey, ReportedDocument, BTreeMap<TicketKey, ReportedDocume
     ghost adds = { entry_added ticket_total second_row };
 
     fn query(&self) -> &'static str {
-        seconds_query()
+        Seconds.statements().query
     }
 
     fn put(

@@ -3,10 +3,11 @@
 ghost use Rattle.bsp_store_base.specs.Shows.{ShowsAll, ShowsTable};
 ghost use Rattle.bsp_store_load.specs.Whole.{part_of};
 
-use bsp_store_callers::tallies_query;
-use bsp_store_items::tally_taxes_query;
+use bsp_store_base::KeyedTable;
+use bsp_store_callers::Tallies;
+use bsp_store_items::TallyTaxes;
 use bsp_store_plan::{
-    airlines_query, commission_taxes_query, meta_query, periods_query, rates_query, terms_query,
+    Airlines, CommissionTaxes, Periods, PlacedTable, Rates, meta_query, terms_query,
 };
 use sqlite::{Alter, Connection, Error, Row};
 
@@ -39,12 +40,12 @@ impl WholeTable {
         match self {
             WholeTable::Meta => meta_query(),
             WholeTable::Terms => terms_query(),
-            WholeTable::Airlines => airlines_query(),
-            WholeTable::Rates => rates_query(),
-            WholeTable::Periods => periods_query(),
-            WholeTable::CommissionTaxes => commission_taxes_query(),
-            WholeTable::Tallies => tallies_query(),
-            WholeTable::TallyTaxes => tally_taxes_query(),
+            WholeTable::Airlines => Airlines.statements().query,
+            WholeTable::Rates => Rates.statements().query,
+            WholeTable::Periods => Periods.statements().query,
+            WholeTable::CommissionTaxes => CommissionTaxes.statements().query,
+            WholeTable::Tallies => Tallies.statements().query,
+            WholeTable::TallyTaxes => TallyTaxes.statements().query,
         }
     }
 }

@@ -3,8 +3,5 @@ pub mod Orders
 pub mod Sharing
 pub mod MetaTable
 pub mod TermsTable
-pub mod AirlineTable
 pub mod PlacedTables
-pub mod RateTable
-pub mod CommissionTaxTable
-pub mod PeriodTable
+pub mod Tables

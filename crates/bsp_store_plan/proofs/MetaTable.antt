@@ -26,7 +26,8 @@ use Rattle.bsp_store_base.specs.Schema.{our_schema, meta_table, meta_columns}
 use Rattle.bsp_store_base.specs.Columns.{Meta, meta_row, meta_rows}
 use Rattle.bsp_store_base.specs.Calls.{Changes}
 use Rattle.bsp_store_base.specs.Content.{Content, form}
-use Rattle.bsp_store_base.proofs.Writes.{key_project, key_test, no_work, Does}
+use Rattle.bsp_store_base.specs.MapTables.{key_project, key_test}
+use Rattle.bsp_store_base.proofs.Writes.{Does, no_work}
 
 -- ---- the texts
 

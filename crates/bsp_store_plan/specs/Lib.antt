@@ -1,2 +1,4 @@
 pub mod Reading
 pub mod Values
+pub mod Tables
+pub mod PlacedTables

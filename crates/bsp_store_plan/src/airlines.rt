@@ -1,23 +1,19 @@
 //! The table of the airlines: their places in the plan and their tokens.
 
-ghost use Rattle.std.specs.Prelude.{◌≡◌, is_some, None, true, ⊤, OnOk, OnErr, pos, option_map};
-ghost use Rattle.std.specs.FinMap.{get, insert, remove};
+ghost use Rattle.std.specs.Prelude.{◌≡◌, pos, option_map};
 ghost use Rattle.std.specs.Option.{ForSome};
 ghost use Rattle.sqlite_value.specs.Value.{owned};
 ghost use Rattle.sqlite_value.specs.declared.value.Value.TheVariants.{Int, Text};
 ghost use Rattle.sqlite.specs.Values.{bound, bound_value, or_null};
 ghost use Rattle.bsp_store_base.specs.Airlines.{HasStoredPlace};
-ghost use Rattle.bsp_store_base.specs.Calls.{Changes, GivesUp};
 ghost use Rattle.bsp_store_base.specs.Columns.{airline_row};
-ghost use Rattle.bsp_store_base.specs.Content.{airline_part};
-ghost use Rattle.bsp_store_base.specs.Shows.{ShowsTable};
-ghost use Rattle.bsp_store_base.specs.Synced.{with_value};
 ghost use Rattle.bsp_store_plan.specs.Values.{airline_values};
 
 use bsp_rows::{AirlineCode, Token};
-use bsp_store_base::{AirlineEntry, airline_digits};
+use bsp_store_base::{AirlineEntry, KeyedTable, Statements, airline_digits};
 use sqlite::{Alter, Connection, Error};
 use sqlite_value::value::ValueRef;
+use std::marker::Model;
 
 /// The row of an airline that is published, registered, or both.
 #[derive(Clone, Copy)]
@@ -80,82 +76,82 @@ impl AirlineRow {
     }
 }
 
-fn delete_airline<S: Alter>(conn: &mut Connection<S>, code: AirlineCode) -> Result<usize, Error>
-    ensures ok { OnOk result (Changes S.Store conn.old conn.new (λ now. ⊤) (λ now. record now { airlines = remove now.airlines code })) }
-    ensures err { OnErr result (GivesUp S.Store conn.old conn.new) }
-{
-    let digits = airline_digits(code);
-    conn.execute(
-        "DELETE FROM airline WHERE code = ?1",
-        &[ValueRef::Text(&digits)],
-    )
+/// An airline whose place, if it has one, fits the integers of a store.
+#[derive(Clone, Copy)]
+pub struct StoredAirline {
+    airline: AirlineEntry,
 }
 
-fn insert_airline<S: Alter>(
-    conn: &mut Connection<S>,
-    code: AirlineCode,
-    airline: &AirlineEntry,
-) -> Result<usize, Error>
-    requires { HasStoredPlace airline.now }
-    ensures ok { OnOk result (Changes S.Store conn.old conn.new (λ now. get now.airlines code ≡ None) (λ now. record now { airlines = insert now.airlines code airline.now })) }
-    ensures err { OnErr result (GivesUp S.Store conn.old conn.new) }
-{
-    let row = AirlineRow::of(code, airline);
-    let values = row.values();
-    conn.execute(
-        "INSERT INTO airline (code, place, token) VALUES (?1, ?2, ?3)",
-        &values,
-    )
+impl Model for StoredAirline {
+    ghost use Rattle.bsp_store_base.specs.Airlines.{HasStoredPlace};
+    ghost use Rattle.bsp_store_base.specs.declared.airlines.AirlineEntry.{AirlineEntry as Entry};
+
+    ghost Value = { Entry };
+
+    ghost view = { λ stored. stored.airline };
+
+    ghost inverse = { λ airline. record { airline = airline } };
+
+    ghost invariant = { λ stored. HasStoredPlace stored.airline };
 }
 
-fn update_airline<S: Alter>(
-    conn: &mut Connection<S>,
-    code: AirlineCode,
-    airline: &AirlineEntry,
-) -> Result<usize, Error>
-    requires { HasStoredPlace airline.now }
-    ensures ok { OnOk result (Changes S.Store conn.old conn.new (λ now. is_some (get now.airlines code) ≡ true) (λ now. record now { airlines = insert now.airlines code airline.now })) }
-    ensures err { OnErr result (GivesUp S.Store conn.old conn.new) }
-{
-    let row = AirlineRow::of(code, airline);
-    let values = row.values();
-    conn.execute(
-        "UPDATE airline SET place = ?2, token = ?3 WHERE code = ?1",
-        &values,
-    )
-}
-
-/// Leaves this place and this token at the airline's code, or no row. One statement writes it, by whether the table has a
-/// row of the code.
-///
-/// # Errors
-///
-/// Those of the store.
-pub fn put_airline<S: Alter>(
-    conn: &mut Connection<S>,
-    code: AirlineCode,
-    is_there: bool,
-    airline: Option<AirlineEntry>,
-) -> Result<(), Error>
-    requires { ForSome airline HasStoredPlace }
-    ensures ok { OnOk result (Changes S.Store conn.old conn.new (λ now. is_some (get now.airlines code) ≡ is_there) (λ now. record now { airlines = with_value code airline now.airlines })) }
-    ensures err { OnErr result (GivesUp S.Store conn.old conn.new) }
-{
-    if let Some(airline) = airline {
-        if is_there {
-            update_airline(conn, code, &airline)?;
-        } else {
-            insert_airline(conn, code, &airline)?;
+impl StoredAirline {
+    /// The airline, or none.
+    pub fn of(airline: Option<AirlineEntry>) -> Option<StoredAirline>
+        requires { ForSome airline HasStoredPlace }
+        ensures { result ≡ airline }
+    {
+        match airline {
+            Some(airline) => Some(StoredAirline { airline }),
+            None => None,
         }
-    } else if is_there {
-        delete_airline(conn, code)?;
     }
-    Ok(())
+
+    fn entry(&self) -> AirlineEntry
+        ensures value { result ≡ self.now }
+        ensures stored { HasStoredPlace result }
+    {
+        self.airline
+    }
 }
 
-/// The query for the rows of the airlines in the order of their codes.
-pub fn airlines_query() -> &'static str
-    ensures { ShowsTable airline_part result.now }
-{
-    "SELECT code, place, token FROM airline ORDER BY code"
+/// The table of the airlines: their places in the plan and their tokens.
+pub struct Airlines;
+
+impl KeyedTable<AirlineCode, StoredAirline> for Airlines {
+    ghost use Rattle.std.specs.Ordering.{nat_cmp};
+    ghost use Rattle.bsp_store_plan.specs.Tables.{airlines_map};
+
+    ghost order = { nat_cmp };
+
+    ghost table = { airlines_map };
+
+    fn statements(&self) -> Statements {
+        Statements {
+            delete: "DELETE FROM airline WHERE code = ?1",
+            insert: "INSERT INTO airline (code, place, token) VALUES (?1, ?2, ?3)",
+            update: "UPDATE airline SET place = ?2, token = ?3 WHERE code = ?1",
+            query: "SELECT code, place, token FROM airline ORDER BY code",
+        }
+    }
+
+    fn run_on_key<S: Alter>(
+        &self,
+        conn: &mut Connection<S>,
+        text: &str,
+        code: &AirlineCode,
+    ) -> Result<usize, Error> {
+        let digits = airline_digits(*code);
+        conn.execute(text, &[ValueRef::Text(&digits)])
+    }
+
+    fn run_on_row<S: Alter>(
+        &self,
+        conn: &mut Connection<S>,
+        text: &str,
+        code: &AirlineCode,
+        airline: &StoredAirline,
+    ) -> Result<usize, Error> {
+        conn.execute(text, &AirlineRow::of(*code, &airline.entry()).values())
+    }
 }

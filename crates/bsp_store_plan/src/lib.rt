@@ -6,15 +6,17 @@ mod columns;
 mod commission_taxes;
 mod meta;
 mod periods;
+mod placed;
 mod rates;
 mod reading;
 mod terms;
 
-pub use airlines::{AirlineRow, airlines_query, put_airline};
-pub use commission_taxes::{CommissionTaxRow, add_commission_taxes, commission_taxes_query};
+pub use airlines::{AirlineRow, Airlines, StoredAirline};
+pub use commission_taxes::{CommissionTaxRow, CommissionTaxes};
 pub use meta::{MetaRow, VERSION, add_first_meta, meta_query, put_meta};
-pub use periods::{PeriodRow, add_periods, periods_query};
-pub use rates::{RateRow, add_rates, rates_query};
+pub use periods::{PeriodRow, Periods};
+pub use placed::{PlacedStatements, PlacedTable, add_all};
+pub use rates::{RateRow, Rates};
 pub use reading::{
     read_airline, read_commission_tax, read_meta, read_period, read_rate, read_terms, read_version,
 };

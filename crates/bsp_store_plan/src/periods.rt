@@ -1,13 +1,11 @@
 //! The table of the periods.
 
-ghost use Rattle.std.specs.Prelude.{◌≡◌, ◌<◌, ◌^◌, ◌+◌, ◌++◌, ◌∷◌, [], length, OnOk, OnErr, take};
+ghost use Rattle.std.specs.Prelude.{◌≡◌, ◌<◌, ◌^◌};
 ghost use Rattle.sqlite.specs.Values.{bound};
-ghost use Rattle.bsp_store_base.specs.Calls.{Changes, GivesUp, GivesUpIf};
 ghost use Rattle.bsp_store_base.specs.Columns.{period_row};
-ghost use Rattle.bsp_store_base.specs.Content.{period_part};
-ghost use Rattle.bsp_store_base.specs.Shows.{ShowsTable};
 ghost use Rattle.bsp_store_plan.specs.Values.{period_values};
 
+use crate::placed::{PlacedStatements, PlacedTable};
 use bsp_rows::Period;
 use bsp_store_base::period_digits;
 use sqlite::{Alter, Connection, Error};
@@ -52,44 +50,28 @@ impl PeriodRow {
     }
 }
 
-fn add_period<S: Alter>(
-    conn: &mut Connection<S>,
-    place: usize,
-    period: &Period,
-) -> Result<usize, Error>
-    requires { place < 2 ^ 63 }
-    ensures ok { OnOk result (Changes S.Store conn.old conn.new (λ now. place ≡ length now.periods + 1) (λ now. record now { periods = now.periods ++ period.now ∷ [] })) }
-    ensures err { OnErr result (GivesUp S.Store conn.old conn.new) }
-{
-    let row = PeriodRow::of(place, period);
-    conn.execute(
-        "INSERT INTO period (code, place, begins, ends, remit) VALUES (?1, ?2, ?3, ?4, ?5)",
-        &row.values(),
-    )
-}
+/// The table of the periods.
+pub struct Periods;
 
-/// Writes the periods from a place on, counted from 0. The table has those before it.
-///
-/// # Errors
-///
-/// That of the statement which failed.
-pub fn add_periods<S: Alter>(
-    conn: &mut Connection<S>,
-    from: usize,
-    periods: &[Period],
-) -> Result<(), Error>
-    ensures ok { OnOk result (Changes S.Store conn.old conn.new (λ now. now.periods ≡ take from periods.now) (λ now. record now { periods = periods.now })) }
-    ensures err { OnErr result (GivesUpIf S.Store conn.old conn.new (λ now. now.periods ≡ take from periods.now)) }
-{
-    for at in from..periods.len() {
-        add_period(conn, at + 1, &periods[at])?;
+impl PlacedTable<Period> for Periods {
+    ghost use Rattle.bsp_store_plan.specs.Tables.{periods_list};
+
+    ghost list = { periods_list };
+
+    fn statements(&self) -> PlacedStatements {
+        PlacedStatements {
+            insert: "INSERT INTO period (code, place, begins, ends, remit) VALUES (?1, ?2, ?3, ?4, ?5)",
+            query: "SELECT code, place, begins, ends, remit FROM period ORDER BY place",
+        }
     }
-    Ok(())
-}
 
-/// The query for the rows of the periods in the order of their places.
-pub fn periods_query() -> &'static str
-    ensures { ShowsTable period_part result.now }
-{
-    "SELECT code, place, begins, ends, remit FROM period ORDER BY place"
+    fn run_on_row<S: Alter>(
+        &self,
+        conn: &mut Connection<S>,
+        text: &str,
+        place: usize,
+        period: &Period,
+    ) -> Result<usize, Error> {
+        conn.execute(text, &PeriodRow::of(place, period).values())
+    }
 }

@@ -1,8 +1,7 @@
 -- The tables whose rows are found by keys, as they follow from the maps in memory.
-use Rattle.std.proofs.Common.{◌≡◌, ℕ, Bool, true, false, cond, List, Option, is_some, refl, sym, ap, ◌∙◌, nat_cmp}
-use Rattle.std.specs.Cmp.{nat_cmp_total}
+use Rattle.std.proofs.Common.{◌≡◌, ℕ, Bool, true, false, cond, List, Option, is_some, refl, sym, ap, ◌∙◌, nat_cmp, Ordering}
 use Rattle.std.specs.Option.{option_flatten}
-use Rattle.std.specs.FinMap.{FinMap, get, nat_cmp-IsAntisymmetric}
+use Rattle.std.specs.FinMap.{FinMap, get}
 use Rattle.bsp_maps.specs.Present.{present}
 use Rattle.bsp_maps.proofs.PresentLemmas.{get-present}
 use Rattle.bsp_rows.specs.Item.{Item}
@@ -15,9 +14,16 @@ use Rattle.bsp_rows.specs.declared.keys.ItemKey.{ItemKey}
 use Rattle.bsp_rows.specs.declared.keys.MemoKey.{MemoKey}
 use Rattle.bsp_rows.specs.declared.keys.RangeKey.{RangeKey}
 use Rattle.bsp_rows.specs.declared.keys.TallyKey.{TallyKey}
-use Rattle.bsp_rows.proofs.KeyOrders.{item_exact, item_total, memo_exact, memo_total, range_exact, range_total, tally_exact, tally_total}
+use Rattle.bsp_rows.proofs.KeyOrders.{item_exact, item_total, range_total}
+use Rattle.bsp_store_base.specs.MapTables.{IsMapTable, MapTable}
 use Rattle.bsp_store_base.specs.Seconds.{sale_at, second_in, seconds_of, ticket, ticket_cmp, with_second}
 use Rattle.bsp_store_base.proofs.SecondLemmas.{get-seconds_of, seconds_of-written}
+use Rattle.bsp_store_callers.specs.Tables.{agents_map, memos_map, ranges_map, tallies_map}
+use Rattle.bsp_store_callers.proofs.Tables.{agents_lawful, memos_lawful, ranges_lawful, tallies_lawful}
+use Rattle.bsp_store_items.specs.Tables.{item_taxes_map, items_map, seconds_map, tally_taxes_map}
+use Rattle.bsp_store_items.proofs.Tables.{item_taxes_lawful, items_lawful, seconds_lawful, tally_taxes_lawful}
+use Rattle.bsp_store_plan.specs.Tables.{airlines_map}
+use Rattle.bsp_store_plan.proofs.Tables.{airlines_lawful}
 use Rattle.bsp_store_load.specs.AirlineEntry.{AirlineEntry}
 use Rattle.bsp_store_load.specs.Airlines.{airline_entries, entry_of, place_of}
 use Rattle.bsp_store_load.specs.Contents.{used_at, used_tallies}
@@ -28,99 +34,52 @@ use Rattle.bsp_store_save.specs.Seconds.{gives_second, has_second}
 use Rattle.bsp_store_save.proofs.EachLemmas.{same_present}
 use Rattle.bsp_store_save.proofs.Followed.{Followed, pointwise}
 
+module _ {K V W : Type 0} {R : K → K → Ordering} (t : MapTable K W R) (l : IsMapTable t) where
+  -- a table that has at each key what follows from the value there
+  abbrev pub keyed : (of : FinMap R V → FinMap R W) (row : K → Option V → Option W) → ((m : FinMap R V) (q : K) → get (of m) q ≡ row q (get m q)) → Followed K V (FinMap R W) R
+  keyed of row sees = record {
+    total = l.total;
+    exact = l.exact;
+    of = of;
+    step = λ k v m. with_value k (row k v) m;
+    steps = pointwise l.total l.exact of row sees;
+    holds = λ k m. is_some (get m k);
+    rows = λ k v. is_some (row k v);
+    sees = λ m k. ap is_some (sees m k);
+    field = t.of;
+    put = t.with;
+    same = l.same;
+    seen = l.seen;
+    twice = l.twice;
+  }
+
+module _ {K V : Type 0} {R : K → K → Ordering} (t : MapTable K V R) (l : IsMapTable t) where
+  abbrev pub as_it_is : Followed K V (FinMap R V) R
+  as_it_is = keyed t l (λ m. m) (λ k v. v) (λ m q. refl)
+
 -- ---- callers and ranges
 
 abbrev pub agents_table : Followed ℕ (List ℕ) (FinMap nat_cmp (List ℕ)) nat_cmp
-agents_table = record {
-  total = nat_cmp_total;
-  exact = nat_cmp-IsAntisymmetric;
-  of = λ m. m;
-  step = with_value;
-  steps = λ m k v. refl;
-  holds = λ k m. is_some (get m k);
-  rows = λ k v. is_some v;
-  sees = λ m k. refl;
-  field = λ c. c.agents;
-  put = λ m c. record c { agents = m };
-  same = λ c. refl;
-  seen = λ m c. refl;
-  twice = λ m n c. refl;
-}
+agents_table = as_it_is agents_map agents_lawful
 
 -- the tokens of airlines, where these are published
 abbrev pub airlines_table : List ℕ → Followed ℕ (List ℕ) (FinMap nat_cmp AirlineEntry) nat_cmp
-airlines_table published = record {
-  total = nat_cmp_total;
-  exact = nat_cmp-IsAntisymmetric;
-  of = airline_entries published;
-  step = λ k v m. with_value k (entry_of (place_of k published) v) m;
-  steps = pointwise nat_cmp_total nat_cmp-IsAntisymmetric (airline_entries published) (λ k v. entry_of (place_of k published) v) (λ m q. get-airline_entries m published q);
-  holds = λ k m. is_some (get m k);
-  rows = λ k v. is_some (entry_of (place_of k published) v);
-  sees = λ m k. ap is_some (get-airline_entries m published k);
-  field = λ c. c.airlines;
-  put = λ m c. record c { airlines = m };
-  same = λ c. refl;
-  seen = λ m c. refl;
-  twice = λ m n c. refl;
-}
+airlines_table published = keyed airlines_map airlines_lawful (airline_entries published) (λ k v. entry_of (place_of k published) v) (λ m q. get-airline_entries m published q)
 
 pub range_seen : (m : FinMap range_cmp (Option ℕ)) (q : RangeKey) → get (present m) q ≡ option_flatten (get m q)
 range_seen m q = get-present range_total m q ∙ same_present (get m q)
 
 -- a range that was withdrawn has no row
 abbrev pub ranges_table : Followed RangeKey (Option ℕ) (FinMap range_cmp ℕ) range_cmp
-ranges_table = record {
-  total = range_total;
-  exact = range_exact;
-  of = present;
-  step = λ k v m. with_value k (option_flatten v) m;
-  steps = pointwise range_total range_exact present (λ k v. option_flatten v) range_seen;
-  holds = λ k m. is_some (get m k);
-  rows = λ k v. is_some (option_flatten v);
-  sees = λ m k. ap is_some (range_seen m k);
-  field = λ c. c.ranges;
-  put = λ m c. record c { ranges = m };
-  same = λ c. refl;
-  seen = λ m c. refl;
-  twice = λ m n c. refl;
-}
+ranges_table = keyed ranges_map ranges_lawful present (λ k v. option_flatten v) range_seen
 
 -- ---- items
 
 abbrev pub items_table : Followed ItemKey Item (FinMap item_cmp Item) item_cmp
-items_table = record {
-  total = item_total;
-  exact = item_exact;
-  of = λ m. m;
-  step = with_value;
-  steps = λ m k v. refl;
-  holds = λ k m. is_some (get m k);
-  rows = λ k v. is_some v;
-  sees = λ m k. refl;
-  field = λ c. c.items;
-  put = λ m c. record c { items = m };
-  same = λ c. refl;
-  seen = λ m c. refl;
-  twice = λ m n c. refl;
-}
+items_table = as_it_is items_map items_lawful
 
 abbrev pub item_taxes_table : Followed ItemKey Item (FinMap item_cmp Item) item_cmp
-item_taxes_table = record {
-  total = item_total;
-  exact = item_exact;
-  of = λ m. m;
-  step = with_value;
-  steps = λ m k v. refl;
-  holds = λ k m. is_some (get m k);
-  rows = λ k v. is_some v;
-  sees = λ m k. refl;
-  field = λ c. c.item_taxes;
-  put = λ m c. record c { item_taxes = m };
-  same = λ c. refl;
-  seen = λ m c. refl;
-  twice = λ m n c. refl;
-}
+item_taxes_table = as_it_is item_taxes_map item_taxes_lawful
 
 -- the key of a ticket's item is that of its ticket
 its_sale : (k : ItemKey) → k.is_canx ≡ false → sale_at (ticket k) ≡ k
@@ -141,63 +100,21 @@ seconds_table = record {
   holds = has_second;
   rows = gives_second;
   sees = λ m k. second_seen m k k.is_canx refl;
-  field = λ c. c.seconds;
-  put = λ m c. record c { seconds = m };
-  same = λ c. refl;
-  seen = λ m c. refl;
-  twice = λ m n c. refl;
+  field = seconds_map.of;
+  put = seconds_map.with;
+  same = seconds_lawful.same;
+  seen = seconds_lawful.seen;
+  twice = seconds_lawful.twice;
 }
 
 -- ---- memos and tallies
 
 abbrev pub memos_table : Followed MemoKey MemoFields (FinMap memo_cmp MemoFields) memo_cmp
-memos_table = record {
-  total = memo_total;
-  exact = memo_exact;
-  of = λ m. m;
-  step = with_value;
-  steps = λ m k v. refl;
-  holds = λ k m. is_some (get m k);
-  rows = λ k v. is_some v;
-  sees = λ m k. refl;
-  field = λ c. c.memos;
-  put = λ m c. record c { memos = m };
-  same = λ c. refl;
-  seen = λ m c. refl;
-  twice = λ m n c. refl;
-}
+memos_table = as_it_is memos_map memos_lawful
 
 -- a tally to which no row adds has none
 abbrev pub tallies_table : Followed TallyKey Tally (FinMap tally_cmp Tally) tally_cmp
-tallies_table = record {
-  total = tally_total;
-  exact = tally_exact;
-  of = used_tallies;
-  step = λ k v m. with_value k (used_at v) m;
-  steps = pointwise tally_total tally_exact used_tallies (λ k v. used_at v) get-used;
-  holds = λ k m. is_some (get m k);
-  rows = λ k v. is_some (used_at v);
-  sees = λ m k. ap is_some (get-used m k);
-  field = λ c. c.tallies;
-  put = λ m c. record c { tallies = m };
-  same = λ c. refl;
-  seen = λ m c. refl;
-  twice = λ m n c. refl;
-}
+tallies_table = keyed tallies_map tallies_lawful used_tallies (λ k v. used_at v) get-used
 
 abbrev pub tally_taxes_table : Followed TallyKey Tally (FinMap tally_cmp Tally) tally_cmp
-tally_taxes_table = record {
-  total = tally_total;
-  exact = tally_exact;
-  of = used_tallies;
-  step = λ k v m. with_value k (used_at v) m;
-  steps = pointwise tally_total tally_exact used_tallies (λ k v. used_at v) get-used;
-  holds = λ k m. is_some (get m k);
-  rows = λ k v. is_some (used_at v);
-  sees = λ m k. ap is_some (get-used m k);
-  field = λ c. c.tally_taxes;
-  put = λ m c. record c { tally_taxes = m };
-  same = λ c. refl;
-  seen = λ m c. refl;
-  twice = λ m n c. refl;
-}
+tally_taxes_table = keyed tally_taxes_map tally_taxes_lawful used_tallies (λ k v. used_at v) get-used

@@ -1,5 +1,13 @@
 -- Keys of a table that are written one after the other.
-use Rattle.std.specs.Prelude.{◌≡◌, Bool, Option, List, [], ◌∷◌, ⊤}
+use Rattle.std.specs.Prelude.{◌≡◌, Bool, Option, List, [], ◌∷◌, is_some, ⊤}
+use Rattle.std.specs.FinMap.{get}
+use Rattle.std.specs.declared.cmp.Ordering.{Ordering}
+use Rattle.bsp_store_base.specs.MapTables.{MapTable}
+use Rattle.bsp_store_load.specs.Content.{Content}
+
+-- whether a table has a row of a key
+abbrev pub has_row : {K V : Type 0} {R : K → K → Ordering} → MapTable K V R → K → Content → Bool
+has_row t k c = is_some (get (t.of c) k)
 
 module _ {K V W C : Type 0} (set : K → Option V → C → C) (at : K → Option V) where
   -- with what is at each of the keys

@@ -12,9 +12,9 @@ ghost use Rattle.bsp_store_load.specs.Plans.{IsSaved, plan_before};
 use crate::written::save_tokens;
 use bsp_maps::Logged;
 use bsp_rows::{AirlineCode, Plan, Token};
-use bsp_store_base::{AirlineEntry, place_of};
+use bsp_store_base::{AirlineEntry, place_of, put};
 use bsp_store_load::SavedPlan;
-use bsp_store_plan::put_airline;
+use bsp_store_plan::{Airlines, StoredAirline};
 use sqlite::{Alter, Connection, Error};
 use std::alloc::Global;
 use std::collections::BTreeMap;
@@ -48,7 +48,8 @@ fn publish<S: Alter>(
     let place = Some(at + 1);
     let airline = AirlineEntry { place, token };
     let is_there = AirlineEntry::of(place_of(code, &published[..at]), airline.token).is_some();
-    put_airline(conn, code, is_there, Some(airline))
+    let stored = StoredAirline::of(Some(airline));
+    put(&Airlines, conn, code, is_there, stored)
 }
 
 /// Writes the airlines that are published from an index on, where those before it are published.

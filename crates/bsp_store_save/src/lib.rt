@@ -12,7 +12,6 @@ mod parts;
 mod plans;
 mod saving;
 mod seconds;
-mod taxes;
 mod written;
 
 pub use ends::recover;

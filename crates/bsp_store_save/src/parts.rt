@@ -1,47 +1,43 @@
-//! The tables whose rows are found by keys.
+//! The tables whose rows are found by keys: what each has of a value in memory.
 
 ghost use Rattle.std.specs.Prelude.{◌≡◌, is_some, OnErr, OnOk};
-ghost use Rattle.std.specs.FinMap.{get};
 ghost use Rattle.std.specs.Option.{option_flatten};
+ghost use Rattle.bsp_store_base.specs.MapTables.{after, holds_row};
+ghost use Rattle.bsp_store_callers.specs.Tables.{ranges_map};
 ghost use Rattle.bsp_store_load.specs.Airlines.{entry_of, place_of};
 ghost use Rattle.bsp_store_load.specs.Calls.{Changes, GivesUp};
 ghost use Rattle.bsp_store_load.specs.Contents.{used_at};
-ghost use Rattle.bsp_store_load.specs.Synced.{with_value};
+ghost use Rattle.bsp_store_plan.specs.Tables.{airlines_map};
+ghost use Rattle.bsp_store_save.specs.Each.{has_row};
 
 use crate::keyed::Keyed;
-use bsp_rows::{
-    AgentCode, AirlineCode, DocNumber, Item, ItemKey, Memo, MemoKey, RangeKey, Tally, TallyKey,
-    Token,
-};
-use bsp_store_base::{AirlineEntry, place_of};
-use bsp_store_callers::{put_agent, put_memo, put_range, put_tally};
-use bsp_store_items::put_item;
-use bsp_store_plan::put_airline;
+use bsp_rows::{AirlineCode, DocNumber, RangeKey, Tally, TallyKey, Token};
+use bsp_store_base::{AirlineEntry, KeyedTable, place_of, put};
+use bsp_store_callers::Ranges;
+use bsp_store_plan::{Airlines, StoredAirline};
 use sqlite::{Alter, Connection, Error};
 
-/// The tokens of agents.
-pub(crate) struct Agents;
+/// A table that has each value as it is in memory.
+pub(crate) struct AsItIs<T> {
+    pub(crate) table: T,
+}
 
-/// The tokens of airlines, where these airlines are published.
-#[derive(Clone, Copy)]
-pub(crate) struct Airlines<'a> {
-    pub(crate) published: &'a [AirlineCode],
+/// A table that has the tallies to which some row adds.
+pub(crate) struct Tallied<T> {
+    pub(crate) table: T,
 }
 
 /// The ranges. One that was withdrawn has no value.
-pub(crate) struct Ranges;
+pub(crate) struct Granted;
 
-/// The items.
-pub(crate) struct ItemRows;
-
-/// The memos.
-pub(crate) struct MemoRows;
-
-/// The tallies to which some row adds.
-pub(crate) struct TallyRows;
+/// The tokens of airlines, where these airlines are published.
+#[derive(Clone, Copy)]
+pub(crate) struct AirlineTokens<'a> {
+    pub(crate) published: &'a [AirlineCode],
+}
 
 /// The tally, if some row adds to it.
-pub(crate) fn used(tally: Option<Tally>) -> Option<Tally>
+fn used(tally: Option<Tally>) -> Option<Tally>
     ensures { result ≡ used_at tally }
 {
     match tally {
@@ -50,14 +46,14 @@ pub(crate) fn used(tally: Option<Tally>) -> Option<Tally>
     }
 }
 
-impl Keyed<AgentCode, Token> for Agents {
-    ghost set = { λ table key value c. record c { agents = with_value key value c.agents } };
+impl<K: Ord + Copy + Drop, V: Copy + Drop, T: KeyedTable<K, V>> Keyed<K, V> for AsItIs<T> {
+    ghost set = { λ table. after T.table };
 
-    ghost holds = { λ key c. is_some (get c.agents key) };
+    ghost holds = { has_row T.table };
 
     ghost rows = { λ table key value. is_some value };
 
-    fn has_row(&self, _key: AgentCode, value: Option<Token>) -> bool
+    fn has_row(&self, _key: K, value: Option<V>) -> bool
         ensures { result ≡ is_some value }
     {
         value.is_some()
@@ -66,130 +62,21 @@ impl Keyed<AgentCode, Token> for Agents {
     fn put<S: Alter>(
         &self,
         conn: &mut Connection<S>,
-        key: AgentCode,
+        key: K,
         is_there: bool,
-        value: Option<Token>,
+        value: Option<V>,
     ) -> Result<(), Error>
-        ensures ok { OnOk result (Changes S.Store conn.old conn.new (λ c. is_some (get c.agents key) ≡ is_there) (λ c. record c { agents = with_value key value c.agents })) }
+        ensures ok { OnOk result (Changes S.Store conn.old conn.new (holds_row T.table key is_there) (after T.table key value)) }
         ensures err { OnErr result (GivesUp S.Store conn.old conn.new) }
     {
-        put_agent(conn, key, is_there, value)
+        put(&self.table, conn, key, is_there, value)
     }
 }
 
-impl<'a> Keyed<AirlineCode, Token> for Airlines<'a> {
-    ghost set = { λ table key value c. record c { airlines = with_value key (entry_of (place_of key table.published.now) value) c.airlines } };
+impl<T: KeyedTable<TallyKey, Tally>> Keyed<TallyKey, Tally> for Tallied<T> {
+    ghost set = { λ table key value. after T.table key (used_at value) };
 
-    ghost holds = { λ key c. is_some (get c.airlines key) };
-
-    ghost rows = { λ table key value. is_some (entry_of (place_of key table.published.now) value) };
-
-    fn has_row(&self, key: AirlineCode, value: Option<Token>) -> bool
-        ensures { result ≡ is_some (entry_of (place_of key self.now.published.now) value) }
-    {
-        AirlineEntry::of(place_of(key, self.published), value).is_some()
-    }
-
-    fn put<S: Alter>(
-        &self,
-        conn: &mut Connection<S>,
-        key: AirlineCode,
-        is_there: bool,
-        value: Option<Token>,
-    ) -> Result<(), Error>
-        ensures ok { OnOk result (Changes S.Store conn.old conn.new (λ c. is_some (get c.airlines key) ≡ is_there) (λ c. record c { airlines = with_value key (entry_of (place_of key self.now.published.now) value) c.airlines })) }
-        ensures err { OnErr result (GivesUp S.Store conn.old conn.new) }
-    {
-        let airline = AirlineEntry::of(place_of(key, self.published), value);
-        put_airline(conn, key, is_there, airline)
-    }
-}
-
-impl Keyed<RangeKey, Option<DocNumber>> for Ranges {
-    ghost set = { λ table key value c. record c { ranges = with_value key (option_flatten value) c.ranges } };
-
-    ghost holds = { λ key c. is_some (get c.ranges key) };
-
-    ghost rows = { λ table key value. is_some (option_flatten value) };
-
-    fn has_row(&self, _key: RangeKey, value: Option<Option<DocNumber>>) -> bool
-        ensures { result ≡ is_some (option_flatten value) }
-    {
-        value.flatten().is_some()
-    }
-
-    fn put<S: Alter>(
-        &self,
-        conn: &mut Connection<S>,
-        key: RangeKey,
-        is_there: bool,
-        value: Option<Option<DocNumber>>,
-    ) -> Result<(), Error>
-        ensures ok { OnOk result (Changes S.Store conn.old conn.new (λ c. is_some (get c.ranges key) ≡ is_there) (λ c. record c { ranges = with_value key (option_flatten value) c.ranges })) }
-        ensures err { OnErr result (GivesUp S.Store conn.old conn.new) }
-    {
-        put_range(conn, &key, is_there, value.flatten())
-    }
-}
-
-impl Keyed<ItemKey, Item> for ItemRows {
-    ghost set = { λ table key value c. record c { items = with_value key value c.items } };
-
-    ghost holds = { λ key c. is_some (get c.items key) };
-
-    ghost rows = { λ table key value. is_some value };
-
-    fn has_row(&self, _key: ItemKey, value: Option<Item>) -> bool
-        ensures { result ≡ is_some value }
-    {
-        value.is_some()
-    }
-
-    fn put<S: Alter>(
-        &self,
-        conn: &mut Connection<S>,
-        key: ItemKey,
-        is_there: bool,
-        value: Option<Item>,
-    ) -> Result<(), Error>
-        ensures ok { OnOk result (Changes S.Store conn.old conn.new (λ c. is_some (get c.items key) ≡ is_there) (λ c. record c { items = with_value key value c.items })) }
-        ensures err { OnErr result (GivesUp S.Store conn.old conn.new) }
-    {
-        put_item(conn, &key, is_there, value)
-    }
-}
-
-impl Keyed<MemoKey, Memo> for MemoRows {
-    ghost set = { λ table key value c. record c { memos = with_value key value c.memos } };
-
-    ghost holds = { λ key c. is_some (get c.memos key) };
-
-    ghost rows = { λ table key value. is_some value };
-
-    fn has_row(&self, _key: MemoKey, value: Option<Memo>) -> bool
-        ensures { result ≡ is_some value }
-    {
-        value.is_some()
-    }
-
-    fn put<S: Alter>(
-        &self,
-        conn: &mut Connection<S>,
-        key: MemoKey,
-        is_there: bool,
-        value: Option<Memo>,
-    ) -> Result<(), Error>
-        ensures ok { OnOk result (Changes S.Store conn.old conn.new (λ c. is_some (get c.memos key) ≡ is_there) (λ c. record c { memos = with_value key value c.memos })) }
-        ensures err { OnErr result (GivesUp S.Store conn.old conn.new) }
-    {
-        put_memo(conn, key, is_there, value)
-    }
-}
-
-impl Keyed<TallyKey, Tally> for TallyRows {
-    ghost set = { λ table key value c. record c { tallies = with_value key (used_at value) c.tallies } };
-
-    ghost holds = { λ key c. is_some (get c.tallies key) };
+    ghost holds = { has_row T.table };
 
     ghost rows = { λ table key value. is_some (used_at value) };
 
@@ -206,9 +93,65 @@ impl Keyed<TallyKey, Tally> for TallyRows {
         is_there: bool,
         value: Option<Tally>,
     ) -> Result<(), Error>
-        ensures ok { OnOk result (Changes S.Store conn.old conn.new (λ c. is_some (get c.tallies key) ≡ is_there) (λ c. record c { tallies = with_value key (used_at value) c.tallies })) }
+        ensures ok { OnOk result (Changes S.Store conn.old conn.new (holds_row T.table key is_there) (after T.table key (used_at value))) }
         ensures err { OnErr result (GivesUp S.Store conn.old conn.new) }
     {
-        put_tally(conn, key, is_there, used(value))
+        put(&self.table, conn, key, is_there, used(value))
+    }
+}
+
+impl Keyed<RangeKey, Option<DocNumber>> for Granted {
+    ghost set = { λ table key value. after ranges_map key (option_flatten value) };
+
+    ghost holds = { has_row ranges_map };
+
+    ghost rows = { λ table key value. is_some (option_flatten value) };
+
+    fn has_row(&self, _key: RangeKey, value: Option<Option<DocNumber>>) -> bool
+        ensures { result ≡ is_some (option_flatten value) }
+    {
+        value.flatten().is_some()
+    }
+
+    fn put<S: Alter>(
+        &self,
+        conn: &mut Connection<S>,
+        key: RangeKey,
+        is_there: bool,
+        value: Option<Option<DocNumber>>,
+    ) -> Result<(), Error>
+        ensures ok { OnOk result (Changes S.Store conn.old conn.new (holds_row ranges_map key is_there) (after ranges_map key (option_flatten value))) }
+        ensures err { OnErr result (GivesUp S.Store conn.old conn.new) }
+    {
+        put(&Ranges, conn, key, is_there, value.flatten())
+    }
+}
+
+impl<'a> Keyed<AirlineCode, Token> for AirlineTokens<'a> {
+    ghost set = { λ table key value. after airlines_map key (entry_of (place_of key table.published.now) value) };
+
+    ghost holds = { has_row airlines_map };
+
+    ghost rows = { λ table key value. is_some (entry_of (place_of key table.published.now) value) };
+
+    fn has_row(&self, key: AirlineCode, value: Option<Token>) -> bool
+        ensures { result ≡ is_some (entry_of (place_of key self.now.published.now) value) }
+    {
+        AirlineEntry::of(place_of(key, self.published), value).is_some()
+    }
+
+    fn put<S: Alter>(
+        &self,
+        conn: &mut Connection<S>,
+        key: AirlineCode,
+        is_there: bool,
+        value: Option<Token>,
+    ) -> Result<(), Error>
+        ensures ok { OnOk result (Changes S.Store conn.old conn.new (holds_row airlines_map key is_there) (after airlines_map key (entry_of (place_of key self.now.published.now) value))) }
+        ensures err { OnErr result (GivesUp S.Store conn.old conn.new) }
+    {
+        let airline = AirlineEntry::of(place_of(key, self.published), value);
+        let stored = StoredAirline::of(airline);
+        put(&Airlines, conn, key, is_there, stored)
     }
 }

@@ -9,7 +9,7 @@ ghost use Rattle.bsp_store_save.specs.Saving.{HasPlan, meta_of, meta_with, with_
 
 use bsp_rows::{Day, Plan};
 use bsp_store_load::SavedPlan;
-use bsp_store_plan::{add_commission_taxes, add_periods, add_rates, put_meta, put_terms};
+use bsp_store_plan::{CommissionTaxes, Periods, Rates, add_all, put_meta, put_terms};
 use sqlite::{Alter, Connection, Error};
 
 /// Whether a plan has a business day and a number of closed periods.
@@ -61,7 +61,7 @@ fn save_rates<S: Alter>(conn: &mut Connection<S>, old: &Plan, new: &Plan) -> Res
 {
     let kept = old.rates();
     let all = new.rates();
-    add_rates(conn, kept.len(), all)
+    add_all(&Rates, conn, kept.len(), all)
 }
 
 /// Writes the periods that are new.
@@ -72,7 +72,7 @@ fn save_periods<S: Alter>(conn: &mut Connection<S>, old: &Plan, new: &Plan) -> R
 {
     let kept = old.periods();
     let all = new.periods();
-    add_periods(conn, kept.len(), all)
+    add_all(&Periods, conn, kept.len(), all)
 }
 
 /// Writes the taxes on commission that are new.
@@ -87,7 +87,7 @@ fn save_commission_taxes<S: Alter>(
 {
     let kept = old.commission_taxes();
     let all = new.commission_taxes();
-    add_commission_taxes(conn, kept.len(), all)
+    add_all(&CommissionTaxes, conn, kept.len(), all)
 }
 
 /// Writes what is new in a plan that continues another, its airlines apart.

@@ -7,12 +7,12 @@ ghost use Rattle.bsp_store_save.specs.Seconds.{gives_second, has_second};
 
 use crate::keyed::Keyed;
 use bsp_rows::{Item, ItemKey, ReportedDocument};
-use bsp_store_base::{TicketKey, second_related};
-use bsp_store_items::put_second;
+use bsp_store_base::{TicketKey, put, second_related};
+use bsp_store_items::Seconds;
 use sqlite::{Alter, Connection, Error};
 
 /// The second related documents of items. A CANX has none.
-pub(crate) struct Seconds;
+pub(crate) struct SecondDocuments;
 
 /// The second related document of an item, if there is an item and it has one.
 fn second_in(item: Option<Item>) -> Option<ReportedDocument>
@@ -24,7 +24,7 @@ fn second_in(item: Option<Item>) -> Option<ReportedDocument>
     }
 }
 
-impl Keyed<ItemKey, Item> for Seconds {
+impl Keyed<ItemKey, Item> for SecondDocuments {
     ghost set = { λ table key value c. record c { seconds = with_second key value c.seconds } };
 
     ghost holds = { λ key c. has_second key c.seconds };
@@ -48,7 +48,7 @@ impl Keyed<ItemKey, Item> for Seconds {
         ensures err { OnErr result (GivesUp S.Store conn.old conn.new) }
     {
         match TicketKey::of(&key) {
-            Some(ticket) => put_second(conn, &ticket, is_there, second_in(value)),
+            Some(ticket) => put(&Seconds, conn, ticket, is_there, second_in(value)),
             None => Ok(()),
         }
     }

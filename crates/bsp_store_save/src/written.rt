@@ -12,12 +12,13 @@ ghost use Rattle.bsp_store_load.specs.Calls.{Changes, GivesUpIf};
 ghost use Rattle.bsp_store_save.specs.Saving.{HasItems, HasTallies, with_items, with_tallies};
 
 use crate::keyed::{put_written, written_before};
-use crate::parts::{Agents, Airlines, ItemRows, MemoRows, Ranges, TallyRows};
-use crate::seconds::Seconds;
-use crate::taxes::{ItemTaxRows, TallyTaxRows};
+use crate::parts::{AirlineTokens, AsItIs, Granted, Tallied};
+use crate::seconds::SecondDocuments;
 use bsp_maps::Logged;
 use bsp_memory_tables::{ItemTable, MemoTable, RangeTable, TallyTable};
 use bsp_rows::{AgentCode, AirlineCode, Token};
+use bsp_store_callers::{Agents, Memos, Tallies};
+use bsp_store_items::{ItemTaxes, Items, TallyTaxes};
 use sqlite::{Alter, Connection, Error};
 use std::alloc::Global;
 
@@ -32,7 +33,7 @@ pub(crate) fn save_agents<S: Alter>(
 {
     let values = tokens.map();
     let before = written_before(alloc, tokens.written(), values)?;
-    put_written(&Agents, conn, &before, values)
+    put_written(&AsItIs { table: Agents }, conn, &before, values)
 }
 
 /// Writes the tokens of airlines that were written in memory, where these airlines are published.
@@ -47,7 +48,7 @@ pub(crate) fn save_tokens<S: Alter>(
 {
     let values = tokens.map();
     let before = written_before(alloc, tokens.written(), values)?;
-    put_written(&Airlines { published }, conn, &before, values)
+    put_written(&AirlineTokens { published }, conn, &before, values)
 }
 
 /// Writes the ranges that were written in memory.
@@ -61,7 +62,7 @@ pub(crate) fn save_ranges<S: Alter>(
 {
     let values = table.map();
     let before = written_before(alloc, table.written(), values)?;
-    put_written(&Ranges, conn, &before, values)
+    put_written(&Granted, conn, &before, values)
 }
 
 /// Writes the items that were written in memory, with their taxes and their second related documents.
@@ -75,9 +76,9 @@ pub(crate) fn save_items<S: Alter>(
 {
     let values = table.map();
     let before = written_before(alloc, table.written(), values)?;
-    put_written(&ItemRows, conn, &before, values)?;
-    put_written(&ItemTaxRows, conn, &before, values)?;
-    put_written(&Seconds, conn, &before, values)
+    put_written(&AsItIs { table: Items }, conn, &before, values)?;
+    put_written(&AsItIs { table: ItemTaxes }, conn, &before, values)?;
+    put_written(&SecondDocuments, conn, &before, values)
 }
 
 /// Writes the memos that were written in memory.
@@ -91,7 +92,7 @@ pub(crate) fn save_memos<S: Alter>(
 {
     let values = table.map();
     let before = written_before(alloc, table.written(), values)?;
-    put_written(&MemoRows, conn, &before, values)
+    put_written(&AsItIs { table: Memos }, conn, &before, values)
 }
 
 /// Writes the tallies to which some row adds that were written in memory, with their taxes.
@@ -105,6 +106,6 @@ pub(crate) fn save_tallies<S: Alter>(
 {
     let values = table.map();
     let before = written_before(alloc, table.written(), values)?;
-    put_written(&TallyRows, conn, &before, values)?;
-    put_written(&TallyTaxRows, conn, &before, values)
+    put_written(&Tallied { table: Tallies }, conn, &before, values)?;
+    put_written(&Tallied { table: TallyTaxes }, conn, &before, values)
 }

@@ -1,6 +1,13 @@
-use Rattle.std.proofs.Common.{SFits, w64, rules, to_z-of_z, refl}
-use Rattle.bsp_store_callers.proofs.MemoTable.{billed_same}
+use Rattle.std.proofs.Common.{◌≡◌, ℕ, Option, Some, None, SFits, w64, rules, to_z-of_z, refl}
+use Rattle.std.specs.Prelude.{option_map}
+use Rattle.sqlite.specs.Values.{or_null}
+use Rattle.sqlite_value.specs.declared.value.Value.TheVariants.{Text}
+use Rattle.bsp_store_base.specs.Columns.{code_digits, period_text}
 use Rattle.bsp_store_callers.proofs.memos.MemoRow.of.Goals as goal
+
+billed_same : (o : Option ℕ) → or_null Text (option_map (code_digits 5) o) ≡ or_null period_text o
+billed_same None = refl
+billed_same (Some p) = refl
 
 pub returns : goal.returns
 returns c =

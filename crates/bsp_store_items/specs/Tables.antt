@@ -1,0 +1,69 @@
+-- The tables of items, and of what items and tallies have beside their own rows, as those of maps of the content.
+use Rattle.std.proofs.Common.{[], ◌∷◌}
+use Rattle.sqlite_value.specs.Order.{Row}
+use Rattle.bsp_rows.specs.Item.{Item}
+use Rattle.bsp_rows.specs.ReportedDocument.{ReportedDocument}
+use Rattle.bsp_rows.specs.Rows.{item_cmp}
+use Rattle.bsp_rows.specs.Tallies.{tally_cmp}
+use Rattle.bsp_rows.specs.Tally.{Tally}
+use Rattle.bsp_rows.specs.declared.keys.ItemKey.{ItemKey}
+use Rattle.bsp_rows.specs.declared.keys.TallyKey.{TallyKey}
+use Rattle.bsp_store_base.specs.Columns.{agent_text, airline_text, flag, item_row, item_tax_row, number_text, period_text, second_row, tally_tax_row}
+use Rattle.bsp_store_base.specs.Schema.{item_table, item_tax_table, second_related_table, tally_tax_table}
+use Rattle.bsp_store_base.specs.Seconds.{ticket_cmp}
+use Rattle.bsp_store_base.specs.declared.tickets.TicketKey.{TicketKey}
+use Rattle.bsp_store_base.specs.MapTables.{MapTable}
+
+-- ---- items and their taxes
+
+-- the columns of a key, and a row that begins with such
+abbrev pub item_key_row : ItemKey → Row
+item_key_row key = agent_text key.agent ∷ number_text key.number ∷ flag key.is_canx ∷ []
+
+abbrev pub items_map : MapTable ItemKey Item item_cmp
+items_map = record {
+  at = 7;
+  table = item_table;
+  of = λ c. c.items;
+  with = λ m c. record c { items = m };
+  row_of = item_row;
+  key_of = item_key_row;
+  keys = 3;
+}
+
+abbrev pub item_taxes_map : MapTable ItemKey Item item_cmp
+item_taxes_map = record {
+  at = 11;
+  table = item_tax_table;
+  of = λ c. c.item_taxes;
+  with = λ m c. record c { item_taxes = m };
+  row_of = item_tax_row;
+  key_of = item_key_row;
+  keys = 3;
+}
+
+-- ---- taxes of tallies
+
+abbrev pub tally_taxes_map : MapTable TallyKey Tally tally_cmp
+tally_taxes_map = record {
+  at = 12;
+  table = tally_tax_table;
+  of = λ c. c.tally_taxes;
+  with = λ m c. record c { tally_taxes = m };
+  row_of = tally_tax_row;
+  key_of = λ key. agent_text key.agent ∷ airline_text key.airline ∷ period_text key.period ∷ [];
+  keys = 3;
+}
+
+-- ---- second related documents
+
+abbrev pub seconds_map : MapTable TicketKey ReportedDocument ticket_cmp
+seconds_map = record {
+  at = 13;
+  table = second_related_table;
+  of = λ c. c.seconds;
+  with = λ m c. record c { seconds = m };
+  row_of = second_row;
+  key_of = λ key. agent_text key.agent ∷ number_text key.number ∷ [];
+  keys = 2;
+}
