@@ -4,7 +4,7 @@ ghost use Rattle.std.specs.Prelude.{◌<◌, ◌^◌, ◌↔◌, IsTrue};
 
 use crate::tables::{PLAN_TABLES, Table};
 use bsp_store_load::{PlanRows, is_row};
-use bsp_store_plan::{
+use bsp_store_rows::{
     AirlineRow, CommissionTaxRow, MetaRow, PeriodRow, RateRow, TermsRow, read_airline,
     read_commission_tax, read_meta, read_period, read_rate, read_terms,
 };

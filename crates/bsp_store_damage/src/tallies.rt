@@ -3,9 +3,9 @@
 use crate::tables::Table;
 use bsp_memory_tables::TallyTable;
 use bsp_rows::{Tally, TallyKey};
-use bsp_store_callers::{TallyRow, read_tally_key};
 use bsp_store_items::TallyTaxRow;
 use bsp_store_load::is_row;
+use bsp_store_rows::{TallyRow, read_tally_key};
 use sqlite::Row;
 
 /// Whether a row of a table is that of a tally.

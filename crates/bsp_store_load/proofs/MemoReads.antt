@@ -8,8 +8,8 @@ use Rattle.bsp_rows.specs.declared.keys.MemoKey.{MemoKey}
 use Rattle.bsp_rows.proofs.MapLemmas.{same_Some}
 use Rattle.bsp_store_base.specs.Columns.{memo_row}
 use Rattle.bsp_store_base.specs.Forms.{IsMemoEntry}
-use Rattle.bsp_store_callers.specs.MemoReading.{IsMemoIn}
-use Rattle.bsp_store_callers.proofs.MemoBack.{memo_seen}
+use Rattle.bsp_store_rows.specs.MemoReading.{IsMemoIn}
+use Rattle.bsp_store_rows.proofs.MemoBack.{memo_seen}
 
 abbrev pub MayPut : MemoKey × MemoFields → Type 0
 MayPut e = IsMemoEntry e × (memo_key e.1 ≡ e.0) × (is_memo e.1 ≡ true)

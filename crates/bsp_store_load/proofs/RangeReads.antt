@@ -4,8 +4,8 @@ use Rattle.sqlite_value.specs.Order.{Row}
 use Rattle.bsp_rows.specs.declared.keys.RangeKey.{RangeKey}
 use Rattle.bsp_store_base.specs.Columns.{stock_row}
 use Rattle.bsp_store_base.specs.Forms.{IsRangeEntry}
-use Rattle.bsp_store_callers.specs.Reading.{range_in}
-use Rattle.bsp_store_callers.proofs.Back.{range_back}
+use Rattle.bsp_store_rows.specs.CallerReading.{range_in}
+use Rattle.bsp_store_rows.proofs.CallerBack.{range_back}
 
 module _ (row : Row) (read : Option (RangeKey × ℕ)) (e : RangeKey × ℕ) (reads : read ≡ range_in row) (fits : IsRangeEntry e) (is : row ≡ stock_row e) where
   pub range_is : read ≡ Some e

@@ -14,7 +14,7 @@ use bsp_maps::Rule;
 use bsp_memory_rows::Tables;
 use bsp_rows::{AirlineCode, Token};
 use bsp_store_base::AirlineEntry;
-use bsp_store_plan::AirlineRow;
+use bsp_store_rows::AirlineRow;
 use sqlite::Row;
 use std::alloc::{AllocError, Global};
 use std::collections::BTreeMap;

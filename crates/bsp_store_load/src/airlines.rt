@@ -18,7 +18,7 @@ use crate::formed::formed_airline;
 use bsp_memory_rows::{NoRoom, Tables};
 use bsp_rows::{AirlineCode, Token};
 use bsp_store_base::AirlineEntry;
-use bsp_store_plan::read_airline;
+use bsp_store_rows::read_airline;
 use sqlite::Row;
 use std::alloc::{AllocError, Global};
 use std::collections::BTreeMap;

@@ -6,7 +6,7 @@ use crate::load::StoredTable;
 use bsp_memory_rows::{NoRoom, Tables};
 use bsp_rows::{AgentCode, DocNumber, RangeKey, Token};
 use bsp_store_base::KeyedTable;
-use bsp_store_callers::{
+use bsp_store_rows::{
     AgentRow, Agents as AgentTable, RangeRow, Ranges as RangeTable, read_agent, read_range,
 };
 use sqlite::Row;

@@ -30,7 +30,7 @@ mod whole;
 pub use bsp_memory_rows::{NoRoom, SavedPlan, Tables};
 pub use bsp_rows::{ItemKey, ReportedDocument};
 pub use bsp_store_base::{ItemTax, TicketKey};
-pub use bsp_store_plan::{VERSION, read_version};
+pub use bsp_store_rows::{VERSION, read_version};
 pub use callers::{Agents, Ranges};
 pub use compared::plan_tables;
 pub use equal::is_row;

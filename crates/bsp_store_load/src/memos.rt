@@ -6,7 +6,7 @@ use crate::load::StoredTable;
 use bsp_memory_rows::{NoRoom, Tables};
 use bsp_rows::{Memo, MemoKey};
 use bsp_store_base::KeyedTable;
-use bsp_store_callers::{MemoRow, Memos, read_memo};
+use bsp_store_rows::{MemoRow, Memos, read_memo};
 use sqlite::Row;
 
 /// Memos.

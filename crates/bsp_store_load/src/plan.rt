@@ -6,7 +6,7 @@ ghost use Rattle.bsp_store_base.specs.Columns.{commission_tax_row, meta_rows, pe
 use crate::equal::{is_only_row, is_row};
 use crate::listed::{RowOf, are_placed_rows_of};
 use bsp_rows::{CommissionTax, Period, Plan, Rate};
-use bsp_store_plan::{CommissionTaxRow, MetaRow, PeriodRow, RateRow, TermsRow};
+use bsp_store_rows::{CommissionTaxRow, MetaRow, PeriodRow, RateRow, TermsRow};
 use sqlite::Row;
 
 /// Whether a count fits the integers of a store.

@@ -24,7 +24,7 @@ use crate::plan_rows::PlanRows;
 use bsp_memory_rows::{NoRoom, Tables};
 use bsp_rows::{AirlineCode, CommissionTax, Day, Period, PlanText, Rate, Terms};
 use bsp_store_base::AirlineEntry;
-use bsp_store_plan::{read_commission_tax, read_meta, read_period, read_rate, read_terms};
+use bsp_store_rows::{read_commission_tax, read_meta, read_period, read_rate, read_terms};
 use sqlite::Row;
 use std::alloc::{AllocError, Global};
 

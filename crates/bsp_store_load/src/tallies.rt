@@ -11,8 +11,8 @@ use crate::listed::{RowOf, are_rows_of};
 use bsp_maps::Rule;
 use bsp_memory_tables::TallyTable;
 use bsp_rows::{Tally, TallyKey};
-use bsp_store_callers::TallyRow;
 use bsp_store_items::TallyTaxRow;
+use bsp_store_rows::TallyRow;
 use sqlite::Row;
 
 /// Tallies.

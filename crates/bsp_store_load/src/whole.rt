@@ -4,10 +4,9 @@ ghost use Rattle.bsp_store_base.specs.Shows.{ShowsAll, ShowsTable};
 ghost use Rattle.bsp_store_load.specs.Whole.{part_of};
 
 use bsp_store_base::KeyedTable;
-use bsp_store_callers::Tallies;
 use bsp_store_items::TallyTaxes;
-use bsp_store_plan::{
-    Airlines, CommissionTaxes, Periods, PlacedTable, Rates, meta_query, terms_query,
+use bsp_store_rows::{
+    Airlines, CommissionTaxes, Periods, PlacedTable, Rates, Tallies, meta_query, terms_query,
 };
 use sqlite::{Alter, Connection, Error, Row};
 

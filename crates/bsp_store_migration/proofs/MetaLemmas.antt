@@ -20,8 +20,8 @@ use Rattle.bsp_book.specs.Rows.{Rows}
 use Rattle.bsp_store_base.specs.Simple.{simple}
 use Rattle.bsp_store_base.proofs.Held.{unchanged_by}
 use Rattle.bsp_store_base.proofs.Opening.{table_shown}
-use Rattle.bsp_store_plan.proofs.MetaTable.{all_is, all_text, names}
-use Rattle.bsp_store_plan.proofs.Orders.{meta_rise}
+use Rattle.bsp_store_rows.proofs.MetaTable.{all_is, all_text, names}
+use Rattle.bsp_store_rows.proofs.Orders.{meta_rise}
 use Rattle.bsp_store_load.specs.Schema.{meta_table, our_schema}
 use Rattle.bsp_store_load.specs.Shows.{IsQuery, ShowsTable}
 use Rattle.bsp_store_load.specs.Kept.{Spares, columns_of}

@@ -18,12 +18,12 @@ use Rattle.bsp_rows.proofs.KeyOrders.{item_exact, item_total, range_total}
 use Rattle.bsp_store_base.specs.MapTables.{IsMapTable, MapTable}
 use Rattle.bsp_store_base.specs.Seconds.{sale_at, second_in, seconds_of, ticket, ticket_cmp, with_second}
 use Rattle.bsp_store_base.proofs.SecondLemmas.{get-seconds_of, seconds_of-written}
-use Rattle.bsp_store_callers.specs.Tables.{agents_map, memos_map, ranges_map, tallies_map}
-use Rattle.bsp_store_callers.proofs.Tables.{agents_lawful, memos_lawful, ranges_lawful, tallies_lawful}
+use Rattle.bsp_store_rows.specs.Tables.{agents_map, memos_map, ranges_map, tallies_map}
+use Rattle.bsp_store_rows.proofs.Tables.{agents_lawful, memos_lawful, ranges_lawful, tallies_lawful}
 use Rattle.bsp_store_items.specs.Tables.{item_taxes_map, items_map, seconds_map, tally_taxes_map}
 use Rattle.bsp_store_items.proofs.Tables.{item_taxes_lawful, items_lawful, seconds_lawful, tally_taxes_lawful}
-use Rattle.bsp_store_plan.specs.Tables.{airlines_map}
-use Rattle.bsp_store_plan.proofs.Tables.{airlines_lawful}
+use Rattle.bsp_store_rows.specs.Tables.{airlines_map}
+use Rattle.bsp_store_rows.proofs.Tables.{airlines_lawful}
 use Rattle.bsp_store_load.specs.AirlineEntry.{AirlineEntry}
 use Rattle.bsp_store_load.specs.Airlines.{airline_entries, entry_of, place_of}
 use Rattle.bsp_store_load.specs.Contents.{used_at, used_tallies}

@@ -14,7 +14,7 @@ use bsp_maps::Logged;
 use bsp_rows::{AirlineCode, Plan, Token};
 use bsp_store_base::{AirlineEntry, place_of, put};
 use bsp_store_load::SavedPlan;
-use bsp_store_plan::{Airlines, StoredAirline};
+use bsp_store_rows::{Airlines, StoredAirline};
 use sqlite::{Alter, Connection, Error};
 use std::alloc::Global;
 use std::collections::BTreeMap;

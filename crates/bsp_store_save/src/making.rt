@@ -10,7 +10,7 @@ ghost use Rattle.bsp_store_save.specs.Making.{IsNewBook};
 
 use bsp_rows::Day;
 use bsp_store_base::make_tables;
-use bsp_store_plan::add_first_meta;
+use bsp_store_rows::add_first_meta;
 use sqlite::{Alter, Connection, Error, Transaction};
 
 /// Makes the tables and the row of `meta` in a transaction, which stays open.

@@ -3,18 +3,17 @@
 ghost use Rattle.std.specs.Prelude.{◌≡◌, is_some, OnErr, OnOk};
 ghost use Rattle.std.specs.Option.{option_flatten};
 ghost use Rattle.bsp_store_base.specs.MapTables.{after, holds_row};
-ghost use Rattle.bsp_store_callers.specs.Tables.{ranges_map};
+ghost use Rattle.bsp_store_rows.specs.Tables.{ranges_map};
 ghost use Rattle.bsp_store_load.specs.Airlines.{entry_of, place_of};
 ghost use Rattle.bsp_store_load.specs.Calls.{Changes, GivesUp};
 ghost use Rattle.bsp_store_load.specs.Contents.{used_at};
-ghost use Rattle.bsp_store_plan.specs.Tables.{airlines_map};
+ghost use Rattle.bsp_store_rows.specs.Tables.{airlines_map};
 ghost use Rattle.bsp_store_save.specs.Each.{has_row};
 
 use crate::keyed::Keyed;
 use bsp_rows::{AirlineCode, DocNumber, RangeKey, Tally, TallyKey, Token};
 use bsp_store_base::{AirlineEntry, KeyedTable, place_of, put};
-use bsp_store_callers::Ranges;
-use bsp_store_plan::{Airlines, StoredAirline};
+use bsp_store_rows::{Airlines, Ranges, StoredAirline};
 use sqlite::{Alter, Connection, Error};
 
 /// A table that has each value as it is in memory.

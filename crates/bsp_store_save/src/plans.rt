@@ -9,7 +9,7 @@ ghost use Rattle.bsp_store_save.specs.Saving.{HasPlan, meta_of, meta_with, with_
 
 use bsp_rows::{Day, Plan};
 use bsp_store_load::SavedPlan;
-use bsp_store_plan::{CommissionTaxes, Periods, Rates, add_all, put_meta, put_terms};
+use bsp_store_rows::{CommissionTaxes, Periods, Rates, add_all, put_meta, put_terms};
 use sqlite::{Alter, Connection, Error};
 
 /// Whether a plan has a business day and a number of closed periods.

@@ -17,8 +17,8 @@ use crate::seconds::SecondDocuments;
 use bsp_maps::Logged;
 use bsp_memory_tables::{ItemTable, MemoTable, RangeTable, TallyTable};
 use bsp_rows::{AgentCode, AirlineCode, Token};
-use bsp_store_callers::{Agents, Memos, Tallies};
 use bsp_store_items::{ItemTaxes, Items, TallyTaxes};
+use bsp_store_rows::{Agents, Memos, Tallies};
 use sqlite::{Alter, Connection, Error};
 use std::alloc::Global;
 

@@ -1,7 +1,7 @@
 use Rattle.std.proofs.Common.{ap, ◌∙◌}
 use Rattle.bsp_store_base.specs.Columns.{airline_row}
-use Rattle.bsp_store_plan.specs.Reading.{airline_in}
-use Rattle.bsp_store_plan.proofs.Back.{airline_back}
+use Rattle.bsp_store_rows.specs.Reading.{airline_in}
+use Rattle.bsp_store_rows.proofs.Back.{airline_back}
 use Rattle.bsp_store_load.specs.Stored.{IsListedAirline}
 use Rattle.bsp_store_load.proofs.PlanReads.{entries_read, entry_next, entry_some}
 use Rattle.bsp_store_load.proofs.airlines.airlines_in.Goals as goal

@@ -9,7 +9,7 @@ use Rattle.bsp_rows.specs.Writes.{after_request, request_answer}
 use Rattle.bsp_rows.proofs.MapLemmas.{same_Some}
 use Rattle.bsp_memory_rows.specs.Tables.{rows_of}
 use Rattle.bsp_store_base.specs.Columns.{period_row}
-use Rattle.bsp_store_plan.specs.Reading.{IsPeriodRow}
+use Rattle.bsp_store_rows.specs.Reading.{IsPeriodRow}
 use Rattle.bsp_store_load.proofs.published.close_period.Goals as goal
 
 row_is : (r : Row) (e : ℕ × Period) → r ≡ period_row e → IsPeriodRow r e.1

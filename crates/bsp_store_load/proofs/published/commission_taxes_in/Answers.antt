@@ -1,7 +1,7 @@
 use Rattle.std.proofs.Common.{refl, sym, subst}
 use Rattle.bsp_store_base.specs.Columns.{commission_tax_row}
 use Rattle.bsp_store_base.specs.Forms.{IsCommissionTax}
-use Rattle.bsp_store_plan.specs.Reading.{IsCommissionTaxRow}
+use Rattle.bsp_store_rows.specs.Reading.{IsCommissionTaxRow}
 use Rattle.bsp_store_load.proofs.PlanReads.{all_read, reads_on, reads_some}
 use Rattle.bsp_store_load.proofs.published.commission_taxes_in.Goals as goal
 

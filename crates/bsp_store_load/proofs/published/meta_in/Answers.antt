@@ -1,7 +1,7 @@
 use Rattle.std.proofs.Common.{refl, sym, ap, subst, ◌∙◌}
 use Rattle.std.specs.Prelude.{slice_get}
 use Rattle.bsp_store_base.specs.Columns.{meta_row}
-use Rattle.bsp_store_plan.specs.Reading.{IsMetaRow}
+use Rattle.bsp_store_rows.specs.Reading.{IsMetaRow}
 use Rattle.bsp_rows.proofs.MapLemmas.{same_Some}
 use Rattle.bsp_store_load.proofs.published.meta_in.Goals as goal
 

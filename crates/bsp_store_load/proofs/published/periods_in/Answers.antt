@@ -1,7 +1,7 @@
 use Rattle.std.proofs.Common.{refl, sym, subst}
 use Rattle.bsp_store_base.specs.Columns.{period_row}
 use Rattle.bsp_store_base.specs.Forms.{IsPeriod}
-use Rattle.bsp_store_plan.specs.Reading.{IsPeriodRow}
+use Rattle.bsp_store_rows.specs.Reading.{IsPeriodRow}
 use Rattle.bsp_store_load.proofs.PlanReads.{all_read, reads_on, reads_some}
 use Rattle.bsp_store_load.proofs.published.periods_in.Goals as goal
 

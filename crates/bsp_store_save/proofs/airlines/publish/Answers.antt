@@ -5,7 +5,7 @@ use Rattle.std.specs.Prelude.{is_some}
 use Rattle.bsp_store_base.specs.MapTables.{after, holds_row}
 use Rattle.bsp_store_load.specs.AirlineEntry.{AirlineEntry}
 use Rattle.bsp_store_load.specs.Calls.{Changes}
-use Rattle.bsp_store_plan.specs.Tables.{airlines_map}
+use Rattle.bsp_store_rows.specs.Tables.{airlines_map}
 use Rattle.bsp_maps.proofs.UndoLemmas.{found}
 use Rattle.bsp_store_save.proofs.AirlineSteps.{published}
 use Rattle.bsp_store_save.proofs.StepLemmas.{on_ok}

@@ -6,8 +6,8 @@ use Rattle.bsp_rows.specs.Writes.{with_agent_token}
 use Rattle.bsp_memory_rows.specs.Tables.{rows_of}
 use Rattle.bsp_store_base.specs.Columns.{agent_row}
 use Rattle.bsp_store_base.specs.Forms.{IsAgentEntry}
-use Rattle.bsp_store_callers.specs.Reading.{agent_in}
-use Rattle.bsp_store_callers.proofs.Back.{agent_back}
+use Rattle.bsp_store_rows.specs.CallerReading.{agent_in}
+use Rattle.bsp_store_rows.proofs.CallerBack.{agent_back}
 use Rattle.bsp_store_load.specs.Entries.{has_real}
 use Rattle.bsp_store_load.specs.Formed.{AreFormed}
 use Rattle.bsp_store_load.proofs.FormedContent.{agent_formed}

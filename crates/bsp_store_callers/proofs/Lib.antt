@@ -1,5 +1,0 @@
-pub mod Back
-pub mod Orders
-pub mod MemoBack
-pub mod OtherTexts
-pub mod Tables

@@ -1,4 +1,0 @@
-pub mod Reading
-pub mod Values
-pub mod Tables
-pub mod PlacedTables

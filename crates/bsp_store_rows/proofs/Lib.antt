@@ -1,0 +1,10 @@
+pub mod Back
+pub mod Orders
+pub mod Sharing
+pub mod MetaTable
+pub mod TermsTable
+pub mod PlacedTables
+pub mod Tables
+pub mod CallerBack
+pub mod MemoBack
+pub mod OtherTexts

@@ -1,0 +1,95 @@
+-- What INSERT of the next entry makes of a table whose rows have places, and what the rest of a list makes of the content.
+use Rattle.std.proofs.Common.{◌≡◌, ℕ, ◌+◌, ◌<◌, ◌≤◌, List, [], ◌∷◌, ◌++◌, false, map, length, take, get_or, Ok, Result, OnOk, OnErr, sym, ap, ap₂, ◌∙◌, subst, IsPermutation}
+use Rattle.std.specs.List.{range_with_len}
+use Rattle.std.proofs.lemmas.List.{take_all}
+use Rattle.sqlite_value.specs.declared.value.Value.TheVariants.{Null}
+use Rattle.sqlite_value.specs.Order.{Row}
+use Rattle.sqlite_trees.specs.Tree.{IsAscending, Trees}
+use Rattle.sqlite_trees.specs.declared.store.Store.{Ghosts}
+use Rattle.sqlite_schema.specs.declared.command.Command.TheVariants.{Select}
+use Rattle.sqlite_schema.specs.declared.schema.Column.{Column}
+use Rattle.sqlite_sql.specs.Query.{Output}
+use Rattle.sqlite_sql.specs.Term.{lit, col}
+use Rattle.sqlite.specs.Listing.{reads_listing, understood}
+use Rattle.sqlite.specs.State.{State, Executes}
+use Rattle.sqlite.specs.Held.{Held, state}
+use Rattle.sqlite.specs.declared.error.Error.{Error}
+use Rattle.sqlite.proofs.Callers.{IsPlain, command_of}
+use Rattle.bsp_store_base.specs.Calls.{Changes, GivesUp, GivesUpIf}
+use Rattle.bsp_store_base.specs.Columns.{placed}
+use Rattle.bsp_store_base.specs.Content.{Content, form}
+use Rattle.bsp_store_base.specs.Forms.{IsFormed}
+use Rattle.bsp_store_base.specs.Kept.{HasContents, IsInside, Keeps, columns_of}
+use Rattle.bsp_store_base.specs.MapTables.{HasRun, IsText}
+use Rattle.bsp_store_base.specs.Schema.{our_schema}
+use Rattle.bsp_store_base.specs.Shows.{ShowsTable}
+use Rattle.bsp_store_base.specs.Simple.{simple}
+use Rattle.bsp_store_base.proofs.Held.{writes}
+use Rattle.bsp_store_base.proofs.MapTables.{command_is}
+use Rattle.bsp_store_base.proofs.Opening.{table_shown}
+use Rattle.bsp_store_base.proofs.Parts.{wrote}
+use Rattle.bsp_store_base.proofs.Placing.{next_place, one_more}
+use Rattle.bsp_store_base.proofs.ReadingLemmas.{out}
+use Rattle.bsp_store_base.proofs.Rising.{IsBefore, keys_of}
+use Rattle.bsp_store_base.proofs.Values.{cast_null}
+use Rattle.bsp_store_base.proofs.Writes.{no_work}
+use Rattle.bsp_store_base.proofs.Writing.{inserts}
+use Rattle.bsp_store_rows.specs.PlacedTables.{IsPlacedList, PlacedList, by_place, has_first, insertion, is_next, part, width, with_more}
+use Rattle.bsp_store_rows.proofs.Sharing.{placed_more}
+
+module _ {A : Type 0} (t : PlacedList A) (l : IsPlacedList t) where
+  module _ (text : List ℕ) (old new : State) (count : ℕ) (now : Content) (keeps : Keeps form now old.now) where
+    added : command_of (understood our_schema text) ≡ insertion t → IsPlain (understood our_schema text) → (place : ℕ) (entry : A) → is_next t place now → Executes text (t.row_of (place, entry)) old new (Ok count) → Keeps form (with_more t entry now) new.now
+    added is plain place entry next h =
+        let row = t.row_of (place, entry) in
+        let it = inserts our_schema t.at t.table l.is_at l.uncounted l.plain_tree (width t) (no_work t.table.tree) text plain row (lit Null ∷ map (col 0) (range_with_len 0 (width t))) (width t + 1) is (Null ∷ row) row (l.sourced (place, entry))
+        (ap₂ ◌∷◌ cast_null (l.casts (place, entry))) (λ id. l.wide id (place, entry)) old new keeps.schema count h (map t.row_of (placed 0 (t.of now))) (l.here now old.now.trees keeps.kept) in
+        let more = subst (λ p. IsPermutation (map t.row_of (placed 0 (t.of now ++ entry ∷ []))) (t.row_of (p, entry) ∷ map t.row_of (placed 0 (t.of now)))) (sym next) (placed_more t.row_of (t.of now) entry) in
+        wrote form old.now new.now t.table.tree now (with_more t entry now) _ it.same it.kept it.others (l.moved now (t.of now ++ entry ∷ []) _ more) keeps
+
+  -- ---- all rows
+
+  abbrev seen : Trees → Row → Output
+  seen trees r = out t.table.tree [] (map (col 1) (range_with_len 1 (width t))) (by_place t) trees [] r
+
+  pub all_shown : ((trees : Trees) (r : Row) → (seen trees r).1 ≡ columns_of (width t) r) → ((trees : Trees) (r : Row) → (seen trees r).0 ≡ keys_of (by_place t) (columns_of (width t) r))
+      → ((c : Content) → IsFormed c → IsAscending (IsBefore (by_place t)) ((part t).rows c)) → (text : List ℕ)
+      → (command_of (understood our_schema text) ≡ Select (record { lets = []; body = simple t.table.tree [] (map (col 1) (range_with_len 1 (width t))) (by_place t) }) (map (λ (c : Column). c.name) t.table.columns))
+      × IsPlain (understood our_schema text) → reads_listing our_schema text ≡ false → ShowsTable (part t) text
+  all_shown lists sees rise text is unlisted =
+      table_shown (part t) text (map (λ (c : Column). c.name) t.table.columns) (by_place t) is.0 is.1 unlisted l.plain_tree lists sees rise (λ c trees kept. (l.here c trees kept).rows)
+
+  -- ---- the calls
+
+  module _ {S : Type 0} (g : Ghosts S) where
+    pub adding : (old new : Held S) (text : List ℕ) (r : Result ℕ Error) → IsText text (insertion t) → (place : ℕ) (entry : A) → HasRun g text (t.row_of (place, entry)) old new r
+        → OnOk r (Changes g old new (is_next t place) (with_more t entry)) × OnErr r (GivesUp g old new)
+    adding old new text r is place entry ran =
+        writes form g old new text (t.row_of (place, entry)) (insertion t) (command_is _ _ is.0) is.1 (λ e. cc) (λ name e. cc) (λ o n count w. w) r ran.survives ran.runs (is_next t place) (with_more t entry)
+        (λ now count next keeps h. added text (state g old) (state g new) count now keeps (command_is _ _ is.0) is.1 place entry next h)
+
+    -- the entries of a list from a count on, one after another
+    module _ (first : Held S) (from : ℕ) (all : List A) where
+      abbrev pub AreAdded : Held S → ℕ → Type 0
+      AreAdded h i = Changes g first h (has_first t from all) (t.with (take i all))
+
+      pub none_added : AreAdded first from
+      none_added now last a b met stands inside = (subst (λ c. HasContents form g first c last a b) (sym (l.same now) ∙ ap (λ x. t.with x now) met) stands, inside)
+
+      module _ (h next : Held S) (i : ℕ) (added : AreAdded h i) where
+        pub one_added : (x : A) → i < length all → x ≡ get_or all i x → Changes g h next (is_next t (i + 1)) (with_more t x) → AreAdded next (i + 1)
+        one_added x below is more now last a b met stands inside =
+            let so_far = added now last a b met stands inside in
+            let had = l.seen (take i all) now in
+            let done = more (t.with (take i all) now) last a b (next_place all i below ∙ ap (λ (x : List A). length x + 1) (sym had)) so_far.0 so_far.1 in
+            let same : with_more t x (t.with (take i all) now) ≡ t.with (take (i + 1) all) now =
+            l.twice _ (take i all) now ∙ ap (λ y. t.with (y ++ x ∷ []) now) had ∙ ap (λ y. t.with y now) (one_more all i x below is) in
+            (subst (λ c. HasContents form g next c last a b) same done.0, done.1)
+
+        pub all_added : length all ≤ i → Changes g first h (has_first t from all) (t.with all)
+        all_added end now last a b met stands inside = subst (λ x. HasContents form g h (t.with x now) last a b × IsInside form g h) (take_all i all end) (added now last a b met stands inside)
+
+        pub not_added : GivesUp g h next → GivesUpIf g first next (has_first t from all)
+        not_added fails now last a b met stands inside =
+            let so_far = added now last a b met stands inside in
+            fails (t.with (take i all) now) last a b so_far.0 so_far.1

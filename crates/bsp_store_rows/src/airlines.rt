@@ -1,0 +1,157 @@
+//! The table of the airlines: their places in the plan and their tokens.
+
+ghost use Rattle.std.specs.Prelude.{◌≡◌, pos, option_map};
+ghost use Rattle.std.specs.Option.{ForSome};
+ghost use Rattle.sqlite_value.specs.Value.{owned};
+ghost use Rattle.sqlite_value.specs.declared.value.Value.TheVariants.{Int, Text};
+ghost use Rattle.sqlite.specs.Values.{bound, bound_value, or_null};
+ghost use Rattle.bsp_store_base.specs.Airlines.{HasStoredPlace};
+ghost use Rattle.bsp_store_base.specs.Columns.{airline_row};
+ghost use Rattle.bsp_store_rows.specs.Values.{airline_values};
+
+use bsp_rows::{AirlineCode, Token};
+use bsp_store_base::{AirlineEntry, KeyedTable, Statements, airline_digits};
+use sqlite::{Alter, Connection, Error};
+use sqlite_value::value::ValueRef;
+use std::marker::Model;
+
+/// The row of an airline that is published, registered, or both.
+#[derive(Clone, Copy)]
+pub struct AirlineRow {
+    code: [u8; 3],
+    place: Option<i64>,
+    token: Option<Token>,
+}
+
+fn stored_place(airline: &AirlineEntry) -> Option<i64>
+    requires { HasStoredPlace airline.now }
+    ensures { result ≡ option_map pos airline.now.place }
+{
+    match airline.place {
+        Some(place) => Some(place as i64),
+        None => None,
+    }
+}
+
+fn place_value<'a>(place: Option<i64>) -> ValueRef<'a>
+    ensures { bound_value (owned result) ≡ or_null Int place }
+{
+    match place {
+        Some(place) => ValueRef::Int(place),
+        None => ValueRef::Null,
+    }
+}
+
+fn token_value<'a>(token: &'a Option<Token>) -> ValueRef<'a>
+    ensures { bound_value (owned result) ≡ or_null Text token.now }
+{
+    match token {
+        Some(token) => ValueRef::Text(token.as_bytes()),
+        None => ValueRef::Null,
+    }
+}
+
+impl AirlineRow {
+    /// The row of an airline.
+    pub fn of(code: AirlineCode, airline: &AirlineEntry) -> AirlineRow
+        requires { HasStoredPlace airline.now }
+        ensures { airline_values result ≡ airline_row (code, airline.now) }
+    {
+        AirlineRow {
+            code: airline_digits(code),
+            place: stored_place(airline),
+            token: airline.token,
+        }
+    }
+
+    /// A value for each column.
+    pub fn values(&self) -> [ValueRef<'_>; 3]
+        ensures { bound result ≡ airline_values self.now }
+    {
+        [
+            ValueRef::Text(&self.code),
+            place_value(self.place),
+            token_value(&self.token),
+        ]
+    }
+}
+
+/// An airline whose place, if it has one, fits the integers of a store.
+#[derive(Clone, Copy)]
+pub struct StoredAirline {
+    airline: AirlineEntry,
+}
+
+impl Model for StoredAirline {
+    ghost use Rattle.bsp_store_base.specs.Airlines.{HasStoredPlace};
+    ghost use Rattle.bsp_store_base.specs.declared.airlines.AirlineEntry.{AirlineEntry as Entry};
+
+    ghost Value = { Entry };
+
+    ghost view = { λ stored. stored.airline };
+
+    ghost inverse = { λ airline. record { airline = airline } };
+
+    ghost invariant = { λ stored. HasStoredPlace stored.airline };
+}
+
+impl StoredAirline {
+    /// The airline, or none.
+    pub fn of(airline: Option<AirlineEntry>) -> Option<StoredAirline>
+        requires { ForSome airline HasStoredPlace }
+        ensures { result ≡ airline }
+    {
+        match airline {
+            Some(airline) => Some(StoredAirline { airline }),
+            None => None,
+        }
+    }
+
+    fn entry(&self) -> AirlineEntry
+        ensures value { result ≡ self.now }
+        ensures stored { HasStoredPlace result }
+    {
+        self.airline
+    }
+}
+
+/// The table of the airlines: their places in the plan and their tokens.
+pub struct Airlines;
+
+impl KeyedTable<AirlineCode, StoredAirline> for Airlines {
+    ghost use Rattle.std.specs.Ordering.{nat_cmp};
+    ghost use Rattle.bsp_store_rows.specs.Tables.{airlines_map};
+
+    ghost order = { nat_cmp };
+
+    ghost table = { airlines_map };
+
+    fn statements(&self) -> Statements {
+        Statements {
+            delete: "DELETE FROM airline WHERE code = ?1",
+            insert: "INSERT INTO airline (code, place, token) VALUES (?1, ?2, ?3)",
+            update: "UPDATE airline SET place = ?2, token = ?3 WHERE code = ?1",
+            query: "SELECT code, place, token FROM airline ORDER BY code",
+        }
+    }
+
+    fn run_on_key<S: Alter>(
+        &self,
+        conn: &mut Connection<S>,
+        text: &str,
+        code: &AirlineCode,
+    ) -> Result<usize, Error> {
+        let digits = airline_digits(*code);
+        conn.execute(text, &[ValueRef::Text(&digits)])
+    }
+
+    fn run_on_row<S: Alter>(
+        &self,
+        conn: &mut Connection<S>,
+        text: &str,
+        code: &AirlineCode,
+        airline: &StoredAirline,
+    ) -> Result<usize, Error> {
+        conn.execute(text, &AirlineRow::of(*code, &airline.entry()).values())
+    }
+}

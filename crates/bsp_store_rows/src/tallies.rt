@@ -1,0 +1,120 @@
+//! The table of the tallies.
+
+ghost use Rattle.std.specs.Prelude.{◌≡◌};
+ghost use Rattle.sqlite.specs.Values.{bound};
+ghost use Rattle.bsp_store_base.specs.Columns.{tally_row};
+ghost use Rattle.bsp_store_rows.specs.MemoWritten.{tally_written};
+
+use bsp_rows::{Tally, TallyKey};
+use bsp_store_base::{KeyedTable, Statements, agent_digits, airline_digits, period_digits};
+use sqlite::{Alter, Connection, Error};
+use sqlite_value::value::ValueRef;
+
+/// What is written of a tally: its key in digits, its counts and its sums, the tax apart.
+#[derive(Clone, Copy)]
+pub struct TallyRow {
+    agent: [u8; 8],
+    airline: [u8; 3],
+    period: [u8; 5],
+    accepted: u32,
+    living: u32,
+    canx: u32,
+    memo_count: u32,
+    cash: i64,
+    credit: i64,
+    commission: i64,
+    memos: i64,
+}
+
+impl TallyRow {
+    /// What is written of a tally under its key.
+    pub fn of(key: &TallyKey, tally: &Tally) -> TallyRow
+        ensures { tally_written result ≡ tally_row (key.now, tally.now) }
+    {
+        TallyRow {
+            agent: agent_digits(key.agent),
+            airline: airline_digits(key.airline),
+            period: period_digits(key.period),
+            accepted: tally.accepted,
+            living: tally.living,
+            canx: tally.canx,
+            memo_count: tally.memo_count,
+            cash: tally.cash,
+            credit: tally.credit,
+            commission: tally.commission,
+            memos: tally.memos,
+        }
+    }
+
+    /// The values of the row, column by column.
+    pub fn values(&self) -> [ValueRef<'_>; 11]
+        ensures { bound result ≡ tally_written self.now }
+    {
+        [
+            ValueRef::Text(&self.agent),
+            ValueRef::Text(&self.airline),
+            ValueRef::Text(&self.period),
+            ValueRef::Int(self.accepted as i64),
+            ValueRef::Int(self.living as i64),
+            ValueRef::Int(self.canx as i64),
+            ValueRef::Int(self.memo_count as i64),
+            ValueRef::Int(self.cash),
+            ValueRef::Int(self.credit),
+            ValueRef::Int(self.commission),
+            ValueRef::Int(self.memos),
+        ]
+    }
+}
+
+/// The table of the tallies, their taxes apart.
+pub struct Tallies;
+
+impl KeyedTable<TallyKey, Tally> for Tallies {
+    ghost use Rattle.bsp_rows.specs.Tallies.{tally_cmp};
+    ghost use Rattle.bsp_store_rows.specs.Tables.{tallies_map};
+
+    ghost order = { tally_cmp };
+
+    ghost table = { tallies_map };
+
+    fn statements(&self) -> Statements {
+        Statements {
+            delete: "DELETE FROM tally WHERE agent = ?1 AND airline = ?2 AND period = ?3",
+            insert: "INSERT INTO tally (agent, airline, period, accepted, living, canx, memo_count, cash, credit, \
+                commission, memos) VALUES (?1, ?2, ?3, ?4, ?5, ?6, ?7, ?8, ?9, ?10, ?11)",
+            update: "UPDATE tally SET accepted = ?4, living = ?5, canx = ?6, memo_count = ?7, cash = ?8, credit = ?9, \
+                commission = ?10, memos = ?11 WHERE agent = ?1 AND airline = ?2 AND period = ?3",
+            query: "SELECT agent, airline, period, accepted, living, canx, memo_count, cash, credit, commission, memos \
+                FROM tally ORDER BY agent, airline, period",
+        }
+    }
+
+    fn run_on_key<S: Alter>(
+        &self,
+        conn: &mut Connection<S>,
+        text: &str,
+        key: &TallyKey,
+    ) -> Result<usize, Error> {
+        let agent = agent_digits(key.agent);
+        let airline = airline_digits(key.airline);
+        let period = period_digits(key.period);
+        conn.execute(
+            text,
+            &[
+                ValueRef::Text(&agent),
+                ValueRef::Text(&airline),
+                ValueRef::Text(&period),
+            ],
+        )
+    }
+
+    fn run_on_row<S: Alter>(
+        &self,
+        conn: &mut Connection<S>,
+        text: &str,
+        key: &TallyKey,
+        tally: &Tally,
+    ) -> Result<usize, Error> {
+        conn.execute(text, &TallyRow::of(key, tally).values())
+    }
+}
