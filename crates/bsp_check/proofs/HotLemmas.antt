@@ -2,7 +2,6 @@
 use Rattle.std.proofs.Common.{◌≡◌, ℕ, ◌+◌, ◌-◌, ◌^◌, ◌<◌, ◌≤◌, List, [], ◌∷◌, ◌++◌, length, take, drop, Option, Some, None, refl, sym, ap, subst, ◌∙◌, arith}
 use Rattle.std.proofs.lemmas.List.{append-nil}
 use Rattle.std.proofs.Math.Seq.{drop-append_seam}
-use Rattle.std.specs.Io.KnownBytes.{Consumes, IsAtEnd}
 use Rattle.bsp_records.specs.Lines.{lines}
 use Rattle.bsp_hot_check.proofs.HotRecordsSizeLemmas.{no_small}
 use Rattle.bsp_hot_check.specs.declared.model.Standing.{Standing}
@@ -17,7 +16,7 @@ use Rattle.bsp_hot_explain.specs.HotReasons.{SaysOfHot, record_name}
 use Rattle.bsp_hot_list.specs.Taken.{IsListOfFew}
 use Rattle.bsp_check.specs.declared.listing.Listing.{Listing}
 use Rattle.bsp_check.specs.Verdicts.{SaysOfHotFault}
-use Rattle.bsp_check.specs.Judging.{IsAfterFew, HasTakenMore, IsJudged}
+use Rattle.bsp_check.specs.Judging.{IsAfterFew, HasTakenMore}
 use Rattle.bsp_check.specs.HotJudging.{HasListed, HasTakenHot, IsHotRefusal}
 
 -- what is said of the first of some lines
@@ -88,12 +87,6 @@ start_taken at is = let Taken : Standing → Type 0 = λ s. HasTakenHot s [] in 
 pub taken_room : (at : Standing) → IsAfterFew HasTakenHot at → at.records < 2 ^ 62
 taken_room at few = omega (arith, stands_count few.0 start at few.1.0, few.2)
 
-pub answered_room : (at : Standing) (found : Option HotExplanation) (limit : ℕ) (a b : Option (List ℕ)) → found ≡ None → ((x : List ℕ) × Consumes a b x × IsAtEnd b × (length x ≤ limit) × IsJudged HasTakenHot IsHotRefusal at (lines x) found) → at.records < 2 ^ 62
-answered_room at found limit a b is answer =
-    let Judged : Option HotExplanation → Type 0 = λ x. IsJudged HasTakenHot IsHotRefusal at (lines answer.0) x in
-    let all : HasTakenHot at (lines answer.0) × (length (lines answer.0) < 2 ^ 62) = subst Judged is answer.4 in
-    taken_room at (lines answer.0, all.0, all.1)
-
 pub taken_line : (at next : Standing) (line : List ℕ) → step_line at line ≡ Some next → IsSmall next → HasTakenMore HasTakenHot (line ∷ []) at next
 taken_line at next line step small = λ ls has. (stands_line start at next ls line has.0 step, small)
 
@@ -104,11 +97,6 @@ few_listed listing few = (few.0, few.1.0, few.2)
 
 pub list_few : (listing : Listing) → IsAfterFew HasListed listing → IsListOfFew listing.list
 list_few listing few = (few.0, few.1.1, few.2)
-
-pub listed_few : (ls : List (List ℕ)) (listing : Listing) (refused : Option HotExplanation) → IsJudged HasListed IsHotRefusal listing ls refused → refused ≡ None → IsAfterFew HasListed listing
-listed_few ls listing refused judged none =
-    let Judged : Option HotExplanation → Type 0 = λ o. IsJudged HasListed IsHotRefusal listing ls o in
-    let all = subst Judged none judged in (ls, all.0, all.1)
 
 -- ---- the explanation of a line that is not allowed
 

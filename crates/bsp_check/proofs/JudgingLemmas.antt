@@ -12,7 +12,7 @@ use Rattle.bsp_check.specs.declared.window.Window.{Window}
 use Rattle.bsp_check.specs.Windows.{room, text_of, last_of, MayFollow, IsWindow, Fills, Drains, Stops}
 use Rattle.bsp_check.specs.Widths.{all_but_one, HasWidth}
 use Rattle.bsp_check.specs.Inputs.{IsUnread}
-use Rattle.bsp_check.specs.Judging.{Explains, IsJudged, BeginsAtFault, IsStop, IsTaken, IsExplained, IsRefused}
+use Rattle.bsp_check.specs.Judging.{IsAfterFew, Explains, IsJudged, BeginsAtFault, IsStop, IsTaken, IsExplained, IsRefused}
 use Rattle.bsp_check.proofs.WindowLemmas.{stops_after, later_stops, text_long, last_long}
 
 -- ---- an explanation
@@ -152,3 +152,18 @@ unread left limit fault a b is stops = record {
   not_write = stops.not_write;
   long = λ long. (stops.got, stops.taken, stops.long long ∙ is);
 }
+
+-- fewer than 2^62 lines were taken where all were
+pub judged_few : {J E : Type 0} (HasTaken : J → List (List ℕ) → Type 0) (IsRefusal : List (List ℕ) → E → Type 0) (judge : J) (ls : List (List ℕ)) (refusal : Option E) → IsJudged HasTaken IsRefusal judge ls refusal → refusal ≡ None → IsAfterFew HasTaken judge
+judged_few {E = E} HasTaken IsRefusal judge ls refusal judged none =
+    let Judged : Option E → Type 0 = λ o. IsJudged HasTaken IsRefusal judge ls o in
+    let all = subst Judged none judged in (ls, all.0, all.1)
+
+-- what was judged of lines that were all taken, and of those with a refusal
+pub judged_taken : {J E : Type 0} (HasTaken : J → List (List ℕ) → Type 0) (IsRefusal : List (List ℕ) → E → Type 0) (judge : J) (ls : List (List ℕ)) (refusal : Option E) → IsJudged HasTaken IsRefusal judge ls refusal → refusal ≡ None → HasTaken judge ls
+judged_taken {E = E} HasTaken IsRefusal judge ls refusal judged none =
+    let Judged : Option E → Type 0 = λ o. IsJudged HasTaken IsRefusal judge ls o in (subst Judged none judged).0
+
+pub judged_refusal : {J E : Type 0} (HasTaken : J → List (List ℕ) → Type 0) (IsRefusal : List (List ℕ) → E → Type 0) (judge : J) (ls : List (List ℕ)) (found : Option E) (refusal : E) → IsJudged HasTaken IsRefusal judge ls found → found ≡ Some refusal → IsRefusal ls refusal
+judged_refusal {E = E} HasTaken IsRefusal judge ls found refusal judged some =
+    let Judged : Option E → Type 0 = λ o. IsJudged HasTaken IsRefusal judge ls o in subst Judged some judged

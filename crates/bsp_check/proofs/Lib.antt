@@ -8,4 +8,3 @@ pub mod LineLemmas
 pub mod TakingLemmas
 pub mod JudgingLemmas
 pub mod HotLemmas
-pub mod HotReports

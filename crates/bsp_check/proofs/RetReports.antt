@@ -1,11 +1,12 @@
 -- Lemmas on the report on a RET file.
-use Rattle.std.proofs.Common.{◌≡◌, ℕ, suc, ◌+◌, List, [], ◌∷◌, ◌++◌, length, Option, Some, None, IfSome, true, false, Err, is_some, option_to_list, cond, inl, inr, refl, sym, ap, subst, ◌∙◌, arith, append_assoc, append-nil}
+use Rattle.std.proofs.Common.{◌≡◌, ◌<◌, ◌^◌, ℕ, suc, ◌+◌, List, [], ◌∷◌, ◌++◌, length, Option, Some, None, IfSome, true, false, Err, is_some, option_to_list, cond, inl, inr, refl, sym, ap, subst, ◌∙◌, arith, append_assoc, append-nil}
 use Rattle.std.specs.List.{concat}
 use Rattle.bsp_ret.specs.PaidSale.{PaidSale}
 use Rattle.bsp_ret.specs.declared.judging.FileTotals.{FileTotals}
 use Rattle.bsp_ret.specs.Judging.{Judged, AreTaken, IsFileOf}
 use Rattle.bsp_ret.specs.Lines.{lines}
 use Rattle.bsp_check.specs.declared.ret_judging.RetJudge.{RetJudge}
+use Rattle.bsp_check.specs.Judging.{IsAfterFew}
 use Rattle.bsp_check.specs.RetJudging.{HasTakenRet, IsRetRefusal}
 use Rattle.bsp_ret.specs.declared.model.FaultCode.{FaultCode}
 use Rattle.bsp_ret.specs.declared.model.RetFault.{RetFault}
@@ -95,5 +96,5 @@ refused_end ls judge fault e has first number reason = record {
 }
 
 -- as many records as lines
-pub records_are : (ls : List (List ℕ)) (judge : RetJudge) → HasTakenRet judge ls → judge.judging.at.records ≡ length ls
-records_are ls judge has = ap (λ (at : Standing). at.records) has.1.state
+pub few_records : (judge : RetJudge) → IsAfterFew HasTakenRet judge → judge.judging.at.records < 2 ^ 62
+few_records judge few = omega (arith, ap (λ (at : Standing). at.records) few.1.1.state, few.2)

@@ -1,17 +1,20 @@
 //! The commands `check` and `hotcheck`: each reads an input to its end and writes the report on it.
 
-ghost use Rattle.std.specs.Prelude.{◌≡◌, ◌≤◌, ◌<◌, ◌+◌, ◌⊎◌, ℕ, List, length, true, Err, IfOk};
+ghost use Rattle.std.specs.Prelude.{◌≡◌, ◌≤◌, ◌<◌, ◌+◌, ◌⊎◌, ℕ, List, length, true, Err, IfErr, IfOk};
 ghost use Rattle.std.specs.Io.KnownBytes.{Consumes, IsAtEnd, Appends};
+ghost use Rattle.bsp_check.specs.Inputs.{IsInputReport, IsUnread};
 ghost use Rattle.bsp_check.specs.Streams.{most, IsReported, IsCutShort};
 ghost use Rattle.bsp_check.specs.RetReport.{IsRetReport};
 ghost use Rattle.bsp_check.specs.HotReport.{IsHotReport};
 ghost use Rattle.bsp_check.specs.Verdicts.{status_of, IsRetExplained, IsHotExplained};
 
 use crate::fault::Fault;
-use crate::hot_report::hot_report;
-use crate::report::write_report;
-use crate::ret_report::ret_report;
+use crate::listing::Listing;
+use crate::report::{Report, write_report};
+use crate::reporting::report_on;
+use crate::ret_judging::RetJudge;
 use crate::verdict::Verdict;
+use bsp_hot_check::Standing;
 use bsp_streams::Noted;
 use std::alloc::Global;
 use std::io::{Read, Write};
@@ -38,9 +41,28 @@ pub fn check_within<R: Read, W: Write>(
     ensures read_cause { result ≡ Err Fault.Read → reader.new.failed ≡ true }
     ensures write_cause { result ≡ Err Fault.Write → writer.new.failed ≡ true }
 {
-    match ret_report(alloc, reader, limit) {
+    match report_on(alloc, reader, limit, RetJudge::start(alloc)) {
         Ok(report) => write_report(writer, &report),
         Err(fault) => Err(fault),
+    }
+}
+
+/// The report on an input of at most `limit` bytes as a HOT file, with its list where that is asked for.
+fn hot_report<R: Read>(
+    alloc: Global,
+    reader: &mut Noted<R>,
+    limit: usize,
+    list: bool,
+) -> Result<Report, Fault>
+    requires { limit < usize.MAX }
+    ensures report { IfOk result (IsInputReport (IsHotReport list) IsHotExplained limit (R.remaining reader.old.inner) (R.remaining reader.new.inner)) }
+    ensures stopped { IfErr result (λ fault. IsUnread limit fault (R.remaining reader.old.inner) (R.remaining reader.new.inner)) }
+    ensures cause { result ≡ Err Fault.Read → reader.new.failed ≡ true }
+{
+    if list {
+        report_on(alloc, reader, limit, Listing::start(alloc))
+    } else {
+        report_on(alloc, reader, limit, Standing::start())
     }
 }
 

@@ -1,21 +1,18 @@
 //! What a HOT file is judged to be, while it is read.
 
-ghost use Rattle.std.specs.Prelude.{◌≡◌, ◌<◌, ◌≤◌, ◌^◌, ℕ, List, true, length, Some, Err, IfOk, IfErr};
-ghost use Rattle.std.specs.Io.KnownBytes.{IsAtEnd, Consumes};
+ghost use Rattle.std.specs.Prelude.{◌≡◌, ◌<◌, ◌^◌, ℕ, List, Some};
 ghost use Rattle.bsp_ret.specs.Lines.{lines};
 ghost use Rattle.bsp_hot_check.specs.Standings.{start, IsSmall};
 ghost use Rattle.bsp_hot_check.specs.Judging.{stands_after};
 ghost use Rattle.bsp_check.specs.HotJudging.{IsHotAnswer};
-ghost use Rattle.bsp_check.specs.Inputs.{IsUnread};
 
-use crate::fault::Fault;
-use crate::judging::{Judge, judge_input};
+use crate::hot_report::{answer_report, refusal_report};
+use crate::judging::Judge;
+use crate::report::Report;
 use bsp_fields::NoRoom;
 use bsp_hot_check::{HotTotals, Standing};
 use bsp_hot_explain::{Heading, HotExplanation, explain_line, explain_long, explain_missing};
-use bsp_streams::Noted;
 use std::alloc::Global;
-use std::io::Read;
 
 /// What a HOT file is judged to be.
 #[derive(Clone, Copy)]
@@ -27,9 +24,11 @@ pub(crate) enum HotAnswer {
 }
 
 impl Judge for Standing {
-    ghost use Rattle.std.specs.Prelude.{◌≡◌, None};
+    ghost use Rattle.std.specs.Prelude.{◌≡◌, None, false};
     ghost use Rattle.bsp_hot_check.specs.Judging.{step_line};
     ghost use Rattle.bsp_check.specs.HotJudging.{HasTakenHot, IsHotRefusal};
+    ghost use Rattle.bsp_check.specs.HotReport.{IsHotReport};
+    ghost use Rattle.bsp_check.specs.Verdicts.{IsHotExplained};
 
     type Fault = ();
 
@@ -40,6 +39,10 @@ impl Judge for Standing {
     ghost IsAtFault = { λ at line fault. step_line at line ≡ None };
 
     ghost IsRefusal = { IsHotRefusal };
+
+    ghost IsReport = { IsHotReport false };
+
+    ghost IsExplained = { IsHotExplained };
 
     fn take(&mut self, line: &[u8]) -> Result<Option<()>, NoRoom> {
         if self.take_line(line) {
@@ -58,6 +61,14 @@ impl Judge for Standing {
     fn explain_long(&self, _fault: (), head: &[u8], width: usize) -> HotExplanation {
         explain_long(self, head, width)
     }
+
+    fn end_report(self, alloc: Global) -> Result<Report, NoRoom> {
+        answer_report(alloc, end_answer(&self))
+    }
+
+    fn refusal_report(alloc: Global, refusal: HotExplanation) -> Result<Report, NoRoom> {
+        refusal_report(alloc, refusal)
+    }
 }
 
 /// What a text is whose lines have this state.
@@ -69,24 +80,5 @@ pub(crate) fn end_answer(at: &Standing) -> HotAnswer
     match at.file_totals() {
         Some(totals) => HotAnswer::Passed(totals, at.heading),
         None => HotAnswer::Refused(explain_missing(at)),
-    }
-}
-
-/// Judges an input of at most `limit` bytes as a HOT file. Of a longer one it takes one byte more.
-pub(crate) fn judge_hot<R: Read>(
-    alloc: Global,
-    reader: &mut Noted<R>,
-    limit: usize,
-) -> Result<HotAnswer, Fault>
-    requires { limit < usize.MAX }
-    ensures answer { IfOk result (λ answer. (bytes : List ℕ) × Consumes (R.remaining reader.old.inner) (R.remaining reader.new.inner) bytes × IsAtEnd (R.remaining reader.new.inner) × (length bytes ≤ limit) × IsHotAnswer bytes answer) }
-    ensures stopped { IfErr result (λ fault. IsUnread limit fault (R.remaining reader.old.inner) (R.remaining reader.new.inner)) }
-    ensures cause { result ≡ Err Fault.Read → reader.new.failed ≡ true }
-{
-    let mut at = Standing::start();
-    match judge_input(alloc, reader, limit, &mut at) {
-        Ok(None) => Ok(end_answer(&at)),
-        Ok(Some(explanation)) => Ok(HotAnswer::Refused(explanation)),
-        Err(fault) => Err(fault),
     }
 }

@@ -5,11 +5,13 @@ ghost use Rattle.std.specs.Io.KnownBytes.{IsAtEnd, Consumes};
 ghost use Rattle.bsp_records.specs.Columns.{is_wide};
 ghost use Rattle.bsp_records.specs.Lines.{lines};
 ghost use Rattle.bsp_explain.specs.Lines.{IsLine};
-ghost use Rattle.bsp_check.specs.Inputs.{IsUnread};
+ghost use Rattle.bsp_check.specs.declared.verdict.Verdict.{Verdict};
+ghost use Rattle.bsp_check.specs.Inputs.{IsReportOn, IsUnread};
 ghost use Rattle.bsp_check.specs.Judging.{IsAfterFew, HasTakenMore, Explains, IsJudged};
 
 use crate::fault::Fault;
 use crate::refusing::refuse;
+use crate::report::Report;
 use crate::taking::take_all;
 use crate::window::Window;
 use bsp_fields::NoRoom;
@@ -32,6 +34,12 @@ pub(crate) trait Judge {
 
     // What is said of the lines of a text that has a fault.
     ghost IsRefusal: { List (List ℕ) → Self.Refusal → Type 0 };
+
+    // The report on these bytes, with its exit status.
+    ghost IsReport: { List ℕ → ℕ → List ℕ → Type 0 };
+
+    // What a verdict says of these bytes.
+    ghost IsExplained: { List ℕ → Verdict → Type 0 };
 
     /// Takes one more line of a record's width, if those before allow it. Answers why they do not; then nothing is taken.
     ///
@@ -63,6 +71,23 @@ pub(crate) trait Judge {
         requires head { 136 < length head.now }
         requires few { IsAfterFew HasTaken self.now }
         ensures { (more : List ℕ) → length (head.now ++ more) ≡ width → Explains HasTaken IsAtFault IsRefusal self.now fault result (head.now ++ more) };
+
+    /// The report on an input all of whose lines were taken.
+    ///
+    /// # Errors
+    ///
+    /// `NoRoom` where an allocation was refused.
+    fn end_report(self, alloc: Global) -> Result<Report, NoRoom>
+        requires few { IsAfterFew HasTaken self }
+        ensures { (bytes : List ℕ) → HasTaken self (lines bytes) → IfOk result (IsReportOn IsReport IsExplained bytes) };
+
+    /// The report on an input with a line that is not allowed.
+    ///
+    /// # Errors
+    ///
+    /// `NoRoom` where an allocation was refused.
+    fn refusal_report(alloc: Global, refusal: Self::Refusal) -> Result<Report, NoRoom>
+        ensures { (bytes : List ℕ) → IsRefusal (lines bytes) refusal → IfOk result (IsReportOn IsReport IsExplained bytes) };
 }
 
 /// Judges the lines of an input of at most `limit` bytes. Of a longer one it takes one byte more. Answers what is said of

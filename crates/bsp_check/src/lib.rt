@@ -15,6 +15,7 @@ mod long_line;
 mod reading;
 mod refusing;
 mod report;
+mod reporting;
 mod ret_judging;
 mod ret_report;
 mod status;

@@ -3,7 +3,9 @@
 ghost use Rattle.std.specs.Prelude.{[]};
 ghost use Rattle.bsp_check.specs.HotJudging.{HasListed};
 
+use crate::hot_report::{listed_report, refusal_report};
 use crate::judging::Judge;
+use crate::report::Report;
 use bsp_fields::NoRoom;
 use bsp_hot_check::Standing;
 use bsp_hot_explain::{HotExplanation, explain_line, explain_long};
@@ -30,9 +32,11 @@ impl Listing {
 }
 
 impl Judge for Listing {
-    ghost use Rattle.std.specs.Prelude.{◌≡◌, None};
+    ghost use Rattle.std.specs.Prelude.{◌≡◌, None, true};
     ghost use Rattle.bsp_hot_check.specs.Judging.{step_line};
     ghost use Rattle.bsp_check.specs.HotJudging.{HasListed, IsHotRefusal};
+    ghost use Rattle.bsp_check.specs.HotReport.{IsHotReport};
+    ghost use Rattle.bsp_check.specs.Verdicts.{IsHotExplained};
 
     type Fault = ();
 
@@ -43,6 +47,10 @@ impl Judge for Listing {
     ghost IsAtFault = { λ listing line fault. step_line listing.at line ≡ None };
 
     ghost IsRefusal = { IsHotRefusal };
+
+    ghost IsReport = { IsHotReport true };
+
+    ghost IsExplained = { IsHotExplained };
 
     fn take(&mut self, line: &[u8]) -> Result<Option<()>, NoRoom> {
         if !self.at.take_line(line) {
@@ -60,5 +68,13 @@ impl Judge for Listing {
 
     fn explain_long(&self, _fault: (), head: &[u8], width: usize) -> HotExplanation {
         explain_long(&self.at, head, width)
+    }
+
+    fn end_report(self, alloc: Global) -> Result<Report, NoRoom> {
+        listed_report(alloc, self)
+    }
+
+    fn refusal_report(alloc: Global, refusal: HotExplanation) -> Result<Report, NoRoom> {
+        refusal_report(alloc, refusal)
     }
 }

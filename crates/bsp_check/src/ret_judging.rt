@@ -5,6 +5,8 @@ ghost use Rattle.bsp_check.specs.RetReport.{document_text, sale_text, transactio
 ghost use Rattle.bsp_check.specs.RetJudging.{HasTakenRet};
 
 use crate::judging::Judge;
+use crate::report::Report;
+use crate::ret_report::{ended_report, refusal_report};
 use bsp_explain::{Explanation, explain_line, explain_long};
 use bsp_fields::{NoRoom, push_money, write_digits};
 use bsp_ret::{FaultCode, Judging, PaidSale, ReportedDocument, RetFault, Sale};
@@ -84,6 +86,8 @@ impl Judge for RetJudge {
     ghost use Rattle.std.specs.Prelude.{◌≡◌, Err};
     ghost use Rattle.bsp_ret.specs.Table.{row_fault};
     ghost use Rattle.bsp_check.specs.RetJudging.{HasTakenRet, IsRetRefusal};
+    ghost use Rattle.bsp_check.specs.RetReport.{IsRetReport};
+    ghost use Rattle.bsp_check.specs.Verdicts.{IsRetExplained};
 
     type Fault = FaultCode;
 
@@ -94,6 +98,10 @@ impl Judge for RetJudge {
     ghost IsAtFault = { λ judge line code. row_fault judge.judging.at line ≡ Err code };
 
     ghost IsRefusal = { IsRetRefusal };
+
+    ghost IsReport = { IsRetReport };
+
+    ghost IsExplained = { IsRetExplained };
 
     fn take(&mut self, line: &[u8]) -> Result<Option<FaultCode>, NoRoom> {
         let number = self.judging.state().transactions as u64;
@@ -129,5 +137,13 @@ impl Judge for RetJudge {
             fault: at.fault(code),
             explanation: explain_long(&at, code, head, width),
         }
+    }
+
+    fn end_report(self, alloc: Global) -> Result<Report, NoRoom> {
+        ended_report(alloc, self)
+    }
+
+    fn refusal_report(alloc: Global, refusal: RetRefusal) -> Result<Report, NoRoom> {
+        refusal_report(alloc, refusal)
     }
 }

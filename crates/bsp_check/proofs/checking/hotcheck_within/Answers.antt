@@ -13,6 +13,6 @@ returns-in-Ok-clause-answer g c =
       bytes,
       found.taken,
       within_one (length bytes) c.args.limit found.within,
-      sent_reported (IsHotReport c.args.list) c.args.limit bytes report.text.items report.verdict _ _ _ c.write_report.result found.at_end found.within found.is c.write_report.ensures.sent,
-      sent_explained IsHotExplained bytes report.text.items report.verdict _ _ c.write_report.result found.explained c.write_report.ensures.sent,
+      sent_reported (IsHotReport c.args.list) c.args.limit bytes report.text.items report.verdict _ _ _ c.write_report.result found.at_end found.within found.is.0 c.write_report.ensures.sent,
+      sent_explained IsHotExplained bytes report.text.items report.verdict _ _ c.write_report.result found.is.1 c.write_report.ensures.sent,
     )
