@@ -49,7 +49,7 @@ def filled(it):
         expect("accepted sales", SALES, body.count(b'"accepted"'))
 
 
-@pytest.mark.parametrize("megabytes", [96, 128, 176, 240, 320])
+@pytest.mark.parametrize("megabytes", [80, 96, 120, 144, 176])
 def test_book_is_opened_under_the_limit_under_which_it_was_filled(megabytes, tmp_path):
     words = "--db", tmp_path / "book.db"
     with Office(*words, memory=megabytes << 20) as it:
