@@ -47,6 +47,7 @@ class Market:
         self.counts = collections.Counter() if counts is None else counts
         self.first = Office()
         self.sent, self.numbers, self.agent_tokens, self.posted, self.callers = [], {}, {}, [], 3
+        self.is_open = False
 
     def stop(self):
         self.first.stop()
@@ -54,8 +55,8 @@ class Market:
     # asking
 
     def ask(self, method, path, token, body, answer):
-        """Asks both, and compares. Now and then the token is another one."""
-        if self.random.random() < self.strangers:
+        """Asks both, and compares. Once the market is open the token is another one now and then."""
+        if self.is_open and self.random.random() < self.strangers:
             token = self.random.choice([None, "0" * 16, token[:-1], f"{token[:-1]}_", self.agent_tokens.get(AGENTS[0])])
         wanted, found = reply(lambda: self.second.answer(path, token, answer)), self.first.ask(method, path, token, body)
         self.count(path, wanted[2])
@@ -86,10 +87,14 @@ class Market:
         self.ask("POST", f"/office/{path}", OFFICE, body, answer)
 
     def post_agent(self, agent, path, body, answer):
-        self.ask("POST", f"/agents/{agent}/{path}", self.agent_tokens[agent], body, answer)
+        self.ask("POST", f"/agents/{agent}/{path}", self.agent_token(agent), body, answer)
 
     def post_airline(self, airline, path, body, answer):
         self.ask("POST", f"/airlines/{airline}/{path}", self.airline_token(airline), body, answer)
+
+    def agent_token(self, agent):
+        """Its token; that of nobody, while it has none."""
+        return self.agent_tokens.get(agent, "0" * 16)
 
     def airline_token(self, airline):
         """Its token; that of nobody, while it has none."""
@@ -131,6 +136,7 @@ class Market:
             self.allot(agent, self.numbers[agent][0], self.numbers[agent][-1])
         for airline in AIRLINES[: self.callers] if self.callers > 1 else ():
             self.register_airline(airline)
+        self.is_open = True
 
     def share(self, *some):
         """Hundredths of a percent."""
@@ -384,7 +390,7 @@ class Market:
         agent, airline = self.agent(), self.airline()
         code = self.random.choice([*self.second.plan.periods, "99999", "x"])
         number = self.random.choice([*self.own_numbers(agent), 5])
-        own, other = self.agent_tokens[agent], self.airline_token(airline)
+        own, other = self.agent_token(agent), self.airline_token(airline)
         self.random.choice(
             [
                 lambda: self.show(f"/agents/{agent}/documents/{number:010}", own, lambda: self.second.document(agent, number)),

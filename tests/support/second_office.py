@@ -387,6 +387,8 @@ class Second:
         return self.register(self.airlines, airline, token, airline not in self.plan.airlines, "N06")
 
     def set_day(self, day):
+        if not 2000 <= day.year <= 2099:
+            raise Refused("N04")
         if day < self.plan.day:
             raise Refused("P04")
         was, self.plan.day = self.plan.day, day
@@ -683,7 +685,7 @@ class Hot:
 
 # ---- replies
 
-STATUSES = {"P01": 400, "P02": 400, "N01": 403, "M01": 404, "D01": 404}
+STATUSES = {"P01": 400, "P02": 400, "N01": 403, "N04": 400, "M01": 404, "D01": 404}
 
 
 def reply(answer):
