@@ -10,25 +10,9 @@ use Rattle.bsp_ret.proofs.LawLemmas.{fault_of, read_is_fault, is_file, is_read, 
 abbrev Answer : Type 0
 Answer = Result File RetFault
 
-abbrev IsErr : Answer → Type 0
-IsErr (Ok file) = ⊥
-IsErr (Err fault) = Unit {0}
-
-apart : (fault : RetFault) (file : File) → ◌≡◌ {A = Answer} (Err fault) (Ok file) → ⊥
-apart fault file k = subst IsErr k tt
-
 -- the file that was read is the one that stands in the relation
 pub only_file : (lines : List (List ℕ)) (read : File) → read_all lines ≡ Ok read → (file : File) → Ret lines file → ◌≡◌ {A = Answer} (Ok read) (Ok file)
 only_file lines read is file ret = sym is ∙ is_read lines file ret
-
--- where a file stands in the relation, only memory can be wanting
-pub only_memory : (lines : List (List ℕ)) (fault : RetFault) → ((fault ≡ no_memory) ⊎ (read_all lines ≡ Err fault)) → (file : File) → Ret lines file → fault ≡ no_memory
-only_memory lines fault (inl none) file ret = none
-only_memory lines fault (inr is) file ret = let k : ◌≡◌ {A = Answer} (Err fault) (Ok file) = sym is ∙ is_read lines file ret in absurd (apart fault file k)
-
-pub told_fault : (lines : List (List ℕ)) (fault : RetFault) → ((fault ≡ no_memory) ⊎ (read_all lines ≡ Err fault)) → (fault ≡ no_memory) ⊎ (first_fault lines ≡ Some fault)
-told_fault lines fault (inl none) = inl none
-told_fault lines fault (inr is) = inr (sym (read_is_fault lines) ∙ ap fault_of is)
 
 abbrev HasFault : Option RetFault → Type 0
 HasFault None = ⊥
@@ -49,3 +33,13 @@ answer_found lines (Err fault) read = tt
 pub answer_only : (lines : List (List ℕ)) (r : Answer) → IfOk r (λ file. read_all lines ≡ Ok file) → IfErr r (λ fault. fault ≡ no_memory) → (file : File) → Ret lines file → (r ≡ Ok file) ⊎ (r ≡ Err no_memory)
 answer_only lines (Ok read) is none file ret = inl (only_file lines read is file ret)
 answer_only lines (Err fault) is none file ret = inr (ap Err none)
+
+-- ---- which fault it is
+
+pub answer_fault : {A : Type 0} (lines : List (List ℕ)) (r : Result A RetFault) → IfErr r (λ fault. fault ≡ no_memory) → IfErr r (λ fault. (fault ≡ no_memory) ⊎ (first_fault lines ≡ Some fault))
+answer_fault lines (Ok file) none = tt
+answer_fault lines (Err fault) none = inl none
+
+pub read_fault : {A : Type 0} (lines : List (List ℕ)) (r : Result A RetFault) → IfErr r (λ fault. read_all lines ≡ Err fault) → IfErr r (λ fault. (fault ≡ no_memory) ⊎ (first_fault lines ≡ Some fault))
+read_fault lines (Ok file) is = tt
+read_fault lines (Err fault) is = inr (sym (read_is_fault lines) ∙ ap fault_of is)

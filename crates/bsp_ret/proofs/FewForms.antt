@@ -18,7 +18,7 @@ use Rattle.bsp_ret_records.specs.Records.{profile_of, code_of, related_order, fo
 use Rattle.bsp_ret.specs.Said.{record_in}
 use Rattle.bsp_ret.specs.Table.{kind, takes_related, takes_amounts, takes_form}
 use Rattle.bsp_ret.specs.Standings.{standing_with}
-use Rattle.bsp_ret.specs.Building.{paid_with, forms_up_to}
+use Rattle.bsp_ret.specs.Payments.{paid_with, forms_up_to}
 use Rattle.bsp_ret.proofs.Rows.{Clean, clean_header, clean_sale, clean_related, clean_amounts, clean_form, clean_trailer}
 use Rattle.bsp_ret.proofs.Steps.{begins_49}
 use Rattle.bsp_ret.proofs.Sound.{form_known}

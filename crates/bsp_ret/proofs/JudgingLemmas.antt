@@ -21,11 +21,11 @@ use Rattle.bsp_ret.specs.declared.model.FaultCode.TheVariants.{F08}
 use Rattle.bsp_ret.specs.declared.judging.FileTotals.{FileTotals}
 use Rattle.bsp_ret.specs.Ret.{File, flatten, file_lines, AreGroups}
 use Rattle.bsp_ret.specs.Sales.{HaveSales}
-use Rattle.bsp_ret.specs.Standings.{standing_with, standing_behind, fault_behind, FitsIn}
+use Rattle.bsp_ret.specs.Standings.{standing_behind, fault_behind, FitsIn}
 use Rattle.bsp_ret.specs.Pieces.{IsClear}
 use Rattle.bsp_ret.specs.Reading.{Draft, with_group, add, read_from, read_all}
 use Rattle.bsp_ret.specs.Judging.{Judged, IsSaleOf, HasBegun, AreSalesOf, AreTaken, completed, with_payment, BeginsWith, Continues, IsNear, IsSmall, IsFileOf, may_go_on}
-use Rattle.bsp_ret.specs.Building.{forms_up_to}
+use Rattle.bsp_ret.specs.Payments.{forms_up_to}
 use Rattle.bsp_ret.proofs.FewForms.{none_before_related, none_before_amounts, one_more_form, none_paid, says_49, says_50, says_51, says_53, says_56, says_90}
 use Rattle.bsp_ret.proofs.GroupLemmas.{wide_length, has_sale}
 use Rattle.bsp_ret.proofs.LawLemmas.{fault_of, read_is_fault, read_behind, is_file}

@@ -1,5 +1,4 @@
 -- Lemmas of this crate.
-pub mod BuildingLemmas
 pub mod NoteLemmas
 pub mod PieceLemmas
 pub mod FeedLemmas

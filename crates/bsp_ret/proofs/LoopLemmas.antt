@@ -1,17 +1,14 @@
 -- One more line of a reading.
-use Rattle.std.proofs.Common.{◌≡◌, ℕ, ◌+◌, true, false, List, [], ◌∷◌, length, ◌==◌, Result, Ok, Err, refl, sym, ap, ◌∙◌}
+use Rattle.std.proofs.Common.{◌≡◌, ℕ, ◌+◌, true, false, List, [], ◌∷◌, Result, Ok, Err, refl, sym, ap, ◌∙◌}
 use Rattle.bsp_ret.specs.declared.model.FaultCode.{FaultCode}
-use Rattle.bsp_ret.specs.declared.model.FaultCode.TheVariants.{F01, F08, F09}
+use Rattle.bsp_ret.specs.declared.model.FaultCode.TheVariants.{F08}
 use Rattle.bsp_ret.specs.declared.model.RetFault.{RetFault}
 use Rattle.bsp_ret.specs.declared.model.Standing.{Standing}
 use Rattle.bsp_ret.specs.Table.{has_ended, row_fault}
 use Rattle.bsp_ret.specs.Standings.{standing_behind}
 use Rattle.bsp_ret.specs.Ret.{File}
 use Rattle.bsp_ret.specs.Reading.{Draft, add, read_from}
-use Rattle.bsp_records.specs.Lines.{lines, BeginsOtherwise}
-use Rattle.bsp_records.proofs.CutLemmas.{some_lines}
 use Rattle.bsp_ret.proofs.Steps.{read_nil, read_cons}
-use Rattle.bsp_ret.proofs.SaidLemmas.{ended_row, narrow_row}
 
 -- a line without fault
 pub goes_on : (at at2 : Standing) (d d2 : Draft) (ls rest : List (List ℕ)) (line : List ℕ) (total : Result File RetFault) → ls ≡ line ∷ rest → row_fault at line ≡ Ok tt → at2 ≡ standing_behind at line → d2 ≡ add d line → read_from at d ls ≡ total → read_from at2 d2 rest ≡ total
@@ -30,14 +27,3 @@ ends at d ls total none ended so_far = sym so_far ∙ ap (read_from at d) none �
 
 pub lacks : (at : Standing) (d : Draft) (ls : List (List ℕ)) (total : Result File RetFault) → ls ≡ [] → has_ended at.last ≡ false → read_from at d ls ≡ total → total ≡ Err (record { code = F08; at = at.records + 1 })
 lacks at d ls total none open_end so_far = sym so_far ∙ ap (read_from at d) none ∙ read_nil at d ∙ rw open_end refl
-
--- a line behind a trailer, and a line that is no record
-pub fails_ended : (at : Standing) (d : Draft) (rest : List ℕ) (total : Result File RetFault) → (length rest == 0) ≡ false → has_ended at.last ≡ true → read_from at d (lines rest) ≡ total → total ≡ Err (record { code = F09; at = at.records + 1 })
-fails_ended at d [] total some ended so_far = absurd (cc some)
-fails_ended at d (b ∷ rest) total some ended so_far =
-    let k = some_lines b rest in
-    fails at d (lines (b ∷ rest)) k.1 k.0 total F09 k.2 (ended_row at k.0 ended) so_far
-
-pub fails_narrow : (at : Standing) (d : Draft) (rest : List ℕ) (total : Result File RetFault) → BeginsOtherwise rest → has_ended at.last ≡ false → read_from at d (lines rest) ≡ total → total ≡ Err (record { code = F01; at = at.records + 1 })
-fails_narrow at d rest total other goes_on so_far =
-    fails at d (lines rest) (lines other.rest) other.line total F01 other.first.cut (narrow_row at other.line goes_on other.narrow) so_far

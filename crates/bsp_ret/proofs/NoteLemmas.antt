@@ -1,13 +1,16 @@
 -- The places of a text's records.
 use Rattle.std.proofs.Common.{◌≡◌, ℕ, ℤ, pos, ◌+ℤ◌, ◌+◌, ◌-◌, ◌<◌, ◌≤◌, Bool, true, false, List, [], ◌∷◌, ◌++◌, length, take, drop, refl, sym, ap, subst, ◌∙◌, inl, inr, arith, length-drop}
-use Rattle.std.specs.Prelude.{◌==◌, ◌&&◌}
+use Rattle.std.specs.Prelude.{◌==◌, ◌&&◌, unsigned_abs}
+use Rattle.std.specs.Int.{w64}
+use Rattle.std.proofs.Common.{to_z, of_z, ◌*◌, ◌^◌}
+use Rattle.std.proofs.lemmas.Int.{ints, to_z-of_z, fits_signed_from_abs}
 use Rattle.std.specs.List.{slice_range}
 use Rattle.std.proofs.lemmas.Bool.{cases_Bool, and_parts}
 use Rattle.std.proofs.lemmas.List.{map-append, take-append-le, drop-append-le, drop-drop, length-take, length-take-le}
 use Rattle.std.proofs.Math.Seq.{take-add}
 use Rattle.bsp_records.specs.Lines.{with_first, begins_with, lines, before_rest, IsWholeLines, BeginsWithLine}
-use Rattle.bsp_records.proofs.CutLemmas.{lines_nil, first_ended}
-use Rattle.bsp_records.proofs.RestLemmas.{whole_nothing, whole_joined, whole_cut, cut_alone}
+use Rattle.bsp_records.proofs.CutLemmas.{lines_nil, some_lines, first_ended}
+use Rattle.bsp_records.proofs.RestLemmas.{whole_nothing, whole_joined, whole_cut, cut_alone, lines_empty}
 use Rattle.bsp_ret.specs.declared.notes.Notes.{Notes}
 use Rattle.bsp_ret.specs.declared.notes.Place.{Place}
 use Rattle.bsp_ret.specs.declared.notes.Span.{Span}
@@ -15,7 +18,24 @@ use Rattle.bsp_ret.specs.Table.{paid, total_paid}
 use Rattle.bsp_ret.specs.Reading.{with_group}
 use Rattle.bsp_ret.specs.Notes.{lines_at, groups_at, IsSpan, IsPlace, ArePlaces, HasPlaces}
 use Rattle.bsp_ret.proofs.Steps.{total_paid_snoc}
-use Rattle.bsp_ret.proofs.BuildingLemmas.{closed_none, closed_some}
+
+-- ---- a group that is closed
+
+pub closed_none : (groups : List (List (List ℕ))) (text : List ℕ) → (length text == 0) ≡ true → with_group groups (lines text) ≡ groups
+closed_none groups text none = rw (lines_empty text none) refl
+
+pub closed_some : (groups : List (List (List ℕ))) (text : List ℕ) → (length text == 0) ≡ false → with_group groups (lines text) ≡ groups ++ lines text ∷ []
+closed_some groups [] some = absurd (cc some)
+closed_some groups (b ∷ text) some = let k = some_lines b text in rw k.2 refl
+
+-- the sum of a group's forms fits in its place
+pub added_sum : (x y : ℤ) → unsigned_abs x ≤ 3 * 10 ^ 11 → unsigned_abs y ≤ 99_999_999_999 → to_z w64 (of_z w64 (to_z w64 (of_z w64 x) +ℤ to_z w64 (of_z w64 y))) ≡ x +ℤ y
+added_sum x y p q =
+    let a = to_z-of_z w64 x (fits_signed_from_abs w64 x (omega arith)) in
+    let b = to_z-of_z w64 y (fits_signed_from_abs w64 y (omega arith)) in
+    let small : unsigned_abs (x +ℤ y) ≤ unsigned_abs x + unsigned_abs y = omega (arith, ints) in
+    let c = to_z-of_z w64 (x +ℤ y) (fits_signed_from_abs w64 (x +ℤ y) (omega (arith, small))) in
+    rw (a, b) c
 
 -- ---- parts of a text
 

@@ -15,7 +15,7 @@ use Rattle.bsp_ret.specs.Said.{record_in}
 use Rattle.bsp_ret.specs.Table.{kind, standing, has_ended, row_fault, first_fault}
 use Rattle.bsp_ret.specs.Standings.{standing_with, standing_behind, fault_behind, FitsIn}
 use Rattle.bsp_ret.specs.Reading.{Draft, add, read_from, read_all}
-use Rattle.bsp_ret.specs.Building.{paid_with}
+use Rattle.bsp_ret.specs.Payments.{paid_with}
 use Rattle.bsp_ret.specs.Notes.{no_notes, draft_by, draft_of, HasPlaces, IsNoted, IsNotedTo}
 use Rattle.bsp_ret.specs.Pieces.{IsFinal, IsClearSoFar}
 use Rattle.bsp_records.proofs.CutLemmas.{lines_nil, some_lines, IsRest-drop}

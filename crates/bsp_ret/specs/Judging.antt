@@ -12,7 +12,7 @@ use Rattle.bsp_ret.specs.Table.{standing, total_paid}
 use Rattle.bsp_ret.specs.Ret.{Ret, File, flatten, file_lines}
 use Rattle.bsp_ret.specs.Reading.{Draft, read_from, read_all}
 use Rattle.bsp_ret.specs.Sales.{HaveSales}
-use Rattle.bsp_ret.specs.Building.{forms_up_to}
+use Rattle.bsp_ret.specs.Payments.{forms_up_to}
 
 -- the state of the records, and the last transaction, where it may go on
 pub record Judged : Type 0 where

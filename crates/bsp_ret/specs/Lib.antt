@@ -5,7 +5,7 @@ pub mod Standings
 pub mod Ret
 pub mod Law
 pub mod Reading
-pub mod Building
+pub mod Payments
 pub mod Notes
 pub mod Pieces
 pub mod Groups

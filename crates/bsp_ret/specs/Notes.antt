@@ -9,7 +9,7 @@ use Rattle.bsp_ret.specs.Table.{standing, has_ended, total_paid}
 use Rattle.bsp_ret.specs.Standings.{FitsIn}
 use Rattle.bsp_ret.specs.Ret.{File}
 use Rattle.bsp_ret.specs.Reading.{Draft, with_group, read_from, read_all}
-use Rattle.bsp_ret.specs.Building.{forms_up_to}
+use Rattle.bsp_ret.specs.Payments.{forms_up_to}
 
 -- nothing of a text
 abbrev pub no_notes : Notes

@@ -2,7 +2,6 @@
 //! fault.
 #![tactic(auto)]
 
-mod building;
 mod fields;
 mod file;
 mod judge;

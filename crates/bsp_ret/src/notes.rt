@@ -1,16 +1,27 @@
 //! Notes of where the records of a text are.
 
-ghost use Rattle.std.specs.Prelude.{◌≡◌, ◌≤◌, ◌-◌, ◌+◌, ◌*◌, ◌^◌, List, ℕ, false, length, take, drop, unsigned_abs, OnOk, IfOk, IfErr};
-ghost use Rattle.bsp_records.specs.Lines.{BeginsWithLine};
+ghost use Rattle.std.specs.Prelude.{◌≡◌, ◌≤◌, ◌-◌, ◌+◌, ◌*◌, ◌^◌, List, ℕ, Ok, false, length, take, drop, unsigned_abs, OnOk, IfOk, IfErr};
+ghost use Rattle.bsp_records.specs.Lines.{lines, BeginsWithLine};
 ghost use Rattle.bsp_ret.specs.Said.{record_in};
 ghost use Rattle.bsp_ret.specs.Table.{kind, has_ended};
-ghost use Rattle.bsp_ret.specs.Reading.{add, with_group, no_memory};
-ghost use Rattle.bsp_ret.specs.Building.{paid_with};
-ghost use Rattle.bsp_ret.specs.Notes.{no_notes, lines_at, groups_at, IsPlace, ArePlaces, HasPlaces, draft_by};
+ghost use Rattle.bsp_ret.specs.Reading.{add, with_group, read_all, no_memory};
+ghost use Rattle.bsp_ret.specs.Payments.{paid_with};
+ghost use Rattle.bsp_ret.specs.Notes.{no_notes, lines_at, groups_at, IsPlace, ArePlaces, HasPlaces, IsFileNoted, draft_by};
 
-use crate::file::Group;
-use crate::model::{Record, RetFault, Standing};
+use crate::file::{Group, RetFile};
+use crate::model::{FaultCode, Record, RetFault, Standing};
 use std::alloc::{AllocError, Global};
+
+impl From<AllocError> for RetFault {
+    ghost from_gives = { λ _ e. e ≡ no_memory };
+
+    fn from(_: AllocError) -> RetFault {
+        RetFault {
+            code: FaultCode::F10,
+            at: 0,
+        }
+    }
+}
 
 /// Where some bytes of a text are: the first of them, and the one behind the last.
 #[derive(Clone, Copy)]
@@ -54,7 +65,7 @@ fn close(closed: &mut Vec<Place>, place: Place) -> Result<(), AllocError>
 }
 
 /// The groups of these transactions and of the last one, if it has any bytes.
-pub(crate) fn groups<'a>(
+fn groups<'a>(
     alloc: Global,
     bytes: &'a [u8],
     closed: &[Place],
@@ -75,6 +86,31 @@ pub(crate) fn groups<'a>(
         groups.push_reserved(Group::of(&bytes[latest.from..latest.to], latest.paid));
     }
     Ok(groups)
+}
+
+/// The file that is noted.
+pub(crate) fn noted_file<'a>(
+    alloc: Global,
+    notes: Notes,
+    closed: &[Place],
+    bytes: &'a [u8],
+) -> Result<RetFile<'a>, RetFault>
+    requires { IsFileNoted notes closed.now bytes.now }
+    ensures file { IfOk result (λ file. read_all (lines bytes.now) ≡ Ok file) }
+    ensures fault { IfErr result (λ fault. fault ≡ no_memory) }
+{
+    let Notes {
+        header,
+        latest,
+        trailer,
+        ..
+    } = notes;
+    let groups = groups(alloc, bytes, closed, latest)?;
+    Ok(RetFile::of(
+        &bytes[header.from..header.to],
+        groups,
+        &bytes[trailer.from..trailer.to],
+    ))
 }
 
 impl Notes {

@@ -4,12 +4,12 @@ ghost use Rattle.std.specs.Prelude.{◌≡◌, ◌⊎◌, [], ◌++◌, Ok, Err,
 ghost use Rattle.bsp_records.specs.Lines.{lines};
 ghost use Rattle.bsp_ret.specs.Table.{first_fault};
 ghost use Rattle.bsp_ret.specs.Ret.{File, Ret};
-ghost use Rattle.bsp_ret.specs.Reading.{read_all, no_memory};
+ghost use Rattle.bsp_ret.specs.Reading.{no_memory};
 ghost use Rattle.bsp_ret.specs.Pieces.{Fed, IsFinal, IsClearSoFar, fault_at_end};
 
 use crate::file::RetFile;
 use crate::model::{FaultCode, Progress, RetFault};
-use crate::notes::{Notes, Place, groups};
+use crate::notes::{Notes, Place, noted_file};
 use crate::pieces::{Stop, judge_lines, judge_rest};
 use std::alloc::Global;
 use std::marker::Model;
@@ -155,28 +155,8 @@ impl RetReader {
         match self.progress {
             Progress::Failed(fault) => Err(fault),
             Progress::Reading => Err(self.unended()),
-            Progress::Ended => self.noted(),
+            Progress::Ended => noted_file(self.alloc, self.notes, &self.closed, &self.bytes),
         }
-    }
-
-    /// The file that is noted.
-    fn noted(&self) -> Result<RetFile<'_>, RetFault>
-        requires { self.now.progress ≡ Progress.Ended }
-        ensures file { IfOk result (λ file. read_all (lines self.now.bytes) ≡ Ok file) }
-        ensures fault { IfErr result (λ fault. fault ≡ no_memory) }
-    {
-        let Notes {
-            header,
-            latest,
-            trailer,
-            ..
-        } = self.notes;
-        let closed = groups(self.alloc, &self.bytes, &self.closed, latest)?;
-        Ok(RetFile::of(
-            &self.bytes[header.from..header.to],
-            closed,
-            &self.bytes[trailer.from..trailer.to],
-        ))
     }
 
     /// The fault of a text that has not ended: its trailer lacks.

@@ -1,47 +1,33 @@
 //! A file from its text.
 
-ghost use Rattle.std.specs.Prelude.{◌≡◌, ◌⊎◌, List, ℕ, IfOk, IfErr, Ok, Err, Some};
+ghost use Rattle.std.specs.Prelude.{◌≡◌, ◌⊎◌, List, ℕ, [], IfOk, IfErr, Ok, Err, Some};
 ghost use Rattle.bsp_records.specs.Lines.{lines};
 ghost use Rattle.bsp_ret.specs.Table.{first_fault};
 ghost use Rattle.bsp_ret.specs.Ret.{File, Ret};
-ghost use Rattle.bsp_ret.specs.Reading.{read_all, no_memory};
+ghost use Rattle.bsp_ret.specs.Reading.{no_memory};
+ghost use Rattle.bsp_ret.specs.Notes.{IsFileNoted};
 ghost use Rattle.bsp_ret.specs.Law.{FaultOrFile};
-ghost use Rattle.bsp_ret.specs.Building.{file_of};
 
-use crate::building::Building;
 use crate::file::RetFile;
-use crate::judge::judge_record;
-use crate::model::{FaultCode, RetFault, Standing};
-use bsp_records::first_record;
+use crate::model::{FaultCode, RetFault};
+use crate::notes::{Notes, Place, noted_file};
+use crate::pieces::{Stop, judge_lines, judge_rest};
 use std::alloc::Global;
 
-/// Reads line by line, to the end or the first fault.
-fn read(alloc: Global, bytes: &[u8]) -> Result<Building<'_>, RetFault>
-    ensures ok { IfOk result (λ building. read_all (lines bytes.now) ≡ Ok (file_of building)) }
-    ensures err { IfErr result (λ e. (e ≡ no_memory) ⊎ (read_all (lines bytes.now) ≡ Err e)) }
+/// Notes all records of a text.
+fn noted(closed: &mut Vec<Place>, bytes: &[u8]) -> Result<Notes, RetFault>
+    requires { closed.old.items ≡ [] }
+    ensures ok { IfOk result (λ notes. IsFileNoted notes closed.new.items bytes.now) }
+    ensures err { IfErr result (λ e. (e ≡ no_memory) ⊎ (first_fault (lines bytes.now) ≡ Some e)) }
 {
-    let mut at = Standing::start();
-    let mut building = Building::new(alloc, bytes);
-    let mut rest = bytes;
-    while !rest.is_empty() {
-        if at.last.has_ended() {
-            return Err(at.fault(FaultCode::F09));
-        }
-        let Some((line, after)) = first_record(rest) else {
-            return Err(at.fault(FaultCode::F01));
-        };
-        let next = match judge_record(at, line) {
-            Ok(next) => next,
-            Err(code) => return Err(at.fault(code)),
-        };
-        building.add(&next, line, rest, after)?;
-        at = at.with(&next);
-        rest = after;
+    match judge_lines(Notes::new(), closed, bytes) {
+        Ok(notes) => judge_rest(notes, bytes),
+        Err(Stop::Fault(fault)) => Err(fault),
+        Err(Stop::Memory) => Err(RetFault {
+            code: FaultCode::F10,
+            at: 0,
+        }),
     }
-    if !at.last.has_ended() {
-        return Err(at.fault(FaultCode::F08));
-    }
-    Ok(building)
 }
 
 /// Reads a RET file in one pass. Its fields are slices of `bytes`.
@@ -58,8 +44,9 @@ pub fn read_ret(alloc: Global, bytes: &[u8]) -> Result<RetFile<'_>, RetFault>
     // Which fault it is.
     ensures fault { IfErr result (λ e. (e ≡ no_memory) ⊎ (first_fault (lines bytes.now) ≡ Some e)) }
 {
-    match read(alloc, bytes) {
-        Ok(building) => Ok(RetFile::of(building.header, building.closed, building.trailer)),
+    let mut closed = Vec::new(alloc);
+    match noted(&mut closed, bytes) {
+        Ok(notes) => noted_file(alloc, notes, &closed, bytes),
         Err(fault) => Err(fault),
     }
 }

@@ -1,6 +1,6 @@
 use Rattle.std.proofs.Common.{◌∙◌, sym}
 use Rattle.std.proofs.lemmas.List.{take_rest}
-use Rattle.bsp_ret.specs.Building.{forms_up_to}
+use Rattle.bsp_ret.specs.Payments.{forms_up_to}
 use Rattle.bsp_ret.proofs.FewForms.{three_forms}
 use Rattle.bsp_ret.proofs.NoteLemmas.{one_next}
 use Rattle.bsp_ret.proofs.PieceLemmas.{fails_at_line, fails_behind, open_before, places_with, kept_on, few_small, noted_more}

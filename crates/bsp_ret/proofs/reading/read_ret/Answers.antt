@@ -1,25 +1,20 @@
-use Rattle.std.proofs.Common.{◌∙◌, Ok, Err, ap, inl, inr}
+use Rattle.std.proofs.Common.{Err, ap, inl, inr}
 use Rattle.bsp_records.specs.Lines.{lines}
-use Rattle.bsp_ret.specs.Building.{file_of}
-use Rattle.bsp_ret.proofs.LawLemmas.{is_file}
-use Rattle.bsp_ret.proofs.AnswerLemmas.{only_file, only_memory, told_fault}
+use Rattle.bsp_ret.proofs.AnswerLemmas.{answer_found, answer_only, answer_fault, faulty}
 use Rattle.bsp_ret.proofs.reading.read_ret.Goals as goal
 
-pub of-requires : goal.of-requires
-of-requires c =
-    (lines c.args.bytes.now, is_file (lines c.args.bytes.now) (file_of c.in-Ok.building) c.in-Ok.ensures.ok)
-
 pub returns-in-Ok-clause-found : goal.returns-in-Ok-clause-found
-returns-in-Ok-clause-found c =
-    rw c.of.ensures (is_file (lines c.args.bytes.now) (file_of c.in-Ok.building) c.in-Ok.ensures.ok)
+returns-in-Ok-clause-found c = answer_found (lines c.args.bytes.now) c.noted_file.result c.noted_file.ensures.file
 
 pub returns-in-Ok-clause-only : goal.returns-in-Ok-clause-only
-returns-in-Ok-clause-only c = λ file ret.
-    inl (ap Ok c.of.ensures ∙ only_file (lines c.args.bytes.now) (file_of c.in-Ok.building) c.in-Ok.ensures.ok file ret)
+returns-in-Ok-clause-only c = λ file ret. answer_only (lines c.args.bytes.now) c.noted_file.result c.noted_file.ensures.file c.noted_file.ensures.fault file ret
 
-pub returns-in-Err-clause-only : goal.returns-in-Err-clause-only
-returns-in-Err-clause-only c = λ file ret.
-    inr (ap Err (only_memory (lines c.args.bytes.now) c.in-Err.fault c.in-Err.ensures.err file ret))
+pub returns-clause-only : goal.returns-clause-only
+returns-clause-only c = λ file ret.
+    inr (elim c.in-Err.ensures.err [
+      | inl none ↦ ap Err none
+      | inr is ↦ absurd (faulty (lines c.args.bytes.now) c.in-Err.fault is file ret)
+    ])
 
-pub returns-in-Err-clause-fault : goal.returns-in-Err-clause-fault
-returns-in-Err-clause-fault c = told_fault (lines c.args.bytes.now) c.in-Err.fault c.in-Err.ensures.err
+pub returns-in-Ok-clause-fault : goal.returns-in-Ok-clause-fault
+returns-in-Ok-clause-fault c = answer_fault (lines c.args.bytes.now) c.noted_file.result c.noted_file.ensures.fault

@@ -2,8 +2,7 @@ use Rattle.std.proofs.Common.{◌≡◌, ◌-◌, ◌+ℤ◌, ◌∙◌, ℤ, po
 use Rattle.std.proofs.Math.IntN.{+ℤ_idr}
 use Rattle.bsp_ret.specs.Table.{paid}
 use Rattle.bsp_ret.proofs.SaidLemmas.{paid_by, paid_said}
-use Rattle.bsp_ret.proofs.BuildingLemmas.{added_sum}
-use Rattle.bsp_ret.proofs.NoteLemmas.{one_next, lines_more, lines_none, places_more, places_begun, places_headed, places_ended}
+use Rattle.bsp_ret.proofs.NoteLemmas.{added_sum, one_next, lines_more, lines_none, places_more, places_begun, places_headed, places_ended}
 use Rattle.bsp_ret.proofs.notes.Notes.add.Goals as goal
 
 no_more : (x y : ℤ) → y ≡ pos 0 → x ≡ x +ℤ y
