@@ -116,19 +116,23 @@ fn report_route(rt: &HostRuntime, request: &str) -> u8 {
     printed(rt, b"N02\n", REFUSED)
 }
 
+/// Reports whether the route of a request reads a body, and answers the exit status.
+fn report_request(rt: &HostRuntime, routes: &Routes, request: &str, file: &str, body: &[u8]) -> u8 {
+    let (method, target) = request.split_once(' ').unwrap_or((request, ""));
+    match routes.ask(method.as_bytes(), target.as_bytes()) {
+        Asking::Call(call) => report_call(rt, request, call, file, body),
+        Asking::OtherMethod(methods) => report_method(rt, request, methods),
+        Asking::NoRoute => report_route(rt, request),
+    }
+}
+
 /// Reports whether the route of a request, METHOD TARGET, reads the body in a file, and answers the exit status.
 pub(crate) fn run_body(rt: &HostRuntime, request: &str, file: &str) -> u8 {
-    let body = match bytes_of(rt, file) {
-        Ok(body) => body,
-        Err(status) => return status,
-    };
     let Ok(routes) = Routes::new(rt.alloc()) else {
         return short_of_memory(rt);
     };
-    let (method, target) = request.split_once(' ').unwrap_or((request, ""));
-    match routes.ask(method.as_bytes(), target.as_bytes()) {
-        Asking::Call(call) => report_call(rt, request, call, file, &body),
-        Asking::OtherMethod(methods) => report_method(rt, request, methods),
-        Asking::NoRoute => report_route(rt, request),
+    match bytes_of(rt, file) {
+        Ok(body) => report_request(rt, &routes, request, file, &body),
+        Err(status) => status,
     }
 }

@@ -81,21 +81,17 @@ fn push_reply(
     Ok(())
 }
 
-/// A number of at most 1,000,000, with a comma before each three digits.
-#[derive(Clone, Copy)]
-struct Grouped(u32);
+/// Appends a cause.
+fn push_cause<C: Display>(line: &mut String, cause: &C) -> Result<(), AllocError> {
+    write!(line, ": {cause}")?;
+    Ok(())
+}
 
-impl Display for Grouped {
-    fn fmt<W: fmt::Write>(&self, f: &mut fmt::Formatter<W>) -> fmt::Result {
-        let (thousands, rest) = (self.0 / 1000, self.0 % 1000);
-        if thousands == 0 {
-            return write!(f, "{rest}");
-        }
-        let (millions, thousands) = (thousands / 1000, thousands % 1000);
-        if millions == 0 {
-            return write!(f, "{thousands},{rest:03}");
-        }
-        write!(f, "{millions},{thousands:03},{rest:03}")
+/// Appends an error, if there is one.
+fn push_error<E: Display + Drop>(line: &mut String, error: Option<E>) -> Result<(), AllocError> {
+    match error {
+        Some(error) => push_cause(line, &error),
+        None => Ok(()),
     }
 }
 
@@ -143,9 +139,8 @@ impl<'a> Log<'a> {
 
     /// One line at the end, after so many connections.
     pub(crate) fn all_served(&self, connections: u32) {
-        let count = Grouped(connections);
         let end = if connections == 1 { "" } else { "s" };
-        if let Ok(line) = format!(in self.rt.alloc(); "{count} connection{end} served") {
+        if let Ok(line) = format!(in self.rt.alloc(); "{connections} connection{end} served") {
             self.lines.say(&line);
         }
     }
@@ -194,6 +189,24 @@ impl Log<'_> {
         }
     }
 
+    /// Appends what is said of a reply; where each reply has a line, with the number of the connection and the time.
+    fn push_line(
+        &self,
+        line: &mut String,
+        connection: u64,
+        message: Option<&Message<'_>>,
+        reply: &Reply,
+    ) -> Result<(), AllocError> {
+        if !self.whole {
+            return push_reply(line, message, reply);
+        }
+        let number = connection.saturating_add(1);
+        write!(line, "{number} ")?;
+        push_reply(line, message, reply)?;
+        write!(line, " {}", self.took())?;
+        Ok(())
+    }
+
     /// Writes the line of a reply, with the cause of an error, or why a body is malformed.
     fn say_reply<E: Display + Drop>(
         &self,
@@ -203,18 +216,10 @@ impl Log<'_> {
         error: Option<E>,
     ) -> Result<(), AllocError> {
         let mut line = String::new(self.rt.alloc());
-        if self.whole {
-            let number = connection.saturating_add(1);
-            write!(line, "{number} ")?;
-        }
-        push_reply(&mut line, message, reply)?;
-        if self.whole {
-            write!(line, " {}", self.took())?;
-        }
-        if let Some(cause) = self.cause.take() {
-            write!(line, ": {cause}")?;
-        } else if let Some(error) = error {
-            write!(line, ": {error}")?;
+        self.push_line(&mut line, connection, message, reply)?;
+        match self.cause.take() {
+            Some(cause) => push_cause(&mut line, &cause)?,
+            None => push_error(&mut line, error)?,
         }
         self.lines.say(&line);
         Ok(())

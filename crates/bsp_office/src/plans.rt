@@ -3,6 +3,7 @@
 use crate::audit::{report_empty, report_unsound};
 use crate::remarks::{say_known, say_reason};
 use crate::whole_files::{all_bytes, bytes_of, printed, short_of_memory};
+use bsp_calendar::Plan;
 use bsp_check::{DONE, REFUSED};
 use bsp_explain::Words;
 use bsp_fields::Day;
@@ -79,21 +80,25 @@ pub(crate) fn run_plan(rt: &HostRuntime, file: &str, published: &[&str], day: Op
     )
 }
 
-/// Prints the published plan of the book in a file as a text that publishes it, and answers the exit status.
-pub(crate) fn run_plan_of(rt: &HostRuntime, book: &str) -> u8 {
-    if let Some(status) = report_empty(rt, book) {
-        return status;
-    }
-    let plan = match plan_at(rt, book, Wary) {
-        Ok(plan) => plan,
-        Err(fault) => return report_unsound(rt, book, &fault),
-    };
-    match plan_text(rt.alloc(), &plan) {
+/// Prints the plan of a book as a text that publishes it, and answers the exit status.
+fn print_plan(rt: &HostRuntime, book: &str, plan: &Plan) -> u8 {
+    match plan_text(rt.alloc(), plan) {
         Ok(Some(text)) => printed(rt, &text, DONE),
         Ok(None) => {
             say_reason(rt, book, "no plan is published");
             printed(rt, b"", DONE)
         }
         Err(_) => short_of_memory(rt),
+    }
+}
+
+/// Prints the published plan of the book in a file, and answers the exit status.
+pub(crate) fn run_plan_of(rt: &HostRuntime, book: &str) -> u8 {
+    if let Some(status) = report_empty(rt, book) {
+        return status;
+    }
+    match plan_at(rt, book, Wary) {
+        Ok(plan) => print_plan(rt, book, &plan),
+        Err(fault) => report_unsound(rt, book, &fault),
     }
 }
