@@ -172,13 +172,7 @@ fn is_still(before: &Option<Unread>, waits: bool) -> bool
 {
     match before {
         None => !waits,
-        Some(
-            Unread {
-                stage: Stage::Filling,
-                ..
-            },
-        ) => false,
-        Some(unread) => waits && unread.taken < PIECE,
+        Some(unread) => waits && unread.taken < PIECE && !matches!(unread.stage, Stage::Filling),
     }
 }
 
