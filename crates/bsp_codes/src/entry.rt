@@ -1,8 +1,5 @@
 //! What is said of a code.
 
-ghost use Rattle.std.specs.Prelude.{◌≡◌};
-ghost use Rattle.bsp_codes.specs.Table.{said_by, said_in};
-
 /// A row of the table: the code, the status, the meaning, the remedy and the causes of an [`Entry`]. A clause can name
 /// a constant that has tuples, and none that has structs with references.
 pub(crate) type Row = (
@@ -26,20 +23,4 @@ pub struct Entry {
     pub remedy: &'static str,
     /// Its causes one by one, where it has many.
     pub causes: &'static [&'static str],
-}
-
-impl Entry {
-    /// The entry of a row.
-    pub(crate) fn of(row: &Row) -> Entry
-        ensures { said_by result ≡ said_in row.now }
-    {
-        let (code, status, meaning, remedy, causes) = *row;
-        Entry {
-            code,
-            status,
-            meaning,
-            remedy,
-            causes,
-        }
-    }
 }

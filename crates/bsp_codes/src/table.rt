@@ -51,7 +51,14 @@ fn entry_in(rows: &[Row], code: &str) -> Option<Entry>
 {
     for row in rows {
         if row.0 == code {
-            return Some(Entry::of(row));
+            let (code, status, meaning, remedy, causes) = *row;
+            return Some(Entry {
+                code,
+                status,
+                meaning,
+                remedy,
+                causes,
+            });
         }
     }
     None

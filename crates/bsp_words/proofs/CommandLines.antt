@@ -1,8 +1,6 @@
 -- Lemmas on the words of a command line.
 use Rattle.std.proofs.Common.{◌≡◌, ◌∙◌, ◌^◌, ◌&&◌, Bool, true, false, ℕ, List, [], ◌∷◌, length, Option, Some, None, ap, refl, sym, arith, lt-ltb, ltb-true}
-use Rattle.std.specs.Prelude.{Result, Ok, Err, IfOk, IfErr, is_some, nat_lt, option_and_then, unwrap_or}
-use Rattle.std.specs.Borrow.{Bor}
-use Rattle.std.specs.Global.{Vec}
+use Rattle.std.specs.Prelude.{Result, Ok, Err, IfOk, IfErr, is_some, nat_lt, option_and_then}
 use Rattle.std.specs.Result.{result_ok}
 use Rattle.std.specs.Char.{digit_value}
 use Rattle.std.specs.List.{list_all}
@@ -11,7 +9,7 @@ use Rattle.clap.proofs.WalkLemmas.{both, one_text-rows}
 use Rattle.clap.specs.ValueTests.{is_numeral}
 use Rattle.clap.specs.Matches.{ReadsOne, one_text}
 use Rattle.clap.specs.declared.parser.matches.Found.{Found}
-use Rattle.clap.specs.Words.{App, FailsBy, HasKind, HasMatchesOf, Row, Shape, Text, all_of, built, fault_of, is_simple, is_simple_and_free, rows_of, subcommand_of, subcommand_rows_of}
+use Rattle.clap.specs.Words.{App, FailsBy, HasKind, HasMatchesOf, Row, Shape, Text, built, fault_of, is_simple, is_simple_and_free, rows_of, subcommand_of, subcommand_rows_of}
 use Rattle.clap.specs.declared.error.Error.{Error}
 use Rattle.clap.specs.declared.parser.matches.ArgMatches.{ArgMatches}
 use Rattle.clap.specs.Simple.{argument_words, entered, names_of}
@@ -20,7 +18,7 @@ use Rattle.clap.specs.Faults.{check_fault, defaults_fault, level_fault, settle_f
 use Rattle.clap.specs.Walk.{Held, Names, finished, nothing_held, settled, walk, walk_from}
 use Rattle.bsp_words.specs.declared.work.Misfit.{Misfit}
 use Rattle.bsp_words.specs.declared.work.WordsFault.TheVariants.{OutOfForm}
-use Rattle.bsp_words.specs.CommandLine.{AnswersWords, number_in, number_read, office, texts_in, values_in, work_from, work_in}
+use Rattle.bsp_words.specs.CommandLine.{AnswersWords, number_in, number_read, office, work_from, work_in}
 
 -- ---- numbers
 
@@ -109,12 +107,3 @@ refused_words a words (Err e) same kinds = (rw same at kinds) simple_and_free
 
 pub none_answers : (words : List Text) (misfit : Misfit) → fault_of office words ≡ [] → None ≡ work_from words (subcommand_of office words) → AnswersWords words (Err (OutOfForm misfit))
 none_answers words misfit none is = (none, out_of_form words _ (names_one office words refl none) is)
-
--- ---- values of an option that may come more than once
-
-pub values_from : {E : Type 0} (r : Result (Vec (Bor Text)) E) (o : Option (List Text)) (id : Text) (rows : List Row) (xs : List (Bor Text)) → o ≡ all_of id rows → o ≡ Some (texts_in xs) → IfOk r (λ v. v.items ≡ xs) → IfOk r (λ v. texts_in v.items ≡ values_in id rows)
-values_from (Ok v) o id rows xs is some items = ap texts_in items ∙ sym (ap (λ (found : Option (List Text)). unwrap_or found []) (sym is ∙ some))
-values_from (Err e) o id rows xs is some items = tt
-
-pub no_values : (items : List (Bor Text)) (o : Option (List Text)) (id : Text) (rows : List Row) → o ≡ all_of id rows → o ≡ None → items ≡ [] → texts_in items ≡ values_in id rows
-no_values items o id rows is none empty = ap texts_in empty ∙ sym (ap (λ (found : Option (List Text)). unwrap_or found []) (sym is ∙ none))

@@ -44,11 +44,10 @@ pub all_of : {X Y : Type 0} (f : X → Y) (xs : List X) (i : ℕ) (old now : Lis
 all_of f xs i old now past was = was ∙ ap (λ l. old ++ of_one (map f l)) (take_all i xs past)
 
 -- a list to which an argument was added that one command alone takes
-pub argument_added : {U E : Type 0} (r : Result U E) (old new : List Arg) (a : Arg) (rule : Rule) → rule_of a ≡ rule → a.global ≡ false → OnOk r (new ≡ old ++ a ∷ []) → OnOk r (rules_in new ≡ rules_in old ++ of_one (rule ∷ []))
-argument_added (Ok u) old new a rule is local pushed =
+pub argument_added : (old new : List Arg) (a : Arg) (rule : Rule) → rule_of a ≡ rule → a.global ≡ false → new ≡ old ++ a ∷ [] → rules_in new ≡ rules_in old ++ of_one (rule ∷ [])
+argument_added old new a rule is local pushed =
     let pair : ◌≡◌ {A = Rule × Bool} (rule_of a, a.global) (rule, false) = ap (λ r. (r, a.global)) is ∙ ap (λ b. (rule, b)) local in
     rw (pushed, map_push) (ap (λ (p : Rule × Bool). rules_in old ++ p ∷ []) pair)
-argument_added (Err e) old new a rule is local pushed = tt
 
 -- a list that a command of these rules was added to
 pub command_added : {E F U : Type 0} (base : Command) (start : App) (arguments : List Arg) (rules : List Rule) (made : Result Command E) (r : Result U F) (old new : List Command) → (fields_of base).has_globals ≡ false → app_of base ≡ start → rules_in arguments ≡ of_one rules → IfOk made (AddsInTurn AddsArg base arguments) → OnOk r (IsOkAnd made (λ x. new ≡ old ++ x ∷ [])) → OnOk r (shapes_in new ≡ shapes_in old ++ of_one ((with_rules start rules).top ∷ []))

@@ -1,32 +1,31 @@
 -- The order of options among the words, and lists of values that are read.
-use Rattle.std.proofs.Common.{◌≡◌, ◌∙◌, ◌++◌, ◌+◌, ◌<◌, ℕ, List, [], ◌∷◌, Option, Some, None, ap, append_assoc, drop, filter_map, get_or, length, map, option_map, refl, sym, take}
+use Rattle.std.proofs.Common.{◌≡◌, ◌∙◌, ◌++◌, ◌+◌, ◌<◌, ℕ, List, [], ◌∷◌, Option, Some, None, ap, append_assoc, drop, get_or, length, map, option_map, refl, sym}
 use Rattle.std.specs.Prelude.{is_some}
 use Rattle.std.specs.Borrow.{Bor}
-use Rattle.std.proofs.lemmas.List.{at_drop_more, map_push, take_more}
-use Rattle.std.proofs.lemmas.List.Elements.{filter_map-append}
+use Rattle.std.proofs.lemmas.List.{at_drop_more}
 use Rattle.clap.specs.Words.{Text}
 use Rattle.bsp_words.specs.CommandLine.{all_read, texts_in}
-use Rattle.bsp_words.specs.Order.{as_list, in_order}
+use Rattle.bsp_words.specs.Order.{as_list, in_order, mark_of, marks_in}
 use Rattle.bsp_words.specs.declared.order.Mark.{Mark}
 use Rattle.bsp_words.specs.declared.work.Earlier.{Earlier}
 
-found_one : {Y Z : Type 0} (h : Y → Option Z) (y : Y) (o : Option Z) → h y ≡ o → filter_map h (y ∷ []) ≡ as_list (h y)
-found_one h y None is = rw is refl
-found_one h y (Some z) is = rw is refl
+marks_of_one : (word : Text) (o : Option Mark) (rest : List Text) → o ≡ mark_of word → marks_in (word ∷ rest) ≡ as_list o ++ marks_in rest
+marks_of_one word o rest is = rw is (go (mark_of word) refl)
+  where
+    go : (m : Option Mark) → mark_of word ≡ m → marks_in (word ∷ rest) ≡ as_list m ++ marks_in rest
+    go None none = rw none refl
+    go (Some m) some = rw some refl
 
--- what is found of the items before a place, and of the one there
-pub found_more : {X Y Z : Type 0} (h : Y → Option Z) (f : X → Y) (xs : List X) (i : ℕ) (d : X) (found now : List Z) → i < length xs → found ≡ filter_map h (map f (take i xs)) → now ≡ found ++ as_list (h (f (get_or xs i d))) → now ≡ filter_map h (map f (take (i + 1) xs))
-found_more h f xs i d found now within was is =
-    is ∙ ap (λ l. found ++ l) (sym (found_one h (f (get_or xs i d)) (h (f (get_or xs i d))) refl)) ∙ sym (rw (take_more xs i d within, map_push, filter_map-append, was) refl)
-
--- what comes of the marks before a place, and of the one there
-pub step_more : (marks : List Mark) (closed : List ℕ) (i taken later : ℕ) (d : Mark) (whole earlier now : List Earlier) (next : Option Earlier) → i < length marks → whole ≡ earlier ++ in_order (drop i marks) (drop taken closed) → ((rest : List Mark) → in_order (get_or marks i d ∷ rest) (drop taken closed) ≡ as_list next ++ in_order rest (drop later closed)) → now ≡ earlier ++ as_list next → whole ≡ now ++ in_order (drop (i + 1) marks) (drop later closed)
-step_more marks closed i taken later d whole earlier now next within was step pushed =
+-- what comes of the words before a place, and of the one there
+pub step_more : {X : Type 0} (f : X → Text) (words : List X) (closed : List ℕ) (i taken later : ℕ) (d : X) (whole earlier pushed : List Earlier) (mark : Option Mark) (next : Option Earlier) → i < length words → mark ≡ mark_of (f (get_or words i d)) → whole ≡ earlier ++ in_order (marks_in (map f (drop i words))) (drop taken closed) → ((rest : List Mark) → in_order (as_list mark ++ rest) (drop taken closed) ≡ as_list next ++ in_order rest (drop later closed)) → pushed ≡ earlier ++ as_list next → whole ≡ pushed ++ in_order (marks_in (map f (drop (i + 1) words))) (drop later closed)
+step_more f words closed i taken later d whole earlier pushed mark next within is was step added =
+    let rest = marks_in (map f (drop (i + 1) words)) in
     was
-    ∙ at_drop_more (λ l. earlier ++ in_order l (drop taken closed)) marks i d within
-    ∙ ap (λ l. earlier ++ l) (step (drop (i + 1) marks))
-    ∙ sym (append_assoc earlier (as_list next) (in_order (drop (i + 1) marks) (drop later closed)))
-    ∙ ap (λ l. l ++ in_order (drop (i + 1) marks) (drop later closed)) (sym pushed)
+    ∙ at_drop_more (λ l. earlier ++ in_order (marks_in (map f l)) (drop taken closed)) words i d within
+    ∙ ap (λ l. earlier ++ in_order l (drop taken closed)) (marks_of_one (f (get_or words i d)) mark (map f (drop (i + 1) words)) is)
+    ∙ ap (λ l. earlier ++ l) (step rest)
+    ∙ sym (append_assoc earlier (as_list next) (in_order rest (drop later closed)))
+    ∙ ap (λ l. l ++ in_order rest (drop later closed)) (sym added)
 
 -- the values that are read before a place, and what is read behind it
 pub read_one : {X : Type 0} (read : Text → Option X) (items : List X) (text : Bor Text) (x : X) (rest : List (Bor Text)) (whole : Option (List X)) → Some x ≡ read text.now → whole ≡ option_map (λ xs. items ++ xs) (all_read read (texts_in (text ∷ rest))) → whole ≡ option_map (λ xs. (items ++ x ∷ []) ++ xs) (all_read read (texts_in rest))

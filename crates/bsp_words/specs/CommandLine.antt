@@ -25,7 +25,6 @@ use Rattle.bsp_words.specs.Order.{in_order, marks_in}
 use Rattle.bsp_words.specs.declared.work.Earlier.{Earlier}
 use Rattle.bsp_words.specs.declared.work.Limits.{Limits}
 use Rattle.bsp_words.specs.declared.work.Range.{Range}
-use Rattle.bsp_words.specs.declared.setting.Lists.{Lists}
 use Rattle.bsp_words.specs.declared.work.Setting.{Setting}
 use Rattle.bsp_words.specs.declared.work.WordsFault.{WordsFault}
 use Rattle.bsp_words.specs.declared.work.WordsFault.TheVariants.{Refused, OutOfForm, NoRoom}
@@ -319,8 +318,18 @@ pub record AskedLists : Type 0 where
   pub files : List Text
   pub earlier : List Earlier
 
-abbrev pub lists_of : Lists → AskedLists
-lists_of l = record { plans = texts_in l.plans.items; stock = l.stock.items; files = texts_in l.files.items; earlier = l.earlier.items }
+-- a setting of these lists with its day, its agent and its statement
+abbrev pub with_singles : AskedLists → CivilDay × ℕ × Option ℕ → AskedSetting
+with_singles lists singles =
+    record {
+      plans = lists.plans;
+      day = singles.0;
+      agent = singles.1;
+      stock = lists.stock;
+      files = lists.files;
+      earlier = lists.earlier;
+      statement = singles.2;
+    }
 
 abbrev pub setting_from : AskedLists → List Row → Option AskedSetting
 setting_from lists rows =

@@ -85,17 +85,6 @@ fn push_made<T: Drop>(items: &mut Vec<T>, item: Result<T, AllocError>) -> Result
     push(items, item?)
 }
 
-/// Adds the argument of a row.
-fn push_argument<'a>(
-    alloc: Global,
-    arguments: &mut Vec<Arg<'a>>,
-    row: &Argument,
-) -> Result<(), AllocError>
-    ensures { OnOk result (rules_in arguments.new.items ≡ rules_in arguments.old.items ++ of_one (rule_at row.now ∷ [])) }
-{
-    push(arguments, argument(alloc, row))
-}
-
 /// Adds the argument of each row.
 fn push_arguments<'a>(
     alloc: Global,
@@ -105,7 +94,7 @@ fn push_arguments<'a>(
     ensures { OnOk result (rules_in arguments.new.items ≡ rules_in arguments.old.items ++ of_one (map rule_at rows.now)) }
 {
     for row in rows {
-        push_argument(alloc, arguments, row)?;
+        push(arguments, argument(alloc, row))?;
     }
     Ok(())
 }

@@ -1,6 +1,6 @@
 //! The order in which the options `--file` and `--closed` come among the words.
 
-ghost use Rattle.std.specs.Prelude.{◌≡◌, ◌++◌, ◌∷◌, IfOk, List, OnOk, drop, map};
+ghost use Rattle.std.specs.Prelude.{◌≡◌, ◌++◌, IfOk, List, OnOk, drop, map};
 ghost use Rattle.bsp_words.specs.Order.{as_list, in_order, is_option, mark_of, marks_in};
 
 use crate::work::Earlier;
@@ -9,7 +9,6 @@ use std::alloc::{AllocError, Global};
 use std::convert::AsStr;
 
 /// Which of the two options a word is.
-#[derive(Clone, Copy)]
 pub(crate) enum Mark {
     File,
     Closed,
@@ -46,42 +45,32 @@ fn push_some<T: Drop>(items: &mut Vec<T>, item: Option<T>) -> Result<(), AllocEr
     Ok(())
 }
 
-/// The options among the words, in their order.
-pub(crate) fn marks_in<S: AsStr>(alloc: Global, words: &[S]) -> Result<Vec<Mark>, AllocError>
-    ensures { IfOk result (λ marks. marks.items ≡ marks_in (map S.text words.now)) }
-{
-    let mut marks = Vec::new(alloc);
-    for word in words {
-        push_some(&mut marks, mark_of(word.as_str().as_bytes()))?;
-    }
-    Ok(marks)
-}
-
 /// What comes next, and how many of the periods are then taken.
-fn next_of(closed: &[PeriodCode], taken: usize, mark: Mark) -> (Option<Earlier>, usize)
-    ensures { (marks : List Mark) → in_order (mark ∷ marks) (drop taken closed.now) ≡ as_list result.0 ++ in_order marks (drop result.1 closed.now) }
+fn next_of(closed: &[PeriodCode], taken: usize, mark: Option<Mark>) -> (Option<Earlier>, usize)
+    ensures { (marks : List Mark) → in_order (as_list mark ++ marks) (drop taken closed.now) ≡ as_list result.0 ++ in_order marks (drop result.1 closed.now) }
 {
     match mark {
-        Mark::File => (Some(Earlier::File), taken),
-        Mark::Closed => match closed.get(taken) {
+        Some(Mark::File) => (Some(Earlier::File), taken),
+        Some(Mark::Closed) => match closed.get(taken) {
             Some(period) => (Some(Earlier::Closed(*period)), taken + 1),
             None => (None, taken),
         },
+        None => (None, taken),
     }
 }
 
 /// The files and the periods in the order of the words.
-pub(crate) fn in_order(
+pub(crate) fn in_order<S: AsStr>(
     alloc: Global,
-    marks: &[Mark],
+    words: &[S],
     closed: &[PeriodCode],
 ) -> Result<Vec<Earlier>, AllocError>
-    ensures { IfOk result (λ earlier. earlier.items ≡ in_order marks.now closed.now) }
+    ensures { IfOk result (λ earlier. earlier.items ≡ in_order (marks_in (map S.text words.now)) closed.now) }
 {
     let mut taken = 0;
     let mut earlier = Vec::new(alloc);
-    for mark in marks {
-        let (next, now_taken) = next_of(closed, taken, *mark);
+    for word in words {
+        let (next, now_taken) = next_of(closed, taken, mark_of(word.as_str().as_bytes()));
         push_some(&mut earlier, next)?;
         taken = now_taken;
     }

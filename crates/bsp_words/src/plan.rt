@@ -30,25 +30,6 @@ fn day_given(matches: &ArgMatches<'_>) -> Option<Option<Day>>
     Some(Some(day))
 }
 
-/// The work of a text over these published before.
-fn text_over<'a>(
-    matches: &ArgMatches<'a>,
-    file: &'a str,
-    published: Vec<&'a str>,
-) -> Option<Work<'a>>
-    requires { texts_in published.items ≡ values_in (codes "after") (rows_of (found_of matches.now)) }
-    ensures { option_map work_of result ≡ plan_text_work file.now (rows_of (found_of matches.now)) }
-{
-    let Some(day) = day_given(matches) else {
-        return None;
-    };
-    Some(Work::Plan {
-        file,
-        published,
-        day,
-    })
-}
-
 /// The work of a text over those published before.
 fn text_work<'a>(
     alloc: Global,
@@ -57,8 +38,15 @@ fn text_work<'a>(
 ) -> Result<Option<Work<'a>>, AllocError>
     ensures { IfOk result (λ work. option_map work_of work ≡ plan_text_work file.now (rows_of (found_of matches.now))) }
 {
-    let published = values_of(alloc, matches, "after")?;
-    Ok(text_over(matches, file, published))
+    let Some(day) = day_given(matches) else {
+        return Ok(None);
+    };
+    let published = Vec::from_slice(alloc, values_of(matches, "after"))?;
+    Ok(Some(Work::Plan {
+        file,
+        published,
+        day,
+    }))
 }
 
 /// The work on the plan of a book.

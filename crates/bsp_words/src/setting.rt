@@ -2,10 +2,9 @@
 
 ghost use Rattle.std.specs.Prelude.{◌≡◌, IfOk, codes, length, map, option_and_then, option_map};
 ghost use Rattle.clap.specs.Words.{first_of, found_of, rows_of};
-ghost use Rattle.bsp_words.specs.Order.{in_order, marks_in};
-ghost use Rattle.bsp_words.specs.CommandLine.{agent_of, all_read, day_of, earlier_in, first_number, is_range, judge_work, last_number, lists_in, lists_of, period_of, range_of, read_if_any, setting_from, setting_in, setting_of, texts_in, values_in, work_of};
+ghost use Rattle.bsp_words.specs.CommandLine.{AskedLists, agent_of, all_read, day_of, earlier_in, first_number, is_range, judge_work, last_number, period_of, range_of, read_if_any, setting_from, texts_in, with_singles, work_of};
 
-use crate::order::{in_order, marks_in};
+use crate::order::in_order;
 use crate::plan::day_of;
 use crate::values::{value_of, values_of};
 use crate::work::{Earlier, Misfit, Range, Setting, Work};
@@ -120,66 +119,9 @@ fn statement_given(matches: &ArgMatches<'_>) -> Option<Option<PeriodCode>>
     Some(Some(period))
 }
 
-/// The agent's ranges.
-fn stock_given(alloc: Global, matches: &ArgMatches<'_>) -> Result<Option<Vec<Range>>, AllocError>
-    ensures { IfOk result (λ ranges. option_map (λ r. r.items) ranges
-        ≡ all_read range_of (values_in (codes "stock") (rows_of (found_of matches.now)))) }
-{
-    let texts = values_of(alloc, matches, "stock")?;
-    ranges_in(alloc, &texts)
-}
-
-/// The periods that were closed; none where one is out of its form.
-fn closed_given(
-    alloc: Global,
-    matches: &ArgMatches<'_>,
-) -> Result<Option<Vec<PeriodCode>>, AllocError>
-    ensures { IfOk result (λ periods. option_map (λ p. p.items) periods
-        ≡ all_read period_of (values_in (codes "closed") (rows_of (found_of matches.now)))) }
-{
-    let texts = values_of(alloc, matches, "closed")?;
-    periods_in(alloc, &texts)
-}
-
-/// The files and these closes in the order of the words.
-fn earlier_with<S: AsStr>(
-    alloc: Global,
-    words: &[S],
-    closed: &[PeriodCode],
-) -> Result<Vec<Earlier>, AllocError>
-    ensures { IfOk result (λ earlier. earlier.items ≡ in_order (marks_in (map S.text words.now)) closed.now) }
-{
-    let marks = marks_in(alloc, words)?;
-    in_order(alloc, &marks, closed)
-}
-
-/// The files and the closes in the order of the words; none where a period is out of its form.
-fn earlier_given<S: AsStr>(
-    alloc: Global,
-    words: &[S],
-    matches: &ArgMatches<'_>,
-) -> Result<Option<Vec<Earlier>>, AllocError>
-    ensures { IfOk result (λ earlier. option_map (λ e. e.items) earlier ≡ earlier_in (map S.text words.now) (rows_of (found_of matches.now))) }
-{
-    let Some(closed) = closed_given(alloc, matches)? else {
-        return Ok(None);
-    };
-    let earlier = earlier_with(alloc, words, &closed)?;
-    Ok(Some(earlier))
-}
-
-/// The lists of a setting.
-#[derive(Drop)]
-struct Lists<'a> {
-    plans: Vec<&'a str>,
-    stock: Vec<Range>,
-    files: Vec<&'a str>,
-    earlier: Vec<Earlier>,
-}
-
-/// The setting with these lists, where each other value is in its form.
-fn setting_with<'a>(matches: &ArgMatches<'a>, lists: Lists<'a>) -> Option<Setting<'a>>
-    ensures { option_map setting_of result ≡ setting_from (lists_of lists.entry) (rows_of (found_of matches.now)) }
+/// The day, the agent, and the period of the statement if one is asked for; none where one is out of its form.
+fn singles_given(matches: &ArgMatches<'_>) -> Option<(Day, AgentCode, Option<PeriodCode>)>
+    ensures { (lists : AskedLists) → option_map (with_singles lists) result ≡ setting_from lists (rows_of (found_of matches.now)) }
 {
     let Some(day) = day_given(matches) else {
         return None;
@@ -190,60 +132,22 @@ fn setting_with<'a>(matches: &ArgMatches<'a>, lists: Lists<'a>) -> Option<Settin
     let Some(statement) = statement_given(matches) else {
         return None;
     };
-    let Lists {
-        plans,
-        stock,
-        files,
-        earlier,
-    } = lists;
-    Some(Setting {
-        plans,
-        day,
-        agent,
-        stock,
-        files,
-        earlier,
-        statement,
-    })
+    Some((day, agent, statement))
 }
 
-/// The lists of the setting; none where a range or a period is out of its form.
-fn lists_given<'a, S: AsStr>(
+/// The files and the closes in the order of the words; none where a period is out of its form.
+fn earlier_given<S: AsStr>(
     alloc: Global,
     words: &[S],
-    matches: &ArgMatches<'a>,
-) -> Result<Option<Lists<'a>>, AllocError>
-    ensures { IfOk result (λ lists. option_map lists_of lists ≡ lists_in (map S.text words.now) (rows_of (found_of matches.now))) }
+    matches: &ArgMatches<'_>,
+) -> Result<Option<Vec<Earlier>>, AllocError>
+    ensures { IfOk result (λ earlier. option_map (λ e. e.items) earlier ≡ earlier_in (map S.text words.now) (rows_of (found_of matches.now))) }
 {
-    let Some(stock) = stock_given(alloc, matches)? else {
+    let Some(closed) = periods_in(alloc, values_of(matches, "closed"))? else {
         return Ok(None);
     };
-    let Some(earlier) = earlier_given(alloc, words, matches)? else {
-        return Ok(None);
-    };
-    let plans = values_of(alloc, matches, "plan")?;
-    let files = values_of(alloc, matches, "file")?;
-    Ok(Some(Lists {
-        plans,
-        stock,
-        files,
-        earlier,
-    }))
-}
-
-/// The setting, where each of its values is in its form.
-fn setting_given<'a, S: AsStr>(
-    alloc: Global,
-    words: &[S],
-    matches: &ArgMatches<'a>,
-) -> Result<Option<Setting<'a>>, AllocError>
-    ensures { IfOk result (λ setting. option_map setting_of setting ≡ setting_in (map S.text words.now) (rows_of (found_of matches.now))) }
-{
-    match lists_given(alloc, words, matches) {
-        Ok(Some(lists)) => Ok(setting_with(matches, lists)),
-        Ok(None) => Ok(None),
-        Err(error) => Err(error),
-    }
+    let earlier = in_order(alloc, words, &closed)?;
+    Ok(Some(earlier))
 }
 
 /// The work of `judge`.
@@ -257,19 +161,37 @@ pub(crate) fn judge_given<'a, S: AsStr>(
     let Some(file) = value_of(matches, "FILE") else {
         return Ok(None);
     };
-    match setting_given(alloc, words, matches) {
-        Ok(Some(setting)) => Ok(Some(Work::Judge { setting, file })),
-        Ok(None) => Ok(None),
-        Err(error) => Err(error),
-    }
+    let Some((day, agent, statement)) = singles_given(matches) else {
+        return Ok(None);
+    };
+    let Some(stock) = ranges_in(alloc, values_of(matches, "stock"))? else {
+        return Ok(None);
+    };
+    let Some(earlier) = earlier_given(alloc, words, matches)? else {
+        return Ok(None);
+    };
+    let plans = Vec::from_slice(alloc, values_of(matches, "plan"))?;
+    let files = Vec::from_slice(alloc, values_of(matches, "file"))?;
+    let setting = Setting {
+        plans,
+        day,
+        agent,
+        stock,
+        files,
+        earlier,
+        statement,
+    };
+    Ok(Some(Work::Judge { setting, file }))
 }
 
 /// Whether a text that is to be a range is none.
 fn has_other_range(matches: &ArgMatches<'_>) -> bool {
-    match matches.get_strs("stock") {
-        Some(texts) => texts.iter().any(|text| range_of(text).is_none()),
-        None => false,
+    for text in values_of(matches, "stock") {
+        if range_of(text).is_none() {
+            return true;
+        }
     }
+    false
 }
 
 /// Which value of `judge` is out of its form.

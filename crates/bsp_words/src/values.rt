@@ -1,11 +1,10 @@
 //! The values that `clap` found of an argument.
 
-ghost use Rattle.std.specs.Prelude.{◌≡◌, IfOk, codes, is_some, option_map};
+ghost use Rattle.std.specs.Prelude.{◌≡◌, codes, is_some, option_map};
 ghost use Rattle.clap.specs.Words.{all_of, first_of, found_of, rows_of};
 ghost use Rattle.bsp_words.specs.CommandLine.{is_set, number_in, texts_in, values_in};
 
 use clap::ArgMatches;
-use std::alloc::{AllocError, Global};
 
 /// The first value of an argument.
 pub(crate) fn value_of<'a>(matches: &ArgMatches<'a>, id: &str) -> Option<&'a str>
@@ -22,17 +21,10 @@ pub(crate) fn flag_given(matches: &ArgMatches<'_>, id: &str) -> bool
 }
 
 /// The values of an argument that may come more than once.
-pub(crate) fn values_of<'a>(
-    alloc: Global,
-    matches: &ArgMatches<'a>,
-    id: &str,
-) -> Result<Vec<&'a str>, AllocError>
-    ensures { IfOk result (λ values. texts_in values.items ≡ values_in id.now (rows_of (found_of matches.now))) }
+pub(crate) fn values_of<'m, 'a>(matches: &'m ArgMatches<'a>, id: &str) -> &'m [&'a str]
+    ensures { texts_in result.now ≡ values_in id.now (rows_of (found_of matches.now)) }
 {
-    match matches.get_strs(id) {
-        Some(values) => Vec::from_slice(alloc, values),
-        None => Ok(Vec::new(alloc)),
-    }
+    matches.get_strs(id).unwrap_or_default()
 }
 
 /// Whether an argument that may come more than once is there.

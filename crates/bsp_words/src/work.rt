@@ -5,7 +5,7 @@
 
 ghost use Rattle.std.specs.Prelude.{◌≡◌, IfOk, IfErr, [], map, option_map};
 ghost use Rattle.clap.specs.Words.{HasKind, fault_of, found_of, rows_of, subcommand_of, subcommand_rows_of};
-ghost use Rattle.bsp_words.specs.CommandLine.{AnswersWords, asked_book, asked_token, audit_work, body_work, book_of, check_work, explain_work, hotcheck_work, limits_in, office, run_work, serve_work, single_in, token_of, work_from, work_in, work_of};
+ghost use Rattle.bsp_words.specs.CommandLine.{AnswersWords, asked_book, asked_token, audit_work, body_work, book_of, check_work, explain_work, hotcheck_work, limits_in, office, run_work, serve_work, single_in, token_of, work_from, work_of};
 
 use crate::command_line::office_command;
 use crate::plan::{plan_given, plan_misfit};
@@ -342,22 +342,8 @@ fn single_given<'a>(name: &str, matches: &ArgMatches<'a>) -> Option<Work<'a>>
     }
 }
 
+/// The work of the command that `clap` finds.
 #[tactic(auto, unfolding(crate::specs::CommandLine::work_in))]
-fn work_given<'a, S: AsStr>(
-    alloc: Global,
-    words: &[S],
-    name: &str,
-    matches: &ArgMatches<'a>,
-) -> Result<Option<Work<'a>>, AllocError>
-    ensures { IfOk result (λ work. option_map work_of work ≡ work_in (map S.text words.now) name.now (rows_of (found_of matches.now))) }
-{
-    match name {
-        "judge" => judge_given(alloc, words, matches),
-        "plan" => plan_given(alloc, matches),
-        _ => Ok(single_given(name, matches)),
-    }
-}
-
 fn work_found<'a, S: AsStr>(
     alloc: Global,
     words: &[S],
@@ -365,10 +351,12 @@ fn work_found<'a, S: AsStr>(
 ) -> Result<Option<Work<'a>>, AllocError>
     ensures { IfOk result (λ work. option_map work_of work ≡ work_from (map S.text words.now) (subcommand_rows_of matches.now)) }
 {
-    let Some((name, inner)) = matches.subcommand() else {
-        return Ok(None);
-    };
-    work_given(alloc, words, name, inner)
+    match matches.subcommand() {
+        Some(("judge", inner)) => judge_given(alloc, words, inner),
+        Some(("plan", inner)) => plan_given(alloc, inner),
+        Some((name, inner)) => Ok(single_given(name, inner)),
+        None => Ok(None),
+    }
 }
 
 /// Which value of `run` or `serve` is out of its form.

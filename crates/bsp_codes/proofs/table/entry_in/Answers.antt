@@ -13,8 +13,7 @@ by_test p f xs i x b within test before =
 
 pub returns-then-eq : goal.returns-then-eq
 returns-then-eq c =
-    ap Some c.of.ensures
-    ∙ by_test (λ s. bytes_eq s.code c.args.code.now) said_in c.args.rows.now c.loop-row.row-index _ true c.loop-row-test.true (sym c.eq.ensures ∙ c.if-eq.true) c.loop-row.invariant
+    by_test (λ s. bytes_eq s.code c.args.code.now) said_in c.args.rows.now c.loop-row.row-index _ true c.loop-row-test.true (sym c.eq.ensures ∙ c.if-eq.true) c.loop-row.invariant
 
 pub loop-row-preserved : goal.loop-row-preserved
 loop-row-preserved c =
