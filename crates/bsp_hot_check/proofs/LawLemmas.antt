@@ -4,8 +4,6 @@ use Rattle.std.proofs.lemmas.Bool.{cases_order}
 use Rattle.std.proofs.lemmas.List.{take-append-drop, take-take}
 use Rattle.bsp_hot_records.specs.declared.form.FileForm.{FileForm}
 use Rattle.bsp_hot_check.specs.declared.model.Standing.{Standing}
-use Rattle.bsp_hot_check.specs.declared.model.HotTotals.{HotTotals}
-use Rattle.bsp_hot_check.specs.declared.model.RecordFault.{RecordFault}
 use Rattle.bsp_hot_records.specs.Records.{Record, AreRecords}
 use Rattle.bsp_hot_check.specs.Checked.{HasTotals}
 use Rattle.bsp_hot_check.specs.Hot.{File, records_of, Hot, totals_of_file, BeginFile, IsFirstFault, HotOrFault}

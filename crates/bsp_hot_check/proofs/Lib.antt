@@ -1,7 +1,6 @@
 -- Lemmas of this crate.
 pub mod SizeLemmas
 pub mod SumLemmas
-pub mod PartLemmas
 pub mod PartialItems
 pub mod Drafts
 pub mod Steps

@@ -1,12 +1,12 @@
 -- Lines of a text that comes in pieces.
-use Rattle.std.proofs.Common.{◌≡◌, ℕ, suc, ◌+◌, ◌-◌, ◌<◌, ◌≤◌, false, ◌&&◌, List, [], ◌∷◌, ◌++◌, length, Some, None, refl, sym, ap, subst, ◌∙◌, arith, inl, inr, append_assoc}
+use Rattle.std.proofs.Common.{◌≡◌, ℕ, suc, ◌+◌, ◌-◌, ◌<◌, ◌≤◌, false, ◌&&◌, List, [], ◌∷◌, ◌++◌, length, Some, None, refl, sym, ap, ◌∙◌, arith, inl, inr, append_assoc}
 use Rattle.std.specs.Prelude.{◌==◌, cond, Result, Ok, Err}
 use Rattle.std.proofs.lemmas.Bool.{cases_Bool}
 use Rattle.std.proofs.lemmas.List.{length-take, take-append-drop, append-nil}
 use Rattle.bsp_records.specs.Columns.{is_wide}
-use Rattle.bsp_records.specs.Lines.{lines, begins_with, with_first, before_rest, IsWholeLines, BeginsWithLine, HasFirstLine, BeginsOtherwise}
+use Rattle.bsp_records.specs.Lines.{lines, begins_with, with_first, before_rest, BeginsWithLine, HasFirstLine, BeginsOtherwise}
 use Rattle.bsp_records.proofs.CutLemmas.{lines_nil, some_lines}
-use Rattle.bsp_records.proofs.RestLemmas.{before_itself, rest_itself, rest_of_rest, before_joined, whole_joined, whole_cut, cut_alone, no_lines}
+use Rattle.bsp_records.proofs.RestLemmas.{rest_itself, rest_of_rest, cut_alone}
 use Rattle.bsp_hot_check.specs.declared.model.Standing.{Standing}
 use Rattle.bsp_hot_check.specs.declared.model.HotTotals.{HotTotals}
 use Rattle.bsp_hot_check.specs.declared.model.RecordFault.{RecordFault}

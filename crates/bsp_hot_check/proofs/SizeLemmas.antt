@@ -1,5 +1,5 @@
 -- Sums fit the program's numbers.
-use Rattle.std.proofs.Common.{◌≡◌, ℕ, ◌+◌, Bool, true, false, Option, Some, None, IfSome, refl, subst, arith}
+use Rattle.std.proofs.Common.{◌≡◌, ℕ, ◌+◌, ◌-◌, ◌^◌, Bool, true, false, Option, Some, None, IfSome, refl, subst, arith}
 use Rattle.std.proofs.lemmas.Option.{none-some}
 use Rattle.bsp_hot_records.specs.declared.code.DocumentCode.{DocumentCode}
 use Rattle.bsp_hot_records.specs.declared.code.DocumentCode.TheVariants.{Tktt, Rfnd, Canx, Adma, Acma}
@@ -16,7 +16,7 @@ use Rattle.bsp_hot_check.specs.declared.model.Place.{Place}
 use Rattle.bsp_hot_check.specs.declared.model.Place.TheVariants.{Headed, Between, Opened, Begun, InDocument, Totalled, Closed, Ended}
 use Rattle.bsp_hot_check.specs.declared.model.Standing.{Standing}
 use Rattle.bsp_hot_records.specs.Sums.{no_sums, one_document, AreSmall}
-use Rattle.bsp_hot_records.proofs.SizeLemmas.{no_small, one_small, small_add, one_longer}
+use Rattle.bsp_hot_records.proofs.SizeLemmas.{no_small, one_small, small_add, small_more, one_longer}
 use Rattle.bsp_hot_records.specs.Judged.{IsSmallPart, IsSmallRecord}
 use Rattle.bsp_hot_check.specs.Standings.{key_of, sums_at, add_at, moved, counted, allowed, judged_sums, progress_behind, part_step, step, AreSmallSums, IsSmall, IsSmallNext}
 
@@ -54,6 +54,10 @@ small_part (part_is.Related other) h = no_small 1
 small_part (part_is.Cash amount) h = record { documents = omega arith; cash = omega arith; credit = omega arith; commission = omega arith; tax = omega arith }
 small_part (part_is.Credit amount) h = record { documents = omega arith; cash = omega arith; credit = omega arith; commission = omega arith; tax = omega arith }
 small_part part_is.Exchange h = no_small 1
+
+-- with room for many more
+pub part_room : (x : Part) → IsSmallPart x → AreSmall (2 ^ 63 - 1) (judged_sums x)
+part_room x h = small_more 1 (2 ^ 63 - 1) (judged_sums x) (omega arith) (small_part x h)
 
 small_moved : (at : Standing) (p : Place) → IsSmall at → IsSmall (moved at p)
 small_moved at p h = record {

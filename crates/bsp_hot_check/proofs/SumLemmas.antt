@@ -7,7 +7,7 @@ use Rattle.bsp_hot_records.specs.declared.code.DocumentCode.TheVariants.{Tktt, R
 use Rattle.bsp_hot_records.specs.declared.totals.Sums.{Sums}
 use Rattle.bsp_hot_check.specs.declared.model.CodeSums.{CodeSums}
 use Rattle.bsp_hot_records.specs.Records.{Part}
-use Rattle.bsp_hot_records.specs.Sums.{no_sums, one_document, add, sum_of, is_code}
+use Rattle.bsp_hot_records.specs.Sums.{one_document, add, sum_of, is_code}
 use Rattle.bsp_hot_records.proofs.SumLemmas.{plus_assoc, none_right, sum_of_snoc}
 use Rattle.bsp_hot_check.specs.Hot.{Item, Office, part_sums, document_sums, item_sums, items_sums, code_sums, file_sums}
 use Rattle.bsp_hot_check.specs.Standings.{add_at}

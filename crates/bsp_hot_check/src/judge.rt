@@ -3,14 +3,15 @@
 ghost use Rattle.std.specs.Prelude.{◌≡◌, ◌<◌, ◌^◌, length, true, false, Some, None};
 ghost use Rattle.bsp_records.specs.Columns.{is_wide};
 ghost use Rattle.bsp_hot_records.specs.Judged.{IsSmallPart, IsSmallRecord};
-ghost use Rattle.bsp_hot_check.specs.Standings.{step, form_at, is_airline, is_period, is_currency, is_agent, is_agent_after, is_key_after, is_next, IsSmall, IsSmallNext};
+ghost use Rattle.bsp_hot_check.specs.Standings.{step, allowed, form_at, is_airline, is_period, is_currency, is_agent, is_agent_after, is_key_after, is_next, IsSmall, IsSmallNext};
 ghost use Rattle.bsp_hot_check.specs.Judging.{step_line};
 
 use crate::model::{DocumentKey, OfficeSums, Place, Progress, Stage, Standing};
+use crate::sums::part_sums;
 use bsp_fields::{AirlineCode, PeriodCode};
 use bsp_hot_records::{
     AgentDigits, CodeTotals, Document, DocumentCode, FileForm, FileTotals, Heading, OfficeHeader,
-    OfficeTotals, PartOf, PeriodTotals, Record, TransactionHeader, read_record,
+    OfficeTotals, PartOf, PeriodTotals, Record, Sums, TransactionHeader, read_record,
 };
 
 /// The form of the file. Before BFH01, which is the same in each form, it is form 1.
@@ -98,8 +99,7 @@ impl Standing {
     #[tactic(auto, unfolding(crate::specs::Standings::step))]
     fn take_heading(&mut self, heading: Heading) -> bool
         requires { self.old.records < 2 ^ 63 }
-        ensures taken { result ≡ true → step self.old (Record.FileHeader heading) ≡ Some self.new }
-        ensures refused { result ≡ false → step self.old (Record.FileHeader heading) ≡ None }
+        ensures next { step self.old (Record.FileHeader heading) ≡ allowed result self.new }
         ensures same { result ≡ false → self.new ≡ self.old }
     {
         if !matches!(self.place, Place::Start) {
@@ -114,23 +114,18 @@ impl Standing {
     #[tactic(auto, unfolding(crate::specs::Standings::step))]
     fn take_period(&mut self, period: PeriodCode) -> bool
         requires { self.old.records < 2 ^ 63 }
-        ensures taken { result ≡ true → step self.old (Record.PeriodHeader period) ≡ Some self.new }
-        ensures refused { result ≡ false → step self.old (Record.PeriodHeader period) ≡ None }
+        ensures next { step self.old (Record.PeriodHeader period) ≡ allowed result self.new }
         ensures same { result ≡ false → self.new ≡ self.old }
     {
-        if !(matches!(self.place, Place::Headed) && is_period(self.heading, period)) {
-            return false;
-        }
-        self.move_to(Place::Between);
-        true
+        let may_come = matches!(self.place, Place::Headed) && is_period(self.heading, period);
+        self.move_if(may_come, Place::Between)
     }
 
     /// BOH03 begins the office of a later agent, with the file's period and currency.
     #[tactic(auto, unfolding(crate::specs::Standings::step))]
     fn take_office(&mut self, office: OfficeHeader) -> bool
         requires { self.old.records < 2 ^ 63 }
-        ensures taken { result ≡ true → step self.old (Record.OfficeHeader office) ≡ Some self.new }
-        ensures refused { result ≡ false → step self.old (Record.OfficeHeader office) ≡ None }
+        ensures next { step self.old (Record.OfficeHeader office) ≡ allowed result self.new }
         ensures same { result ≡ false → self.new ≡ self.old }
     {
         let allowed = matches!(self.place, Place::Between)
@@ -150,8 +145,7 @@ impl Standing {
     fn take_transaction(&mut self, header: TransactionHeader) -> bool
         requires room { self.old.records < 2 ^ 63 }
         requires small { IsSmall self.old }
-        ensures taken { result ≡ true → step self.old (Record.TransactionHeader header) ≡ Some self.new }
-        ensures refused { result ≡ false → step self.old (Record.TransactionHeader header) ≡ None }
+        ensures next { step self.old (Record.TransactionHeader header) ≡ allowed result self.new }
         ensures same { result ≡ false → self.new ≡ self.old }
     {
         let transactions = self.transactions + 1;
@@ -171,8 +165,7 @@ impl Standing {
     fn take_document(&mut self, document: Document) -> bool
         requires room { self.old.records < 2 ^ 63 }
         requires small { IsSmall self.old }
-        ensures taken { result ≡ true → step self.old (Record.Document document) ≡ Some self.new }
-        ensures refused { result ≡ false → step self.old (Record.Document document) ≡ None }
+        ensures next { step self.old (Record.Document document) ≡ allowed result self.new }
         ensures same { result ≡ false → self.new ≡ self.old }
     {
         let key = DocumentKey {
@@ -194,7 +187,7 @@ impl Standing {
             related: false,
             only: None,
         };
-        self.count_document(progress);
+        self.count(progress, Sums::DOCUMENT);
         true
     }
 
@@ -204,8 +197,7 @@ impl Standing {
         requires room { self.old.records < 2 ^ 63 }
         requires small { IsSmall self.old }
         requires part { IsSmallPart next.part }
-        ensures taken { result ≡ true → step self.old (Record.PartOf next) ≡ Some self.new }
-        ensures refused { result ≡ false → step self.old (Record.PartOf next) ≡ None }
+        ensures next { step self.old (Record.PartOf next) ≡ allowed result self.new }
         ensures same { result ≡ false → self.new ≡ self.old }
     {
         let (Place::InDocument(progress), Some(heading)) = (self.place, self.heading) else {
@@ -216,7 +208,10 @@ impl Standing {
         if !allowed {
             return false;
         }
-        self.count(progress.behind(heading.form, next.part), &next.part);
+        self.count(
+            progress.behind(heading.form, next.part),
+            part_sums(next.part),
+        );
         true
     }
 
@@ -225,18 +220,13 @@ impl Standing {
     fn take_code_totals(&mut self, next: &CodeTotals) -> bool
         requires room { self.old.records < 2 ^ 63 }
         requires small { IsSmall self.old }
-        ensures taken { result ≡ true → step self.old (Record.CodeTotals next.now) ≡ Some self.new }
-        ensures refused { result ≡ false → step self.old (Record.CodeTotals next.now) ≡ None }
+        ensures next { step self.old (Record.CodeTotals next.now) ≡ allowed result self.new }
         ensures same { result ≡ false → self.new ≡ self.old }
     {
         let allowed = is_next(self.office.codes.next_code(self.place), next.code)
             && is_agent(self.agent, next.agent)
             && self.office.codes.of(next.code).has(next.totals);
-        if !allowed {
-            return false;
-        }
-        self.move_to(Place::Totalled(next.code));
-        true
+        self.move_if(allowed, Place::Totalled(next.code))
     }
 
     /// BOT94 has the totals of the office behind its last BOT93.
@@ -244,8 +234,7 @@ impl Standing {
     fn take_office_totals(&mut self, next: &OfficeTotals) -> bool
         requires room { self.old.records < 2 ^ 63 }
         requires small { IsSmall self.old }
-        ensures taken { result ≡ true → step self.old (Record.OfficeTotals next.now) ≡ Some self.new }
-        ensures refused { result ≡ false → step self.old (Record.OfficeTotals next.now) ≡ None }
+        ensures next { step self.old (Record.OfficeTotals next.now) ≡ allowed result self.new }
         ensures same { result ≡ false → self.new ≡ self.old }
     {
         let allowed = matches!(self.place, Place::Totalled(_))
@@ -266,19 +255,14 @@ impl Standing {
     fn take_period_totals(&mut self, next: &PeriodTotals) -> bool
         requires room { self.old.records < 2 ^ 63 }
         requires small { IsSmall self.old }
-        ensures taken { result ≡ true → step self.old (Record.PeriodTotals next.now) ≡ Some self.new }
-        ensures refused { result ≡ false → step self.old (Record.PeriodTotals next.now) ≡ None }
+        ensures next { step self.old (Record.PeriodTotals next.now) ≡ allowed result self.new }
         ensures same { result ≡ false → self.new ≡ self.old }
     {
         let allowed = matches!(self.place, Place::Between)
             && is_period(self.heading, next.period)
             && next.offices == self.offices
             && self.file.has(next.totals);
-        if !allowed {
-            return false;
-        }
-        self.move_to(Place::Closed);
-        true
+        self.move_if(allowed, Place::Closed)
     }
 
     /// BFT99 is the last record, and has their number and the totals.
@@ -286,19 +270,14 @@ impl Standing {
     fn take_file_totals(&mut self, next: &FileTotals) -> bool
         requires room { self.old.records < 2 ^ 63 }
         requires small { IsSmall self.old }
-        ensures taken { result ≡ true → step self.old (Record.FileTotals next.now) ≡ Some self.new }
-        ensures refused { result ≡ false → step self.old (Record.FileTotals next.now) ≡ None }
+        ensures next { step self.old (Record.FileTotals next.now) ≡ allowed result self.new }
         ensures same { result ≡ false → self.new ≡ self.old }
     {
         let allowed = matches!(self.place, Place::Closed)
             && is_airline(self.heading, next.airline)
             && next.records == self.records + 1
             && self.file.has(next.totals);
-        if !allowed {
-            return false;
-        }
-        self.move_to(Place::Ended);
-        true
+        self.move_if(allowed, Place::Ended)
     }
 
     /// Takes one more record, where those before allow it, and answers whether they do.
@@ -306,8 +285,7 @@ impl Standing {
         requires room { self.old.records < 2 ^ 63 }
         requires small { IsSmall self.old }
         requires next { IsSmallRecord next.now }
-        ensures taken { result ≡ true → step self.old next.now ≡ Some self.new }
-        ensures refused { result ≡ false → step self.old next.now ≡ None }
+        ensures next { step self.old next.now ≡ allowed result self.new }
         ensures same { result ≡ false → self.new ≡ self.old }
     {
         match next {

@@ -15,3 +15,4 @@ pub use check::{check_hot, hot_or_fault};
 pub use model::{
     CodeSums, DocumentKey, HotTotals, OfficeSums, Place, Progress, RecordFault, Stage, Standing,
 };
+pub use sums::part_sums;

@@ -5,7 +5,7 @@ use bsp_hot_records::{AgentDigits, DocumentCode, Heading, Sums};
 use thiserror::Error;
 
 /// The first record at fault of a text that is no HOT file.
-#[derive(Clone, Copy, Debug, PartialEq, Eq, Error)]
+#[derive(Clone, Copy, Debug, Error)]
 #[error("H04 record {number}")]
 pub struct RecordFault {
     /// Its number, counted from 1; where the text ends too early, the number after the last record.
@@ -13,7 +13,7 @@ pub struct RecordFault {
 }
 
 /// The totals of a HOT file: its records, its documents, and its net in minor units.
-#[derive(Clone, Copy, Debug, PartialEq, Eq)]
+#[derive(Clone, Copy, Debug)]
 pub struct HotTotals {
     /// The records, headers and totals counted.
     pub records: usize,

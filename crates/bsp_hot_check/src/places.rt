@@ -1,15 +1,11 @@
 //! What may follow what.
 
-ghost use Rattle.std.specs.Prelude.{◌≡◌, ◌^◌};
-ghost use Rattle.std.specs.List.{find};
-ghost use Rattle.std.specs.Option.{option_copied};
-ghost use Rattle.bsp_hot_records.specs.Judged.{IsSmallPart};
-ghost use Rattle.bsp_hot_records.specs.Sums.{add, AreSmall};
-ghost use Rattle.bsp_hot_check.specs.Standings.{is_at, is_complete, is_complete_progress, comes_behind, takes_related, takes, commission_stage, stage_of, only_behind, progress_behind, takes_transaction, stands_in, left_codes, next_code, judged_sums};
+ghost use Rattle.std.specs.Prelude.{◌≡◌};
+ghost use Rattle.bsp_hot_check.specs.Standings.{is_at, is_complete, is_complete_progress, comes_behind, takes_related, takes, commission_stage, stage_of, only_behind, progress_behind, takes_transaction, stands_in, left_codes, next_code};
 
 use crate::model::{CodeSums, Place, Progress, Stage};
 use bsp_fields::AirlineCode;
-use bsp_hot_records::{DocumentCode, FileForm, Part, Sums};
+use bsp_hot_records::{DocumentCode, FileForm, Part};
 
 /// Whether a second BKS45 may come with the number.
 fn comes_behind(only: Option<u64>, number: u64) -> bool
@@ -140,22 +136,6 @@ impl Stage {
     }
 }
 
-/// Adds to sums what a record of a document adds. EX is in no total.
-#[inline]
-pub(crate) fn add_part(sums: &mut Sums, part: &Part)
-    requires small { AreSmall (2 ^ 63) sums.old }
-    requires part { IsSmallPart part.now }
-    ensures { sums.new ≡ add sums.old (judged_sums part.now) }
-{
-    match part {
-        Part::Commission(amount) => sums.commission += *amount as i128,
-        Part::CommissionTax(amount) => sums.tax += *amount as i128,
-        Part::Cash(amount) => sums.cash += *amount as i128,
-        Part::Credit(amount) => sums.credit += *amount as i128,
-        _ => {}
-    }
-}
-
 impl Place {
     /// Whether a file ends here.
     pub fn is_ended(self) -> bool
@@ -195,17 +175,16 @@ impl CodeSums {
         self.of(code).documents > 0
     }
 
-    /// The first of the codes that have a document.
-    fn first_of<'a>(self, codes: &'a [DocumentCode]) -> Option<&'a DocumentCode>
-        ensures { option_copied result ≡ find (stands_in self) codes.now }
-    {
-        codes.iter().find(|code| self.stands_in(**code))
-    }
-
     /// The code whose BOT93 comes next: the first with a document whose BOT93 is not there yet.
     pub fn next_code(self, place: Place) -> Option<DocumentCode>
         ensures { result ≡ next_code self place }
     {
-        self.first_of(place.left_codes()).copied()
+        let codes = place.left_codes();
+        for code in codes {
+            if self.stands_in(*code) {
+                return Some(*code);
+            }
+        }
+        None
     }
 }

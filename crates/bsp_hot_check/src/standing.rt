@@ -1,13 +1,11 @@
 //! The state of the records before a place, and the state with one more.
 
-ghost use Rattle.std.specs.Prelude.{◌≡◌, ◌<◌, ◌^◌};
-ghost use Rattle.bsp_hot_records.specs.Judged.{IsSmallPart};
-ghost use Rattle.bsp_hot_records.specs.Sums.{one_document};
-ghost use Rattle.bsp_hot_check.specs.Standings.{start, moved, counted, judged_sums, totals_at, IsSmall};
+ghost use Rattle.std.specs.Prelude.{◌≡◌, ◌<◌, ◌-◌, ◌^◌, false};
+ghost use Rattle.bsp_hot_records.specs.Sums.{AreSmall};
+ghost use Rattle.bsp_hot_check.specs.Standings.{start, allowed, moved, counted, totals_at, IsSmall};
 
 use crate::model::{HotTotals, OfficeSums, Place, Progress, Standing};
-use crate::places::add_part;
-use bsp_hot_records::{Part, Sums};
+use bsp_hot_records::Sums;
 
 impl Standing {
     /// The state before any record.
@@ -36,30 +34,32 @@ impl Standing {
         self.place = place;
     }
 
-    /// Takes BKS24, which adds a document.
+    /// Takes one more record, which brings them to that place, where it is allowed, and answers
+    /// whether it is.
     #[inline]
-    pub(crate) fn count_document(&mut self, progress: Progress)
-        requires room { self.old.records < 2 ^ 63 }
-        requires small { IsSmall self.old }
-        ensures { self.new ≡ counted self.old progress one_document }
+    pub(crate) fn move_if(&mut self, may_come: bool, place: Place) -> bool
+        requires { self.old.records < 2 ^ 63 }
+        ensures next { allowed result self.new ≡ allowed may_come (moved self.old place) }
+        ensures same { result ≡ false → self.new ≡ self.old }
     {
-        self.move_to(Place::InDocument(progress));
-        self.file = self.file.plus(Sums::DOCUMENT);
-        self.office.all = self.office.all.plus(Sums::DOCUMENT);
-        self.office.codes.add(progress.code, Sums::DOCUMENT);
+        if may_come {
+            self.move_to(place);
+        }
+        may_come
     }
 
     /// Takes one more record of a document, with what it adds.
     #[inline]
-    pub(crate) fn count(&mut self, progress: Progress, part: &Part)
+    pub(crate) fn count(&mut self, progress: Progress, more: Sums)
         requires room { self.old.records < 2 ^ 63 }
         requires small { IsSmall self.old }
-        requires part { IsSmallPart part.now }
-        ensures { self.new ≡ counted self.old progress (judged_sums part.now) }
+        requires more { AreSmall (2 ^ 63 - 1) more }
+        ensures { self.new ≡ counted self.old progress more }
     {
         self.move_to(Place::InDocument(progress));
-        add_part(&mut self.file, part);
-        self.office.add_part(progress.code, part);
+        self.file = self.file.plus(more);
+        self.office.all = self.office.all.plus(more);
+        self.office.codes.add(progress.code, more);
     }
 
     /// The totals of a file in this state.

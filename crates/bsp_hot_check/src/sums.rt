@@ -2,12 +2,11 @@
 
 ghost use Rattle.std.specs.Prelude.{◌≡◌, ◌-◌, ◌^◌};
 ghost use Rattle.bsp_hot_records.specs.Judged.{IsSmallPart};
-ghost use Rattle.bsp_hot_records.specs.Sums.{add, AreSmall};
+ghost use Rattle.bsp_hot_records.specs.Sums.{AreSmall};
 ghost use Rattle.bsp_hot_check.specs.Hot.{is_before};
 ghost use Rattle.bsp_hot_check.specs.Standings.{sums_at, add_at, judged_sums, AreSmallSums};
 
 use crate::model::{CodeSums, DocumentKey, OfficeSums};
-use crate::places::add_part;
 use bsp_hot_records::{DocumentCode, Part, Sums};
 
 impl DocumentKey {
@@ -70,22 +69,20 @@ impl CodeSums {
     }
 }
 
-impl CodeSums {
-    /// Adds to those of the code what a record of a document adds.
-    #[inline]
-    pub(crate) fn add_part(&mut self, code: DocumentCode, part: &Part)
-        requires small { AreSmallSums (2 ^ 63) self.old }
-        requires part { IsSmallPart part.now }
-        ensures { self.new ≡ add_at self.old code (judged_sums part.now) }
-    {
-        match code {
-            DocumentCode::Tktt => add_part(&mut self.tktt, part),
-            DocumentCode::Rfnd => add_part(&mut self.rfnd, part),
-            DocumentCode::Canx => add_part(&mut self.canx, part),
-            DocumentCode::Adma => add_part(&mut self.adma, part),
-            DocumentCode::Acma => add_part(&mut self.acma, part),
-        }
+/// What a record of a document adds. EX is in no total.
+pub fn part_sums(part: Part) -> Sums
+    requires { IsSmallPart part }
+    ensures { result ≡ judged_sums part }
+{
+    let mut sums = Sums::NONE;
+    match part {
+        Part::Commission(amount) => sums.commission = amount as i128,
+        Part::CommissionTax(amount) => sums.tax = amount as i128,
+        Part::Cash(amount) => sums.cash = amount as i128,
+        Part::Credit(amount) => sums.credit = amount as i128,
+        _ => {}
     }
+    sums
 }
 
 impl OfficeSums {
@@ -95,16 +92,4 @@ impl OfficeSums {
         all: Sums::NONE,
         latest: None,
     };
-
-    /// Adds what a record of a document with the code adds.
-    #[inline]
-    pub(crate) fn add_part(&mut self, code: DocumentCode, part: &Part)
-        requires codes { AreSmallSums (2 ^ 63) self.old.codes }
-        requires all { AreSmall (2 ^ 63) self.old.all }
-        requires part { IsSmallPart part.now }
-        ensures { self.new ≡ record self.old { codes = add_at self.old.codes code (judged_sums part.now); all = add self.old.all (judged_sums part.now) } }
-    {
-        self.codes.add_part(code, part);
-        add_part(&mut self.all, part);
-    }
 }

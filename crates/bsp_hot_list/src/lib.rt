@@ -1,7 +1,6 @@
 //! The list of a HOT file: a line for each document and memo, and the totals of each agent and of the file.
 #![tactic(auto)]
 
-mod amounts;
 mod lines;
 mod list;
 

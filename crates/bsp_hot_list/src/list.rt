@@ -6,9 +6,9 @@ ghost use Rattle.bsp_hot_records.specs.Judged.{IsSmallRecord};
 ghost use Rattle.bsp_hot_list.specs.Listed.{list_text};
 ghost use Rattle.bsp_hot_list.specs.Taken.{IsListOf, IsOtherTaken, IsListOfFew, IsSmallStage, begun, ended, form_of, stage_after, stage_with};
 
-use crate::amounts::part_sums;
 use crate::lines::{push_agent, push_amounts, push_begun, push_file, push_heading};
 use bsp_fields::NoRoom;
+use bsp_hot_check::part_sums;
 use bsp_hot_records::{FileForm, Record, Sums, Totals, read_record};
 use std::alloc::Global;
 

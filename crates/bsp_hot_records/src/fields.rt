@@ -14,24 +14,17 @@ use bsp_fields::{AirlineCode, DocNumber, PeriodCode, read_amount, read_total};
 use bsp_records::{all_digits, all_letters_or_digits, all_spaces, number_of, taxes_fit};
 
 /// The code of a document, from its four letters.
-#[tactic(auto, unfolding(crate::specs::Records::code_of))]
 #[inline]
 pub(crate) fn code_of(text: &[u8]) -> Option<DocumentCode>
     ensures { result ≡ code_of text.now }
 {
-    if text == b"TKTT".as_slice() {
-        Some(DocumentCode::Tktt)
-    } else if text == b"RFND".as_slice() {
-        Some(DocumentCode::Rfnd)
-    } else if text == b"CANX".as_slice() {
-        Some(DocumentCode::Canx)
-    } else if text == b"ADMA".as_slice() {
-        Some(DocumentCode::Adma)
-    } else if text == b"ACMA".as_slice() {
-        Some(DocumentCode::Acma)
-    } else {
-        None
+    let codes: &[DocumentCode] = &DocumentCode::ALL;
+    for code in codes {
+        if text == code.text().as_slice() {
+            return Some(*code);
+        }
     }
+    None
 }
 
 /// A form of payment, and a card's vendor with CC only.

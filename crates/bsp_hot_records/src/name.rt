@@ -38,28 +38,35 @@ pub enum RecordName {
 }
 
 impl RecordName {
+    /// The names, in the order of their digits.
+    const ALL: [RecordName; 14] = [
+        RecordName::Bfh01,
+        RecordName::Bch02,
+        RecordName::Boh03,
+        RecordName::Bkt06,
+        RecordName::Bks24,
+        RecordName::Bks30,
+        RecordName::Bks39,
+        RecordName::Bks42,
+        RecordName::Bks45,
+        RecordName::Bkp84,
+        RecordName::Bot93,
+        RecordName::Bot94,
+        RecordName::Bct95,
+        RecordName::Bft99,
+    ];
+
     /// The name that has these digits.
-    #[tactic(auto, unfolding(crate::specs::Records::name_of))]
     pub(crate) fn of(digits: &[u8]) -> Option<RecordName>
         ensures { result ≡ name_of digits.now }
     {
-        match digits {
-            b"01" => Some(RecordName::Bfh01),
-            b"02" => Some(RecordName::Bch02),
-            b"03" => Some(RecordName::Boh03),
-            b"06" => Some(RecordName::Bkt06),
-            b"24" => Some(RecordName::Bks24),
-            b"30" => Some(RecordName::Bks30),
-            b"39" => Some(RecordName::Bks39),
-            b"42" => Some(RecordName::Bks42),
-            b"45" => Some(RecordName::Bks45),
-            b"84" => Some(RecordName::Bkp84),
-            b"93" => Some(RecordName::Bot93),
-            b"94" => Some(RecordName::Bot94),
-            b"95" => Some(RecordName::Bct95),
-            b"99" => Some(RecordName::Bft99),
-            _ => None,
+        let names: &[RecordName] = &RecordName::ALL;
+        for name in names {
+            if digits == name.digits().as_slice() {
+                return Some(*name);
+            }
         }
+        None
     }
 
     /// The two digits of the name, of columns 12 and 13.
