@@ -21,13 +21,6 @@ fn say_own_days(words: &mut Words, period: &Period) -> bool {
     true
 }
 
-/// Says on which day a period has to begin, after one that ends on this day.
-fn say_next(words: &mut Words, last: Day) {
-    if let Ok(next) = Day::of_number(last.plus(1)) {
-        words.say(": it has to begin {}", &[Shown::Day(next)]);
-    }
-}
-
 /// Says that a period does not begin on the day after the one before it, and answers whether that is so.
 fn say_gap(words: &mut Words, before: Option<Period>, period: &Period) -> bool {
     let Some(before) = before else {
@@ -42,7 +35,9 @@ fn say_gap(words: &mut Words, before: Option<Period>, period: &Period) -> bool {
         "period {} begins {}, and period {} before it ends {}",
         &[code, first, other, last],
     );
-    say_next(words, before.last);
+    if let Ok(next) = Day::of_number(before.last.plus(1)) {
+        words.say(": it has to begin {}", &[Shown::Day(next)]);
+    }
     true
 }
 
@@ -65,27 +60,19 @@ fn say_begun(words: &mut Words, from: Day, day: Day) {
     words.say(text, &[Shown::Day(from), Shown::Day(day)]);
 }
 
-/// Says which new tax begins too early.
-fn say_late_tax(words: &mut Words, plan: &Plan, read: &PlanText) {
-    let day = plan.day();
-    for tax in &read.commission_taxes {
-        if tax.from.number() <= day.number() && !plan.commission_taxes().contains(tax) {
-            words.add(b"a commission_tax");
-            say_begun(words, tax.from, day);
-            return;
-        }
-    }
-}
-
 /// Says which new rate or tax begins too early. No entry of the text differs from a published one.
 pub(crate) fn say_late(words: &mut Words, plan: &Plan, read: &PlanText) {
     let day = plan.day();
     for rate in &read.rates {
         if rate.from.number() <= day.number() && !plan.rates().contains(rate) {
             words.say("a rate of {}", &[Shown::Airline(rate.airline)]);
-            say_begun(words, rate.from, day);
-            return;
+            return say_begun(words, rate.from, day);
         }
     }
-    say_late_tax(words, plan, read);
+    for tax in &read.commission_taxes {
+        if tax.from.number() <= day.number() && !plan.commission_taxes().contains(tax) {
+            words.add(b"a commission_tax");
+            return say_begun(words, tax.from, day);
+        }
+    }
 }
