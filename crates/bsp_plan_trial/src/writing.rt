@@ -1,11 +1,9 @@
 //! The text of a plan: TOML that publishes its entries.
 
-ghost use Rattle.std.specs.Prelude.{◌≡◌, ◌≤◌, IfOk, MatchOption, None, OnOk, Some, true};
+ghost use Rattle.std.specs.Prelude.{◌≡◌, IfOk, MatchOption, None, OnOk, Some, true};
 ghost use Rattle.std.specs.List.{list_all};
-ghost use Rattle.toml.specs.Data.{members_depth};
 ghost use Rattle.toml.specs.View.{array_view, table_view};
 ghost use Rattle.bsp_calendar.specs.SoundPlan.{IsSoundPlan};
-ghost use Rattle.bsp_calendar.specs.PlanDocument.{document_of};
 ghost use Rattle.bsp_plan_trial.specs.Texts.{AreItemsOf, IsDocumentOf, PutsList, PutsLists, PutsTerms, SaysPlan};
 
 use crate::entry::{Entry, put, put_number, put_text};

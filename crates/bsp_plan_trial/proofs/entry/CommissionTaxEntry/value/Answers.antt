@@ -9,7 +9,7 @@ use Rattle.bsp_plan_trial.proofs.TextLemmas.{day_utf8, tax_is}
 use Rattle.bsp_plan_trial.proofs.entry.CommissionTaxEntry.value.Goals as goal
 
 pub put_text-requires : goal.put_text-requires
-put_text-requires c = subst IsUtf8 (sym c.write_text.ensures.text) (day_utf8 c.args.self.now.from)
+put_text-requires c = subst IsUtf8 (sym c.write_text.ensures.text) (day_utf8 _)
 
 pub returns : goal.returns
 returns c = λ within.

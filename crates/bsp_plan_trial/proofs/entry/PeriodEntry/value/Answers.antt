@@ -12,13 +12,13 @@ pub put_text-requires : goal.put_text-requires
 put_text-requires c = subst IsUtf8 (sym c.digits.ensures.text) (digits_utf8 5 c.args.self.now.code)
 
 pub put_text-requires-2 : goal.put_text-requires-2
-put_text-requires-2 c = subst IsUtf8 (sym c.write_text.ensures.text) (day_utf8 c.args.self.now.first)
+put_text-requires-2 c = subst IsUtf8 (sym c.write_text.ensures.text) (day_utf8 _)
 
 pub put_text-requires-3 : goal.put_text-requires-3
-put_text-requires-3 c = subst IsUtf8 (sym c.write_text-2.ensures.text) (day_utf8 c.args.self.now.last)
+put_text-requires-3 c = subst IsUtf8 (sym c.write_text-2.ensures.text) (day_utf8 _)
 
 pub put_text-requires-4 : goal.put_text-requires-4
-put_text-requires-4 c = subst IsUtf8 (sym c.write_text-3.ensures.text) (day_utf8 c.args.self.now.remittance)
+put_text-requires-4 c = subst IsUtf8 (sym c.write_text-3.ensures.text) (day_utf8 _)
 
 pub returns : goal.returns
 returns c = λ within.

@@ -12,7 +12,7 @@ pub put_text-requires : goal.put_text-requires
 put_text-requires c = subst IsUtf8 (sym c.digits.ensures.text) (digits_utf8 3 c.args.self.now.airline)
 
 pub put_text-requires-2 : goal.put_text-requires-2
-put_text-requires-2 c = subst IsUtf8 (sym c.write_text.ensures.text) (day_utf8 c.args.self.now.from)
+put_text-requires-2 c = subst IsUtf8 (sym c.write_text.ensures.text) (day_utf8 _)
 
 pub returns : goal.returns
 returns c = λ within.
