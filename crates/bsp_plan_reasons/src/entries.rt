@@ -51,10 +51,11 @@ fn say_rates(words: &mut Words, sides: &Sides, known: &[Rate], rates: &[Rate]) -
         for it in known {
             let is_same = it.airline == rate.airline && it.from == rate.from;
             if is_same && it.hundredths != rate.hundredths {
-                let (airline, from) = (Shown::Airline(rate.airline), Shown::Day(rate.from));
-                let (first, second) = (u64::from(rate.hundredths), u64::from(it.hundredths));
-                words.say("the rate of {} from {}", &[airline, from]);
-                words.say(sides.values, &[Shown::Number(first), Shown::Number(second)]);
+                let airline = Shown::Airline(rate.airline);
+                let first = Shown::Number(rate.hundredths as u64);
+                let second = Shown::Number(it.hundredths as u64);
+                words.say("the rate of {} from {}", &[airline, Shown::Day(rate.from)]);
+                words.say(sides.values, &[first, second]);
                 words.add(b": a new rate is a further [[rate]] from a later day");
                 return true;
             }
@@ -106,9 +107,10 @@ fn say_taxes(
     for tax in taxes {
         for it in known {
             if it.from == tax.from && it.hundredths != tax.hundredths {
-                let (first, second) = (u64::from(tax.hundredths), u64::from(it.hundredths));
+                let first = Shown::Number(tax.hundredths as u64);
+                let second = Shown::Number(it.hundredths as u64);
                 words.say("the commission_tax from {}", &[Shown::Day(tax.from)]);
-                words.say(sides.values, &[Shown::Number(first), Shown::Number(second)]);
+                words.say(sides.values, &[first, second]);
                 words.add(b": a new tax is a further [[commission_tax]] from a later day");
                 return true;
             }
@@ -136,13 +138,21 @@ pub(crate) fn say_difference(words: &mut Words, plan: &Plan, read: &PlanText) {
     match plan.terms() {
         Some(old) if old != read.terms => say_term(words, old, read.terms),
         _ => {
-            let (rates, periods) = (plan.rates(), plan.periods());
-            let taxes = plan.commission_taxes();
-            if !say_entries(words, &PUBLISHED, rates, periods, taxes, read) {
-                let (rates, periods) = (&read.rates, &read.periods);
-                let taxes = &read.commission_taxes;
-                let _said = say_entries(words, &OWN, rates, periods, taxes, read);
-            }
+            let _said = say_entries(
+                words,
+                &PUBLISHED,
+                plan.rates(),
+                plan.periods(),
+                plan.commission_taxes(),
+                read,
+            ) || say_entries(
+                words,
+                &OWN,
+                &read.rates,
+                &read.periods,
+                &read.commission_taxes,
+                read,
+            );
         }
     }
 }

@@ -6,18 +6,18 @@ use bsp_plan_trial::{Shown, Words};
 
 /// Says what is wrong with the days of a period, and answers whether anything is.
 fn say_own_days(words: &mut Words, period: &Period) -> bool {
-    let (first, last, remit) = (period.first, period.last, period.remittance);
     let code = Shown::Period(period.code);
-    if first.number() > last.number() {
+    let last = Shown::Day(period.last);
+    if period.first.number() > period.last.number() {
         let text = "period {} begins {}, after its last day {}";
-        words.say(text, &[code, Shown::Day(first), Shown::Day(last)]);
+        words.say(text, &[code, Shown::Day(period.first), last]);
         return true;
     }
-    if last.number() < remit.number() {
+    if period.last.number() < period.remittance.number() {
         return false;
     }
     let text = "period {} ends {}, and its remit is {}: it has to be after the last day";
-    words.say(text, &[code, Shown::Day(last), Shown::Day(remit)]);
+    words.say(text, &[code, last, Shown::Day(period.remittance)]);
     true
 }
 
@@ -29,11 +29,14 @@ fn say_gap(words: &mut Words, before: Option<Period>, period: &Period) -> bool {
     if before.last.number() + 1 == period.first.number() {
         return false;
     }
-    let (code, first) = (Shown::Period(period.code), Shown::Day(period.first));
-    let (other, last) = (Shown::Period(before.code), Shown::Day(before.last));
     words.say(
         "period {} begins {}, and period {} before it ends {}",
-        &[code, first, other, last],
+        &[
+            Shown::Period(period.code),
+            Shown::Day(period.first),
+            Shown::Period(before.code),
+            Shown::Day(before.last),
+        ],
     );
     if let Ok(next) = Day::of_number(before.last.plus(1)) {
         words.say(": it has to begin {}", &[Shown::Day(next)]);
